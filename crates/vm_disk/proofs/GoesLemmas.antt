@@ -1,0 +1,48 @@
+-- How what any number of device calls does is carried over one call more.
+use Rattle.std.proofs.Common.{ℕ, ◌<◌, Result, Ok, Err, IsErr, OnErr, refl, sym, ◌∙◌, subst, arith}
+use Rattle.vm_disk.specs.declared.disk.DeviceFault.{DeviceFault}
+use Rattle.vm_disk.specs.Disk.{State, Counts, Goes, NoCalls}
+
+-- no device call, so none failed
+pub goes_nowhere : (fails : Type 0) (old new : State) → NoCalls old new → (fails → ⊥) → Goes fails old new
+goes_nowhere fails old new same fine =
+    let R : State → Type 0 = λ s. Goes fails old s in subst R (sym same) record {
+      same_blocks = refl;
+      same_honesty = refl;
+      rising = omega arith;
+      fault = λ failed. absurd (fine failed);
+    }
+
+counted : {T : Type 0} (result : Result T DeviceFault) (old new : ℕ) → OnErr result (old < new) → IsErr result → old < new
+counted (Ok x) old new fault failed = cc
+counted (Err e) old new fault failed = fault
+
+-- one device call more, which is the one that failed
+pub goes_call : {T : Type 0} (reads : ℕ) (result : Result T DeviceFault) (before fails : Type 0) (old mid new : State) → Goes before old mid → Counts reads result mid new → (fails → IsErr result) → Goes fails old new
+goes_call reads result before fails old mid new so_far counts cause =
+    record {
+      same_blocks = counts.same_blocks ∙ so_far.same_blocks;
+      same_honesty = counts.same_honesty ∙ so_far.same_honesty;
+      rising = omega (arith, so_far.rising, counts.rising);
+      fault = λ failed. let rose = counted result mid.failures new.failures counts.fault (cause failed) in omega (arith, so_far.rising, rose);
+    }
+
+-- one call of a function more, in which the device failed
+pub goes_then : (before more fails : Type 0) (old mid new : State) → Goes before old mid → Goes more mid new → (fails → more) → Goes fails old new
+goes_then before more fails old mid new so_far next cause =
+    record {
+      same_blocks = next.same_blocks ∙ so_far.same_blocks;
+      same_honesty = next.same_honesty ∙ so_far.same_honesty;
+      rising = omega (arith, so_far.rising, next.rising);
+      fault = λ failed. let rose = next.fault (cause failed) in omega (arith, so_far.rising, rose);
+    }
+
+-- the same calls, at which less is a failure
+pub goes_at : (fails less : Type 0) (old new : State) → Goes fails old new → (less → fails) → Goes less old new
+goes_at fails less old new goes cause =
+    record {
+      same_blocks = goes.same_blocks;
+      same_honesty = goes.same_honesty;
+      rising = goes.rising;
+      fault = λ failed. goes.fault (cause failed);
+    }

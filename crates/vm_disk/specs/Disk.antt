@@ -1,0 +1,97 @@
+-- What a disk holds, what its calls do to it, and what a crash may leave.
+use Rattle.std.specs.Prelude.{◌≡◌, ◌≢◌, ◌⊎◌, ℕ, ◌+◌, ◌<◌, ◌≤◌, Bool, true, false, List, [], ◌∷◌, length, slice_index_or, Result, OnOk, OnErr}
+use Rattle.vm_disk.specs.declared.disk.DeviceFault.{DeviceFault}
+
+-- the bytes of each block
+abbrev pub Contents : Type 0
+Contents = List (List ℕ)
+
+-- the bytes of block n
+abbrev pub block : Contents → ℕ → List ℕ
+block contents n = slice_index_or contents n []
+
+-- what a disk holds at a moment
+pub record Medium : Type 0 where
+  pub contents : Contents
+  -- the blocks that are not yet synced
+  pub dirty : ℕ → Bool
+
+-- what is known of a disk
+pub record State : Type 0 where
+  pub blocks : ℕ
+  -- it keeps the rules of an honest disk
+  pub honest : Bool
+  -- how many reads were asked of it
+  pub reads : ℕ
+  -- how many calls failed
+  pub failures : ℕ
+  pub now : Medium
+  -- what it held before each call so far, the newest first
+  pub past : List Medium
+
+-- no block is dirty
+abbrev pub IsClean : Medium → Type 0
+IsClean m = (n : ℕ) → m.dirty n ≡ false
+
+-- a crash may leave these contents: they agree on each block that is not dirty
+pub record MayLeave (m : Medium) (left : Contents) : Type 0 where
+  pub count : length left ≡ length m.contents
+  pub clean : (n : ℕ) → m.dirty n ≡ false → block left n ≡ block m.contents n
+
+-- the number of the present moment
+abbrev pub moment : State → ℕ
+moment s = length s.past
+
+-- a crash at moment t, one of so many, may have left these contents
+abbrev pub LeftPast : List Medium → ℕ → Contents → Type 0
+LeftPast [] t left = ⊥
+LeftPast (m ∷ earlier) t left = ((t ≡ length earlier) × MayLeave m left) ⊎ LeftPast earlier t left
+
+-- a crash at moment t may have left these contents
+abbrev pub LeftAt : State → ℕ → Contents → Type 0
+LeftAt s t left = LeftPast (s.now ∷ s.past) t left
+
+-- what each device call does, on any disk: it keeps the blocks and the honesty, counts its reads, and a fault is a failure that is counted
+pub record Counts {T : Type 0} (reads : ℕ) (result : Result T DeviceFault) (old new : State) : Type 0 where
+  pub same_blocks : new.blocks ≡ old.blocks
+  pub same_honesty : new.honest ≡ old.honest
+  pub read : new.reads ≡ old.reads + reads
+  pub rising : old.failures ≤ new.failures
+  pub fault : OnErr result (old.failures < new.failures)
+
+-- what any number of device calls does, on any disk, where `fails` says that the device failed in one of them
+pub record Goes (fails : Type 0) (old new : State) : Type 0 where
+  pub same_blocks : new.blocks ≡ old.blocks
+  pub same_honesty : new.honest ≡ old.honest
+  pub rising : old.failures ≤ new.failures
+  pub fault : fails → old.failures < new.failures
+
+-- no device call was made: all that is known of the disk is as it was
+abbrev pub NoCalls : State → State → Type 0
+NoCalls old new = new ≡ old
+
+-- the moment before the call is past, or nothing was done
+pub record Elapses (old new : State) : Type 0 where
+  pub step : (new.past ≡ old.now ∷ old.past) ⊎ ((new.past ≡ old.past) × (new.now ≡ old.now))
+
+-- what a read does, on an honest disk
+pub record Reads {T : Type 0} (n : ℕ) (bytes : List ℕ) (result : Result T DeviceFault) (old new : State) : Type 0 where
+  pub bytes_are : OnOk result (bytes ≡ block old.now.contents n)
+  pub same : new.now ≡ old.now
+  pub time : Elapses old new
+
+-- what a write does, on an honest disk: where it fails, the block holds any bytes
+pub record Writes {T : Type 0} (n : ℕ) (bytes : List ℕ) (result : Result T DeviceFault) (old new : State) : Type 0 where
+  pub written : OnOk result (block new.now.contents n ≡ bytes)
+  pub dirty : new.now.dirty n ≡ true
+  pub count : length new.now.contents ≡ length old.now.contents
+  pub others : (k : ℕ) → k ≢ n → block new.now.contents k ≡ block old.now.contents k
+  pub others_dirty : (k : ℕ) → k ≢ n → new.now.dirty k ≡ old.now.dirty k
+  pub time : Elapses old new
+
+-- what a sync does, on an honest disk: where it fails, nothing changes
+pub record Syncs {T : Type 0} (result : Result T DeviceFault) (old new : State) : Type 0 where
+  pub synced : OnOk result (IsClean new.now)
+  pub failed : OnErr result (new.now ≡ old.now)
+  pub same : new.now.contents ≡ old.now.contents
+  pub time : Elapses old new

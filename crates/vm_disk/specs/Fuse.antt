@@ -1,0 +1,63 @@
+-- What a `FuseDisk` shows, and which calls it fails.
+use Rattle.std.specs.Prelude.{◌≡◌, ℕ, ◌+◌, ◌-◌, ◌^◌, ◌==◌, ◌||◌, min, nat_le, Bool, false, if◌then◌else◌, List, length}
+use Rattle.vm_disk.specs.declared.fuse.FuseDisk.{FuseDisk}
+use Rattle.vm_disk.specs.Disk.{State}
+use Rattle.vm_disk.specs.Past.{noted}
+
+module _ {D : Type 0} where
+  -- the disk below
+  abbrev pub inner_of : FuseDisk D → D
+  inner_of fuse = fuse.inner
+
+  -- how many calls it passes before it fails one
+  abbrev pub passes_of : FuseDisk D → ℕ
+  passes_of fuse = fuse.passes
+
+  -- it fails each call after those, and not the next one alone
+  abbrev pub is_stop : FuseDisk D → Bool
+  is_stop fuse = fuse.stops
+
+  -- what a write that it fails leaves in the block
+  abbrev pub torn_of : FuseDisk D → List ℕ
+  torn_of fuse = fuse.torn
+
+  -- how many device calls were made so far, up to the greatest number of 32 bits
+  abbrev pub calls_of : FuseDisk D → ℕ
+  calls_of fuse = fuse.calls
+
+  -- it has failed a call
+  abbrev pub is_blown : FuseDisk D → Bool
+  is_blown fuse = fuse.blown
+
+  -- the next call is one that it fails
+  abbrev pub fails_next : FuseDisk D → Bool
+  fails_next fuse = if is_stop fuse then nat_le (passes_of fuse) (calls_of fuse) else calls_of fuse == passes_of fuse
+
+  -- just set, over this disk: no call was made yet
+  pub record IsSet (disk : D) (k : ℕ) (fails_on : Bool) (bytes : List ℕ) (fuse : FuseDisk D) : Type 0 where
+    pub inner : inner_of fuse ≡ disk
+    pub passes : passes_of fuse ≡ k
+    pub stop : is_stop fuse ≡ fails_on
+    pub torn : torn_of fuse ≡ bytes
+    pub calls : calls_of fuse ≡ 0
+    pub blown : is_blown fuse ≡ false
+
+  -- a device call is counted, and the setting stays
+  pub record Burns (old new : FuseDisk D) : Type 0 where
+    pub calls : calls_of new ≡ min (calls_of old + 1) (2 ^ 32 - 1)
+    pub blown : is_blown new ≡ (is_blown old || fails_next old)
+    pub passes : passes_of new ≡ passes_of old
+    pub stop : is_stop new ≡ is_stop old
+    pub torn : torn_of new ≡ torn_of old
+
+  -- its own failures, and the reads among them, come on top of those below
+  abbrev pub fuse_state : (D → State) → FuseDisk D → State
+  fuse_state state fuse =
+      let below = state (inner_of fuse) in record {
+        blocks = below.blocks;
+        honest = below.honest;
+        reads = below.reads + length (noted fuse.missed);
+        failures = below.failures + length (noted fuse.failed);
+        now = below.now;
+        past = below.past;
+      }

@@ -1,0 +1,5 @@
+pub mod Disk
+pub mod Past
+pub mod Memory
+pub mod Fuse
+pub mod Moments

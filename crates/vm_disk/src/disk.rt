@@ -1,0 +1,47 @@
+//! The trait of a disk.
+ghost use Rattle.std.specs.Prelude.{◌≡◌, ◌<◌, ◌^◌, true, length};
+ghost use Rattle.vm_disk.specs.Disk.{State, Counts, Reads, Writes, Syncs};
+
+/// The device failed in this call.
+#[derive(Clone, Copy, Debug, PartialEq, Eq)]
+pub struct DeviceFault;
+
+/// A disk of blocks of 4,096 bytes, numbered from 0.
+///
+/// Of a disk that is not honest only the clauses `any` say something: what it holds is then unknown.
+pub trait Disk {
+    /// What is known of it, for contracts alone.
+    ghost state: { Self → State };
+
+    /// How many blocks it has.
+    fn blocks(&self) -> u32
+        ensures { result ≡ (state self.now).blocks };
+
+    /// Reads block n. Where it fails, `into` may hold any bytes.
+    fn read(&mut self, n: u32, into: &mut [u8; 4096]) -> Result<(), DeviceFault>
+        requires { n < (state self.old).blocks }
+        ensures any { Counts 1 result (state self.old) (state self.new) }
+        ensures honest { (state self.old).honest ≡ true
+            → Reads n into.new result (state self.old) (state self.new) };
+
+    /// Writes block n. Until the next sync that succeeds, a crash may leave any bytes there.
+    fn write(&mut self, n: u32, from: &[u8; 4096]) -> Result<(), DeviceFault>
+        requires { n < (state self.old).blocks }
+        ensures any { Counts 0 result (state self.old) (state self.new) }
+        ensures honest { (state self.old).honest ≡ true
+            → Writes n from.now result (state self.old) (state self.new) };
+
+    /// Makes each write so far last.
+    fn sync(&mut self) -> Result<(), DeviceFault>
+        ensures any { Counts 0 result (state self.old) (state self.new) }
+        ensures honest { (state self.old).honest ≡ true
+            → Syncs result (state self.old) (state self.new) };
+
+    /// An honest disk holds each of its blocks.
+    ghost whole: { (disk : Self)
+        → (state disk).honest ≡ true
+        → length (state disk).now.contents ≡ (state disk).blocks };
+
+    /// A number of a block fits 32 bits.
+    ghost small: { (disk : Self) → (state disk).blocks < 2 ^ 32 };
+}

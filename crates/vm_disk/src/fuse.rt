@@ -1,0 +1,189 @@
+//! A disk that fails at a call which a test picks.
+ghost use Rattle.std.specs.Prelude.{◌≡◌, ◌+◌, ◌-◌, ◌<◌, ◌^◌, ◌||◌, true, false, min, if◌then◌else◌, length, IsErr};
+ghost use Rattle.vm_disk.specs.Disk.{block, Counts, Reads, Writes, Syncs};
+
+use crate::disk::{DeviceFault, Disk};
+use crate::history::History;
+
+/// Passes so many device calls to the disk below, and then fails the next one and goes on, or fails
+/// each from there. A call that it fails does not reach the disk below, but for a write, which
+/// leaves other bytes in its block. Its device calls take no memory.
+#[derive(Drop)]
+pub struct FuseDisk<D: Disk> {
+    inner: D,
+    passes: u32,
+    stops: bool,
+    torn: [u8; 4096],
+    calls: u32,
+    blown: bool,
+    failed: History<()>,
+    missed: History<()>,
+}
+
+impl<D: Disk> FuseDisk<D> {
+    ghost use Rattle.vm_disk.specs.Past.{noted};
+    ghost use Rattle.vm_disk.specs.Fuse.{inner_of, passes_of, is_stop, torn_of, calls_of, is_blown, fails_next, IsSet, fuse_state};
+
+    /// Passes k device calls, fails the next, and goes on. The greatest u32 is no k, since the count of
+    /// calls stays there.
+    pub fn once(inner: D, k: u32, torn: [u8; 4096]) -> FuseDisk<D>
+        requires { k < 2 ^ 32 - 1 }
+        ensures set { IsSet inner k false torn result }
+        ensures state { fuse_state D.state result ≡ D.state inner }
+    {
+        FuseDisk::set(inner, k, false, torn)
+    }
+
+    /// Passes k device calls, and fails each from there.
+    pub fn stop(inner: D, k: u32, torn: [u8; 4096]) -> FuseDisk<D>
+        requires { k < 2 ^ 32 - 1 }
+        ensures set { IsSet inner k true torn result }
+        ensures state { fuse_state D.state result ≡ D.state inner }
+    {
+        FuseDisk::set(inner, k, true, torn)
+    }
+
+    fn set(inner: D, passes: u32, stops: bool, torn: [u8; 4096]) -> FuseDisk<D>
+        ensures set { IsSet inner passes stops torn result }
+        ensures state { fuse_state D.state result ≡ D.state inner }
+    {
+        FuseDisk {
+            inner,
+            passes,
+            stops,
+            torn,
+            calls: 0,
+            blown: false,
+            failed: History::new(),
+            missed: History::new(),
+        }
+    }
+
+    /// How many device calls were made so far. It stays at the greatest u32.
+    pub fn calls(&self) -> u32
+        ensures { result ≡ calls_of self.now }
+    {
+        self.calls
+    }
+
+    /// Whether the fuse has failed a call.
+    pub fn blown(&self) -> bool
+        ensures { result ≡ is_blown self.now }
+    {
+        self.blown
+    }
+
+    /// The disk below, to look at.
+    pub fn inner(&self) -> &D
+        ensures { result.now ≡ inner_of self.now }
+    {
+        &self.inner
+    }
+
+    /// The disk below.
+    pub fn into_inner(self) -> D
+        ensures { result ≡ inner_of self }
+    {
+        self.inner
+    }
+
+    // Counts a call, and tells whether the fuse fails it.
+    fn fails(&mut self) -> bool
+        ensures fails { result ≡ fails_next self.old }
+        ensures inner { inner_of self.new ≡ inner_of self.old }
+        ensures passes { passes_of self.new ≡ passes_of self.old }
+        ensures stop { is_stop self.new ≡ is_stop self.old }
+        ensures torn { torn_of self.new ≡ torn_of self.old }
+        ensures calls { calls_of self.new ≡ min (calls_of self.old + 1) (2 ^ 32 - 1) }
+        ensures blown { is_blown self.new ≡ (is_blown self.old || result) }
+        ensures missed { self.new.missed ≡ self.old.missed }
+        ensures failed { length (noted self.new.failed)
+            ≡ length (noted self.old.failed) + (if result then 1 else 0) }
+    {
+        let fails = if self.stops {
+            self.passes <= self.calls
+        } else {
+            self.calls == self.passes
+        };
+        self.calls = self.calls.saturating_add(1);
+        if fails {
+            self.blown = true;
+            self.failed.note(&());
+        }
+        fails
+    }
+}
+
+impl<D: Disk> Disk for FuseDisk<D> {
+    ghost use Rattle.vm_disk.specs.Fuse.{inner_of, torn_of, fails_next, Burns, fuse_state};
+
+    ghost state = { fuse_state D.state };
+
+    ghost whole = { λ disk honest. D.whole disk.inner honest };
+
+    ghost small = { λ disk. D.small disk.inner };
+
+    fn blocks(&self) -> u32 {
+        self.inner.blocks()
+    }
+
+    fn read(&mut self, n: u32, into: &mut [u8; 4096]) -> Result<(), DeviceFault>
+        requires { n < (fuse_state D.state self.old).blocks }
+        ensures any { Counts 1 result (fuse_state D.state self.old) (fuse_state D.state self.new) }
+        ensures honest { (fuse_state D.state self.old).honest ≡ true
+            → Reads n into.new result (fuse_state D.state self.old) (fuse_state D.state self.new) }
+
+        ensures burns { Burns self.old self.new }
+        ensures passed { fails_next self.old ≡ false
+            → Counts 1 result (D.state (inner_of self.old)) (D.state (inner_of self.new)) }
+        ensures failed { fails_next self.old ≡ true → IsErr result }
+        ensures kept { fails_next self.old ≡ true → inner_of self.new ≡ inner_of self.old }
+    {
+        if self.fails() {
+            self.missed.note(&());
+            return Err(DeviceFault);
+        }
+        self.inner.read(n, into)
+    }
+
+    fn write(&mut self, n: u32, from: &[u8; 4096]) -> Result<(), DeviceFault>
+        requires { n < (fuse_state D.state self.old).blocks }
+        ensures any { Counts 0 result (fuse_state D.state self.old) (fuse_state D.state self.new) }
+        ensures honest { (fuse_state D.state self.old).honest ≡ true
+            → Writes n from.now result (fuse_state D.state self.old) (fuse_state D.state self.new) }
+
+        ensures burns { Burns self.old self.new }
+        ensures passed { fails_next self.old ≡ false
+            → Counts 0 result (D.state (inner_of self.old)) (D.state (inner_of self.new)) }
+        ensures failed { fails_next self.old ≡ true → IsErr result }
+
+        // Where the write of those bytes fails below too, the block holds any bytes.
+        ensures torn { fails_next self.old ≡ true
+            → (D.state (inner_of self.old)).honest ≡ true
+            → (D.state (inner_of self.new)).failures ≡ (D.state (inner_of self.old)).failures
+            → block (D.state (inner_of self.new)).now.contents n ≡ torn_of self.old }
+    {
+        if self.fails() {
+            let _ = self.inner.write(n, &self.torn);
+            return Err(DeviceFault);
+        }
+        self.inner.write(n, from)
+    }
+
+    fn sync(&mut self) -> Result<(), DeviceFault>
+        ensures any { Counts 0 result (fuse_state D.state self.old) (fuse_state D.state self.new) }
+        ensures honest { (fuse_state D.state self.old).honest ≡ true
+            → Syncs result (fuse_state D.state self.old) (fuse_state D.state self.new) }
+
+        ensures burns { Burns self.old self.new }
+        ensures passed { fails_next self.old ≡ false
+            → Counts 0 result (D.state (inner_of self.old)) (D.state (inner_of self.new)) }
+        ensures failed { fails_next self.old ≡ true → IsErr result }
+        ensures kept { fails_next self.old ≡ true → inner_of self.new ≡ inner_of self.old }
+    {
+        if self.fails() {
+            return Err(DeviceFault);
+        }
+        self.inner.sync()
+    }
+}

@@ -1,0 +1,52 @@
+//! Values that contracts alone see, kept without bytes.
+ghost use Rattle.std.specs.Prelude.{◌≡◌, [], ◌∷◌};
+
+use std::mem;
+use std::snapshot::Snapshot;
+
+/// A value that was there, and those before it. It has no bytes.
+struct Past<T> {
+    last: Snapshot<T>,
+    before: Snapshot<Option<Past<T>>>,
+}
+
+impl<T> Drop for Past<T> {
+    fn drop(self) {
+        let Past { last: _, before: _ } = self;
+    }
+}
+
+/// The values that were noted, the newest first, for contracts alone. It has no bytes, so noting one
+/// takes no memory and no time.
+pub struct History<T> {
+    newest: Snapshot<Option<Past<T>>>,
+}
+
+impl<T> Drop for History<T> {
+    fn drop(self) {
+        let History { newest: _ } = self;
+    }
+}
+
+impl<T> History<T> {
+    ghost use Rattle.vm_disk.specs.Past.{noted};
+
+    pub fn new() -> History<T>
+        ensures { noted result ≡ [] }
+    {
+        History {
+            newest: Snapshot::of(&None),
+        }
+    }
+
+    pub fn note(&mut self, value: &T)
+        ensures { noted self.new ≡ value.now ∷ noted self.old }
+    {
+        let before = mem::replace(&mut self.newest, Snapshot::of(&None));
+        let newest = Some(Past {
+            last: Snapshot::of(value),
+            before,
+        });
+        self.newest = Snapshot::of(&newest);
+    }
+}
