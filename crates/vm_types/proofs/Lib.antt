@@ -1,0 +1,15 @@
+mod BytesLemmas
+mod Rows
+pub mod Bridge
+pub mod Changes
+pub mod FirstsLemmas
+pub mod IsolationLemmas
+pub mod KeptLemmas
+pub mod Keys
+pub mod Maps
+pub mod MomentsLemmas
+pub mod Runs
+pub mod ShapeLemmas
+pub mod SoundLemmas
+pub mod Steps
+pub mod WellFormed

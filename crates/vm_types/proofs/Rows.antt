@@ -1,0 +1,229 @@
+-- Small sessions of editors, computed by the definitions: what each command is answered, and what is shown after it.
+use Rattle.std.specs.Prelude.{◌≡◌, refl, ℕ, zero, suc, List, [], ◌∷◌, ◌++◌, Option, Some, None, Result, Ok, Err, codes}
+use Rattle.vm_types.specs.declared.key.Key.{Key}
+use Rattle.vm_types.specs.declared.answer.Answer.{Answer}
+use Rattle.vm_types.specs.declared.answer.Answer.TheVariants.{Done, Merged}
+use Rattle.vm_types.specs.declared.command.Side.{Side}
+use Rattle.vm_types.specs.declared.command.Side.TheVariants.{Mine, Theirs}
+use Rattle.vm_types.specs.declared.command.Command.{Command}
+use Rattle.vm_types.specs.declared.command.Command.TheVariants.{New, Drop, Put, Remove, Checkpoint, Back, Merge, Post, Reclaim}
+use Rattle.vm_types.specs.declared.refusal.Refusal.{Refusal}
+use Rattle.vm_types.specs.declared.refusal.Refusal.TheVariants.{NoSuchAlternative, AlternativeExists, NoSuchCheckpoint, CheckpointExists, NoSuchRecord, IsTop, HasChildren, NotMerged, Unsettled, NotInConflict, SettledTwice}
+use Rattle.vm_types.specs.declared.change.Change.{Change}
+use Rattle.vm_types.specs.declared.change.Conflict.{Conflict}
+use Rattle.vm_types.specs.Map.{Map, get, delta, conflicts}
+use Rattle.vm_types.specs.Tree.{Alternative, Tree, top, fresh, named, current_of}
+use Rattle.vm_types.specs.Step.{or_refuse, refuse_if, refuse_found}
+use Rattle.vm_types.specs.State.{opened, answers_to, after, edits}
+
+abbrev key : ℕ → ℕ → Key
+key table number = record { table = table; number = number }
+
+-- names and values
+abbrev a : List ℕ
+a = codes "a"
+
+abbrev b : List ℕ
+b = codes "b"
+
+abbrev c : List ℕ
+c = codes "c"
+
+abbrev q : List ℕ
+q = codes "q"
+
+abbrev nope : List ℕ
+nope = codes "nope"
+
+abbrev v : List ℕ
+v = codes "v"
+
+abbrev x : List ℕ
+x = codes "x"
+
+abbrev y : List ℕ
+y = codes "y"
+
+abbrev z : List ℕ
+z = codes "z"
+
+abbrev ok : Result Answer Refusal
+ok = Ok Done
+
+abbrev no_sides : List (Key × Side)
+no_sides = []
+
+-- the answers to commands on a new store, and the working tree after them
+abbrev answers : List Command → List (Result Answer Refusal)
+answers commands = answers_to (opened fresh) commands
+
+abbrev tree_of : List Command → Tree
+tree_of commands = (after (opened fresh) commands (answers commands)).working
+
+-- the records of an alternative after the commands
+abbrev records : List Command → List ℕ → Map
+records commands name = current_of (tree_of commands) name
+
+-- what `changes` and `conflicts` list for an alternative whose parent is `top`
+abbrev base_of : Option Alternative → Map
+base_of None = []
+base_of (Some found) = found.base
+
+abbrev changes : List Command → List ℕ → List Change
+changes commands name = delta (base_of (named (tree_of commands) name)) (records commands name)
+
+abbrev in_conflict : List Command → List ℕ → List Conflict
+in_conflict commands name = conflicts (base_of (named (tree_of commands) name)) (records commands top) (records commands name)
+
+-- two editors give one key two values: the conflict has to be settled, and Theirs takes the parent's value
+abbrev both_put : List Command
+both_put = New a top ∷ Put top (key 1 1) x ∷ Put a (key 1 1) y ∷ []
+
+abbrev theirs : List Command
+theirs = both_put ++ Merge a no_sides ∷ Merge a ((key 1 1, Theirs) ∷ []) ∷ []
+
+theirs_settles : answers (theirs ++ Post a ∷ []) ≡ ok ∷ ok ∷ ok ∷ Err (Unsettled 1) ∷ Ok (Merged 1) ∷ ok ∷ []
+unfolding or_refuse refuse_if refuse_found
+theirs_settles = refl
+
+theirs_is_shown : get (records theirs a) (key 1 1) ≡ Some x
+unfolding or_refuse refuse_if refuse_found
+theirs_is_shown = refl
+
+theirs_is_posted : get (records (theirs ++ Post a ∷ []) top) (key 1 1) ≡ Some x
+unfolding or_refuse refuse_if refuse_found
+theirs_is_posted = refl
+
+-- the parent's record is removed and one's own changed: absence is in conflict, and Mine keeps one's own value
+abbrev removed_and_put : List Command
+removed_and_put = Put top (key 1 1) x ∷ New a top ∷ Remove top (key 1 1) ∷ Put a (key 1 1) y ∷ []
+
+abbrev mine : List Command
+mine = removed_and_put ++ Merge a ((key 1 1, Mine) ∷ []) ∷ []
+
+removal_is_in_conflict : in_conflict removed_and_put a ≡ record { key = key 1 1; base = Some x; parent = None; mine = Some y } ∷ []
+unfolding or_refuse refuse_if refuse_found
+removal_is_in_conflict = refl
+
+mine_settles : answers (mine ++ Post a ∷ []) ≡ ok ∷ ok ∷ ok ∷ ok ∷ Ok (Merged 0) ∷ ok ∷ []
+unfolding or_refuse refuse_if refuse_found
+mine_settles = refl
+
+mine_is_shown : get (records mine a) (key 1 1) ≡ Some y
+unfolding or_refuse refuse_if refuse_found
+mine_is_shown = refl
+
+mine_is_posted : get (records (mine ++ Post a ∷ []) top) (key 1 1) ≡ Some y
+unfolding or_refuse refuse_if refuse_found
+mine_is_posted = refl
+
+-- the same change on both sides is no conflict
+same_change_is_no_conflict : answers (Put top (key 1 1) x ∷ New a top ∷ Put top (key 1 1) z ∷ Put a (key 1 1) z ∷ Merge a no_sides ∷ Post a ∷ []) ≡ ok ∷ ok ∷ ok ∷ ok ∷ Ok (Merged 0) ∷ ok ∷ []
+unfolding or_refuse refuse_if refuse_found
+same_change_is_no_conflict = refl
+
+-- the parent was changed and changed back: the base equals it as a map, so a Post is accepted
+abbrev changed_back : List Command
+changed_back = Put top (key 1 1) x ∷ New a top ∷ Put a (key 1 2) y ∷ Put top (key 1 1) z ∷ Put top (key 1 1) x ∷ Post a ∷ []
+
+changed_back_is_merged : answers changed_back ≡ ok ∷ ok ∷ ok ∷ ok ∷ ok ∷ ok ∷ []
+unfolding or_refuse refuse_if refuse_found
+changed_back_is_merged = refl
+
+changed_back_is_posted : records changed_back top ≡ (key 1 1, x) ∷ (key 1 2, y) ∷ []
+unfolding or_refuse refuse_if refuse_found
+changed_back_is_posted = refl
+
+posted_has_no_changes : changes changed_back a ≡ []
+unfolding or_refuse refuse_if refuse_found
+posted_has_no_changes = refl
+
+-- Back restores the base too, so what was merged since then has to be merged again before a Post
+abbrev back : List Command
+back = New a top ∷ Checkpoint a c ∷ Put top (key 1 1) x ∷ Merge a no_sides ∷ Back a c ∷ []
+
+back_takes_the_base_too : answers (back ++ Post a ∷ []) ≡ ok ∷ ok ∷ ok ∷ Ok (Merged 1) ∷ ok ∷ Err NotMerged ∷ []
+unfolding or_refuse refuse_if refuse_found
+back_takes_the_base_too = refl
+
+back_shows_the_checkpoint : get (records back a) (key 1 1) ≡ None
+unfolding or_refuse refuse_if refuse_found
+back_shows_the_checkpoint = refl
+
+-- one refusal after another
+refusals_of_two_alternatives :
+    answers (
+    New a top ∷ New b a ∷ Drop a ∷ Drop top
+    ∷ Merge a ((key 1 1, Mine) ∷ (key 1 1, Mine) ∷ []) ∷ Merge a ((key 1 1, Mine) ∷ [])
+    ∷ Post top ∷ New a nope ∷ New a top ∷ Back a q ∷ Checkpoint a c ∷ Checkpoint a c ∷ [])
+    ≡ ok ∷ ok ∷ Err HasChildren ∷ Err IsTop
+    ∷ Err (SettledTwice (key 1 1)) ∷ Err (NotInConflict (key 1 1))
+    ∷ Err IsTop ∷ Err NoSuchAlternative ∷ Err AlternativeExists ∷ Err NoSuchCheckpoint ∷ ok ∷ Err CheckpointExists ∷ []
+unfolding or_refuse refuse_if refuse_found
+refusals_of_two_alternatives = refl
+
+-- a value written again with what it was is no change
+abbrev written_again : List Command
+written_again = Put top (key 1 1) x ∷ Put top (key 1 1) x ∷ New a top ∷ Put a (key 1 1) x ∷ []
+
+written_again_is_accepted : answers written_again ≡ ok ∷ ok ∷ ok ∷ ok ∷ []
+unfolding or_refuse refuse_if refuse_found
+written_again_is_accepted = refl
+
+written_again_is_no_change : changes written_again a ≡ []
+unfolding or_refuse refuse_if refuse_found
+written_again_is_no_change = refl
+
+-- Puts of the value v at (table, first) and the next ones, n in all
+abbrev puts : List ℕ → ℕ → ℕ → ℕ → List Command
+puts name table first zero = []
+puts name table first (suc n) = Put name (key table first) v ∷ puts name table (suc first) n
+
+-- the records that they leave
+abbrev rows : ℕ → ℕ → ℕ → Map
+rows table first zero = []
+rows table first (suc n) = (key table first, v) ∷ rows table (suc first) n
+
+abbrev oks : ℕ → List (Result Answer Refusal)
+oks zero = []
+oks (suc n) = ok ∷ oks n
+
+-- seventeen records, and a Reclaim that changes none
+seventeen_are_put : answers (puts top 1 1 17 ++ Reclaim ∷ []) ≡ oks 18
+unfolding or_refuse refuse_if refuse_found
+seventeen_are_put = refl
+
+seventeen_are_shown : records (puts top 1 1 17 ++ Reclaim ∷ []) top ≡ rows 1 1 17
+unfolding or_refuse refuse_if refuse_found
+seventeen_are_shown = refl
+
+-- the greatest key, with the empty value; and a record that was never there
+abbrev greatest_key : Key
+greatest_key = key 65535 18446744073709551615
+
+abbrev outermost : List Command
+outermost = Put top greatest_key [] ∷ Remove top (key 0 0) ∷ []
+
+outermost_keys : answers outermost ≡ ok ∷ Err NoSuchRecord ∷ []
+unfolding or_refuse refuse_if refuse_found
+outermost_keys = refl
+
+empty_value_is_shown : get (records outermost top) greatest_key ≡ Some []
+unfolding or_refuse refuse_if refuse_found
+empty_value_is_shown = refl
+
+-- nine records of the parent come into an alternative of eight: nine record changes
+abbrev nine_beside_eight : List Command
+nine_beside_eight = New a top ∷ (puts top 1 1 9 ++ puts a 2 1 8)
+
+nine_come_in : answers (nine_beside_eight ++ Merge a no_sides ∷ []) ≡ ok ∷ (oks 17 ++ Ok (Merged 9) ∷ [])
+unfolding or_refuse refuse_if refuse_found
+nine_come_in = refl
+
+nine_are_counted : edits (tree_of nine_beside_eight) (Merge a no_sides) ≡ 9
+unfolding or_refuse refuse_if refuse_found
+nine_are_counted = refl
+
+nine_stand_before_eight : records (nine_beside_eight ++ Merge a no_sides ∷ []) a ≡ rows 1 1 9 ++ rows 2 1 8
+unfolding or_refuse refuse_if refuse_found
+nine_stand_before_eight = refl

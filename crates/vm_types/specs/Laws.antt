@@ -1,0 +1,31 @@
+-- Laws of the model, each a sentence about every tree, map or list of commands.
+use Rattle.std.specs.Prelude.{◌≡◌, ◌↔◌, ℕ, List, [], Result}
+use Rattle.vm_types.specs.declared.key.Key.{Key}
+use Rattle.vm_types.specs.declared.answer.Answer.{Answer}
+use Rattle.vm_types.specs.declared.command.Side.{Side}
+use Rattle.vm_types.specs.declared.command.Command.{Command}
+use Rattle.vm_types.specs.declared.refusal.Refusal.{Refusal}
+use Rattle.vm_types.specs.Map.{Map, IsMap, get, delta, merged_at, merge}
+use Rattle.vm_types.specs.Tree.{Tree, fresh, named}
+use Rattle.vm_types.specs.Shape.{IsWellFormed}
+use Rattle.vm_types.specs.Step.{step}
+use Rattle.vm_types.specs.State.{State, tree_after, after}
+use Rattle.vm_types.specs.Isolation.{LeavesAlone}
+
+-- a new store's tree is well formed, and each command leaves a well formed tree well formed
+abbrev pub StepsKeepTreesWellFormed : Type 0
+StepsKeepTreesWellFormed = IsWellFormed fresh × ((tree : Tree) (command : Command) → IsWellFormed tree → IsWellFormed (tree_after tree (step tree command)))
+
+-- at each key a merge has what the three-way rule gives, and in a conflict what the settlements say; and it is a map
+abbrev pub MergesAreThreeWay : Type 0
+MergesAreThreeWay = (base parent mine : Map) (settled : List (Key × Side)) →
+    ((key : Key) → get (merge base parent mine settled) key ≡ merged_at base parent mine settled key) × (IsMap mine → IsMap (merge base parent mine settled))
+
+-- maps differ at no key exactly where they are equal
+abbrev pub DeltasTellEquality : Type 0
+DeltasTellEquality = (m n : Map) → IsMap m → IsMap n → (delta m n ≡ []) ↔ (m ≡ n)
+
+-- an alternative is as before, with its base and checkpoints, where no command worked on it and no child was posted into it
+abbrev pub AlternativesAreIsolated : Type 0
+AlternativesAreIsolated = (s : State) (commands : List Command) (answers : List (Result Answer Refusal)) (name : List ℕ) →
+    LeavesAlone s commands answers name → named (after s commands answers).working name ≡ named s.working name

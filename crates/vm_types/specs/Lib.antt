@@ -1,0 +1,15 @@
+pub mod Bytes
+pub mod Codes
+pub mod Firsts
+pub mod Isolation
+pub mod Kept
+pub mod Laws
+pub mod Map
+pub mod Moments
+pub mod Name
+pub mod Places
+pub mod Shape
+pub mod State
+pub mod Step
+pub mod Texts
+pub mod Tree

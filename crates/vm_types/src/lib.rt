@@ -1,0 +1,23 @@
+//! The words of the store: keys, values, names, commands, answers and refusals, and the model
+//! that every crate above is proved against.
+//!
+//! It stands on the standard library alone and knows nothing of blocks or disks. Its one promise:
+//! the limits of a value and of a name hold exactly, and keys are ordered by table, then by number.
+#![tactic(auto)]
+
+mod answer;
+mod change;
+mod command;
+mod key;
+pub mod laws;
+mod name;
+mod refusal;
+mod value;
+
+pub use answer::Answer;
+pub use change::{Change, Conflict};
+pub use command::{Command, Settled, Side};
+pub use key::Key;
+pub use name::Name;
+pub use refusal::Refusal;
+pub use value::Value;

@@ -1,0 +1,176 @@
+//! Every refusal, in one place.
+ghost use Rattle.std.specs.Prelude.{◌≡◌};
+
+use crate::Key;
+use std::fmt;
+
+/// Why a call was refused.
+#[derive(Clone, Copy, Debug, PartialEq, Eq, Hash)]
+pub enum Refusal {
+    /// The named alternative or parent isn't there.
+    NoSuchAlternative,
+    /// A new alternative has a name that is there already.
+    AlternativeExists,
+    /// The alternative has no such checkpoint.
+    NoSuchCheckpoint,
+    /// The alternative has a checkpoint of this name already.
+    CheckpointExists,
+    /// The record to be removed is absent.
+    NoSuchRecord,
+    /// The first alternative can't be dropped, merged or posted, and has no conflicts.
+    IsTop,
+    /// The alternative to be dropped is a parent.
+    HasChildren,
+    /// The base of the alternative to be posted isn't its parent's current state.
+    NotMerged,
+    /// So many conflicts have no settlement.
+    Unsettled(u64),
+    /// A settlement names a key that is in no conflict.
+    NotInConflict(Key),
+    /// A key is settled twice.
+    SettledTwice(Key),
+    /// All 511 entries of alternatives and checkpoints are taken.
+    TooMany,
+    /// Too few spare blocks are left for the record changes.
+    Full,
+    /// The tree has its greatest number of levels, and the whole path to the new record is full.
+    Deep,
+    /// The device failed during this call.
+    Device,
+    /// A growth of memory was refused during this call.
+    Memory,
+    /// An earlier command was answered by `Device`.
+    Failed,
+    /// This block is not what the layout demands.
+    Damaged(u32),
+    /// The disk is too small for a store, or its first block is no header.
+    NotAStore,
+    /// The disk to be formatted is a store already.
+    AlreadyAStore,
+    /// A count of blocks is out of range, or above the disk's.
+    BadSize,
+}
+
+impl Refusal {
+    ghost use Rattle.vm_types.specs.Codes.{code_of, name_of};
+
+    /// Its number, from 1 to 21.
+    pub fn code(&self) -> u32
+        ensures { result ≡ code_of self.now }
+    {
+        match self {
+            Refusal::NoSuchAlternative => 1,
+            Refusal::AlternativeExists => 2,
+            Refusal::NoSuchCheckpoint => 3,
+            Refusal::CheckpointExists => 4,
+            Refusal::NoSuchRecord => 5,
+            Refusal::IsTop => 6,
+            Refusal::HasChildren => 7,
+            Refusal::NotMerged => 8,
+            Refusal::Unsettled(_) => 9,
+            Refusal::NotInConflict(_) => 10,
+            Refusal::SettledTwice(_) => 11,
+            Refusal::TooMany => 12,
+            Refusal::Full => 13,
+            Refusal::Deep => 14,
+            Refusal::Device => 15,
+            Refusal::Memory => 16,
+            Refusal::Failed => 17,
+            Refusal::Damaged(_) => 18,
+            Refusal::NotAStore => 19,
+            Refusal::AlreadyAStore => 20,
+            Refusal::BadSize => 21,
+        }
+    }
+
+    /// Its name, without the number, key or block that it may have.
+    pub fn name(&self) -> &'static str
+        ensures { result.now ≡ name_of self.now }
+    {
+        match self {
+            Refusal::NoSuchAlternative => "NoSuchAlternative",
+            Refusal::AlternativeExists => "AlternativeExists",
+            Refusal::NoSuchCheckpoint => "NoSuchCheckpoint",
+            Refusal::CheckpointExists => "CheckpointExists",
+            Refusal::NoSuchRecord => "NoSuchRecord",
+            Refusal::IsTop => "IsTop",
+            Refusal::HasChildren => "HasChildren",
+            Refusal::NotMerged => "NotMerged",
+            Refusal::Unsettled(_) => "Unsettled",
+            Refusal::NotInConflict(_) => "NotInConflict",
+            Refusal::SettledTwice(_) => "SettledTwice",
+            Refusal::TooMany => "TooMany",
+            Refusal::Full => "Full",
+            Refusal::Deep => "Deep",
+            Refusal::Device => "Device",
+            Refusal::Memory => "Memory",
+            Refusal::Failed => "Failed",
+            Refusal::Damaged(_) => "Damaged",
+            Refusal::NotAStore => "NotAStore",
+            Refusal::AlreadyAStore => "AlreadyAStore",
+            Refusal::BadSize => "BadSize",
+        }
+    }
+}
+
+/// Its number and its name, as `7 HasChildren`, and what it has beside them, as `18 Damaged 34`.
+impl fmt::Display for Refusal {
+    ghost use Rattle.std.specs.Prelude.{Some};
+    ghost use Rattle.vm_types.specs.Texts.{refusal_text};
+
+    ghost output = { λ refusal. Some (refusal_text refusal) };
+
+    fn fmt<W: fmt::Write>(&self, f: &mut fmt::Formatter<W>) -> fmt::Result {
+        write!(f, "{} {}", self.code(), self.name())?;
+        match self {
+            Refusal::Unsettled(count) => write!(f, " {count}"),
+            Refusal::NotInConflict(key) | Refusal::SettledTwice(key) => write!(f, " {key}"),
+            Refusal::Damaged(block) => write!(f, " {block}"),
+            _ => Ok(()),
+        }
+    }
+}
+
+#[cfg(test)]
+mod tests {
+    use super::*;
+
+    #[test]
+    fn is_written_with_its_number_and_name(rt: HostRuntime) {
+        let key = Key {
+            table: 7,
+            number: 1,
+        };
+        let rows = [
+            (Refusal::NoSuchAlternative, 1, "1 NoSuchAlternative"),
+            (Refusal::AlternativeExists, 2, "2 AlternativeExists"),
+            (Refusal::NoSuchCheckpoint, 3, "3 NoSuchCheckpoint"),
+            (Refusal::CheckpointExists, 4, "4 CheckpointExists"),
+            (Refusal::NoSuchRecord, 5, "5 NoSuchRecord"),
+            (Refusal::IsTop, 6, "6 IsTop"),
+            (Refusal::HasChildren, 7, "7 HasChildren"),
+            (Refusal::NotMerged, 8, "8 NotMerged"),
+            (Refusal::Unsettled(1), 9, "9 Unsettled 1"),
+            (Refusal::NotInConflict(key), 10, "10 NotInConflict 7:1"),
+            (Refusal::SettledTwice(key), 11, "11 SettledTwice 7:1"),
+            (Refusal::TooMany, 12, "12 TooMany"),
+            (Refusal::Full, 13, "13 Full"),
+            (Refusal::Deep, 14, "14 Deep"),
+            (Refusal::Device, 15, "15 Device"),
+            (Refusal::Memory, 16, "16 Memory"),
+            (Refusal::Failed, 17, "17 Failed"),
+            (Refusal::Damaged(34), 18, "18 Damaged 34"),
+            (Refusal::NotAStore, 19, "19 NotAStore"),
+            (Refusal::AlreadyAStore, 20, "20 AlreadyAStore"),
+            (Refusal::BadSize, 21, "21 BadSize"),
+        ];
+        for (refusal, code, want) in rows {
+            assert_eq!(rt; refusal.code(), code);
+            let text = match format!(in rt.alloc(); "{refusal}") {
+                Ok(text) => text,
+                Err(_) => panic!(rt; "no memory"),
+            };
+            assert_eq!(rt; text.as_str(), want);
+        }
+    }
+}
