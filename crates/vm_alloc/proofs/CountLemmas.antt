@@ -1,0 +1,80 @@
+-- How the counts that `Held` and `Marks` keep follow the flags.
+use Rattle.std.proofs.Common.{◌≡◌, ℕ, ◌-◌, ◌<◌, ◌≤◌, Bool, true, false, List, ◌++◌, length, drop, replicate, sym, ◌∙◌, ap, inl, inr, arith}
+use Rattle.std.specs.Prelude.{slice_set, ◌↔◌}
+use Rattle.std.proofs.Math.ListN.{length-set}
+use Rattle.std.proofs.lemmas.Bool.{cases_lt, false≢true}
+use Rattle.std.proofs.lemmas.List.{length-replicate}
+use Rattle.vm_alloc.specs.Counts.{IsCounted, IsTallied}
+use Rattle.vm_alloc.specs.Held.{IsHeld, free_count}
+use Rattle.vm_alloc.specs.Marks.{is_marked}
+use Rattle.vm_alloc.proofs.FlagLemmas.{first_flags_length, first_flags_low, first_flags_high}
+use Rattle.vm_alloc.proofs.HeldLemmas.{free_first, free_new, no_mark, unmarked_less, unmarked_same_low, mark_same}
+
+pub counted_none : (blocks : ℕ) (marks : List Bool) → 64 ≤ blocks → blocks ≤ 1048576 → marks ≡ replicate blocks false → IsCounted marks (blocks - 34)
+counted_none blocks marks enough few none =
+    let many : length marks ≡ blocks = ap length none ∙ length-replicate blocks false in
+    record {
+      enough = omega arith;
+      few = omega arith;
+      count = sym (free_new 34 blocks (omega arith)) ∙ ap (λ (m : List Bool). free_count (drop 34 m)) (sym none);
+    }
+
+pub counted_some : (marks : List Bool) (unmarked n : ℕ) → IsCounted marks unmarked → 34 ≤ n → n < length marks → is_marked marks n ≡ false → 1 ≤ unmarked
+counted_some marks unmarked n counted above inside free = omega (arith, counted.count, unmarked_less 34 marks n above inside free)
+
+pub counted_less : (marks : List Bool) (unmarked n : ℕ) → IsCounted marks unmarked → 34 ≤ n → n < length marks → is_marked marks n ≡ false → IsCounted (slice_set marks n true) (unmarked - 1)
+counted_less marks unmarked n counted above inside free = record {
+  enough = omega (arith, counted.enough, length-set marks n true);
+  few = omega (arith, counted.few, length-set marks n true);
+  count = omega (arith, counted.count, unmarked_less 34 marks n above inside free);
+}
+
+pub counted_low : (marks : List Bool) (unmarked n : ℕ) → IsCounted marks unmarked → n < 34 → IsCounted (slice_set marks n true) unmarked
+counted_low marks unmarked n counted low = record {
+  enough = omega (arith, counted.enough, length-set marks n true);
+  few = omega (arith, counted.few, length-set marks n true);
+  count = counted.count ∙ unmarked_same_low 34 marks n low;
+}
+
+pub counted_again : (marks : List Bool) (unmarked n : ℕ) → IsCounted marks unmarked → is_marked marks n ≡ true → IsCounted (slice_set marks n true) unmarked
+counted_again marks unmarked n counted marked = rw (mark_same marks n marked) counted
+
+-- the store's own blocks, and then the marked ones
+pub tallied_first : (held marks : List Bool) (free : ℕ) → held ≡ replicate 34 true ++ drop 34 marks → 64 ≤ length marks → length marks ≤ 1048576 → free ≡ free_count (drop 34 marks) → IsTallied held free 0
+tallied_first held marks free is enough few count =
+    let many : length held ≡ length marks = ap length is ∙ first_flags_length 34 marks (omega arith) in
+    record {
+      enough = omega arith;
+      few = omega arith;
+      system = λ n low. ap (λ (h : List Bool). is_marked h n) is ∙ first_flags_low 34 marks n low;
+      before = λ n low. absurd (omega arith);
+      count = count ∙ sym (free_first 34 marks) ∙ ap (λ (h : List Bool). free_count h) (sym is);
+    }
+
+pub tallied_new : (held : List Bool) (blocks : ℕ) → held ≡ replicate 34 true ++ drop 34 (replicate blocks false) → 64 ≤ blocks → blocks ≤ 1048576 → IsTallied held (blocks - 34) 0
+tallied_new held blocks is enough few =
+    let none = replicate blocks false in
+    let many : length none ≡ blocks = length-replicate blocks false in
+    tallied_first held none (blocks - 34) is (omega arith) (omega arith) (sym (free_new 34 blocks (omega arith)))
+
+-- the marks as they are lent, copied, and then joined to the store's own blocks
+pub replaced_by : (held copied lent marks : List Bool) → held ≡ replicate 34 true ++ drop 34 copied → copied ≡ lent → lent ≡ marks → held ≡ replicate 34 true ++ drop 34 marks
+replaced_by held copied lent marks joined same shown = joined ∙ ap (λ (flags : List Bool). replicate 34 true ++ drop 34 flags) (same ∙ shown)
+
+pub length_first : (first : ℕ) (held marks : List Bool) → held ≡ replicate first true ++ drop first marks → first ≤ length marks → length held ≡ length marks
+length_first first held marks is enough = ap length is ∙ first_flags_length first marks enough
+
+pub held_first : (first : ℕ) (held marks : List Bool) → held ≡ replicate first true ++ drop first marks → (n : ℕ) → n < first → IsHeld held n
+held_first first held marks is n low = ap (λ (h : List Bool). is_marked h n) is ∙ first_flags_low first marks n low
+
+pub marked_past : (first : ℕ) (held marks : List Bool) → held ≡ replicate first true ++ drop first marks → (n : ℕ) → first ≤ n → is_marked held n ≡ is_marked marks n
+marked_past first held marks is n above = ap (λ (h : List Bool). is_marked h n) is ∙ first_flags_high first marks n above
+
+pub only_first : (first blocks : ℕ) (held : List Bool) → held ≡ replicate first true ++ drop first (replicate blocks false) → (n : ℕ) → IsHeld held n ↔ (n < first)
+only_first first blocks held is n = (
+  (λ held_here. elim (cases_lt n first) [
+    | inl low ↦ low
+    | inr above ↦ absurd (false≢true (sym (marked_past first held (replicate blocks false) is n above ∙ no_mark blocks n) ∙ held_here))
+  ]),
+  (λ low. held_first first held (replicate blocks false) is n low),
+)

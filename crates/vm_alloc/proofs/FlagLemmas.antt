@@ -1,0 +1,131 @@
+-- The flags that lie in words, as a list.
+use Rattle.std.proofs.Common.{◌≡◌, ◌≢◌, ℕ, ◌*◌, ◌/◌, ◌<◌, ◌≤◌, min, Bool, true, false, List, ◌++◌, length, get_or, drop, replicate, sym, ◌∙◌, ap, inl, inr, arith, length-append, length-drop}
+use Rattle.std.proofs.Math.ListN.{set, length-set}
+use Rattle.std.proofs.lemmas.Bool.{cases_eq, cases_lt, false≢true}
+use Rattle.std.proofs.lemmas.Grind.{common_steps}
+use Rattle.std.proofs.lemmas.List.{ext_get_or, get_or-set_same, get_or-set_other, get_or-replicate, get_or_past, length-replicate}
+use Rattle.std.proofs.lemmas.List.FromFn.{length-map-range_with_len, get_or-map-range_with_len}
+use Rattle.vm_alloc.specs.Flags.{flags_of, IsPacked}
+use Rattle.vm_alloc.specs.Words.{is_bit_set}
+use Rattle.vm_alloc.proofs.WordLemmas.{no_bit}
+
+pub length-flags_of : (words : List ℕ) (count : ℕ) → length (flags_of words count) ≡ count
+unfolding flags_of
+length-flags_of words count = length-map-range_with_len (is_bit_set words) 0 count
+
+pub flag_at : (words : List ℕ) (count k : ℕ) → k < count → get_or (flags_of words count) k false ≡ is_bit_set words k
+unfolding flags_of
+flag_at words count k inside = get_or-map-range_with_len (is_bit_set words) 0 count k k false inside (omega arith)
+
+-- flags that agree bit by bit
+pub same_flags : (words : List ℕ) (count : ℕ) (flags : List Bool) → length flags ≡ count → ((k : ℕ) → k < count → get_or flags k false ≡ is_bit_set words k) → flags_of words count ≡ flags
+same_flags words count flags many each =
+    ext_get_or false (flags_of words count) flags (length-flags_of words count ∙ sym many)
+    (λ k inside. let within : k < count = omega (arith, length-flags_of words count) in flag_at words count k within ∙ sym (each k within))
+
+-- one flag more
+pub flag_set : (words new : List ℕ) (count n : ℕ) → n < count → is_bit_set new n ≡ true → ((k : ℕ) → k ≢ n → is_bit_set new k ≡ is_bit_set words k)
+    → flags_of new count ≡ set (flags_of words count) n true
+flag_set words new count n inside here others =
+    same_flags new count (set (flags_of words count) n true) (length-set (flags_of words count) n true ∙ length-flags_of words count)
+    (λ k within. elim (cases_eq k n) [
+      | inl same ↦ ap (λ (j : ℕ). get_or (set (flags_of words count) n true) j false) same
+          ∙ get_or-set_same (flags_of words count) n true false (omega (arith, length-flags_of words count))
+          ∙ sym here
+          ∙ ap (λ (j : ℕ). is_bit_set new j) (sym same)
+      | inr other ↦ get_or-set_other (flags_of words count) n k true false other ∙ flag_at words count k within ∙ sym (others k other)
+    ])
+
+-- the first flags and then as before
+pub first_flags_length : (first : ℕ) (flags : List Bool) → first ≤ length flags → length (replicate first true ++ drop first flags) ≡ length flags
+first_flags_length first flags enough =
+    omega (arith, length-append (replicate first true) (drop first flags), length-replicate first true, length-drop first flags)
+
+pub first_flags_low : (first : ℕ) (flags : List Bool) (k : ℕ) → k < first → get_or (replicate first true ++ drop first flags) k false ≡ true
+first_flags_low first flags k low = grind (arith, common_steps)
+
+pub first_flags_high : (first : ℕ) (flags : List Bool) (k : ℕ) → first ≤ k → get_or (replicate first true ++ drop first flags) k false ≡ get_or flags k false
+first_flags_high first flags k high = grind (arith, common_steps)
+
+pub flags_first : (words new : List ℕ) (count first : ℕ) → first < count → ((k : ℕ) → k < first → is_bit_set new k ≡ true) → ((k : ℕ) → first ≤ k → is_bit_set new k ≡ is_bit_set words k)
+    → flags_of new count ≡ replicate first true ++ drop first (flags_of words count)
+flags_first words new count first few low high =
+    let many = length-flags_of words count in
+    same_flags new count (replicate first true ++ drop first (flags_of words count))
+    (first_flags_length first (flags_of words count) (omega (arith, many)) ∙ many)
+    (λ k within. elim (cases_lt k first) [
+      | inl below ↦ first_flags_low first (flags_of words count) k below ∙ sym (low k below)
+      | inr above ↦ first_flags_high first (flags_of words count) k above ∙ flag_at words count k within ∙ sym (high k above)
+    ])
+
+-- no flag at all
+pub no_flag : (m count : ℕ) → flags_of (replicate m 0) count ≡ replicate count false
+no_flag m count =
+    same_flags (replicate m 0) count (replicate count false) (length-replicate count false)
+    (λ k within. get_or-replicate count k false false within ∙ sym (no_bit m k))
+
+-- ---- what a method of the flags asks and answers, where `flags` are those that lie in `words` and `read` are the same words
+
+pub many_flags : (words : List ℕ) (count : ℕ) (flags : List Bool) → flags_of words count ≡ flags → length flags ≡ count
+many_flags words count flags view = ap length (sym view) ∙ length-flags_of words count
+
+pub same_many : (words : List ℕ) (count : ℕ) (flags : List Bool) (words' : List ℕ) (count' : ℕ) (flags' : List Bool) → flags_of words count ≡ flags → flags_of words' count' ≡ flags' → length flags' ≡ length flags → count ≡ count'
+same_many words count flags words' count' flags' view view' same =
+    sym (many_flags words count flags view) ∙ sym same ∙ many_flags words' count' flags' view'
+
+pub word_inside : (words : List ℕ) (count : ℕ) (flags : List Bool) (n : ℕ) → flags_of words count ≡ flags → IsPacked words count → n < length flags → n / 64 < length words
+word_inside words count flags n view packed inside = let many = many_flags words count flags view in omega (arith, many)
+
+pub flag_read : (words read : List ℕ) (count : ℕ) (flags : List Bool) (n : ℕ) → flags_of words count ≡ flags → read ≡ words → n < length flags → is_bit_set read n ≡ get_or flags n false
+flag_read words read count flags n view same inside =
+    ap (λ (ws : List ℕ). is_bit_set ws n) same
+    ∙ sym (flag_at words count n (omega (arith, many_flags words count flags view)))
+    ∙ ap (λ (fs : List Bool). get_or fs n false) view
+
+pub flag_written : (words read new : List ℕ) (count : ℕ) (flags : List Bool) (n : ℕ) → flags_of words count ≡ flags → read ≡ words → n < length flags
+    → is_bit_set new n ≡ true → ((k : ℕ) → k ≢ n → is_bit_set new k ≡ is_bit_set read k)
+    → flags_of new count ≡ set flags n true
+flag_written words read new count flags n view same inside here others =
+    flag_set words new count n (omega (arith, many_flags words count flags view)) here (λ k other. others k other ∙ ap (λ (ws : List ℕ). is_bit_set ws k) same)
+    ∙ ap (λ (fs : List Bool). set fs n true) view
+
+pub first_written : (words read new : List ℕ) (count first : ℕ) (flags : List Bool) → flags_of words count ≡ flags → read ≡ words → first < length flags
+    → ((k : ℕ) → k < first → is_bit_set new k ≡ true) → ((k : ℕ) → first ≤ k → is_bit_set new k ≡ is_bit_set read k)
+    → flags_of new count ≡ replicate first true ++ drop first flags
+first_written words read new count first flags view same inside low high =
+    flags_first words new count first (omega (arith, many_flags words count flags view)) low (λ k above. high k above ∙ ap (λ (ws : List ℕ). is_bit_set ws k) same)
+    ∙ ap (λ (fs : List Bool). replicate first true ++ drop first fs) view
+
+pub flags_cleared : (words new : List ℕ) (count : ℕ) (flags : List Bool) → flags_of words count ≡ flags → new ≡ replicate (length words) 0 → flags_of new count ≡ replicate (length flags) false
+flags_cleared words new count flags view cleared =
+    ap (λ (ws : List ℕ). flags_of ws count) cleared
+    ∙ no_flag (length words) count
+    ∙ ap (λ (m : ℕ). replicate m false) (sym (many_flags words count flags view))
+
+pub flags_copied : (words new : List ℕ) (count others : ℕ) (flags : List Bool) → flags_of words others ≡ flags → new ≡ words → count ≡ others → flags_of new count ≡ flags
+flags_copied words new count others flags view same many =
+    ap (λ (ws : List ℕ). flags_of ws count) same ∙ ap (λ (m : ℕ). flags_of words m) many ∙ view
+
+-- bits below `from` are set where its flags are
+pub bits_below : (words read : List ℕ) (count from : ℕ) (flags : List Bool) → flags_of words count ≡ flags → read ≡ words
+    → ((k : ℕ) → k < from → get_or flags k false ≡ true) → (k : ℕ) → k < from → is_bit_set read k ≡ true
+bits_below words read count from flags view same below k low =
+    elim (cases_lt k (length flags)) [
+      | inl inside ↦ flag_read words read count flags k view same inside ∙ below k low
+      | inr past ↦ absurd (false≢true (sym (get_or_past flags k false past) ∙ below k low))
+    ]
+
+pub flags_before : (words read : List ℕ) (count r m : ℕ) (flags : List Bool) → flags_of words count ≡ flags → read ≡ words → m ≡ min r count
+    → ((k : ℕ) → k < r → is_bit_set read k ≡ true) → (k : ℕ) → k < m → get_or flags k false ≡ true
+flags_before words read count r m flags view same least before k low =
+    sym (flag_read words read count flags k view same (omega (arith, many_flags words count flags view))) ∙ before k (omega arith)
+
+pub flag_found : (words read : List ℕ) (count r m : ℕ) (flags : List Bool) → flags_of words count ≡ flags → read ≡ words → m ≡ min r count → IsPacked words count
+    → (r < 64 * length read → is_bit_set read r ≡ false) → m < length flags → get_or flags m false ≡ false
+flag_found words read count r m flags view same least packed found inside =
+    let many = many_flags words count flags view in
+    let here : m ≡ r = omega (arith, many) in
+    let words_alike : length read ≡ length words = ap length same in
+    sym (flag_read words read count flags m view same inside)
+    ∙ ap (λ (k : ℕ). is_bit_set read k) here
+    ∙ found (omega (arith, many))

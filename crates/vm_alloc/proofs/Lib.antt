@@ -1,0 +1,4 @@
+pub mod CountLemmas
+pub mod FlagLemmas
+pub mod HeldLemmas
+pub mod WordLemmas

@@ -1,0 +1,14 @@
+use Rattle.std.proofs.Common.{◌∙◌, ℕ, List, ap, arith}
+use Rattle.std.proofs.lemmas.List.{with_items_is}
+use Rattle.vm_alloc.specs.Flags.{flags_of}
+use Rattle.vm_alloc.proofs.FlagLemmas.{word_inside, flag_written}
+use Rattle.vm_alloc.proofs.flags.Flags.set.Goals as goal
+
+pub set_bit-requires : goal.set_bit-requires
+set_bit-requires c = rw c.as_mut_slice.ensures.value (word_inside _ _ c.args.self.now c.args.n c.self.view_is c.self.invariant c.requires)
+
+pub returns : goal.returns
+returns c =
+    ap (λ (words : List ℕ). flags_of words c.self.inside.count) (with_items_is c.self.inside.words c.set_bit.new.words (omega arith))
+    ∙ flag_written c.self.inside.words.items c.as_mut_slice.result.now c.set_bit.new.words c.self.inside.count c.args.self.now c.args.n
+    c.self.view_is c.as_mut_slice.ensures.value c.requires c.set_bit.ensures.same c.set_bit.ensures.others

@@ -1,0 +1,14 @@
+use Rattle.std.proofs.Common.{◌∙◌, ℕ, List, ap, arith}
+use Rattle.std.proofs.lemmas.List.{with_items_is}
+use Rattle.vm_alloc.specs.Flags.{flags_of}
+use Rattle.vm_alloc.proofs.FlagLemmas.{word_inside, first_written}
+use Rattle.vm_alloc.proofs.flags.Flags.set_first.Goals as goal
+
+pub set_first_bits-requires-clause-some : goal.set_first_bits-requires-clause-some
+set_first_bits-requires-clause-some c = rw c.as_mut_slice.ensures.value (word_inside _ _ c.args.self.now 0 c.self.view_is c.self.invariant (omega arith))
+
+pub returns : goal.returns
+returns c =
+    ap (λ (words : List ℕ). flags_of words c.self.inside.count) (with_items_is c.self.inside.words c.set_first_bits.new.words (omega arith))
+    ∙ first_written c.self.inside.words.items c.as_mut_slice.result.now c.set_first_bits.new.words c.self.inside.count c.args.count c.args.self.now
+    c.self.view_is c.as_mut_slice.ensures.value c.requires.within c.set_first_bits.ensures.first c.set_first_bits.ensures.others

@@ -1,0 +1,5 @@
+pub mod Counts
+pub mod Flags
+pub mod Held
+pub mod Marks
+pub mod Words

@@ -1,0 +1,88 @@
+//! A fixed number of flags, of which a contract sees the list.
+ghost use Rattle.std.specs.Prelude.{◌≡◌, ℕ, ◌^◌, ◌<◌, ◌≤◌, ◌++◌, true, false, length, replicate, drop, slice_index_or, slice_set, IfOk};
+
+use crate::words::{bit, first_clear_bit, set_bit, set_first_bits};
+use std::alloc::{AllocError, Global};
+use std::marker::Model;
+
+#[derive(Drop)]
+pub(crate) struct Flags {
+    words: Vec<u64>,
+    count: usize,
+}
+
+impl Model for Flags {
+    ghost use Rattle.std.specs.Prelude.{List, Bool};
+    ghost use Rattle.vm_alloc.specs.Flags.{flags_of, IsPacked};
+
+    ghost Value = { List Bool };
+
+    ghost view = { λ a. flags_of a.words.items a.count };
+
+    ghost invariant = { λ a. IsPacked a.words.items a.count };
+}
+
+impl Flags {
+    pub(crate) fn new(alloc: Global, count: usize) -> Result<Flags, AllocError>
+        requires { count ≤ 2 ^ 20 }
+        ensures { IfOk result (λ flags. flags ≡ replicate count false) }
+    {
+        Ok(Flags {
+            words: vec![in alloc; 0; count.div_ceil(64)]?,
+            count,
+        })
+    }
+
+    pub(crate) fn len(&self) -> usize
+        ensures count { result ≡ length self.now }
+        ensures few { length self.now ≤ 2 ^ 20 }
+    {
+        self.count
+    }
+
+    pub(crate) fn get(&self, n: usize) -> bool
+        requires { n < length self.now }
+        ensures { result ≡ slice_index_or self.now n false }
+    {
+        bit(self.words.as_slice(), n)
+    }
+
+    pub(crate) fn set(&mut self, n: usize)
+        requires { n < length self.old }
+        ensures { self.new ≡ slice_set self.old n true }
+    {
+        set_bit(self.words.as_mut_slice(), n);
+    }
+
+    // Sets the first `count` flags.
+    pub(crate) fn set_first(&mut self, count: u32)
+        requires within { count < length self.old }
+        requires one_word { count < 64 }
+        ensures { self.new ≡ replicate count true ++ drop count self.old }
+    {
+        set_first_bits(self.words.as_mut_slice(), count);
+    }
+
+    pub(crate) fn clear(&mut self)
+        ensures { self.new ≡ replicate (length self.old) false }
+    {
+        self.words.fill(0);
+    }
+
+    pub(crate) fn copy_from(&mut self, other: &Flags)
+        requires { length other.now ≡ length self.old }
+        ensures { self.new ≡ other.now }
+    {
+        self.words.copy_from_slice(other.words.as_slice());
+    }
+
+    // The lowest clear flag, or their number where all are set. The search starts at flag `from`.
+    pub(crate) fn first_clear(&self, from: usize) -> usize
+        requires { (k : ℕ) → k < from → slice_index_or self.now k false ≡ true }
+        ensures before { (k : ℕ) → k < result → slice_index_or self.now k false ≡ true }
+        ensures found { result < length self.now → slice_index_or self.now result false ≡ false }
+        ensures within { result ≤ length self.now }
+    {
+        first_clear_bit(self.words.as_slice(), from).min(self.count)
+    }
+}

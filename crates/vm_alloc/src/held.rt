@@ -1,0 +1,177 @@
+ghost use Rattle.std.specs.Prelude.{◌≡◌, ℕ, ◌↔◌, ◌<◌, ◌≤◌, true, false, length, slice_get, slice_set, IsTrue, IsNone, IfOk, IfSome, IfNone};
+ghost use Rattle.vm_alloc.specs.Held.{is_held, IsHeld, free_count, HoldsMore};
+ghost use Rattle.vm_alloc.specs.Marks.{is_marked};
+
+use crate::flags::Flags;
+use crate::marks::Marks;
+use std::alloc::{AllocError, Global};
+use std::marker::Model;
+
+/// The first block that may hold data. The blocks before it are the store's own, and always held.
+pub const FIRST_DATA: u32 = 34;
+
+/// Which blocks of a store are held: never written until they are let go. The others are free.
+#[derive(Drop)]
+pub struct Held {
+    flags: Flags,
+    free: u32,
+    // No block before this one is free.
+    lowest: usize,
+}
+
+impl Model for Held {
+    ghost use Rattle.std.specs.Prelude.{List, Bool};
+    ghost use Rattle.vm_alloc.specs.Counts.{IsTallied};
+
+    ghost Value = { List Bool };
+
+    ghost view = { λ a. a.flags };
+
+    ghost invariant = { λ a. IsTallied a.flags a.free a.lowest };
+}
+
+impl Held {
+    /// Blocks 0 to 33 are held. The only call that takes memory.
+    pub fn new(alloc: Global, blocks: u32) -> Result<Held, AllocError>
+        requires enough { 64 ≤ blocks }
+        requires few { blocks ≤ 1048576 }
+        ensures count { IfOk result (λ held. length held ≡ blocks) }
+        ensures system { IfOk result (λ held. (n : ℕ) → IsHeld held n ↔ (n < FIRST_DATA)) }
+    {
+        let mut flags = Flags::new(alloc, blocks as usize)?;
+        flags.set_first(FIRST_DATA);
+        Ok(Held {
+            flags,
+            free: blocks - FIRST_DATA,
+            lowest: 0,
+        })
+    }
+
+    /// How many blocks there are, held or free.
+    pub fn blocks(&self) -> u32
+        ensures count { result ≡ length self.now }
+        ensures enough { 64 ≤ length self.now }
+        ensures few { length self.now ≤ 1048576 }
+        ensures system { (n : ℕ) → n < FIRST_DATA → IsHeld self.now n }
+    {
+        self.flags.len() as u32
+    }
+
+    /// How many blocks are free.
+    pub fn free_count(&self) -> u32
+        ensures count { result ≡ free_count self.now }
+        ensures system { (n : ℕ) → n < FIRST_DATA → IsHeld self.now n }
+    {
+        self.free
+    }
+
+    pub fn is_held(&self, n: u32) -> bool
+        requires { n < length self.now }
+        ensures held { IsTrue result ↔ IsHeld self.now n }
+        ensures system { (n : ℕ) → n < FIRST_DATA → IsHeld self.now n }
+    {
+        self.flags.get(n as usize)
+    }
+
+    /// Holds the lowest free block, and returns it.
+    pub fn take(&mut self) -> Option<u32>
+        ensures free { IfSome result (λ n. slice_get self.old n ≡ Some false) }
+        ensures lowest { IfSome result (λ n. (k : ℕ) → k < n → IsHeld self.old k) }
+        ensures taken { IfSome result (λ n. self.new ≡ slice_set self.old n true) }
+
+        // None exactly where every block is held.
+        ensures none { IsNone result ↔ (free_count self.old ≡ 0) }
+        ensures kept { IfNone result (self.new ≡ self.old) }
+
+        ensures still { HoldsMore self.old self.new }
+        ensures system { (n : ℕ) → n < FIRST_DATA → IsHeld self.new n }
+    {
+        let n = self.flags.first_clear(self.lowest);
+        self.lowest = n;
+        if n == self.flags.len() {
+            return None;
+        }
+        self.flags.set(n);
+        self.free -= 1;
+        Some(n as u32)
+    }
+
+    /// Holds the marked blocks and the store's own, and no other.
+    pub fn replace(&mut self, marks: &Marks)
+        requires { length marks.now ≡ length self.old }
+        ensures count { length self.new ≡ length self.old }
+        ensures marked { (n : ℕ) → FIRST_DATA ≤ n → is_held self.new n ≡ is_marked marks.now n }
+        ensures system { (n : ℕ) → n < FIRST_DATA → IsHeld self.new n }
+    {
+        self.flags.copy_from(marks.flags());
+        self.flags.set_first(FIRST_DATA);
+        self.free = marks.unmarked();
+        self.lowest = 0;
+    }
+}
+
+#[cfg(test)]
+mod tests {
+    use super::*;
+    use std::process::Abort;
+    use std::test::Fail;
+
+    fn take_all(rt: &impl Abort, held: &mut Held, blocks: u32) {
+        for n in 34..blocks {
+            assert_eq!(rt; held.take(), Some(n));
+        }
+        assert_eq!(rt; held.take(), None);
+        assert_eq!(rt; held.free_count(), 0);
+    }
+
+    #[test]
+    fn takes_every_block_of_one_word(rt: HostRuntime) -> Result<(), Fail> {
+        let mut held = Held::new(rt.alloc(), 64)?;
+        assert_eq!(rt; held.blocks(), 64);
+        assert_eq!(rt; held.free_count(), 30);
+        take_all(&rt, &mut held, 64);
+        Ok(())
+    }
+
+    #[test]
+    fn takes_a_block_past_one_word(rt: HostRuntime) -> Result<(), Fail> {
+        let mut held = Held::new(rt.alloc(), 65)?;
+        assert_eq!(rt; held.free_count(), 31);
+        take_all(&rt, &mut held, 65);
+        Ok(())
+    }
+
+    #[test]
+    fn holds_what_is_marked(rt: HostRuntime) -> Result<(), Fail> {
+        let mut held = Held::new(rt.alloc(), 130)?;
+        assert_eq!(rt; held.take(), Some(34));
+        assert_eq!(rt; held.take(), Some(35));
+
+        // A mark of one of the store's own blocks changes nothing, nor does a second mark.
+        let mut marks = Marks::new(rt.alloc(), 130)?;
+        marks.set(7);
+        marks.set(35);
+        marks.set(48);
+        marks.set(48);
+        marks.set(129);
+        held.replace(&marks);
+
+        assert_eq!(rt; held.free_count(), 93);
+        assert!(rt; held.is_held(33));
+        assert!(rt; held.is_held(129));
+        assert!(rt; !held.is_held(128));
+        assert_eq!(rt; held.take(), Some(34));
+        assert_eq!(rt; held.take(), Some(36));
+        assert_eq!(rt; held.free_count(), 91);
+        Ok(())
+    }
+
+    #[test]
+    fn holds_the_most_blocks(rt: HostRuntime) -> Result<(), Fail> {
+        let mut held = Held::new(rt.alloc(), 1_048_576)?;
+        assert_eq!(rt; held.free_count(), 1_048_542);
+        assert_eq!(rt; held.take(), Some(34));
+        assert!(rt; !held.is_held(1_048_575));
+        Ok(())
+    }
+}

@@ -1,0 +1,110 @@
+ghost use Rattle.std.specs.Prelude.{◌≡◌, ◌↔◌, ◌<◌, ◌≤◌, true, false, length, drop, replicate, slice_set, IsTrue, IfOk};
+ghost use Rattle.vm_alloc.specs.Held.{free_count};
+ghost use Rattle.vm_alloc.specs.Marks.{IsMarked};
+
+use crate::flags::Flags;
+use crate::held::FIRST_DATA;
+use std::alloc::{AllocError, Global};
+use std::marker::Model;
+
+/// Which blocks of a store are marked, as those that are still in use.
+#[derive(Drop)]
+pub struct Marks {
+    flags: Flags,
+    // How many blocks from `FIRST_DATA` on are not marked.
+    unmarked: u32,
+}
+
+impl Model for Marks {
+    ghost use Rattle.std.specs.Prelude.{List, Bool};
+    ghost use Rattle.vm_alloc.specs.Counts.{IsCounted};
+
+    ghost Value = { List Bool };
+
+    ghost view = { λ a. a.flags };
+
+    ghost invariant = { λ a. IsCounted a.flags a.unmarked };
+}
+
+impl Marks {
+    /// No block is marked. The only call that takes memory.
+    pub fn new(alloc: Global, blocks: u32) -> Result<Marks, AllocError>
+        requires enough { 64 ≤ blocks }
+        requires few { blocks ≤ 1048576 }
+        ensures { IfOk result (λ marks. marks ≡ replicate blocks false) }
+    {
+        Ok(Marks {
+            flags: Flags::new(alloc, blocks as usize)?,
+            unmarked: blocks - FIRST_DATA,
+        })
+    }
+
+    /// How many blocks there are, marked or not.
+    pub fn blocks(&self) -> u32
+        ensures count { result ≡ length self.now }
+        ensures enough { 64 ≤ length self.now }
+        ensures few { length self.now ≤ 1048576 }
+    {
+        self.flags.len() as u32
+    }
+
+    pub fn is_set(&self, n: u32) -> bool
+        requires { n < length self.now }
+        ensures { IsTrue result ↔ IsMarked self.now n }
+    {
+        self.flags.get(n as usize)
+    }
+
+    pub fn set(&mut self, n: u32)
+        requires { n < length self.old }
+        ensures { self.new ≡ slice_set self.old n true }
+    {
+        let at = n as usize;
+        if n >= FIRST_DATA && !self.flags.get(at) {
+            self.unmarked -= 1;
+        }
+        self.flags.set(at);
+    }
+
+    pub fn clear(&mut self)
+        ensures { self.new ≡ replicate (length self.old) false }
+    {
+        let blocks = self.blocks();
+        self.flags.clear();
+        self.unmarked = blocks - FIRST_DATA;
+    }
+
+    pub(crate) fn flags(&self) -> &Flags
+        ensures { result.now ≡ self.now }
+    {
+        &self.flags
+    }
+
+    pub(crate) fn unmarked(&self) -> u32
+        ensures { result ≡ free_count (drop FIRST_DATA self.now) }
+    {
+        self.unmarked
+    }
+}
+
+#[cfg(test)]
+mod tests {
+    use super::*;
+    use std::test::Fail;
+
+    #[test]
+    fn marks_and_clears(rt: HostRuntime) -> Result<(), Fail> {
+        let mut marks = Marks::new(rt.alloc(), 65)?;
+        assert_eq!(rt; marks.blocks(), 65);
+        marks.set(33);
+        marks.set(64);
+        marks.set(64);
+        assert!(rt; marks.is_set(33));
+        assert!(rt; marks.is_set(64));
+        assert!(rt; !marks.is_set(63));
+        marks.clear();
+        assert!(rt; !marks.is_set(33));
+        assert!(rt; !marks.is_set(64));
+        Ok(())
+    }
+}

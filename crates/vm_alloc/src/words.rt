@@ -1,0 +1,45 @@
+//! Bits that lie 64 in a word.
+ghost use Rattle.std.specs.Prelude.{◌≡◌, ◌≢◌, ℕ, ◌+◌, ◌*◌, ◌/◌, ◌^◌, ◌<◌, ◌≤◌, true, false, length};
+ghost use Rattle.vm_alloc.specs.Words.{is_bit_set};
+
+pub(crate) fn bit(words: &[u64], n: usize) -> bool
+    requires { n / 64 < length words.now }
+    ensures { result ≡ is_bit_set words.now n }
+{
+    words[n / 64] >> (n % 64) & 1 == 1
+}
+
+pub(crate) fn set_bit(words: &mut [u64], n: usize)
+    requires { n / 64 < length words.old }
+    ensures same { is_bit_set words.new n ≡ true }
+    ensures others { (k : ℕ) → k ≢ n → is_bit_set words.new k ≡ is_bit_set words.old k }
+{
+    words[n / 64] |= 1 << (n % 64);
+}
+
+// Sets bits 0 to `count` - 1.
+pub(crate) fn set_first_bits(words: &mut [u64], count: u32)
+    requires some { 0 < length words.old }
+    requires one_word { count < 64 }
+    ensures first { (k : ℕ) → k < count → is_bit_set words.new k ≡ true }
+    ensures others { (k : ℕ) → count ≤ k → is_bit_set words.new k ≡ is_bit_set words.old k }
+{
+    words[0] |= (1 << count) - 1;
+}
+
+// The lowest clear bit, or the number of bits where all are set.
+pub(crate) fn first_clear_bit(words: &[u64], from: usize) -> usize
+    requires few { length words.now < 2 ^ 50 }
+    requires set { (k : ℕ) → k < from → is_bit_set words.now k ≡ true }
+    ensures before { (k : ℕ) → k < result → is_bit_set words.now k ≡ true }
+    ensures found { result < 64 * length words.now → is_bit_set words.now result ≡ false }
+    ensures within { result ≤ 64 * length words.now }
+{
+    for i in from / 64..words.len() {
+        let word = words[i];
+        if word != u64::MAX {
+            return 64 * i + word.trailing_ones() as usize;
+        }
+    }
+    64 * words.len()
+}

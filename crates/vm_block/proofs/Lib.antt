@@ -1,0 +1,9 @@
+pub mod EachLemmas
+pub mod FormLemmas
+pub mod LeafLemmas
+pub mod NodeLemmas
+pub mod Pieces
+pub mod RecordLemmas
+pub mod Rows
+pub mod SlotLemmas
+pub mod TreeLemmas

@@ -1,0 +1,89 @@
+-- Rows of pieces of one length, one behind the other.
+use Rattle.std.proofs.Common.{◌≡◌, ℕ, zero, suc, ◌+◌, ◌-◌, ◌*◌, ◌<◌, ◌≤◌, List, [], ◌∷◌, ◌++◌, length, take, drop, get_or, refl, sym, ap, ◌∙◌, arith, length-append, length-drop, append_assoc}
+use Rattle.std.specs.List.{AllByRecursion, flat_map}
+use Rattle.std.proofs.lemmas.List.{take_at, drop_at, drop-drop, take_more, flat_map_more}
+use Rattle.std.proofs.Math.Nat.{mul-le-mul_left}
+use Rattle.std.proofs.Math.Seq.{take-add}
+use Rattle.vm_block.proofs.Pieces.{then_writes}
+use borrow.Rule.Slice.PartMut.{put_mid, mid_of}
+
+pub all_push : {X : Type 0} (P : X → Type 0) (xs : List X) (x : X) → AllByRecursion P xs → P x → AllByRecursion P (xs ++ x ∷ [])
+all_push P [] x all one = (one, tt)
+all_push P (y ∷ ys) x all one = (all.0, all_push P ys x all.1 one)
+
+-- one more piece written behind those before it
+pub rows_written : {X : Type 0} (spelled : X → List ℕ) (size : ℕ) (xs : List X) (i : ℕ) (x : X) (old mid new : List ℕ) (k : ℕ) → i < length xs → x ≡ get_or xs i x → mid ≡ flat_map spelled (take i xs) ++ drop (size * i) old → size * length xs ≤ length old → length mid ≡ length old → k ≡ length mid - size * i → new ≡ spelled x ++ drop size (mid_of (size * i) k mid) → put_mid (size * i) k mid new ≡ flat_map spelled (take (i + 1) xs) ++ drop (size * (i + 1)) old
+rows_written spelled size xs i x old mid new k lt is e room same far wrote =
+    let ys = flat_map spelled (take i xs) in
+    let inside : size * i ≤ size * length xs = mul-le-mul_left size (omega arith) in
+    let len : length ys ≡ size * i =
+    omega (arith, ap length e, length-append ys (drop (size * i) old), length-drop (size * i) old) in
+    let more : ys ++ spelled x ≡ flat_map spelled (take (i + 1) xs) =
+    flat_map_more spelled [] (take i xs) x ∙ ap (flat_map spelled) (ap (λ z. take i xs ++ z ∷ []) is ∙ sym (take_more xs i x lt)) in
+    then_writes ys (spelled x) old mid new (size * i) k size (size * (i + 1)) e len far wrote (omega arith)
+    ∙ ap (λ z. z ++ drop (size * (i + 1)) old) more
+
+-- one more piece read behind those before it
+pub rows_read : {X : Type 0} (spelled : X → List ℕ) (size : ℕ) (xs : List X) (i : ℕ) (x : X) (bytes : List ℕ) (k : ℕ) → take (size * i) bytes ≡ flat_map spelled xs → k ≡ size * i + size - size * i → take k (drop (size * i) bytes) ≡ spelled x → take (size * (i + 1)) bytes ≡ flat_map spelled (xs ++ x ∷ [])
+rows_read spelled size xs i x bytes k before is here =
+    let next : size * (i + 1) ≡ size * i + size = omega arith in
+    let many : size ≡ k = omega arith in
+    ap (λ n. take n bytes) next ∙ take-add (size * i) size bytes
+    ∙ ap (λ z. z ++ take size (drop (size * i) bytes)) before
+    ∙ ap (λ z. flat_map spelled xs ++ z) (ap (λ n. take n (drop (size * i) bytes)) many ∙ here)
+    ∙ flat_map_more spelled [] xs x
+
+module _ {X : Type 0} (spelled : X → List ℕ) (P : X → Type 0) (size : ℕ) (length-spelled : (x : X) → P x → length (spelled x) ≡ size) where
+  pub length-rows : (xs : List X) → AllByRecursion P xs → length (flat_map spelled xs) ≡ size * length xs
+  length-rows [] all = omega arith
+  length-rows (x ∷ xs) all =
+      omega (arith, length-append (spelled x) (flat_map spelled xs), length-spelled x all.0, length-rows xs all.1)
+
+  -- the piece at a place
+  pub record Found (bytes : List ℕ) (i : ℕ) : Type 0 where
+    pub here : X
+    pub fits : P here
+    pub spells : (k : ℕ) → k ≡ size * i + size - size * i → take k (drop (size * i) bytes) ≡ spelled here
+
+  pub found_at : (xs : List X) (i : ℕ) (bytes rest : List ℕ) → AllByRecursion P xs → i < length xs → bytes ≡ flat_map spelled xs ++ rest → Found bytes i
+  found_at [] i bytes rest all lt e = absurd (omega arith)
+  found_at (x ∷ xs) zero bytes rest all lt e =
+      let whole : bytes ≡ spelled x ++ (flat_map spelled xs ++ rest) = e ∙ append_assoc (spelled x) (flat_map spelled xs) rest in
+      let none : size * 0 ≡ 0 = omega arith in
+      record {
+        here = x;
+        fits = all.0;
+        spells = λ k is. let many : k ≡ size = omega arith in ap (λ n. take n (drop (size * 0) bytes)) many ∙ ap (λ n. take size (drop n bytes)) none ∙ ap (take size) whole ∙ take_at (spelled x) (flat_map spelled xs ++ rest) size (length-spelled x all.0);
+      }
+  found_at (x ∷ xs) (suc i) bytes rest all lt e =
+      let whole : bytes ≡ spelled x ++ (flat_map spelled xs ++ rest) = e ∙ append_assoc (spelled x) (flat_map spelled xs) rest in
+      let behind : drop size bytes ≡ flat_map spelled xs ++ rest = ap (drop size) whole ∙ drop_at (spelled x) (flat_map spelled xs ++ rest) size (length-spelled x all.0) in
+      let later : Found (drop size bytes) i = found_at xs i (drop size bytes) rest all.1 (omega arith) behind in
+      let place : size * suc i ≡ size + size * i = omega arith in
+      record {
+        here = later.here;
+        fits = later.fits;
+        spells = λ k is. ap (λ n. take k (drop n bytes)) place ∙ ap (take k) (sym (drop-drop (size * i) size bytes)) ∙ later.spells k (omega arith);
+      }
+
+  module _ (spelled_one : (x y : X) → P x → P y → spelled x ≡ spelled y → x ≡ y) where
+    -- as many pieces of one spelling are the same
+    pub rows_one : (xs ys : List X) → AllByRecursion P xs → AllByRecursion P ys → length xs ≡ length ys → flat_map spelled xs ≡ flat_map spelled ys → xs ≡ ys
+    rows_one [] [] p q len e = refl
+    rows_one [] (y ∷ ys) p q len e = absurd (omega arith)
+    rows_one (x ∷ xs) [] p q len e = absurd (omega arith)
+    rows_one (x ∷ xs) (y ∷ ys) p q len e =
+        let lx = length-spelled x p.0 in
+        let ly = length-spelled y q.0 in
+        let first : spelled x ≡ spelled y =
+        sym (take_at (spelled x) (flat_map spelled xs) size lx) ∙ ap (take size) e ∙ take_at (spelled y) (flat_map spelled ys) size ly in
+        let rest : flat_map spelled xs ≡ flat_map spelled ys =
+        sym (drop_at (spelled x) (flat_map spelled xs) size lx) ∙ ap (drop size) e ∙ drop_at (spelled y) (flat_map spelled ys) size ly in
+        ap (λ z. z ∷ xs) (spelled_one x y p.0 q.0 first) ∙ ap (λ zs. y ∷ zs) (rows_one xs ys p.1 q.1 (omega arith) rest)
+
+    -- pieces that were read are those that are spelled there
+    pub rows_same : (xs ys : List X) (bytes rest : List ℕ) (i n : ℕ) → AllByRecursion P xs → AllByRecursion P ys → length xs ≡ i → length ys ≡ n → i ≡ n → take (size * i) bytes ≡ flat_map spelled xs → bytes ≡ flat_map spelled ys ++ rest → xs ≡ ys
+    rows_same xs ys bytes rest i n p q lx ly same read is =
+        let many : length ys ≡ i = omega arith in
+        let len : length (flat_map spelled ys) ≡ size * i = length-rows ys q ∙ ap (λ k. size * k) many in
+        rows_one xs ys p q (omega arith) (sym read ∙ ap (take (size * i)) is ∙ take_at (flat_map spelled ys) rest (size * i) len)

@@ -1,0 +1,28 @@
+-- Full paths: where a tree has no room for one more record.
+use Rattle.std.specs.Prelude.{◌≡◌, ℕ, zero, suc, ◌+◌, ◌<◌, ◌≤◌, List, length, map, slice_index}
+use Rattle.vm_disk.specs.Disk.{Contents, block}
+use Rattle.vm_block.specs.Leaf.{Record, IsLeaf}
+use Rattle.vm_block.specs.Node.{IsNode, lows}
+use Rattle.vm_block.specs.Tree.{Sizes}
+use Rattle.vm_block.specs.declared.node.Child.{Child}
+
+-- which child a descent to place p takes: the last whose lowest key is not above it, or else the first
+pub record IsChosen (places : List ℕ) (p i : ℕ) : Type 0 where
+  pub within : i < length places
+  pub reached : 0 < i → slice_index places i ≤ p
+  pub last : i + 1 < length places → p < slice_index places (i + 1)
+
+-- the blocks of children
+abbrev pub blocks_of : List Child → List ℕ
+blocks_of cs = map (λ c. c.block) cs
+
+-- every block on the descent from b, l levels above the leaves, to place p has its greatest count
+unfoldable pub FullBelow : Sizes → Contents → ℕ → ℕ → ℕ → Type 0
+FullBelow sizes x p zero b = (rs : List Record) × IsLeaf (block x b) rs × (sizes.leaf ≤ length rs)
+FullBelow sizes x p (suc l) b =
+    (cs : List Child) × (i : ℕ) × IsNode (block x b) (suc l) cs × (sizes.fan ≤ length cs) × IsChosen (lows cs) p i
+    × FullBelow sizes x p l (slice_index (blocks_of cs) i)
+
+-- the tree under root b has its greatest number of levels, and every block on the path to place p is full
+abbrev pub FullPath : Sizes → Contents → ℕ → ℕ → Type 0
+FullPath sizes x p b = (l : ℕ) × (l + 1 ≡ sizes.levels) × FullBelow sizes x p l b

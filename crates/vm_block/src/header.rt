@@ -1,0 +1,25 @@
+//! Block 0, by which a store is known.
+ghost use Rattle.std.specs.Prelude.{◌≡◌, ◌↔◌, IsSome};
+ghost use Rattle.vm_block.specs.Header.{header_bytes, IsHeader};
+
+use crate::spelling::{put, put_zeros};
+
+/// The letters ALTSTORE, the number 1 and the size of a block.
+const FRONT: [u8; 16] = *b"ALTSTORE\x01\0\0\0\0\x10\0\0";
+
+/// Writes the header of a store.
+pub fn write_header(out: &mut [u8; 4096])
+    ensures { out.new ≡ header_bytes }
+{
+    put(&FRONT, out);
+    put_zeros(&mut out[16..]);
+}
+
+/// Whether the block is the header of a store: Some, which says no more.
+pub fn read_header(bytes: &[u8; 4096]) -> Option<()>
+    ensures { IsSome result ↔ IsHeader bytes.now }
+{
+    let mut header = [0; 4096];
+    write_header(&mut header);
+    (*bytes == header).then_some(())
+}

@@ -1,0 +1,28 @@
+//! The forms of a store's blocks: the header, the selector, leaves and inner blocks of trees, and
+//! the slots with their entries. Nothing else in the store knows how a block is spelled.
+//!
+//! It stands on `vm_types` for keys, values and names, and on no disk. Its one promise: a block is
+//! read exactly where its bytes are the form, every zero byte included, and then as the one thing
+//! that it spells; and what is written is read again. No call takes memory.
+#![tactic(auto)]
+
+mod header;
+mod keys;
+mod laws;
+mod leaf;
+mod node;
+mod selector;
+mod slot;
+mod spelling;
+#[cfg(test)]
+mod tests;
+
+pub use header::{read_header, write_header};
+pub use laws::{one_form, one_tree, written_is_a_form};
+pub use leaf::{read_leaf, write_leaf};
+pub use node::{Child, Node, read_node, write_node};
+pub use selector::{read_selector, write_selector};
+pub use slot::{
+    Entry, Kind, MAX_BLOCKS, MAX_ENTRIES, MIN_BLOCKS, SlotHead, read_entry, read_slot_head,
+    write_entry, write_slot_head,
+};

@@ -1,0 +1,147 @@
+//! An inner block of a tree: it holds the numbers of blocks one level below.
+ghost use Rattle.std.specs.Prelude.{◌≡◌, ℕ, ◌<◌, ◌≤◌, ◌*◌, ◌++◌, ◌↔◌, List, length, take, drop, IsTrue, IfSome, IsSomeAnd};
+ghost use Rattle.std.specs.List.{AllByRecursion, flat_map};
+ghost use Rattle.vm_types.specs.Places.{RisesFrom};
+ghost use Rattle.vm_block.specs.declared.node.Child.{Child};
+ghost use Rattle.vm_block.specs.Padding.{padded};
+ghost use Rattle.vm_block.specs.Node.{IsNode, ChildFits, lows, child_bytes, node_head, node_bytes};
+
+use crate::keys::{read_key, write_key};
+use crate::spelling::{is_framed, put, put_zeros};
+use arrayvec::ArrayVec;
+use byteorder::{ByteOrder, LittleEndian};
+use vm_types::Key;
+
+/// A block one level below, and the lowest key under it.
+#[derive(Clone, Copy, Debug, Default, PartialEq, Eq)]
+pub struct Child {
+    pub low: Key,
+    pub block: u32,
+}
+
+/// An inner block: its level above the leaves, and its children.
+#[derive(Debug, Drop)]
+pub struct Node {
+    pub level: u8,
+    pub children: ArrayVec<Child, 256>,
+}
+
+fn write_child(child: Child, out: &mut [u8])
+    requires { 14 ≤ length out.old }
+    ensures { out.new ≡ child_bytes child ++ drop 14 out.old }
+{
+    write_key(child.low, out);
+    LittleEndian::write_u32(&mut out[10..], child.block);
+}
+
+fn write_children(children: &[Child], out: &mut [u8])
+    requires { 14 * length children.now ≤ length out.old }
+    ensures { out.new ≡ flat_map child_bytes children.now ++ drop (14 * length children.now) out.old }
+{
+    for (i, child) in children.iter().enumerate() {
+        write_child(*child, &mut out[14 * i..]);
+    }
+}
+
+fn write_node_head(level: u32, count: u32, out: &mut [u8])
+    requires { 16 ≤ length out.old }
+    ensures { out.new ≡ node_head level count ++ drop 16 out.old }
+{
+    put(b"NODE", out);
+    LittleEndian::write_u32(&mut out[4..], level);
+    LittleEndian::write_u32(&mut out[8..], count);
+    LittleEndian::write_u32(&mut out[12..], 0);
+}
+
+fn write_node_into(level: u8, children: &[Child], out: &mut [u8])
+    requires few { length children.now ≤ 256 }
+    requires room { 3600 ≤ length out.old }
+    ensures { out.new ≡ padded (length out.old) (node_head level (length children.now) ++ flat_map child_bytes children.now) }
+{
+    write_node_head(u32::from(level), children.len() as u32, out);
+    write_children(children, &mut out[16..]);
+    put_zeros(&mut out[16 + 14 * children.len()..]);
+}
+
+/// Writes the inner block of this level and these children.
+#[tactic(auto, unfolding(crate::specs::Node::node_bytes))]
+pub fn write_node(level: u8, children: &[Child], out: &mut [u8; 4096])
+    requires { length children.now ≤ 256 }
+    ensures { out.new ≡ node_bytes level children.now }
+{
+    write_node_into(level, children, out);
+}
+
+/// Whether the lowest keys rise strictly.
+fn are_rising(children: &[Child]) -> bool
+    ensures { IsTrue result ↔ RisesFrom 0 (lows children.now) }
+{
+    let mut low = 0;
+    for child in children {
+        let place = child.low.place();
+        if place < low {
+            return false;
+        }
+        low = place + 1;
+    }
+    true
+}
+
+fn read_child(bytes: &[u8]) -> Child
+    requires { length bytes.now ≡ 14 }
+    ensures fits { ChildFits result }
+    ensures spelled { bytes.now ≡ child_bytes result }
+{
+    Child {
+        low: read_key(bytes),
+        block: LittleEndian::read_u32(&bytes[10..]),
+    }
+}
+
+/// So many children, with which the bytes begin.
+fn read_children(bytes: &[u8], count: usize) -> ArrayVec<Child, 256>
+    requires few { count ≤ 256 }
+    requires room { 14 * count ≤ length bytes.now }
+    ensures fit { AllByRecursion ChildFits result.items }
+    ensures many { length result.items ≡ count }
+    ensures spelled { take (14 * count) bytes.now ≡ flat_map child_bytes result.items }
+{
+    let mut children = ArrayVec::new();
+    for i in 0..count {
+        children.push(read_child(&bytes[14 * i..14 * i + 14]));
+    }
+    children
+}
+
+/// Whether an inner block may have this level and so many children.
+fn is_in_range(level: u32, count: u32) -> bool
+    ensures { IsTrue result ↔ ((0 < level) × (level ≤ 7) × (0 < count) × (count ≤ 256)) }
+{
+    (1..=7).contains(&level) && (1..=256).contains(&count)
+}
+
+/// The inner block, where the bytes are one.
+pub fn read_node(bytes: &[u8; 4096]) -> Option<Node>
+    ensures found { IfSome result (λ node. IsNode bytes.now node.level node.children.items) }
+    ensures only { (level : ℕ) (cs : List Child) → IsNode bytes.now level cs → IsSomeAnd result (λ node. (node.level ≡ level) × (node.children.items ≡ cs)) }
+{
+    let level = LittleEndian::read_u32(&bytes[4..]);
+    let count = LittleEndian::read_u32(&bytes[8..]);
+    if !is_in_range(level, count) {
+        return None;
+    }
+    let mut head = [0; 16];
+    write_node_head(level, count, &mut head);
+    if !is_framed(bytes, &head, 16 + 14 * count as usize) {
+        return None;
+    }
+    let children = read_children(&bytes[16..], count as usize);
+    if are_rising(children.as_slice()) {
+        Some(Node {
+            level: level as u8,
+            children,
+        })
+    } else {
+        None
+    }
+}

@@ -1,0 +1,17 @@
+use Rattle.std.proofs.Common.{◌∙◌}
+use Rattle.vm_disk.proofs.MomentLemmas.{read_once, reads_then}
+use Rattle.vm_catalog.proofs.selection.slot_in_use.Goals as goal
+
+pub returns-in_err-read-clause-reads : goal.returns-in_err-read-clause-reads
+returns-in_err-read-clause-reads g c honest = read_once _ _ _ _ _ (c.read.ensures.honest honest)
+
+pub returns-then-is_none-clause-reads : goal.returns-then-is_none-clause-reads
+returns-then-is_none-clause-reads g c honest = read_once _ _ _ _ _ (c.read.ensures.honest honest)
+
+pub returns-in_err-read-2-clause-reads : goal.returns-in_err-read-2-clause-reads
+returns-in_err-read-2-clause-reads g c honest =
+    reads_then _ _ _ (read_once _ _ _ _ _ (c.read.ensures.honest honest)) (read_once _ _ _ _ _ (c.read-2.ensures.honest (c.read.ensures.any.same_honesty ∙ honest)))
+
+pub returns-clause-reads : goal.returns-clause-reads
+returns-clause-reads g c honest =
+    reads_then _ _ _ (read_once _ _ _ _ _ (c.read.ensures.honest honest)) (read_once _ _ _ _ _ (c.read-2.ensures.honest (c.read.ensures.any.same_honesty ∙ honest)))

@@ -1,0 +1,5 @@
+pub mod Catalog
+pub mod Place
+pub mod Publishing
+pub mod Reading
+pub mod Written

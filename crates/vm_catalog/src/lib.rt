@@ -1,0 +1,23 @@
+//! The catalog of a store: the list of alternatives and checkpoints with their roots, which stands
+//! in one of two slots on a disk, and the selector, which names that slot.
+//!
+//! It stands on `vm_disk` for disks and on `vm_block` for the forms of blocks. Its one promise:
+//! `load` gives exactly the entries of a slot and only reads; and whenever `publish` is stopped, a
+//! disk shows the entries from before it or the new ones, never a mixture.
+#![tactic(auto)]
+
+mod laws;
+mod ledger;
+mod place;
+mod reader;
+mod selection;
+#[cfg(test)]
+mod tests;
+mod writer;
+
+pub use laws::one_catalog;
+pub use ledger::is_ledger;
+pub use place::{MAX_ENTRIES, first_block, used_blocks};
+pub use reader::{LoadFault, Slot, load};
+pub use selection::{select_slot, slot_in_use};
+pub use writer::{publish, write_slot};

@@ -1,0 +1,188 @@
+//! How a slot is loaded.
+ghost use Rattle.std.specs.Prelude.{◌≡◌, ◌≢◌, ◌⊎◌, ℕ, ◌+◌, ◌-◌, ◌*◌, ◌<◌, ◌≤◌, ◌++◌, true, min, List, [], ◌∷◌, length, take, drop, Some, OnOk, IfOk, IfSome, IsSome, IsSomeAnd, vec_len, vec_capacity};
+ghost use Rattle.std.specs.Bool.{OnTrue};
+ghost use Rattle.std.specs.List.{AllByRecursion, flat_map};
+ghost use Rattle.vm_disk.specs.Disk.{Goes, block};
+ghost use Rattle.vm_disk.specs.Moments.{OnlyReads};
+ghost use Rattle.vm_block.specs.Slot.{SlotFits, EntryFits, used_blocks, entry_bytes, IsHead, IsEntry};
+ghost use Rattle.vm_block.specs.declared.slot.Entry.{Entry};
+ghost use Rattle.vm_catalog.specs.Place.{blocks_from, slot_at};
+ghost use Rattle.vm_catalog.specs.Catalog.{SlotAt};
+ghost use Rattle.vm_catalog.specs.Reading.{cell_of, HasEntry, HasTaken, FitsSoFar, Begins, Loads};
+
+use crate::ledger::is_ledger;
+use crate::place::{MAX_ENTRIES, first_block, used_blocks};
+use std::alloc::{Allocator, Global};
+use vm_block::{Entry, SlotHead, read_entry, read_slot_head};
+use vm_disk::Disk;
+
+/// Why a slot could not be loaded.
+#[derive(Clone, Copy, Debug, PartialEq, Eq)]
+pub enum LoadFault {
+    /// The device failed in a read.
+    Device,
+    /// No memory was given for the entries.
+    Memory,
+    /// The blocks are no slot.
+    Damaged,
+}
+
+/// What a slot holds.
+#[derive(Drop)]
+pub struct Slot {
+    /// How many blocks the store has.
+    pub blocks: u32,
+    /// The alternatives and checkpoints, in order of creation.
+    pub entries: Vec<Entry>,
+}
+
+// The entry in a cell of the block, where it is one.
+fn entry_at(block: &[u8], cell: usize) -> Option<Entry>
+    requires { 128 * (cell + 1) ≤ length block.now }
+    ensures found { IfSome result (λ e. IsEntry (cell_of block.now cell) e) }
+    ensures only { (e : Entry) → IsEntry (cell_of block.now cell) e → result ≡ Some e }
+{
+    read_entry(&block[128 * cell..128 * cell + 128])
+}
+
+// Reads so many entries, from a cell of the block on, behind those that were read before.
+// Where one is no entry, it answers false.
+fn read_entries<A: Allocator>(
+    block: &[u8],
+    first: usize,
+    count: usize,
+    entries: &mut Vec<Entry, A>,
+) -> bool
+    requires inside { 128 * (first + count) ≤ length block.now }
+    requires room { vec_len entries.old + count ≤ vec_capacity entries.old }
+    ensures room { vec_capacity entries.new ≡ vec_capacity entries.old }
+    ensures found { OnTrue result (HasTaken block.now first count entries.old.items entries.new.items) }
+    ensures only { ((i : ℕ) → i < count → HasEntry block.now (first + i)) → result ≡ true }
+{
+    for i in 0..count {
+        match entry_at(block, first + i) {
+            Some(entry) => entries.push_reserved(entry),
+            None => return false,
+        }
+    }
+    true
+}
+
+// Reads the head of a slot from its first block, and the entries behind it.
+fn read_front(block: &[u8], entries: &mut Vec<Entry>) -> Option<SlotHead>
+    requires whole { length block.now ≡ 4096 }
+    requires none { entries.old.items ≡ [] }
+    requires room { MAX_ENTRIES ≤ vec_capacity entries.old }
+    ensures room { vec_capacity entries.new ≡ vec_capacity entries.old }
+    ensures head { IfSome result (λ head. IsHead (take 128 block.now) head.blocks head.entries) }
+    ensures found { IfSome result (λ head. HasTaken block.now 1 (min head.entries 31) [] entries.new.items) }
+    ensures only { (limit n : ℕ) → IsHead (take 128 block.now) limit n
+        → ((i : ℕ) → i < min n 31 → HasEntry block.now (1 + i))
+        → IsSome result }
+{
+    let head = read_slot_head(&block[..128])?;
+    // Behind the head a block has room for 31 entries.
+    let count = (head.entries as usize).min(31);
+    read_entries(block, 1, count, entries).then_some(head)
+}
+
+// Reads the first block of a slot: its head, and the entries behind it.
+fn read_first<D: Disk>(
+    disk: &mut D,
+    slot_b: bool,
+    entries: &mut Vec<Entry>,
+) -> Result<SlotHead, LoadFault>
+    requires blocks { 34 ≤ (D.state disk.old).blocks }
+    requires none { entries.old.items ≡ [] }
+    requires room { MAX_ENTRIES ≤ vec_capacity entries.old }
+    ensures any { Goes (result ≡ Err LoadFault.Device) (D.state disk.old) (D.state disk.new) }
+    ensures reads { (D.state disk.old).honest ≡ true
+        → OnlyReads (D.state disk.old) (D.state disk.new) }
+    ensures room { vec_capacity entries.new ≡ vec_capacity entries.old }
+    ensures fits { IfOk result (λ head. FitsSoFar head.blocks head.entries 1 entries.new.items) }
+    ensures found { (D.state disk.old).honest ≡ true
+        → IfOk result (λ head. Begins (blocks_from (D.state disk.old).now.contents (slot_at slot_b) 1)
+        head.blocks head.entries entries.new.items) }
+    ensures only { (D.state disk.old).honest ≡ true → (limit : ℕ) (es : List Entry)
+        → SlotAt (D.state disk.old).now.contents slot_b limit es → result ≢ Err LoadFault.Damaged }
+{
+    let mut block = [0; 4096];
+    let Ok(()) = disk.read(first_block(slot_b), &mut block) else {
+        return Err(LoadFault::Device);
+    };
+    match read_front(&block, entries) {
+        Some(head) => Ok(head),
+        None => Err(LoadFault::Damaged),
+    }
+}
+
+// Reads the other used blocks of a slot whose first block has this head.
+fn read_others<D: Disk>(
+    disk: &mut D,
+    slot_b: bool,
+    head: SlotHead,
+    entries: &mut Vec<Entry>,
+) -> Result<(), LoadFault>
+    requires blocks { 34 ≤ (D.state disk.old).blocks }
+    requires room { MAX_ENTRIES ≤ vec_capacity entries.old }
+    requires fits { FitsSoFar head.blocks head.entries 1 entries.old.items }
+    requires found { (D.state disk.old).honest ≡ true
+        → Begins (blocks_from (D.state disk.old).now.contents (slot_at slot_b) 1)
+        head.blocks head.entries entries.old.items }
+    ensures any { Goes (result ≡ Err LoadFault.Device) (D.state disk.old) (D.state disk.new) }
+    ensures reads { (D.state disk.old).honest ≡ true
+        → OnlyReads (D.state disk.old) (D.state disk.new) }
+    ensures room { vec_capacity entries.new ≡ vec_capacity entries.old }
+    ensures fits { OnOk result (FitsSoFar head.blocks head.entries (used_blocks head.entries) entries.new.items) }
+    ensures found { (D.state disk.old).honest ≡ true
+        → OnOk result (Begins (blocks_from (D.state disk.old).now.contents (slot_at slot_b) (used_blocks head.entries))
+        head.blocks head.entries entries.new.items) }
+    ensures only { (D.state disk.old).honest ≡ true → (limit : ℕ) (es : List Entry)
+        → SlotAt (D.state disk.old).now.contents slot_b limit es → result ≢ Err LoadFault.Damaged }
+{
+    let first = first_block(slot_b);
+    let mut block = [0; 4096];
+    for index in 1..used_blocks(head.entries as usize) {
+        let Ok(()) = disk.read(first + index, &mut block) else {
+            return Err(LoadFault::Device);
+        };
+        let count = (head.entries as usize - entries.len()).min(32);
+        if !read_entries(&block, 0, count, entries) {
+            return Err(LoadFault::Damaged);
+        }
+    }
+    Ok(())
+}
+
+/// Loads the entries of a slot: slot B, or slot A. It reads the used blocks of that slot, each once
+/// and in order, and reserves room for as many entries as a slot can have.
+pub fn load<D: Disk>(alloc: Global, disk: &mut D, slot_b: bool) -> Result<Slot, LoadFault>
+    requires { 34 ≤ (D.state disk.old).blocks }
+    ensures any { Goes (result ≡ Err LoadFault.Device) (D.state disk.old) (D.state disk.new) }
+    ensures reads { (D.state disk.old).honest ≡ true
+        → OnlyReads (D.state disk.old) (D.state disk.new) }
+
+    // On any disk what is loaded are entries that a slot may have, with room for as many as it can.
+    ensures fits { IfOk result (λ slot. SlotFits slot.blocks slot.entries.items) }
+    ensures reserved { IfOk result (λ slot. MAX_ENTRIES ≤ vec_capacity slot.entries) }
+
+    // On an honest disk they are exactly those of the slot.
+    ensures found { (D.state disk.old).honest ≡ true
+        → IfOk result (λ slot. SlotAt (D.state disk.old).now.contents slot_b slot.blocks slot.entries.items) }
+    ensures only { (D.state disk.old).honest ≡ true → (limit : ℕ) (es : List Entry)
+        → SlotAt (D.state disk.old).now.contents slot_b limit es → Loads result limit es }
+{
+    let Ok(mut entries) = Vec::with_capacity(alloc, MAX_ENTRIES) else {
+        return Err(LoadFault::Memory);
+    };
+    let head = read_first(disk, slot_b, &mut entries)?;
+    read_others(disk, slot_b, head, &mut entries)?;
+    if is_ledger(&entries) {
+        Ok(Slot {
+            blocks: head.blocks,
+            entries,
+        })
+    } else {
+        Err(LoadFault::Damaged)
+    }
+}

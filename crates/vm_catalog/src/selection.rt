@@ -1,0 +1,40 @@
+//! The selector, which names the slot that is in use.
+ghost use Rattle.std.specs.Prelude.{◌≡◌, ◌≤◌, true, IfOk, IsErr};
+ghost use Rattle.vm_disk.specs.Disk.{Goes, Counts, Writes};
+ghost use Rattle.vm_disk.specs.Moments.{OnlyReads};
+ghost use Rattle.vm_block.specs.Selector.{selector_bytes};
+ghost use Rattle.vm_catalog.specs.Catalog.{Selects};
+
+use vm_block::{read_header, read_selector, write_selector};
+use vm_disk::{DeviceFault, Disk};
+
+/// The slot in use, slot B where true; None where block 0 is no header. It reads block 0, and behind
+/// a header block 1.
+pub fn slot_in_use<D: Disk>(disk: &mut D) -> Result<Option<bool>, DeviceFault>
+    requires { 2 ≤ (D.state disk.old).blocks }
+    ensures any { Goes (IsErr result) (D.state disk.old) (D.state disk.new) }
+    ensures reads { (D.state disk.old).honest ≡ true
+        → OnlyReads (D.state disk.old) (D.state disk.new) }
+    ensures found { (D.state disk.old).honest ≡ true
+        → IfOk result (Selects (D.state disk.old).now.contents) }
+{
+    let mut block = [0; 4096];
+    disk.read(0, &mut block)?;
+    if read_header(&block).is_none() {
+        return Ok(None);
+    }
+    disk.read(1, &mut block)?;
+    Ok(Some(read_selector(&block)))
+}
+
+/// Makes the selector name a slot, slot B where true. It syncs nothing.
+pub fn select_slot<D: Disk>(disk: &mut D, slot_b: bool) -> Result<(), DeviceFault>
+    requires { 2 ≤ (D.state disk.old).blocks }
+    ensures any { Counts 0 result (D.state disk.old) (D.state disk.new) }
+    ensures honest { (D.state disk.old).honest ≡ true
+        → Writes 1 (selector_bytes slot_b) result (D.state disk.old) (D.state disk.new) }
+{
+    let mut selector = [0; 4096];
+    write_selector(slot_b, &mut selector);
+    disk.write(1, &selector)
+}

@@ -1,0 +1,189 @@
+//! What stands on a disk after a publish, byte by byte, and which slots are refused.
+use crate::{LoadFault, MAX_ENTRIES, Slot, load, publish, select_slot, slot_in_use, write_slot};
+use std::alloc::Global;
+use std::test::Fail;
+use vm_block::{Entry, Kind, write_header};
+use vm_disk::{DeviceFault, Disk, FuseDisk, MemDisk};
+use vm_types::Name;
+
+// The name `n` and four digits.
+fn numbered(n: usize) -> Option<Name> {
+    let digit = |place: usize| b'0' + (n / place % 10) as u8;
+    Name::new(&[b'n', digit(1000), digit(100), digit(10), digit(1)])
+}
+
+fn top() -> Option<Entry> {
+    Some(Entry {
+        kind: Kind::Alternative,
+        name: Name::new(b"top")?,
+        owner: None,
+        current: 34,
+        base: 0,
+    })
+}
+
+// `top`, and so many entries in all, the others children of `top`.
+fn family(alloc: Global, count: usize) -> Option<Vec<Entry>> {
+    let top = top()?;
+    let mut entries = Vec::new(alloc);
+    entries.push(top).ok()?;
+    for n in 1..count {
+        let child = Entry {
+            name: numbered(n)?,
+            owner: Some(top.name),
+            base: 34,
+            ..top
+        };
+        entries.push(child).ok()?;
+    }
+    Some(entries)
+}
+
+// The calls under test, on a disk that is large enough.
+fn put<D: Disk>(disk: &mut D, in_use: bool, entries: &[Entry]) -> Result<(), DeviceFault> {
+    if disk.blocks() < 34 || entries.len() > MAX_ENTRIES {
+        return Err(DeviceFault);
+    }
+    publish(disk, in_use, 64, entries)
+}
+
+fn put_alone<D: Disk>(disk: &mut D, slot_b: bool, entries: &[Entry]) -> Result<(), DeviceFault> {
+    if disk.blocks() < 34 || entries.len() > MAX_ENTRIES {
+        return Err(DeviceFault);
+    }
+    write_slot(disk, slot_b, 64, entries)
+}
+
+fn get<D: Disk>(alloc: Global, disk: &mut D, slot_b: bool) -> Result<Slot, LoadFault> {
+    if disk.blocks() < 34 {
+        return Err(LoadFault::Device);
+    }
+    load(alloc, disk, slot_b)
+}
+
+fn found<D: Disk>(disk: &mut D) -> Result<Option<bool>, DeviceFault> {
+    if disk.blocks() < 2 {
+        return Err(DeviceFault);
+    }
+    slot_in_use(disk)
+}
+
+fn bytes_of<D: Disk>(disk: &mut D, n: u32) -> Result<[u8; 4096], DeviceFault> {
+    let mut bytes = [0; 4096];
+    if n < disk.blocks() {
+        disk.read(n, &mut bytes)?;
+    }
+    Ok(bytes)
+}
+
+// Sets one byte of a block.
+fn set<D: Disk>(disk: &mut D, n: u32, at: usize, byte: u8) -> Result<(), DeviceFault> {
+    let mut bytes = bytes_of(disk, n)?;
+    if at < 4096 {
+        bytes[at] = byte;
+    }
+    if n < disk.blocks() {
+        disk.write(n, &bytes)?;
+    }
+    Ok(())
+}
+
+// Whether slot A, written with these entries and then changed at one byte, is still a slot.
+fn stands_after(
+    alloc: Global,
+    entries: &[Entry],
+    n: u32,
+    at: usize,
+    byte: u8,
+) -> Result<bool, Fail> {
+    let mut disk = MemDisk::new(alloc, 64)?;
+    put_alone(&mut disk, false, entries)?;
+    set(&mut disk, n, at, byte)?;
+    match get(alloc, &mut disk, false) {
+        Ok(_) => Ok(true),
+        Err(LoadFault::Damaged) => Ok(false),
+        Err(fault) => Err(Fail::from(fault)),
+    }
+}
+
+#[test]
+fn what_is_published_is_loaded(rt: HostRuntime) -> Result<(), Fail> {
+    for (count, used) in [(1, 1), (31, 1), (32, 2), (511, 16)] {
+        let entries = family(rt.alloc(), count).ok_or("names")?;
+        let disk = MemDisk::new(rt.alloc(), 64)?;
+        let mut disk = FuseDisk::once(disk, 1000, [9; 4096]);
+        put(&mut disk, false, &entries)?;
+        assert_eq!(rt; disk.calls(), used + 3, "writes of {count} entries");
+        let slot = get(rt.alloc(), &mut disk, true)?;
+        assert_eq!(rt; disk.calls(), used + 3 + used, "reads of {count} entries");
+        assert_eq!(rt; slot.blocks, 64);
+        assert_eq!(rt; slot.entries.as_slice(), entries.as_slice());
+        assert!(rt; slot.entries.capacity() >= 511);
+    }
+    Ok(())
+}
+
+#[test]
+fn slot_b_has_the_bytes_of_one_entry(rt: HostRuntime) -> Result<(), Fail> {
+    let mut disk = MemDisk::new(rt.alloc(), 64)?;
+    put(&mut disk, false, &[top().ok_or("top")?])?;
+    let mut wanted = [0; 4096];
+    wanted[..16].copy_from_slice(b"SLOT\x01\0\0\0\x40\0\0\0\x01\0\0\0");
+    wanted[128..133].copy_from_slice(b"\x41\x03top");
+    wanted[195] = 0x22;
+    assert!(rt; bytes_of(&mut disk, 18)? == wanted);
+    assert_eq!(rt; bytes_of(&mut disk, 1)?[0], 1);
+    Ok(())
+}
+
+#[test]
+fn selector_behind_a_header_names_a_slot(rt: HostRuntime) -> Result<(), Fail> {
+    let mut disk = MemDisk::new(rt.alloc(), 64)?;
+    assert_eq!(rt; found(&mut disk)?, None);
+    let mut header = [0; 4096];
+    write_header(&mut header);
+    if disk.blocks() > 2 {
+        disk.write(0, &header)?;
+    }
+    assert_eq!(rt; found(&mut disk)?, Some(false));
+    if disk.blocks() > 2 {
+        select_slot(&mut disk, true)?;
+    }
+    assert_eq!(rt; found(&mut disk)?, Some(true));
+    Ok(())
+}
+
+#[test]
+fn damaged_slots_are_refused(rt: HostRuntime) -> Result<(), Fail> {
+    let alloc = rt.alloc();
+    let one = family(alloc, 1).ok_or("names")?;
+    let forty = family(alloc, 40).ok_or("names")?;
+
+    // No entries, and one more than a slot holds.
+    assert!(rt; !stands_after(alloc, &one, 2, 12, 0)?);
+    assert!(rt; !stands_after(alloc, &forty, 2, 13, 2)?);
+
+    // A byte of the head that has to be zero, and a tag that is none, in the second block.
+    assert!(rt; !stands_after(alloc, &one, 2, 16, 1)?);
+    assert!(rt; !stands_after(alloc, &forty, 3, 128, b'B')?);
+
+    // What stands behind the last entry is ignored.
+    assert!(rt; stands_after(alloc, &one, 2, 256, 255)?);
+    assert!(rt; stands_after(alloc, &forty, 3, 4095, 255)?);
+    Ok(())
+}
+
+#[test]
+fn owner_in_a_later_entry_is_refused(rt: HostRuntime) -> Result<(), Fail> {
+    let alloc = rt.alloc();
+    let mut entries = family(alloc, 3).ok_or("names")?;
+    assert_eq!(rt; entries.len(), 3);
+    entries[1].owner = Some(entries[2].name);
+    let mut disk = MemDisk::new(alloc, 64)?;
+    put_alone(&mut disk, false, &entries)?;
+    assert_eq!(rt;
+        get(alloc, &mut disk, false).err(),
+        Some(LoadFault::Damaged)
+    );
+    Ok(())
+}

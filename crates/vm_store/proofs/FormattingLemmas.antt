@@ -1,0 +1,183 @@
+-- A formatting, moment by moment.
+use Rattle.std.proofs.Common.{◌≡◌, ◌≢◌, ◌⊎◌, inl, inr, ⊎_elim, ℕ, ◌+◌, ◌<◌, ◌≤◌, ◌^◌, Bool, true, false, cond, List, [], ◌∷◌, ◌++◌, length, Option, Some, None, Result, Ok, Err, OnOk, IsTrue, refl, sym, ap, ◌∙◌, subst, arith, lit<}
+use Rattle.vm_types.specs.Map.{Map}
+use Rattle.std.proofs.lemmas.Bool.{false≢true}
+use Rattle.std.proofs.lemmas.List.Elements.{All-from_recursion}
+use Rattle.vm_types.specs.Name.{IsName, IsNameByte}
+use Rattle.vm_types.specs.Tree.{Tree, fresh}
+use Rattle.vm_disk.specs.Disk as disk
+use Rattle.vm_disk.specs.Disk.{Contents, block, Medium, MayLeave, IsClean, Writes, Syncs}
+use Rattle.vm_disk.specs.declared.disk.DeviceFault.{DeviceFault}
+use Rattle.vm_disk.specs.Moments.{Throughout, Leaves, Spares}
+use Rattle.vm_disk.proofs.MomentLemmas.{goes_on, weaken, at_end, started}
+use Rattle.vm_block.specs.Header.{IsHeader, header_bytes}
+use Rattle.vm_block.specs.Selector.{names_b, selector_bytes}
+use Rattle.vm_block.specs.Slot.{SlotFits, EntryFits, HeadFits, IsSlot, used_blocks}
+use Rattle.vm_block.specs.Tree.{Stands, IsTree}
+use Rattle.vm_block.specs.declared.slot.Kind.TheVariants as kind
+use Rattle.vm_block.specs.declared.slot.Entry.{Entry}
+use Rattle.vm_catalog.specs.Place.{selected, slot_at, blocks_from, region}
+use Rattle.vm_catalog.specs.Written.{slot_blocks}
+use Rattle.vm_catalog.specs.Catalog.{SlotAt, Names}
+use Rattle.vm_catalog.proofs.PublishLemmas.{slot_in, written_selector}
+use Rattle.vm_catalog.proofs.SlotLaw.{written_slot}
+use Rattle.vm_catalog.proofs.SlotOne.{slot_one}
+use Rattle.vm_store.specs.Sizes.{sizes}
+use Rattle.vm_store.specs.Filed.{Filed, Standing, StandsAs, tree_of}
+use Rattle.vm_store.specs.Shown.{Shows, ShowsAtMostFresh}
+use Rattle.vm_store.specs.Refused.{IsSynced, IsAtMostSynced}
+use Rattle.vm_store.specs.Formatting.{fresh_entry, IsLaidOut, IsFormatted, IsFormatting}
+use Rattle.vm_store.proofs.OneLeaf.{no_leaf, tree_of_none}
+
+-- block 0 is as it was, and clean
+pub record KeepsFirst (old m : Medium) : Type 0 where
+  pub same : block m.contents 0 ≡ block old.contents 0
+  pub clean : m.dirty 0 ≡ false
+
+-- without a header nothing is shown
+pub no_header : (old m : Medium) → (IsHeader (block old.contents 0) → ⊥) → KeepsFirst old m → Leaves ShowsAtMostFresh m
+no_header old m none keeps left may tree shown = absurd (none (subst IsHeader (may.clean 0 keeps.clean ∙ keeps.same) shown.names.header))
+
+pub first_spared : (old m : Medium) → IsClean old → Spares (region 2 1) old m → KeepsFirst old m
+first_spared old m clean spares = record { same = spares.same 0 refl; clean = spares.clean 0 refl (clean 0) }
+
+pub first_kept : {T : Type 0} (bytes : List ℕ) (result : Result T DeviceFault) (old : Medium) (mid new : disk.State) → KeepsFirst old mid.now → Writes 1 bytes result mid new → KeepsFirst old new.now
+first_kept bytes result old mid new keeps writes = record {
+  same = writes.others 0 (λ (e : 0 ≡ 1). omega arith) ∙ keeps.same;
+  clean = writes.others_dirty 0 (λ (e : 0 ≡ 1). omega arith) ∙ keeps.clean;
+}
+
+pub first_synced : {T : Type 0} (result : Result T DeviceFault) (old : Medium) (mid new : disk.State) → KeepsFirst old mid.now → Syncs result mid new → KeepsFirst old new.now
+first_synced (Ok x) old mid new keeps sync = record { same = ap (λ (x : Contents). block x 0) sync.same ∙ keeps.same; clean = sync.synced 0 }
+first_synced (Err e) old mid new keeps sync = record { same = ap (λ (x : Contents). block x 0) sync.same ∙ keeps.same; clean = ap (λ (m : Medium). m.dirty 0) sync.failed ∙ keeps.clean }
+
+-- what is under root 0 is empty
+empty_map : (x : Contents) (limit : ℕ) (m : Map) → Stands sizes (λ n. Unit {0}) x limit 0 m → m ≡ []
+empty_map x limit m stands = (no_leaf x limit 0 m stands.blocks refl stands.tree).0
+
+one_filed : (x : Contents) (limit : ℕ) (fs : List Filed) → Standing (λ n. Unit {0}) x limit (fresh_entry ∷ []) fs → tree_of fs ≡ fresh
+one_filed x limit [] s = absurd s
+one_filed x limit (f ∷ g ∷ fs) s = absurd s.1
+one_filed x limit (f ∷ []) s =
+    let filed : Filed = record { kind = kind.Alternative; name = fresh_entry.name; owner = None; current = []; base = [] } in
+    let same : f ≡ filed = by_parts f s.0.kind s.0.name s.0.owner (empty_map x limit f.current s.0.current) (empty_map x limit f.base s.0.base) in
+    ap (λ (g : Filed). tree_of (g ∷ [])) same
+  where
+    by_parts : (f : Filed) → f.kind ≡ kind.Alternative → f.name ≡ fresh_entry.name → f.owner ≡ None → f.current ≡ [] → f.base ≡ []
+        → f ≡ record { kind = kind.Alternative; name = fresh_entry.name; owner = None; current = []; base = [] }
+    by_parts f k n o c b =
+        ap (λ k. record f { kind = k }) k
+        ∙ ap (λ n. record f { kind = kind.Alternative; name = n }) n
+        ∙ ap (λ o. record f { kind = kind.Alternative; name = fresh_entry.name; owner = o }) o
+        ∙ ap (λ (c : Map). record f { kind = kind.Alternative; name = fresh_entry.name; owner = None; current = c }) c
+        ∙ ap (λ (b : Map). record f { kind = kind.Alternative; name = fresh_entry.name; owner = None; current = []; base = b }) b
+
+-- where slot A holds the one entry of a new store, and is named, only a new store can be shown
+pub only_fresh : (x : Contents) (blocks : ℕ) → selected x ≡ false → SlotAt x false blocks (fresh_entry ∷ []) → ShowsAtMostFresh x
+only_fresh x blocks in_use slot tree shown =
+    let same = slot_one x false shown.limit blocks shown.entries (fresh_entry ∷ []) (subst (λ b. SlotAt x b shown.limit shown.entries) in_use shown.names.slot) slot in
+    sym shown.gives ∙ one_filed x shown.limit shown.filed (subst (λ (es : List Entry). Standing (λ n. Unit {0}) x shown.limit es shown.filed) same.1 shown.stands)
+
+-- all but block 0 is as in a disk that is laid out, and clean
+pub record KeepsRest (old m : Medium) : Type 0 where
+  pub count : length m.contents ≡ length old.contents
+  pub same : (n : ℕ) → n ≢ 0 → block m.contents n ≡ block old.contents n
+  pub clean : (n : ℕ) → n ≢ 0 → m.dirty n ≡ false
+
+rest_fresh : (blocks : ℕ) (old : Medium) (x : Contents) → IsLaidOut blocks old → ((n : ℕ) → n ≢ 0 → block x n ≡ block old.contents n) → ShowsAtMostFresh x
+rest_fresh blocks old x laid same =
+    only_fresh x blocks (ap (λ b. names_b b) (same 1 (λ (e : 1 ≡ 0). omega arith)) ∙ laid.selected)
+    (slot_in old.contents x false blocks (fresh_entry ∷ []) (λ n low high. same n (λ (e : n ≡ 0). omega (arith, low))) laid.slot)
+
+pub at_header : (blocks : ℕ) (old m : Medium) → IsLaidOut blocks old → KeepsRest old m → Leaves ShowsAtMostFresh m
+at_header blocks old m laid keeps left may = rest_fresh blocks old left laid (λ n other. may.clean n (keeps.clean n other) ∙ keeps.same n other)
+
+pub header_written : {T : Type 0} (bytes : List ℕ) (result : Result T DeviceFault) (old new : disk.State) → IsClean old.now → Writes 0 bytes result old new → KeepsRest old.now new.now
+header_written bytes result old new clean writes = record { count = writes.count; same = writes.others; clean = λ n other. writes.others_dirty n other ∙ clean n }
+
+pub header_synced : {T : Type 0} (result : Result T DeviceFault) (old : Medium) (mid new : disk.State) → KeepsRest old mid.now → Syncs result mid new → KeepsRest old new.now
+header_synced (Ok x) old mid new keeps sync = record { count = ap length sync.same ∙ keeps.count; same = λ n other. ap (λ (x : Contents). block x n) sync.same ∙ keeps.same n other; clean = λ n other. sync.synced n }
+header_synced (Err e) old mid new keeps sync = record { count = ap length sync.same ∙ keeps.count; same = λ n other. ap (λ (x : Contents). block x n) sync.same ∙ keeps.same n other; clean = λ n other. ap (λ (m : Medium). m.dirty n) sync.failed ∙ keeps.clean n other }
+
+-- the header is there, and so a new store is shown
+pub formatted_now : {T : Type 0} (blocks : ℕ) (result : Result T DeviceFault) (old : Medium) (mid new : disk.State) → IsLaidOut blocks old → KeepsRest old mid.now → IsHeader (block mid.now.contents 0) → blocks ≤ length old.contents
+    → Syncs result mid new → OnOk result (IsFormatted blocks new.now)
+formatted_now blocks (Err e) old mid new laid keeps header inside sync = tt
+formatted_now blocks (Ok y) old mid new laid keeps header inside sync =
+    let x = new.now.contents in
+    let same : (n : ℕ) → n ≢ 0 → block x n ≡ block old.contents n = λ n other. ap (λ (x : Contents). block x n) sync.same ∙ keeps.same n other in
+    let in_use : selected x ≡ false = ap (λ b. names_b b) (same 1 (λ (e : 1 ≡ 0). omega arith)) ∙ laid.selected in
+    let slot : SlotAt x false blocks (fresh_entry ∷ []) = slot_in old.contents x false blocks (fresh_entry ∷ []) (λ n low high. same n (λ (e : n ≡ 0). omega (arith, low))) laid.slot in
+    record {
+      shown = record {
+        limit = blocks;
+        entries = fresh_entry ∷ [];
+        filed = record { kind = kind.Alternative; name = fresh_entry.name; owner = None; current = []; base = [] } ∷ [];
+        names = record { header = ap (λ (x : Contents). block x 0) sync.same ∙ header; slot = subst (λ b. SlotAt x b blocks (fresh_entry ∷ [])) (sym in_use) slot };
+        inside = subst (λ n. blocks ≤ n) (sym (ap length sync.same ∙ keeps.count)) inside;
+        stands = (record { kind = refl; name = refl; owner = refl; current = empty x; base = empty x }, tt);
+        gives = refl;
+      };
+      size = refl;
+      clean = sync.synced;
+    }
+  where
+    empty : (x : Contents) → Stands sizes (λ n. Unit {0}) x blocks 0 []
+    empty x = record { blocks = []; tree = tree_of_none x blocks 0 refl; each = tt }
+
+-- the slot and the selector are written, and synced
+pub laid_now : {T : Type 0} (blocks : ℕ) (es : List Entry) (result : Result T DeviceFault) (written chosen new : disk.State) {U : Type 0} (select : Result U DeviceFault) (u : U) → es ≡ fresh_entry ∷ []
+    → SlotFits blocks (fresh_entry ∷ [])
+    → blocks_from written.now.contents 2 (used_blocks (length es)) ≡ slot_blocks blocks es → select ≡ Ok u → Writes 1 (selector_bytes false) select written chosen → Syncs result chosen new → OnOk result (IsLaidOut blocks new.now)
+laid_now blocks es (Err e) written chosen new select u is fits slot ok writes sync = tt
+laid_now blocks es (Ok y) written chosen new (Err e) u is fits slot ok writes sync = cc
+laid_now blocks es (Ok y) written chosen new (Ok v) u is fits slot ok writes sync =
+    let x = new.now.contents in
+    let same : (n : ℕ) → n ≢ 1 → block x n ≡ block written.now.contents n = λ n other. ap (λ (x : Contents). block x n) sync.same ∙ writes.others n other in
+    let there : SlotAt written.now.contents false blocks (fresh_entry ∷ []) =
+      subst (λ (bs : List (List ℕ)). IsSlot bs blocks (fresh_entry ∷ []))
+      (sym (subst (λ (l : List Entry). blocks_from written.now.contents 2 (used_blocks (length l)) ≡ slot_blocks blocks l) is slot)) (written_slot blocks (fresh_entry ∷ []) fits) in
+    record {
+      selected = ap (λ b. names_b b) (ap (λ (x : Contents). block x 1) sync.same ∙ writes.written) ∙ written_selector false;
+      slot = slot_in written.now.contents x false blocks (fresh_entry ∷ []) (λ n low high. same n (λ (e : n ≡ 1). omega (arith, low))) there;
+      clean = sync.synced;
+    }
+
+-- the one entry of a new store may stand in a slot
+pub fresh_fits : (blocks : ℕ) → 64 ≤ blocks → blocks ≤ 2 ^ 20 → IsName fresh_entry.name → SlotFits blocks (fresh_entry ∷ [])
+fresh_fits blocks least most name = record {
+  head = record { least = least; most = most; some = omega arith; few = omega arith };
+  each = (record { name = name; owner = tt; current = omega arith; base = omega arith }, tt);
+  ledger = (record { kind = refl; name = refl; owner = refl; base = refl }, tt);
+}
+
+-- nothing has changed in what the disk holds
+pub still_there : (old m : Medium) → IsAtMostSynced old m → m.contents ≡ old.contents
+still_there old m (inl same) = ap (λ (n : Medium). n.contents) same
+still_there old m (inr synced) = synced.same
+
+-- a part of a formatting in which nothing is written
+pub not_yet : (old m : Medium) → IsAtMostSynced old m → IsFormatting old m
+not_yet old m so_far = inl so_far
+
+pub formatting : (old m : Medium) → (IsHeader (block old.contents 0) → ⊥) → Leaves ShowsAtMostFresh m → IsFormatting old m
+formatting old m none leaves = inr (none, leaves)
+
+pub rest_itself : (old : Medium) → IsClean old → KeepsRest old old
+rest_itself old clean = record { count = refl; same = λ n other. refl; clean = λ n other. clean n }
+
+-- `top` is a name
+pub top_is_name : IsName fresh_entry.name
+top_is_name = record {
+  some = omega arith;
+  few = omega arith;
+  each = All-from_recursion IsNameByte fresh_entry.name (inl (omega arith, omega arith), (inl (omega arith, omega arith), (inl (omega arith, omega arith), tt)));
+}
+
+-- no header stands in what a sync left
+pub none_synced : (old mid : Medium) → IsSynced old mid → (IsHeader (block old.contents 0) → ⊥) → IsHeader (block mid.contents 0) → ⊥
+none_synced old mid synced none header = none (subst (λ (x : Contents). IsHeader (block x 0)) synced.same header)
+
+-- a test that failed says that the fact does not hold
+pub not_true : {P : Type 0} (b : Bool) → b ≡ false → (IsTrue b → P) × (P → IsTrue b) → P → ⊥
+not_true b is test p = false≢true (sym is ∙ test.1 p)

@@ -1,0 +1,6 @@
+use Rattle.std.proofs.Common.{refl}
+use Rattle.vm_store.proofs.RestingLemmas.{shows_now}
+use Rattle.vm_store.proofs.store.Store.close.Goals as goal
+
+pub returns-clause-shown : goal.returns-clause-shown
+returns-clause-shown g c honest well s rests = shows_now _ _ _ _ _ _ s rests

@@ -1,0 +1,46 @@
+use Rattle.std.proofs.Common.{◌≡◌, refl, subst, sym, ap, ◌∙◌, arith}
+use Rattle.vm_disk.specs.Disk.{Contents, block}
+use Rattle.vm_block.specs.Header.{IsHeader}
+use Rattle.vm_disk.proofs.MomentLemmas.{weaken, and_then, at_end}
+use Rattle.vm_store.specs.Formatting.{IsFormatting}
+use Rattle.vm_store.proofs.FormattingLemmas.{still_there, not_yet, formatting, none_synced, not_true}
+use Rattle.vm_store.proofs.store.formatting.make_store.Goals as goal
+
+pub returns-in-Err-clause-was_there : goal.returns-in-Err-clause-was_there
+returns-in-Err-clause-was_there g c honest header = (refl, still_there _ _ (at_end _ _ _ (c.in-Err.ensures.moments honest)))
+
+pub returns-in-Err-clause-moments : goal.returns-in-Err-clause-moments
+returns-in-Err-clause-moments g c honest = weaken _ _ _ _ (not_yet _) (c.in-Err.ensures.moments honest)
+
+pub returns-in_default-clause-moments : goal.returns-in_default-clause-moments
+returns-in_default-clause-moments g c honest =
+    let old = (g.D.Disk.state c.args.disk.now).now in
+    let honest1 = c.has_header.ensures.any.same_honesty ∙ honest in
+    let synced = c.in-Ok-false.ensures.synced honest in
+    let none = not_true _ c.in-Ok-false.field-0-test (c.in-Ok-false.ensures.header honest) in
+    let looked = weaken _ _ _ (IsFormatting old) (not_yet old) (c.has_header.ensures.moments honest) in
+    let laid = weaken _ _ _ (IsFormatting old) (λ m leaves. formatting old m none leaves) (c.lay_out.ensures.moments honest1 synced.clean (none_synced _ _ synced none)) in
+    and_then _ _ _ (IsFormatting old) looked laid
+
+pub returns-in-Ok-put_header-clause-moments : goal.returns-in-Ok-put_header-clause-moments
+returns-in-Ok-put_header-clause-moments g c honest =
+    let old = (g.D.Disk.state c.args.disk.now).now in
+    let honest1 = c.has_header.ensures.any.same_honesty ∙ honest in
+    let synced = c.in-Ok-false.ensures.synced honest in
+    let none = not_true _ c.in-Ok-false.field-0-test (c.in-Ok-false.ensures.header honest) in
+    let looked = weaken _ _ _ (IsFormatting old) (not_yet old) (c.has_header.ensures.moments honest) in
+    let laid = weaken _ _ _ (IsFormatting old) (λ m leaves. formatting old m none leaves) (c.lay_out.ensures.moments honest1 synced.clean (none_synced _ _ synced none)) in
+    let headed = weaken _ _ _ (IsFormatting old) (λ m leaves. formatting old m none leaves) (c.put_header.ensures.moments (c.lay_out.ensures.any.same_honesty ∙ honest1) c.args.blocks (c.in-Ok.ensures.laid honest1)) in
+    and_then _ _ _ (IsFormatting old) (and_then _ _ _ (IsFormatting old) looked laid) headed
+
+pub returns-in-Err-put_header-clause-moments : goal.returns-in-Err-put_header-clause-moments
+returns-in-Err-put_header-clause-moments g c honest =
+    let old = (g.D.Disk.state c.args.disk.now).now in
+    let honest1 = c.has_header.ensures.any.same_honesty ∙ honest in
+    let synced = c.in-Ok-false.ensures.synced honest in
+    let none = not_true _ c.in-Ok-false.field-0-test (c.in-Ok-false.ensures.header honest) in
+    let looked = weaken _ _ _ (IsFormatting old) (not_yet old) (c.has_header.ensures.moments honest) in
+    let laid = weaken _ _ _ (IsFormatting old) (λ m leaves. formatting old m none leaves) (c.lay_out.ensures.moments honest1 synced.clean (none_synced _ _ synced none)) in
+    let headed = weaken _ _ _ (IsFormatting old) (λ m leaves. formatting old m none leaves) (c.put_header.ensures.moments (c.lay_out.ensures.any.same_honesty ∙ honest1) c.args.blocks (c.in-Ok.ensures.laid honest1)) in
+    and_then _ _ _ (IsFormatting old) (and_then _ _ _ (IsFormatting old) looked laid) headed
+

@@ -1,0 +1,14 @@
+pub mod Answers
+pub mod Filed
+pub mod Formatting
+pub mod Free
+pub mod LeafMap
+pub mod Marking
+pub mod Opening
+pub mod Refused
+pub mod Resting
+pub mod Roots
+pub mod Shown
+pub mod Sizes
+pub mod Spare
+pub mod Store

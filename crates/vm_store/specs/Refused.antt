@@ -1,0 +1,59 @@
+-- Why an opening refuses what a disk holds.
+use Rattle.std.specs.Prelude.{◌≡◌, ◌⊎◌, ℕ, ◌<◌, ◌≤◌, List, length}
+use Rattle.vm_types.specs.declared.refusal.Refusal.{Refusal}
+use Rattle.vm_types.specs.declared.refusal.Refusal.TheVariants.{Device, Memory, Damaged, NotAStore, BadSize}
+use Rattle.vm_disk.specs.Disk.{Contents, Medium, IsClean, block}
+use Rattle.vm_block.specs.Header.{IsHeader}
+use Rattle.vm_block.specs.declared.slot.Entry.{Entry}
+use Rattle.vm_catalog.specs.Place.{slot_at, selected}
+use Rattle.vm_catalog.specs.Catalog.{SlotAt}
+use Rattle.vm_store.specs.Filed.{Filed, Standing}
+
+-- the slots that are opened so far: those of one entry
+abbrev pub IsOpenedSoFar : List Entry → Type 0
+IsOpenedSoFar es = length es ≤ 1
+
+-- there are blocks enough for a store, and the first one is a header
+pub record IsStore (x : Contents) : Type 0 where
+  pub least : 64 ≤ length x
+  pub header : IsHeader (block x 0)
+
+abbrev pub IsNoStore : Contents → Type 0
+IsNoStore x = IsStore x → ⊥
+
+-- the slot that the selector names is no slot, or one that isn't opened so far
+abbrev pub HasNoSlot : Contents → Type 0
+HasNoSlot x = (limit : ℕ) (es : List Entry) → SlotAt x (selected x) limit es → IsOpenedSoFar es → ⊥
+
+-- that slot is one, of a store of more blocks than there are
+pub record IsTooLarge (x : Contents) : Type 0 where
+  pub limit : ℕ
+  pub entries : List Entry
+  pub slot : SlotAt x (selected x) limit entries
+  pub larger : length x < limit
+
+-- that slot is one, of a store within the disk, but some root has no map
+pub record LacksMap (x : Contents) : Type 0 where
+  pub limit : ℕ
+  pub entries : List Entry
+  pub slot : SlotAt x (selected x) limit entries
+  pub inside : limit ≤ length x
+  pub none : (filed : List Filed) → Standing (λ n. Unit {0}) x limit entries filed → ⊥
+
+-- why an opening refuses these contents; that the device fails and that memory is wanting may come anywhere
+abbrev pub IsRefused : Contents → Refusal → Type 0
+IsRefused x NotAStore = IsNoStore x
+IsRefused x BadSize = IsStore x × IsTooLarge x
+IsRefused x (Damaged n) = IsStore x × (((n ≡ slot_at (selected x)) × HasNoSlot x) ⊎ LacksMap x)
+IsRefused x Device = Unit {0}
+IsRefused x Memory = Unit {0}
+IsRefused x refusal = ⊥
+
+-- the contents are the same, and all is synced
+pub record IsSynced (old new : Medium) : Type 0 where
+  pub same : new.contents ≡ old.contents
+  pub clean : IsClean new
+
+-- nothing has changed, or all is synced
+abbrev pub IsAtMostSynced : Medium → Medium → Type 0
+IsAtMostSynced old m = (m ≡ old) ⊎ IsSynced old m

@@ -1,0 +1,38 @@
+-- A store, and the state that it stands for.
+use Rattle.std.specs.Prelude.{◌≡◌, ◌≢◌, ℕ, Bool, true, false, List, Option, Some, None, Result, Ok, Err, find}
+use Rattle.vm_types.specs.Tree.{Tree}
+use Rattle.vm_types.specs.State.{State, opened}
+use Rattle.vm_disk.specs.Disk.{Contents, IsClean}
+use Rattle.vm_alloc.specs.Held.{free_count}
+use Rattle.vm_block.specs.Slot.{is_alternative_of}
+use Rattle.vm_block.specs.declared.slot.Entry.{Entry}
+use Rattle.vm_store.specs.Shown.{Shows}
+use Rattle.vm_store.specs.Resting.{Rests}
+use Rattle.vm_store.specs.Roots.{current_root}
+use Rattle.vm_store.specs.declared.store.Store.{Store}
+
+module _ {D : Type 0} {members : _} where
+  -- the disk below
+  abbrev pub disk_of : Store D members → D
+  disk_of store = store.disk
+
+  -- an earlier command was answered by Device
+  abbrev pub has_failed : Store D members → Bool
+  has_failed store = store.failed
+
+  -- the entries, committed and working
+  abbrev pub entries_of : Store D members → List Entry × List Entry
+  entries_of store = (store.committed.items, store.working.items)
+
+  -- the root of the working records of an alternative
+  abbrev pub root_of : Store D members → List ℕ → ℕ
+  root_of store alt = current_root (find (is_alternative_of alt) store.working.items)
+
+  -- how many blocks are not held
+  abbrev pub free_of : Store D members → ℕ
+  free_of store = free_count store.held
+
+  -- the store stands for this state
+  abbrev pub Holds : Store D members → State → Type 0
+  Holds store s =
+      Rests (members.state store.disk).now store.blocks store.slot_b store.held store.committed.items store.working.items s

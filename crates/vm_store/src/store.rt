@@ -1,0 +1,218 @@
+//! A store, and its commands and queries.
+ghost use Rattle.std.specs.Prelude.{◌≡◌, ◌≢◌, ◌⊎◌, ◌↔◌, ◌<◌, ◌≤◌, ◌^◌, true, false, length, ℕ, vec_capacity, OnErr, OnOk, IsTrue};
+ghost use Rattle.vm_types.specs.State.{State, next};
+ghost use Rattle.vm_types.specs.Kept.{LeftBy};
+ghost use Rattle.vm_disk.specs.Disk.{Goes, NoCalls};
+ghost use Rattle.vm_disk.specs.Moments.{Throughout, OnlyReads, Leaves};
+ghost use Rattle.vm_store.specs.Answers.{IsCarriedOut, IsDeep, IsAnswer, value_in};
+ghost use Rattle.vm_store.specs.Resting.{spare_of};
+ghost use Rattle.vm_store.specs.Shown.{Shows};
+
+mod formatting;
+mod opening;
+mod parts;
+
+pub use formatting::format;
+pub use opening::open;
+
+use crate::entries::{copy_entries, mark_entries, position_of};
+use crate::leaf_map::{self, refusal_of};
+use vm_alloc::{Held, Marks};
+use vm_block::Entry;
+use vm_catalog::publish;
+use vm_disk::Disk;
+use vm_types::{Answer, Command, Key, Name, Refusal, Value};
+
+/// How many blocks one record change may take.
+const BLOCKS_A_CHANGE: u32 = 16;
+
+// Whether the device failed in a command.
+fn is_device(answer: &Result<Answer, Refusal>) -> bool
+    ensures { IsTrue result ↔ (answer.now ≡ Err Refusal.Device) }
+{
+    matches!(answer, Err(Refusal::Device))
+}
+
+/// A store on a disk: what is committed there, and what commands have made of it since.
+pub struct Store<D: Disk> {
+    disk: D,
+    blocks: u32,
+    slot_b: bool,
+    committed: Vec<Entry>,
+    working: Vec<Entry>,
+    held: Held,
+    marks: Marks,
+    failed: bool,
+    ghost least: { 64 ≤ blocks },
+    ghost most: { blocks ≤ 2 ^ 20 },
+    ghost inside: { blocks ≤ (D.state disk).blocks },
+    ghost bits: { length held ≡ blocks },
+    ghost mark_bits: { length marks ≡ blocks },
+    ghost some: { 0 < length working.items },
+    ghost few: { length working.items ≤ 511 },
+    ghost room: { 511 ≤ vec_capacity committed },
+    ghost room_working: { 511 ≤ vec_capacity working },
+}
+
+impl<D: Disk> Store<D> {
+    ghost use Rattle.vm_store.specs.Store.{disk_of, has_failed, entries_of, root_of, Holds, free_of};
+
+    /// Carries out one command. After an answer `Device` the store answers `Failed` to every call but
+    /// `close`: close it, and open the disk again.
+    pub fn apply(&mut self, command: &Command) -> Result<Answer, Refusal>
+        requires { IsCarriedOut command.now }
+
+        // On any disk.
+        ensures any { Goes (result ≡ Err Refusal.Device) (D.state (disk_of self.old)) (D.state (disk_of self.new)) }
+        ensures failed { has_failed self.old ≡ false → (has_failed self.new ≡ true ↔ result ≡ Err Refusal.Device) }
+        ensures refused { has_failed self.old ≡ true → result ≡ Err Refusal.Failed }
+        ensures no_calls { has_failed self.old ≡ true → (self.new ≡ self.old) }
+        ensures only_then { has_failed self.old ≡ false → result ≢ Err Refusal.Failed }
+        ensures same { OnErr result (result ≢ Err Refusal.Device → entries_of self.new ≡ entries_of self.old) }
+        ensures no_memory { result ≢ Err Refusal.Memory }
+
+        // The answer is the model's, or one that the device or want of blocks forces.
+        ensures answer { (D.state (disk_of self.old)).honest ≡ true → has_failed self.old ≡ false
+            → (s : State) (holds : Holds self.old s)
+            → IsAnswer s (spare_of holds) (IsDeep (D.state (disk_of self.old)).now.contents (root_of self.old) s.working command.now) command.now result }
+        ensures state { (D.state (disk_of self.old)).honest ≡ true → has_failed self.old ≡ false → result ≢ Err Refusal.Device
+            → (s : State) → Holds self.old s → Holds self.new (next s command.now result) }
+
+        // A crash at any moment leaves what was committed, or what the command commits.
+        ensures crash { (D.state (disk_of self.old)).honest ≡ true → has_failed self.old ≡ false
+            → (s : State) → Holds self.old s
+            → Throughout (D.state (disk_of self.old)) (D.state (disk_of self.new)) (Leaves (LeftBy Shows s command.now)) }
+    {
+        if self.failed {
+            return Err(Refusal::Failed);
+        }
+        let answer = self.carry_out(command);
+        self.failed = is_device(&answer);
+        answer
+    }
+
+    // Carries out one command, and leaves it to `apply` to note that the device failed.
+    fn carry_out(&mut self, command: &Command) -> Result<Answer, Refusal>
+        requires { IsCarriedOut command.now }
+        ensures any { Goes (result ≡ Err Refusal.Device) (D.state (disk_of self.old)) (D.state (disk_of self.new)) }
+        ensures never { (result ≢ Err Refusal.Failed) × (result ≢ Err Refusal.Memory) }
+        ensures same { OnErr result (entries_of self.new ≡ entries_of self.old) }
+        ensures answer { (D.state (disk_of self.old)).honest ≡ true → (s : State) (holds : Holds self.old s)
+            → IsAnswer s (spare_of holds) (IsDeep (D.state (disk_of self.old)).now.contents (root_of self.old) s.working command.now) command.now result }
+        ensures state { (D.state (disk_of self.old)).honest ≡ true → result ≢ Err Refusal.Device → (s : State) → Holds self.old s → Holds self.new (next s command.now result) }
+        ensures crash { (D.state (disk_of self.old)).honest ≡ true → (s : State) → Holds self.old s
+            → Throughout (D.state (disk_of self.old)) (D.state (disk_of self.new)) (Leaves (LeftBy Shows s command.now)) }
+    {
+        match command {
+            Command::Put { alt, key, value } => self.put(alt, *key, value),
+            Command::Commit => self.commit(),
+            _ => unreachable!(),
+        }
+    }
+
+    // Whether so many blocks are spare. Where fewer are free, it marks what the entries reach.
+    fn has_spare(&mut self, count: u32) -> bool
+        ensures disk { disk_of self.new ≡ disk_of self.old }
+        ensures failed { has_failed self.new ≡ has_failed self.old }
+        ensures same { entries_of self.new ≡ entries_of self.old }
+        ensures roots { root_of self.new ≡ root_of self.old }
+        ensures free { IsTrue result → count ≤ free_of self.new }
+        ensures spare { (s : State) (holds : Holds self.old s) → IsTrue result ↔ (count ≤ spare_of holds) }
+        ensures state { (s : State) → Holds self.old s → Holds self.new s }
+    {
+        if self.held.free_count() >= count {
+            return true;
+        }
+        self.marks.clear();
+        mark_entries(self.blocks, &self.committed, &mut self.marks);
+        mark_entries(self.blocks, &self.working, &mut self.marks);
+        self.held.replace(&self.marks);
+        self.held.free_count() >= count
+    }
+
+    // Gives a record of the alternative a value.
+    fn put(&mut self, alt: &Name, key: Key, value: &Value) -> Result<Answer, Refusal>
+        ensures any { Goes (result ≡ Err Refusal.Device) (D.state (disk_of self.old)) (D.state (disk_of self.new)) }
+        ensures failed { has_failed self.new ≡ has_failed self.old }
+        ensures never { (result ≢ Err Refusal.Failed) × (result ≢ Err Refusal.Memory) }
+        ensures same { OnErr result (entries_of self.new ≡ entries_of self.old) }
+        ensures answer { (D.state (disk_of self.old)).honest ≡ true → (s : State) (holds : Holds self.old s)
+            → IsAnswer s (spare_of holds) (IsDeep (D.state (disk_of self.old)).now.contents (root_of self.old) s.working (Command.Put alt.now key value.now)) (Command.Put alt.now key value.now) result }
+        ensures state { (D.state (disk_of self.old)).honest ≡ true → (s : State) → Holds self.old s → Holds self.new (next s (Command.Put alt.now key value.now) result) }
+        ensures crash { (D.state (disk_of self.old)).honest ≡ true → (s : State) → Holds self.old s
+            → Throughout (D.state (disk_of self.old)) (D.state (disk_of self.new)) (Leaves (LeftBy Shows s (Command.Put alt.now key value.now))) }
+    {
+        let Some(i) = position_of(&self.working, alt) else {
+            return Err(Refusal::NoSuchAlternative);
+        };
+        if !self.has_spare(BLOCKS_A_CHANGE) {
+            return Err(Refusal::Full);
+        }
+        let root = self.working[i].current;
+        match leaf_map::put(&mut self.disk, &mut self.held, self.blocks, root, key, value) {
+            Ok(root) => {
+                self.working[i].current = root;
+                Ok(Answer::Done)
+            }
+            Err(fault) => Err(refusal_of(fault)),
+        }
+    }
+
+    // Makes the working entries the committed ones.
+    fn commit(&mut self) -> Result<Answer, Refusal>
+        ensures any { Goes (result ≡ Err Refusal.Device) (D.state (disk_of self.old)) (D.state (disk_of self.new)) }
+        ensures failed { has_failed self.new ≡ has_failed self.old }
+        ensures result { (result ≡ Ok Answer.Done) ⊎ (result ≡ Err Refusal.Device) }
+        ensures same { OnErr result (entries_of self.new ≡ entries_of self.old) }
+        ensures state { (D.state (disk_of self.old)).honest ≡ true → (s : State) → Holds self.old s → OnOk result (Holds self.new (next s Command.Commit result)) }
+        ensures crash { (D.state (disk_of self.old)).honest ≡ true → (s : State) → Holds self.old s
+            → Throughout (D.state (disk_of self.old)) (D.state (disk_of self.new)) (Leaves (LeftBy Shows s Command.Commit)) }
+    {
+        match publish(&mut self.disk, self.slot_b, self.blocks, &self.working) {
+            Ok(()) => {
+                self.slot_b = !self.slot_b;
+                copy_entries(&mut self.committed, &self.working);
+                Ok(Answer::Done)
+            }
+            Err(_) => Err(Refusal::Device),
+        }
+    }
+
+    /// The value of a record in the working state of an alternative.
+    pub fn get(&mut self, alt: &Name, key: Key) -> Result<Option<Value>, Refusal>
+        ensures any { Goes (result ≡ Err Refusal.Device) (D.state (disk_of self.old)) (D.state (disk_of self.new)) }
+        ensures failed { has_failed self.new ≡ has_failed self.old }
+        ensures refused { has_failed self.old ≡ true → result ≡ Err Refusal.Failed }
+        ensures no_calls { has_failed self.old ≡ true → self.new ≡ self.old }
+        ensures only_then { has_failed self.old ≡ false → result ≢ Err Refusal.Failed }
+        ensures same { entries_of self.new ≡ entries_of self.old }
+        ensures no_memory { result ≢ Err Refusal.Memory }
+
+        ensures value { (D.state (disk_of self.old)).honest ≡ true → has_failed self.old ≡ false → (s : State) → Holds self.old s
+            → (result ≡ Err Refusal.Device) ⊎ (result ≡ value_in s.working alt.now key) }
+        ensures state { (D.state (disk_of self.old)).honest ≡ true → (s : State) → Holds self.old s → Holds self.new s }
+        ensures reads { (D.state (disk_of self.old)).honest ≡ true → OnlyReads (D.state (disk_of self.old)) (D.state (disk_of self.new)) }
+    {
+        if self.failed {
+            return Err(Refusal::Failed);
+        }
+        let Some(i) = position_of(&self.working, alt) else {
+            return Err(Refusal::NoSuchAlternative);
+        };
+        let root = self.working[i].current;
+        match leaf_map::get(&mut self.disk, self.blocks, root, key) {
+            Ok(value) => Ok(value),
+            Err(fault) => Err(refusal_of(fault)),
+        }
+    }
+
+    /// Gives the disk back. What was not committed is gone.
+    pub fn close(self) -> D
+        ensures disk { result ≡ disk_of self }
+        ensures shown { (D.state result).honest ≡ true → has_failed self ≡ false → (s : State) → Holds self s
+            → Shows (D.state result).now.contents s.committed }
+    {
+        let Store { disk, blocks: _, slot_b: _, committed: _, working: _, held: _, marks: _, failed: _ } = self;
+        disk
+    }
+}

@@ -1,0 +1,223 @@
+//! Opening a store.
+ghost use Rattle.std.specs.Prelude.{◌≡◌, ◌≢◌, ℕ, ◌≤◌, true, false, List, length, vec_capacity, IfOk, IfErr, OnOk, IsErrAnd, IfSome};
+ghost use Rattle.vm_types.specs.Tree.{Tree};
+ghost use Rattle.vm_disk.specs.Disk.{Goes, IsClean, block};
+ghost use Rattle.vm_disk.specs.Moments.{Throughout, OnlyReads};
+ghost use Rattle.vm_alloc.specs.Held.{HoldsMore};
+ghost use Rattle.vm_alloc.specs.Marks.{IsMarked};
+ghost use Rattle.vm_block.specs.Selector.{names_b};
+ghost use Rattle.vm_block.specs.Slot.{SlotFits};
+ghost use Rattle.vm_catalog.specs.Catalog.{SlotAt};
+ghost use Rattle.vm_store.specs.Filed.{Filed, Standing, StandsAs};
+ghost use Rattle.vm_store.specs.LeafMap.{OkOrDevice};
+ghost use Rattle.vm_store.specs.Refused.{IsAtMostSynced, IsSynced, IsOpenedSoFar, IsNoStore, IsRefused, IsStore};
+ghost use Rattle.vm_store.specs.Shown.{Shows};
+ghost use Rattle.vm_store.specs.Opening.{OpensAs, PartsHold, disk_in};
+ghost use Rattle.vm_store.specs.Store.{has_failed};
+
+use super::Store;
+use super::parts::Parts;
+use crate::entries::copy_entries;
+use crate::leaf_map::{TreeFault, refusal_of, verify};
+use std::alloc::Global;
+use vm_alloc::{Held, Marks};
+use vm_block::Entry;
+use vm_catalog::{LoadFault, MAX_ENTRIES, Slot, first_block, load, slot_in_use};
+use vm_disk::Disk;
+use vm_types::Refusal;
+
+/// How many blocks a store has at least.
+const LEAST_BLOCKS: u32 = 64;
+
+// Syncs, and tells whether there is a store, and which slot its selector names.
+fn find_slot<D: Disk>(disk: &mut D) -> Result<bool, Refusal>
+    ensures any { Goes (result ≡ Err Refusal.Device) (D.state disk.old) (D.state disk.new) }
+    ensures room { OnOk result (64 ≤ (D.state disk.old).blocks) }
+    ensures moments { (D.state disk.old).honest ≡ true → Throughout (D.state disk.old) (D.state disk.new) (IsAtMostSynced (D.state disk.old).now) }
+    ensures synced { (D.state disk.old).honest ≡ true → result ≢ Err Refusal.Device → IsSynced (D.state disk.old).now (D.state disk.new).now }
+    ensures found { (D.state disk.old).honest ≡ true
+        → IfOk result (λ slot_b. IsStore (D.state disk.old).now.contents × (slot_b ≡ names_b (block (D.state disk.old).now.contents 1))) }
+    ensures refused { (D.state disk.old).honest ≡ true → IfErr result (IsRefused (D.state disk.old).now.contents) }
+{
+    let Ok(()) = disk.sync() else {
+        return Err(Refusal::Device);
+    };
+    if disk.blocks() < LEAST_BLOCKS {
+        return Err(Refusal::NotAStore);
+    }
+    match slot_in_use(disk) {
+        Ok(Some(slot_b)) => Ok(slot_b),
+        Ok(None) => Err(Refusal::NotAStore),
+        Err(_) => Err(Refusal::Device),
+    }
+}
+
+// The entries of that slot, where they are opened so far and lie within the disk.
+fn load_slot<D: Disk>(alloc: Global, disk: &mut D, slot_b: bool) -> Result<Slot, Refusal>
+    requires { 64 ≤ (D.state disk.old).blocks }
+    ensures any { Goes (result ≡ Err Refusal.Device) (D.state disk.old) (D.state disk.new) }
+    ensures reads { (D.state disk.old).honest ≡ true → OnlyReads (D.state disk.old) (D.state disk.new) }
+    ensures fits { IfOk result (λ slot. SlotFits slot.blocks slot.entries.items) }
+    ensures reserved { IfOk result (λ slot. 511 ≤ vec_capacity slot.entries) }
+    ensures inside { IfOk result (λ slot. slot.blocks ≤ (D.state disk.old).blocks) }
+    ensures found { (D.state disk.old).honest ≡ true → IfOk result (λ slot. SlotAt (D.state disk.old).now.contents slot_b slot.blocks slot.entries.items) }
+    ensures refused { (D.state disk.old).honest ≡ true → IsStore (D.state disk.old).now.contents → slot_b ≡ names_b (block (D.state disk.old).now.contents 1)
+        → IfErr result (IsRefused (D.state disk.old).now.contents) }
+{
+    match load(alloc, disk, slot_b) {
+        Ok(slot) => {
+            if slot.entries.len() > 1 {
+                return Err(Refusal::Damaged(first_block(slot_b)));
+            }
+            if slot.blocks > disk.blocks() {
+                return Err(Refusal::BadSize);
+            }
+            Ok(slot)
+        }
+        Err(LoadFault::Device) => Err(Refusal::Device),
+        Err(LoadFault::Memory) => Err(Refusal::Memory),
+        Err(LoadFault::Damaged) => Err(Refusal::Damaged(first_block(slot_b))),
+    }
+}
+
+// Tests that maps lie under both roots of an entry, and marks their blocks.
+fn verify_entry<D: Disk>(disk: &mut D, blocks: u32, entry: &Entry, marks: &mut Marks) -> Result<(), TreeFault>
+    requires inside { blocks ≤ (D.state disk.old).blocks }
+    requires bits { length marks.old ≡ blocks }
+    ensures any { Goes (result ≡ Err TreeFault.Device) (D.state disk.old) (D.state disk.new) }
+    ensures deep { result ≢ Err TreeFault.Deep }
+    ensures growing { HoldsMore marks.old marks.new }
+    ensures reads { (D.state disk.old).honest ≡ true → OnlyReads (D.state disk.old) (D.state disk.new) }
+    ensures found { (D.state disk.old).honest ≡ true
+        → OnOk result ((f : Filed) × StandsAs (IsMarked marks.new) (D.state disk.old).now.contents blocks entry.now f) }
+    ensures only { (D.state disk.old).honest ≡ true → (f : Filed) → StandsAs (λ n. Unit {0}) (D.state disk.old).now.contents blocks entry.now f
+        → OkOrDevice result (λ _. Unit {0}) }
+{
+    match verify(disk, blocks, entry.current, marks) {
+        Ok(()) => verify(disk, blocks, entry.base, marks),
+        Err(fault) => Err(fault),
+    }
+}
+
+// Tests that maps lie under all roots of the entries, in their order, and marks their blocks.
+fn verify_entries<D: Disk>(disk: &mut D, blocks: u32, entries: &[Entry], marks: &mut Marks) -> Result<(), TreeFault>
+    requires inside { blocks ≤ (D.state disk.old).blocks }
+    requires bits { length marks.old ≡ blocks }
+    ensures any { Goes (result ≡ Err TreeFault.Device) (D.state disk.old) (D.state disk.new) }
+    ensures deep { result ≢ Err TreeFault.Deep }
+    ensures growing { HoldsMore marks.old marks.new }
+    ensures reads { (D.state disk.old).honest ≡ true → OnlyReads (D.state disk.old) (D.state disk.new) }
+    ensures found { (D.state disk.old).honest ≡ true
+        → OnOk result ((fs : List Filed) × Standing (IsMarked marks.new) (D.state disk.old).now.contents blocks entries.now fs) }
+    ensures only { (D.state disk.old).honest ≡ true → (fs : List Filed) → Standing (λ n. Unit {0}) (D.state disk.old).now.contents blocks entries.now fs
+        → OkOrDevice result (λ _. Unit {0}) }
+{
+    for entry in entries {
+        match verify_entry(disk, blocks, entry, marks) {
+            Ok(()) => {}
+            Err(fault) => return Err(fault),
+        }
+    }
+    Ok(())
+}
+
+// Reads the maps of a slot, reserves what a store needs, and holds the blocks that are reached.
+fn read_maps<D: Disk>(alloc: Global, disk: &mut D, slot_b: bool, slot: Slot) -> Result<Parts, Refusal>
+    requires inside { slot.blocks ≤ (D.state disk.old).blocks }
+    requires fits { SlotFits slot.blocks slot.entries.items }
+    requires reserved { 511 ≤ vec_capacity slot.entries }
+    ensures any { Goes (result ≡ Err Refusal.Device) (D.state disk.old) (D.state disk.new) }
+    ensures reads { (D.state disk.old).honest ≡ true → OnlyReads (D.state disk.old) (D.state disk.new) }
+    ensures inside { IfOk result (λ parts. parts.blocks ≤ (D.state disk.old).blocks) }
+    ensures holds { (D.state disk.old).honest ≡ true → IsClean (D.state disk.old).now → IsStore (D.state disk.old).now.contents
+        → slot_b ≡ names_b (block (D.state disk.old).now.contents 1) → SlotAt (D.state disk.old).now.contents slot_b slot.blocks slot.entries.items
+        → IfOk result (PartsHold (D.state disk.new).now) }
+    ensures refused { (D.state disk.old).honest ≡ true → IsStore (D.state disk.old).now.contents
+        → slot_b ≡ names_b (block (D.state disk.old).now.contents 1) → SlotAt (D.state disk.old).now.contents slot_b slot.blocks slot.entries.items
+        → IfErr result (IsRefused (D.state disk.old).now.contents) }
+{
+    let Slot { blocks, entries } = slot;
+    let Ok(mut working) = Vec::with_capacity(alloc, MAX_ENTRIES) else {
+        return Err(Refusal::Memory);
+    };
+    copy_entries(&mut working, &entries);
+    let (Ok(mut held), Ok(mut marks)) = (Held::new(alloc, blocks), Marks::new(alloc, blocks)) else {
+        return Err(Refusal::Memory);
+    };
+    match verify_entries(disk, blocks, &entries, &mut marks) {
+        Ok(()) => {
+            held.replace(&marks);
+            Ok(Parts {
+                blocks,
+                slot_b,
+                committed: entries,
+                working,
+                held,
+                marks,
+            })
+        }
+        Err(fault) => Err(refusal_of(fault)),
+    }
+}
+
+// All that is known of the store on a disk.
+fn find_store<D: Disk>(alloc: Global, disk: &mut D) -> Result<Parts, Refusal>
+    ensures any { Goes (result ≡ Err Refusal.Device) (D.state disk.old) (D.state disk.new) }
+    ensures inside { IfOk result (λ parts. parts.blocks ≤ (D.state disk.old).blocks) }
+    ensures moments { (D.state disk.old).honest ≡ true → Throughout (D.state disk.old) (D.state disk.new) (IsAtMostSynced (D.state disk.old).now) }
+    ensures synced { (D.state disk.old).honest ≡ true → OnOk result (IsSynced (D.state disk.old).now (D.state disk.new).now) }
+    ensures holds { (D.state disk.old).honest ≡ true → IfOk result (PartsHold (D.state disk.new).now) }
+    ensures refused { (D.state disk.old).honest ≡ true → IfErr result (IsRefused (D.state disk.old).now.contents) }
+{
+    match find_slot(disk) {
+        Ok(slot_b) => match load_slot(alloc, disk, slot_b) {
+            Ok(slot) => read_maps(alloc, disk, slot_b, slot),
+            Err(refusal) => Err(refusal),
+        },
+        Err(refusal) => Err(refusal),
+    }
+}
+
+/// Opens the store on a disk, as it was last committed. It syncs first; then it only reads. Where it
+/// refuses, the disk comes back with the refusal.
+pub fn open<D: Disk>(alloc: Global, mut disk: D) -> Result<Store<D>, (D, Refusal)>
+    // On any disk.
+    ensures any { Goes (IsErrAnd result (λ e. e.1 ≡ Refusal.Device)) (D.state disk) (D.state (disk_in result)) }
+    ensures well { IfOk result (λ store. has_failed store ≡ false) }
+
+    // The store stands for the tree that is shown, on a disk that is synced.
+    ensures opened { (D.state disk).honest ≡ true → IfOk result (OpensAs (D.state disk).now.contents) }
+    ensures synced { (D.state disk).honest ≡ true → OnOk result (IsSynced (D.state disk).now (D.state (disk_in result)).now) }
+
+    // A refusal has its reason. But for the device and memory it comes exactly where nothing is shown.
+    ensures refused { (D.state disk).honest ≡ true → IfErr result (λ e. IsRefused (D.state disk).now.contents e.1) }
+    ensures none { (D.state disk).honest ≡ true → IfErr result (λ e. e.1 ≢ Refusal.Device → e.1 ≢ Refusal.Memory
+        → (tree : Tree) (shown : Shows (D.state disk).now.contents tree) → IsOpenedSoFar shown.entries → ⊥) }
+
+    // At each moment nothing has changed, or all is synced.
+    ensures moments { (D.state disk).honest ≡ true → Throughout (D.state disk) (D.state (disk_in result)) (IsAtMostSynced (D.state disk).now) }
+{
+    match find_store(alloc, &mut disk) {
+        Ok(parts) => {
+            let Parts {
+                blocks,
+                slot_b,
+                committed,
+                working,
+                held,
+                marks,
+            } = parts;
+            Ok(Store {
+                disk,
+                blocks,
+                slot_b,
+                committed,
+                working,
+                held,
+                marks,
+                failed: false,
+            })
+        }
+        Err(refusal) => Err((disk, refusal)),
+    }
+}

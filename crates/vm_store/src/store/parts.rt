@@ -1,0 +1,24 @@
+//! A store without its disk.
+ghost use Rattle.std.specs.Prelude.{◌≡◌, ◌<◌, ◌≤◌, ◌^◌, length, vec_capacity};
+
+use vm_alloc::{Held, Marks};
+use vm_block::Entry;
+
+/// What is known of a store beside its disk.
+#[derive(Drop)]
+pub struct Parts {
+    pub blocks: u32,
+    pub slot_b: bool,
+    pub committed: Vec<Entry>,
+    pub working: Vec<Entry>,
+    pub held: Held,
+    pub marks: Marks,
+    ghost least: { 64 ≤ blocks },
+    ghost most: { blocks ≤ 2 ^ 20 },
+    ghost bits: { length held ≡ blocks },
+    ghost mark_bits: { length marks ≡ blocks },
+    ghost some: { 0 < length working.items },
+    ghost few: { length working.items ≤ 511 },
+    ghost room: { 511 ≤ vec_capacity committed },
+    ghost room_working: { 511 ≤ vec_capacity working },
+}
