@@ -1,10 +1,9 @@
 //! How a slot is loaded.
-ghost use Rattle.std.specs.Prelude.{◌≡◌, ◌≢◌, ◌⊎◌, ℕ, ◌+◌, ◌-◌, ◌*◌, ◌<◌, ◌≤◌, ◌++◌, true, min, List, [], ◌∷◌, length, take, drop, Some, OnOk, IfOk, IfSome, IsSome, IsSomeAnd, vec_len, vec_capacity};
+ghost use Rattle.std.specs.Prelude.{◌≡◌, ◌≢◌, ℕ, ◌+◌, ◌*◌, ◌<◌, ◌≤◌, true, min, List, [], length, take, Some, OnOk, IfOk, IfSome, IsSome, vec_len, vec_capacity};
 ghost use Rattle.std.specs.Bool.{OnTrue};
-ghost use Rattle.std.specs.List.{AllByRecursion, flat_map};
 ghost use Rattle.vm_disk.specs.Disk.{Goes, block};
 ghost use Rattle.vm_disk.specs.Moments.{OnlyReads};
-ghost use Rattle.vm_block.specs.Slot.{SlotFits, EntryFits, used_blocks, entry_bytes, IsHead, IsEntry};
+ghost use Rattle.vm_block.specs.Slot.{SlotFits, used_blocks, IsHead, IsEntry};
 ghost use Rattle.vm_block.specs.declared.slot.Entry.{Entry};
 ghost use Rattle.vm_catalog.specs.Place.{blocks_from, slot_at};
 ghost use Rattle.vm_catalog.specs.Catalog.{SlotAt};

@@ -1,5 +1,5 @@
 //! How new entries take the place of those in use.
-ghost use Rattle.std.specs.Prelude.{◌≡◌, ◌≢◌, ℕ, ◌+◌, ◌*◌, ◌<◌, ◌≤◌, ◌++◌, true, not, List, [], length, take, drop, slice_index_or, OnOk, IsErr};
+ghost use Rattle.std.specs.Prelude.{◌≡◌, ℕ, ◌+◌, ◌*◌, ◌<◌, ◌≤◌, ◌++◌, true, not, List, [], length, take, drop, slice_index_or, OnOk, IsErr};
 ghost use Rattle.vm_disk.specs.Disk.{Goes};
 ghost use Rattle.vm_disk.specs.Moments.{Throughout, Leaves, Spares};
 ghost use Rattle.vm_block.specs.Padding.{padded};

@@ -1,0 +1,28 @@
+//! Measurements of the store. Without words it prints its uses; each word is a measurement.
+//!
+//! It stands on the crates that it measures, and promises nothing: times are looked at, never tested.
+#![tactic(auto)]
+
+mod blocks;
+mod taking;
+
+use std::env;
+use std::io;
+use std::rt::Env;
+
+const USES: &str = "bench take     takes of free blocks, in a row and scattered
+bench blocks   a leaf written and read";
+
+// The measurement that is asked for, if there is one.
+fn first_word<R: Env + AllocGlobal>(rt: &R) -> io::Result<Option<String>> {
+    let words: Vec<String> = env::args(rt)?.collect(rt.alloc())?;
+    Ok(words.into_iter().nth(1))
+}
+
+fn main(rt: HostRuntime) -> io::Result<()> {
+    match first_word(&rt)? {
+        Some(word) if word.as_str() == "take" => taking::measure(&rt, rt.alloc()),
+        Some(word) if word.as_str() == "blocks" => blocks::measure(&rt),
+        _ => println!(rt; "{USES}"),
+    }
+}
