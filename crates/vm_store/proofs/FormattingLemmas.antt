@@ -1,30 +1,29 @@
 -- A formatting, moment by moment.
-use Rattle.std.proofs.Common.{◌≡◌, ◌≢◌, ◌⊎◌, inl, inr, ⊎_elim, ℕ, ◌+◌, ◌<◌, ◌≤◌, ◌^◌, Bool, true, false, cond, List, [], ◌∷◌, ◌++◌, length, Option, Some, None, Result, Ok, Err, OnOk, IsTrue, refl, sym, ap, ◌∙◌, subst, arith, lit<}
+use Rattle.std.proofs.Common.{◌≡◌, ◌≢◌, inl, inr, ℕ, ◌≤◌, ◌^◌, Bool, false, List, [], ◌∷◌, length, None, Result, Ok, Err, OnOk, IsTrue, refl, sym, ap, ◌∙◌, subst, arith}
 use Rattle.vm_types.specs.Map.{Map}
 use Rattle.std.proofs.lemmas.Bool.{false≢true}
 use Rattle.std.proofs.lemmas.List.Elements.{All-from_recursion}
 use Rattle.vm_types.specs.Name.{IsName, IsNameByte}
-use Rattle.vm_types.specs.Tree.{Tree, fresh}
+use Rattle.vm_types.specs.Tree.{fresh}
 use Rattle.vm_disk.specs.Disk as disk
 use Rattle.vm_disk.specs.Disk.{Contents, block, Medium, MayLeave, IsClean, Writes, Syncs}
 use Rattle.vm_disk.specs.declared.disk.DeviceFault.{DeviceFault}
-use Rattle.vm_disk.specs.Moments.{Throughout, Leaves, Spares}
-use Rattle.vm_disk.proofs.MomentLemmas.{goes_on, weaken, at_end, started}
-use Rattle.vm_block.specs.Header.{IsHeader, header_bytes}
+use Rattle.vm_disk.specs.Moments.{Leaves, Spares}
+use Rattle.vm_block.specs.Header.{IsHeader}
 use Rattle.vm_block.specs.Selector.{names_b, selector_bytes}
-use Rattle.vm_block.specs.Slot.{SlotFits, EntryFits, HeadFits, IsSlot, used_blocks}
-use Rattle.vm_block.specs.Tree.{Stands, IsTree}
+use Rattle.vm_block.specs.Slot.{SlotFits, IsSlot, used_blocks}
+use Rattle.vm_block.specs.Tree.{Stands}
 use Rattle.vm_block.specs.declared.slot.Kind.TheVariants as kind
 use Rattle.vm_block.specs.declared.slot.Entry.{Entry}
-use Rattle.vm_catalog.specs.Place.{selected, slot_at, blocks_from, region}
+use Rattle.vm_catalog.specs.Place.{selected, blocks_from, region}
 use Rattle.vm_catalog.specs.Written.{slot_blocks}
-use Rattle.vm_catalog.specs.Catalog.{SlotAt, Names}
+use Rattle.vm_catalog.specs.Catalog.{SlotAt}
 use Rattle.vm_catalog.proofs.PublishLemmas.{slot_in, written_selector}
 use Rattle.vm_catalog.proofs.SlotLaw.{written_slot}
 use Rattle.vm_catalog.proofs.SlotOne.{slot_one}
 use Rattle.vm_store.specs.Sizes.{sizes}
-use Rattle.vm_store.specs.Filed.{Filed, Standing, StandsAs, tree_of}
-use Rattle.vm_store.specs.Shown.{Shows, ShowsAtMostFresh}
+use Rattle.vm_store.specs.Filed.{Filed, Standing, tree_of}
+use Rattle.vm_store.specs.Shown.{ShowsAtMostFresh}
 use Rattle.vm_store.specs.Refused.{IsSynced, IsAtMostSynced}
 use Rattle.vm_store.specs.Formatting.{fresh_entry, IsLaidOut, IsFormatted, IsFormatting}
 use Rattle.vm_store.proofs.OneLeaf.{no_leaf, tree_of_none}
@@ -135,8 +134,8 @@ laid_now blocks es (Ok y) written chosen new (Ok v) u is fits slot ok writes syn
     let x = new.now.contents in
     let same : (n : ℕ) → n ≢ 1 → block x n ≡ block written.now.contents n = λ n other. ap (λ (x : Contents). block x n) sync.same ∙ writes.others n other in
     let there : SlotAt written.now.contents false blocks (fresh_entry ∷ []) =
-      subst (λ (bs : List (List ℕ)). IsSlot bs blocks (fresh_entry ∷ []))
-      (sym (subst (λ (l : List Entry). blocks_from written.now.contents 2 (used_blocks (length l)) ≡ slot_blocks blocks l) is slot)) (written_slot blocks (fresh_entry ∷ []) fits) in
+    subst (λ (bs : List (List ℕ)). IsSlot bs blocks (fresh_entry ∷ []))
+    (sym (subst (λ (l : List Entry). blocks_from written.now.contents 2 (used_blocks (length l)) ≡ slot_blocks blocks l) is slot)) (written_slot blocks (fresh_entry ∷ []) fits) in
     record {
       selected = ap (λ b. names_b b) (ap (λ (x : Contents). block x 1) sync.same ∙ writes.written) ∙ written_selector false;
       slot = slot_in written.now.contents x false blocks (fresh_entry ∷ []) (λ n low high. same n (λ (e : n ≡ 1). omega (arith, low))) there;

@@ -1,5 +1,5 @@
 -- Entries that a slot may have stay so where only current roots change.
-use Rattle.std.proofs.Common.{◌≡◌, ℕ, suc, ◌<◌, ◌^◌, Bool, true, false, ◌&&◌, ◌||◌, cond, List, [], ◌∷◌, ◌++◌, length, Option, Some, None, IsSomeAnd, refl, sym, ap, ◌∙◌, subst, arith}
+use Rattle.std.proofs.Common.{◌≡◌, ℕ, suc, ◌<◌, ◌^◌, Bool, true, false, ◌&&◌, ◌||◌, cond, List, [], ◌∷◌, ◌++◌, length, Option, Some, None, IsSomeAnd, refl, sym, ap, ◌∙◌, subst}
 use Rattle.std.specs.List.{AllByRecursion, list_any}
 use Rattle.std.specs.Option.{option_eq}
 use Rattle.std.specs.Str.{bytes_eq}
@@ -71,7 +71,7 @@ alternative-alike name e f a = ap (λ k. is_alternative k && bytes_eq f.name nam
 called-alike : (e f : Entry) → IsAlike e f → (e' f' : Entry) → IsAlike e' f' → is_called_as f f' ≡ is_called_as e e'
 called-alike e f a e' f' a' =
     let called : Kind → List ℕ → Option (List ℕ) → Kind → List ℕ → Option (List ℕ) → Bool =
-      λ k n o k' n' o'. (is_same_kind k k' && bytes_eq n n') && (is_alternative k || option_eq bytes_eq o o') in
+    λ k n o k' n' o'. (is_same_kind k k' && bytes_eq n n') && (is_alternative k || option_eq bytes_eq o o') in
     ap (λ k. called k f.name f.owner f'.kind f'.name f'.owner) a.kind
     ∙ ap (λ n. called e.kind n f.owner f'.kind f'.name f'.owner) a.name
     ∙ ap (λ o. called e.kind e.name o f'.kind f'.name f'.owner) a.owner

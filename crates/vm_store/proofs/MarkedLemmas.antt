@@ -1,5 +1,5 @@
 -- A marking holds just what the committed and the working entries reach.
-use Rattle.std.proofs.Common.{◌≡◌, ◌⊎◌, ℕ, ◌<◌, ◌≤◌, eqb, Bool, true, false, List, ◌++◌, length, refl, sym, ap, ◌∙◌, subst, arith, replicate, ⊎_elim, inl, inr}
+use Rattle.std.proofs.Common.{◌≡◌, ◌⊎◌, ℕ, ◌<◌, ◌≤◌, eqb, Bool, true, false, List, ◌++◌, length, refl, sym, ◌∙◌, arith, replicate, ⊎_elim, inl, inr}
 use Rattle.std.proofs.lemmas.Bool.{false≢true, cases_lt}
 use Rattle.std.proofs.lemmas.List.{get_or-replicate, get_or_past, length-replicate}
 use Rattle.std.specs.List.{AllByRecursion, list_any}
@@ -9,9 +9,8 @@ use Rattle.vm_alloc.specs.Held.{is_held, IsHeld, free_count}
 use Rattle.vm_alloc.specs.Marks.{is_marked, IsMarked}
 use Rattle.vm_block.specs.Tree.{IsData}
 use Rattle.vm_block.specs.declared.slot.Entry.{Entry}
-use Rattle.vm_block.proofs.EachLemmas.{each_so, each_join, each_front, each_back}
-use Rattle.vm_store.specs.Filed.{Filed, Standing, reach}
-use Rattle.vm_store.specs.Spare.{spare}
+use Rattle.vm_block.proofs.EachLemmas.{each_so, each_join}
+use Rattle.vm_store.specs.Filed.{reach}
 use Rattle.vm_store.specs.Marking.{with_entries}
 use Rattle.vm_store.specs.Resting.{IsSafe, Rests, spare_of}
 use Rattle.vm_store.proofs.MarkingLemmas.{reach_marked, marked_reached, entries_keep, length-entries, any_front, any_back}
@@ -32,8 +31,8 @@ module _ (m : Medium) (limit : ℕ) (slot_b : Bool) (bits : List Bool) (committe
   free_at_most =
       free-le-spare bits limit _ many rests.system
       (each_join (IsHeld bits) (reach (IsSafe bits m) m.contents limit committed rests.old rests.safe) _
-        (each_so (IsSafe bits m) (IsHeld bits) (λ n safe. safe.held) _ (reach_each (IsSafe bits m) m.contents limit committed rests.old rests.safe))
-        (reach_each (IsHeld bits) m.contents limit working rests.new rests.stands))
+      (each_so (IsSafe bits m) (IsHeld bits) (λ n safe. safe.held) _ (reach_each (IsSafe bits m) m.contents limit committed rests.old rests.safe))
+      (reach_each (IsHeld bits) m.contents limit working rests.new rests.stands))
 
   -- the marks of a marking
   abbrev marking : List Bool
@@ -59,8 +58,8 @@ module _ (m : Medium) (limit : ℕ) (slot_b : Bool) (bits : List Bool) (committe
     just_reached n is =
         ⊎_elim
         (λ is. ⊎_elim (λ is. absurd (none_marked limit n is))
-          (λ any. any_front (λ b. eqb b n) (reach (IsSafe bits m) m.contents limit committed rests.old rests.safe) (reach (IsHeld bits) m.contents limit working rests.new rests.stands) any)
-          (marked_reached (IsSafe bits m) m.contents limit committed rests.old (replicate limit false) n rests.safe is))
+        (λ any. any_front (λ b. eqb b n) (reach (IsSafe bits m) m.contents limit committed rests.old rests.safe) (reach (IsHeld bits) m.contents limit working rests.new rests.stands) any)
+        (marked_reached (IsSafe bits m) m.contents limit committed rests.old (replicate limit false) n rests.safe is))
         (λ any. any_back (λ b. eqb b n) (reach (IsSafe bits m) m.contents limit committed rests.old rests.safe) (reach (IsHeld bits) m.contents limit working rests.new rests.stands) any)
         (marked_reached (IsHeld bits) m.contents limit working rests.new (with_entries committed (replicate limit false)) n rests.stands is)
 
@@ -91,11 +90,11 @@ module _ (m : Medium) (limit : ℕ) (slot_b : Bool) (bits : List Bool) (committe
         safe = standing_in (λ n. (IsSafe bits m n × IsMarked marking n) × IsData limit n) (IsSafe after m) m.contents m.contents limit (λ n h. refl)
             (λ n h. record { held = replaced n h.1.0 ∙ h.0.1; clean = h.0.0.clean }) committed rests.old
             (standing_data (λ n. IsSafe bits m n × IsMarked marking n) m.contents limit committed rests.old
-              (standing_and (IsSafe bits m) (IsMarked marking) m.contents limit committed rests.old rests.safe committed_marked));
+            (standing_and (IsSafe bits m) (IsMarked marking) m.contents limit committed rests.old rests.safe committed_marked));
         stands = standing_in (λ n. (IsHeld bits n × IsMarked marking n) × IsData limit n) (IsHeld after) m.contents m.contents limit (λ n h. refl)
             (λ n h. replaced n h.1.0 ∙ h.0.1) working rests.new
             (standing_data (λ n. IsHeld bits n × IsMarked marking n) m.contents limit working rests.new
-              (standing_and (IsHeld bits) (IsMarked marking) m.contents limit working rests.new rests.stands working_marked));
+            (standing_and (IsHeld bits) (IsMarked marking) m.contents limit working rests.new rests.stands working_marked));
         gives_old = rests.gives_old;
         gives_new = rests.gives_new;
       }

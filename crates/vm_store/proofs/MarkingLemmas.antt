@@ -1,19 +1,19 @@
 -- Marks on the roots of standing entries are just the blocks that they reach.
-use Rattle.std.proofs.Common.{◌≡◌, ◌≢◌, ◌⊎◌, inl, inr, ⊎_elim, ℕ, zero, suc, ◌<◌, ◌≤◌, ◌||◌, eqb, Bool, true, false, List, [], ◌∷◌, ◌++◌, length, set, refl, sym, ap, ◌∙◌, subst, arith, eq-eqb, get_or-set_same, get_or-set_other}
+use Rattle.std.proofs.Common.{◌≡◌, ◌⊎◌, inl, inr, ⊎_elim, ℕ, zero, suc, ◌<◌, ◌≤◌, ◌||◌, eqb, Bool, true, false, List, [], ◌∷◌, ◌++◌, length, set, refl, sym, ap, ◌∙◌, subst, eq-eqb, get_or-set_same, get_or-set_other}
 use Rattle.std.proofs.lemmas.List.{length-set, get_or_past}
 use Rattle.std.proofs.lemmas.Bool.{cases_eq, cases_lt, false≢true}
 use Rattle.std.specs.List.{AllByRecursion, list_any}
 use Rattle.vm_disk.specs.Disk.{Contents}
 use Rattle.vm_types.specs.Map.{Map}
 use Rattle.vm_alloc.specs.Marks.{is_marked, IsMarked}
-use Rattle.vm_block.specs.Tree.{IsData, Stands, IsTree}
+use Rattle.vm_block.specs.Tree.{IsData, Stands}
 use Rattle.vm_block.specs.declared.slot.Entry.{Entry}
 use Rattle.vm_block.proofs.EachLemmas.{each_so, each_join}
 use Rattle.vm_block.proofs.TreeLemmas.{tree_data}
 use Rattle.vm_store.specs.Sizes.{sizes}
 use Rattle.vm_store.specs.LeafMap.{with_root}
 use Rattle.vm_store.specs.Marking.{with_entry, with_entries}
-use Rattle.vm_store.specs.Filed.{Filed, StandsAs, Standing, reach}
+use Rattle.vm_store.specs.Filed.{Filed, Standing, reach}
 use Rattle.vm_store.proofs.OneLeaf.{one_block, blocks_under}
 
 pub any_front : (p : ℕ → Bool) (xs ys : List ℕ) → list_any p xs ≡ true → list_any p (xs ++ ys) ≡ true
@@ -103,14 +103,14 @@ module _ (P : ℕ → Type 0) (x : Contents) (limit : ℕ) where
   reach_marked some (e ∷ es) (f ∷ fs) marks many s =
       let final = with_entries es (with_entry marks e) in
       let current : AllByRecursion (IsMarked final) (blocks_under e.current) =
-        each_so (IsMarked (with_root e.current marks)) (IsMarked final) (λ n is. entries_keep es (with_entry marks e) n (root_keeps e.base (with_root e.current marks) n is)) (blocks_under e.current)
-        (root_marks e.current marks (subst (λ k. e.current < k) (sym many) (root_inside e.current f.current s.0.current some))) in
+      each_so (IsMarked (with_root e.current marks)) (IsMarked final) (λ n is. entries_keep es (with_entry marks e) n (root_keeps e.base (with_root e.current marks) n is)) (blocks_under e.current)
+      (root_marks e.current marks (subst (λ k. e.current < k) (sym many) (root_inside e.current f.current s.0.current some))) in
       let base : AllByRecursion (IsMarked final) (blocks_under e.base) =
-        each_so (IsMarked (with_entry marks e)) (IsMarked final) (λ n is. entries_keep es (with_entry marks e) n is) (blocks_under e.base)
-        (root_marks e.base (with_root e.current marks) (subst (λ k. e.base < k) (sym (length-root e.current marks ∙ many)) (root_inside e.base f.base s.0.base some))) in
+      each_so (IsMarked (with_entry marks e)) (IsMarked final) (λ n is. entries_keep es (with_entry marks e) n is) (blocks_under e.base)
+      (root_marks e.base (with_root e.current marks) (subst (λ k. e.base < k) (sym (length-root e.current marks ∙ many)) (root_inside e.base f.base s.0.base some))) in
       each_join (IsMarked final) s.0.current.blocks (s.0.base.blocks ++ reach P x limit es fs s.1) (root_all e.current f.current (IsMarked final) s.0.current current)
       (each_join (IsMarked final) s.0.base.blocks (reach P x limit es fs s.1) (root_all e.base f.base (IsMarked final) s.0.base base)
-        (reach_marked some es fs (with_entry marks e) (length-entry marks e ∙ many) s.1))
+      (reach_marked some es fs (with_entry marks e) (length-entry marks e ∙ many) s.1))
   reach_marked some [] (f ∷ fs) marks many s = absurd s
   reach_marked some (e ∷ es) [] marks many s = absurd s
 
@@ -122,6 +122,7 @@ module _ (P : ℕ → Type 0) (x : Contents) (limit : ℕ) where
     where
       own : (r : ℕ) (m : Map) (stands : Stands sizes P x limit r m) → list_any (λ b. eqb b n) (blocks_under r) ≡ true → list_any (λ b. eqb b n) stands.blocks ≡ true
       own r m stands any = subst (λ bs. list_any (λ b. eqb b n) bs ≡ true) (sym (one_block x limit r m stands.blocks stands.tree)) any
+
       by_entry : IsMarked (with_entry marks e) n → IsMarked marks n ⊎ (list_any (λ b. eqb b n) (reach P x limit (e ∷ es) (f ∷ fs) s) ≡ true)
       by_entry is = ⊎_elim
           (λ is. ⊎_elim inl (λ any. inr (any_front (λ b. eqb b n) s.0.current.blocks (s.0.base.blocks ++ reach P x limit es fs s.1) (own e.current f.current s.0.current any))) (root_only e.current marks n is))

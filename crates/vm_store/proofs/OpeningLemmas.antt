@@ -1,8 +1,6 @@
 -- An opening: a sync, and reads that find a store or why there is none.
-use Rattle.std.proofs.Common.{◌≡◌, ◌≢◌, ◌⊎◌, inl, inr, ⊎_elim, ℕ, ◌<◌, ◌≤◌, Bool, true, false, List, [], ◌∷◌, ◌++◌, length, take, get_or, zero, suc, ◌+◌, Option, Some, None, Result, Ok, Err, OnOk, is_err, refl, sym, ap, ◌∙◌, subst, arith}
+use Rattle.std.proofs.Common.{◌≡◌, ◌≢◌, inl, inr, ⊎_elim, ℕ, ◌<◌, ◌≤◌, Bool, List, [], ◌∷◌, ◌++◌, length, take, get_or, zero, suc, ◌+◌, Result, Ok, Err, OnOk, refl, sym, ap, ◌∙◌, subst, arith}
 use Rattle.std.proofs.lemmas.List.{take_more}
-use Rattle.std.proofs.lemmas.Bool.{false≢true}
-use Rattle.std.specs.List.{AllByRecursion}
 use Rattle.vm_types.specs.Map.{Map}
 use Rattle.vm_types.specs.Tree.{Tree}
 use Rattle.vm_types.specs.State.{opened}
@@ -12,25 +10,21 @@ use Rattle.vm_disk.specs.Disk as disk
 use Rattle.vm_disk.specs.Disk.{Contents, block, Medium, IsClean, Syncs}
 use Rattle.vm_disk.specs.declared.disk.DeviceFault.{DeviceFault}
 use Rattle.vm_disk.specs.Moments.{Throughout, OnlyReads}
-use Rattle.vm_disk.proofs.MomentLemmas.{started, goes_on, same_medium, then_reads}
+use Rattle.vm_disk.proofs.MomentLemmas.{started, goes_on, same_medium}
 use Rattle.vm_alloc.specs.Held.{is_held, IsHeld, HoldsMore}
 use Rattle.vm_alloc.specs.Marks.{is_marked, IsMarked}
-use Rattle.vm_block.specs.Slot.{SlotFits}
 use Rattle.vm_block.specs.Tree.{IsData, Stands, IsTree}
 use Rattle.vm_block.specs.declared.slot.Entry.{Entry}
 use Rattle.vm_block.proofs.TreeLemmas.{stands_in}
-use Rattle.vm_catalog.specs.Place.{slot_at, selected}
+use Rattle.vm_catalog.specs.Place.{selected}
 use Rattle.vm_catalog.specs.Catalog.{SlotAt, Names}
 use Rattle.vm_catalog.proofs.PublishLemmas.{names_slot}
 use Rattle.vm_catalog.proofs.SlotOne.{slot_one}
 use Rattle.vm_store.specs.Sizes.{sizes}
-use Rattle.vm_store.specs.LeafMap.{OkOrDevice}
-use Rattle.vm_store.specs.declared.leaf_map.TreeFault.{TreeFault}
-use Rattle.vm_store.specs.declared.leaf_map.TreeFault.TheVariants as fault
 use Rattle.vm_store.specs.Filed.{Filed, StandsAs, Standing, tree_of}
 use Rattle.vm_store.specs.Shown.{Shows}
 use Rattle.vm_store.specs.Resting.{IsSafe, Rests}
-use Rattle.vm_store.specs.Refused.{IsStore, IsNoStore, IsOpenedSoFar, HasNoSlot, IsTooLarge, LacksMap, IsRefused, IsSynced, IsAtMostSynced}
+use Rattle.vm_store.specs.Refused.{IsStore, IsOpenedSoFar, HasNoSlot, LacksMap, IsRefused, IsSynced, IsAtMostSynced}
 use Rattle.vm_store.proofs.StandingLemmas.{standing_in, standing_data}
 
 -- a sync leaves all as it was, or synced
@@ -108,8 +102,7 @@ pub standing_more : (old mid : disk.State) (limit : ℕ) (es : List Entry) (i : 
 standing_more old mid limit es i e marks more lt is grows reads so_far here =
     let x = old.now.contents in
     let before = standing_in (IsMarked marks) (IsMarked more) x x limit (λ n is. refl) (λ n is. grows.still n is) (take i es) so_far.0 so_far.1 in
-    let found = subst (λ (m : Medium). StandsAs (IsMarked more) m.contents limit e here.0) (same_medium old mid reads) here.1 in
-    (
+    let found = subst (λ (m : Medium). StandsAs (IsMarked more) m.contents limit e here.0) (same_medium old mid reads) here.1 in (
       so_far.0 ++ here.0 ∷ [],
       subst (λ (l : List Entry). Standing (IsMarked more) x limit l (so_far.0 ++ here.0 ∷ [])) (sym (take_more es i e lt ∙ ap (λ (d : Entry). take i es ++ d ∷ []) (sym is)))
           (standing_join (IsMarked more) x limit (take i es) so_far.0 e here.0 before found),
@@ -176,8 +169,8 @@ refused_none x (refusal.Damaged n) why no_device no_memory tree shown few =
     ⊎_elim
     (λ none. none.1 shown.limit shown.entries shown.names.slot few)
     (λ lacks.
-        let same = slot_one x (selected x) shown.limit lacks.limit shown.entries lacks.entries shown.names.slot lacks.slot in
-        lacks.none shown.filed (subst (λ l. Standing (λ n. Unit {0}) x l lacks.entries shown.filed) same.0 (subst (λ (es : List Entry). Standing (λ n. Unit {0}) x shown.limit es shown.filed) same.1 shown.stands)))
+    let same = slot_one x (selected x) shown.limit lacks.limit shown.entries lacks.entries shown.names.slot lacks.slot in
+    lacks.none shown.filed (subst (λ l. Standing (λ n. Unit {0}) x l lacks.entries shown.filed) same.0 (subst (λ (es : List Entry). Standing (λ n. Unit {0}) x shown.limit es shown.filed) same.1 shown.stands)))
     why.1
 refused_none x refusal.Device why no_device no_memory tree shown few = no_device refl
 refused_none x refusal.Memory why no_device no_memory tree shown few = no_memory refl

@@ -1,10 +1,7 @@
 -- What a store stands for, through device calls, crashes, puts and commits.
-use Rattle.std.proofs.Common.{◌≡◌, ◌≢◌, ◌⊎◌, inl, inr, ℕ, ◌+◌, ◌<◌, ◌≤◌, ◌^◌, ◌*◌, not, nat_lt, Bool, true, false, List, ◌∷◌, [], ◌++◌, length, find, Option, Some, None, is_some, option_map, unwrap_or, get_or, set, Result, Ok, Err, refl, sym, ap, ◌∙◌, subst, arith}
-use Rattle.std.proofs.lemmas.Bool.{false≢true}
-use Rattle.std.specs.List.{AllByRecursion}
+use Rattle.std.proofs.Common.{◌≡◌, ◌⊎◌, inl, inr, ℕ, ◌+◌, ◌<◌, ◌≤◌, ◌^◌, not, nat_lt, Bool, true, false, List, [], length, find, Option, Some, None, option_map, unwrap_or, get_or, set, Result, Ok, Err, refl, sym, ap, ◌∙◌, subst, arith}
 use Rattle.vm_types.specs.declared.answer.Answer.{Answer}
 use Rattle.vm_types.specs.declared.answer.Answer.TheVariants.{Done}
-use Rattle.vm_types.specs.declared.command.Command.{Command}
 use Rattle.vm_types.specs.declared.command.Command.TheVariants.{Put, Commit}
 use Rattle.vm_types.specs.declared.key.Key.{Key}
 use Rattle.vm_types.specs.declared.refusal.Refusal.{Refusal}
@@ -12,20 +9,20 @@ use Rattle.vm_types.specs.declared.refusal.Refusal.TheVariants.{NoSuchAlternativ
 use Rattle.vm_types.specs.Firsts.{change_first, IsFirst}
 use Rattle.vm_types.specs.Map.{Map, get, with_value}
 use Rattle.vm_types.specs.Tree.{Tree, Alternative, named, changed, current_of}
-use Rattle.vm_types.specs.Step.{Outcome, step, done, or_refuse}
-use Rattle.vm_types.specs.State.{State, next, answer_of, tree_after}
+use Rattle.vm_types.specs.Step.{step, done, or_refuse}
+use Rattle.vm_types.specs.State.{State, next, tree_after}
 use Rattle.vm_types.specs.Kept.{LeftBy}
 use Rattle.vm_disk.specs.Disk as disk
 use Rattle.vm_disk.specs.Disk.{Contents, block, Medium, MayLeave, IsClean}
 use Rattle.vm_disk.specs.Moments.{Spares, OnlyReads}
 use Rattle.vm_disk.proofs.MomentLemmas.{spared, same_medium}
-use Rattle.vm_alloc.specs.Held.{is_held, IsHeld, HoldsMore}
+use Rattle.vm_alloc.specs.Held.{IsHeld, HoldsMore}
 use Rattle.vm_block.specs.Slot.{SlotFits, is_alternative_of, used_blocks}
 use Rattle.vm_block.specs.Tree.{IsData, Stands}
 use Rattle.vm_block.specs.declared.slot.Kind.TheVariants as kind
 use Rattle.vm_block.specs.declared.slot.Entry.{Entry}
 use Rattle.vm_block.specs.Selector.{names_b}
-use Rattle.vm_catalog.specs.Place.{is_used, selected, slot_at}
+use Rattle.vm_catalog.specs.Place.{is_used, slot_at}
 use Rattle.vm_catalog.specs.Catalog.{Names, AtRest}
 use Rattle.vm_catalog.specs.Publishing.{IsPublished, PublishLeaves}
 use Rattle.vm_catalog.proofs.PlaceLemmas.{used_cases, sixteen}
@@ -35,7 +32,7 @@ use Rattle.vm_store.specs.LeafMap.{LacksRoom, OkOrDevice, Puts, refusal_of}
 use Rattle.vm_store.specs.declared.leaf_map.TreeFault.{TreeFault}
 use Rattle.vm_store.specs.declared.leaf_map.TreeFault.TheVariants as fault
 use Rattle.vm_store.specs.Sizes.{sizes}
-use Rattle.vm_store.specs.Filed.{Filed, Standing, StandsAs, tree_of}
+use Rattle.vm_store.specs.Filed.{Filed, Standing, tree_of}
 use Rattle.vm_store.specs.Shown.{Shows}
 use Rattle.vm_store.specs.Resting.{IsSafe, Rests}
 use Rattle.vm_store.specs.Answers.{value_in, value_of, IsDue, IsAnswer}
@@ -127,6 +124,7 @@ module _ (m : Medium) (limit : ℕ) (slot_b : Bool) (bits : List Bool) (committe
     where
       inside : limit ≤ length left
       inside = subst (λ n. limit ≤ n) (sym leaves.0) rests.inside
+
       by_names : (Names left limit committed × ((n : ℕ) → 34 ≤ n → m.dirty n ≡ false → block left n ≡ block m.contents n))
           ⊎ (Names left limit working × ((n : ℕ) → 34 ≤ n → block left n ≡ block m.contents n)) → LeftBy Shows s Commit left
       by_names (inl old) = inl (record {
@@ -139,16 +137,19 @@ module _ (m : Medium) (limit : ℕ) (slot_b : Bool) (bits : List Bool) (committe
             (standing_data (IsSafe bits m) m.contents limit committed rests.old rests.safe);
         gives = rests.gives_old;
       })
-      by_names (inr new) = inr (refl, record {
-        limit = limit;
-        entries = working;
-        filed = rests.new;
-        names = new.0;
-        inside = inside;
-        stands = standing_in (λ n. IsHeld bits n × IsData limit n) (λ n. Unit {0}) m.contents left limit (λ n held. new.1 n held.1.0) (λ n held. tt) working rests.new
-            (standing_data (IsHeld bits) m.contents limit working rests.new rests.stands);
-        gives = rests.gives_new;
-      })
+      by_names (inr new) = inr (
+        refl,
+        record {
+          limit = limit;
+          entries = working;
+          filed = rests.new;
+          names = new.0;
+          inside = inside;
+          stands = standing_in (λ n. IsHeld bits n × IsData limit n) (λ n. Unit {0}) m.contents left limit (λ n held. new.1 n held.1.0) (λ n held. tt) working rests.new
+              (standing_data (IsHeld bits) m.contents limit working rests.new rests.stands);
+          gives = rests.gives_new;
+        },
+      )
 
   -- after a publish the working entries are the committed ones
   pub published : (now : Medium) (copied : List Entry) (answer : Answer) → IsPublished (not slot_b) m now limit working → copied ≡ working
@@ -238,10 +239,10 @@ module _ (m : Medium) (limit : ℕ) (slot_b : Bool) (bits : List Bool) (committe
         subst (λ (t : Tree). Rests now limit slot_b after committed (change_first (is_alternative_of name) (with_current root) working) (record { committed = s.committed; working = t }))
         (sym (ap (tree_after s.working) put_step))
         (rests_on now after (change_first (is_alternative_of name) (with_current root) working) (change_first (is_filed name) (refiled g) rests.new) (put_tree name key value) spares more
-          (fits_alike limit working _ (alike_turned (is_alternative_of name) root small working) rests.fits)
-          (standing_changed (IsHeld after) now.contents limit name root g working rests.new (stands_on now after spares more)
-            (λ f' found'. let same : found.filed ≡ f' = cc (found.found, found') in subst (λ (f : Filed). Stands sizes (IsHeld after) now.contents limit root (g f.current)) same new))
-          (grown_changed name g [] rests.new refl ∙ ap (λ t. changed t name (recurrent g)) rests.gives_new))
+        (fits_alike limit working _ (alike_turned (is_alternative_of name) root small working) rests.fits)
+        (standing_changed (IsHeld after) now.contents limit name root g working rests.new (stands_on now after spares more)
+        (λ f' found'. let same : found.filed ≡ f' = cc (found.found, found') in subst (λ (f : Filed). Stands sizes (IsHeld after) now.contents limit root (g f.current)) same new))
+        (grown_changed name g [] rests.new refl ∙ ap (λ t. changed t name (recurrent g)) rests.gives_new))
 
 -- the same entries, lent
 pub lent_rests : (m : Medium) (limit : ℕ) (slot_b : Bool) (bits : List Bool) (committed working lent : List Entry) (s : State) → lent ≡ working

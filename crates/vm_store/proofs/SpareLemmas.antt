@@ -1,5 +1,5 @@
 -- Counting spare blocks against the blocks that are free.
-use Rattle.std.proofs.Common.{◌≡◌, ℕ, zero, suc, ◌+◌, ◌<◌, ◌≤◌, ◌&&◌, not, nat_le, eqb, ◌||◌, Bool, true, false, cond, List, [], ◌∷◌, length, get_or, refl, sym, ap, ◌∙◌, subst, arith, count_by}
+use Rattle.std.proofs.Common.{◌≡◌, ℕ, zero, suc, ◌+◌, ◌<◌, ◌≤◌, ◌&&◌, not, nat_le, eqb, ◌||◌, Bool, true, false, cond, List, [], ◌∷◌, length, refl, sym, ap, ◌∙◌, subst, arith}
 use Rattle.std.specs.List.{AllByRecursion, list_any}
 use Rattle.std.proofs.lemmas.Bool.{false≢true, eqb-true}
 use Rattle.std.proofs.lemmas.Bool.Decides.{nat_tests}
@@ -74,8 +74,10 @@ module _ (held : List Bool) (limit : ℕ) (reached : List ℕ) (many : length he
     where
       above : (k : ℕ) → nat_le 34 k ≡ true → 34 ≤ k
       above k far = grind (arith, nat_tests)
+
       below : (k : ℕ) → nat_le 34 k ≡ false → k < 34
       below k near = grind (arith, nat_tests)
+
       each : (k : ℕ) → is_free held k ≡ is_spare reached k
       each k =
           elim (nat_le 34 k) as (λ b. nat_le 34 k ≡ b → is_free held k ≡ (b && not (list_any (λ b. eqb b k) reached))) [

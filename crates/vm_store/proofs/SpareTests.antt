@@ -2,7 +2,6 @@
 use Rattle.std.proofs.Common.{◌≡◌, ℕ, ◌≤◌, ◌<◌, ◌⊎◌, inl, inr, refl, Bool, true, false, leb, nat_lt, List, length, IsTrue, replicate, sym, ap, ◌∙◌, subst, arith}
 use Rattle.std.proofs.lemmas.Bool.Decides.{leb_tells, nat_tests}
 use Rattle.std.proofs.lemmas.Bool.{false≢true, cases_lt}
-use Rattle.vm_alloc.specs.Marks.{is_marked}
 use Rattle.vm_block.specs.declared.slot.Entry.{Entry}
 use Rattle.vm_store.specs.Marking.{with_entries}
 
@@ -15,6 +14,7 @@ told count free held spare same exactly = subst (λ n. (IsTrue (leb count free) 
     by_test : (count free : ℕ) → ((leb count free ≡ true) × (count ≤ free)) ⊎ ((leb count free ≡ false) × (free < count)) → (IsTrue (leb count free) → count ≤ free) × (count ≤ free → IsTrue (leb count free))
     by_test count free (inl h) = (λ _. h.1, λ _. h.0)
     by_test count free (inr h) = (λ is. absurd (false≢true (sym h.0 ∙ is)), λ le. absurd (omega (arith, h.1)))
+
     ask : (count free : ℕ) → (IsTrue (leb count free) → count ≤ free) × (count ≤ free → IsTrue (leb count free))
     ask count free = by_test count free (leb_tells count free)
 

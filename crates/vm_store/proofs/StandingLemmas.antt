@@ -1,5 +1,5 @@
 -- Entries whose roots stand: in other contents, found by name, and with one root changed.
-use Rattle.std.proofs.Common.{◌≡◌, ℕ, Bool, true, false, ◌&&◌, cond, List, [], ◌∷◌, ◌++◌, find, Option, Some, None, refl, sym, ap, ◌∙◌, subst}
+use Rattle.std.proofs.Common.{◌≡◌, ℕ, Bool, true, false, ◌&&◌, cond, List, [], ◌∷◌, ◌++◌, find, Some, None, refl, sym, ap, ◌∙◌, subst}
 use Rattle.std.specs.List.{AllByRecursion}
 use Rattle.std.specs.Str.{bytes_eq}
 use Rattle.vm_types.specs.Map.{Map}
@@ -7,7 +7,6 @@ use Rattle.vm_types.specs.Firsts.{change_first}
 use Rattle.vm_disk.specs.Disk.{Contents, block}
 use Rattle.vm_block.specs.Slot.{is_alternative, is_alternative_of}
 use Rattle.vm_block.specs.Tree.{IsData, Stands}
-use Rattle.vm_block.specs.declared.slot.Kind.{Kind}
 use Rattle.vm_block.specs.declared.slot.Entry.{Entry}
 use Rattle.vm_block.proofs.EachLemmas.{each_join, each_front, each_back, each_both}
 use Rattle.vm_block.proofs.TreeLemmas.{stands_in, stands_data}

@@ -1,8 +1,8 @@
 -- What a formatting leaves.
-use Rattle.std.specs.Prelude.{◌≡◌, ◌⊎◌, ℕ, ◌<◌, ◌≤◌, ◌^◌, Bool, false, List, [], ◌∷◌, length, Option, None, Result, Ok, Err, codes}
+use Rattle.std.specs.Prelude.{◌≡◌, ◌⊎◌, ℕ, ◌<◌, ◌^◌, false, [], ◌∷◌, None, Result, Ok, Err, codes}
 use Rattle.vm_types.specs.declared.refusal.Refusal.{Refusal}
 use Rattle.vm_types.specs.Tree.{fresh}
-use Rattle.vm_disk.specs.Disk.{Contents, Medium, IsClean, block}
+use Rattle.vm_disk.specs.Disk.{Medium, IsClean, block}
 use Rattle.vm_disk.specs.Moments.{Leaves}
 use Rattle.vm_block.specs.Header.{IsHeader}
 use Rattle.vm_block.specs.declared.slot.Kind.TheVariants as kind

@@ -1,12 +1,9 @@
 -- A store, and the state that it stands for.
-use Rattle.std.specs.Prelude.{◌≡◌, ◌≢◌, ℕ, Bool, true, false, List, Option, Some, None, Result, Ok, Err, find}
-use Rattle.vm_types.specs.Tree.{Tree}
-use Rattle.vm_types.specs.State.{State, opened}
-use Rattle.vm_disk.specs.Disk.{Contents, IsClean}
+use Rattle.std.specs.Prelude.{ℕ, Bool, List, find}
+use Rattle.vm_types.specs.State.{State}
 use Rattle.vm_alloc.specs.Held.{free_count}
 use Rattle.vm_block.specs.Slot.{is_alternative_of}
 use Rattle.vm_block.specs.declared.slot.Entry.{Entry}
-use Rattle.vm_store.specs.Shown.{Shows}
 use Rattle.vm_store.specs.Resting.{Rests}
 use Rattle.vm_store.specs.Roots.{current_root}
 use Rattle.vm_store.specs.declared.store.Store.{Store}

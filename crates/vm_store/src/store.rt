@@ -12,11 +12,10 @@ mod formatting;
 mod opening;
 mod parts;
 
-pub use formatting::format;
-pub use opening::open;
-
 use crate::entries::{copy_entries, mark_entries, position_of};
 use crate::leaf_map::{self, refusal_of};
+pub use formatting::format;
+pub use opening::open;
 use vm_alloc::{Held, Marks};
 use vm_block::Entry;
 use vm_catalog::publish;
@@ -149,7 +148,14 @@ impl<D: Disk> Store<D> {
             return Err(Refusal::Full);
         }
         let root = self.working[i].current;
-        match leaf_map::put(&mut self.disk, &mut self.held, self.blocks, root, key, value) {
+        match leaf_map::put(
+            &mut self.disk,
+            &mut self.held,
+            self.blocks,
+            root,
+            key,
+            value,
+        ) {
             Ok(root) => {
                 self.working[i].current = root;
                 Ok(Answer::Done)
@@ -212,7 +218,16 @@ impl<D: Disk> Store<D> {
         ensures shown { (D.state result).honest ≡ true → has_failed self ≡ false → (s : State) → Holds self s
             → Shows (D.state result).now.contents s.committed }
     {
-        let Store { disk, blocks: _, slot_b: _, committed: _, working: _, held: _, marks: _, failed: _ } = self;
+        let Store {
+            disk,
+            blocks: _,
+            slot_b: _,
+            committed: _,
+            working: _,
+            held: _,
+            marks: _,
+            failed: _,
+        } = self;
         disk
     }
 }

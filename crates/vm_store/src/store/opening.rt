@@ -81,7 +81,12 @@ fn load_slot<D: Disk>(alloc: Global, disk: &mut D, slot_b: bool) -> Result<Slot,
 }
 
 // Tests that maps lie under both roots of an entry, and marks their blocks.
-fn verify_entry<D: Disk>(disk: &mut D, blocks: u32, entry: &Entry, marks: &mut Marks) -> Result<(), TreeFault>
+fn verify_entry<D: Disk>(
+    disk: &mut D,
+    blocks: u32,
+    entry: &Entry,
+    marks: &mut Marks,
+) -> Result<(), TreeFault>
     requires inside { blocks ≤ (D.state disk.old).blocks }
     requires bits { length marks.old ≡ blocks }
     ensures any { Goes (result ≡ Err TreeFault.Device) (D.state disk.old) (D.state disk.new) }
@@ -100,7 +105,12 @@ fn verify_entry<D: Disk>(disk: &mut D, blocks: u32, entry: &Entry, marks: &mut M
 }
 
 // Tests that maps lie under all roots of the entries, in their order, and marks their blocks.
-fn verify_entries<D: Disk>(disk: &mut D, blocks: u32, entries: &[Entry], marks: &mut Marks) -> Result<(), TreeFault>
+fn verify_entries<D: Disk>(
+    disk: &mut D,
+    blocks: u32,
+    entries: &[Entry],
+    marks: &mut Marks,
+) -> Result<(), TreeFault>
     requires inside { blocks ≤ (D.state disk.old).blocks }
     requires bits { length marks.old ≡ blocks }
     ensures any { Goes (result ≡ Err TreeFault.Device) (D.state disk.old) (D.state disk.new) }
@@ -122,7 +132,12 @@ fn verify_entries<D: Disk>(disk: &mut D, blocks: u32, entries: &[Entry], marks: 
 }
 
 // Reads the maps of a slot, reserves what a store needs, and holds the blocks that are reached.
-fn read_maps<D: Disk>(alloc: Global, disk: &mut D, slot_b: bool, slot: Slot) -> Result<Parts, Refusal>
+fn read_maps<D: Disk>(
+    alloc: Global,
+    disk: &mut D,
+    slot_b: bool,
+    slot: Slot,
+) -> Result<Parts, Refusal>
     requires inside { slot.blocks ≤ (D.state disk.old).blocks }
     requires fits { SlotFits slot.blocks slot.entries.items }
     requires reserved { 511 ≤ vec_capacity slot.entries }

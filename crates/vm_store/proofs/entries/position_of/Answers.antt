@@ -1,7 +1,6 @@
-use Rattle.std.proofs.Common.{◌≡◌, ℕ, zero, suc, ◌<◌, Bool, true, false, cond, List, [], ◌∷◌, length, get_or, find, Option, None, Some, refl, sym, ap, ◌∙◌, arith}
+use Rattle.std.proofs.Common.{◌≡◌, ℕ, suc, ◌<◌, Bool, false, cond, List, [], ◌∷◌, length, get_or, find, None, Some, refl, sym, ap, ◌∙◌, arith}
 use Rattle.vm_types.proofs.FirstsLemmas.{IsFirst-at}
 use Rattle.vm_block.specs.Slot.{is_alternative_of}
-use Rattle.vm_block.specs.declared.slot.Entry.{Entry}
 use Rattle.vm_store.proofs.entries.position_of.Goals as goal
 
 -- where no item passes, none is found

@@ -1,4 +1,3 @@
-use Rattle.std.proofs.Common.{refl}
 use Rattle.vm_store.proofs.RestingLemmas.{shows_now}
 use Rattle.vm_store.proofs.store.Store.close.Goals as goal
 

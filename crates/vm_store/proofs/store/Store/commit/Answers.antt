@@ -1,4 +1,4 @@
-use Rattle.std.proofs.Common.{List, subst, ◌∙◌}
+use Rattle.std.proofs.Common.{◌∙◌}
 use Rattle.vm_types.specs.declared.answer.Answer.TheVariants.{Done}
 use Rattle.vm_disk.proofs.MomentLemmas.{weaken}
 use Rattle.vm_store.proofs.RestingLemmas.{lent_rests, published, published_left, is_published_as}

@@ -1,7 +1,7 @@
-use Rattle.std.proofs.Common.{◌≡◌, List, find, None, Some, Err, subst, inl, inr, ap, ◌∙◌, sym}
+use Rattle.std.proofs.Common.{◌≡◌, find, None, Some, Err, subst, inl, inr, ap, ◌∙◌, sym}
 use Rattle.vm_block.specs.Slot.{is_alternative_of}
 use Rattle.vm_store.specs.LeafMap.{refusal_of}
-use Rattle.vm_store.proofs.RestingLemmas.{read_rests, found_at, found_entry, value_found, value_absent, got, only_device}
+use Rattle.vm_store.proofs.RestingLemmas.{read_rests, found_at, found_entry, value_found, value_absent}
 use Rattle.vm_store.proofs.store.Store.get.Goals as goal
 
 pub returns-in_default-clause-value : goal.returns-in_default-clause-value

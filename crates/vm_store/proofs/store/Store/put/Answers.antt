@@ -1,4 +1,4 @@
-use Rattle.std.proofs.Common.{◌≡◌, ◌<◌, ◌^◌, true, List, find, Some, None, inl, inr, subst, sym, ap, ◌∙◌, arith}
+use Rattle.std.proofs.Common.{◌≡◌, true, find, Some, None, inl, subst, sym, ap, ◌∙◌, arith}
 use Rattle.vm_types.specs.Tree.{current_of}
 use Rattle.vm_types.specs.Kept.{LeftBy}
 use Rattle.vm_types.specs.declared.command.Command.TheVariants.{Put}
@@ -45,8 +45,8 @@ returns-in-Ok-clause-answer g c honest s rests =
     let put = c.in-Ok.ensures.put honest' found.filed.current found.stands.current.blocks found.stands.current.tree in
     answers_done _ _ _ _ _ _ s rests c.args.alt.now c.args.key c.args.value.now _ is_old _ _ (room_for _ _ (c.has_spare.ensures.spare s rests) c.if-not-has_spare.false)
     (λ deep. put.1 (deep_here _ _ _ _ _ _ s rests' c.args.alt.now c.args.key c.args.value.now e is (g.D.Disk.state mid.disk).now.contents
-        (subst (λ d. LacksRoom (g.D.Disk.state d).now.contents (root_of mid c.args.alt.now) (current_of s.working c.args.alt.now) c.args.key) (sym disk)
-          (subst (λ f. LacksRoom (g.D.Disk.state c.args.self.now.disk).now.contents (f c.args.alt.now) (current_of s.working c.args.alt.now) c.args.key) (sym c.has_spare.ensures.roots) deep))))
+    (subst (λ d. LacksRoom (g.D.Disk.state d).now.contents (root_of mid c.args.alt.now) (current_of s.working c.args.alt.now) c.args.key) (sym disk)
+    (subst (λ f. LacksRoom (g.D.Disk.state c.args.self.now.disk).now.contents (f c.args.alt.now) (current_of s.working c.args.alt.now) c.args.key) (sym c.has_spare.ensures.roots) deep))))
 
 pub returns-in-Ok-clause-state : goal.returns-in-Ok-clause-state
 returns-in-Ok-clause-state g c honest s rests =
@@ -83,8 +83,8 @@ returns-in-Err-clause-answer g c honest s rests =
     let put = c.in-Err.ensures.put honest' found.filed.current found.stands.current.blocks found.stands.current.tree in
     answers_fault _ _ _ _ _ _ s rests c.args.alt.now c.args.key c.args.value.now _ is_old _ _ _ c.in-Err.fault c.refusal_of.result _ (room_for _ _ (c.has_spare.ensures.spare s rests) c.if-not-has_spare.false)
     (λ here. subst (λ f. LacksRoom (g.D.Disk.state c.args.self.now.disk).now.contents (f c.args.alt.now) (current_of s.working c.args.alt.now) c.args.key) c.has_spare.ensures.roots
-        (subst (λ d. LacksRoom (g.D.Disk.state d).now.contents (root_of mid c.args.alt.now) (current_of s.working c.args.alt.now) c.args.key) disk
-          (here_deep _ _ _ _ _ _ s rests' c.args.alt.now c.args.key c.args.value.now e is (g.D.Disk.state mid.disk).now.contents here)))
+    (subst (λ d. LacksRoom (g.D.Disk.state d).now.contents (root_of mid c.args.alt.now) (current_of s.working c.args.alt.now) c.args.key) disk
+    (here_deep _ _ _ _ _ _ s rests' c.args.alt.now c.args.key c.args.value.now e is (g.D.Disk.state mid.disk).now.contents here)))
     c.refusal_of.ensures put
 
 pub returns-in-Err-clause-state : goal.returns-in-Err-clause-state

@@ -1,6 +1,4 @@
-use Rattle.std.proofs.Common.{◌≡◌, refl, subst, sym, ap, ◌∙◌, arith}
-use Rattle.vm_disk.specs.Disk.{Contents, block}
-use Rattle.vm_block.specs.Header.{IsHeader}
+use Rattle.std.proofs.Common.{refl, ◌∙◌}
 use Rattle.vm_disk.proofs.MomentLemmas.{weaken, and_then, at_end}
 use Rattle.vm_store.specs.Formatting.{IsFormatting}
 use Rattle.vm_store.proofs.FormattingLemmas.{still_there, not_yet, formatting, none_synced, not_true}
@@ -43,4 +41,3 @@ returns-in-Err-put_header-clause-moments g c honest =
     let laid = weaken _ _ _ (IsFormatting old) (λ m leaves. formatting old m none leaves) (c.lay_out.ensures.moments honest1 synced.clean (none_synced _ _ synced none)) in
     let headed = weaken _ _ _ (IsFormatting old) (λ m leaves. formatting old m none leaves) (c.put_header.ensures.moments (c.lay_out.ensures.any.same_honesty ∙ honest1) c.args.blocks (c.in-Ok.ensures.laid honest1)) in
     and_then _ _ _ (IsFormatting old) (and_then _ _ _ (IsFormatting old) looked laid) headed
-

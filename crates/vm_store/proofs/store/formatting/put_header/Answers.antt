@@ -1,5 +1,5 @@
-use Rattle.std.proofs.Common.{◌≡◌, ◌≤◌, length, ◌∙◌, sym, subst}
-use Rattle.vm_disk.proofs.MomentLemmas.{weaken, goes_on, at_end, started}
+use Rattle.std.proofs.Common.{◌≤◌, ◌∙◌, sym, subst}
+use Rattle.vm_disk.proofs.MomentLemmas.{weaken, goes_on, started}
 use Rattle.vm_store.proofs.FormattingLemmas.{KeepsRest, at_header, header_written, header_synced, formatted_now, rest_itself}
 use Rattle.vm_store.proofs.store.formatting.put_header.Goals as goal
 

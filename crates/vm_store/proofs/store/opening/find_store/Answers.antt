@@ -1,4 +1,4 @@
-use Rattle.std.proofs.Common.{◌≡◌, IfErr, subst, sym, ap, ◌∙◌}
+use Rattle.std.proofs.Common.{IfErr, subst, sym, ap, ◌∙◌}
 use Rattle.vm_disk.specs.Disk.{Contents, block, Medium}
 use Rattle.vm_disk.proofs.MomentLemmas.{then_reads, same_medium}
 use Rattle.vm_block.specs.Selector.{names_b}
@@ -38,7 +38,7 @@ returns-in-Ok-load_slot-clause-refused g c honest =
     let same = same_medium _ _ (c.load_slot.ensures.reads honest1) in
     subst (λ (x : Contents). IfErr c.read_maps.result (IsRefused x)) synced.same
     (c.read_maps.ensures.refused honest2 (subst IsStore (sym synced.same) found.0) (found.1 ∙ ap (λ x. names_b (block x 1)) (sym synced.same))
-      (subst (λ (m : Medium). SlotAt m.contents c.in-Ok.slot_b c.in-Ok-load_slot.slot.blocks c.in-Ok-load_slot.slot.entries.items) (sym same) (c.in-Ok-load_slot.ensures.found honest1)))
+    (subst (λ (m : Medium). SlotAt m.contents c.in-Ok.slot_b c.in-Ok-load_slot.slot.blocks c.in-Ok-load_slot.slot.entries.items) (sym same) (c.in-Ok-load_slot.ensures.found honest1)))
 
 pub returns-in-Err-load_slot-clause-moments : goal.returns-in-Err-load_slot-clause-moments
 returns-in-Err-load_slot-clause-moments g c honest =

@@ -1,0 +1,69 @@
+-- What a word spells, from its front.
+use Rattle.std.proofs.Common.{◌≡◌, ◌<◌, ◌≤◌, ◌-◌, ◌==◌, ℕ, false, List, [], ◌∷◌, Option, Some, None, length, take, drop, get_or, set, ◌++◌, ◌+◌, ◌∙◌, suc, option_map, option_and_then, refl, ap, sym, arith, add-one, append_assoc, length-append, length-take-le}
+use Rattle.std.proofs.lemmas.Bool.Decides.{nat_tests}
+use Rattle.std.proofs.Math.Seq.{take-suc-set}
+use Rattle.std.specs.Prelude.{codes, nat_le}
+use Rattle.std.specs.Str.{bytes_eq}
+use Rattle.std.proofs.lemmas.List.{take_rest}
+use Rattle.vm_cli.specs.Escapes.{byte_of, hex_digit, short_enough, unescaped, value_of, with_front}
+
+-- a byte that stands for itself
+pub unescaped-literal : (word : List ℕ) → 0 < length word → (get_or word 0 0 ≡ 37 → ⊥)
+    → unescaped word ≡ option_map (λ bytes. get_or word 0 0 ∷ bytes) (unescaped (take (length word - 1) (drop 1 word)))
+unescaped-literal [] lt ne = absurd (omega arith)
+unescaped-literal (b ∷ []) lt ne = let e : (b == 37) ≡ false = grind (arith, ne) in rw e refl
+unescaped-literal (b ∷ c ∷ []) lt ne = let e : (b == 37) ≡ false = grind (arith, ne) in rw e refl
+unescaped-literal (b ∷ c ∷ d ∷ rest) lt ne =
+    let e : (b == 37) ≡ false = grind (arith, ne) in
+    rw (take_rest (b ∷ c ∷ d ∷ rest) 1, e) refl
+
+-- `%` without two more bytes
+pub unescaped-short : (word : List ℕ) → 0 < length word → get_or word 0 0 ≡ 37 → length word < 3 → unescaped word ≡ None
+unescaped-short [] lt e short = absurd (omega arith)
+unescaped-short (b ∷ []) lt e short = rw e refl
+unescaped-short (b ∷ c ∷ []) lt e short = rw e refl
+unescaped-short (b ∷ c ∷ d ∷ rest) lt e short = absurd (omega arith)
+
+-- `%` and two more bytes
+pub unescaped-escape : (word : List ℕ) → get_or word 0 0 ≡ 37 → 3 ≤ length word
+    → unescaped word ≡ with_front (byte_of (hex_digit (get_or word 1 0)) (hex_digit (get_or word 2 0))) (unescaped (take (length word - 3) (drop 3 word)))
+unescaped-escape [] e long = absurd (omega arith)
+unescaped-escape (b ∷ []) e long = absurd (omega arith)
+unescaped-escape (b ∷ c ∷ []) e long = absurd (omega arith)
+unescaped-escape (b ∷ c ∷ d ∷ rest) e long = rw (take_rest (b ∷ c ∷ d ∷ rest) 3, e) refl
+
+-- nothing read so far
+pub spelled-start : (held word : List ℕ) → unescaped word ≡ option_map (λ more. take 0 held ++ more) (unescaped word)
+spelled-start held word = go (unescaped word)
+  where
+    go : (o : Option (List ℕ)) → o ≡ option_map (λ (more : List ℕ). take 0 held ++ more) o
+    go None = refl
+    go (Some m) = refl
+
+-- one byte more
+pub spelled-next : (word rest after held : List ℕ) (n b : ℕ) → n < length held
+    → unescaped word ≡ option_map (λ more. take n held ++ more) (unescaped rest)
+    → unescaped rest ≡ option_map (λ bytes. b ∷ bytes) (unescaped after)
+    → unescaped word ≡ option_map (λ more. take (n + 1) (set held n b) ++ more) (unescaped after)
+spelled-next word rest after held n b lt so_far front = so_far ∙ rw front (go (unescaped after))
+  where
+    go : (o : Option (List ℕ)) → option_map (λ more. take n held ++ more) (option_map (λ bytes. b ∷ bytes) o) ≡ option_map (λ more. take (n + 1) (set held n b) ++ more) o
+    go None = refl
+    go (Some m) = ap (λ (bytes : List ℕ). Some bytes) (rw (add-one n, take-suc-set held n b lt) (sym (append_assoc (take n held) (b ∷ []) m)))
+
+-- more bytes than a value has
+pub spelled-long : (word rest after held : List ℕ) (b : ℕ) → 240 ≤ length held
+    → unescaped word ≡ option_map (λ more. take 240 held ++ more) (unescaped rest)
+    → unescaped rest ≡ option_map (λ bytes. b ∷ bytes) (unescaped after)
+    → option_and_then short_enough (unescaped word) ≡ None
+spelled-long word rest after held b le so_far front = rw (so_far, front) (go (unescaped after))
+  where
+    go : (o : Option (List ℕ)) → option_and_then short_enough (option_map (λ more. take 240 held ++ more) (option_map (λ bytes. b ∷ bytes) o)) ≡ None
+    go None = refl
+    go (Some m) =
+        let long : length (take 240 held ++ b ∷ m) ≡ 240 + suc (length m) = simp (length-append, length-take-le) refl in
+        let no : nat_le (length (take 240 held ++ b ∷ m)) 240 ≡ false = rw long (grind (arith, nat_tests)) in
+        rw no refl
+
+pub value_of-none : (word : List ℕ) → bytes_eq word (codes "-") ≡ false → option_and_then short_enough (unescaped word) ≡ None → value_of word ≡ None
+value_of-none word full none = rw full none

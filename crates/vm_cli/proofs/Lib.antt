@@ -1,0 +1,9 @@
+pub mod Numbers
+pub mod Matches
+pub mod Parts
+pub mod Spaces
+pub mod Escapes
+pub mod Names
+pub mod Known
+pub mod Written
+pub mod Carried

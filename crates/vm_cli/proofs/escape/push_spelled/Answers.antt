@@ -1,0 +1,19 @@
+use Rattle.std.proofs.Common.{◌<◌, get_or, arith, rules, below_more}
+use Rattle.vm_cli.proofs.Written.{length-written, value-again, written-more}
+use Rattle.vm_cli.proofs.escape.push_spelled.Goals as goal
+
+pub loop-byte-preserved : goal.loop-byte-preserved
+loop-byte-preserved c =
+    let bytes = c.args.bytes.now in
+    let more = length-written c.loop-byte.text c.push_escaped.new.text (get_or bytes c.loop-byte.byte-index 0) c.push_escaped.ensures in
+    let here : get_or bytes c.loop-byte.byte-index 0 < 256 = search rules in
+    let so_far = c.loop-byte.invariant.short in
+    record {
+      written = written-more c.args.text.now c.loop-byte.text c.push_escaped.new.text bytes c.loop-byte.byte-index c.loop-byte.invariant.written c.push_escaped.ensures c.loop-byte-test.true;
+      short = omega arith;
+      small = below_more _ _ c.loop-byte.invariant.small here;
+    }
+
+pub returns-clause-read_again : goal.returns-clause-read_again
+returns-clause-read_again c =
+    value-again c.args.bytes.now (λ i lt. c.loop-byte.invariant.small i (omega arith)) c.requires.short

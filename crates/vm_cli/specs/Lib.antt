@@ -1,0 +1,10 @@
+pub mod Escapes
+pub mod Fed
+pub mod Lines
+pub mod Numbers
+pub mod Requests
+pub mod Spaces
+pub mod Words
+pub mod Replies
+pub mod File
+pub mod Exits

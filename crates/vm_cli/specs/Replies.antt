@@ -1,0 +1,24 @@
+-- The texts of answers.
+use Rattle.std.specs.Fmt.{decimal}
+use Rattle.std.specs.Prelude.{◌++◌, ℕ, Bool, true, false, List, [], ◌∷◌, Some, None, codes}
+use Rattle.vm_types.specs.Texts.{refusal_text}
+use Rattle.vm_cli.specs.Escapes.{value_text}
+use Rattle.vm_cli.specs.declared.reply.Reply.{Reply}
+use Rattle.vm_cli.specs.declared.reply.Reply.TheVariants.{Nothing, Done, Merged, Found, Refused, Last, BadLine, LongLine}
+
+-- the line of an answer, with the line feed (10) at its end
+abbrev pub reply_text : Reply → List ℕ
+reply_text Nothing = []
+reply_text Done = codes "ok" ++ 10 ∷ []
+reply_text (Merged changes) = codes "ok " ++ (decimal changes ++ 10 ∷ [])
+reply_text (Found None) = codes "none" ++ 10 ∷ []
+reply_text (Found (Some value)) = codes "value " ++ (value_text value ++ 10 ∷ [])
+reply_text (Refused refusal) = codes "error " ++ (refusal_text refusal ++ 10 ∷ [])
+reply_text (Last refusal) = codes "error " ++ (refusal_text refusal ++ 10 ∷ [])
+reply_text BadLine = codes "error 22 BadLine" ++ 10 ∷ []
+reply_text LongLine = codes "error 23 LongLine" ++ 10 ∷ []
+
+-- the talk ends with this answer
+abbrev pub ends_talk : Reply → Bool
+ends_talk (Last refusal) = true
+ends_talk _ = false

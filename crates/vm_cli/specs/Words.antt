@@ -1,0 +1,63 @@
+-- The command line of the program as clap reads it, and the job that clap's matches ask for.
+use Rattle.std.specs.Prelude.{ℕ, true, pos, List, Option, Some, None, codes, if◌then◌else◌, option_map, option_and_then}
+use Rattle.std.specs.Str.{bytes_eq}
+use Rattle.std.specs.Str.Parse.{digits_value, without_leading_plus}
+use Rattle.clap.specs.ValueTests.{is_unsigned_in}
+use Rattle.clap.specs.Words.{App, Row, Rule, Text, first_of, one_of, new_app, new_rule, with_rule, with_subcommand}
+use Rattle.clap.specs.Simple.{on_top}
+use Rattle.clap.specs.declared.builder.value_parser.ValueParser.TheVariants as vp
+use Rattle.vm_cli.specs.declared.task.Job.{Job}
+use Rattle.vm_cli.specs.declared.task.Job.TheVariants.{Create, Run}
+
+-- the name of a file, which has to be there
+abbrev pub file_rule : Rule
+file_rule = record (new_rule (codes "file")) { required = true; value_names = 1 }
+
+-- a number of blocks, which has to be there and in the range of a store
+abbrev pub blocks_rule : Rule
+blocks_rule = record (new_rule (codes "blocks")) {
+  required = true;
+  value_names = 1;
+  parser = Some (vp.Signed (pos 64) (pos 1048576));
+}
+
+-- `create FILE BLOCKS`
+abbrev pub create_app : App
+create_app = with_rule (with_rule (new_app (codes "create")) file_rule) blocks_rule
+
+-- `run FILE`
+abbrev pub run_app : App
+run_app = with_rule (new_app (codes "run")) file_rule
+
+-- the program without its tasks, one of which has to be named
+abbrev pub top_app : App
+top_app = on_top (λ s. record s { subcommand_required = true }) (new_app (codes "altctl"))
+
+-- `altctl create FILE BLOCKS` and `altctl run FILE`
+abbrev pub altctl : App
+altctl = with_subcommand (with_subcommand top_app create_app.top) run_app.top
+
+-- a job, with the file's name itself in place of a reference to it
+pub data Wanted : Type 0 where
+  create : Text → ℕ → Wanted
+  run : Text → Wanted
+
+-- what a job wants
+abbrev pub wanted_of : Job → Wanted
+wanted_of (Create file blocks) = create file.now blocks
+wanted_of (Run file) = run file.now
+
+-- the number that a text says, where it lies in the range
+abbrev pub number_in : ℕ → ℕ → Text → Option ℕ
+number_in low high text = if is_unsigned_in low high text then Some (digits_value 10 (without_leading_plus text)) else None
+
+-- what a subcommand with these matches wants of this file
+abbrev pub asked_by : Text → List Row → Text → Option Wanted
+asked_by name rows file =
+    if bytes_eq name (codes "create") then option_map (create file) (option_and_then (number_in 64 1048576) (one_of (codes "blocks") rows))
+    else (if bytes_eq name (codes "run") then Some (run file) else None)
+
+-- the job that the matches of a subcommand ask for
+abbrev pub asked_of : Option (Text × List Row) → Option Wanted
+asked_of None = None
+asked_of (Some p) = option_and_then (asked_by p.0 p.1) (first_of (codes "file") p.1)

@@ -1,0 +1,31 @@
+//! The program `altctl`: its words, the lines that it answers, and its files.
+//!
+//! It stands on vm_store, on vm_disk for files as disks, and on `clap` for its words. Its one
+//! promise: the job is the one that the words ask for, each line is read and each value written
+//! by their rules, and whatever files, input and output do, the program ends with a status of 0
+//! to 3.
+#![tactic(auto)]
+
+mod escape;
+mod file;
+mod line;
+mod number;
+mod place;
+mod program;
+mod reply;
+mod request;
+mod talk;
+mod task;
+mod text;
+mod words;
+mod writing;
+
+pub use file::FileDisk;
+pub use place::{Place, RealFiles};
+pub use program::run_words;
+pub use talk::{ServeFault, serve};
+pub use task::Job;
+pub use words::job;
+
+#[cfg(test)]
+mod tests;

@@ -1,0 +1,83 @@
+//! One line, as it is read.
+use std::alloc::Global;
+
+/// The most bytes of a line. The line feed at its end does not count, a carriage return does.
+pub const MOST_BYTES: usize = 1_048_576;
+
+/// What became of the bytes of a line.
+#[derive(Clone, Copy, Debug)]
+pub enum Kind {
+    /// All are held.
+    Kept,
+    /// There are more than a line may have.
+    Long,
+    /// Memory for them was refused.
+    NoMemory,
+}
+
+/// The line that is being read.
+#[derive(Drop)]
+pub struct Line {
+    pub bytes: Vec<u8>,
+    pub kind: Kind,
+    pub is_empty: bool,
+}
+
+impl Line {
+    ghost use Rattle.std.specs.Prelude.{◌≡◌, ◌≢◌, ℕ, List, ◌++◌, ◌∷◌, []};
+    ghost use Rattle.vm_cli.specs.Fed.{Holds, without_return};
+
+    /// A line without bytes.
+    pub fn new(alloc: Global) -> Line
+        ensures { Holds result [] }
+    {
+        Line {
+            bytes: Vec::new(alloc),
+            kind: Kind::Kept,
+            is_empty: true,
+        }
+    }
+
+    /// Takes one more byte of the line.
+    pub fn push(&mut self, byte: u8)
+        requires { byte ≢ 10 }
+        ensures { (part : List ℕ) → Holds self.old part → Holds self.new (part ++ byte ∷ []) }
+    {
+        self.is_empty = false;
+        match self.kind {
+            Kind::Kept => {
+                if self.bytes.len() >= MOST_BYTES {
+                    self.kind = Kind::Long;
+                } else if self.bytes.push(byte).is_err() {
+                    self.kind = Kind::NoMemory;
+                }
+            }
+            Kind::Long => {}
+            Kind::NoMemory => {}
+        }
+    }
+
+    /// Begins the next line.
+    pub fn clear(&mut self)
+        ensures { Holds self.new [] }
+    {
+        self.bytes.clear();
+        self.kind = Kind::Kept;
+        self.is_empty = true;
+    }
+
+    /// The bytes that are held, without one carriage return at their end.
+    pub fn text(&self) -> &[u8]
+        ensures { result.now ≡ without_return self.now.bytes.items }
+    {
+        let bytes = self.bytes.as_slice();
+        if bytes.is_empty() {
+            return bytes;
+        }
+        let last = bytes.len() - 1;
+        if bytes[last] != b'\r' {
+            return bytes;
+        }
+        &bytes[..last]
+    }
+}

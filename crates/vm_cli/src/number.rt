@@ -1,0 +1,23 @@
+//! Numbers in lines.
+ghost use Rattle.std.specs.Prelude.{◌≡◌};
+ghost use Rattle.vm_cli.specs.Numbers.{number_of};
+
+/// The number that a word of 1 to 20 decimal digits says, where it is at most `most`.
+pub fn number(word: &[u8], most: u64) -> Option<u64>
+    ensures { result ≡ number_of most word.now }
+{
+    if word.is_empty() || word.len() > 20 {
+        return None;
+    }
+    let mut number: u128 = 0;
+    for digit in word {
+        if *digit < b'0' || *digit > b'9' {
+            return None;
+        }
+        number = number * 10 + u128::from(*digit - b'0');
+    }
+    if number > u128::from(most) {
+        return None;
+    }
+    Some(number as u64)
+}

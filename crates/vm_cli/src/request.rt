@@ -1,0 +1,141 @@
+//! What a line asks for.
+use crate::{escape, number};
+use vm_types::{Command, Key, Name};
+
+/// What a line asks for.
+#[derive(Drop)]
+pub enum Request {
+    /// The line has no words, or is a comment: it has no answer.
+    Nothing,
+    Command(Command),
+    /// The value of a record.
+    Get { alt: Name, key: Key },
+    /// The line is none of those that there are.
+    Bad,
+}
+
+ghost use Rattle.std.specs.Prelude.{◌≡◌, ◌<◌, ◌∷◌, [], ℕ, List, length, MatchOption, None};
+ghost use Rattle.vm_cli.specs.Requests.{asked_by, commit_of, get_of, key_of, name_of, put_of, request_of};
+ghost use Rattle.vm_cli.specs.Spaces.{with_word, words_of};
+
+/// Reads a line, given without the bytes that end it.
+pub fn read_request(line: &[u8]) -> Request
+    ensures { result ≡ request_of (words_of line.now) }
+{
+    let Some((verb, rest)) = first_word(line) else {
+        return Request::Nothing;
+    };
+    if verb.first() == Some(&b'#') {
+        return Request::Nothing;
+    }
+    asked(verb, rest).unwrap_or(Request::Bad)
+}
+
+// What the words after the first ask for.
+fn asked(verb: &[u8], rest: &[u8]) -> Option<Request>
+    ensures { result ≡ asked_by verb.now (words_of rest.now) }
+{
+    if verb == b"put".as_slice() {
+        return put(rest);
+    }
+    if verb == b"get".as_slice() {
+        return get(rest);
+    }
+    if verb == b"commit".as_slice() {
+        return commit(rest);
+    }
+    None
+}
+
+// `put ALT TABLE NUMBER VALUE`
+fn put(rest: &[u8]) -> Option<Request>
+    ensures { result ≡ put_of (words_of rest.now) }
+{
+    let (alt, rest) = first_word(rest)?;
+    let (table, rest) = first_word(rest)?;
+    let (number, rest) = first_word(rest)?;
+    let (value, rest) = first_word(rest)?;
+    ends(rest)?;
+    let alt = name(alt)?;
+    let key = key(table, number)?;
+    let value = escape::value(value)?;
+    Some(Request::Command(Command::Put { alt, key, value }))
+}
+
+// `get ALT TABLE NUMBER`
+fn get(rest: &[u8]) -> Option<Request>
+    ensures { result ≡ get_of (words_of rest.now) }
+{
+    let (alt, rest) = first_word(rest)?;
+    let (table, rest) = first_word(rest)?;
+    let (number, rest) = first_word(rest)?;
+    ends(rest)?;
+    let alt = name(alt)?;
+    let key = key(table, number)?;
+    Some(Request::Get { alt, key })
+}
+
+// `commit`
+fn commit(rest: &[u8]) -> Option<Request>
+    ensures { result ≡ commit_of (words_of rest.now) }
+{
+    ends(rest)?;
+    Some(Request::Command(Command::Commit))
+}
+
+// The key that two words say.
+fn key(table: &[u8], number: &[u8]) -> Option<Key>
+    ensures { result ≡ key_of table.now number.now }
+{
+    let table = number::number(table, 65_535)?;
+    let number = number::number(number, u64::MAX)?;
+    Some(Key {
+        table: table as u16,
+        number,
+    })
+}
+
+// The name that a word is.
+fn name(word: &[u8]) -> Option<Name>
+    ensures { result ≡ name_of word.now }
+{
+    Name::new(word)
+}
+
+// No word is left.
+fn ends(rest: &[u8]) -> Option<()>
+    ensures { MatchOption result ((word : List ℕ) × (words : List (List ℕ)) × (words_of rest.now ≡ word ∷ words)) (λ _. words_of rest.now ≡ []) }
+{
+    match first_word(rest) {
+        None => Some(()),
+        Some(_) => None,
+    }
+}
+
+// The first word of a line, and what stands after it.
+fn first_word(line: &[u8]) -> Option<(&[u8], &[u8])>
+    ensures { MatchOption result (words_of line.now ≡ []) (λ p. words_of line.now ≡ p.0.now ∷ words_of p.1.now) }
+{
+    let mut rest = line;
+    while !rest.is_empty() {
+        let (piece, after) = first_piece(rest);
+        if !piece.is_empty() {
+            return Some((piece, after));
+        }
+        rest = after;
+    }
+    None
+}
+
+// What stands before the first space, and what stands behind it.
+fn first_piece(line: &[u8]) -> (&[u8], &[u8])
+    ensures parts { words_of line.now ≡ with_word result.0.now (words_of result.1.now) }
+    ensures shorter { 0 < length line.now → length result.1.now < length line.now }
+{
+    for (i, byte) in line.iter().enumerate() {
+        if *byte == b' ' {
+            return (&line[..i], &line[i + 1..]);
+        }
+    }
+    (line, &[])
+}

@@ -1,0 +1,10 @@
+//! What the program is asked to do.
+
+/// One task of the program. The name of its file is that of the words it was read from.
+#[derive(Clone, Copy, Debug, PartialEq, Eq)]
+pub enum Job<'a> {
+    /// Makes a file of this many zero blocks, and a store in it.
+    Create { file: &'a str, blocks: u32 },
+    /// Opens the store in a file, and answers lines.
+    Run { file: &'a str },
+}

@@ -1,0 +1,347 @@
+//! The program over disks in memory, and over an input and an output that fail.
+use super::*;
+use std::alloc::Global;
+use std::io::{ErrorKind, Read, Write};
+use std::process::Abort;
+use std::test::Fail;
+use std::{io, mem};
+use vm_disk::MemDisk;
+use vm_store::{Store, format, open};
+
+/// Disks in memory, each under its name.
+#[derive(Drop)]
+struct Shelf {
+    alloc: Global,
+    disks: Vec<(String, MemDisk)>,
+}
+
+impl Shelf {
+    fn new(alloc: Global) -> Shelf {
+        Shelf {
+            alloc,
+            disks: Vec::new(alloc),
+        }
+    }
+
+    fn has(&self, file: &str) -> bool {
+        self.disks.iter().any(|(name, _)| name.as_str() == file)
+    }
+}
+
+impl Place for Shelf {
+    type D = MemDisk;
+
+    fn create(&mut self, file: &str, blocks: u32) -> Option<MemDisk> {
+        if self.has(file) {
+            return None;
+        }
+        MemDisk::new(self.alloc, blocks).ok()
+    }
+
+    fn find(&mut self, file: &str) -> Option<MemDisk> {
+        let disks = mem::replace(&mut self.disks, Vec::new(self.alloc));
+        let mut found = None;
+        for (name, disk) in disks {
+            if name.as_str() == file {
+                found = Some(disk);
+            } else {
+                let _ = self.disks.push((name, disk));
+            }
+        }
+        found
+    }
+
+    fn give_back(&mut self, file: &str, disk: MemDisk) {
+        if let Ok(name) = String::from_str(self.alloc, file) {
+            let _ = self.disks.push((name, disk));
+        }
+    }
+}
+
+/// What a run of the program gave: its status, its output and its faults.
+#[derive(Drop)]
+struct Outcome {
+    status: u8,
+    output: Vec<u8>,
+    faults: Vec<u8>,
+}
+
+impl Outcome {
+    fn expect<R: Abort>(&self, rt: &R, status: u8, output: &[u8], faults: &[u8]) {
+        assert_eq!(rt; self.status, status);
+        assert_eq!(rt; self.output.as_slice(), output);
+        assert_eq!(rt; self.faults.as_slice(), faults);
+    }
+}
+
+/// Runs the program.
+fn ran(alloc: Global, shelf: &mut Shelf, words: &[&str], input: &[u8]) -> Result<Outcome, Fail> {
+    let mut owned = Vec::new(alloc);
+    for word in words {
+        owned.push(String::from_str(alloc, word)?)?;
+    }
+    let mut input = input;
+    let mut output = Vec::new(alloc);
+    let mut faults = Vec::new(alloc);
+    let words = owned.as_slice();
+    let status = run_words(alloc, words, shelf, &mut input, &mut output, &mut faults);
+    Ok(Outcome {
+        status,
+        output,
+        faults,
+    })
+}
+
+const CREATE: [&str; 4] = ["altctl", "create", "f", "64"];
+
+const RUN: [&str; 3] = ["altctl", "run", "f"];
+
+/// Runs the lines on a new store.
+fn answered(alloc: Global, lines: &[u8]) -> Result<Outcome, Fail> {
+    let mut shelf = Shelf::new(alloc);
+    let _made = ran(alloc, &mut shelf, CREATE.as_slice(), b"")?;
+    ran(alloc, &mut shelf, RUN.as_slice(), lines)
+}
+
+#[test]
+fn makes_a_file_once(rt: HostRuntime) -> Result<(), Fail> {
+    let mut shelf = Shelf::new(rt.alloc());
+    let made = ran(rt.alloc(), &mut shelf, CREATE.as_slice(), b"")?;
+    made.expect(&rt, 0, b"created 64\n", b"");
+    let again = ran(rt.alloc(), &mut shelf, CREATE.as_slice(), b"")?;
+    again.expect(&rt, 1, b"", b"altctl: cannot create f\n");
+    Ok(())
+}
+
+#[test]
+fn makes_no_file_out_of_range(rt: HostRuntime) -> Result<(), Fail> {
+    let mut shelf = Shelf::new(rt.alloc());
+    for blocks in ["63", "1048577", "x", "-64"] {
+        let words = ["altctl", "create", "g", blocks];
+        let refused = ran(rt.alloc(), &mut shelf, words.as_slice(), b"")?;
+        assert_eq!(rt; refused.status, 2);
+        assert!(rt; refused.output.is_empty() && !refused.faults.is_empty());
+        assert!(rt; !shelf.has("g"));
+    }
+    Ok(())
+}
+
+#[test]
+fn gives_help(rt: HostRuntime) -> Result<(), Fail> {
+    let mut shelf = Shelf::new(rt.alloc());
+    let help = ran(rt.alloc(), &mut shelf, ["altctl", "--help"].as_slice(), b"")?;
+    assert_eq!(rt; help.status, 0);
+    assert!(rt; help.faults.is_empty() && !help.output.is_empty());
+    Ok(())
+}
+
+#[test]
+fn opens_only_stores(rt: HostRuntime) -> Result<(), Fail> {
+    let mut shelf = Shelf::new(rt.alloc());
+    let absent = ran(rt.alloc(), &mut shelf, RUN.as_slice(), b"")?;
+    absent.expect(&rt, 1, b"", b"altctl: cannot open f\n");
+    shelf.give_back("f", MemDisk::new(rt.alloc(), 64)?);
+    let zeros = ran(rt.alloc(), &mut shelf, RUN.as_slice(), b"")?;
+    zeros.expect(&rt, 1, b"", b"altctl: 19 NotAStore\n");
+    assert!(rt; shelf.has("f"));
+    Ok(())
+}
+
+/// Lines, and below them what each is answered.
+const LINES: &[u8] = b"\
+put top 1 1 -\n\
+get top 1 1\n\
+put top 1 2 %2d\n\
+get top 1 2\n\
+put top 1 3 %zz\n\
+put top 01 007 a\n\
+get top 1 7\n\
+# note\n\
+\n  \n  #\n\
+PUT top 1 1 a\n\
+get top 7 x\n\
+get nope 1 1\n\
+get top 9 9\n\
+  put   top 65535 18446744073709551615  a%25~b \r\n\
+get top 65535 18446744073709551615\r\n\
+get top 65536 1\n\
+get top 1 18446744073709551616\n\
+commit now\n\
+commit\n\
+commit";
+
+const ANSWERS: &[u8] = b"\
+ok\n\
+value -\n\
+ok\n\
+value %2D\n\
+error 22 BadLine\n\
+ok\n\
+value a\n\
+error 22 BadLine\n\
+error 22 BadLine\n\
+error 1 NoSuchAlternative\n\
+none\n\
+ok\n\
+value a%25%7Eb\n\
+error 22 BadLine\n\
+error 22 BadLine\n\
+error 22 BadLine\n\
+ok\n\
+ok\n";
+
+#[test]
+fn answers_lines(rt: HostRuntime) -> Result<(), Fail> {
+    answered(rt.alloc(), LINES)?.expect(&rt, 0, ANSWERS, b"");
+    Ok(())
+}
+
+/// A comment of this many bytes, and a query behind it.
+fn comment(alloc: Global, len: usize) -> Result<Vec<u8>, Fail> {
+    let mut line = Vec::new(alloc);
+    for _ in 0..len {
+        line.push(b'#')?;
+    }
+    line.extend_from_slice(b"\nget top 9 9\n")?;
+    Ok(line)
+}
+
+#[test]
+fn skips_long_lines(rt: HostRuntime) -> Result<(), Fail> {
+    let longest = comment(rt.alloc(), 1_048_576)?;
+    answered(rt.alloc(), longest.as_slice())?.expect(&rt, 0, b"none\n", b"");
+    let longer = comment(rt.alloc(), 1_048_577)?;
+    let answers = b"error 23 LongLine\nnone\n";
+    answered(rt.alloc(), longer.as_slice())?.expect(&rt, 0, answers, b"");
+    Ok(())
+}
+
+#[test]
+fn keeps_what_was_committed(rt: HostRuntime) -> Result<(), Fail> {
+    let mut shelf = Shelf::new(rt.alloc());
+    let _made = ran(rt.alloc(), &mut shelf, CREATE.as_slice(), b"")?;
+    let lines = b"put top 7 1 duct\ncommit\nput top 7 1 pipe\nput top 7 2 x\nget top 7 1\n";
+    let first = ran(rt.alloc(), &mut shelf, RUN.as_slice(), lines)?;
+    first.expect(&rt, 0, b"ok\nok\nok\nok\nvalue pipe\n", b"");
+    let second = ran(
+        rt.alloc(),
+        &mut shelf,
+        RUN.as_slice(),
+        b"get top 7 1\nget top 7 2\n",
+    )?;
+    second.expect(&rt, 0, b"value duct\nnone\n", b"");
+    Ok(())
+}
+
+/// A reader that gives its bytes and then fails.
+#[derive(Drop)]
+struct BrokenReader<'a> {
+    bytes: &'a [u8],
+}
+
+impl Read for BrokenReader<'_> {
+    fn read(&mut self, buf: &mut [u8]) -> io::Result<usize> {
+        if self.bytes.is_empty() {
+            return Err(io::Error::from(ErrorKind::Other));
+        }
+        self.bytes.read(buf)
+    }
+}
+
+/// A writer that takes one byte at a time, and from some count on none.
+#[derive(Drop)]
+struct NarrowWriter {
+    taken: Vec<u8>,
+    room: usize,
+}
+
+impl Write for NarrowWriter {
+    fn write(&mut self, buf: &[u8]) -> io::Result<usize> {
+        if self.taken.len() >= self.room || buf.is_empty() {
+            return Ok(0);
+        }
+        self.taken.push(buf[0])?;
+        Ok(1)
+    }
+
+    fn flush(&mut self) -> io::Result<()> {
+        Ok(())
+    }
+}
+
+/// A store of 64 blocks in memory.
+fn new_store<R: AllocGlobal + Abort>(rt: &R) -> Result<Store<MemDisk>, Fail> {
+    let disk = match format(MemDisk::new(rt.alloc(), 64)?, 64) {
+        Ok(disk) => disk,
+        Err((disk, _)) => disk,
+    };
+    match open(rt.alloc(), disk) {
+        Ok(store) => Ok(store),
+        Err((_, refusal)) => panic!(rt; "{refusal}"),
+    }
+}
+
+#[test]
+fn stops_where_the_input_fails(rt: HostRuntime) -> Result<(), Fail> {
+    let mut store = new_store(&rt)?;
+    let mut input = BrokenReader {
+        bytes: b"put top 1 1 a\nput top 1 1 b",
+    };
+    let mut output = Vec::new(rt.alloc());
+    let served = serve(rt.alloc(), &mut input, &mut output, &mut store);
+    assert!(rt; matches!(&served, Err(ServeFault::Read)));
+    let mut rest = b"get top 1 1".as_slice();
+    let served = serve(rt.alloc(), &mut rest, &mut output, &mut store);
+    assert!(rt; served.is_ok());
+    assert_eq!(rt; output.as_slice(), b"ok\nvalue a\n".as_slice());
+    let _disk = store.close();
+    Ok(())
+}
+
+#[test]
+fn stops_where_the_output_fails(rt: HostRuntime) -> Result<(), Fail> {
+    let mut store = new_store(&rt)?;
+    let mut input = b"put top 1 1 a\nput top 1 2 b\nput top 1 3 c\n".as_slice();
+    let mut output = NarrowWriter {
+        taken: Vec::new(rt.alloc()),
+        room: 4,
+    };
+    let served = serve(rt.alloc(), &mut input, &mut output, &mut store);
+    assert!(rt; matches!(&served, Err(ServeFault::Write)));
+    assert_eq!(rt; output.taken.as_slice(), b"ok\no".as_slice());
+    let mut rest = b"get top 1 2\nget top 1 3\n".as_slice();
+    let mut answers = Vec::new(rt.alloc());
+    let served = serve(rt.alloc(), &mut rest, &mut answers, &mut store);
+    assert!(rt; served.is_ok());
+    assert_eq!(rt; answers.as_slice(), b"value b\nnone\n".as_slice());
+    let _disk = store.close();
+    Ok(())
+}
+
+#[test]
+fn stops_where_a_text_cannot_be_written(rt: HostRuntime) -> Result<(), Fail> {
+    let mut shelf = Shelf::new(rt.alloc());
+    let mut words = Vec::new(rt.alloc());
+    for word in CREATE {
+        words.push(String::from_str(rt.alloc(), word)?)?;
+    }
+    let mut input = b"".as_slice();
+    let mut output = NarrowWriter {
+        taken: Vec::new(rt.alloc()),
+        room: 3,
+    };
+    let mut faults = Vec::new(rt.alloc());
+    let words = words.as_slice();
+    let status = run_words(
+        rt.alloc(),
+        words,
+        &mut shelf,
+        &mut input,
+        &mut output,
+        &mut faults,
+    );
+    assert_eq!(rt; status, 3);
+    assert_eq!(rt; faults.as_slice(), b"altctl: stopped\n".as_slice());
+    assert!(rt; shelf.has("f"));
+    Ok(())
+}

@@ -1,0 +1,111 @@
+//! The words that the program is started with, read by `clap`.
+ghost use Rattle.clap.specs.Words.{IsAmong, app_of, fault_of, kind_of, one_of, rule_of, rows_of, found_of, first_of, subcommand_of, subcommand_rows_of};
+ghost use Rattle.clap.specs.declared.builder.command.Command.TheViews.{out-Command};
+ghost use Rattle.std.specs.Prelude.{◌≡◌, ◌⊎◌, IfErr, IfOk, None, Some, false, map, ℕ, List, option_map, option_and_then, codes};
+ghost use Rattle.std.specs.String.{string_bytes};
+ghost use Rattle.vm_cli.specs.Words.{altctl, asked_by, asked_of, blocks_rule, create_app, file_rule, number_in, run_app, wanted_of};
+
+use crate::task::Job;
+use clap::error::ErrorKind;
+use clap::{Arg, ArgMatches, Command, Error, value_parser};
+use std::alloc::{AllocError, Global};
+
+/// The fewest blocks of a store.
+pub const LEAST_BLOCKS: u32 = 64;
+
+/// The most blocks of a store.
+pub const MOST_BLOCKS: u32 = 1_048_576;
+
+/// Reads the program's words, of which the first is its name. An `Err` has the text to show, help
+/// included.
+pub fn job<'a>(alloc: Global, words: &'a [String]) -> Result<Job<'a>, Error>
+    ensures ok { IfOk result (λ j.
+        asked_of (subcommand_of altctl (map string_bytes words.entry.now)) ≡ Some (wanted_of j)) }
+    ensures err { IfErr result (λ e. (kind_of e ≡ ErrorKind.OutOfMemory)
+        ⊎ (IsAmong (kind_of e) (fault_of altctl (map string_bytes words.entry.now))
+        ⊎ (asked_of (subcommand_of altctl (map string_bytes words.entry.now)) ≡ None))) }
+{
+    let matches = command(alloc)?.try_get_matches_from(words)?;
+    match asked(&matches) {
+        Some(job) => Ok(job),
+        None => Err(command(alloc)?.error(ErrorKind::MissingSubcommand, "")?),
+    }
+}
+
+// The job that the matches ask for.
+fn asked<'a>(matches: &ArgMatches<'a>) -> Option<Job<'a>>
+    ensures { option_map wanted_of result ≡ asked_of (subcommand_rows_of matches.now) }
+{
+    let (name, matches) = matches.subcommand()?;
+    let file = matches.get_str("file")?;
+    match name {
+        "create" => {
+            let blocks = blocks_of(matches)?;
+            Some(Job::Create { file, blocks })
+        }
+        "run" => Some(Job::Run { file }),
+        _ => None,
+    }
+}
+
+// The number of blocks, where it lies in the range.
+fn blocks_of(matches: &ArgMatches<'_>) -> Option<u32>
+    ensures { result ≡ option_and_then (number_in 64 1048576) (one_of (codes "blocks") (rows_of (found_of matches.now))) }
+{
+    let blocks = matches.get_one::<u32>("blocks")?;
+    if blocks < LEAST_BLOCKS {
+        return None;
+    }
+    if blocks > MOST_BLOCKS {
+        return None;
+    }
+    Some(blocks)
+}
+
+// The program's command line.
+fn command<'a>(alloc: Global) -> Result<Command<'a>, AllocError>
+    ensures { IfOk result (λ c. app_of c ≡ altctl) }
+{
+    Command::new(alloc, "altctl")
+        .bin_name("altctl")?
+        .about("A version managed map store with alternatives")
+        .subcommand_required(true)
+        .subcommand(create(alloc)?)?
+        .subcommand(run(alloc)?)
+}
+
+fn create<'a>(alloc: Global) -> Result<Command<'a>, AllocError>
+    ensures app { IfOk result (λ c. app_of c ≡ create_app) }
+    ensures local { IfOk result (λ c. (out-Command c).has_globals ≡ false) }
+{
+    Command::new(alloc, "create")
+        .about("Makes a file with an empty store")
+        .arg(file(alloc))?
+        .arg(blocks(alloc))
+}
+
+fn run<'a>(alloc: Global) -> Result<Command<'a>, AllocError>
+    ensures app { IfOk result (λ c. app_of c ≡ run_app) }
+    ensures local { IfOk result (λ c. (out-Command c).has_globals ≡ false) }
+{
+    Command::new(alloc, "run")
+        .about("Opens a store and answers the lines of the standard input")
+        .arg(file(alloc))
+}
+
+fn file<'a>(alloc: Global) -> Arg<'a>
+    ensures rule { rule_of result ≡ file_rule }
+    ensures local { result.global ≡ false }
+{
+    Arg::new(alloc, "file").value_name("FILE").required(true)
+}
+
+fn blocks<'a>(alloc: Global) -> Arg<'a>
+    ensures rule { rule_of result ≡ blocks_rule }
+    ensures local { result.global ≡ false }
+{
+    Arg::new(alloc, "blocks")
+        .value_name("BLOCKS")
+        .required(true)
+        .value_parser(value_parser!(u32).range(64..=1_048_576))
+}

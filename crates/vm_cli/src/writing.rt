@@ -1,0 +1,36 @@
+//! Bytes on their way to a writer.
+ghost use Rattle.std.specs.Io.KnownBytes.{Appends};
+ghost use Rattle.std.specs.Prelude.{◌≡◌, ℕ, OnErr, OnOk, take};
+
+use std::io::Write;
+
+/// The writer failed, took no byte of what was left, or could not be flushed.
+#[derive(Clone, Copy, Debug, PartialEq, Eq)]
+pub struct WriteFault;
+
+/// Writes all the bytes. Unlike `write_all` it takes an interrupted call for a failure, and its
+/// contract says what was written before one.
+pub fn put_all<W: Write>(writer: &mut W, bytes: &[u8]) -> Result<(), WriteFault>
+    ensures ok { OnOk result (Appends (W.contents writer.old) (W.contents writer.new) bytes.now) }
+    ensures err { OnErr result ((k : ℕ) × Appends (W.contents writer.old) (W.contents writer.new) (take k bytes.now)) }
+{
+    let mut rest = bytes;
+    while !rest.is_empty() {
+        let Ok(count) = writer.write(rest) else {
+            return Err(WriteFault);
+        };
+        if count == 0 {
+            return Err(WriteFault);
+        }
+        rest = &rest[count..];
+    }
+    Ok(())
+}
+
+/// Hands on what the writer still holds.
+pub fn flush<W: Write>(writer: &mut W) -> Result<(), WriteFault> {
+    match writer.flush() {
+        Ok(()) => Ok(()),
+        Err(_) => Err(WriteFault),
+    }
+}
