@@ -1,11 +1,10 @@
 //! The program `altctl`: a version managed map store with alternatives, in a file.
 #![tactic(auto)]
 
-use std::env;
-use std::rt::Env;
-use std::io;
 use std::io::{ErrorKind, Write};
 use std::process::ExitCode;
+use std::rt::Env;
+use std::{env, io};
 use vm_cli::{RealFiles, run_words};
 
 fn main(rt: HostRuntime) -> ExitCode {

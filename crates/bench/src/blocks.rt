@@ -30,5 +30,8 @@ pub fn measure<R: Print + Clock>(rt: &R) -> io::Result<()> {
         }
     }
     let spent = start.elapsed(rt)?;
-    println!(rt; "read_leaf: {} ns for {TIMES}, {read} read", spent.as_nanos())
+    println!(rt;
+        "read_leaf: {} ns for {TIMES}, {read} read",
+        spent.as_nanos()
+    )
 }

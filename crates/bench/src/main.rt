@@ -6,9 +6,8 @@
 mod blocks;
 mod taking;
 
-use std::env;
-use std::io;
 use std::rt::Env;
+use std::{env, io};
 
 const USES: &str = "bench take     takes of free blocks, in a row and scattered
 bench blocks   a leaf written and read";

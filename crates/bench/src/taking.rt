@@ -27,7 +27,10 @@ pub fn measure<R: Print + Clock>(rt: &R, alloc: Global) -> io::Result<()> {
     let start = Instant::now(rt)?;
     let sum = take_all(&mut held);
     let scattered = start.elapsed(rt)?;
-    println!(rt; "the last {free} scattered: {} ns (sum {sum})", scattered.as_nanos())
+    println!(rt;
+        "the last {free} scattered: {} ns (sum {sum})",
+        scattered.as_nanos()
+    )
 }
 
 // Takes each free block, and adds their numbers up.

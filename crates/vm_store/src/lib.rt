@@ -9,6 +9,8 @@
 mod entries;
 mod leaf_map;
 mod store;
+#[cfg(test)]
+mod tests;
 
 pub use store::{Store, format, open};
 

@@ -1,0 +1,330 @@
+//! What a store answers, and what it leaves on a disk, by hand.
+use crate::{Store, format, open};
+use std::alloc::Global;
+use std::test::Fail;
+use vm_disk::{DeviceFault, Disk, MemDisk};
+use vm_types::{Answer, Command, Key, Name, Refusal, Value};
+
+const DUCT: Key = Key {
+    table: 7,
+    number: 1,
+};
+
+// Slot B after a commit of `top` with its root in block 34, in a store of 64 blocks.
+fn slot_bytes() -> [u8; 4096] {
+    let mut bytes = [0; 4096];
+    bytes[..16].copy_from_slice(b"SLOT\x01\0\0\0\x40\0\0\0\x01\0\0\0");
+    bytes[128..133].copy_from_slice(b"\x41\x03top");
+    bytes[195] = 0x22;
+    bytes
+}
+
+// Puts a value into an alternative. A name or value that is none is answered `TooMany`.
+fn put_in<D: Disk>(
+    store: &mut Store<D>,
+    alt: &[u8],
+    key: Key,
+    value: &[u8],
+) -> Result<Answer, Refusal> {
+    let (Some(alt), Some(value)) = (Name::new(alt), Value::new(value)) else {
+        return Err(Refusal::TooMany);
+    };
+    store.apply(&Command::Put { alt, key, value })
+}
+
+fn put<D: Disk>(store: &mut Store<D>, key: Key, value: &[u8]) -> Result<Answer, Refusal> {
+    put_in(store, b"top", key, value)
+}
+
+fn commit<D: Disk>(store: &mut Store<D>) -> Result<Answer, Refusal> {
+    store.apply(&Command::Commit)
+}
+
+// What an alternative has at a key. A name that is none is answered `TooMany`.
+fn get_in<D: Disk>(store: &mut Store<D>, alt: &[u8], key: Key) -> Result<Option<Value>, Refusal> {
+    let Some(alt) = Name::new(alt) else {
+        return Err(Refusal::TooMany);
+    };
+    store.get(&alt, key)
+}
+
+fn get<D: Disk>(store: &mut Store<D>, key: Key) -> Result<Option<Value>, Refusal> {
+    get_in(store, b"top", key)
+}
+
+fn open_on(alloc: Global, disk: MemDisk) -> Result<Store<MemDisk>, Refusal> {
+    open(alloc, disk).map_err(|refused| refused.1)
+}
+
+fn fresh_disk(alloc: Global) -> Result<MemDisk, Refusal> {
+    let disk = MemDisk::new(alloc, 64).map_err(|_| Refusal::Memory)?;
+    format(disk, 64).map_err(|refused| refused.1)
+}
+
+fn fresh_store(alloc: Global) -> Result<Store<MemDisk>, Refusal> {
+    open_on(alloc, fresh_disk(alloc)?)
+}
+
+// A disk on which `duct` is committed, in block 34.
+fn duct_disk(alloc: Global) -> Result<MemDisk, Refusal> {
+    let mut store = fresh_store(alloc)?;
+    let put = put(&mut store, DUCT, b"duct");
+    let commit = commit(&mut store);
+    let disk = store.close();
+    put?;
+    commit?;
+    Ok(disk)
+}
+
+// The record at the key of `duct` in the store on a disk.
+fn record_on(alloc: Global, disk: MemDisk) -> Result<Option<Value>, Refusal> {
+    let mut store = open_on(alloc, disk)?;
+    let value = get(&mut store, DUCT);
+    let _disk = store.close();
+    value
+}
+
+fn refusal_to_open(alloc: Global, disk: MemDisk) -> Option<Refusal> {
+    match open(alloc, disk) {
+        Ok(store) => {
+            let _disk = store.close();
+            None
+        }
+        Err(refused) => Some(refused.1),
+    }
+}
+
+fn bytes_of<D: Disk>(disk: &mut D, n: u32) -> Result<[u8; 4096], DeviceFault> {
+    let mut bytes = [0; 4096];
+    if n < disk.blocks() {
+        disk.read(n, &mut bytes)?;
+        Ok(bytes)
+    } else {
+        Err(DeviceFault)
+    }
+}
+
+fn set_block<D: Disk>(disk: &mut D, n: u32, bytes: &[u8; 4096]) -> Result<(), DeviceFault> {
+    if n < disk.blocks() {
+        disk.write(n, bytes)
+    } else {
+        Err(DeviceFault)
+    }
+}
+
+// Sets one byte of a block.
+fn set_byte<D: Disk>(disk: &mut D, n: u32, at: usize, byte: u8) -> Result<(), DeviceFault> {
+    let mut bytes = bytes_of(disk, n)?;
+    if at < 4096 {
+        bytes[at] = byte;
+    }
+    set_block(disk, n, &bytes)
+}
+
+// The first blocks of a disk alone.
+fn cut(alloc: Global, mut disk: MemDisk, blocks: u32) -> Result<MemDisk, Fail> {
+    let mut shorter = MemDisk::new(alloc, blocks)?;
+    for n in 0..blocks {
+        let bytes = bytes_of(&mut disk, n)?;
+        set_block(&mut shorter, n, &bytes)?;
+    }
+    Ok(shorter)
+}
+
+#[test]
+fn commit_leaves_header_selector_slot_and_leaf(rt: HostRuntime) -> Result<(), Fail> {
+    let mut disk = duct_disk(rt.alloc())?;
+    let mut header = [0; 4096];
+    header[..16].copy_from_slice(b"ALTSTORE\x01\0\0\0\0\x10\0\0");
+    assert!(rt; bytes_of(&mut disk, 0)? == header);
+    let mut selector = [0; 4096];
+    selector[0] = 1;
+    assert!(rt; bytes_of(&mut disk, 1)? == selector);
+    assert!(rt; bytes_of(&mut disk, 18)? == slot_bytes());
+    let mut leaf = [0; 4096];
+    leaf[..16].copy_from_slice(b"LEAF\0\0\0\0\x01\0\0\0\0\0\0\0");
+    leaf[16..32].copy_from_slice(b"\x07\0\x01\0\0\0\0\0\0\0\x04\0duct");
+    assert!(rt; bytes_of(&mut disk, 34)? == leaf);
+    Ok(())
+}
+
+#[test]
+fn what_is_committed_is_there_after_opening(rt: HostRuntime) -> Result<(), Fail> {
+    let disk = duct_disk(rt.alloc())?;
+    assert_eq!(rt; record_on(rt.alloc(), disk)?, Value::new(b"duct"));
+    Ok(())
+}
+
+#[test]
+fn odd_selector_names_slot_b(rt: HostRuntime) -> Result<(), Fail> {
+    let mut disk = duct_disk(rt.alloc())?;
+    set_byte(&mut disk, 1, 0, 0xA5)?;
+    let mut store = open_on(rt.alloc(), disk)?;
+    assert_eq!(rt; get(&mut store, DUCT), Ok(Value::new(b"duct")));
+    assert_eq!(rt; commit(&mut store), Ok(Answer::Done));
+    let mut disk = store.close();
+    assert!(rt; bytes_of(&mut disk, 1)? == [0; 4096]);
+    assert!(rt; bytes_of(&mut disk, 2)? == slot_bytes());
+    assert_eq!(rt; record_on(rt.alloc(), disk)?, Value::new(b"duct"));
+    Ok(())
+}
+
+#[test]
+fn greatest_key_takes_the_empty_value(rt: HostRuntime) -> Result<(), Fail> {
+    let mut store = fresh_store(rt.alloc())?;
+    let key = Key {
+        table: 65535,
+        number: 18446744073709551615,
+    };
+    assert_eq!(rt; get(&mut store, key), Ok(None));
+    assert_eq!(rt; put(&mut store, key, b""), Ok(Answer::Done));
+    assert_eq!(rt; get(&mut store, key), Ok(Value::new(b"")));
+    assert_eq!(rt; get(&mut store, DUCT), Ok(None));
+    let _disk = store.close();
+    Ok(())
+}
+
+#[test]
+fn alternative_that_is_not_there_is_refused(rt: HostRuntime) -> Result<(), Fail> {
+    let mut store = fresh_store(rt.alloc())?;
+    assert_eq!(rt;
+        get_in(&mut store, b"nope", DUCT),
+        Err(Refusal::NoSuchAlternative)
+    );
+    assert_eq!(rt;
+        put_in(&mut store, b"nope", DUCT, b"duct"),
+        Err(Refusal::NoSuchAlternative)
+    );
+    assert_eq!(rt; get(&mut store, DUCT), Ok(None));
+    let _disk = store.close();
+    Ok(())
+}
+
+#[test]
+fn seventeenth_record_is_too_deep(rt: HostRuntime) -> Result<(), Fail> {
+    let mut store = fresh_store(rt.alloc())?;
+    for number in 1..17 {
+        let key = Key { table: 1, number };
+        assert_eq!(rt;
+            put(&mut store, key, b"v"),
+            Ok(Answer::Done),
+            "record {number}"
+        );
+    }
+    let next = Key {
+        table: 1,
+        number: 17,
+    };
+    assert_eq!(rt; put(&mut store, next, b"v"), Err(Refusal::Deep));
+    assert_eq!(rt; get(&mut store, next), Ok(None));
+    let there = Key {
+        table: 1,
+        number: 16,
+    };
+    assert_eq!(rt; put(&mut store, there, b"w"), Ok(Answer::Done));
+    assert_eq!(rt; get(&mut store, there), Ok(Value::new(b"w")));
+    let _disk = store.close();
+    Ok(())
+}
+
+#[test]
+fn what_is_not_committed_is_gone_after_closing(rt: HostRuntime) -> Result<(), Fail> {
+    let mut store = open_on(rt.alloc(), duct_disk(rt.alloc())?)?;
+    assert_eq!(rt; put(&mut store, DUCT, b"pipe"), Ok(Answer::Done));
+    assert_eq!(rt; get(&mut store, DUCT), Ok(Value::new(b"pipe")));
+    let disk = store.close();
+    assert_eq!(rt; record_on(rt.alloc(), disk)?, Value::new(b"duct"));
+    Ok(())
+}
+
+#[test]
+fn blocks_are_found_again_over_many_puts(rt: HostRuntime) -> Result<(), Fail> {
+    let mut store = open_on(rt.alloc(), duct_disk(rt.alloc())?)?;
+    for n in 0..100 {
+        assert_eq!(rt; put(&mut store, DUCT, &[n]), Ok(Answer::Done), "value {n}");
+        assert_eq!(rt; get(&mut store, DUCT), Ok(Value::new(&[n])), "value {n}");
+    }
+    let disk = store.close();
+    assert_eq!(rt; record_on(rt.alloc(), disk)?, Value::new(b"duct"));
+    Ok(())
+}
+
+#[test]
+fn root_that_is_no_leaf_is_damage(rt: HostRuntime) -> Result<(), Fail> {
+    let mut node = [0; 4096];
+    node[..16].copy_from_slice(b"NODE\x01\0\0\0\x01\0\0\0\0\0\0\0");
+    node[16..30].copy_from_slice(b"\x01\0\x01\0\0\0\0\0\0\0\x22\0\0\0");
+    let mut disk = duct_disk(rt.alloc())?;
+    set_block(&mut disk, 34, &node)?;
+    assert_eq!(rt;
+        refusal_to_open(rt.alloc(), disk),
+        Some(Refusal::Damaged(34))
+    );
+    Ok(())
+}
+
+#[test]
+fn root_past_the_end_is_damage(rt: HostRuntime) -> Result<(), Fail> {
+    let mut disk = duct_disk(rt.alloc())?;
+    set_byte(&mut disk, 18, 195, 64)?;
+    assert_eq!(rt;
+        refusal_to_open(rt.alloc(), disk),
+        Some(Refusal::Damaged(64))
+    );
+    Ok(())
+}
+
+#[test]
+fn slot_of_zeros_is_damage(rt: HostRuntime) -> Result<(), Fail> {
+    let mut disk = fresh_disk(rt.alloc())?;
+    set_block(&mut disk, 2, &[0; 4096])?;
+    assert_eq!(rt;
+        refusal_to_open(rt.alloc(), disk),
+        Some(Refusal::Damaged(2))
+    );
+    Ok(())
+}
+
+#[test]
+fn disk_cut_short_is_no_store(rt: HostRuntime) -> Result<(), Fail> {
+    let disk = cut(rt.alloc(), duct_disk(rt.alloc())?, 21)?;
+    assert_eq!(rt; refusal_to_open(rt.alloc(), disk), Some(Refusal::NotAStore));
+    let blank = MemDisk::new(rt.alloc(), 64)?;
+    assert_eq!(rt;
+        refusal_to_open(rt.alloc(), blank),
+        Some(Refusal::NotAStore)
+    );
+    Ok(())
+}
+
+#[test]
+fn store_larger_than_its_disk_is_refused(rt: HostRuntime) -> Result<(), Fail> {
+    let mut disk = duct_disk(rt.alloc())?;
+    set_byte(&mut disk, 18, 8, 65)?;
+    assert_eq!(rt; refusal_to_open(rt.alloc(), disk), Some(Refusal::BadSize));
+    Ok(())
+}
+
+#[test]
+fn format_leaves_a_store_as_it_was(rt: HostRuntime) -> Result<(), Fail> {
+    let mut before = duct_disk(rt.alloc())?;
+    let (mut after, refusal) = format(duct_disk(rt.alloc())?, 64).err().ok_or("formatted")?;
+    assert_eq!(rt; refusal, Refusal::AlreadyAStore);
+    for n in 0..64 {
+        assert!(rt;
+            bytes_of(&mut before, n)? == bytes_of(&mut after, n)?,
+            "block {n}"
+        );
+    }
+    Ok(())
+}
+
+#[test]
+fn format_refuses_a_bad_size(rt: HostRuntime) -> Result<(), Fail> {
+    for blocks in [0, 63, 65, 1_048_577] {
+        let disk = MemDisk::new(rt.alloc(), 64)?;
+        let refusal = format(disk, blocks).err().map(|refused| refused.1);
+        assert_eq!(rt; refusal, Some(Refusal::BadSize), "{blocks} blocks");
+    }
+    Ok(())
+}
