@@ -1,5 +1,6 @@
 pub mod FiledLemmas
 pub mod FormattingLemmas
+pub mod GuardLemmas
 pub mod LedgerLemmas
 pub mod MarkedLemmas
 pub mod Marking
@@ -9,6 +10,7 @@ pub mod Placing
 pub mod Putting
 pub mod OpeningLemmas
 pub mod RestingLemmas
+pub mod RunLemmas
 pub mod SpareLemmas
 pub mod SpareTests
 pub mod StandingLemmas

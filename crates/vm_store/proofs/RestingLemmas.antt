@@ -79,7 +79,7 @@ module _ (m : Medium) (limit : ℕ) (slot_b : Bool) (bits : List Bool) (committe
   }
 
   -- the committed entries are at rest after calls that write free blocks alone
-  at_rest : (now : Medium) → Spares (is_free bits) m now → AtRest slot_b now limit committed
+  pub at_rest : (now : Medium) → Spares (is_free bits) m now → AtRest slot_b now limit committed
   at_rest now spares =
       let same : (n : ℕ) → is_used slot_b (length committed) n ≡ true → is_free bits n ≡ false = λ n used. held_not_free bits n (rests.system n (used_low slot_b (length committed) n few used)) in
       record {
@@ -88,7 +88,7 @@ module _ (m : Medium) (limit : ℕ) (slot_b : Bool) (bits : List Bool) (committe
         clean = λ n used. spares.clean n (same n used) (rests.rest.clean n used);
       }
 
-  safe_on : (now : Medium) (after : List Bool) → Spares (is_free bits) m now → HoldsMore bits after → Standing (IsSafe after now) now.contents limit committed rests.old
+  pub safe_on : (now : Medium) (after : List Bool) → Spares (is_free bits) m now → HoldsMore bits after → Standing (IsSafe after now) now.contents limit committed rests.old
   safe_on now after spares more =
       standing_in (IsSafe bits m) (IsSafe after now) m.contents now.contents limit (λ n safe. spares.same n (held_not_free bits n safe.held))
       (λ n safe. record { held = more.still n safe.held; clean = spares.clean n (held_not_free bits n safe.held) safe.clean }) committed rests.old rests.safe

@@ -2,12 +2,14 @@ pub mod Answers
 pub mod Filed
 pub mod Formatting
 pub mod Free
+pub mod Guarded
 pub mod LeafMap
 pub mod Marking
 pub mod Opening
 pub mod Refused
 pub mod Resting
 pub mod Roots
+pub mod Running
 pub mod Shown
 pub mod Sizes
 pub mod Spare

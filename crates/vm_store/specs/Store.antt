@@ -25,6 +25,10 @@ module _ {D : Type 0} {members : _} where
   abbrev pub root_of : Store D members → List ℕ → ℕ
   root_of store alt = current_root (find (is_alternative_of alt) store.working.items)
 
+  -- which blocks are held
+  abbrev pub held_of : Store D members → List Bool
+  held_of store = store.held
+
   -- how many blocks are not held
   abbrev pub free_of : Store D members → ℕ
   free_of store = free_count store.held

@@ -12,7 +12,7 @@ mod store;
 #[cfg(test)]
 mod tests;
 
-pub use store::{Store, format, open};
+pub use store::{Stop, Store, format, open};
 
 /// How many levels a tree has at most. For now a map lies in one leaf.
 pub const LEVELS: u8 = 1;

@@ -5,17 +5,20 @@ ghost use Rattle.vm_types.specs.Kept.{LeftBy};
 ghost use Rattle.vm_disk.specs.Disk.{Goes, NoCalls};
 ghost use Rattle.vm_disk.specs.Moments.{Throughout, OnlyReads, Leaves};
 ghost use Rattle.vm_store.specs.Answers.{IsCarriedOut, IsDeep, IsAnswer, value_in};
+ghost use Rattle.vm_store.specs.Guarded.{IsGuarded};
 ghost use Rattle.vm_store.specs.Resting.{spare_of};
 ghost use Rattle.vm_store.specs.Shown.{Shows};
 
 mod formatting;
 mod opening;
 mod parts;
+mod running;
 
 use crate::entries::{copy_entries, mark_entries, position_of};
 use crate::leaf_map::{self, refusal_of};
 pub use formatting::format;
 pub use opening::open;
+pub use running::Stop;
 use vm_alloc::{Held, Marks};
 use vm_block::Entry;
 use vm_catalog::publish;
@@ -54,7 +57,7 @@ pub struct Store<D: Disk> {
 }
 
 impl<D: Disk> Store<D> {
-    ghost use Rattle.vm_store.specs.Store.{disk_of, has_failed, entries_of, root_of, Holds, free_of};
+    ghost use Rattle.vm_store.specs.Store.{disk_of, has_failed, entries_of, root_of, Holds, held_of, free_of};
 
     /// Carries out one command. After an answer `Device` the store answers `Failed` to every call but
     /// `close`: close it, and open the disk again.
@@ -81,6 +84,11 @@ impl<D: Disk> Store<D> {
         ensures crash { (D.state (disk_of self.old)).honest ≡ true → has_failed self.old ≡ false
             → (s : State) → Holds self.old s
             → Throughout (D.state (disk_of self.old)) (D.state (disk_of self.new)) (Leaves (LeftBy Shows s command.now)) }
+
+        // For at each moment the slots that it may leave in use are whole, clean and held.
+        ensures guarded { (D.state (disk_of self.old)).honest ≡ true → has_failed self.old ≡ false
+            → (s : State) → Holds self.old s
+            → Throughout (D.state (disk_of self.old)) (D.state (disk_of self.new)) (IsGuarded (held_of self.new)) }
     {
         if self.failed {
             return Err(Refusal::Failed);
@@ -101,6 +109,8 @@ impl<D: Disk> Store<D> {
         ensures state { (D.state (disk_of self.old)).honest ≡ true → result ≢ Err Refusal.Device → (s : State) → Holds self.old s → Holds self.new (next s command.now result) }
         ensures crash { (D.state (disk_of self.old)).honest ≡ true → (s : State) → Holds self.old s
             → Throughout (D.state (disk_of self.old)) (D.state (disk_of self.new)) (Leaves (LeftBy Shows s command.now)) }
+        ensures guarded { (D.state (disk_of self.old)).honest ≡ true → (s : State) → Holds self.old s
+            → Throughout (D.state (disk_of self.old)) (D.state (disk_of self.new)) (IsGuarded (held_of self.new)) }
     {
         match command {
             Command::Put { alt, key, value } => self.put(alt, *key, value),
@@ -140,6 +150,8 @@ impl<D: Disk> Store<D> {
         ensures state { (D.state (disk_of self.old)).honest ≡ true → (s : State) → Holds self.old s → Holds self.new (next s (Command.Put alt.now key value.now) result) }
         ensures crash { (D.state (disk_of self.old)).honest ≡ true → (s : State) → Holds self.old s
             → Throughout (D.state (disk_of self.old)) (D.state (disk_of self.new)) (Leaves (LeftBy Shows s (Command.Put alt.now key value.now))) }
+        ensures guarded { (D.state (disk_of self.old)).honest ≡ true → (s : State) → Holds self.old s
+            → Throughout (D.state (disk_of self.old)) (D.state (disk_of self.new)) (IsGuarded (held_of self.new)) }
     {
         let Some(i) = position_of(&self.working, alt) else {
             return Err(Refusal::NoSuchAlternative);
@@ -173,6 +185,8 @@ impl<D: Disk> Store<D> {
         ensures state { (D.state (disk_of self.old)).honest ≡ true → (s : State) → Holds self.old s → OnOk result (Holds self.new (next s Command.Commit result)) }
         ensures crash { (D.state (disk_of self.old)).honest ≡ true → (s : State) → Holds self.old s
             → Throughout (D.state (disk_of self.old)) (D.state (disk_of self.new)) (Leaves (LeftBy Shows s Command.Commit)) }
+        ensures guarded { (D.state (disk_of self.old)).honest ≡ true → (s : State) → Holds self.old s
+            → Throughout (D.state (disk_of self.old)) (D.state (disk_of self.new)) (IsGuarded (held_of self.new)) }
     {
         match publish(&mut self.disk, self.slot_b, self.blocks, &self.working) {
             Ok(()) => {

@@ -1,6 +1,7 @@
 use Rattle.std.proofs.Common.{◌∙◌}
 use Rattle.vm_types.specs.declared.answer.Answer.TheVariants.{Done}
 use Rattle.vm_disk.proofs.MomentLemmas.{weaken}
+use Rattle.vm_store.proofs.GuardLemmas.{guarded_publishing}
 use Rattle.vm_store.proofs.RestingLemmas.{lent_rests, published, published_left, is_published_as}
 use Rattle.vm_store.proofs.store.Store.commit.Goals as goal
 
@@ -19,3 +20,13 @@ pub returns-in-Err-clause-crash : goal.returns-in-Err-clause-crash
 returns-in-Err-clause-crash g c honest s rests =
     let lent = lent_rests _ _ _ _ _ _ _ s c.deref.ensures.value rests in
     weaken _ _ _ _ (λ m leaves left may. published_left _ _ _ _ _ _ s lent left (leaves left may)) (c.in-Err.ensures.any_moment honest _ _ lent.rest lent.fits)
+
+pub returns-in-Ok-clause-guarded : goal.returns-in-Ok-clause-guarded
+returns-in-Ok-clause-guarded g c honest s rests =
+    let lent = lent_rests _ _ _ _ _ _ _ s c.deref.ensures.value rests in
+    weaken _ _ _ _ (λ m publishing. guarded_publishing _ _ _ _ _ _ s lent m publishing) (c.in-Ok.ensures.moments honest _ _ lent.rest lent.fits)
+
+pub returns-in-Err-clause-guarded : goal.returns-in-Err-clause-guarded
+returns-in-Err-clause-guarded g c honest s rests =
+    let lent = lent_rests _ _ _ _ _ _ _ s c.deref.ensures.value rests in
+    weaken _ _ _ _ (λ m publishing. guarded_publishing _ _ _ _ _ _ s lent m publishing) (c.in-Err.ensures.moments honest _ _ lent.rest lent.fits)

@@ -8,6 +8,8 @@ use Rattle.vm_block.specs.Slot.{is_alternative_of}
 use Rattle.vm_store.specs.LeafMap.{LacksRoom}
 use Rattle.vm_store.specs.Shown.{Shows}
 use Rattle.vm_store.specs.Store.{root_of}
+use Rattle.vm_store.specs.Guarded.{IsGuarded}
+use Rattle.vm_store.proofs.GuardLemmas.{guarded_on, guarded_at_rest}
 use Rattle.vm_store.proofs.SpareTests.{room_for, full_for}
 use Rattle.vm_store.proofs.RestingLemmas.{shows_old, found_at, found_entry, put_rests, rests_more, rests_as, placed, any_entry, answers_absent, answers_full, answers_done, answers_fault, deep_here, here_deep}
 use Rattle.vm_store.proofs.store.Store.put.Goals as goal
@@ -99,3 +101,26 @@ returns-in-Err-clause-crash g c honest s rests =
     let Q = Leaves (LeftBy Shows s (Put c.args.alt.now c.args.key c.args.value.now)) in
     subst (λ d. Throughout (g.D.Disk.state d) (g.D.Disk.state c.put.new.disk) Q) c.has_spare.ensures.disk
     (weaken _ _ _ Q (λ m spares left may. inl (shows_old _ _ _ _ _ _ s rests' m spares left may)) (c.in-Err.ensures.moments honest'))
+
+pub returns-in_default-clause-guarded : goal.returns-in_default-clause-guarded
+returns-in_default-clause-guarded g c honest s rests = started _ _ (guarded_at_rest _ _ _ _ _ _ s rests)
+
+pub returns-then-not-has_spare-clause-guarded : goal.returns-then-not-has_spare-clause-guarded
+returns-then-not-has_spare-clause-guarded g c honest s rests =
+    let Q = IsGuarded c.has_spare.new.self.held in
+    subst (λ d. Throughout (g.D.Disk.state d) (g.D.Disk.state c.has_spare.new.self.disk) Q) c.has_spare.ensures.disk
+    (started _ Q (guarded_at_rest _ _ _ _ _ _ s (c.has_spare.ensures.state s rests)))
+
+pub returns-in-Ok-clause-guarded : goal.returns-in-Ok-clause-guarded
+returns-in-Ok-clause-guarded g c honest s rests =
+    let honest' = subst (λ d. (g.D.Disk.state d).honest ≡ true) (sym c.has_spare.ensures.disk) honest in
+    let Q = IsGuarded c.put.new.held in
+    subst (λ d. Throughout (g.D.Disk.state d) (g.D.Disk.state c.put.new.disk) Q) c.has_spare.ensures.disk
+    (weaken _ _ _ Q (λ m spares. guarded_on _ _ _ _ _ _ s (c.has_spare.ensures.state s rests) m _ spares c.in-Ok.ensures.still) (c.in-Ok.ensures.moments honest'))
+
+pub returns-in-Err-clause-guarded : goal.returns-in-Err-clause-guarded
+returns-in-Err-clause-guarded g c honest s rests =
+    let honest' = subst (λ d. (g.D.Disk.state d).honest ≡ true) (sym c.has_spare.ensures.disk) honest in
+    let Q = IsGuarded c.put.new.held in
+    subst (λ d. Throughout (g.D.Disk.state d) (g.D.Disk.state c.put.new.disk) Q) c.has_spare.ensures.disk
+    (weaken _ _ _ Q (λ m spares. guarded_on _ _ _ _ _ _ s (c.has_spare.ensures.state s rests) m _ spares c.in-Err.ensures.still) (c.in-Err.ensures.moments honest'))

@@ -1,0 +1,95 @@
+-- The slots stay whole through puts and commits.
+use Rattle.std.proofs.Common.{◌≡◌, ◌≢◌, ◌⊎◌, inl, inr, ℕ, ◌≤◌, not, Bool, true, false, List, length, refl, sym, subst, ◌∙◌, arith}
+use Rattle.vm_types.specs.State.{State}
+use Rattle.vm_disk.specs.Disk.{block, Medium, IsClean}
+use Rattle.vm_disk.specs.Moments.{Spares}
+use Rattle.vm_disk.proofs.MomentLemmas.{spares_itself}
+use Rattle.vm_alloc.specs.Held.{IsHeld, HoldsMore}
+use Rattle.vm_block.specs.Tree.{IsData}
+use Rattle.vm_block.specs.declared.slot.Entry.{Entry}
+use Rattle.vm_catalog.specs.Place.{selected, is_used}
+use Rattle.vm_catalog.specs.Catalog.{SlotAt, AtRest}
+use Rattle.vm_catalog.specs.Publishing.{IsTurning, IsSafelyPublishing}
+use Rattle.vm_catalog.proofs.PlaceLemmas.{used_front}
+use Rattle.vm_store.specs.Free.{is_free}
+use Rattle.vm_store.specs.Filed.{Filed, Standing}
+use Rattle.vm_store.specs.Guarded.{IsWhole, IsGuarded}
+use Rattle.vm_store.specs.Resting.{IsSafe, Rests}
+use Rattle.vm_store.proofs.RestingLemmas.{at_rest, safe_on}
+use Rattle.vm_store.proofs.StandingLemmas.{standing_in, standing_data}
+
+-- the slot in use is whole, and the selector is clean
+settled_guarded : (bits : List Bool) (m : Medium) (slot_b : Bool) (limit : ℕ) (es : List Entry) (fs : List Filed) → AtRest slot_b m limit es → limit ≤ length m.contents → Standing (IsSafe bits m) m.contents limit es fs
+    → IsWhole bits m (selected m.contents)
+settled_guarded bits m slot_b limit es fs rest inside safe = record {
+  limit = limit;
+  entries = es;
+  filed = fs;
+  inside = inside;
+  header = rest.names.header;
+  slot = rest.names.slot;
+  clean = λ n other used. rest.clean n (subst (λ b. is_used b (length es) n ≡ true) rest.in_use used);
+  safe = safe;
+}
+
+either : (P : Bool → Type 0) (b : Bool) → P b → P (not b) → (c : Bool) → P c
+either P true p q true = p
+either P true p q false = q
+either P false p q true = q
+either P false p q false = p
+
+module _ (m : Medium) (limit : ℕ) (slot_b : Bool) (bits : List Bool) (committed working : List Entry) (s : State)
+    (rests : Rests m limit slot_b bits committed working s) where
+  -- after calls that write free blocks alone
+  pub guarded_on : (now : Medium) (after : List Bool) → Spares (is_free bits) m now → HoldsMore bits after → IsGuarded after now
+  guarded_on now after spares more =
+      let rest : AtRest slot_b now limit committed = at_rest m limit slot_b bits committed working s rests now spares in
+      record {
+        settled = λ clean. settled_guarded after now slot_b limit committed rests.old rest (subst (λ n. limit ≤ n) (sym spares.count) rests.inside)
+            (safe_on m limit slot_b bits committed working s rests now after spares more);
+        turning = λ dirty. let clean = rest.clean 1 (used_front slot_b (length committed) 1 (omega arith)) in cc (dirty, clean);
+      }
+
+  -- before any call
+  pub guarded_at_rest : IsGuarded bits m
+  guarded_at_rest = guarded_on m bits (spares_itself (is_free bits) m) (record { same_length = refl; still = λ n held. held })
+
+  -- at each moment of a publish of the working entries
+  pub guarded_publishing : (now : Medium) → IsSafelyPublishing slot_b m limit committed limit working now → IsGuarded bits now
+  guarded_publishing now publishing = record {
+    settled = λ clean. by_slot (publishing.settled clean);
+    turning = λ dirty. let t : IsTurning slot_b now limit committed limit working = publishing.turning dirty in
+        either (IsWhole bits now) slot_b (turned slot_b committed rests.old t.old t (safe_old)) (turned (not slot_b) working rests.new t.new_slot t (safe_new (λ n inner. t.clean n (apart n inner))));
+  }
+    where
+      inside : limit ≤ length now.contents
+      inside = subst (λ n. limit ≤ n) (sym publishing.count) rests.inside
+
+      apart : (n : ℕ) → IsData limit n → n ≢ 1
+      apart n inner same = let low : 34 ≤ n = inner.0 in let one : n ≡ 1 = same in absurd (omega arith)
+
+      safe_old : Standing (IsSafe bits now) now.contents limit committed rests.old
+      safe_old = standing_in (λ n. IsSafe bits m n × IsData limit n) (IsSafe bits now) m.contents now.contents limit (λ n safe. publishing.same n safe.1.0)
+          (λ n safe. record { held = safe.0.held; clean = publishing.still_clean n safe.1.0 safe.0.clean }) committed rests.old
+          (standing_data (IsSafe bits m) m.contents limit committed rests.old rests.safe)
+
+      safe_new : ((n : ℕ) → IsData limit n → now.dirty n ≡ false) → Standing (IsSafe bits now) now.contents limit working rests.new
+      safe_new clean = standing_in (λ n. IsHeld bits n × IsData limit n) (IsSafe bits now) m.contents now.contents limit (λ n held. publishing.same n held.1.0)
+          (λ n held. record { held = held.0; clean = clean n held.1 }) working rests.new
+          (standing_data (IsHeld bits) m.contents limit working rests.new rests.stands)
+
+      by_slot : AtRest slot_b now limit committed ⊎ (AtRest (not slot_b) now limit working × IsClean now) → IsWhole bits now (selected now.contents)
+      by_slot (inl rest) = settled_guarded bits now slot_b limit committed rests.old rest inside safe_old
+      by_slot (inr rest) = settled_guarded bits now (not slot_b) limit working rests.new rest.0 inside (safe_new (λ n inner. rest.1 n))
+
+      turned : (b : Bool) (es : List Entry) (fs : List Filed) → SlotAt now.contents b limit es → IsTurning slot_b now limit committed limit working → Standing (IsSafe bits now) now.contents limit es fs → IsWhole bits now b
+      turned b es fs slot t safe = record {
+        limit = limit;
+        entries = es;
+        filed = fs;
+        inside = inside;
+        header = t.header;
+        slot = slot;
+        clean = λ n other used. t.clean n other;
+        safe = safe;
+      }

@@ -1,0 +1,80 @@
+-- A run so far: what it answered, and what a crash leaves at each moment of it.
+use Rattle.std.proofs.Common.{◌≡◌, ◌⊎◌, inl, inr, ℕ, ◌+◌, ◌*◌, ◌<◌, ◌≤◌, nat_lt, Bool, true, false, List, [], ◌∷◌, ◌++◌, length, take, get_or, Result, Ok, Err, refl, sym, ap, ◌∙◌, subst, arith}
+use Rattle.std.proofs.lemmas.List.{take_more}
+use Rattle.vm_types.specs.declared.answer.Answer.{Answer}
+use Rattle.vm_types.specs.declared.command.Command.{Command}
+use Rattle.vm_types.specs.declared.refusal.Refusal.{Refusal}
+use Rattle.vm_types.specs.declared.refusal.Refusal.TheVariants.{Full, Deep, Device}
+use Rattle.vm_types.specs.Kept.{LeftBy}
+use Rattle.vm_types.specs.State.{State, next, after, answer_of, edits}
+use Rattle.vm_types.specs.Step.{Outcome, step}
+use Rattle.vm_types.proofs.MomentsLemmas.{HasRun, HasRun-none, HasRun-more}
+use Rattle.vm_types.proofs.Runs.{after_more}
+use Rattle.vm_disk.specs.Disk as disk
+use Rattle.vm_disk.specs.Disk.{Contents, Medium}
+use Rattle.vm_disk.specs.Moments.{Throughout, Leaves}
+use Rattle.vm_disk.proofs.MomentLemmas.{started, and_then, weaken, past_stays, moment_rises, leaves_only, spares_itself}
+use Rattle.vm_block.specs.declared.slot.Entry.{Entry}
+use Rattle.vm_store.specs.Answers.{IsDue, IsAnswer}
+use Rattle.vm_store.specs.Free.{is_free}
+use Rattle.vm_store.specs.Guarded.{IsGuarded}
+use Rattle.vm_store.specs.Resting.{Rests}
+use Rattle.vm_store.specs.Running.{Accepts, MayAnswer, MayAnswerAll}
+use Rattle.vm_store.specs.Shown.{Shows}
+use Rattle.vm_store.proofs.RestingLemmas.{shows_old}
+
+-- commands that were run, from s on, while the disk went from old to now
+abbrev pub Ran : disk.State → disk.State → State → List Command → List (Result Answer Refusal) → Type 0
+Ran old now s commands answers = HasRun Shows (disk.LeftAt now) s (disk.moment old) commands answers (after s commands answers) (disk.moment now)
+
+-- before the first command, where a crash shows what is committed
+pub ran_none : (old : disk.State) (s : State) → Leaves (λ x. Shows x s.committed) old.now → Ran old old s [] []
+ran_none old s shows =
+    HasRun-none Shows (disk.LeftAt old) s (disk.moment old) (λ x was. leaves_only old old (λ x. Shows x s.committed) (started old (Leaves (λ x. Shows x s.committed)) shows) (disk.moment old) x (omega arith) was)
+
+-- one command more
+pub ran_more : (old mid new : disk.State) (s : State) (commands : List Command) (answers : List (Result Answer Refusal)) (c : Command) (a : Result Answer Refusal) → Ran old mid s commands answers
+    → Throughout mid new (Leaves (LeftBy Shows (after s commands answers) c)) → Ran old new s (commands ++ c ∷ []) (answers ++ a ∷ [])
+ran_more old mid new s commands answers c a ran crash =
+    HasRun-more ran (disk.LeftAt new) c a _ _ (after_more s commands answers c a ran.last.same) (moment_rises mid new _ crash)
+      (λ t x le was. past_stays mid new _ crash t x le was)
+      (λ t x from to was. leaves_only mid new _ crash t x from was)
+
+-- the slots are guarded before the first command, and through one more
+pub guarded_none : (old : disk.State) {bits : List Bool} → IsGuarded bits old.now → Throughout old old (λ m. (held : List Bool) × IsGuarded held m)
+guarded_none old {bits} guarded = started old (λ m. (held : List Bool) × IsGuarded held m) (bits, guarded)
+
+pub guarded_more : (old mid new : disk.State) (bits : List Bool) → Throughout old mid (λ m. (held : List Bool) × IsGuarded held m) → Throughout mid new (IsGuarded bits) → Throughout old new (λ m. (held : List Bool) × IsGuarded held m)
+guarded_more old mid new bits so_far more =
+    and_then old mid new (λ m. (held : List Bool) × IsGuarded held m) so_far (weaken mid new (IsGuarded bits) (λ m. (held : List Bool) × IsGuarded held m) (λ m guarded. (bits, guarded)) more)
+
+-- a crash before the first command shows what is committed
+pub rests_show : (m : Medium) (limit : ℕ) (slot_b : Bool) (bits : List Bool) (committed working : List Entry) (s : State) → Rests m limit slot_b bits committed working s → Leaves (λ x. Shows x s.committed) m
+rests_show m limit slot_b bits committed working s rests left may = shows_old m limit slot_b bits committed working s rests m (spares_itself (is_free bits) m) left may
+
+due_may : (o : Outcome) (full : Bool) (deep : Type 0) (r : Result Answer Refusal) → IsDue o full deep r → (r ≡ answer_of o) ⊎ ((r ≡ Err Device) ⊎ (Accepts o × ((r ≡ Err Full) ⊎ (r ≡ Err Deep))))
+due_may (Err refusal) full deep r due = inl due
+due_may (Ok accepted) true deep r due = inr (inr (tt, inl due))
+due_may (Ok accepted) false deep r (inl due) = inl due.0
+due_may (Ok accepted) false deep r (inr due) = inr (inr (tt, inr due.0))
+
+-- one answer of a run
+pub may_answer : (s : State) (spare : ℕ) (deep : Type 0) (command : Command) (r : Result Answer Refusal) → IsAnswer s spare deep command r → MayAnswer s command r
+may_answer s spare deep command r (inl device) = inr (inl device)
+may_answer s spare deep command r (inr due) = due_may (step s.working command) (nat_lt spare (16 * edits s.working command)) deep r due
+
+-- and one more
+pub answered_more : (s : State) (commands : List Command) (answers : List (Result Answer Refusal)) (c : Command) (a : Result Answer Refusal) → MayAnswerAll s commands answers → MayAnswer (after s commands answers) c a
+    → MayAnswerAll s (commands ++ c ∷ []) (answers ++ a ∷ [])
+answered_more s [] [] c a so_far last = (last, tt)
+answered_more s [] (b ∷ answers) c a so_far last = absurd so_far
+answered_more s (d ∷ commands) [] c a so_far last = absurd so_far
+answered_more s (d ∷ commands) (b ∷ answers) c a so_far last = (so_far.0, answered_more (next s d b) commands answers c a so_far.1 last)
+
+-- the first n commands, and the one at n
+pub take_one_more : (cs : List Command) (n : ℕ) (c : Command) → n < length cs → c ≡ get_or cs n c → take (n + 1) cs ≡ take n cs ++ c ∷ []
+take_one_more cs n c lt is = take_more cs n c lt ∙ ap (λ (x : Command). take n cs ++ x ∷ []) (sym is)
+
+pub no_failure : (b : Bool) → (b ≡ true → ⊥) → b ≡ false
+no_failure true h = absurd (h refl)
+no_failure false h = refl

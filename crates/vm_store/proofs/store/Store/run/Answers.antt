@@ -1,0 +1,92 @@
+use Rattle.std.proofs.Common.{◌≡◌, ◌+◌, length, take, Err, refl, sym, subst, ◌∙◌, arith}
+use Rattle.std.proofs.lemmas.Grind.{common_steps}
+use Rattle.vm_types.specs.State.{State, after}
+use Rattle.vm_types.specs.declared.refusal.Refusal.TheVariants.{Device}
+use Rattle.vm_types.proofs.Runs.{after_more}
+use Rattle.vm_types.proofs.IsolationLemmas.{isolated}
+use Rattle.vm_store.specs.Store.{disk_of, Holds}
+use Rattle.vm_store.proofs.GuardLemmas.{guarded_at_rest}
+use Rattle.vm_store.proofs.RunLemmas.{ran_none, ran_more, rests_show, guarded_none, guarded_more, may_answer, answered_more, take_one_more, no_failure}
+use Rattle.vm_store.proofs.store.Store.run.Goals as goal
+
+pub loop-command-preserved : goal.loop-command-preserved
+loop-command-preserved g c =
+    let before = c.loop-command.invariant in
+    let e = c.apply-answer.ensures in
+    let old = g.D.Disk.state (disk_of c.args.self.now) in
+    let sound = no_failure _ (λ is. let device = (e.failed before.sound).0 is in let yes = c.is_device-failed.ensures.1 device in cc (yes, c.if-failed.false)) in
+    rw (take_one_more c.args.commands.now c.loop-command.command-index c.command-item.result c.loop-command-test.true c.command-item.is, c.in-Ok-push.ensures.items) (record {
+      blocks = e.any.same_blocks ∙ before.blocks;
+      honesty = e.any.same_honesty ∙ before.honesty;
+      rising = omega (arith, e.any.rising, before.rising);
+      sound = sound;
+      many = grind (arith, common_steps);
+      room = grind (arith, common_steps);
+      run = λ honest s rests. ran_more old (g.D.Disk.state (disk_of c.loop-command.self)) (g.D.Disk.state (disk_of c.apply-answer.new.self)) s _ _ c.command-item.result c.apply-answer.result (before.run honest s rests) (e.crash (before.honesty ∙ honest) before.sound _ (before.holds honest s rests));
+      holds = λ honest s rests.
+          let ok : c.apply-answer.result ≡ Err Device → ⊥ = λ is. let yes = c.is_device-failed.ensures.1 is in cc (yes, c.if-failed.false) in
+          subst (λ (t : State). Holds c.apply-answer.new.self t) (sym (after_more s _ _ c.command-item.result c.apply-answer.result (before.run honest s rests).last.same)) (e.state (before.honesty ∙ honest) before.sound ok _ (before.holds honest s rests));
+      guarded = λ honest s rests. guarded_more old (g.D.Disk.state (disk_of c.loop-command.self)) (g.D.Disk.state (disk_of c.apply-answer.new.self)) c.apply-answer.new.self.held (before.guarded honest s rests) (e.guarded (before.honesty ∙ honest) before.sound _ (before.holds honest s rests));
+      told = λ honest s rests. answered_more s _ _ c.command-item.result c.apply-answer.result (before.told honest s rests) (may_answer (after s (take c.loop-command.command-index c.args.commands.now) c.loop-command.answers.items) _ _ c.command-item.result c.apply-answer.result (e.answer (before.honesty ∙ honest) before.sound _ (before.holds honest s rests)));
+    })
+
+pub loop-command-init : goal.loop-command-init
+loop-command-init g c =
+    let first = g.D.Disk.state (disk_of c.args.self.now) in
+    rw (c.in-Ok.ensures.items) (record {
+      blocks = refl;
+      honesty = refl;
+      rising = omega arith;
+      sound = c.if-self.false;
+      many = refl;
+      room = omega (arith, c.in-Ok.ensures.exact);
+      run = λ honest s rests. ran_none first s (rests_show _ _ _ _ _ _ s rests);
+      holds = λ honest s rests. rests;
+      guarded = λ honest s rests. guarded_none first (guarded_at_rest _ _ _ _ _ _ s rests);
+      told = λ honest s rests. tt;
+    })
+
+pub returns-in_default-clause-kept : goal.returns-in_default-clause-kept
+returns-in_default-clause-kept g c honest sound s rests =
+    rw (c.new-in_default.ensures.items) (ran_none (g.D.Disk.state (disk_of c.args.self.now)) s (rests_show _ _ _ _ _ _ s rests)).moments
+
+pub returns-then-failed-clause-kept : goal.returns-then-failed-clause-kept
+returns-then-failed-clause-kept g c honest sound s rests =
+    let before = c.loop-command.invariant in
+    let e = c.apply-answer.ensures in
+    let old = g.D.Disk.state (disk_of c.args.self.now) in
+    let count : length c.push.new.self.items ≡ c.loop-command.command-index + 1 = grind (arith, common_steps) in
+    rw (count, take_one_more c.args.commands.now c.loop-command.command-index c.command-item.result c.loop-command-test.true c.command-item.is, c.in-Ok-push.ensures.items)
+    (ran_more old (g.D.Disk.state (disk_of c.loop-command.self)) (g.D.Disk.state (disk_of c.apply-answer.new.self)) s _ _ c.command-item.result c.apply-answer.result (before.run honest s rests) (e.crash (before.honesty ∙ honest) before.sound _ (before.holds honest s rests))).moments
+
+pub returns-then-failed-clause-answers : goal.returns-then-failed-clause-answers
+returns-then-failed-clause-answers g c honest sound s rests =
+    let before = c.loop-command.invariant in
+    let e = c.apply-answer.ensures in
+    let count : length c.push.new.self.items ≡ c.loop-command.command-index + 1 = grind (arith, common_steps) in
+    rw (count, take_one_more c.args.commands.now c.loop-command.command-index c.command-item.result c.loop-command-test.true c.command-item.is, c.in-Ok-push.ensures.items)
+    (answered_more s _ _ c.command-item.result c.apply-answer.result (before.told honest s rests) (may_answer (after s (take c.loop-command.command-index c.args.commands.now) c.loop-command.answers.items) _ _ c.command-item.result c.apply-answer.result (e.answer (before.honesty ∙ honest) before.sound _ (before.holds honest s rests))))
+
+pub returns-then-failed-clause-isolated : goal.returns-then-failed-clause-isolated
+returns-then-failed-clause-isolated g c honest s name apart = isolated name s _ _ apart
+
+pub returns-clause-isolated : goal.returns-clause-isolated
+returns-clause-isolated g c honest s name apart = isolated name s _ _ apart
+
+pub returns-clause-kept : goal.returns-clause-kept
+returns-clause-kept g c honest sound s rests =
+    let after = c.loop-command.invariant in
+    rw (after.many) (after.run honest s rests).moments
+
+pub returns-in_default-clause-guarded : goal.returns-in_default-clause-guarded
+returns-in_default-clause-guarded g c honest sound s rests =
+    guarded_none (g.D.Disk.state (disk_of c.args.self.now)) (guarded_at_rest _ _ _ _ _ _ s rests)
+
+pub returns-then-failed-clause-guarded : goal.returns-then-failed-clause-guarded
+returns-then-failed-clause-guarded g c honest sound s rests =
+    let before = c.loop-command.invariant in
+    guarded_more (g.D.Disk.state (disk_of c.args.self.now)) (g.D.Disk.state (disk_of c.loop-command.self)) (g.D.Disk.state (disk_of c.apply-answer.new.self)) c.apply-answer.new.self.held (before.guarded honest s rests)
+    (c.apply-answer.ensures.guarded (before.honesty ∙ honest) before.sound _ (before.holds honest s rests))
+
+pub returns-clause-guarded : goal.returns-clause-guarded
+returns-clause-guarded g c honest sound s rests = c.loop-command.invariant.guarded honest s rests

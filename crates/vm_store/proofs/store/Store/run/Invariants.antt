@@ -1,0 +1,25 @@
+use Rattle.std.proofs.Common.{◌≡◌, ◌≤◌, Bool, true, false, List, length, take, vec_capacity}
+use Rattle.vm_types.specs.State.{State, after}
+use Rattle.vm_disk.specs.Moments.{Throughout}
+use Rattle.vm_store.specs.Guarded.{IsGuarded}
+use Rattle.vm_store.specs.Running.{MayAnswerAll}
+use Rattle.vm_store.specs.Store.{disk_of, has_failed, Holds}
+use Rattle.vm_store.proofs.RunLemmas.{Ran}
+use Rattle.vm_store.proofs.store.Store.run.Given as goal
+
+-- the commands so far were run, none was failed by the device, and room is left
+abbrev pub invariant-loop-command : goal.invariant-loop-command
+invariant-loop-command g l =
+    let old = g.D.Disk.state (disk_of l.fn.self) in
+    let now = g.D.Disk.state (disk_of l.self) in record {
+      blocks : now.blocks ≡ old.blocks;
+      honesty : now.honest ≡ old.honest;
+      rising : old.failures ≤ now.failures;
+      sound : has_failed l.self ≡ false;
+      many : length l.answers.items ≡ l.command-index;
+      room : length l.commands ≤ vec_capacity l.answers;
+      run : old.honest ≡ true → (s : State) → Holds l.fn.self s → Ran old now s (take l.command-index l.commands) l.answers.items;
+      holds : old.honest ≡ true → (s : State) → Holds l.fn.self s → Holds l.self (after s (take l.command-index l.commands) l.answers.items);
+      guarded : old.honest ≡ true → (s : State) → Holds l.fn.self s → Throughout old now (λ m. (bits : List Bool) × IsGuarded bits m);
+      told : old.honest ≡ true → (s : State) → Holds l.fn.self s → MayAnswerAll s (take l.command-index l.commands) l.answers.items;
+    }

@@ -1,0 +1,27 @@
+-- What holds at each moment of a command, so that each slot which a crash may leave in use is whole.
+use Rattle.std.specs.Prelude.{◌≡◌, ◌≢◌, ℕ, ◌≤◌, Bool, true, false, List, length}
+use Rattle.vm_disk.specs.Disk.{block, Medium}
+use Rattle.vm_block.specs.Header.{IsHeader}
+use Rattle.vm_block.specs.declared.slot.Entry.{Entry}
+use Rattle.vm_catalog.specs.Place.{selected, is_used}
+use Rattle.vm_catalog.specs.Catalog.{SlotAt}
+use Rattle.vm_store.specs.Filed.{Filed, Standing}
+use Rattle.vm_store.specs.Resting.{IsSafe}
+
+-- a header stands before this slot, which holds entries within the disk. The header, each block that names the entries and
+-- each block under their roots is clean, so no write has gone to any of these; those under the roots are held, too
+pub record IsWhole (bits : List Bool) (m : Medium) (slot_b : Bool) : Type 0 where
+  pub limit : ℕ
+  pub entries : List Entry
+  pub filed : List Filed
+  pub inside : limit ≤ length m.contents
+  pub header : IsHeader (block m.contents 0)
+  pub slot : SlotAt m.contents slot_b limit entries
+  pub clean : (n : ℕ) → n ≢ 1 → is_used slot_b (length entries) n ≡ true → m.dirty n ≡ false
+  pub safe : Standing (IsSafe bits m) m.contents limit entries filed
+
+-- while the selector is clean, the slot that it names is whole, and the other one may hold anything;
+-- while the selector is dirty, a crash may leave either slot in use, and both are whole
+pub record IsGuarded (bits : List Bool) (m : Medium) : Type 0 where
+  pub settled : m.dirty 1 ≡ false → IsWhole bits m (selected m.contents)
+  pub turning : m.dirty 1 ≡ true → (slot_b : Bool) → IsWhole bits m slot_b

@@ -1,0 +1,26 @@
+-- What a run of commands answers.
+use Rattle.std.specs.Prelude.{◌≡◌, ◌⊎◌, ℕ, ◌<◌, List, [], ◌∷◌, Result, Ok, Err}
+use Rattle.vm_types.specs.declared.answer.Answer.{Answer}
+use Rattle.vm_types.specs.declared.command.Command.{Command}
+use Rattle.vm_types.specs.declared.refusal.Refusal.{Refusal}
+use Rattle.vm_types.specs.declared.refusal.Refusal.TheVariants.{Full, Deep, Device}
+use Rattle.vm_types.specs.State.{State, next, answer_of, edits}
+use Rattle.vm_types.specs.Step.{Outcome, step}
+
+-- the model accepts
+abbrev pub Accepts : Outcome → Type 0
+Accepts (Ok accepted) = Unit {0}
+Accepts (Err refusal) = ⊥
+
+-- the answer of the model, or that the device failed; or, to an accepted command, that blocks or the tree's room are wanting
+abbrev pub MayAnswer : State → Command → Result Answer Refusal → Type 0
+MayAnswer s command answer =
+    (answer ≡ answer_of (step s.working command))
+    ⊎ ((answer ≡ Err Device) ⊎ (Accepts (step s.working command) × ((answer ≡ Err Full) ⊎ (answer ≡ Err Deep))))
+
+-- each command is answered so, in order
+abbrev pub MayAnswerAll : State → List Command → List (Result Answer Refusal) → Type 0
+MayAnswerAll s [] [] = Unit {0}
+MayAnswerAll s (command ∷ commands) (answer ∷ answers) = MayAnswer s command answer × MayAnswerAll (next s command answer) commands answers
+MayAnswerAll s [] (answer ∷ answers) = ⊥
+MayAnswerAll s (command ∷ commands) [] = ⊥

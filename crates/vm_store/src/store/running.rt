@@ -1,0 +1,89 @@
+//! Running a list of commands.
+ghost use Rattle.std.specs.Prelude.{◌≡◌, ◌≢◌, ℕ, ◌<◌, Bool, true, false, List, [], length, take, All, Some, None};
+ghost use Rattle.vm_types.specs.Isolation.{LeavesAlone};
+ghost use Rattle.vm_types.specs.Moments.{KeptThroughout};
+ghost use Rattle.vm_types.specs.State.{State, after};
+ghost use Rattle.vm_types.specs.Tree.{named};
+ghost use Rattle.vm_disk.specs.Disk.{Goes, LeftAt, moment};
+ghost use Rattle.vm_disk.specs.Moments.{Throughout};
+ghost use Rattle.vm_store.specs.Answers.{IsCarriedOut};
+ghost use Rattle.vm_store.specs.Guarded.{IsGuarded};
+ghost use Rattle.vm_store.specs.Running.{MayAnswerAll};
+ghost use Rattle.vm_store.specs.Shown.{Shows};
+
+use super::{Store, is_device};
+use std::alloc::Global;
+use vm_disk::Disk;
+use vm_types::{Answer, Command, Refusal};
+
+/// Why a run ended before its last command.
+#[derive(Clone, Copy, Debug, PartialEq, Eq)]
+pub enum Stop {
+    /// The store had failed before.
+    Failed,
+    /// There was no memory for the answers: no command was applied.
+    Memory,
+    /// The last answer is that the device failed.
+    Device,
+}
+
+impl<D: Disk> Store<D> {
+    ghost use Rattle.vm_store.specs.Store.{disk_of, has_failed, Holds};
+
+    /// Carries out commands in order, up to one that the device fails. The list of answers is reserved
+    /// whole before the first command.
+    pub fn run(
+        &mut self,
+        alloc: Global,
+        commands: &[Command],
+    ) -> (Vec<Result<Answer, Refusal>>, Option<Stop>)
+        requires { All IsCarriedOut commands.now }
+
+        // On any disk.
+        ensures any { Goes (result.1 ≡ Some Stop.Device) (D.state (disk_of self.old)) (D.state (disk_of self.new)) }
+        ensures failed { has_failed self.old ≡ true → (result.1 ≡ Some Stop.Failed) × (result.0.items ≡ []) × (self.new ≡ self.old) }
+        ensures only_then { has_failed self.old ≡ false → result.1 ≢ Some Stop.Failed }
+        ensures memory { result.1 ≡ Some Stop.Memory → (result.0.items ≡ []) × (self.new ≡ self.old) }
+        ensures device { result.1 ≡ Some Stop.Device → (has_failed self.new ≡ true) × (0 < length result.0.items) }
+        ensures whole { result.1 ≡ None → (length result.0.items ≡ length commands.now) × (has_failed self.new ≡ false) }
+
+        // Each command is answered in order, and the store stands for what these answers leave.
+        ensures answers { (D.state (disk_of self.old)).honest ≡ true → has_failed self.old ≡ false → (s : State) → Holds self.old s
+            → MayAnswerAll s (take (length result.0.items) commands.now) result.0.items }
+        ensures state { (D.state (disk_of self.old)).honest ≡ true → has_failed self.new ≡ false → (s : State) → Holds self.old s
+            → Holds self.new (after s (take (length result.0.items) commands.now) result.0.items) }
+
+        // An alternative on which no command works stays as it is.
+        ensures isolated { (D.state (disk_of self.old)).honest ≡ true → (s : State) (name : List ℕ)
+            → LeavesAlone s (take (length result.0.items) commands.now) result.0.items name
+            → named (after s (take (length result.0.items) commands.now) result.0.items).working name ≡ named s.working name }
+
+        // Stopped at any moment, a crash shows the committed tree after a beginning of the commands that is
+        // empty or ends with a commit, and this beginning holds every commit that was acknowledged.
+        ensures kept { (D.state (disk_of self.old)).honest ≡ true → has_failed self.old ≡ false → (s : State) → Holds self.old s
+            → KeptThroughout Shows (LeftAt (D.state (disk_of self.new))) s (moment (D.state (disk_of self.old)))
+                (take (length result.0.items) commands.now) result.0.items (moment (D.state (disk_of self.new))) }
+
+        // For at each moment the slots that it may leave in use are whole, clean and held.
+        ensures guarded { (D.state (disk_of self.old)).honest ≡ true → has_failed self.old ≡ false → (s : State) → Holds self.old s
+            → Throughout (D.state (disk_of self.old)) (D.state (disk_of self.new)) (λ m. (bits : List Bool) × IsGuarded bits m) }
+    {
+        if self.failed {
+            return (Vec::new(alloc), Some(Stop::Failed));
+        }
+        let Ok(mut answers) = Vec::with_capacity(alloc, commands.len()) else {
+            return (Vec::new(alloc), Some(Stop::Memory));
+        };
+        for command in commands {
+            let answer = self.apply(command);
+            let failed = is_device(&answer);
+            let Ok(()) = answers.push(answer) else {
+                unreachable!();
+            };
+            if failed {
+                return (answers, Some(Stop::Device));
+            }
+        }
+        (answers, None)
+    }
+}
