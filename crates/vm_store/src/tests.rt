@@ -1,5 +1,7 @@
 //! What a store answers, and what it leaves on a disk, by hand.
+mod crashing;
 mod failing;
+mod running;
 
 use crate::{Store, format, open};
 use std::alloc::Global;

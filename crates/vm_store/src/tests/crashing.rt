@@ -1,0 +1,122 @@
+//! A crash in a command, and a device that fails in one: what is shown afterwards.
+use super::{DUCT, bytes_of, commit, get, open_on, put, record_on, slot_bytes};
+use crate::{Store, format, open};
+use std::alloc::Global;
+use std::test::Fail;
+use vm_disk::{FuseDisk, MemDisk};
+use vm_types::{Answer, Key, Refusal, Value};
+
+const SECOND: Key = Key {
+    table: 7,
+    number: 2,
+};
+
+type Fused = Store<FuseDisk<MemDisk>>;
+
+// A new store of 64 blocks. Formatting and opening take the first eleven device calls.
+fn fresh_on(alloc: Global, disk: FuseDisk<MemDisk>) -> Result<Fused, Refusal> {
+    let disk = format(disk, 64).map_err(|refused| refused.1)?;
+    open(alloc, disk).map_err(|refused| refused.1)
+}
+
+// The disk below, as a crash leaves it where it takes these bytes into the blocks that are not synced.
+fn crashed(store: Fused, fill: &[(u32, [u8; 4096])]) -> MemDisk {
+    store.close().into_inner().crash(fill)
+}
+
+// A Commit of `duct` that is stopped inside the write of the selector. The Put writes block 34, and
+// the Commit writes block 18, syncs, and writes block 1.
+fn stopped_in_the_selector(alloc: Global, first: u8) -> Result<MemDisk, Fail> {
+    let mut selector = [0; 4096];
+    selector[0] = first;
+    let disk = FuseDisk::stop(MemDisk::new(alloc, 64)?, 14, selector);
+    let mut store = fresh_on(alloc, disk)?;
+    let put = put(&mut store, DUCT, b"duct");
+    let commit = commit(&mut store);
+    let disk = store.close();
+    let calls = disk.calls();
+    let left = disk.into_inner().crash(&[]);
+    if put == Ok(Answer::Done) && commit == Err(Refusal::Device) && calls == 15 {
+        Ok(left)
+    } else {
+        Err("the Commit is not stopped at the selector".into())
+    }
+}
+
+#[test]
+fn torn_selector_that_is_even_shows_the_old_entries(rt: HostRuntime) -> Result<(), Fail> {
+    let disk = stopped_in_the_selector(rt.alloc(), 0xFE)?;
+    assert_eq!(rt; record_on(rt.alloc(), disk)?, None);
+    Ok(())
+}
+
+#[test]
+fn torn_selector_that_is_odd_shows_the_new_entries(rt: HostRuntime) -> Result<(), Fail> {
+    let disk = stopped_in_the_selector(rt.alloc(), 0xA5)?;
+    let mut store = open_on(rt.alloc(), disk)?;
+    assert_eq!(rt; get(&mut store, DUCT), Ok(Value::new(b"duct")));
+    assert_eq!(rt; commit(&mut store), Ok(Answer::Done));
+    let mut disk = store.close();
+    assert!(rt; bytes_of(&mut disk, 1)? == [0; 4096]);
+    assert!(rt; bytes_of(&mut disk, 2)? == slot_bytes());
+    assert_eq!(rt; record_on(rt.alloc(), disk)?, Value::new(b"duct"));
+    Ok(())
+}
+
+// The second Commit writes block 2, syncs, writes block 1, and its last sync is device call 22.
+#[test]
+fn commit_whose_last_sync_fails_may_be_shown(rt: HostRuntime) -> Result<(), Fail> {
+    let disk = FuseDisk::once(MemDisk::new(rt.alloc(), 64)?, 21, [9; 4096]);
+    let mut store = fresh_on(rt.alloc(), disk)?;
+    assert_eq!(rt; put(&mut store, DUCT, b"duct"), Ok(Answer::Done));
+    assert_eq!(rt; commit(&mut store), Ok(Answer::Done));
+    assert_eq!(rt; put(&mut store, DUCT, b"pipe"), Ok(Answer::Done));
+    assert_eq!(rt; commit(&mut store), Err(Refusal::Device));
+    assert_eq!(rt; get(&mut store, DUCT), Err(Refusal::Failed));
+    let disk = store.close();
+    assert_eq!(rt; disk.calls(), 22);
+
+    let mut store = open_on(rt.alloc(), disk.into_inner())?;
+    assert_eq!(rt; get(&mut store, DUCT), Ok(Value::new(b"pipe")));
+    assert_eq!(rt; put(&mut store, SECOND, b"x"), Ok(Answer::Done));
+    let disk = store.close();
+    for n in 0..64 {
+        assert_eq!(rt; disk.is_dirty(n), n == 34, "block {n}");
+    }
+    let mut store = open_on(rt.alloc(), disk.crash(&[(34, [0xFF; 4096])]))?;
+    assert_eq!(rt; get(&mut store, DUCT), Ok(Value::new(b"pipe")));
+    assert_eq!(rt; get(&mut store, SECOND), Ok(None));
+    let _disk = store.close();
+    Ok(())
+}
+
+#[test]
+fn put_that_is_not_committed_is_gone_after_a_crash(rt: HostRuntime) -> Result<(), Fail> {
+    for byte in [0, 0xFF] {
+        let disk = FuseDisk::once(MemDisk::new(rt.alloc(), 64)?, 1000, [9; 4096]);
+        let mut store = fresh_on(rt.alloc(), disk)?;
+        assert_eq!(rt; put(&mut store, DUCT, b"duct"), Ok(Answer::Done));
+        assert_eq!(rt; commit(&mut store), Ok(Answer::Done));
+        assert_eq!(rt; put(&mut store, DUCT, b"pipe"), Ok(Answer::Done));
+        let left = crashed(store, &[(35, [byte; 4096])]);
+        assert_eq!(rt; record_on(rt.alloc(), left)?, Value::new(b"duct"));
+    }
+    Ok(())
+}
+
+// The second Commit is stopped inside its first write, which is device call 19.
+#[test]
+fn slot_that_is_not_in_use_may_be_torn(rt: HostRuntime) -> Result<(), Fail> {
+    for byte in [0, 0x41, 0xFF] {
+        let disk = FuseDisk::stop(MemDisk::new(rt.alloc(), 64)?, 18, [byte; 4096]);
+        let mut store = fresh_on(rt.alloc(), disk)?;
+        assert_eq!(rt; put(&mut store, DUCT, b"duct"), Ok(Answer::Done));
+        assert_eq!(rt; commit(&mut store), Ok(Answer::Done));
+        assert_eq!(rt; put(&mut store, DUCT, b"pipe"), Ok(Answer::Done));
+        assert_eq!(rt; commit(&mut store), Err(Refusal::Device));
+        let mut left = crashed(store, &[]);
+        assert!(rt; bytes_of(&mut left, 2)? == [byte; 4096]);
+        assert_eq!(rt; record_on(rt.alloc(), left)?, Value::new(b"duct"));
+    }
+    Ok(())
+}

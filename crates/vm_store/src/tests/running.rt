@@ -1,0 +1,79 @@
+//! Lists of commands.
+use super::{DUCT, commit, fresh_store, get, record_on};
+use crate::{Stop, format, open};
+use std::test::Fail;
+use vm_disk::{FuseDisk, MemDisk};
+use vm_types::{Answer, Command, Name, Refusal, Value};
+
+// A Put of `duct`, a Put into no alternative, and a Commit.
+fn commands() -> Option<[Command; 3]> {
+    let value = Value::new(b"duct")?;
+    Some([
+        Command::Put {
+            alt: Name::new(b"top")?,
+            key: DUCT,
+            value,
+        },
+        Command::Put {
+            alt: Name::new(b"nope")?,
+            key: DUCT,
+            value,
+        },
+        Command::Commit,
+    ])
+}
+
+#[test]
+fn commands_are_answered_in_order(rt: HostRuntime) -> Result<(), Fail> {
+    let commands = commands().ok_or("no names")?;
+    let mut store = fresh_store(rt.alloc())?;
+    let (answers, stop) = store.run(rt.alloc(), &commands);
+    assert_eq!(rt;
+        answers.as_slice(),
+        [
+            Ok(Answer::Done),
+            Err(Refusal::NoSuchAlternative),
+            Ok(Answer::Done)
+        ]
+        .as_slice()
+    );
+    assert_eq!(rt; stop, None);
+    assert_eq!(rt; get(&mut store, DUCT), Ok(Value::new(b"duct")));
+    assert_eq!(rt; record_on(rt.alloc(), store.close())?, Value::new(b"duct"));
+    Ok(())
+}
+
+#[test]
+fn empty_list_has_no_answers(rt: HostRuntime) -> Result<(), Fail> {
+    let mut store = fresh_store(rt.alloc())?;
+    let (answers, stop) = store.run(rt.alloc(), &[]);
+    assert!(rt; answers.is_empty());
+    assert_eq!(rt; stop, None);
+    let _disk = store.close();
+    Ok(())
+}
+
+// Formatting and opening make eleven device calls, the Put one, and the Commit's first sync is the
+// third after these.
+#[test]
+fn list_ends_where_the_device_fails(rt: HostRuntime) -> Result<(), Fail> {
+    let [put, refused, commit_all] = commands().ok_or("no names")?;
+    let disk = FuseDisk::once(MemDisk::new(rt.alloc(), 64)?, 13, [9; 4096]);
+    let disk = format(disk, 64).map_err(|refused| refused.1)?;
+    let mut store = open(rt.alloc(), disk).map_err(|refused| refused.1)?;
+    let (answers, stop) = store.run(rt.alloc(), &[put, commit_all, refused]);
+    assert_eq!(rt;
+        answers.as_slice(),
+        [Ok(Answer::Done), Err(Refusal::Device)].as_slice()
+    );
+    assert_eq!(rt; stop, Some(Stop::Device));
+
+    let (answers, stop) = store.run(rt.alloc(), &[Command::Commit]);
+    assert!(rt; answers.is_empty());
+    assert_eq!(rt; stop, Some(Stop::Failed));
+    assert_eq!(rt; commit(&mut store), Err(Refusal::Failed));
+    let disk = store.close();
+    assert_eq!(rt; disk.calls(), 14);
+    assert_eq!(rt; record_on(rt.alloc(), disk.into_inner())?, None);
+    Ok(())
+}
