@@ -1,6 +1,7 @@
 pub mod Escapes
 pub mod Fed
 pub mod Lines
+pub mod Listings
 pub mod Numbers
 pub mod Requests
 pub mod Spaces

@@ -2,7 +2,8 @@
 use Rattle.std.specs.Prelude.{◌==◌, ◌&&◌, ◌||◌, ℕ, Bool, false, List, [], ◌∷◌, Option, Some, None, codes, if◌then◌else◌, length, nat_le, option_and_then, option_map, unwrap_or}
 use Rattle.std.specs.List.{list_all}
 use Rattle.std.specs.Str.{bytes_eq}
-use Rattle.vm_types.specs.declared.command.Command.TheVariants.{Put, Commit}
+use Rattle.vm_types.specs.declared.command.Command.{Command}
+use Rattle.vm_types.specs.declared.command.Command.TheVariants.{New, Drop, Put, Remove, Checkpoint, Uncheck, Back, Commit}
 use Rattle.vm_types.specs.declared.key.Key.{Key}
 use Rattle.vm_cli.specs.Escapes.{value_of}
 use Rattle.vm_cli.specs.Numbers.{number_of}
@@ -23,27 +24,65 @@ abbrev pub key_of : List ℕ → List ℕ → Option Key
 key_of table number =
     option_and_then (λ t. option_map (λ n. record { table = t; number = n }) (number_of 18446744073709551615 number)) (number_of 65535 table)
 
+-- `ALT TABLE NUMBER`
+abbrev pub record_of : List (List ℕ) → Option (List ℕ × Key)
+record_of (alt ∷ table ∷ number ∷ []) = option_and_then (λ a. option_map (λ k. (a, k)) (key_of table number)) (name_of alt)
+record_of _ = None
+
+-- `NAME`
+abbrev pub named_of : List (List ℕ) → Option (List ℕ)
+named_of (name ∷ []) = name_of name
+named_of _ = None
+
+-- `NAME NAME`
+abbrev pub names_of : List (List ℕ) → Option (List ℕ × List ℕ)
+names_of (first ∷ second ∷ []) = option_and_then (λ a. option_map (λ b. (a, b)) (name_of second)) (name_of first)
+names_of _ = None
+
 -- `put ALT TABLE NUMBER VALUE`
-abbrev pub put_of : List (List ℕ) → Option Request
+abbrev pub put_of : List (List ℕ) → Option Command
 put_of (alt ∷ table ∷ number ∷ value ∷ []) =
-    option_and_then (λ a. option_and_then (λ k. option_map (λ v. request.Command (Put a k v)) (value_of value)) (key_of table number)) (name_of alt)
+    option_and_then (λ a. option_and_then (λ k. option_map (λ v. Put a k v) (value_of value)) (key_of table number)) (name_of alt)
 put_of _ = None
 
--- `get ALT TABLE NUMBER`
-abbrev pub get_of : List (List ℕ) → Option Request
-get_of (alt ∷ table ∷ number ∷ []) = option_and_then (λ a. option_map (λ k. request.Get a k) (key_of table number)) (name_of alt)
-get_of _ = None
+-- no further word
+abbrev pub alone : {X : Type 0} → X → List (List ℕ) → Option X
+alone x [] = Some x
+alone x _ = None
 
--- `commit`
-abbrev pub commit_of : List (List ℕ) → Option Request
-commit_of [] = Some (request.Command Commit)
-commit_of _ = None
+-- the command that two names complete
+abbrev pub two_named : List ℕ → List ℕ → List ℕ → Option Command
+two_named verb first second =
+    if bytes_eq verb (codes "new") then Some (New first second)
+    else (if bytes_eq verb (codes "checkpoint") then Some (Checkpoint first second)
+    else (if bytes_eq verb (codes "uncheck") then Some (Uncheck first second)
+    else (if bytes_eq verb (codes "back") then Some (Back first second) else None)))
+
+-- the command that the words after the first complete
+abbrev pub command_of : List ℕ → List (List ℕ) → Option Command
+command_of verb words =
+    if bytes_eq verb (codes "put") then put_of words
+    else (if bytes_eq verb (codes "remove") then option_map (λ r. Remove r.0 r.1) (record_of words)
+    else (if bytes_eq verb (codes "commit") then alone Commit words
+    else (if bytes_eq verb (codes "drop") then option_map Drop (named_of words)
+    else option_and_then (λ names. two_named verb names.0 names.1) (names_of words))))
+
+-- the query that the words after the first complete
+abbrev pub query_of : List ℕ → List (List ℕ) → Option Request
+query_of verb words =
+    if bytes_eq verb (codes "get") then option_map (λ r. request.Get r.0 r.1) (record_of words)
+    else (if bytes_eq verb (codes "list") then option_map request.List (named_of words)
+    else (if bytes_eq verb (codes "checks") then option_map request.Checkpoints (named_of words)
+    else (if bytes_eq verb (codes "alts") then alone request.Alternatives words else None)))
+
+-- a command, or else a query
+abbrev pub command_or : Option Command → Option Request → Option Request
+command_or (Some command) query = Some (request.Command command)
+command_or None query = query
 
 -- what the words after the first ask for
 abbrev pub asked_by : List ℕ → List (List ℕ) → Option Request
-asked_by verb words =
-    if bytes_eq verb (codes "put") then put_of words
-    else (if bytes_eq verb (codes "get") then get_of words else (if bytes_eq verb (codes "commit") then commit_of words else None))
+asked_by verb words = command_or (command_of verb words) (query_of verb words)
 
 -- the line is a comment: its first word begins with `#` (35)
 abbrev pub is_comment : List ℕ → Bool

@@ -9,6 +9,7 @@
 mod escape;
 mod file;
 mod line;
+mod listing;
 mod number;
 mod place;
 mod program;

@@ -15,6 +15,8 @@ pub enum Reply {
     Merged(u32),
     /// The value of a record, if it is there.
     Found(Option<Value>),
+    /// The end of a list, with the number of its lines before this one.
+    End(usize),
     Refused(Refusal),
     /// A refusal after which the store carries out nothing more: the talk ends with it.
     Last(Refusal),
@@ -42,6 +44,11 @@ impl Reply {
             Reply::Found(Some(value)) => {
                 text.push_bytes(b"value ");
                 escape::push_value(text, value);
+                text.push(b'\n');
+            }
+            Reply::End(count) => {
+                text.push_bytes(b"end ");
+                text.push_number(*count as u64);
                 text.push(b'\n');
             }
             Reply::Refused(refusal) => push_error(text, refusal),

@@ -10,12 +10,18 @@ pub enum Request {
     Command(Command),
     /// The value of a record.
     Get { alt: Name, key: Key },
+    /// All records of an alternative.
+    List { alt: Name },
+    /// All alternatives, with their parents.
+    Alternatives,
+    /// The checkpoints of an alternative.
+    Checkpoints { alt: Name },
     /// The line is none of those that there are.
     Bad,
 }
 
 ghost use Rattle.std.specs.Prelude.{◌≡◌, ◌<◌, ◌∷◌, [], ℕ, List, length, MatchOption, None};
-ghost use Rattle.vm_cli.specs.Requests.{asked_by, commit_of, get_of, key_of, name_of, put_of, request_of};
+ghost use Rattle.vm_cli.specs.Requests.{asked_by, command_of, key_of, name_of, named_of, names_of, put_of, query_of, record_of, request_of, two_named};
 ghost use Rattle.vm_cli.specs.Spaces.{with_word, words_of};
 
 /// Reads a line, given without the bytes that end it.
@@ -35,20 +41,91 @@ pub fn read_request(line: &[u8]) -> Request
 fn asked(verb: &[u8], rest: &[u8]) -> Option<Request>
     ensures { result ≡ asked_by verb.now (words_of rest.now) }
 {
+    match command(verb, rest) {
+        Some(command) => Some(Request::Command(command)),
+        None => query(verb, rest),
+    }
+}
+
+// The command that the words after the first complete.
+fn command(verb: &[u8], rest: &[u8]) -> Option<Command>
+    ensures { result ≡ command_of verb.now (words_of rest.now) }
+{
     if verb == b"put".as_slice() {
         return put(rest);
     }
-    if verb == b"get".as_slice() {
-        return get(rest);
+    if verb == b"remove".as_slice() {
+        let (alt, key) = record(rest)?;
+        return Some(Command::Remove { alt, key });
     }
     if verb == b"commit".as_slice() {
-        return commit(rest);
+        ends(rest)?;
+        return Some(Command::Commit);
+    }
+    if verb == b"drop".as_slice() {
+        let alt = one_name(rest)?;
+        return Some(Command::Drop { alt });
+    }
+    let (first, second) = two_names(rest)?;
+    of_two_names(verb, first, second)
+}
+
+// The command that two names complete.
+fn of_two_names(verb: &[u8], first: Name, second: Name) -> Option<Command>
+    ensures { result ≡ two_named verb.now first second }
+{
+    if verb == b"new".as_slice() {
+        return Some(Command::New {
+            name: first,
+            parent: second,
+        });
+    }
+    if verb == b"checkpoint".as_slice() {
+        return Some(Command::Checkpoint {
+            alt: first,
+            name: second,
+        });
+    }
+    if verb == b"uncheck".as_slice() {
+        return Some(Command::Uncheck {
+            alt: first,
+            name: second,
+        });
+    }
+    if verb == b"back".as_slice() {
+        return Some(Command::Back {
+            alt: first,
+            name: second,
+        });
+    }
+    None
+}
+
+// The query that the words after the first complete.
+fn query(verb: &[u8], rest: &[u8]) -> Option<Request>
+    ensures { result ≡ query_of verb.now (words_of rest.now) }
+{
+    if verb == b"get".as_slice() {
+        let (alt, key) = record(rest)?;
+        return Some(Request::Get { alt, key });
+    }
+    if verb == b"list".as_slice() {
+        let alt = one_name(rest)?;
+        return Some(Request::List { alt });
+    }
+    if verb == b"checks".as_slice() {
+        let alt = one_name(rest)?;
+        return Some(Request::Checkpoints { alt });
+    }
+    if verb == b"alts".as_slice() {
+        ends(rest)?;
+        return Some(Request::Alternatives);
     }
     None
 }
 
 // `put ALT TABLE NUMBER VALUE`
-fn put(rest: &[u8]) -> Option<Request>
+fn put(rest: &[u8]) -> Option<Command>
     ensures { result ≡ put_of (words_of rest.now) }
 {
     let (alt, rest) = first_word(rest)?;
@@ -59,12 +136,12 @@ fn put(rest: &[u8]) -> Option<Request>
     let alt = name(alt)?;
     let key = key(table, number)?;
     let value = escape::value(value)?;
-    Some(Request::Command(Command::Put { alt, key, value }))
+    Some(Command::Put { alt, key, value })
 }
 
-// `get ALT TABLE NUMBER`
-fn get(rest: &[u8]) -> Option<Request>
-    ensures { result ≡ get_of (words_of rest.now) }
+// `ALT TABLE NUMBER`
+fn record(rest: &[u8]) -> Option<(Name, Key)>
+    ensures { result ≡ record_of (words_of rest.now) }
 {
     let (alt, rest) = first_word(rest)?;
     let (table, rest) = first_word(rest)?;
@@ -72,15 +149,28 @@ fn get(rest: &[u8]) -> Option<Request>
     ends(rest)?;
     let alt = name(alt)?;
     let key = key(table, number)?;
-    Some(Request::Get { alt, key })
+    Some((alt, key))
 }
 
-// `commit`
-fn commit(rest: &[u8]) -> Option<Request>
-    ensures { result ≡ commit_of (words_of rest.now) }
+// `NAME`
+fn one_name(rest: &[u8]) -> Option<Name>
+    ensures { result ≡ named_of (words_of rest.now) }
 {
+    let (word, rest) = first_word(rest)?;
     ends(rest)?;
-    Some(Request::Command(Command::Commit))
+    name(word)
+}
+
+// `NAME NAME`
+fn two_names(rest: &[u8]) -> Option<(Name, Name)>
+    ensures { result ≡ names_of (words_of rest.now) }
+{
+    let (first, rest) = first_word(rest)?;
+    let (second, rest) = first_word(rest)?;
+    ends(rest)?;
+    let first = name(first)?;
+    let second = name(second)?;
+    Some((first, second))
 }
 
 // The key that two words say.

@@ -196,6 +196,137 @@ fn answers_lines(rt: HostRuntime) -> Result<(), Fail> {
     Ok(())
 }
 
+/// Lines of two designs, one below the other.
+const DESIGNS: &[u8] = b"\
+new a top\n\
+new b a\n\
+put a 7 2 -\n\
+put a 7 1 duct\n\
+list a\n\
+list top\n\
+alts\n\
+drop a\n\
+drop top\n\
+new a top\n\
+new c nope\n\
+checkpoint a c\n\
+checkpoint a c\n\
+checks a\n\
+remove a 7 1\n\
+remove a 7 1\n\
+get a 7 1\n\
+back a c\n\
+get a 7 1\n\
+back a q\n\
+uncheck a c\n\
+uncheck a c\n\
+checks a\n\
+checks q\n\
+list q\n\
+drop b\n\
+drop a\n\
+alts\n";
+
+const DESIGN_ANSWERS: &[u8] = b"\
+ok\n\
+ok\n\
+ok\n\
+ok\n\
+record 7 1 duct\n\
+record 7 2 -\n\
+end 2\n\
+end 0\n\
+alternative top ~\n\
+alternative a top\n\
+alternative b a\n\
+end 3\n\
+error 7 HasChildren\n\
+error 6 IsTop\n\
+error 2 AlternativeExists\n\
+error 1 NoSuchAlternative\n\
+ok\n\
+error 4 CheckpointExists\n\
+checkpoint c\n\
+end 1\n\
+ok\n\
+error 5 NoSuchRecord\n\
+none\n\
+ok\n\
+value duct\n\
+error 3 NoSuchCheckpoint\n\
+ok\n\
+error 3 NoSuchCheckpoint\n\
+end 0\n\
+error 1 NoSuchAlternative\n\
+error 1 NoSuchAlternative\n\
+ok\n\
+ok\n\
+alternative top ~\n\
+end 1\n";
+
+#[test]
+fn answers_lines_of_designs(rt: HostRuntime) -> Result<(), Fail> {
+    answered(rt.alloc(), DESIGNS)?.expect(&rt, 0, DESIGN_ANSWERS, b"");
+    Ok(())
+}
+
+#[test]
+fn refuses_lines_with_too_few_or_too_many_words(rt: HostRuntime) -> Result<(), Fail> {
+    for line in [
+        b"new a\n".as_slice(),
+        b"new a top x\n",
+        b"new a! top\n",
+        b"drop\n",
+        b"drop a b\n",
+        b"remove top 7\n",
+        b"remove top 7 1 x\n",
+        b"checkpoint top\n",
+        b"uncheck top a b\n",
+        b"back top\n",
+        b"list\n",
+        b"list top top\n",
+        b"alts top\n",
+        b"checks\n",
+        b"New a top\n",
+    ] {
+        answered(rt.alloc(), line)?.expect(&rt, 0, b"error 22 BadLine\n", b"");
+    }
+    Ok(())
+}
+
+// Appends what begins the line of a record, and its value of 240 zero bytes.
+fn push_zeros(into: &mut Vec<u8>, verb: &[u8], number: u8) -> Result<(), Fail> {
+    into.extend_from_slice(verb)?;
+    into.push(number)?;
+    into.push(b' ')?;
+    for _ in 0..240 {
+        into.extend_from_slice(b"%00")?;
+    }
+    into.push(b'\n')?;
+    Ok(())
+}
+
+#[test]
+fn lists_more_than_one_text_takes(rt: HostRuntime) -> Result<(), Fail> {
+    let mut lines = Vec::new(rt.alloc());
+    let mut answers = Vec::new(rt.alloc());
+    for number in b'0'..=b'9' {
+        push_zeros(&mut lines, b"put top 65535 184467440737095516", number)?;
+        answers.extend_from_slice(b"ok\n")?;
+    }
+    lines.extend_from_slice(b"list top\n")?;
+    for number in b'0'..=b'9' {
+        push_zeros(
+            &mut answers,
+            b"record 65535 184467440737095516",
+            number,
+        )?;
+    }
+    answers.extend_from_slice(b"end 10\n")?;
+    answered(rt.alloc(), lines.as_slice())?.expect(&rt, 0, answers.as_slice(), b"");
+    Ok(())
+}
+
 /// A comment of this many bytes, and a query behind it.
 fn comment(alloc: Global, len: usize) -> Result<Vec<u8>, Fail> {
     let mut line = Vec::new(alloc);

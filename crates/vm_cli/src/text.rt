@@ -64,6 +64,13 @@ impl Text {
         self.push_bytes(buffer.format(number).as_bytes());
     }
 
+    /// Drops all bytes.
+    pub fn clear(&mut self)
+        ensures { self.new ≡ [] }
+    {
+        self.len = 0;
+    }
+
     pub fn as_bytes(&self) -> &[u8]
         ensures { result.now ≡ self.now }
     {
