@@ -4,7 +4,7 @@ use Rattle.std.specs.Prelude.{option_and_then, option_map, unwrap_or}
 use Rattle.std.specs.Str.{bytes_eq}
 use Rattle.vm_store.specs.Answers.{IsCarriedOut}
 use Rattle.vm_types.specs.declared.command.Command.{Command}
-use Rattle.vm_types.specs.declared.command.Command.TheVariants.{New, Drop, Put, Remove, Checkpoint, Uncheck, Back, Commit}
+use Rattle.vm_types.specs.declared.command.Command.TheVariants.{New, Drop, Put, Remove, Checkpoint, Uncheck, Back, Commit, Reclaim}
 use Rattle.vm_cli.specs.Escapes.{value_of}
 use Rattle.vm_cli.specs.Requests.{alone, asked_by, command_of, command_or, is_comment, key_of, name_of, named_of, names_of, put_of, query_of, record_of, request_of, two_named}
 use Rattle.vm_cli.specs.declared.request.Request.{Request}
@@ -18,6 +18,7 @@ Carried (request.Get alt key) = Unit {0}
 Carried (request.List alt) = Unit {0}
 Carried request.Alternatives = Unit {0}
 Carried (request.Checkpoints alt) = Unit {0}
+Carried request.Free = Unit {0}
 Carried request.Bad = Unit {0}
 
 abbrev CommandCarried : Option Command → Type 0
@@ -60,6 +61,14 @@ commit-carried : (words : List (List ℕ)) → CommandCarried (alone Commit word
 commit-carried [] = tt
 commit-carried (a ∷ more) = tt
 
+reclaim-carried : (words : List (List ℕ)) → CommandCarried (alone Reclaim words)
+reclaim-carried [] = tt
+reclaim-carried (a ∷ more) = tt
+
+free-carried : (words : List (List ℕ)) → CarriedIf (alone request.Free words)
+free-carried [] = tt
+free-carried (a ∷ more) = tt
+
 alternatives-carried : (words : List (List ℕ)) → CarriedIf (alone request.Alternatives words)
 alternatives-carried [] = tt
 alternatives-carried (a ∷ more) = tt
@@ -76,15 +85,17 @@ of-command verb words =
     either (bytes_eq verb (codes "put")) _ _ (put-carried words)
     (either (bytes_eq verb (codes "remove")) _ _ (last (λ r. Remove r.0 r.1) (record_of words) (λ r. tt))
     (either (bytes_eq verb (codes "commit")) _ _ (commit-carried words)
+    (either (bytes_eq verb (codes "reclaim")) _ _ (reclaim-carried words)
     (either (bytes_eq verb (codes "drop")) _ _ (last Drop (named_of words) (λ name. tt))
-    (chain (λ names. two_named verb names.0 names.1) (names_of words) (λ names. two-carried verb names.0 names.1)))))
+    (chain (λ names. two_named verb names.0 names.1) (names_of words) (λ names. two-carried verb names.0 names.1))))))
 
 of-query : (verb : List ℕ) (words : List (List ℕ)) → CarriedIf (query_of verb words)
 of-query verb words =
     either_query (bytes_eq verb (codes "get")) _ _ (asks (λ r. request.Get r.0 r.1) (record_of words) (λ r. tt))
     (either_query (bytes_eq verb (codes "list")) _ _ (asks request.List (named_of words) (λ name. tt))
     (either_query (bytes_eq verb (codes "checks")) _ _ (asks request.Checkpoints (named_of words) (λ name. tt))
-    (either_query (bytes_eq verb (codes "alts")) _ None (alternatives-carried words) tt)))
+    (either_query (bytes_eq verb (codes "alts")) _ _ (alternatives-carried words)
+    (either_query (bytes_eq verb (codes "free")) _ None (free-carried words) tt))))
 
 joined : (o : Option Command) (q : Option Request) → CommandCarried o → CarriedIf q → CarriedIf (command_or o q)
 joined None q h k = k

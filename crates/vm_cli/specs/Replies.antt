@@ -4,7 +4,7 @@ use Rattle.std.specs.Prelude.{◌++◌, ℕ, Bool, true, false, List, [], ◌∷
 use Rattle.vm_types.specs.Texts.{refusal_text}
 use Rattle.vm_cli.specs.Escapes.{value_text}
 use Rattle.vm_cli.specs.declared.reply.Reply.{Reply}
-use Rattle.vm_cli.specs.declared.reply.Reply.TheVariants.{Nothing, Done, Merged, Found, End, Refused, Last, BadLine, LongLine}
+use Rattle.vm_cli.specs.declared.reply.Reply.TheVariants.{Nothing, Done, Merged, Found, Free, End, Refused, Last, BadLine, LongLine}
 
 -- the line of an answer, with the line feed (10) at its end
 abbrev pub reply_text : Reply → List ℕ
@@ -13,6 +13,7 @@ reply_text Done = codes "ok" ++ 10 ∷ []
 reply_text (Merged changes) = codes "ok " ++ (decimal changes ++ 10 ∷ [])
 reply_text (Found None) = codes "none" ++ 10 ∷ []
 reply_text (Found (Some value)) = codes "value " ++ (value_text value ++ 10 ∷ [])
+reply_text (Free count) = codes "free " ++ (decimal count ++ 10 ∷ [])
 reply_text (End count) = codes "end " ++ (decimal count ++ 10 ∷ [])
 reply_text (Refused refusal) = codes "error " ++ (refusal_text refusal ++ 10 ∷ [])
 reply_text (Last refusal) = codes "error " ++ (refusal_text refusal ++ 10 ∷ [])

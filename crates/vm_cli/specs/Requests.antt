@@ -3,7 +3,7 @@ use Rattle.std.specs.Prelude.{◌==◌, ◌&&◌, ◌||◌, ℕ, Bool, false, Li
 use Rattle.std.specs.List.{list_all}
 use Rattle.std.specs.Str.{bytes_eq}
 use Rattle.vm_types.specs.declared.command.Command.{Command}
-use Rattle.vm_types.specs.declared.command.Command.TheVariants.{New, Drop, Put, Remove, Checkpoint, Uncheck, Back, Commit}
+use Rattle.vm_types.specs.declared.command.Command.TheVariants.{New, Drop, Put, Remove, Checkpoint, Uncheck, Back, Commit, Reclaim}
 use Rattle.vm_types.specs.declared.key.Key.{Key}
 use Rattle.vm_cli.specs.Escapes.{value_of}
 use Rattle.vm_cli.specs.Numbers.{number_of}
@@ -64,8 +64,9 @@ command_of verb words =
     if bytes_eq verb (codes "put") then put_of words
     else (if bytes_eq verb (codes "remove") then option_map (λ r. Remove r.0 r.1) (record_of words)
     else (if bytes_eq verb (codes "commit") then alone Commit words
+    else (if bytes_eq verb (codes "reclaim") then alone Reclaim words
     else (if bytes_eq verb (codes "drop") then option_map Drop (named_of words)
-    else option_and_then (λ names. two_named verb names.0 names.1) (names_of words))))
+    else option_and_then (λ names. two_named verb names.0 names.1) (names_of words)))))
 
 -- the query that the words after the first complete
 abbrev pub query_of : List ℕ → List (List ℕ) → Option Request
@@ -73,7 +74,8 @@ query_of verb words =
     if bytes_eq verb (codes "get") then option_map (λ r. request.Get r.0 r.1) (record_of words)
     else (if bytes_eq verb (codes "list") then option_map request.List (named_of words)
     else (if bytes_eq verb (codes "checks") then option_map request.Checkpoints (named_of words)
-    else (if bytes_eq verb (codes "alts") then alone request.Alternatives words else None)))
+    else (if bytes_eq verb (codes "alts") then alone request.Alternatives words
+    else (if bytes_eq verb (codes "free") then alone request.Free words else None))))
 
 -- a command, or else a query
 abbrev pub command_or : Option Command → Option Request → Option Request

@@ -15,6 +15,8 @@ pub enum Reply {
     Merged(u32),
     /// The value of a record, if it is there.
     Found(Option<Value>),
+    /// The number of free blocks.
+    Free(u32),
     /// The end of a list, with the number of its lines before this one.
     End(usize),
     Refused(Refusal),
@@ -44,6 +46,11 @@ impl Reply {
             Reply::Found(Some(value)) => {
                 text.push_bytes(b"value ");
                 escape::push_value(text, value);
+                text.push(b'\n');
+            }
+            Reply::Free(count) => {
+                text.push_bytes(b"free ");
+                text.push_number(u64::from(*count));
                 text.push(b'\n');
             }
             Reply::End(count) => {

@@ -16,6 +16,8 @@ pub enum Request {
     Alternatives,
     /// The checkpoints of an alternative.
     Checkpoints { alt: Name },
+    /// The number of free blocks.
+    Free,
     /// The line is none of those that there are.
     Bad,
 }
@@ -61,6 +63,10 @@ fn command(verb: &[u8], rest: &[u8]) -> Option<Command>
     if verb == b"commit".as_slice() {
         ends(rest)?;
         return Some(Command::Commit);
+    }
+    if verb == b"reclaim".as_slice() {
+        ends(rest)?;
+        return Some(Command::Reclaim);
     }
     if verb == b"drop".as_slice() {
         let alt = one_name(rest)?;
@@ -120,6 +126,10 @@ fn query(verb: &[u8], rest: &[u8]) -> Option<Request>
     if verb == b"alts".as_slice() {
         ends(rest)?;
         return Some(Request::Alternatives);
+    }
+    if verb == b"free".as_slice() {
+        ends(rest)?;
+        return Some(Request::Free);
     }
     None
 }

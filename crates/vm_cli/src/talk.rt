@@ -126,6 +126,7 @@ fn reply_to<W: Write, D: Disk>(
             Request::Bad => Reply::BadLine,
             Request::Command(command) => carry_out(&command, store),
             Request::Get { alt, key } => get(&alt, key, store),
+            Request::Free => free(store),
             Request::List { alt } => return list(alloc, &alt, text, writer, store),
             Request::Alternatives => return alternatives(alloc, text, writer, store),
             Request::Checkpoints { alt } => return checkpoints(alloc, &alt, text, writer, store),
@@ -150,6 +151,14 @@ fn carry_out<D: Disk>(command: &Command, store: &mut Store<D>) -> Reply
 fn get<D: Disk>(alt: &Name, key: Key, store: &mut Store<D>) -> Reply {
     match store.get(alt, key) {
         Ok(value) => Reply::Found(value),
+        Err(refusal) => refused(refusal),
+    }
+}
+
+// Answers a query for the number of free blocks.
+fn free<D: Disk>(store: &Store<D>) -> Reply {
+    match store.free() {
+        Ok(count) => Reply::Free(count),
         Err(refusal) => refused(refusal),
     }
 }

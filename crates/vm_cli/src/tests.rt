@@ -225,7 +225,12 @@ checks q\n\
 list q\n\
 drop b\n\
 drop a\n\
-alts\n";
+alts\n\
+free\n\
+reclaim\n\
+free\n\
+free x\n\
+reclaim now\n";
 
 const DESIGN_ANSWERS: &[u8] = b"\
 ok\n\
@@ -262,7 +267,12 @@ error 1 NoSuchAlternative\n\
 ok\n\
 ok\n\
 alternative top ~\n\
-end 1\n";
+end 1\n\
+free 27\n\
+ok\n\
+free 30\n\
+error 22 BadLine\n\
+error 22 BadLine\n";
 
 #[test]
 fn answers_lines_of_designs(rt: HostRuntime) -> Result<(), Fail> {
