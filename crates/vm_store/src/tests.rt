@@ -1,5 +1,6 @@
 //! What a store answers, and what it leaves on a disk, by hand.
 mod failing;
+mod slots;
 
 use crate::{Store, format, open};
 use std::alloc::Global;
