@@ -2,6 +2,7 @@
 mod crashing;
 mod failing;
 mod running;
+mod slots;
 
 use crate::{Store, format, open};
 use std::alloc::Global;
