@@ -37,8 +37,8 @@ pub ran_more : (old mid new : disk.State) (s : State) (commands : List Command) 
     → Throughout mid new (Leaves (LeftBy Shows (after s commands answers) c)) → Ran old new s (commands ++ c ∷ []) (answers ++ a ∷ [])
 ran_more old mid new s commands answers c a ran crash =
     HasRun-more ran (disk.LeftAt new) c a _ _ (after_more s commands answers c a ran.last.same) (moment_rises mid new _ crash)
-      (λ t x le was. past_stays mid new _ crash t x le was)
-      (λ t x from to was. leaves_only mid new _ crash t x from was)
+    (λ t x le was. past_stays mid new _ crash t x le was)
+    (λ t x from to was. leaves_only mid new _ crash t x from was)
 
 -- the slots are guarded before the first command, and through one more
 pub guarded_none : (old : disk.State) {bits : List Bool} → IsGuarded bits old.now → Throughout old old (λ m. (held : List Bool) × IsGuarded held m)

@@ -1,6 +1,7 @@
 //! What a store answers, and what it leaves on a disk, by hand.
 mod crashing;
 mod failing;
+mod reclaiming;
 mod running;
 mod slots;
 

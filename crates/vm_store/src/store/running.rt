@@ -62,7 +62,7 @@ impl<D: Disk> Store<D> {
         // empty or ends with a commit, and this beginning holds every commit that was acknowledged.
         ensures kept { (D.state (disk_of self.old)).honest ≡ true → has_failed self.old ≡ false → (s : State) → Holds self.old s
             → KeptThroughout Shows (LeftAt (D.state (disk_of self.new))) s (moment (D.state (disk_of self.old)))
-                (take (length result.0.items) commands.now) result.0.items (moment (D.state (disk_of self.new))) }
+            (take (length result.0.items) commands.now) result.0.items (moment (D.state (disk_of self.new))) }
 
         // For at each moment the slots that it may leave in use are whole, clean and held.
         ensures guarded { (D.state (disk_of self.old)).honest ≡ true → has_failed self.old ≡ false → (s : State) → Holds self.old s
