@@ -2,13 +2,16 @@ pub mod FiledLemmas
 pub mod FormattingLemmas
 pub mod LedgerLemmas
 pub mod MarkedLemmas
+pub mod Listing
 pub mod Marking
 pub mod MarkingLemmas
 pub mod OneLeaf
 pub mod Placing
 pub mod Putting
 pub mod OpeningLemmas
+pub mod Removing
 pub mod RestingLemmas
 pub mod SpareLemmas
 pub mod SpareTests
 pub mod StandingLemmas
+pub mod TakingOut

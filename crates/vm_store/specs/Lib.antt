@@ -3,6 +3,7 @@ pub mod Filed
 pub mod Formatting
 pub mod Free
 pub mod LeafMap
+pub mod Listing
 pub mod Marking
 pub mod Opening
 pub mod Refused

@@ -9,8 +9,10 @@ ghost use Rattle.vm_store.specs.Resting.{spare_of};
 ghost use Rattle.vm_store.specs.Shown.{Shows};
 
 mod formatting;
+mod listing;
 mod opening;
 mod parts;
+mod removing;
 
 use crate::entries::{copy_entries, mark_entries, position_of};
 use crate::leaf_map::{self, refusal_of};
@@ -104,6 +106,7 @@ impl<D: Disk> Store<D> {
     {
         match command {
             Command::Put { alt, key, value } => self.put(alt, *key, value),
+            Command::Remove { alt, key } => self.remove(alt, *key),
             Command::Commit => self.commit(),
             _ => unreachable!(),
         }
