@@ -10,9 +10,11 @@ ghost use Rattle.vm_store.specs.Resting.{spare_of};
 ghost use Rattle.vm_store.specs.Shown.{Shows};
 
 mod formatting;
+mod listing;
 mod opening;
 mod parts;
 mod reclaiming;
+mod removing;
 mod running;
 
 use crate::entries::{copy_entries, mark_entries, position_of};
@@ -120,6 +122,7 @@ impl<D: Disk> Store<D> {
     {
         match command {
             Command::Put { alt, key, value } => self.put(alt, *key, value),
+            Command::Remove { alt, key } => self.remove(alt, *key),
             Command::Commit => self.commit(),
             Command::Reclaim => self.reclaim(),
             _ => unreachable!(),
