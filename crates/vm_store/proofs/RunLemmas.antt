@@ -19,7 +19,7 @@ use Rattle.vm_store.specs.Answers.{IsDue, IsAnswer}
 use Rattle.vm_store.specs.Free.{is_free}
 use Rattle.vm_store.specs.Guarded.{IsGuarded}
 use Rattle.vm_store.specs.Resting.{Rests}
-use Rattle.vm_store.specs.Running.{Accepts, MayAnswer, MayAnswerAll}
+use Rattle.vm_store.specs.Running.{Accepts, MayAnswer, MayAnswerAll, NoneIsDevice}
 use Rattle.vm_store.specs.Shown.{Shows}
 use Rattle.vm_store.proofs.RestingLemmas.{shows_old}
 
@@ -70,6 +70,11 @@ answered_more s [] [] c a so_far last = (last, tt)
 answered_more s [] (b ∷ answers) c a so_far last = absurd so_far
 answered_more s (d ∷ commands) [] c a so_far last = absurd so_far
 answered_more s (d ∷ commands) (b ∷ answers) c a so_far last = (so_far.0, answered_more (next s d b) commands answers c a so_far.1 last)
+
+-- one more answer that is no failure of the device
+pub none_more : (answers : List (Result Answer Refusal)) (a : Result Answer Refusal) → NoneIsDevice answers → (a ≡ Err Device → ⊥) → NoneIsDevice (answers ++ a ∷ [])
+none_more [] a none last = (last, tt)
+none_more (b ∷ answers) a none last = (none.0, none_more answers a none.1 last)
 
 -- the first n commands, and the one at n
 pub take_one_more : (cs : List Command) (n : ℕ) (c : Command) → n < length cs → c ≡ get_or cs n c → take (n + 1) cs ≡ take n cs ++ c ∷ []
