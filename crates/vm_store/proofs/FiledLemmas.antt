@@ -18,6 +18,13 @@ refiled g f = record f { current = g f.current }
 abbrev pub recurrent : (Map → Map) → Alternative → Alternative
 recurrent g a = record a { current = g a.current }
 
+-- with other records, and others in the base
+abbrev pub refiled_both : (Map → Map) → (Map → Map) → Filed → Filed
+refiled_both g h f = record f { current = g f.current; base = h f.base }
+
+abbrev pub with_maps : (Map → Map) → (Map → Map) → Alternative → Alternative
+with_maps g h a = record a { current = g a.current; base = h a.base }
+
 -- the two maps of an alternative
 abbrev pub maps_of : Alternative → Map × Map
 maps_of a = (a.current, a.base)
@@ -30,7 +37,7 @@ module _ (n : List ℕ) where
   is_n a = bytes_eq a.name n
 
   -- an alternative that is there is changed where it stands
-  changed_front : (t u : Tree) (c : Alternative → Alternative) → is_some (named t n) ≡ true → changed (t ++ u) n c ≡ changed t n c ++ u
+  pub changed_front : (t u : Tree) (c : Alternative → Alternative) → is_some (named t n) ≡ true → changed (t ++ u) n c ≡ changed t n c ++ u
   changed_front [] u c h = cc
   changed_front (a ∷ t) u c h =
       elim (bytes_eq a.name n) as (λ b. is_some (cond b (Some a) (named t n)) ≡ true → cond b (c a ∷ (t ++ u)) (a ∷ changed (t ++ u) n c) ≡ cond b (c a ∷ t) (a ∷ changed t n c) ++ u) [
@@ -39,7 +46,7 @@ module _ (n : List ℕ) where
       ] h
 
   -- one that is absent there is changed behind
-  changed_back : (t u : Tree) (c : Alternative → Alternative) → is_some (named t n) ≡ false → changed (t ++ u) n c ≡ t ++ changed u n c
+  pub changed_back : (t u : Tree) (c : Alternative → Alternative) → is_some (named t n) ≡ false → changed (t ++ u) n c ≡ t ++ changed u n c
   changed_back [] u c h = refl
   changed_back (a ∷ t) u c h =
       elim (bytes_eq a.name n) as (λ b. is_some (cond b (Some a) (named t n)) ≡ false → cond b (c a ∷ (t ++ u)) (a ∷ changed (t ++ u) n c) ≡ a ∷ (t ++ changed u n c)) [
@@ -47,7 +54,7 @@ module _ (n : List ℕ) where
         | false ↦ λ h. ap (λ v. a ∷ v) (changed_back t u c h)
       ] h
 
-  named_front : (t u : Tree) → is_some (named t n) ≡ true → named (t ++ u) n ≡ named t n
+  pub named_front : (t u : Tree) → is_some (named t n) ≡ true → named (t ++ u) n ≡ named t n
   named_front [] u h = cc
   named_front (a ∷ t) u h =
       elim (bytes_eq a.name n) as (λ b. is_some (cond b (Some a) (named t n)) ≡ true → cond b (Some a) (named (t ++ u) n) ≡ cond b (Some a) (named t n)) [
@@ -55,7 +62,7 @@ module _ (n : List ℕ) where
         | false ↦ λ h. named_front t u h
       ] h
 
-  named_back : (t u : Tree) → is_some (named t n) ≡ false → named (t ++ u) n ≡ named u n
+  pub named_back : (t u : Tree) → is_some (named t n) ≡ false → named (t ++ u) n ≡ named u n
   named_back [] u h = refl
   named_back (a ∷ t) u h =
       elim (bytes_eq a.name n) as (λ b. is_some (cond b (Some a) (named t n)) ≡ false → cond b (Some a) (named (t ++ u) n) ≡ named u n) [
@@ -79,17 +86,17 @@ module _ (n : List ℕ) where
       ]
 
   -- other records and one checkpoint more, in either order
-  commute : (t : Tree) (o : List ℕ) (c : Saved) (g : Map → Map) → changed (changed t n (recurrent g)) o (with_saved c) ≡ changed (changed t o (with_saved c)) n (recurrent g)
-  commute [] o c g = refl
-  commute (a ∷ t) o c g =
-      elim (bytes_eq a.name n) as (λ b. bytes_eq a.name n ≡ b → changed (cond b (recurrent g a ∷ t) (a ∷ changed t n (recurrent g))) o (with_saved c) ≡ changed (changed (a ∷ t) o (with_saved c)) n (recurrent g)) [
-        | true ↦ λ is. elim (bytes_eq a.name o) as (λ b. cond b (with_saved c (recurrent g a) ∷ t) (recurrent g a ∷ changed t o (with_saved c)) ≡ changed (cond b (with_saved c a ∷ t) (a ∷ changed t o (with_saved c))) n (recurrent g)) [
-          | true ↦ sym (ap (λ b. cond b (recurrent g (with_saved c a) ∷ t) (with_saved c a ∷ changed t n (recurrent g))) is)
-          | false ↦ sym (ap (λ b. cond b (recurrent g a ∷ changed t o (with_saved c)) (a ∷ changed (changed t o (with_saved c)) n (recurrent g))) is)
+  commute : (t : Tree) (o : List ℕ) (c : Saved) (g h : Map → Map) → changed (changed t n (with_maps g h)) o (with_saved c) ≡ changed (changed t o (with_saved c)) n (with_maps g h)
+  commute [] o c g h = refl
+  commute (a ∷ t) o c g h =
+      elim (bytes_eq a.name n) as (λ b. bytes_eq a.name n ≡ b → changed (cond b (with_maps g h a ∷ t) (a ∷ changed t n (with_maps g h))) o (with_saved c) ≡ changed (changed (a ∷ t) o (with_saved c)) n (with_maps g h)) [
+        | true ↦ λ is. elim (bytes_eq a.name o) as (λ b. cond b (with_saved c (with_maps g h a) ∷ t) (with_maps g h a ∷ changed t o (with_saved c)) ≡ changed (cond b (with_saved c a ∷ t) (a ∷ changed t o (with_saved c))) n (with_maps g h)) [
+          | true ↦ sym (ap (λ b. cond b (with_maps g h (with_saved c a) ∷ t) (with_saved c a ∷ changed t n (with_maps g h))) is)
+          | false ↦ sym (ap (λ b. cond b (with_maps g h a ∷ changed t o (with_saved c)) (a ∷ changed (changed t o (with_saved c)) n (with_maps g h))) is)
         ]
-        | false ↦ λ is. elim (bytes_eq a.name o) as (λ b. cond b (with_saved c a ∷ changed t n (recurrent g)) (a ∷ changed (changed t n (recurrent g)) o (with_saved c)) ≡ changed (cond b (with_saved c a ∷ t) (a ∷ changed t o (with_saved c))) n (recurrent g)) [
-          | true ↦ sym (ap (λ b. cond b (recurrent g (with_saved c a) ∷ t) (with_saved c a ∷ changed t n (recurrent g))) is)
-          | false ↦ ap (λ v. a ∷ v) (commute t o c g) ∙ sym (ap (λ b. cond b (recurrent g a ∷ changed t o (with_saved c)) (a ∷ changed (changed t o (with_saved c)) n (recurrent g))) is)
+        | false ↦ λ is. elim (bytes_eq a.name o) as (λ b. cond b (with_saved c a ∷ changed t n (with_maps g h)) (a ∷ changed (changed t n (with_maps g h)) o (with_saved c)) ≡ changed (cond b (with_saved c a ∷ t) (a ∷ changed t o (with_saved c))) n (with_maps g h)) [
+          | true ↦ sym (ap (λ b. cond b (with_maps g h (with_saved c a) ∷ t) (with_saved c a ∷ changed t n (with_maps g h))) is)
+          | false ↦ ap (λ v. a ∷ v) (commute t o c g h) ∙ sym (ap (λ b. cond b (with_maps g h a ∷ changed t o (with_saved c)) (a ∷ changed (changed t o (with_saved c)) n (with_maps g h))) is)
         ]
       ] refl
 
@@ -128,17 +135,17 @@ module _ (n : List ℕ) where
       none None e = refl
       none (Some a) e = cc
 
-  there : (t : Tree) (f : Filed) → is_some (named t n) ≡ true → is_some (named (add t f) n) ≡ true
+  pub there : (t : Tree) (f : Filed) → is_some (named t n) ≡ true → is_some (named (add t f) n) ≡ true
   there t f h = some_maps _ _ (add_present t f h) ∙ h
 
-  now_there : (t : Tree) (f : Filed) → is_some (named t n) ≡ false → is_filed n f ≡ true → is_some (named (add t f) n) ≡ true
+  pub now_there : (t : Tree) (f : Filed) → is_some (named t n) ≡ false → is_filed n f ≡ true → is_some (named (add t f) n) ≡ true
   now_there t f h is_it = maps_some (named (add t f) n) (add_absent t f h ∙ ap (λ b. cond b (Some (filed_maps f)) None) is_it)
     where
       maps_some : (o : Option Alternative) → option_map maps_of o ≡ Some (filed_maps f) → is_some o ≡ true
       maps_some None e = cc
       maps_some (Some a) e = refl
 
-  not_there : (t : Tree) (f : Filed) → is_some (named t n) ≡ false → is_filed n f ≡ false → is_some (named (add t f) n) ≡ false
+  pub not_there : (t : Tree) (f : Filed) → is_some (named t n) ≡ false → is_filed n f ≡ false → is_some (named (add t f) n) ≡ false
   not_there t f h not_it = maps_none (named (add t f) n) (add_absent t f h ∙ ap (λ b. cond b (Some (filed_maps f)) None) not_it)
     where
       maps_none : (o : Option Alternative) → option_map maps_of o ≡ None → is_some o ≡ false
@@ -162,39 +169,43 @@ module _ (n : List ℕ) where
         | false ↦ λ is. grown_named (add t f) fs (not_there t f h is)
       ] refl
 
-  module _ (g : Map → Map) where
-    add_commute : (t : Tree) (f : Filed) → is_some (named t n) ≡ true → add (changed t n (recurrent g)) f ≡ changed (add t f) n (recurrent g)
-    add_commute t f h =
-        elim (is_alternative f.kind) as (λ b. cond b (changed t n (recurrent g) ++ bare f ∷ []) (changed (changed t n (recurrent g)) (unwrap_or f.owner []) (with_saved (saved_of f))) ≡ changed (cond b (t ++ bare f ∷ []) (changed t (unwrap_or f.owner []) (with_saved (saved_of f)))) n (recurrent g)) [
-          | true ↦ sym (changed_front n t (bare f ∷ []) (recurrent g) h)
-          | false ↦ commute n t (unwrap_or f.owner []) (saved_of f) g
+  module _ (g h : Map → Map) where
+    add_commute : (t : Tree) (f : Filed) → is_some (named t n) ≡ true → add (changed t n (with_maps g h)) f ≡ changed (add t f) n (with_maps g h)
+    add_commute t f is_there =
+        elim (is_alternative f.kind) as (λ b. cond b (changed t n (with_maps g h) ++ bare f ∷ []) (changed (changed t n (with_maps g h)) (unwrap_or f.owner []) (with_saved (saved_of f))) ≡ changed (cond b (t ++ bare f ∷ []) (changed t (unwrap_or f.owner []) (with_saved (saved_of f)))) n (with_maps g h)) [
+          | true ↦ sym (changed_front n t (bare f ∷ []) (with_maps g h) is_there)
+          | false ↦ commute n t (unwrap_or f.owner []) (saved_of f) g h
         ]
 
-    grown_commute : (t : Tree) (fs : List Filed) → is_some (named t n) ≡ true → grown (changed t n (recurrent g)) fs ≡ changed (grown t fs) n (recurrent g)
-    grown_commute t [] h = refl
-    grown_commute t (f ∷ fs) h = ap (λ t. grown t fs) (add_commute t f h) ∙ grown_commute (add t f) fs (there t f h)
+    grown_commute : (t : Tree) (fs : List Filed) → is_some (named t n) ≡ true → grown (changed t n (with_maps g h)) fs ≡ changed (grown t fs) n (with_maps g h)
+    grown_commute t [] is_there = refl
+    grown_commute t (f ∷ fs) is_there = ap (λ t. grown t fs) (add_commute t f is_there) ∙ grown_commute (add t f) fs (there t f is_there)
 
-    -- the first entry of the name, where it is added to a tree without one, with other records
-    add_changed : (t : Tree) (f : Filed) → is_some (named t n) ≡ false → is_filed n f ≡ true → add t (refiled g f) ≡ changed (add t f) n (recurrent g)
-    add_changed t f h is_it =
-        elim (is_alternative f.kind) as (λ b. b && bytes_eq f.name n ≡ true → cond b (t ++ bare (refiled g f) ∷ []) (changed t (unwrap_or f.owner []) (with_saved (saved_of (refiled g f)))) ≡ changed (cond b (t ++ bare f ∷ []) (changed t (unwrap_or f.owner []) (with_saved (saved_of f)))) n (recurrent g)) [
-          | true ↦ λ is. sym (changed_back n t (bare f ∷ []) (recurrent g) h ∙ ap (λ b. t ++ cond b (recurrent g (bare f) ∷ []) (bare f ∷ [])) is)
+    -- the first entry of the name, where it is added to a tree without one, with other maps
+    add_changed : (t : Tree) (f : Filed) → is_some (named t n) ≡ false → is_filed n f ≡ true → add t (refiled_both g h f) ≡ changed (add t f) n (with_maps g h)
+    add_changed t f none is_it =
+        elim (is_alternative f.kind) as (λ b. b && bytes_eq f.name n ≡ true → cond b (t ++ bare (refiled_both g h f) ∷ []) (changed t (unwrap_or f.owner []) (with_saved (saved_of (refiled_both g h f)))) ≡ changed (cond b (t ++ bare f ∷ []) (changed t (unwrap_or f.owner []) (with_saved (saved_of f)))) n (with_maps g h)) [
+          | true ↦ λ is. sym (changed_back n t (bare f ∷ []) (with_maps g h) none ∙ ap (λ b. t ++ cond b (with_maps g h (bare f) ∷ []) (bare f ∷ [])) is)
           | false ↦ λ is. cc
         ] is_it
 
-    -- other records of the first entry of the name are other records of that alternative
-    pub grown_changed : (t : Tree) (fs : List Filed) → is_some (named t n) ≡ false → grown t (change_first (is_filed n) (refiled g) fs) ≡ changed (grown t fs) n (recurrent g)
-    grown_changed t [] h = sym (absent t h)
+    -- other maps of the first entry of the name are other maps of that alternative
+    pub grown_turned : (t : Tree) (fs : List Filed) → is_some (named t n) ≡ false → grown t (change_first (is_filed n) (refiled_both g h) fs) ≡ changed (grown t fs) n (with_maps g h)
+    grown_turned t [] none = sym (absent t none)
       where
-        absent : (t : Tree) → is_some (named t n) ≡ false → changed t n (recurrent g) ≡ t
-        absent [] h = refl
-        absent (a ∷ t) h =
-            elim (bytes_eq a.name n) as (λ b. is_some (cond b (Some a) (named t n)) ≡ false → cond b (recurrent g a ∷ t) (a ∷ changed t n (recurrent g)) ≡ a ∷ t) [
-              | true ↦ λ h. cc
-              | false ↦ λ h. ap (λ v. a ∷ v) (absent t h)
-            ] h
-    grown_changed t (f ∷ fs) h =
-        elim (is_filed n f) as (λ b. is_filed n f ≡ b → grown t (cond b (refiled g f ∷ fs) (f ∷ change_first (is_filed n) (refiled g) fs)) ≡ changed (grown (add t f) fs) n (recurrent g)) [
-          | true ↦ λ is. ap (λ t. grown t fs) (add_changed t f h is) ∙ grown_commute (add t f) fs (now_there t f h is)
-          | false ↦ λ is. grown_changed (add t f) fs (not_there t f h is)
+        absent : (t : Tree) → is_some (named t n) ≡ false → changed t n (with_maps g h) ≡ t
+        absent [] none = refl
+        absent (a ∷ t) none =
+            elim (bytes_eq a.name n) as (λ b. is_some (cond b (Some a) (named t n)) ≡ false → cond b (with_maps g h a ∷ t) (a ∷ changed t n (with_maps g h)) ≡ a ∷ t) [
+              | true ↦ λ none. cc
+              | false ↦ λ none. ap (λ v. a ∷ v) (absent t none)
+            ] none
+    grown_turned t (f ∷ fs) none =
+        elim (is_filed n f) as (λ b. is_filed n f ≡ b → grown t (cond b (refiled_both g h f ∷ fs) (f ∷ change_first (is_filed n) (refiled_both g h) fs)) ≡ changed (grown (add t f) fs) n (with_maps g h)) [
+          | true ↦ λ is. ap (λ t. grown t fs) (add_changed t f none is) ∙ grown_commute (add t f) fs (now_there t f none is)
+          | false ↦ λ is. grown_turned (add t f) fs (not_there t f none is)
         ] refl
+
+  -- other records of the first entry of the name are other records of that alternative
+  pub grown_changed : (g : Map → Map) (t : Tree) (fs : List Filed) → is_some (named t n) ≡ false → grown t (change_first (is_filed n) (refiled g) fs) ≡ changed (grown t fs) n (recurrent g)
+  grown_changed g t fs absent = grown_turned g (λ b. b) t fs absent

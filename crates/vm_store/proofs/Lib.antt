@@ -3,14 +3,17 @@ pub mod FormattingLemmas
 pub mod GuardLemmas
 pub mod LedgerLemmas
 pub mod MarkedLemmas
+pub mod Listing
 pub mod Marking
 pub mod MarkingLemmas
 pub mod OneLeaf
 pub mod Placing
 pub mod Putting
 pub mod OpeningLemmas
+pub mod Removing
 pub mod RestingLemmas
 pub mod RunLemmas
 pub mod SpareLemmas
 pub mod SpareTests
 pub mod StandingLemmas
+pub mod TakingOut

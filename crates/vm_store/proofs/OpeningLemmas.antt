@@ -22,9 +22,9 @@ use Rattle.vm_catalog.proofs.PublishLemmas.{names_slot}
 use Rattle.vm_catalog.proofs.SlotOne.{slot_one}
 use Rattle.vm_store.specs.Sizes.{sizes}
 use Rattle.vm_store.specs.Filed.{Filed, StandsAs, Standing, tree_of}
-use Rattle.vm_store.specs.Shown.{Shows}
+use Rattle.vm_store.specs.Shown.{Shows, ShowsNothing}
 use Rattle.vm_store.specs.Resting.{IsSafe, Rests}
-use Rattle.vm_store.specs.Refused.{IsStore, IsOpenedSoFar, HasNoSlot, LacksMap, IsRefused, IsSynced, IsAtMostSynced}
+use Rattle.vm_store.specs.Refused.{IsStore, LacksMap, IsRefused, IsSynced, IsAtMostSynced}
 use Rattle.vm_store.proofs.StandingLemmas.{standing_in, standing_data}
 
 -- a sync leaves all as it was, or synced
@@ -68,12 +68,6 @@ entry_verified old mid limit e marks more r reads grows current base =
 -- the tree under a root, after reads
 pub tree_read : (old mid : disk.State) (limit b : ℕ) (m : Map) (bs : List ℕ) → OnlyReads old mid → IsTree sizes old.now.contents limit b m bs → IsTree sizes mid.now.contents limit b m bs
 tree_read old mid limit b m bs reads tree = subst (λ (x : Medium). IsTree sizes x.contents limit b m bs) (sym (same_medium old mid reads)) tree
-
--- some slot was loaded, and it isn't opened so far: no other is there
-pub none_opened : (x : Contents) (slot_b : Bool) (limit : ℕ) (es : List Entry) → ((l m : ℕ) (fs gs : List Entry) → SlotAt x slot_b l fs → SlotAt x slot_b m gs → (l ≡ m) × (fs ≡ gs))
-    → slot_b ≡ selected x → SlotAt x slot_b limit es → (IsOpenedSoFar es → ⊥) → HasNoSlot x
-none_opened x slot_b limit es one in_use slot many l fs other few =
-    many (subst IsOpenedSoFar (one l limit fs es (subst (λ b. SlotAt x b l fs) (sym in_use) other) slot).1 few)
 
 -- what the model of a disk says of a fact that holds anyway
 pub on_ok : {T E : Type 0} (r : Result T E) (A : Type 0) → A → OnOk r A
@@ -154,39 +148,39 @@ module _ (m : Medium) (limit : ℕ) (slot_b : Bool) (es : List Entry) (clean : I
   pub lacks_map : ((fs : List Filed) → Standing (λ n. Unit {0}) m.contents limit es fs → ⊥) → LacksMap m.contents
   lacks_map none = record { limit = limit; entries = es; slot = subst (λ b. SlotAt m.contents b limit es) in_use slot; inside = inside; none = none }
 
--- what is refused shows nothing that is opened so far
-pub refused_none : (x : Contents) (r : Refusal) → IsRefused x r → r ≢ refusal.Device → r ≢ refusal.Memory → (tree : Tree) (shown : Shows x tree) → IsOpenedSoFar shown.entries → ⊥
-refused_none x refusal.NotAStore why no_device no_memory tree shown few =
+-- what is refused shows nothing
+pub refused_none : (x : Contents) (r : Refusal) → IsRefused x r → r ≢ refusal.Device → r ≢ refusal.Memory → ShowsNothing x
+refused_none x refusal.NotAStore why no_device no_memory tree shown =
     why (record { least = omega (arith, shown.inside, shown.names.slot.fits.head.least); header = shown.names.header })
-refused_none x refusal.BadSize why no_device no_memory tree shown few =
+refused_none x refusal.BadSize why no_device no_memory tree shown =
     let large = why.1 in
     let same = slot_one x (selected x) shown.limit large.limit shown.entries large.entries shown.names.slot large.slot in
     let inside = shown.inside in
     let larger = large.larger in
     let is = same.0 in
     omega arith
-refused_none x (refusal.Damaged n) why no_device no_memory tree shown few =
+refused_none x (refusal.Damaged n) why no_device no_memory tree shown =
     ⊎_elim
-    (λ none. none.1 shown.limit shown.entries shown.names.slot few)
+    (λ none. none.1 shown.limit shown.entries shown.names.slot)
     (λ lacks.
     let same = slot_one x (selected x) shown.limit lacks.limit shown.entries lacks.entries shown.names.slot lacks.slot in
     lacks.none shown.filed (subst (λ l. Standing (λ n. Unit {0}) x l lacks.entries shown.filed) same.0 (subst (λ (es : List Entry). Standing (λ n. Unit {0}) x shown.limit es shown.filed) same.1 shown.stands)))
     why.1
-refused_none x refusal.Device why no_device no_memory tree shown few = no_device refl
-refused_none x refusal.Memory why no_device no_memory tree shown few = no_memory refl
-refused_none x refusal.NoSuchAlternative why no_device no_memory tree shown few = why
-refused_none x refusal.AlternativeExists why no_device no_memory tree shown few = why
-refused_none x refusal.NoSuchCheckpoint why no_device no_memory tree shown few = why
-refused_none x refusal.CheckpointExists why no_device no_memory tree shown few = why
-refused_none x refusal.NoSuchRecord why no_device no_memory tree shown few = why
-refused_none x refusal.IsTop why no_device no_memory tree shown few = why
-refused_none x refusal.HasChildren why no_device no_memory tree shown few = why
-refused_none x refusal.NotMerged why no_device no_memory tree shown few = why
-refused_none x (refusal.Unsettled n) why no_device no_memory tree shown few = why
-refused_none x (refusal.NotInConflict k) why no_device no_memory tree shown few = why
-refused_none x (refusal.SettledTwice k) why no_device no_memory tree shown few = why
-refused_none x refusal.TooMany why no_device no_memory tree shown few = why
-refused_none x refusal.Full why no_device no_memory tree shown few = why
-refused_none x refusal.Deep why no_device no_memory tree shown few = why
-refused_none x refusal.Failed why no_device no_memory tree shown few = why
-refused_none x refusal.AlreadyAStore why no_device no_memory tree shown few = why
+refused_none x refusal.Device why no_device no_memory tree shown = no_device refl
+refused_none x refusal.Memory why no_device no_memory tree shown = no_memory refl
+refused_none x refusal.NoSuchAlternative why no_device no_memory tree shown = why
+refused_none x refusal.AlternativeExists why no_device no_memory tree shown = why
+refused_none x refusal.NoSuchCheckpoint why no_device no_memory tree shown = why
+refused_none x refusal.CheckpointExists why no_device no_memory tree shown = why
+refused_none x refusal.NoSuchRecord why no_device no_memory tree shown = why
+refused_none x refusal.IsTop why no_device no_memory tree shown = why
+refused_none x refusal.HasChildren why no_device no_memory tree shown = why
+refused_none x refusal.NotMerged why no_device no_memory tree shown = why
+refused_none x (refusal.Unsettled n) why no_device no_memory tree shown = why
+refused_none x (refusal.NotInConflict k) why no_device no_memory tree shown = why
+refused_none x (refusal.SettledTwice k) why no_device no_memory tree shown = why
+refused_none x refusal.TooMany why no_device no_memory tree shown = why
+refused_none x refusal.Full why no_device no_memory tree shown = why
+refused_none x refusal.Deep why no_device no_memory tree shown = why
+refused_none x refusal.Failed why no_device no_memory tree shown = why
+refused_none x refusal.AlreadyAStore why no_device no_memory tree shown = why

@@ -16,7 +16,7 @@ use Rattle.vm_block.specs.Tree.{IsData, IsTree, Stands}
 use Rattle.vm_store.specs.Free.{is_free}
 use Rattle.vm_store.specs.LeafMap.{LacksRoom, OkOrDevice, Puts}
 use Rattle.vm_store.specs.declared.leaf_map.TreeFault.{TreeFault}
-use Rattle.vm_store.specs.declared.leaf_map.TreeFault.TheVariants.{Device, Damaged, Deep}
+use Rattle.vm_store.specs.declared.leaf_map.TreeFault.TheVariants.{Device, Damaged, Deep, Memory}
 use Rattle.vm_store.specs.Sizes.{sizes}
 use Rattle.vm_store.proofs.OneLeaf.{one_leaf, no_leaf, tree_of_leaf, tree_fits, tree_rises, tree_few, fit_keys}
 use Rattle.vm_store.proofs.Placing.{with_fits, with_rises, with_some, with_longest, with_longer, absent_before}
@@ -74,6 +74,7 @@ put_answers (Ok n) deep P Q W fine written room so = (so n fine written, room)
 put_answers (Err Device) deep P Q W fine written room so = tt
 put_answers (Err (Damaged b)) deep P Q W fine written room so = cc
 put_answers (Err Deep) deep P Q W fine written room so = cc
+put_answers (Err Memory) deep P Q W fine written room so = cc
 
 -- ---- a block that was free
 

@@ -93,7 +93,7 @@ module _ (m : Medium) (limit : ℕ) (slot_b : Bool) (bits : List Bool) (committe
       standing_in (IsSafe bits m) (IsSafe after now) m.contents now.contents limit (λ n safe. spares.same n (held_not_free bits n safe.held))
       (λ n safe. record { held = more.still n safe.held; clean = spares.clean n (held_not_free bits n safe.held) safe.clean }) committed rests.old rests.safe
 
-  stands_on : (now : Medium) (after : List Bool) → Spares (is_free bits) m now → HoldsMore bits after → Standing (IsHeld after) now.contents limit working rests.new
+  pub stands_on : (now : Medium) (after : List Bool) → Spares (is_free bits) m now → HoldsMore bits after → Standing (IsHeld after) now.contents limit working rests.new
   stands_on now after spares more =
       standing_in (IsHeld bits) (IsHeld after) m.contents now.contents limit (λ n held. spares.same n (held_not_free bits n held)) more.still working rests.new rests.stands
 
@@ -176,7 +176,7 @@ module _ (m : Medium) (limit : ℕ) (slot_b : Bool) (bits : List Bool) (committe
     pub named : named s.working name ≡ Some alternative
     pub current : alternative.current ≡ f.current
 
-  named_as : (name : List ℕ) (f : Filed) → find (is_filed name) rests.new ≡ Some f → IsNamedAs f name
+  pub named_as : (name : List ℕ) (f : Filed) → find (is_filed name) rests.new ≡ Some f → IsNamedAs f name
   named_as name f found = by_maps (named s.working name) refl
       (ap (λ (t : Tree). option_map maps_of (named t name)) (sym rests.gives_new) ∙ grown_named name [] rests.new refl ∙ ap (option_map filed_maps) found)
     where
@@ -184,7 +184,7 @@ module _ (m : Medium) (limit : ℕ) (slot_b : Bool) (bits : List Bool) (committe
       by_maps None is maps = cc
       by_maps (Some a) is maps = let same : maps_of a ≡ filed_maps f = cc in record { alternative = a; named = is; current = ap (λ p. p.0) same }
 
-  unnamed : (name : List ℕ) → find (is_alternative_of name) working ≡ None → named s.working name ≡ None
+  pub unnamed : (name : List ℕ) → find (is_alternative_of name) working ≡ None → named s.working name ≡ None
   unnamed name none = by_maps (named s.working name)
       (ap (λ (t : Tree). option_map maps_of (named t name)) (sym rests.gives_new) ∙ grown_named name [] rests.new refl
       ∙ ap (option_map filed_maps) (not_found (IsHeld bits) m.contents limit name working rests.new rests.stands none))
@@ -292,6 +292,7 @@ pub fault_of_put : (f : TreeFault) (deep : Type 0) (P : ℕ → Type 0) → Puts
 fault_of_put fault.Device deep P h = inl refl
 fault_of_put (fault.Damaged b) deep P h = absurd h
 fault_of_put fault.Deep deep P h = inr (refl, h)
+fault_of_put fault.Memory deep P h = absurd h
 
 module _ (m : Medium) (limit : ℕ) (slot_b : Bool) (bits : List Bool) (committed working : List Entry) (s : State)
     (rests : Rests m limit slot_b bits committed working s) (name : List ℕ) (key : Key) (value : List ℕ) where

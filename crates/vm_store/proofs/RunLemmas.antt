@@ -19,7 +19,7 @@ use Rattle.vm_store.specs.Answers.{IsDue, IsAnswer}
 use Rattle.vm_store.specs.Free.{is_free}
 use Rattle.vm_store.specs.Guarded.{IsGuarded}
 use Rattle.vm_store.specs.Resting.{Rests}
-use Rattle.vm_store.specs.Running.{Accepts, MayAnswer, MayAnswerAll}
+use Rattle.vm_store.specs.Running.{Accepts, MayAnswer, MayAnswerAll, NoneIsDevice}
 use Rattle.vm_store.specs.Shown.{Shows}
 use Rattle.vm_store.proofs.RestingLemmas.{shows_old}
 
@@ -37,8 +37,8 @@ pub ran_more : (old mid new : disk.State) (s : State) (commands : List Command) 
     → Throughout mid new (Leaves (LeftBy Shows (after s commands answers) c)) → Ran old new s (commands ++ c ∷ []) (answers ++ a ∷ [])
 ran_more old mid new s commands answers c a ran crash =
     HasRun-more ran (disk.LeftAt new) c a _ _ (after_more s commands answers c a ran.last.same) (moment_rises mid new _ crash)
-      (λ t x le was. past_stays mid new _ crash t x le was)
-      (λ t x from to was. leaves_only mid new _ crash t x from was)
+    (λ t x le was. past_stays mid new _ crash t x le was)
+    (λ t x from to was. leaves_only mid new _ crash t x from was)
 
 -- the slots are guarded before the first command, and through one more
 pub guarded_none : (old : disk.State) {bits : List Bool} → IsGuarded bits old.now → Throughout old old (λ m. (held : List Bool) × IsGuarded held m)
@@ -70,6 +70,11 @@ answered_more s [] [] c a so_far last = (last, tt)
 answered_more s [] (b ∷ answers) c a so_far last = absurd so_far
 answered_more s (d ∷ commands) [] c a so_far last = absurd so_far
 answered_more s (d ∷ commands) (b ∷ answers) c a so_far last = (so_far.0, answered_more (next s d b) commands answers c a so_far.1 last)
+
+-- one more answer that is no failure of the device
+pub none_more : (answers : List (Result Answer Refusal)) (a : Result Answer Refusal) → NoneIsDevice answers → (a ≡ Err Device → ⊥) → NoneIsDevice (answers ++ a ∷ [])
+none_more [] a none last = (last, tt)
+none_more (b ∷ answers) a none last = (none.0, none_more answers a none.1 last)
 
 -- the first n commands, and the one at n
 pub take_one_more : (cs : List Command) (n : ℕ) (c : Command) → n < length cs → c ≡ get_or cs n c → take (n + 1) cs ≡ take n cs ++ c ∷ []

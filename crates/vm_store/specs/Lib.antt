@@ -4,6 +4,7 @@ pub mod Formatting
 pub mod Free
 pub mod Guarded
 pub mod LeafMap
+pub mod Listing
 pub mod Marking
 pub mod Opening
 pub mod Refused

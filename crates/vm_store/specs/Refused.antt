@@ -9,10 +9,6 @@ use Rattle.vm_catalog.specs.Place.{slot_at, selected}
 use Rattle.vm_catalog.specs.Catalog.{SlotAt}
 use Rattle.vm_store.specs.Filed.{Filed, Standing}
 
--- the slots that are opened so far: those of one entry
-abbrev pub IsOpenedSoFar : List Entry → Type 0
-IsOpenedSoFar es = length es ≤ 1
-
 -- there are blocks enough for a store, and the first one is a header
 pub record IsStore (x : Contents) : Type 0 where
   pub least : 64 ≤ length x
@@ -21,9 +17,9 @@ pub record IsStore (x : Contents) : Type 0 where
 abbrev pub IsNoStore : Contents → Type 0
 IsNoStore x = IsStore x → ⊥
 
--- the slot that the selector names is no slot, or one that isn't opened so far
+-- the slot that the selector names is no slot
 abbrev pub HasNoSlot : Contents → Type 0
-HasNoSlot x = (limit : ℕ) (es : List Entry) → SlotAt x (selected x) limit es → IsOpenedSoFar es → ⊥
+HasNoSlot x = (limit : ℕ) (es : List Entry) → SlotAt x (selected x) limit es → ⊥
 
 -- that slot is one, of a store of more blocks than there are
 pub record IsTooLarge (x : Contents) : Type 0 where

@@ -1,10 +1,10 @@
 -- What a run of commands answers.
-use Rattle.std.specs.Prelude.{◌≡◌, ◌⊎◌, ℕ, ◌<◌, List, [], ◌∷◌, Result, Ok, Err}
+use Rattle.std.specs.Prelude.{◌≡◌, ◌≢◌, ◌⊎◌, List, [], ◌∷◌, ◌++◌, Result, Ok, Err}
 use Rattle.vm_types.specs.declared.answer.Answer.{Answer}
 use Rattle.vm_types.specs.declared.command.Command.{Command}
 use Rattle.vm_types.specs.declared.refusal.Refusal.{Refusal}
 use Rattle.vm_types.specs.declared.refusal.Refusal.TheVariants.{Full, Deep, Device}
-use Rattle.vm_types.specs.State.{State, next, answer_of, edits}
+use Rattle.vm_types.specs.State.{State, next, answer_of}
 use Rattle.vm_types.specs.Step.{Outcome, step}
 
 -- the model accepts
@@ -24,3 +24,12 @@ MayAnswerAll s [] [] = Unit {0}
 MayAnswerAll s (command ∷ commands) (answer ∷ answers) = MayAnswer s command answer × MayAnswerAll (next s command answer) commands answers
 MayAnswerAll s [] (answer ∷ answers) = ⊥
 MayAnswerAll s (command ∷ commands) [] = ⊥
+
+-- no answer is that the device failed
+abbrev pub NoneIsDevice : List (Result Answer Refusal) → Type 0
+NoneIsDevice [] = Unit {0}
+NoneIsDevice (answer ∷ answers) = (answer ≢ Err Device) × NoneIsDevice answers
+
+-- the last answer is that the device failed, and no other is
+abbrev pub EndsWithDevice : List (Result Answer Refusal) → Type 0
+EndsWithDevice answers = (earlier : List (Result Answer Refusal)) × (answers ≡ earlier ++ Err Device ∷ []) × NoneIsDevice earlier

@@ -1,6 +1,6 @@
 //! Maps in blocks: for now each map lies in one leaf, or in no block at all where it is empty.
-ghost use Rattle.std.specs.Prelude.{◌≡◌, ◌≢◌, ◌↔◌, ℕ, ◌+◌, ◌<◌, ◌≤◌, ◌++◌, ◌∷◌, true, List, None, length, take, drop, IsTrue, OnOk, OnErr, IfOk, IfErr, MatchResult};
-ghost use Rattle.vm_types.specs.Map.{Map, get, with_value};
+ghost use Rattle.std.specs.Prelude.{◌≡◌, ◌≢◌, ◌⊎◌, ◌↔◌, ℕ, ◌+◌, ◌<◌, ◌≤◌, ◌++◌, ◌∷◌, true, List, None, length, take, drop, filter, IsTrue, OnOk, OnErr, IfOk, IfErr, IfSome, MatchResult};
+ghost use Rattle.vm_types.specs.Map.{Map, get, with_value, without};
 ghost use Rattle.vm_types.specs.Places.{KeyFits, place, value_at, with_record};
 ghost use Rattle.vm_disk.specs.Disk.{Goes, block};
 ghost use Rattle.vm_disk.specs.Moments.{Throughout, OnlyReads, Spares};
@@ -9,10 +9,11 @@ ghost use Rattle.vm_alloc.specs.Marks.{IsMarked};
 ghost use Rattle.vm_block.specs.Leaf.{RecordFits, leaf_bytes};
 ghost use Rattle.vm_block.specs.Tree.{IsData, IsTree, Stands};
 ghost use Rattle.vm_store.specs.Free.{is_free};
-ghost use Rattle.vm_store.specs.LeafMap.{LacksRoom, OkOrDevice, Puts, with_root, refusal_of};
+ghost use Rattle.vm_store.specs.LeafMap.{LacksRoom, OkOrDevice, Lists, Puts, Removes, WroteNothing, has_other_key, with_root, refusal_of};
 ghost use Rattle.vm_store.specs.Sizes.{sizes};
 
 use arrayvec::ArrayVec;
+use std::alloc::Global;
 use vm_alloc::{FIRST_DATA, Held, Marks};
 use vm_block::{read_leaf, write_leaf};
 use vm_disk::Disk;
@@ -30,6 +31,8 @@ pub enum TreeFault {
     Damaged(u32),
     /// The tree has no room for one more record.
     Deep,
+    /// There was no memory for the answer.
+    Memory,
 }
 
 /// What a command is refused with for this fault.
@@ -40,6 +43,7 @@ pub fn refusal_of(fault: TreeFault) -> Refusal
         TreeFault::Device => Refusal::Device,
         TreeFault::Damaged(block) => Refusal::Damaged(block),
         TreeFault::Deep => Refusal::Deep,
+        TreeFault::Memory => Refusal::Memory,
     }
 }
 
@@ -59,6 +63,7 @@ fn records_at<D: Disk>(
     requires { blocks ≤ (D.state disk.old).blocks }
     ensures any { Goes (result ≡ Err TreeFault.Device) (D.state disk.old) (D.state disk.new) }
     ensures deep { result ≢ Err TreeFault.Deep }
+    ensures memory { result ≢ Err TreeFault.Memory }
     ensures damaged { (n : ℕ) → result ≡ Err (TreeFault.Damaged n) → n ≡ root }
     ensures reads { (D.state disk.old).honest ≡ true → OnlyReads (D.state disk.old) (D.state disk.new) }
     ensures found { (D.state disk.old).honest ≡ true
@@ -106,6 +111,7 @@ pub fn get<D: Disk>(
     requires { blocks ≤ (D.state disk.old).blocks }
     ensures any { Goes (result ≡ Err TreeFault.Device) (D.state disk.old) (D.state disk.new) }
     ensures deep { result ≢ Err TreeFault.Deep }
+    ensures memory { result ≢ Err TreeFault.Memory }
     ensures damaged { (n : ℕ) → result ≡ Err (TreeFault.Damaged n) → n ≡ root }
     ensures reads { (D.state disk.old).honest ≡ true → OnlyReads (D.state disk.old) (D.state disk.new) }
     ensures value { (D.state disk.old).honest ≡ true → (m : Map) (bs : List ℕ) → IsTree sizes (D.state disk.old).now.contents blocks root m bs
@@ -113,6 +119,38 @@ pub fn get<D: Disk>(
 {
     match records_at(disk, blocks, root) {
         Ok(records) => Ok(value_of(records.as_slice(), key)),
+        Err(fault) => Err(fault),
+    }
+}
+
+/// The records, in memory of their own.
+fn copied(alloc: Global, records: &[(Key, Value)]) -> Result<Vec<(Key, Value)>, TreeFault>
+    ensures { MatchResult result (λ copy. copy.items ≡ records.now) (λ fault. fault ≡ TreeFault.Memory) }
+{
+    let mut copy = Vec::new(alloc);
+    match copy.extend_from_slice(records) {
+        Ok(()) => Ok(copy),
+        Err(_) => Err(TreeFault::Memory),
+    }
+}
+
+/// All records of the map under a root, by rising keys.
+pub fn scan<D: Disk>(
+    alloc: Global,
+    disk: &mut D,
+    blocks: u32,
+    root: u32,
+) -> Result<Vec<(Key, Value)>, TreeFault>
+    requires { blocks ≤ (D.state disk.old).blocks }
+    ensures any { Goes (result ≡ Err TreeFault.Device) (D.state disk.old) (D.state disk.new) }
+    ensures deep { result ≢ Err TreeFault.Deep }
+    ensures damaged { (n : ℕ) → result ≡ Err (TreeFault.Damaged n) → n ≡ root }
+    ensures reads { (D.state disk.old).honest ≡ true → OnlyReads (D.state disk.old) (D.state disk.new) }
+    ensures records { (D.state disk.old).honest ≡ true → (m : Map) (bs : List ℕ) → IsTree sizes (D.state disk.old).now.contents blocks root m bs
+        → Lists result (λ records. records.items ≡ m) }
+{
+    match records_at(disk, blocks, root) {
+        Ok(records) => copied(alloc, records.as_slice()),
         Err(fault) => Err(fault),
     }
 }
@@ -208,6 +246,7 @@ pub fn put<D: Disk>(
     requires bits { length held.old ≡ blocks }
     requires room { 16 ≤ free_count held.old }
     ensures any { Goes (result ≡ Err TreeFault.Device) (D.state disk.old) (D.state disk.new) }
+    ensures memory { result ≢ Err TreeFault.Memory }
     ensures damaged { (n : ℕ) → result ≡ Err (TreeFault.Damaged n) → n ≡ root }
 
     // The root is that of a block for data, which is held now.
@@ -232,6 +271,74 @@ pub fn put<D: Disk>(
                 return Err(TreeFault::Deep);
             }
             write_records(disk, held, records.as_slice())
+        }
+        Err(fault) => Err(fault),
+    }
+}
+
+/// The records without the one of this key.
+fn without(records: &[(Key, Value)], key: Key) -> ArrayVec<(Key, Value), 16>
+    requires { length records.now ≤ 16 }
+    ensures records { result.items ≡ filter (has_other_key key) records.now }
+    ensures fits { KeyFits key }
+{
+    let place = key.place();
+    let mut rest = ArrayVec::new();
+    for r in records {
+        if r.0.place() != place {
+            rest.push(*r);
+        }
+    }
+    rest
+}
+
+/// Takes the record of a key out: writes the map without it anew, in blocks that were free, and
+/// returns its root, or None where the key is absent. The empty map has root 0, and takes no block.
+pub fn remove<D: Disk>(
+    disk: &mut D,
+    held: &mut Held,
+    blocks: u32,
+    root: u32,
+    key: Key,
+) -> Result<Option<u32>, TreeFault>
+    requires inside { blocks ≤ (D.state disk.old).blocks }
+    requires bits { length held.old ≡ blocks }
+    requires room { 16 ≤ free_count held.old }
+    ensures any { Goes (result ≡ Err TreeFault.Device) (D.state disk.old) (D.state disk.new) }
+    ensures deep { result ≢ Err TreeFault.Deep }
+    ensures memory { result ≢ Err TreeFault.Memory }
+    ensures damaged { (n : ℕ) → result ≡ Err (TreeFault.Damaged n) → n ≡ root }
+
+    // The root is 0, or that of a block for data, which is held now.
+    ensures root { IfOk result (λ found. IfSome found (λ r. (r ≡ 0) ⊎ (IsData blocks r × IsHeld held.new r))) }
+
+    // What is held stays held, and no more than 8 blocks are taken; none of them where there was no
+    // such record, or it was the last one, and then nothing is written either.
+    ensures still { HoldsMore held.old held.new }
+    ensures taken { free_count held.old ≤ free_count held.new + 8 }
+    ensures none_taken { WroteNothing result → held.new ≡ held.old }
+    ensures none_written { (D.state disk.old).honest ≡ true → WroteNothing result → OnlyReads (D.state disk.old) (D.state disk.new) }
+
+    // At no moment has a block that was held other bytes than before.
+    ensures moments { (D.state disk.old).honest ≡ true
+        → Throughout (D.state disk.old) (D.state disk.new) (Spares (is_free held.old) (D.state disk.old).now) }
+    ensures removed { (D.state disk.old).honest ≡ true → (m : Map) (bs : List ℕ) → IsTree sizes (D.state disk.old).now.contents blocks root m bs
+        → Removes result (get m key)
+        (λ r. Stands sizes (IsHeld held.new) (D.state disk.new).now.contents blocks r (without m key)) }
+{
+    match records_at(disk, blocks, root) {
+        Ok(records) => {
+            if value_of(records.as_slice(), key).is_none() {
+                return Ok(None);
+            }
+            let rest = without(records.as_slice(), key);
+            if rest.is_empty() {
+                return Ok(Some(0));
+            }
+            match write_records(disk, held, rest.as_slice()) {
+                Ok(root) => Ok(Some(root)),
+                Err(fault) => Err(fault),
+            }
         }
         Err(fault) => Err(fault),
     }

@@ -10,8 +10,11 @@ ghost use Rattle.vm_store.specs.Resting.{spare_of};
 ghost use Rattle.vm_store.specs.Shown.{Shows};
 
 mod formatting;
+mod listing;
 mod opening;
 mod parts;
+mod reclaiming;
+mod removing;
 mod running;
 
 use crate::entries::{copy_entries, mark_entries, position_of};
@@ -89,6 +92,10 @@ impl<D: Disk> Store<D> {
         ensures guarded { (D.state (disk_of self.old)).honest ≡ true → has_failed self.old ≡ false
             → (s : State) → Holds self.old s
             → Throughout (D.state (disk_of self.old)) (D.state (disk_of self.new)) (IsGuarded (held_of self.new)) }
+
+        // After a Reclaim just the spare blocks are free.
+        ensures reclaimed { command.now ≡ Command.Reclaim → has_failed self.old ≡ false
+            → (s : State) (holds : Holds self.old s) → free_of self.new ≡ spare_of holds }
     {
         if self.failed {
             return Err(Refusal::Failed);
@@ -111,12 +118,30 @@ impl<D: Disk> Store<D> {
             → Throughout (D.state (disk_of self.old)) (D.state (disk_of self.new)) (Leaves (LeftBy Shows s command.now)) }
         ensures guarded { (D.state (disk_of self.old)).honest ≡ true → (s : State) → Holds self.old s
             → Throughout (D.state (disk_of self.old)) (D.state (disk_of self.new)) (IsGuarded (held_of self.new)) }
+        ensures reclaimed { command.now ≡ Command.Reclaim → (s : State) (holds : Holds self.old s) → free_of self.new ≡ spare_of holds }
     {
         match command {
             Command::Put { alt, key, value } => self.put(alt, *key, value),
+            Command::Remove { alt, key } => self.remove(alt, *key),
             Command::Commit => self.commit(),
+            Command::Reclaim => self.reclaim(),
             _ => unreachable!(),
         }
+    }
+
+    // Holds just the blocks that the committed or the working entries reach, beside the store's own.
+    fn mark_all(&mut self)
+        ensures disk { disk_of self.new ≡ disk_of self.old }
+        ensures failed { has_failed self.new ≡ has_failed self.old }
+        ensures same { entries_of self.new ≡ entries_of self.old }
+        ensures roots { root_of self.new ≡ root_of self.old }
+        ensures exact { (s : State) (holds : Holds self.old s) → free_of self.new ≡ spare_of holds }
+        ensures state { (s : State) → Holds self.old s → Holds self.new s }
+    {
+        self.marks.clear();
+        mark_entries(self.blocks, &self.committed, &mut self.marks);
+        mark_entries(self.blocks, &self.working, &mut self.marks);
+        self.held.replace(&self.marks);
     }
 
     // Whether so many blocks are spare. Where fewer are free, it marks what the entries reach.
@@ -132,10 +157,7 @@ impl<D: Disk> Store<D> {
         if self.held.free_count() >= count {
             return true;
         }
-        self.marks.clear();
-        mark_entries(self.blocks, &self.committed, &mut self.marks);
-        mark_entries(self.blocks, &self.working, &mut self.marks);
-        self.held.replace(&self.marks);
+        self.mark_all();
         self.held.free_count() >= count
     }
 

@@ -1,7 +1,11 @@
 //! What a store answers, and what it leaves on a disk, by hand.
 mod crashing;
 mod failing;
+mod listing;
+mod reclaiming;
+mod removing;
 mod running;
+mod slots;
 
 use crate::{Store, format, open};
 use std::alloc::Global;
@@ -54,6 +58,35 @@ fn get_in<D: Disk>(store: &mut Store<D>, alt: &[u8], key: Key) -> Result<Option<
 
 fn get<D: Disk>(store: &mut Store<D>, key: Key) -> Result<Option<Value>, Refusal> {
     get_in(store, b"top", key)
+}
+
+// All records of an alternative. A name that is none is answered `TooMany`.
+fn list_of<D: Disk>(
+    alloc: Global,
+    store: &mut Store<D>,
+    alt: &[u8],
+) -> Result<Vec<(Key, Value)>, Refusal> {
+    let Some(alt) = Name::new(alt) else {
+        return Err(Refusal::TooMany);
+    };
+    store.list(alloc, &alt)
+}
+
+fn list<D: Disk>(alloc: Global, store: &mut Store<D>) -> Result<Vec<(Key, Value)>, Refusal> {
+    list_of(alloc, store, b"top")
+}
+
+fn record(key: Key, value: &[u8]) -> Result<(Key, Value), Fail> {
+    Ok((key, Value::new(value).ok_or("no value")?))
+}
+
+// What a crash may leave in each of 64 blocks, if it is not synced.
+fn every_block_filled(alloc: Global, byte: u8) -> Result<Vec<(u32, [u8; 4096])>, Fail> {
+    let mut filling = Vec::new(alloc);
+    for n in 0..64 {
+        filling.push((n, [byte; 4096]))?;
+    }
+    Ok(filling)
 }
 
 fn open_on(alloc: Global, disk: MemDisk) -> Result<Store<MemDisk>, Refusal> {

@@ -10,8 +10,8 @@ ghost use Rattle.vm_block.specs.Slot.{SlotFits};
 ghost use Rattle.vm_catalog.specs.Catalog.{SlotAt};
 ghost use Rattle.vm_store.specs.Filed.{Filed, Standing, StandsAs};
 ghost use Rattle.vm_store.specs.LeafMap.{OkOrDevice};
-ghost use Rattle.vm_store.specs.Refused.{IsAtMostSynced, IsSynced, IsOpenedSoFar, IsNoStore, IsRefused, IsStore};
-ghost use Rattle.vm_store.specs.Shown.{Shows};
+ghost use Rattle.vm_store.specs.Refused.{IsAtMostSynced, IsSynced, IsNoStore, IsRefused, IsStore};
+ghost use Rattle.vm_store.specs.Shown.{Shows, ShowsNothing};
 ghost use Rattle.vm_store.specs.Opening.{OpensAs, PartsHold, disk_in};
 ghost use Rattle.vm_store.specs.Store.{has_failed};
 
@@ -52,7 +52,7 @@ fn find_slot<D: Disk>(disk: &mut D) -> Result<bool, Refusal>
     }
 }
 
-// The entries of that slot, where they are opened so far and lie within the disk.
+// The entries of that slot, where the store lies within the disk.
 fn load_slot<D: Disk>(alloc: Global, disk: &mut D, slot_b: bool) -> Result<Slot, Refusal>
     requires { 64 ≤ (D.state disk.old).blocks }
     ensures any { Goes (result ≡ Err Refusal.Device) (D.state disk.old) (D.state disk.new) }
@@ -66,9 +66,6 @@ fn load_slot<D: Disk>(alloc: Global, disk: &mut D, slot_b: bool) -> Result<Slot,
 {
     match load(alloc, disk, slot_b) {
         Ok(slot) => {
-            if slot.entries.len() > 1 {
-                return Err(Refusal::Damaged(first_block(slot_b)));
-            }
             if slot.blocks > disk.blocks() {
                 return Err(Refusal::BadSize);
             }
@@ -206,8 +203,7 @@ pub fn open<D: Disk>(alloc: Global, mut disk: D) -> Result<Store<D>, (D, Refusal
 
     // A refusal has its reason. But for the device and memory it comes exactly where nothing is shown.
     ensures refused { (D.state disk).honest ≡ true → IfErr result (λ e. IsRefused (D.state disk).now.contents e.1) }
-    ensures none { (D.state disk).honest ≡ true → IfErr result (λ e. e.1 ≢ Refusal.Device → e.1 ≢ Refusal.Memory
-        → (tree : Tree) (shown : Shows (D.state disk).now.contents tree) → IsOpenedSoFar shown.entries → ⊥) }
+    ensures none { (D.state disk).honest ≡ true → IfErr result (λ e. e.1 ≢ Refusal.Device → e.1 ≢ Refusal.Memory → ShowsNothing (D.state disk).now.contents) }
 
     // At each moment nothing has changed, or all is synced.
     ensures moments { (D.state disk).honest ≡ true → Throughout (D.state disk) (D.state (disk_in result)) (IsAtMostSynced (D.state disk).now) }

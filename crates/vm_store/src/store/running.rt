@@ -1,5 +1,5 @@
 //! Running a list of commands.
-ghost use Rattle.std.specs.Prelude.{◌≡◌, ◌≢◌, ℕ, ◌<◌, Bool, true, false, List, [], length, take, All, Some, None};
+ghost use Rattle.std.specs.Prelude.{◌≡◌, ◌≢◌, ℕ, Bool, true, false, List, [], length, take, All, Some, None};
 ghost use Rattle.vm_types.specs.Isolation.{LeavesAlone};
 ghost use Rattle.vm_types.specs.Moments.{KeptThroughout};
 ghost use Rattle.vm_types.specs.State.{State, after};
@@ -8,7 +8,7 @@ ghost use Rattle.vm_disk.specs.Disk.{Goes, LeftAt, moment};
 ghost use Rattle.vm_disk.specs.Moments.{Throughout};
 ghost use Rattle.vm_store.specs.Answers.{IsCarriedOut};
 ghost use Rattle.vm_store.specs.Guarded.{IsGuarded};
-ghost use Rattle.vm_store.specs.Running.{MayAnswerAll};
+ghost use Rattle.vm_store.specs.Running.{MayAnswerAll, EndsWithDevice, NoneIsDevice};
 ghost use Rattle.vm_store.specs.Shown.{Shows};
 
 use super::{Store, is_device};
@@ -44,7 +44,8 @@ impl<D: Disk> Store<D> {
         ensures failed { has_failed self.old ≡ true → (result.1 ≡ Some Stop.Failed) × (result.0.items ≡ []) × (self.new ≡ self.old) }
         ensures only_then { has_failed self.old ≡ false → result.1 ≢ Some Stop.Failed }
         ensures memory { result.1 ≡ Some Stop.Memory → (result.0.items ≡ []) × (self.new ≡ self.old) }
-        ensures device { result.1 ≡ Some Stop.Device → (has_failed self.new ≡ true) × (0 < length result.0.items) }
+        ensures device { result.1 ≡ Some Stop.Device → (has_failed self.new ≡ true) × EndsWithDevice result.0.items }
+        ensures no_device { result.1 ≢ Some Stop.Device → NoneIsDevice result.0.items }
         ensures whole { result.1 ≡ None → (length result.0.items ≡ length commands.now) × (has_failed self.new ≡ false) }
 
         // Each command is answered in order, and the store stands for what these answers leave.
@@ -62,7 +63,7 @@ impl<D: Disk> Store<D> {
         // empty or ends with a commit, and this beginning holds every commit that was acknowledged.
         ensures kept { (D.state (disk_of self.old)).honest ≡ true → has_failed self.old ≡ false → (s : State) → Holds self.old s
             → KeptThroughout Shows (LeftAt (D.state (disk_of self.new))) s (moment (D.state (disk_of self.old)))
-                (take (length result.0.items) commands.now) result.0.items (moment (D.state (disk_of self.new))) }
+            (take (length result.0.items) commands.now) result.0.items (moment (D.state (disk_of self.new))) }
 
         // For at each moment the slots that it may leave in use are whole, clean and held.
         ensures guarded { (D.state (disk_of self.old)).honest ≡ true → has_failed self.old ≡ false → (s : State) → Holds self.old s

@@ -7,9 +7,9 @@ use vm_disk::{FuseDisk, MemDisk};
 use vm_types::{Answer, Refusal, Value};
 
 // More calls than any test makes.
-const NEVER: u32 = 1000;
+pub(super) const NEVER: u32 = 1000;
 
-fn open_fused(
+pub(super) fn open_fused(
     alloc: Global,
     disk: MemDisk,
     passes: u32,

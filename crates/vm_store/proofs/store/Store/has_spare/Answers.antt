@@ -1,7 +1,5 @@
-use Rattle.std.proofs.Common.{arith, ◌∙◌, ap}
-use Rattle.vm_alloc.specs.Marks.{is_marked}
-use Rattle.vm_store.proofs.SpareTests.{enough, told, marking_of}
-use Rattle.vm_store.proofs.MarkedLemmas.{free_at_most, free_exactly, rests_marked}
+use Rattle.vm_store.proofs.SpareTests.{enough, told}
+use Rattle.vm_store.proofs.MarkedLemmas.{free_at_most}
 use Rattle.vm_store.proofs.store.Store.has_spare.Goals as goal
 
 pub returns-then-free_count-count-clause-spare : goal.returns-then-free_count-count-clause-spare
@@ -9,18 +7,4 @@ returns-then-free_count-count-clause-spare g c s holds =
     enough c.args.count c.free_count.result _ _ c.if-free_count-count.true c.free_count.ensures.count (free_at_most _ _ _ _ _ _ s c.args.self.now.bits holds)
 
 pub returns-clause-spare : goal.returns-clause-spare
-returns-clause-spare g c s holds =
-    let self = c.args.self.now in
-    let is = marking_of self.blocks self.marks c.clear.new.self c.mark_entries.new.marks c.mark_entries-2.new.marks self.committed.items _ self.working.items _ self.mark_bits c.clear.ensures
-    c.deref.ensures.value c.mark_entries.ensures.marked c.deref-2.ensures.value c.mark_entries-2.ensures.marked in
-    told c.args.count c.free_count-2.result _ _ c.free_count-2.ensures.count
-    (free_exactly _ _ _ _ _ _ s self.bits holds (omega (arith, self.least)) c.replace.new.self (c.replace.ensures.count ∙ self.bits) c.replace.ensures.system
-    (λ n far. c.replace.ensures.marked n far ∙ ap (λ marks. is_marked marks n) is))
-
-pub returns-clause-state : goal.returns-clause-state
-returns-clause-state g c s holds =
-    let self = c.args.self.now in
-    let is = marking_of self.blocks self.marks c.clear.new.self c.mark_entries.new.marks c.mark_entries-2.new.marks self.committed.items _ self.working.items _ self.mark_bits c.clear.ensures
-    c.deref.ensures.value c.mark_entries.ensures.marked c.deref-2.ensures.value c.mark_entries-2.ensures.marked in
-    rests_marked _ _ _ _ _ _ s self.bits holds (omega (arith, self.least)) c.replace.new.self (c.replace.ensures.count ∙ self.bits) c.replace.ensures.system
-    (λ n far. c.replace.ensures.marked n far ∙ ap (λ marks. is_marked marks n) is)
+returns-clause-spare g c s holds = told c.args.count c.free_count-2.result _ _ c.free_count-2.ensures.count (c.mark_all.ensures.exact s holds)

@@ -1,12 +1,15 @@
-use Rattle.std.proofs.Common.{◌≡◌, ◌+◌, length, take, Err, refl, sym, subst, ◌∙◌, arith}
+use Rattle.std.proofs.Common.{◌≡◌, ◌+◌, [], ◌∷◌, ◌++◌, length, take, Result, Err, ap, refl, sym, subst, ◌∙◌, arith}
 use Rattle.std.proofs.lemmas.Grind.{common_steps}
 use Rattle.vm_types.specs.State.{State, after}
 use Rattle.vm_types.specs.declared.refusal.Refusal.TheVariants.{Device}
 use Rattle.vm_types.proofs.Runs.{after_more}
 use Rattle.vm_types.proofs.IsolationLemmas.{isolated}
+use Rattle.vm_types.specs.declared.answer.Answer.{Answer}
+use Rattle.vm_types.specs.declared.refusal.Refusal.{Refusal}
+use Rattle.vm_store.specs.Running.{EndsWithDevice}
 use Rattle.vm_store.specs.Store.{disk_of, Holds}
 use Rattle.vm_store.proofs.GuardLemmas.{guarded_at_rest}
-use Rattle.vm_store.proofs.RunLemmas.{ran_none, ran_more, rests_show, guarded_none, guarded_more, may_answer, answered_more, take_one_more, no_failure}
+use Rattle.vm_store.proofs.RunLemmas.{ran_none, ran_more, rests_show, guarded_none, guarded_more, may_answer, answered_more, none_more, take_one_more, no_failure}
 use Rattle.vm_store.proofs.store.Store.run.Goals as goal
 
 pub loop-command-preserved : goal.loop-command-preserved
@@ -20,6 +23,7 @@ loop-command-preserved g c =
       honesty = e.any.same_honesty ∙ before.honesty;
       rising = omega (arith, e.any.rising, before.rising);
       sound = sound;
+      fine = none_more c.loop-command.answers.items c.apply-answer.result before.fine (λ is. let yes = c.is_device-failed.ensures.1 is in cc (yes, c.if-failed.false));
       many = grind (arith, common_steps);
       room = grind (arith, common_steps);
       run = λ honest s rests. ran_more old (g.D.Disk.state (disk_of c.loop-command.self)) (g.D.Disk.state (disk_of c.apply-answer.new.self)) s _ _ c.command-item.result c.apply-answer.result (before.run honest s rests) (e.crash (before.honesty ∙ honest) before.sound _ (before.holds honest s rests));
@@ -38,6 +42,7 @@ loop-command-init g c =
       honesty = refl;
       rising = omega arith;
       sound = c.if-self.false;
+      fine = tt;
       many = refl;
       room = omega (arith, c.in-Ok.ensures.exact);
       run = λ honest s rests. ran_none first s (rests_show _ _ _ _ _ _ s rests);
@@ -90,3 +95,9 @@ returns-then-failed-clause-guarded g c honest sound s rests =
 
 pub returns-clause-guarded : goal.returns-clause-guarded
 returns-clause-guarded g c honest sound s rests = c.loop-command.invariant.guarded honest s rests
+
+pub returns-then-failed-clause-device : goal.returns-then-failed-clause-device
+returns-then-failed-clause-device g c stopped =
+    let is = c.is_device-failed.ensures.0 c.if-failed.true in
+    let ends : EndsWithDevice (c.loop-command.answers.items ++ c.apply-answer.result ∷ []) = (c.loop-command.answers.items, ap (λ (a : Result Answer Refusal). c.loop-command.answers.items ++ a ∷ []) is, c.loop-command.invariant.fine) in
+    ((c.apply-answer.ensures.failed c.loop-command.invariant.sound).1 is, subst EndsWithDevice (sym c.in-Ok-push.ensures.items) ends)

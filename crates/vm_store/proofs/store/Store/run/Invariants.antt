@@ -2,7 +2,7 @@ use Rattle.std.proofs.Common.{◌≡◌, ◌≤◌, Bool, true, false, List, len
 use Rattle.vm_types.specs.State.{State, after}
 use Rattle.vm_disk.specs.Moments.{Throughout}
 use Rattle.vm_store.specs.Guarded.{IsGuarded}
-use Rattle.vm_store.specs.Running.{MayAnswerAll}
+use Rattle.vm_store.specs.Running.{MayAnswerAll, NoneIsDevice}
 use Rattle.vm_store.specs.Store.{disk_of, has_failed, Holds}
 use Rattle.vm_store.proofs.RunLemmas.{Ran}
 use Rattle.vm_store.proofs.store.Store.run.Given as goal
@@ -16,6 +16,7 @@ invariant-loop-command g l =
       honesty : now.honest ≡ old.honest;
       rising : old.failures ≤ now.failures;
       sound : has_failed l.self ≡ false;
+      fine : NoneIsDevice l.answers.items;
       many : length l.answers.items ≡ l.command-index;
       room : length l.commands ≤ vec_capacity l.answers;
       run : old.honest ≡ true → (s : State) → Holds l.fn.self s → Ran old now s (take l.command-index l.commands) l.answers.items;

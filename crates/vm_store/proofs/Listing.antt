@@ -1,0 +1,36 @@
+-- What a list of records answers.
+use Rattle.std.proofs.Common.{◌≡◌, ◌⊎◌, inl, inr, ℕ, Bool, List, find, Some, None, Ok, Err, sym, ap, ◌∙◌}
+use Rattle.vm_types.specs.declared.refusal.Refusal.{Refusal}
+use Rattle.vm_types.specs.declared.refusal.Refusal.TheVariants.{NoSuchAlternative, Device, Memory}
+use Rattle.vm_types.specs.Map.{Map}
+use Rattle.vm_types.specs.State.{State}
+use Rattle.vm_disk.specs.Disk.{Medium}
+use Rattle.vm_block.specs.Slot.{is_alternative_of}
+use Rattle.vm_block.specs.declared.slot.Entry.{Entry}
+use Rattle.vm_store.specs.LeafMap.{Lists, refusal_of}
+use Rattle.vm_store.specs.Listing.{records_of, records_in}
+use Rattle.vm_store.specs.Resting.{Rests}
+use Rattle.vm_store.specs.declared.leaf_map.TreeFault.{TreeFault}
+use Rattle.vm_store.specs.declared.leaf_map.TreeFault.TheVariants as fault
+use Rattle.vm_store.proofs.RestingLemmas.{found_entry, named_as, unnamed}
+
+module _ (m : Medium) (limit : ℕ) (slot_b : Bool) (bits : List Bool) (committed working : List Entry) (s : State)
+    (rests : Rests m limit slot_b bits committed working s) (name : List ℕ) where
+  -- the records of an alternative that was found
+  pub records_found : (e : Entry) (is : find (is_alternative_of name) working ≡ Some e) (records : Map)
+      → records ≡ (found_entry m limit slot_b bits committed working s rests name e is).filed.current → records_in s.working name ≡ Ok records
+  records_found e is records same =
+      let found = found_entry m limit slot_b bits committed working s rests name e is in
+      let as_named = named_as m limit slot_b bits committed working s rests name found.filed found.found in
+      ap records_of as_named.named ∙ ap Ok (as_named.current ∙ sym same)
+
+  -- there is no such alternative
+  pub records_absent : find (is_alternative_of name) working ≡ None → records_in s.working name ≡ Err NoSuchAlternative
+  records_absent none = ap records_of (unnamed m limit slot_b bits committed working s rests name none)
+
+-- a list that was refused for the device or for memory
+pub list_refused : {T : Type 0} (f : TreeFault) (r : Refusal) (P : T → Type 0) (due : Type 0) → r ≡ refusal_of f → Lists (Err f) P → (r ≡ Device) ⊎ ((r ≡ Memory) ⊎ due)
+list_refused fault.Device r P due same h = inl same
+list_refused (fault.Damaged b) r P due same h = absurd h
+list_refused fault.Deep r P due same h = absurd h
+list_refused fault.Memory r P due same h = inr (inl same)

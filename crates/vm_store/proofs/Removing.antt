@@ -1,0 +1,144 @@
+-- What a Remove answers, and what the store stands for after it.
+use Rattle.std.proofs.Common.{◌≡◌, ◌⊎◌, inl, inr, ℕ, ◌<◌, ◌≤◌, ◌^◌, nat_lt, Bool, true, false, List, [], find, Option, Some, None, IfSome, IsTrue, Ok, Err, refl, sym, ap, ◌∙◌, subst, arith}
+use Rattle.vm_types.specs.declared.answer.Answer.TheVariants.{Done}
+use Rattle.vm_types.specs.declared.command.Command.TheVariants.{Remove}
+use Rattle.vm_types.specs.declared.key.Key.{Key}
+use Rattle.vm_types.specs.declared.refusal.Refusal.{Refusal}
+use Rattle.vm_types.specs.declared.refusal.Refusal.TheVariants.{NoSuchAlternative, NoSuchRecord, Full}
+use Rattle.vm_types.specs.Firsts.{change_first}
+use Rattle.vm_types.specs.Map.{Map, get, without}
+use Rattle.vm_types.specs.Tree.{Tree, Alternative, named, changed}
+use Rattle.vm_types.specs.Step.{Outcome, step, done, or_refuse}
+use Rattle.vm_types.specs.State.{State, next, tree_after}
+use Rattle.vm_disk.specs.Disk as disk
+use Rattle.vm_disk.specs.Disk.{Medium}
+use Rattle.vm_disk.specs.Moments.{Spares, OnlyReads}
+use Rattle.vm_disk.proofs.MomentLemmas.{same_medium}
+use Rattle.vm_alloc.specs.Held.{IsHeld, HoldsMore}
+use Rattle.vm_block.specs.Slot.{is_alternative_of}
+use Rattle.vm_block.specs.Tree.{IsData, Stands}
+use Rattle.vm_block.specs.declared.slot.Entry.{Entry}
+use Rattle.vm_store.specs.Filed.{Filed}
+use Rattle.vm_store.specs.Free.{is_free}
+use Rattle.vm_store.specs.LeafMap.{Removes, refusal_of}
+use Rattle.vm_store.specs.Sizes.{sizes}
+use Rattle.vm_store.specs.Resting.{Rests, spare_of}
+use Rattle.vm_store.specs.Answers.{value_in, value_of, IsDue, IsAnswer}
+use Rattle.vm_store.specs.declared.leaf_map.TreeFault.{TreeFault}
+use Rattle.vm_store.specs.declared.leaf_map.TreeFault.TheVariants as fault
+use Rattle.vm_store.proofs.FiledLemmas.{is_filed, refiled, recurrent, grown_changed}
+use Rattle.vm_store.proofs.LedgerLemmas.{alike_turned, fits_alike}
+use Rattle.vm_store.proofs.StandingLemmas.{standing_changed, with_current}
+use Rattle.vm_store.proofs.RestingLemmas.{found_entry, rests_on, stands_on}
+
+module _ (tree : Tree) (name : List ℕ) (key : Key) where
+  -- the tree without the record
+  abbrev lesser : Tree
+  lesser = changed tree name (λ x. record x { current = without x.current key })
+
+  abbrev rest_of : Alternative → Outcome
+  rest_of a = or_refuse (get a.current key) NoSuchRecord (λ _. done lesser)
+
+  -- what the model says of a Remove, by the value that the alternative has at the key
+  step_by : (o : Option Alternative) (value : Option (List ℕ)) → Ok value ≡ value_of o key → or_refuse o NoSuchAlternative rest_of ≡ or_refuse value NoSuchRecord (λ _. done lesser)
+  unfolding or_refuse
+  step_by None value is = cc
+  step_by (Some a) value is = let same : value ≡ get a.current key = cc in ap (λ v. or_refuse v NoSuchRecord (λ _. done lesser)) (sym same)
+
+  pub step_there : (value : List ℕ) → Ok (Some value) ≡ value_in tree name key → step tree (Remove name key) ≡ Ok (lesser, Done)
+  unfolding or_refuse
+  step_there value is = step_by (named tree name) (Some value) is
+
+  step_missing : Ok None ≡ value_in tree name key → step tree (Remove name key) ≡ Err NoSuchRecord
+  unfolding or_refuse
+  step_missing is = step_by (named tree name) None is
+
+  absent_by : (o : Option Alternative) → Err NoSuchAlternative ≡ value_of o key → or_refuse o NoSuchAlternative rest_of ≡ Err NoSuchAlternative
+  unfolding or_refuse
+  absent_by None is = refl
+  absent_by (Some a) is = cc
+
+  step_absent : Err NoSuchAlternative ≡ value_in tree name key → step tree (Remove name key) ≡ Err NoSuchAlternative
+  step_absent is = absent_by (named tree name) is
+
+module _ (s : State) (name : List ℕ) (key : Key) (spare : ℕ) (deep : Type 0) where
+  refused : (r : Refusal) → step s.working (Remove name key) ≡ Err r → IsAnswer s spare deep (Remove name key) (Err r)
+  refused r is = inr (subst (λ o. IsDue o (nat_lt spare 16) deep (Err r)) (sym is) refl)
+
+  -- a Remove from no alternative
+  pub removes_absent : Err NoSuchAlternative ≡ value_in s.working name key → IsAnswer s spare deep (Remove name key) (Err NoSuchAlternative)
+  removes_absent is = refused NoSuchAlternative (step_absent s.working name key is)
+
+  -- a Remove of a key that is absent
+  pub removes_missing : Ok None ≡ value_in s.working name key → IsAnswer s spare deep (Remove name key) (Err NoSuchRecord)
+  removes_missing is = refused NoSuchRecord (step_missing s.working name key is)
+
+  module _ (value : List ℕ) (is : Ok (Some value) ≡ value_in s.working name key) where
+    accepts : step s.working (Remove name key) ≡ Ok (changed s.working name (λ x. record x { current = without x.current key }), Done)
+    accepts = step_there s.working name key value is
+
+    -- a Remove for which too few blocks are spare
+    pub removes_full : nat_lt spare 16 ≡ true → IsAnswer s spare deep (Remove name key) (Err Full)
+    removes_full full =
+        inr (subst (λ o. IsDue o (nat_lt spare 16) deep (Err Full)) (sym accepts)
+        (subst (λ (b : Bool). IsDue (Ok (changed s.working name (λ x. record x { current = without x.current key }), Done)) b deep (Err Full)) (sym full) refl))
+
+    -- a Remove that is carried out
+    pub removes_done : nat_lt spare 16 ≡ false → (deep → ⊥) → IsAnswer s spare deep (Remove name key) (Ok Done)
+    removes_done room shallow =
+        inr (subst (λ o. IsDue o (nat_lt spare 16) deep (Ok Done)) (sym accepts)
+        (subst (λ (b : Bool). IsDue (Ok (changed s.working name (λ x. record x { current = without x.current key }), Done)) b deep (Ok Done)) (sym room) (inl (refl, shallow))))
+
+  -- a Remove that the device fails
+  pub removes_device : (f : TreeFault) (r : Refusal) → r ≡ refusal_of f → f ≡ fault.Device → IsAnswer s spare deep (Remove name key) (Err r)
+  removes_device f r same device = inl (ap Err (same ∙ ap refusal_of device))
+
+module _ (m : Medium) (limit : ℕ) (slot_b : Bool) (bits : List Bool) (committed working : List Entry) (s : State)
+    (rests : Rests m limit slot_b bits committed working s) (name : List ℕ) (e : Entry) (is : find (is_alternative_of name) working ≡ Some e) (key : Key) where
+  -- after it the store stands for the next state
+  pub remove_rests : (value : List ℕ) → Ok (Some value) ≡ value_in s.working name key → (now : Medium) (after : List Bool) (root : ℕ) → root < 2 ^ 32 → Spares (is_free bits) m now → HoldsMore bits after
+      → Stands sizes (IsHeld after) now.contents limit root (without (found_entry m limit slot_b bits committed working s rests name e is).filed.current key)
+      → Rests now limit slot_b after committed (change_first (is_alternative_of name) (with_current root) working) (next s (Remove name key) (Ok Done))
+  remove_rests value there now after root small spares more new =
+      let g : Map → Map = λ m. without m key in
+      let found = found_entry m limit slot_b bits committed working s rests name e is in
+      subst (λ (t : Tree). Rests now limit slot_b after committed (change_first (is_alternative_of name) (with_current root) working) (record { committed = s.committed; working = t }))
+      (sym (ap (tree_after s.working) (step_there s.working name key value there)))
+      (rests_on m limit slot_b bits committed working s rests now after (change_first (is_alternative_of name) (with_current root) working) (change_first (is_filed name) (refiled g) rests.new)
+      (changed s.working name (recurrent g)) spares more
+      (fits_alike limit working _ (alike_turned (is_alternative_of name) root small working) rests.fits)
+      (standing_changed (IsHeld after) now.contents limit name root g working rests.new (stands_on m limit slot_b bits committed working s rests now after spares more)
+      (λ f' found'. let same : found.filed ≡ f' = cc (found.found, found') in subst (λ (f : Filed). Stands sizes (IsHeld after) now.contents limit root (g f.current)) same new))
+      (grown_changed name g [] rests.new refl ∙ ap (λ t. changed t name (recurrent g)) rests.gives_new))
+
+-- ---- what is known between the look-up and the Remove
+
+-- a test whether 16 blocks are spare, before reads and after them
+pub spare_after : (old new : disk.State) (limit : ℕ) (slot_b : Bool) (bits : List Bool) (committed working : List Entry) (s : State) (b : Bool) → OnlyReads old new
+    → ((s : State) (holds : Rests new.now limit slot_b bits committed working s) → (IsTrue b → 16 ≤ spare_of holds) × (16 ≤ spare_of holds → IsTrue b))
+    → (holds : Rests old.now limit slot_b bits committed working s) → (IsTrue b → 16 ≤ spare_of holds) × (16 ≤ spare_of holds → IsTrue b)
+spare_after old new limit slot_b bits committed working s b reads test =
+    let T : Medium → Type 0 = λ m. (holds : Rests m limit slot_b bits committed working s) → (IsTrue b → 16 ≤ spare_of holds) × (16 ≤ spare_of holds → IsTrue b) in
+    subst T (same_medium old new reads) (test s)
+
+-- an entry found in the working list is found where the entries are the same
+pub found_again : (alt : List ℕ) (old new : List Entry × List Entry) (e : Entry) → new ≡ old → find (is_alternative_of alt) old.1 ≡ Some e → find (is_alternative_of alt) new.1 ≡ Some e
+found_again alt old new e same is = subst (λ (p : List Entry × List Entry). find (is_alternative_of alt) p.1 ≡ Some e) (sym same) is
+
+-- the root that a Remove answered
+pub removed_root : (found : Option ℕ) (root : ℕ) (value : Option (List ℕ)) (P : ℕ → Type 0) → found ≡ Some root → Removes (Ok found) value P → P root
+removed_root None root value P is h = cc
+removed_root (Some r) root value P is h = let same : r ≡ root = cc in subst P same h.1
+
+-- that the key was absent
+pub removed_none : (found : Option ℕ) (value : Option (List ℕ)) (P : ℕ → Type 0) → found ≡ None → Removes (Ok found) value P → value ≡ None
+removed_none None value P is h = h
+removed_none (Some r) value P is h = cc
+
+pub root_small : (found : Option ℕ) (root limit : ℕ) (P : ℕ → Type 0) → found ≡ Some root → IfSome found (λ r. (r ≡ 0) ⊎ (IsData limit r × P r)) → limit ≤ 2 ^ 20 → root < 2 ^ 32
+root_small None root limit P is h most = cc
+root_small (Some r) root limit P is h most = let same : r ≡ root = cc in by_case h same
+  where
+    by_case : (r ≡ 0) ⊎ (IsData limit r × P r) → r ≡ root → root < 2 ^ 32
+    by_case (inl none) same = omega arith
+    by_case (inr at) same = omega (arith, at.0.1)

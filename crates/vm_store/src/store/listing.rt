@@ -1,0 +1,44 @@
+//! The query for all records of an alternative.
+ghost use Rattle.std.specs.Prelude.{◌≡◌, ◌≢◌, ◌⊎◌, true, false};
+ghost use Rattle.vm_types.specs.State.{State};
+ghost use Rattle.vm_disk.specs.Disk.{Goes};
+ghost use Rattle.vm_disk.specs.Moments.{OnlyReads};
+ghost use Rattle.vm_store.specs.Listing.{IsList, records_in};
+
+use super::Store;
+use crate::entries::position_of;
+use crate::leaf_map::{refusal_of, scan};
+use std::alloc::Global;
+use vm_disk::Disk;
+use vm_types::{Key, Name, Refusal, Value};
+
+impl<D: Disk> Store<D> {
+    ghost use Rattle.vm_store.specs.Store.{disk_of, has_failed, entries_of, Holds};
+
+    /// All records in the working state of an alternative, by rising keys.
+    pub fn list(&mut self, alloc: Global, alt: &Name) -> Result<Vec<(Key, Value)>, Refusal>
+        ensures any { Goes (result ≡ Err Refusal.Device) (D.state (disk_of self.old)) (D.state (disk_of self.new)) }
+        ensures failed { has_failed self.new ≡ has_failed self.old }
+        ensures refused { has_failed self.old ≡ true → result ≡ Err Refusal.Failed }
+        ensures no_calls { has_failed self.old ≡ true → self.new ≡ self.old }
+        ensures only_then { has_failed self.old ≡ false → result ≢ Err Refusal.Failed }
+        ensures same { entries_of self.new ≡ entries_of self.old }
+
+        ensures value { (D.state (disk_of self.old)).honest ≡ true → has_failed self.old ≡ false → (s : State) → Holds self.old s
+            → IsList result (records_in s.working alt.now) }
+        ensures state { (D.state (disk_of self.old)).honest ≡ true → (s : State) → Holds self.old s → Holds self.new s }
+        ensures reads { (D.state (disk_of self.old)).honest ≡ true → OnlyReads (D.state (disk_of self.old)) (D.state (disk_of self.new)) }
+    {
+        if self.failed {
+            return Err(Refusal::Failed);
+        }
+        let Some(i) = position_of(&self.working, alt) else {
+            return Err(Refusal::NoSuchAlternative);
+        };
+        let root = self.working[i].current;
+        match scan(alloc, &mut self.disk, self.blocks, root) {
+            Ok(records) => Ok(records),
+            Err(fault) => Err(refusal_of(fault)),
+        }
+    }
+}

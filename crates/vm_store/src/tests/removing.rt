@@ -1,0 +1,145 @@
+//! Taking records out.
+use super::failing::{NEVER, open_fused};
+use super::{
+    DUCT, commit, duct_disk, every_block_filled, fresh_store, get, list, open_on, put, record,
+};
+use crate::Store;
+use std::alloc::Global;
+use std::test::Fail;
+use vm_disk::{Disk, MemDisk};
+use vm_types::{Answer, Command, Key, Name, Refusal, Value};
+
+// The record beside `duct`.
+const NEXT: Key = Key {
+    table: 7,
+    number: 2,
+};
+
+// Takes a record out of an alternative. A name that is none is answered `TooMany`.
+fn remove_from<D: Disk>(store: &mut Store<D>, alt: &[u8], key: Key) -> Result<Answer, Refusal> {
+    let Some(alt) = Name::new(alt) else {
+        return Err(Refusal::TooMany);
+    };
+    store.apply(&Command::Remove { alt, key })
+}
+
+fn remove<D: Disk>(store: &mut Store<D>, key: Key) -> Result<Answer, Refusal> {
+    remove_from(store, b"top", key)
+}
+
+// A disk on which `duct` and the record beside it are committed, in one leaf.
+fn two_records_disk(alloc: Global) -> Result<MemDisk, Refusal> {
+    let mut store = open_on(alloc, duct_disk(alloc)?)?;
+    let put = put(&mut store, NEXT, b"x");
+    let commit = commit(&mut store);
+    let disk = store.close();
+    put?;
+    commit?;
+    Ok(disk)
+}
+
+// Opening the store of `duct` makes five device calls, the Put two, and the Commit four.
+#[test]
+fn what_was_removed_and_not_committed_leaves_no_trace_after_a_stop(
+    rt: HostRuntime,
+) -> Result<(), Fail> {
+    let mut store = open_fused(rt.alloc(), duct_disk(rt.alloc())?, 10)?;
+    assert_eq!(rt; put(&mut store, DUCT, b"pipe"), Ok(Answer::Done));
+    assert_eq!(rt; commit(&mut store), Err(Refusal::Device));
+    assert_eq!(rt; get(&mut store, DUCT), Err(Refusal::Failed));
+    let disk = store.close().into_inner();
+    let mut store = open_on(rt.alloc(), disk)?;
+    assert_eq!(rt; get(&mut store, DUCT), Ok(Value::new(b"pipe")));
+    assert_eq!(rt; put(&mut store, NEXT, b"x"), Ok(Answer::Done));
+    assert_eq!(rt; remove(&mut store, NEXT), Ok(Answer::Done));
+    assert_eq!(rt; get(&mut store, NEXT), Ok(None));
+    let disk = store.close();
+    assert!(rt; disk.is_dirty(34));
+    assert!(rt; !disk.is_dirty(35));
+    let filling = every_block_filled(rt.alloc(), 0xFF)?;
+    let mut store = open_on(rt.alloc(), disk.crash(&filling))?;
+    assert_eq!(rt; get(&mut store, DUCT), Ok(Value::new(b"pipe")));
+    assert_eq!(rt; get(&mut store, NEXT), Ok(None));
+    let _disk = store.close();
+    Ok(())
+}
+
+#[test]
+fn record_that_is_absent_is_refused(rt: HostRuntime) -> Result<(), Fail> {
+    let none = Key {
+        table: 0,
+        number: 0,
+    };
+    let mut store = fresh_store(rt.alloc())?;
+    assert_eq!(rt; remove(&mut store, none), Err(Refusal::NoSuchRecord));
+    let _disk = store.close();
+    let mut store = open_on(rt.alloc(), duct_disk(rt.alloc())?)?;
+    assert_eq!(rt; remove(&mut store, none), Err(Refusal::NoSuchRecord));
+    assert_eq!(rt; remove(&mut store, NEXT), Err(Refusal::NoSuchRecord));
+    assert_eq!(rt;
+        remove_from(&mut store, b"nope", DUCT),
+        Err(Refusal::NoSuchAlternative)
+    );
+    assert_eq!(rt; get(&mut store, DUCT), Ok(Value::new(b"duct")));
+    let _disk = store.close();
+    Ok(())
+}
+
+#[test]
+fn records_are_taken_out_one_by_one(rt: HostRuntime) -> Result<(), Fail> {
+    let mut store = open_on(rt.alloc(), two_records_disk(rt.alloc())?)?;
+    assert_eq!(rt; remove(&mut store, DUCT), Ok(Answer::Done));
+    assert_eq!(rt; remove(&mut store, DUCT), Err(Refusal::NoSuchRecord));
+    let one = list(rt.alloc(), &mut store);
+    assert_eq!(rt; remove(&mut store, NEXT), Ok(Answer::Done));
+    let none = list(rt.alloc(), &mut store);
+    assert_eq!(rt; commit(&mut store), Ok(Answer::Done));
+    let mut store = open_on(rt.alloc(), store.close())?;
+    let still_none = list(rt.alloc(), &mut store);
+    assert_eq!(rt; put(&mut store, NEXT, b""), Ok(Answer::Done));
+    let again = list(rt.alloc(), &mut store);
+    let _disk = store.close();
+    assert_eq!(rt; one?.as_slice(), [record(NEXT, b"x")?].as_slice());
+    assert!(rt; none?.is_empty());
+    assert!(rt; still_none?.is_empty());
+    assert_eq!(rt; again?.as_slice(), [record(NEXT, b"")?].as_slice());
+    Ok(())
+}
+
+// Opening the store makes five device calls: a sync, and four reads.
+#[test]
+fn calls_of_remove_at_a_leaf(rt: HostRuntime) -> Result<(), Fail> {
+    let mut store = open_fused(rt.alloc(), two_records_disk(rt.alloc())?, NEVER)?;
+    assert_eq!(rt; remove(&mut store, NEXT), Ok(Answer::Done));
+    let disk = store.close();
+    assert_eq!(rt; disk.calls(), 8, "open and a Remove that leaves a record");
+    let mut store = open_fused(rt.alloc(), duct_disk(rt.alloc())?, NEVER)?;
+    assert_eq!(rt; remove(&mut store, NEXT), Err(Refusal::NoSuchRecord));
+    let disk = store.close();
+    assert_eq!(rt; disk.calls(), 6, "open and a Remove of an absent record");
+    let mut store = open_fused(rt.alloc(), duct_disk(rt.alloc())?, NEVER)?;
+    assert_eq!(rt; remove(&mut store, DUCT), Ok(Answer::Done));
+    let disk = store.close();
+    assert_eq!(rt; disk.calls(), 7, "open and a Remove of the last record");
+    for n in 0..64 {
+        assert!(rt; !disk.inner().is_dirty(n), "block {n}");
+    }
+    Ok(())
+}
+
+#[test]
+fn store_fails_after_a_failed_remove(rt: HostRuntime) -> Result<(), Fail> {
+    for passes in 5..8 {
+        let mut store = open_fused(rt.alloc(), two_records_disk(rt.alloc())?, passes)?;
+        assert_eq!(rt;
+            remove(&mut store, NEXT),
+            Err(Refusal::Device),
+            "after {passes} calls"
+        );
+        assert_eq!(rt; remove(&mut store, NEXT), Err(Refusal::Failed));
+        let mut store = open_on(rt.alloc(), store.close().into_inner())?;
+        assert_eq!(rt; get(&mut store, NEXT), Ok(Value::new(b"x")));
+        let _disk = store.close();
+    }
+    Ok(())
+}
