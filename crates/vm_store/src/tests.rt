@@ -1,6 +1,7 @@
 //! What a store answers, and what it leaves on a disk, by hand.
 mod failing;
 mod slots;
+mod versions;
 
 use crate::{Store, format, open};
 use std::alloc::Global;
