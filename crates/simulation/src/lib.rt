@@ -11,5 +11,7 @@ mod map;
 mod plain;
 #[tactic(auto, unfolding(vm_types::specs::Step::or_refuse, vm_types::specs::Step::refuse_if, vm_types::specs::Step::refuse_found))]
 mod steps;
+#[cfg(test)]
+mod tests;
 
 pub use plain::Plain;

@@ -18,5 +18,5 @@ returns-clause-ok c =
     let name = c.args.name.now in
     let has : Alternative → Bool = λ (a : Alternative). is_some (saved_as a name) in
     let there : has (get_or tree c.in-Some.i d) ≡ true =
-        ap has (get_or_default tree c.in-Some.i d c.index-tree-i.result first.in_range) ∙ sym c.has_saved.ensures ∙ c.if-not-has_saved.false in
+    ap has (get_or_default tree c.in-Some.i d c.index-tree-i.result first.in_range) ∙ sym c.has_saved.ensures ∙ c.if-not-has_saved.false in
     back_here first d name _ there c.in_ok-go_back.ensures.ok

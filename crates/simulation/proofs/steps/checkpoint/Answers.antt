@@ -15,6 +15,6 @@ returns-clause-ok c =
     let name = c.args.name.now in
     let has : Alternative → Bool = λ (a : Alternative). is_some (saved_as a name) in
     let free : has (get_or tree i d) ≡ false =
-        ap has (get_or_default tree i d c.index-tree-i.result first.in_range) ∙ sym c.has_saved.ensures ∙ c.if-has_saved.false in
+    ap has (get_or_default tree i d c.index-tree-i.result first.in_range) ∙ sym c.has_saved.ensures ∙ c.if-has_saved.false in
     changed_here first d _ Done (λ (x : Alternative). record x { saved = x.saved ++ record { name = name; current = x.current; base = x.base } ∷ [] }) _ c.in_ok-save.ensures.ok
     (checkpoint_accepted tree c.args.alt.now (get_or tree i d) (first.found d) name free (sym c.is_full.ensures ∙ c.if-is_full.false))

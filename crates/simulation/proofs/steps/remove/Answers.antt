@@ -15,6 +15,6 @@ returns-clause-ok c =
     let i = c.in-Some.i in
     let has : Alternative → Bool = λ (a : Alternative). is_some (get a.current c.args.key) in
     let there : has (get_or tree i d) ≡ true =
-        ap has (get_or_default tree i d c.index-tree-i.result first.in_range) ∙ ap is_some (sym c.get.ensures) ∙ c.is_none.ensures ∙ ap not c.if-is_none.false in
+    ap has (get_or_default tree i d c.index-tree-i.result first.in_range) ∙ ap is_some (sym c.get.ensures) ∙ c.is_none.ensures ∙ ap not c.if-is_none.false in
     changed_here first d _ Done (λ (x : Alternative). record x { current = without x.current c.args.key }) _ c.in_ok-remove.ensures.ok
     (remove_accepted tree c.args.alt.now (get_or tree i d) (first.found d) c.args.key there)

@@ -21,6 +21,6 @@ returns c =
     let name = c.args.name.now in
     let has : Alternative → Bool = λ (a : Alternative). is_some (saved_as a name) in
     let there : has (get_or tree i d) ≡ true =
-        ap has (get_or_default tree i d c.index-tree-i.result first.in_range) ∙ sym c.has_saved.ensures ∙ c.if-not-has_saved.false in
+    ap has (get_or_default tree i d c.index-tree-i.result first.in_range) ∙ sym c.has_saved.ensures ∙ c.if-not-has_saved.false in
     changed_here first d _ Done (λ (x : Alternative). record x { saved = without_first (λ s. bytes_eq s.name name) x.saved }) _ c.forget.ensures
     (uncheck_accepted tree c.args.alt.now (get_or tree i d) (first.found d) name there)
