@@ -1,20 +1,25 @@
--- Entries that a slot may have stay so where only current roots change.
-use Rattle.std.proofs.Common.{◌≡◌, ℕ, suc, ◌<◌, ◌^◌, Bool, true, false, ◌&&◌, ◌||◌, cond, List, [], ◌∷◌, ◌++◌, length, Option, Some, None, IsSomeAnd, refl, sym, ap, ◌∙◌, subst}
+-- Entries that a slot may have stay so where only roots change.
+use Rattle.std.proofs.Common.{◌≡◌, ◌⊎◌, inl, inr, codes, true≢false, ℕ, suc, ◌<◌, ◌^◌, Bool, true, false, ◌&&◌, ◌||◌, cond, List, [], ◌∷◌, ◌++◌, length, Option, Some, None, IsSomeAnd, refl, sym, ap, ◌∙◌, subst}
 use Rattle.std.specs.List.{AllByRecursion, list_any}
 use Rattle.std.specs.Option.{option_eq}
 use Rattle.std.specs.Str.{bytes_eq}
+use Rattle.std.proofs.lemmas.Slice.Eq.{bytes_eq-Decides}
 use Rattle.vm_types.specs.Firsts.{change_first}
 use Rattle.vm_block.specs.Slot.{EntryFits, HeadFits, SlotFits, IsLedger, Follows, MayFollow, is_alternative, is_alternative_of, is_called_as, is_same_kind}
 use Rattle.vm_block.specs.declared.slot.Kind.{Kind}
 use Rattle.vm_block.specs.declared.slot.Entry.{Entry}
 use Rattle.vm_store.proofs.StandingLemmas.{with_current}
 
--- two entries that differ in their current roots alone
+-- the base has to be empty: that of `top`, and that of a checkpoint, which may be one of `top`
+abbrev pub IsUnbasedKind : Entry → Type 0
+IsUnbasedKind e = (is_alternative e.kind ≡ false) ⊎ (e.name ≡ codes "top")
+
+-- two entries that differ in their roots alone
 pub record IsAlike (e f : Entry) : Type 0 where
   pub kind : f.kind ≡ e.kind
   pub name : f.name ≡ e.name
   pub owner : f.owner ≡ e.owner
-  pub base : f.base ≡ e.base
+  pub base : IsUnbasedKind e → e.base ≡ 0 → f.base ≡ 0
   pub fits : EntryFits e → EntryFits f
 
 abbrev pub AreAlike : List Entry → List Entry → Type 0
@@ -25,7 +30,7 @@ AreAlike (e ∷ es) [] = ⊥
 
 alike_itself : (es : List Entry) → AreAlike es es
 alike_itself [] = tt
-alike_itself (e ∷ es) = (record { kind = refl; name = refl; owner = refl; base = refl; fits = λ fits. fits }, alike_itself es)
+alike_itself (e ∷ es) = (record { kind = refl; name = refl; owner = refl; base = λ kind empty. empty; fits = λ fits. fits }, alike_itself es)
 
 -- the first entry that passes has another current root
 pub alike_turned : (test : Entry → Bool) (root : ℕ) → root < 2 ^ 32 → (es : List Entry) → AreAlike es (change_first test (with_current root) es)
@@ -37,13 +42,43 @@ alike_turned test root small (e ∷ es) =
           kind = refl;
           name = refl;
           owner = refl;
-          base = refl;
+          base = λ kind empty. empty;
           fits = λ fits. record { name = fits.name; owner = fits.owner; current = small; base = fits.base };
         },
         alike_itself es,
       )
-      | false ↦ (record { kind = refl; name = refl; owner = refl; base = refl; fits = λ fits. fits }, alike_turned test root small es)
+      | false ↦ (record { kind = refl; name = refl; owner = refl; base = λ kind empty. empty; fits = λ fits. fits }, alike_turned test root small es)
     ]
+
+-- the entry with other roots
+abbrev pub with_roots : ℕ → ℕ → Entry → Entry
+with_roots current base e = record e { current = current; base = base }
+
+-- the first entry of an alternative has other roots; if it is `top`, the base stays empty
+pub alike_back : (alt : List ℕ) (current base : ℕ) → current < 2 ^ 32 → base < 2 ^ 32 → (alt ≡ codes "top" → base ≡ 0) → (es : List Entry) → AreAlike es (change_first (is_alternative_of alt) (with_roots current base) es)
+alike_back alt current base small small_base unbased [] = tt
+alike_back alt current base small small_base unbased (e ∷ es) =
+    elim (is_alternative_of alt e) as (λ b. is_alternative_of alt e ≡ b → AreAlike (e ∷ es) (cond b (with_roots current base e ∷ es) (e ∷ change_first (is_alternative_of alt) (with_roots current base) es))) [
+      | true ↦ λ is. (
+        record {
+          kind = refl;
+          name = refl;
+          owner = refl;
+          base = λ kind empty. unbased (alt_is_top is kind);
+          fits = λ fits. record { name = fits.name; owner = fits.owner; current = small; base = small_base };
+        },
+        alike_itself es,
+      )
+      | false ↦ λ is. (record { kind = refl; name = refl; owner = refl; base = λ kind empty. empty; fits = λ fits. fits }, alike_back alt current base small small_base unbased es)
+    ] refl
+  where
+    alt_is_top : is_alternative_of alt e ≡ true → IsUnbasedKind e → alt ≡ codes "top"
+    alt_is_top is (inl checkpoint) = let none : is_alternative_of alt e ≡ false = ap (λ b. b && bytes_eq e.name alt) checkpoint in absurd (true≢false (sym is ∙ none))
+    alt_is_top is (inr named) = sym ((bytes_eq-Decides e.name alt).0 (last (is_alternative e.kind) (bytes_eq e.name alt) is)) ∙ named
+      where
+        last : (a b : Bool) → (a && b) ≡ true → b ≡ true
+        last true b h = h
+        last false b h = absurd (true≢false (sym h))
 
 length-alike : (es fs : List Entry) → AreAlike es fs → length fs ≡ length es
 length-alike [] [] a = refl
@@ -88,7 +123,7 @@ may_follow earlier before alike e f a may = record {
   owned = subst (λ o. IsSomeAnd o (λ owner. list_any (is_alternative_of owner) before ≡ true)) (sym a.owner)
       (some_so e.owner _ _ (λ owner is. any-alike (is_alternative_of owner) (is_alternative_of owner) (alternative-alike owner) earlier before alike ∙ is) may.owned);
   new = any-alike (is_called_as e) (is_called_as f) (λ e' f' a'. called-alike e f a e' f' a') earlier before alike ∙ may.new;
-  top = λ checkpoint of_top. a.base ∙ may.top (sym (ap is_alternative a.kind) ∙ checkpoint) (sym a.owner ∙ of_top);
+  top = λ checkpoint of_top. let was = sym (ap is_alternative a.kind) ∙ checkpoint in a.base (inl was) (may.top was (sym a.owner ∙ of_top));
 }
 
 alike_more : (earlier before : List Entry) → AreAlike earlier before → (e f : Entry) → IsAlike e f → AreAlike (earlier ++ e ∷ []) (before ++ f ∷ [])
@@ -107,13 +142,13 @@ follows earlier before alike (e ∷ es) [] a h = absurd a
 ledger : (es fs : List Entry) → AreAlike es fs → IsLedger es → IsLedger fs
 ledger [] [] a h = h
 ledger (e ∷ es) (f ∷ fs) a h = (
-  record { kind = a.0.kind ∙ h.0.kind; name = a.0.name ∙ h.0.name; owner = a.0.owner ∙ h.0.owner; base = a.0.base ∙ h.0.base },
+  record { kind = a.0.kind ∙ h.0.kind; name = a.0.name ∙ h.0.name; owner = a.0.owner ∙ h.0.owner; base = a.0.base (inr h.0.name) h.0.base },
   follows (e ∷ []) (f ∷ []) (a.0, tt) es fs a.1 h.1,
 )
 ledger [] (f ∷ fs) a h = absurd a
 ledger (e ∷ es) [] a h = absurd a
 
--- a slot may have entries that differ in their current roots alone
+-- a slot may have entries that differ in their roots alone
 pub fits_alike : (limit : ℕ) (es fs : List Entry) → AreAlike es fs → SlotFits limit es → SlotFits limit fs
 fits_alike limit es fs a fits = record {
   head = subst (HeadFits limit) (sym (length-alike es fs a)) fits.head;

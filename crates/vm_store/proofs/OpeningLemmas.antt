@@ -25,6 +25,7 @@ use Rattle.vm_store.specs.Filed.{Filed, StandsAs, Standing, tree_of}
 use Rattle.vm_store.specs.Shown.{Shows, ShowsNothing}
 use Rattle.vm_store.specs.Resting.{IsSafe, Rests}
 use Rattle.vm_store.specs.Refused.{IsStore, LacksMap, IsRefused, IsSynced, IsAtMostSynced}
+use Rattle.vm_store.proofs.MovedLemmas.{standing_join}
 use Rattle.vm_store.proofs.StandingLemmas.{standing_in, standing_data}
 
 -- a sync leaves all as it was, or synced
@@ -81,12 +82,6 @@ standing_at P x limit (e ∷ es) (f ∷ fs) zero d s lt = (f, s.0)
 standing_at P x limit (e ∷ es) (f ∷ fs) (suc i) d s lt = standing_at P x limit es fs i d s.1 (omega arith)
 standing_at P x limit [] (f ∷ fs) i d s lt = absurd s
 standing_at P x limit (e ∷ es) [] i d s lt = absurd s
-
-standing_join : (P : ℕ → Type 0) (x : Contents) (limit : ℕ) (es : List Entry) (fs : List Filed) (e : Entry) (f : Filed) → Standing P x limit es fs → StandsAs P x limit e f → Standing P x limit (es ++ e ∷ []) (fs ++ f ∷ [])
-standing_join P x limit [] [] e f s here = (here, tt)
-standing_join P x limit (e' ∷ es) (f' ∷ fs) e f s here = (s.0, standing_join P x limit es fs e f s.1 here)
-standing_join P x limit [] (f' ∷ fs) e f s here = absurd s
-standing_join P x limit (e' ∷ es) [] e f s here = absurd s
 
 -- one entry more was found to stand
 pub standing_more : (old mid : disk.State) (limit : ℕ) (es : List Entry) (i : ℕ) (e : Entry) (marks more : List Bool) → i < length es → e ≡ get_or es i e → HoldsMore marks more → OnlyReads old mid

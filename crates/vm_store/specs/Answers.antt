@@ -2,7 +2,7 @@
 use Rattle.std.specs.Prelude.{◌≡◌, ◌⊎◌, ℕ, ◌*◌, nat_lt, Bool, true, false, List, Option, Some, None, Result, Ok, Err}
 use Rattle.vm_types.specs.declared.answer.Answer.{Answer}
 use Rattle.vm_types.specs.declared.command.Command.{Command}
-use Rattle.vm_types.specs.declared.command.Command.TheVariants.{Put, Remove, Commit, Reclaim}
+use Rattle.vm_types.specs.declared.command.Command.TheVariants.{New, Drop, Put, Remove, Checkpoint, Uncheck, Back, Commit, Reclaim}
 use Rattle.vm_types.specs.declared.key.Key.{Key}
 use Rattle.vm_types.specs.declared.refusal.Refusal.{Refusal}
 use Rattle.vm_types.specs.declared.refusal.Refusal.TheVariants.{NoSuchAlternative, Full, Deep, Device}
@@ -15,8 +15,13 @@ use Rattle.vm_store.specs.LeafMap.{LacksRoom}
 
 -- the commands that are carried out so far
 abbrev pub IsCarriedOut : Command → Type 0
+IsCarriedOut (New name parent) = Unit {0}
+IsCarriedOut (Drop alt) = Unit {0}
 IsCarriedOut (Put alt key value) = Unit {0}
 IsCarriedOut (Remove alt key) = Unit {0}
+IsCarriedOut (Checkpoint alt name) = Unit {0}
+IsCarriedOut (Uncheck alt name) = Unit {0}
+IsCarriedOut (Back alt name) = Unit {0}
 IsCarriedOut Commit = Unit {0}
 IsCarriedOut Reclaim = Unit {0}
 IsCarriedOut command = ⊥

@@ -1,4 +1,5 @@
 pub mod Answers
+pub mod Entries
 pub mod Filed
 pub mod Formatting
 pub mod Free

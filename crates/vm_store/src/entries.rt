@@ -1,7 +1,10 @@
-//! Entries in memory: found by name, copied, and marked.
-ghost use Rattle.std.specs.Prelude.{◌≡◌, ◌≤◌, find, length, None, vec_capacity, IfSome, IfNone};
+//! Entries in memory: found by name, added, taken out, copied, and marked.
+ghost use Rattle.std.specs.Prelude.{◌≡◌, ◌≤◌, ◌<◌, ◌++◌, ◌∷◌, [], find, filter, length, None, vec_capacity, IfSome, IfNone};
+ghost use Rattle.std.specs.List.{list_any};
 ghost use Rattle.vm_types.specs.Firsts.{IsFirst};
+ghost use Rattle.vm_types.specs.Name.{IsName};
 ghost use Rattle.vm_block.specs.Slot.{is_alternative_of};
+ghost use Rattle.vm_store.specs.Entries.{is_checkpoint_under, is_checkpoint_of, is_child_of, is_apart};
 ghost use Rattle.vm_store.specs.Marking.{with_entries};
 
 use crate::leaf_map::mark;
@@ -16,6 +19,34 @@ fn is_alternative_of(name: &Name, entry: &Entry) -> bool
     entry.kind == Kind::Alternative && entry.name == *name
 }
 
+// Whether the entry is a checkpoint of the alternative.
+fn is_checkpoint_under(alt: &Name, entry: &Entry) -> bool
+    ensures { result ≡ is_checkpoint_under alt.now entry.now }
+{
+    entry.kind == Kind::Checkpoint && entry.owner == Some(*alt)
+}
+
+// Whether the entry is the checkpoint of this name of the alternative.
+fn is_checkpoint_of(alt: &Name, name: &Name, entry: &Entry) -> bool
+    ensures { result ≡ is_checkpoint_of alt.now name.now entry.now }
+{
+    is_checkpoint_under(alt, entry) && entry.name == *name
+}
+
+// Whether the entry is an alternative whose parent is this one.
+fn is_child_of(alt: &Name, entry: &Entry) -> bool
+    ensures { result ≡ is_child_of alt.now entry.now }
+{
+    entry.kind == Kind::Alternative && entry.owner == Some(*alt)
+}
+
+// Whether the entry is neither the alternative nor one of its checkpoints.
+fn is_apart(alt: &Name, entry: &Entry) -> bool
+    ensures { result ≡ is_apart alt.now entry.now }
+{
+    !(is_alternative_of(alt, entry) || is_checkpoint_under(alt, entry))
+}
+
 /// Where the alternative of this name stands.
 pub fn position_of(entries: &[Entry], alt: &Name) -> Option<usize>
     ensures found { IfSome result (IsFirst (is_alternative_of alt.now) entries.now) }
@@ -27,6 +58,49 @@ pub fn position_of(entries: &[Entry], alt: &Name) -> Option<usize>
         }
     }
     None
+}
+
+/// Where the checkpoint of this name of the alternative stands.
+pub fn checkpoint_position(entries: &[Entry], alt: &Name, name: &Name) -> Option<usize>
+    ensures found { IfSome result (IsFirst (is_checkpoint_of alt.now name.now) entries.now) }
+    ensures none { IfNone result (find (is_checkpoint_of alt.now name.now) entries.now ≡ None) }
+{
+    for (i, entry) in entries.iter().enumerate() {
+        if is_checkpoint_of(alt, name, entry) {
+            return Some(i);
+        }
+    }
+    None
+}
+
+/// Whether some alternative has this one as its parent.
+pub fn has_children(entries: &[Entry], alt: &Name) -> bool
+    ensures { result ≡ list_any (is_child_of alt.now) entries.now }
+{
+    entries.iter().any(|e| is_child_of(alt, e))
+}
+
+/// Adds an entry at the end. There has to be room, so it takes no memory.
+pub fn add_entry(entries: &mut Vec<Entry>, entry: Entry)
+    requires { length entries.old.items < vec_capacity entries.old }
+    ensures items { entries.new.items ≡ entries.old.items ++ entry ∷ [] }
+    ensures room { vec_capacity entries.old ≤ vec_capacity entries.new }
+    ensures name { IsName entry.name }
+{
+    let named = !entry.name.as_bytes().is_empty();
+    prove!(named);
+    let Ok(()) = entries.extend_from_slice(&[entry]) else {
+        unreachable!();
+    };
+}
+
+/// Takes out the alternative of this name and its checkpoints.
+pub fn take_out(entries: &mut Vec<Entry>, alt: &Name)
+    ensures items { entries.new.items ≡ filter (is_apart alt.now) entries.old.items }
+    ensures fewer { length entries.new.items ≤ length entries.old.items }
+    ensures room { vec_capacity entries.old ≤ vec_capacity entries.new }
+{
+    entries.retain(|e| is_apart(alt, e));
 }
 
 /// Makes a list these entries. There has to be room, so it takes no memory.

@@ -9,6 +9,8 @@ ghost use Rattle.vm_store.specs.Guarded.{IsGuarded};
 ghost use Rattle.vm_store.specs.Resting.{spare_of};
 ghost use Rattle.vm_store.specs.Shown.{Shows};
 
+mod alternatives;
+mod checkpoints;
 mod formatting;
 mod listing;
 mod opening;
@@ -53,7 +55,6 @@ pub struct Store<D: Disk> {
     ghost inside: { blocks ≤ (D.state disk).blocks },
     ghost bits: { length held ≡ blocks },
     ghost mark_bits: { length marks ≡ blocks },
-    ghost some: { 0 < length working.items },
     ghost few: { length working.items ≤ 511 },
     ghost room: { 511 ≤ vec_capacity committed },
     ghost room_working: { 511 ≤ vec_capacity working },
@@ -123,6 +124,11 @@ impl<D: Disk> Store<D> {
         match command {
             Command::Put { alt, key, value } => self.put(alt, *key, value),
             Command::Remove { alt, key } => self.remove(alt, *key),
+            Command::New { name, parent } => self.make_alternative(name, parent),
+            Command::Drop { alt } => self.drop_alternative(alt),
+            Command::Checkpoint { alt, name } => self.make_checkpoint(alt, name),
+            Command::Uncheck { alt, name } => self.uncheck(alt, name),
+            Command::Back { alt, name } => self.go_back(alt, name),
             Command::Commit => self.commit(),
             Command::Reclaim => self.reclaim(),
             _ => unreachable!(),

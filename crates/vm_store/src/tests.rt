@@ -6,6 +6,7 @@ mod reclaiming;
 mod removing;
 mod running;
 mod slots;
+mod versions;
 
 use crate::{Store, format, open};
 use std::alloc::Global;

@@ -17,7 +17,6 @@ pub struct Parts {
     ghost most: { blocks ≤ 2 ^ 20 },
     ghost bits: { length held ≡ blocks },
     ghost mark_bits: { length marks ≡ blocks },
-    ghost some: { 0 < length working.items },
     ghost few: { length working.items ≤ 511 },
     ghost room: { 511 ≤ vec_capacity committed },
     ghost room_working: { 511 ≤ vec_capacity working },

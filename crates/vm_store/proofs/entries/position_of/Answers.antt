@@ -1,13 +1,8 @@
-use Rattle.std.proofs.Common.{◌≡◌, ℕ, suc, ◌<◌, Bool, false, cond, List, [], ◌∷◌, length, get_or, find, None, Some, refl, sym, ap, ◌∙◌, arith}
+use Rattle.std.proofs.Common.{sym, ap, ◌∙◌, arith}
 use Rattle.vm_types.proofs.FirstsLemmas.{IsFirst-at}
+use Rattle.vm_store.proofs.FoundLemmas.{find_none}
 use Rattle.vm_block.specs.Slot.{is_alternative_of}
 use Rattle.vm_store.proofs.entries.position_of.Goals as goal
-
--- where no item passes, none is found
-find_none : {X : Type 0} (test : X → Bool) (xs : List X) → ((k : ℕ) (d : X) → k < length xs → test (get_or xs k d) ≡ false) → find test xs ≡ None
-find_none test [] fails = refl
-find_none test (x ∷ xs) fails =
-    ap (λ b. cond b (Some x) (find test xs)) (fails 0 x (omega arith)) ∙ find_none test xs (λ k d lt. fails (suc k) d (omega arith))
 
 pub returns-then-is_alternative_of-clause-found : goal.returns-then-is_alternative_of-clause-found
 returns-then-is_alternative_of-clause-found c =

@@ -1,8 +1,12 @@
 use Rattle.std.proofs.Common.{sym, subst}
 use Rattle.vm_types.specs.declared.command.Command.{Command}
+use Rattle.vm_disk.specs.Moments.{Throughout}
+use Rattle.vm_disk.proofs.MomentLemmas.{started}
 use Rattle.vm_store.specs.Answers.{IsAnswer, IsDeep}
+use Rattle.vm_store.specs.Guarded.{IsGuarded}
 use Rattle.vm_store.specs.Resting.{spare_of}
 use Rattle.vm_store.specs.Store.{root_of}
+use Rattle.vm_store.proofs.GuardLemmas.{guarded_at_rest}
 use Rattle.vm_store.proofs.store.Store.carry_out.Goals as goal
 
 pub returns-in-Put-clause-answer : goal.returns-in-Put-clause-answer
@@ -16,3 +20,63 @@ returns-in-Remove-clause-answer g c honest s holds =
     let x = (g.D.Disk.state c.args.self.now.disk).now.contents in
     let answers = λ (command : Command). IsAnswer s (spare_of holds) (IsDeep x (root_of c.args.self.now) s.working command) command c.remove.result in
     subst answers (sym c.in-Remove.is) (c.remove.ensures.answer honest s holds)
+
+pub returns-in-New-clause-answer : goal.returns-in-New-clause-answer
+returns-in-New-clause-answer g c honest s holds =
+    let x = (g.D.Disk.state c.args.self.now.disk).now.contents in
+    let answers = λ (command : Command). IsAnswer s (spare_of holds) (IsDeep x (root_of c.args.self.now) s.working command) command c.make_alternative.result in
+    subst answers (sym c.in-New.is) (c.make_alternative.ensures.answer honest s holds)
+
+pub returns-in-Drop-clause-answer : goal.returns-in-Drop-clause-answer
+returns-in-Drop-clause-answer g c honest s holds =
+    let x = (g.D.Disk.state c.args.self.now.disk).now.contents in
+    let answers = λ (command : Command). IsAnswer s (spare_of holds) (IsDeep x (root_of c.args.self.now) s.working command) command c.drop_alternative.result in
+    subst answers (sym c.in-Drop.is) (c.drop_alternative.ensures.answer honest s holds)
+
+pub returns-in-Checkpoint-clause-answer : goal.returns-in-Checkpoint-clause-answer
+returns-in-Checkpoint-clause-answer g c honest s holds =
+    let x = (g.D.Disk.state c.args.self.now.disk).now.contents in
+    let answers = λ (command : Command). IsAnswer s (spare_of holds) (IsDeep x (root_of c.args.self.now) s.working command) command c.make_checkpoint.result in
+    subst answers (sym c.in-Checkpoint.is) (c.make_checkpoint.ensures.answer honest s holds)
+
+pub returns-in-Uncheck-clause-answer : goal.returns-in-Uncheck-clause-answer
+returns-in-Uncheck-clause-answer g c honest s holds =
+    let x = (g.D.Disk.state c.args.self.now.disk).now.contents in
+    let answers = λ (command : Command). IsAnswer s (spare_of holds) (IsDeep x (root_of c.args.self.now) s.working command) command c.uncheck.result in
+    subst answers (sym c.in-Uncheck.is) (c.uncheck.ensures.answer honest s holds)
+
+pub returns-in-Back-clause-answer : goal.returns-in-Back-clause-answer
+returns-in-Back-clause-answer g c honest s holds =
+    let x = (g.D.Disk.state c.args.self.now.disk).now.contents in
+    let answers = λ (command : Command). IsAnswer s (spare_of holds) (IsDeep x (root_of c.args.self.now) s.working command) command c.go_back.result in
+    subst answers (sym c.in-Back.is) (c.go_back.ensures.answer honest s holds)
+
+pub returns-in-New-clause-guarded : goal.returns-in-New-clause-guarded
+returns-in-New-clause-guarded g c honest s holds =
+    let Q = IsGuarded c.make_alternative.new.self.held in
+    subst (λ d. Throughout (g.D.Disk.state d) (g.D.Disk.state c.make_alternative.new.self.disk) Q) c.make_alternative.ensures.disk
+    (started _ Q (guarded_at_rest _ _ _ _ _ _ _ (c.make_alternative.ensures.state honest s holds)))
+
+pub returns-in-Drop-clause-guarded : goal.returns-in-Drop-clause-guarded
+returns-in-Drop-clause-guarded g c honest s holds =
+    let Q = IsGuarded c.drop_alternative.new.self.held in
+    subst (λ d. Throughout (g.D.Disk.state d) (g.D.Disk.state c.drop_alternative.new.self.disk) Q) c.drop_alternative.ensures.disk
+    (started _ Q (guarded_at_rest _ _ _ _ _ _ _ (c.drop_alternative.ensures.state honest s holds)))
+
+pub returns-in-Checkpoint-clause-guarded : goal.returns-in-Checkpoint-clause-guarded
+returns-in-Checkpoint-clause-guarded g c honest s holds =
+    let Q = IsGuarded c.make_checkpoint.new.self.held in
+    subst (λ d. Throughout (g.D.Disk.state d) (g.D.Disk.state c.make_checkpoint.new.self.disk) Q) c.make_checkpoint.ensures.disk
+    (started _ Q (guarded_at_rest _ _ _ _ _ _ _ (c.make_checkpoint.ensures.state honest s holds)))
+
+pub returns-in-Uncheck-clause-guarded : goal.returns-in-Uncheck-clause-guarded
+returns-in-Uncheck-clause-guarded g c honest s holds =
+    let Q = IsGuarded c.uncheck.new.self.held in
+    subst (λ d. Throughout (g.D.Disk.state d) (g.D.Disk.state c.uncheck.new.self.disk) Q) c.uncheck.ensures.disk
+    (started _ Q (guarded_at_rest _ _ _ _ _ _ _ (c.uncheck.ensures.state honest s holds)))
+
+pub returns-in-Back-clause-guarded : goal.returns-in-Back-clause-guarded
+returns-in-Back-clause-guarded g c honest s holds =
+    let Q = IsGuarded c.go_back.new.self.held in
+    subst (λ d. Throughout (g.D.Disk.state d) (g.D.Disk.state c.go_back.new.self.disk) Q) c.go_back.ensures.disk
+    (started _ Q (guarded_at_rest _ _ _ _ _ _ _ (c.go_back.ensures.state honest s holds)))

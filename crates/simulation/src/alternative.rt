@@ -1,0 +1,266 @@
+//! An alternative and its checkpoints, with whole copies of their maps.
+ghost use Rattle.std.specs.Prelude.{◌≡◌, [], ◌∷◌, ◌++◌, length, find, Some, None, is_some, IfSome, IfNone, IfOk, OnOk, OnErr, bytes_eq};
+ghost use Rattle.std.specs.Option.{option_eq};
+ghost use Rattle.vm_types.specs.Firsts.{IsFirst, without_first};
+ghost use Rattle.vm_types.specs.Map.{get, with_value, without, same_map};
+ghost use Rattle.vm_types.specs.Step.{new_alternative};
+ghost use Rattle.vm_types.specs.Tree.{saved_as};
+ghost use Rattle.vm_types.proofs.Steps.{gone_back};
+
+use crate::map;
+use std::alloc::{AllocError, Global};
+use std::marker::Model;
+use vm_types::{Key, Name, Value};
+
+/// A checkpoint: an earlier state of an alternative, under a name.
+#[derive(Drop)]
+pub struct Saved {
+    name: Name,
+    current: Vec<(Key, Value)>,
+    base: Vec<(Key, Value)>,
+}
+
+impl Model for Saved {
+    ghost use Rattle.vm_types.specs.Tree as tree;
+
+    ghost Value = { tree.Saved };
+
+    ghost view = { λ c. record { name = c.name; current = c.current.items; base = c.base.items } };
+}
+
+/// An alternative: its records, those of its parent that it last took in, and its checkpoints.
+#[derive(Drop)]
+pub struct Alternative {
+    name: Name,
+    parent: Option<Name>,
+    current: Vec<(Key, Value)>,
+    base: Vec<(Key, Value)>,
+    saved: Vec<Saved>,
+}
+
+impl Model for Alternative {
+    ghost use Rattle.vm_types.specs.Tree as tree;
+
+    ghost Value = { tree.Alternative };
+
+    ghost view = { λ a. record { name = a.name; parent = a.parent; current = a.current.items; base = a.base.items; saved = a.saved.items } };
+}
+
+impl Saved {
+    fn is_named(&self, name: &Name) -> bool
+        ensures { result ≡ bytes_eq self.now.name name.now }
+    {
+        self.name == *name
+    }
+
+    fn copy(&self, alloc: Global) -> Result<Saved, AllocError>
+        ensures { IfOk result (λ copy. copy ≡ self.now) }
+    {
+        Ok(Saved {
+            name: self.name,
+            current: Vec::from_slice(alloc, &self.current)?,
+            base: Vec::from_slice(alloc, &self.base)?,
+        })
+    }
+}
+
+// Where the checkpoint of this name stands.
+fn position_of(saved: &[Saved], name: &Name) -> Option<usize>
+    ensures found { IfSome result (IsFirst (λ c. bytes_eq c.name name.now) saved.now) }
+    ensures none { IfNone result (find (λ c. bytes_eq c.name name.now) saved.now ≡ None) }
+{
+    for (i, checkpoint) in saved.iter().enumerate() {
+        if checkpoint.is_named(name) {
+            return Some(i);
+        }
+    }
+    None
+}
+
+fn copy_saved(alloc: Global, saved: &[Saved]) -> Result<Vec<Saved>, AllocError>
+    ensures { IfOk result (λ copy. copy.items ≡ saved.now) }
+{
+    let mut copy = Vec::new(alloc);
+    for checkpoint in saved {
+        copy.push(checkpoint.copy(alloc)?)?;
+    }
+    Ok(copy)
+}
+
+impl Alternative {
+    /// The first alternative of a store, without records.
+    pub fn first(alloc: Global, name: &Name) -> Alternative
+        ensures { result ≡ record { name = name.now; parent = None; current = []; base = []; saved = [] } }
+    {
+        Alternative {
+            name: *name,
+            parent: None,
+            current: Vec::new(alloc),
+            base: Vec::new(alloc),
+            saved: Vec::new(alloc),
+        }
+    }
+
+    /// A new alternative under this one, which shows its records.
+    pub fn child(&self, alloc: Global, name: &Name) -> Result<Alternative, AllocError>
+        ensures { IfOk result (λ child. child ≡ new_alternative name.now self.now) }
+    {
+        Ok(Alternative {
+            name: *name,
+            parent: Some(self.name),
+            current: Vec::from_slice(alloc, &self.current)?,
+            base: Vec::from_slice(alloc, &self.current)?,
+            saved: Vec::new(alloc),
+        })
+    }
+
+    /// The same once more.
+    pub fn copy(&self, alloc: Global) -> Result<Alternative, AllocError>
+        ensures { IfOk result (λ copy. copy ≡ self.now) }
+    {
+        Ok(Alternative {
+            name: self.name,
+            parent: self.parent,
+            current: Vec::from_slice(alloc, &self.current)?,
+            base: Vec::from_slice(alloc, &self.base)?,
+            saved: copy_saved(alloc, &self.saved)?,
+        })
+    }
+
+    /// Whether it has this name.
+    pub fn is_named(&self, name: &Name) -> bool
+        ensures { result ≡ bytes_eq self.now.name name.now }
+    {
+        self.name == *name
+    }
+
+    /// The name of its parent. The first alternative has none.
+    pub fn parent(&self) -> Option<Name>
+        ensures { result ≡ self.now.parent }
+    {
+        self.parent
+    }
+
+    /// Whether its parent has this name.
+    pub fn is_under(&self, name: &Name) -> bool
+        ensures { result ≡ option_eq bytes_eq self.now.parent (Some name.now) }
+    {
+        self.parent == Some(*name)
+    }
+
+    /// How many checkpoints it has.
+    pub fn saved_count(&self) -> usize
+        ensures { result ≡ length self.now.saved }
+    {
+        self.saved.len()
+    }
+
+    /// The value of a record.
+    pub fn get(&self, key: Key) -> Option<Value>
+        ensures { result ≡ get self.now.current key }
+    {
+        map::get(&self.current, key)
+    }
+
+    /// Gives a record a value.
+    pub fn put(&mut self, alloc: Global, key: Key, value: &Value) -> Result<(), AllocError>
+        ensures ok { OnOk result (self.new ≡ record self.old { current = with_value self.old.current key value.now }) }
+        ensures err { OnErr result (self.new ≡ self.old) }
+    {
+        self.current = map::with_value(alloc, &self.current, key, value)?;
+        Ok(())
+    }
+
+    /// Takes a record out.
+    pub fn remove(&mut self, alloc: Global, key: Key) -> Result<(), AllocError>
+        ensures ok { OnOk result (self.new ≡ record self.old { current = without self.old.current key }) }
+        ensures err { OnErr result (self.new ≡ self.old) }
+    {
+        self.current = map::without(alloc, &self.current, key)?;
+        Ok(())
+    }
+
+    /// Whether its base is what another one shows.
+    pub fn has_taken_in(&self, other: &Alternative) -> bool
+        ensures { result ≡ same_map self.now.base other.now.current }
+    {
+        map::same(&self.base, &other.current)
+    }
+
+    /// A copy of what it shows.
+    pub fn records(&self, alloc: Global) -> Result<Vec<(Key, Value)>, AllocError>
+        ensures { IfOk result (λ copy. copy.items ≡ self.now.current) }
+    {
+        Vec::from_slice(alloc, &self.current)
+    }
+
+    /// Shows these records from now on.
+    pub fn show(&mut self, records: Vec<(Key, Value)>)
+        ensures { self.new ≡ record self.old { current = records.items } }
+    {
+        self.current = records;
+    }
+
+    /// Takes these records as its base.
+    pub fn rebase(&mut self, records: Vec<(Key, Value)>)
+        ensures { self.new ≡ record self.old { base = records.items } }
+    {
+        self.base = records;
+    }
+
+    /// Whether it has a checkpoint of this name.
+    pub fn has_saved(&self, name: &Name) -> bool
+        ensures { result ≡ is_some (saved_as self.now name.now) }
+    {
+        position_of(&self.saved, name).is_some()
+    }
+
+    /// Names its present state.
+    pub fn save(&mut self, alloc: Global, name: &Name) -> Result<(), AllocError>
+        ensures ok { OnOk result (self.new ≡ record self.old { saved = self.old.saved ++ record { name = name.now; current = self.old.current; base = self.old.base } ∷ [] }) }
+        ensures err { OnErr result (self.new ≡ self.old) }
+    {
+        let checkpoint = Saved {
+            name: *name,
+            current: Vec::from_slice(alloc, &self.current)?,
+            base: Vec::from_slice(alloc, &self.base)?,
+        };
+        self.saved.push(checkpoint)?;
+        Ok(())
+    }
+
+    /// Takes the checkpoint of this name out, if there is one.
+    pub fn forget(&mut self, name: &Name)
+        ensures { self.new ≡ record self.old { saved = without_first (λ c. bytes_eq c.name name.now) self.old.saved } }
+    {
+        if let Some(i) = position_of(&self.saved, name) {
+            self.saved.remove(i);
+        }
+    }
+
+    /// Goes back to the checkpoint of this name, if there is one.
+    pub fn go_back(&mut self, alloc: Global, name: &Name) -> Result<(), AllocError>
+        ensures ok { OnOk result (self.new ≡ gone_back self.old (saved_as self.old name.now)) }
+        ensures err { OnErr result (self.new ≡ self.old) }
+    {
+        let Some(i) = position_of(&self.saved, name) else {
+            return Ok(());
+        };
+        let current = Vec::from_slice(alloc, &self.saved[i].current)?;
+        let base = Vec::from_slice(alloc, &self.saved[i].base)?;
+        self.current = current;
+        self.base = base;
+        Ok(())
+    }
+}
+
+/// The same tree once more.
+pub fn copy_tree(alloc: Global, tree: &[Alternative]) -> Result<Vec<Alternative>, AllocError>
+    ensures { IfOk result (λ copy. copy.items ≡ tree.now) }
+{
+    let mut copy = Vec::new(alloc);
+    for alternative in tree {
+        copy.push(alternative.copy(alloc)?)?;
+    }
+    Ok(copy)
+}

@@ -1,0 +1,93 @@
+//! Random choices, the same ones for the same seed.
+ghost use Rattle.std.specs.Prelude.{◌<◌};
+ghost use Rattle.vm_store.specs.Answers.{IsCarriedOut};
+ghost use Rattle.simulation.specs.Plain as plain;
+
+use super::cast::{KEYS, key, ring, top};
+use rand_core::{Rng, SeedableRng};
+use rand_xoshiro::Xoshiro256PlusPlus;
+use vm_types::{Command, Key, Name, Value};
+
+#[derive(Drop)]
+pub struct Dice {
+    rng: Xoshiro256PlusPlus,
+}
+
+impl Dice {
+    pub fn new(seed: u64) -> Dice {
+        Dice {
+            rng: Xoshiro256PlusPlus::seed_from_u64(seed),
+        }
+    }
+
+    /// A number below the bound.
+    pub fn below(&mut self, bound: u32) -> u32
+        requires { 0 < bound }
+        ensures { result < bound }
+    {
+        self.rng.next_u32() % bound
+    }
+
+    /// One time out of so many.
+    pub fn once_in(&mut self, times: u32) -> bool
+        requires { 0 < times }
+    {
+        self.below(times) == 0
+    }
+
+    fn alt(&mut self) -> Name {
+        if self.once_in(12) { ring() } else { top() }
+    }
+
+    fn key(&mut self) -> Key {
+        key(self.below(KEYS))
+    }
+
+    /// A value that no other draw gives.
+    fn value(&mut self) -> Value {
+        let mut bytes = [0; Value::MAX_LEN];
+        self.rng.fill_bytes(&mut bytes);
+        let len = 16 + self.below(225) as usize;
+        Value::new(&bytes[..len]).unwrap_or_default()
+    }
+
+    /// A command. A new kind of command is one more arm.
+    pub fn command(&mut self) -> Command
+        ensures store { IsCarriedOut result }
+        ensures plain { plain.IsCarriedOut result }
+    {
+        match self.below(6) {
+            0 => Command::Commit,
+            _ => Command::Put {
+                alt: self.alt(),
+                key: self.key(),
+                value: self.value(),
+            },
+        }
+    }
+
+    /// The bytes of a block.
+    pub fn bytes(&mut self) -> [u8; 4096] {
+        let mut bytes = [0; 4096];
+        self.rng.fill_bytes(&mut bytes);
+        bytes
+    }
+
+    /// What a crash may leave in a block that was not synced: the bytes at the last sync, those that
+    /// were written last, a part of each, or any others.
+    pub fn left(&mut self, synced: &[u8; 4096], written: &[u8; 4096]) -> [u8; 4096] {
+        match self.below(6) {
+            0 => *synced,
+            1 => *written,
+            2 => [0; 4096],
+            3 => [0xFF; 4096],
+            4 => self.bytes(),
+            _ => {
+                let at = self.below(4096) as usize;
+                let mut torn = *synced;
+                torn[..at].copy_from_slice(&written[..at]);
+                torn
+            }
+        }
+    }
+}

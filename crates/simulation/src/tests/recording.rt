@@ -1,0 +1,114 @@
+//! A memory disk that remembers what its blocks held at the last sync that succeeded.
+ghost use Rattle.std.specs.Prelude.{◌≡◌, ◌<◌, true};
+
+use super::dice::Dice;
+use super::{BLOCKS, Wrong};
+use std::alloc::{AllocError, Global};
+use vm_disk::{DeviceFault, Disk, MemDisk};
+
+#[derive(Drop)]
+pub struct RecordingDisk {
+    inner: MemDisk,
+    written: Vec<[u8; 4096]>,
+    synced: Vec<[u8; 4096]>,
+}
+
+/// What a crash leaves in each block that was not synced.
+#[derive(Clone, Copy, Debug)]
+pub enum Fill {
+    Synced,
+    Written,
+    Byte(u8),
+}
+
+impl RecordingDisk {
+    /// A disk of zero bytes, all of it synced.
+    pub fn new(alloc: Global) -> Result<RecordingDisk, AllocError> {
+        Ok(RecordingDisk {
+            inner: MemDisk::new(alloc, BLOCKS)?,
+            written: Vec::from_elem(alloc, [0; 4096], BLOCKS as usize)?,
+            synced: Vec::from_elem(alloc, [0; 4096], BLOCKS as usize)?,
+        })
+    }
+
+    /// The disk after a crash which leaves the same kind of bytes in each block that was not synced.
+    pub fn crash(self, alloc: Global, fill: Fill) -> Result<RecordingDisk, Wrong> {
+        let mut left = Vec::new(alloc);
+        for n in 0..BLOCKS {
+            let at = n as usize;
+            if self.inner.is_dirty(n) && at < self.synced.len() && at < self.written.len() {
+                let bytes = match fill {
+                    Fill::Synced => self.synced[at],
+                    Fill::Written => self.written[at],
+                    Fill::Byte(byte) => [byte; 4096],
+                };
+                left.push((n, bytes)).map_err(|_| Wrong::Memory)?;
+            }
+        }
+        after(alloc, self.inner.crash(&left))
+    }
+
+    /// The disk after a crash which leaves anything in blocks that were not synced.
+    pub fn crash_at_random(self, alloc: Global, dice: &mut Dice) -> Result<RecordingDisk, Wrong> {
+        let mut left = Vec::new(alloc);
+        for n in 0..BLOCKS {
+            let at = n as usize;
+            if self.inner.is_dirty(n) && at < self.synced.len() && at < self.written.len() {
+                let bytes = dice.left(&self.synced[at], &self.written[at]);
+                left.push((n, bytes)).map_err(|_| Wrong::Memory)?;
+            }
+        }
+        after(alloc, self.inner.crash(&left))
+    }
+}
+
+// A disk whose blocks are all synced, recorded anew.
+fn after(alloc: Global, mut inner: MemDisk) -> Result<RecordingDisk, Wrong> {
+    let mut written = Vec::new(alloc);
+    for n in 0..BLOCKS {
+        let mut bytes = [0; 4096];
+        if n < inner.blocks() {
+            inner.read(n, &mut bytes)?;
+        }
+        written.push(bytes).map_err(|_| Wrong::Memory)?;
+    }
+    Ok(RecordingDisk {
+        inner,
+        synced: Vec::from_slice(alloc, &written)?,
+        written,
+    })
+}
+
+impl Disk for RecordingDisk {
+    ghost use Rattle.std.specs.Prelude.{refl};
+    ghost use Rattle.vm_disk.specs.Memory.{memory_state};
+
+    ghost state = { λ disk. memory_state disk.inner };
+
+    ghost whole = { λ disk honest. refl };
+
+    ghost small = { λ disk. disk.inner.platter.small };
+
+    fn blocks(&self) -> u32 {
+        self.inner.blocks()
+    }
+
+    fn read(&mut self, n: u32, into: &mut [u8; 4096]) -> Result<(), DeviceFault> {
+        self.inner.read(n, into)
+    }
+
+    fn write(&mut self, n: u32, from: &[u8; 4096]) -> Result<(), DeviceFault> {
+        let at = n as usize;
+        if at < self.written.len() {
+            self.written[at] = *from;
+        }
+        self.inner.write(n, from)
+    }
+
+    fn sync(&mut self) -> Result<(), DeviceFault> {
+        if self.synced.len() == self.written.len() {
+            self.synced.copy_from_slice(&self.written);
+        }
+        self.inner.sync()
+    }
+}

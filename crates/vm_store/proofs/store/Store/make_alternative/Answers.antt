@@ -1,0 +1,54 @@
+use Rattle.std.proofs.Common.{refl, not, List, ◌≡◌, ◌<◌, ◌≤◌, length, find, None, Some, Ok, Err, sym, ap, ◌∙◌, arith}
+use Rattle.std.proofs.lemmas.Grind.{common_steps}
+use Rattle.vm_types.specs.declared.command.Command.TheVariants.{New}
+use Rattle.vm_block.specs.Slot.{is_alternative_of}
+use Rattle.std.specs.List.{list_any}
+use Rattle.vm_store.specs.Entries.{is_checkpoint_of, is_child_of}
+use Rattle.vm_store.specs.Resting.{spare_of}
+use Rattle.vm_store.proofs.LedgerLemmas.{with_roots}
+use Rattle.vm_store.proofs.RestingLemmas.{rests_as, any_entry}
+use Rattle.vm_store.proofs.VersionLemmas.{found_in, not_in, some_in, none_in, changed_in, removed_in, answers_refused, answers_done, quiet, new_absent, new_exists, new_full, new_step, new_rests}
+use Rattle.vm_store.proofs.store.Store.make_alternative.Goals as goal
+
+pub returns-in_default-clause-answer : goal.returns-in_default-clause-answer
+returns-in_default-clause-answer g c honest s rests =
+    answers_refused s (spare_of rests) ⊥ (New c.args.name.now c.args.parent.now) _ (new_absent _ _ _ _ _ _ s rests c.args.name.now c.args.parent.now (not_in (is_alternative_of c.args.parent.now) _ c.args.self.now.working.items c.deref.ensures.value c.in_default.ensures.none))
+
+pub returns-in_default-clause-crash : goal.returns-in_default-clause-crash
+returns-in_default-clause-crash g c honest s rests = quiet _ _ _ _ _ _ s rests (New c.args.name.now c.args.parent.now)
+
+pub returns-then-is_some-clause-answer : goal.returns-then-is_some-clause-answer
+returns-then-is_some-clause-answer g c honest s rests =
+    let found = found_in (is_alternative_of c.args.parent.now) _ c.args.self.now.working.items c.deref.ensures.value c.in-Some.i any_entry c.in-Some.ensures.found in
+    let old = some_in (is_alternative_of c.args.name.now) _ c.args.self.now.working.items c.deref-2.ensures.value _ _ c.position_of-2.ensures.found c.is_some.ensures c.if-is_some.true in
+    answers_refused s (spare_of rests) ⊥ (New c.args.name.now c.args.parent.now) _ (new_exists _ _ _ _ _ _ s rests c.args.name.now c.args.parent.now _ found old.0 old.1)
+
+pub returns-then-is_some-clause-crash : goal.returns-then-is_some-clause-crash
+returns-then-is_some-clause-crash g c honest s rests = quiet _ _ _ _ _ _ s rests (New c.args.name.now c.args.parent.now)
+
+pub returns-then-len-ge-MAX_ENTRIES-clause-answer : goal.returns-then-len-ge-MAX_ENTRIES-clause-answer
+returns-then-len-ge-MAX_ENTRIES-clause-answer g c honest s rests =
+    let found = found_in (is_alternative_of c.args.parent.now) _ c.args.self.now.working.items c.deref.ensures.value c.in-Some.i any_entry c.in-Some.ensures.found in
+    let free = none_in (is_alternative_of c.args.name.now) _ c.args.self.now.working.items c.deref-2.ensures.value _ _ c.position_of-2.ensures.none c.is_some.ensures c.if-is_some.false in
+    let many : 511 ≤ length c.args.self.now.working.items = grind (arith, common_steps) in
+    answers_refused s (spare_of rests) ⊥ (New c.args.name.now c.args.parent.now) _ (new_full _ _ _ _ _ _ s rests c.args.name.now c.args.parent.now _ found free many)
+
+pub returns-then-len-ge-MAX_ENTRIES-clause-crash : goal.returns-then-len-ge-MAX_ENTRIES-clause-crash
+returns-then-len-ge-MAX_ENTRIES-clause-crash g c honest s rests = quiet _ _ _ _ _ _ s rests (New c.args.name.now c.args.parent.now)
+
+pub returns-clause-answer : goal.returns-clause-answer
+returns-clause-answer g c honest s rests =
+    let found = found_in (is_alternative_of c.args.parent.now) _ c.args.self.now.working.items c.deref.ensures.value c.in-Some.i c.index.result.now c.in-Some.ensures.found ∙ ap (λ e. Some e) (sym c.index.ensures) in
+    let free = none_in (is_alternative_of c.args.name.now) _ c.args.self.now.working.items c.deref-2.ensures.value _ _ c.position_of-2.ensures.none c.is_some.ensures c.if-is_some.false in
+    let few : length c.args.self.now.working.items < 511 = grind (arith, common_steps) in
+    answers_done s (spare_of rests) ⊥ (New c.args.name.now c.args.parent.now) _ refl (λ never. never) (new_step _ _ _ _ _ _ s rests c.args.name.now c.args.parent.now c.index.result.now found free few)
+
+pub returns-clause-state : goal.returns-clause-state
+returns-clause-state g c honest s rests =
+    let found = found_in (is_alternative_of c.args.parent.now) _ c.args.self.now.working.items c.deref.ensures.value c.in-Some.i c.index.result.now c.in-Some.ensures.found ∙ ap (λ e. Some e) (sym c.index.ensures) in
+    let free = none_in (is_alternative_of c.args.name.now) _ c.args.self.now.working.items c.deref-2.ensures.value _ _ c.position_of-2.ensures.none c.is_some.ensures c.if-is_some.false in
+    let few : length c.args.self.now.working.items < 511 = grind (arith, common_steps) in
+    rests_as _ _ _ _ _ _ _ _ (sym c.add_entry.ensures.items) (new_rests _ _ _ _ _ _ s rests c.args.name.now c.args.parent.now c.index.result.now found free few c.add_entry.ensures.name)
+
+pub returns-clause-crash : goal.returns-clause-crash
+returns-clause-crash g c honest s rests = quiet _ _ _ _ _ _ s rests (New c.args.name.now c.args.parent.now)

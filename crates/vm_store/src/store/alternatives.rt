@@ -1,0 +1,80 @@
+//! Alternatives: made and dropped. No call here makes a device call.
+ghost use Rattle.std.specs.Prelude.{◌≡◌, ◌≢◌, ◌<◌, ◌≤◌, ◌^◌, true, length, ℕ, vec_capacity, OnErr};
+ghost use Rattle.vm_types.specs.State.{State, next};
+ghost use Rattle.vm_types.specs.Kept.{LeftBy};
+ghost use Rattle.vm_disk.specs.Disk.{Goes};
+ghost use Rattle.vm_disk.specs.Moments.{Throughout, Leaves};
+ghost use Rattle.vm_store.specs.Answers.{IsDeep, IsAnswer};
+ghost use Rattle.vm_store.specs.Resting.{spare_of};
+ghost use Rattle.vm_store.specs.Shown.{Shows};
+
+use super::Store;
+use crate::entries::{add_entry, has_children, position_of, take_out};
+use vm_block::{Entry, Kind};
+use vm_catalog::MAX_ENTRIES;
+use vm_disk::Disk;
+use vm_types::{Answer, Command, Name, Refusal};
+
+impl<D: Disk> Store<D> {
+    ghost use Rattle.vm_store.specs.Store.{disk_of, has_failed, entries_of, root_of, Holds};
+
+    // Makes a new alternative, whose current and base records are the parent's current ones.
+    pub(super) fn make_alternative(&mut self, name: &Name, parent: &Name) -> Result<Answer, Refusal>
+        ensures any { Goes (result ≡ Err Refusal.Device) (D.state (disk_of self.old)) (D.state (disk_of self.new)) }
+        ensures disk { disk_of self.new ≡ disk_of self.old }
+        ensures failed { has_failed self.new ≡ has_failed self.old }
+        ensures never { (result ≢ Err Refusal.Failed) × (result ≢ Err Refusal.Memory) }
+        ensures same { OnErr result (entries_of self.new ≡ entries_of self.old) }
+        ensures answer { (D.state (disk_of self.old)).honest ≡ true → (s : State) (holds : Holds self.old s)
+            → IsAnswer s (spare_of holds) (IsDeep (D.state (disk_of self.old)).now.contents (root_of self.old) s.working (Command.New name.now parent.now)) (Command.New name.now parent.now) result }
+        ensures state { (D.state (disk_of self.old)).honest ≡ true → (s : State) → Holds self.old s → Holds self.new (next s (Command.New name.now parent.now) result) }
+        ensures crash { (D.state (disk_of self.old)).honest ≡ true → (s : State) → Holds self.old s
+            → Throughout (D.state (disk_of self.old)) (D.state (disk_of self.new)) (Leaves (LeftBy Shows s (Command.New name.now parent.now))) }
+    {
+        let Some(i) = position_of(&self.working, parent) else {
+            return Err(Refusal::NoSuchAlternative);
+        };
+        if position_of(&self.working, name).is_some() {
+            return Err(Refusal::AlternativeExists);
+        }
+        if self.working.len() >= MAX_ENTRIES {
+            return Err(Refusal::TooMany);
+        }
+        let root = self.working[i].current;
+        let entry = Entry {
+            kind: Kind::Alternative,
+            name: *name,
+            owner: Some(*parent),
+            current: root,
+            base: root,
+        };
+        add_entry(&mut self.working, entry);
+        Ok(Answer::Done)
+    }
+
+    // Takes out an alternative that has a parent and no children, and its checkpoints.
+    pub(super) fn drop_alternative(&mut self, alt: &Name) -> Result<Answer, Refusal>
+        ensures any { Goes (result ≡ Err Refusal.Device) (D.state (disk_of self.old)) (D.state (disk_of self.new)) }
+        ensures disk { disk_of self.new ≡ disk_of self.old }
+        ensures failed { has_failed self.new ≡ has_failed self.old }
+        ensures never { (result ≢ Err Refusal.Failed) × (result ≢ Err Refusal.Memory) }
+        ensures same { OnErr result (entries_of self.new ≡ entries_of self.old) }
+        ensures answer { (D.state (disk_of self.old)).honest ≡ true → (s : State) (holds : Holds self.old s)
+            → IsAnswer s (spare_of holds) (IsDeep (D.state (disk_of self.old)).now.contents (root_of self.old) s.working (Command.Drop alt.now)) (Command.Drop alt.now) result }
+        ensures state { (D.state (disk_of self.old)).honest ≡ true → (s : State) → Holds self.old s → Holds self.new (next s (Command.Drop alt.now) result) }
+        ensures crash { (D.state (disk_of self.old)).honest ≡ true → (s : State) → Holds self.old s
+            → Throughout (D.state (disk_of self.old)) (D.state (disk_of self.new)) (Leaves (LeftBy Shows s (Command.Drop alt.now))) }
+    {
+        let Some(i) = position_of(&self.working, alt) else {
+            return Err(Refusal::NoSuchAlternative);
+        };
+        if self.working[i].owner.is_none() {
+            return Err(Refusal::IsTop);
+        }
+        if has_children(&self.working, alt) {
+            return Err(Refusal::HasChildren);
+        }
+        take_out(&mut self.working, alt);
+        Ok(Answer::Done)
+    }
+}

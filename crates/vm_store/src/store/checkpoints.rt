@@ -1,0 +1,103 @@
+//! Checkpoints: made, taken out, and gone back to. No call here makes a device call.
+ghost use Rattle.std.specs.Prelude.{◌≡◌, ◌≢◌, ◌<◌, ◌≤◌, ◌^◌, true, length, ℕ, vec_capacity, OnErr};
+ghost use Rattle.vm_types.specs.State.{State, next};
+ghost use Rattle.vm_types.specs.Kept.{LeftBy};
+ghost use Rattle.vm_disk.specs.Disk.{Goes};
+ghost use Rattle.vm_disk.specs.Moments.{Throughout, Leaves};
+ghost use Rattle.vm_store.specs.Answers.{IsDeep, IsAnswer};
+ghost use Rattle.vm_store.specs.Resting.{spare_of};
+ghost use Rattle.vm_store.specs.Shown.{Shows};
+
+use super::Store;
+use crate::entries::{add_entry, checkpoint_position, position_of};
+use vm_block::{Entry, Kind};
+use vm_catalog::MAX_ENTRIES;
+use vm_disk::Disk;
+use vm_types::{Answer, Command, Name, Refusal};
+
+impl<D: Disk> Store<D> {
+    ghost use Rattle.vm_store.specs.Store.{disk_of, has_failed, entries_of, root_of, Holds};
+
+    // Names the present records of the alternative, current and base.
+    pub(super) fn make_checkpoint(&mut self, alt: &Name, name: &Name) -> Result<Answer, Refusal>
+        ensures any { Goes (result ≡ Err Refusal.Device) (D.state (disk_of self.old)) (D.state (disk_of self.new)) }
+        ensures disk { disk_of self.new ≡ disk_of self.old }
+        ensures failed { has_failed self.new ≡ has_failed self.old }
+        ensures never { (result ≢ Err Refusal.Failed) × (result ≢ Err Refusal.Memory) }
+        ensures same { OnErr result (entries_of self.new ≡ entries_of self.old) }
+        ensures answer { (D.state (disk_of self.old)).honest ≡ true → (s : State) (holds : Holds self.old s)
+            → IsAnswer s (spare_of holds) (IsDeep (D.state (disk_of self.old)).now.contents (root_of self.old) s.working (Command.Checkpoint alt.now name.now)) (Command.Checkpoint alt.now name.now) result }
+        ensures state { (D.state (disk_of self.old)).honest ≡ true → (s : State) → Holds self.old s → Holds self.new (next s (Command.Checkpoint alt.now name.now) result) }
+        ensures crash { (D.state (disk_of self.old)).honest ≡ true → (s : State) → Holds self.old s
+            → Throughout (D.state (disk_of self.old)) (D.state (disk_of self.new)) (Leaves (LeftBy Shows s (Command.Checkpoint alt.now name.now))) }
+    {
+        let Some(i) = position_of(&self.working, alt) else {
+            return Err(Refusal::NoSuchAlternative);
+        };
+        if checkpoint_position(&self.working, alt, name).is_some() {
+            return Err(Refusal::CheckpointExists);
+        }
+        if self.working.len() >= MAX_ENTRIES {
+            return Err(Refusal::TooMany);
+        }
+        let entry = Entry {
+            kind: Kind::Checkpoint,
+            name: *name,
+            owner: Some(*alt),
+            ..self.working[i]
+        };
+        add_entry(&mut self.working, entry);
+        Ok(Answer::Done)
+    }
+
+    // Takes a checkpoint out.
+    pub(super) fn uncheck(&mut self, alt: &Name, name: &Name) -> Result<Answer, Refusal>
+        ensures any { Goes (result ≡ Err Refusal.Device) (D.state (disk_of self.old)) (D.state (disk_of self.new)) }
+        ensures disk { disk_of self.new ≡ disk_of self.old }
+        ensures failed { has_failed self.new ≡ has_failed self.old }
+        ensures never { (result ≢ Err Refusal.Failed) × (result ≢ Err Refusal.Memory) }
+        ensures same { OnErr result (entries_of self.new ≡ entries_of self.old) }
+        ensures answer { (D.state (disk_of self.old)).honest ≡ true → (s : State) (holds : Holds self.old s)
+            → IsAnswer s (spare_of holds) (IsDeep (D.state (disk_of self.old)).now.contents (root_of self.old) s.working (Command.Uncheck alt.now name.now)) (Command.Uncheck alt.now name.now) result }
+        ensures state { (D.state (disk_of self.old)).honest ≡ true → (s : State) → Holds self.old s → Holds self.new (next s (Command.Uncheck alt.now name.now) result) }
+        ensures crash { (D.state (disk_of self.old)).honest ≡ true → (s : State) → Holds self.old s
+            → Throughout (D.state (disk_of self.old)) (D.state (disk_of self.new)) (Leaves (LeftBy Shows s (Command.Uncheck alt.now name.now))) }
+    {
+        if position_of(&self.working, alt).is_none() {
+            return Err(Refusal::NoSuchAlternative);
+        }
+        let Some(i) = checkpoint_position(&self.working, alt, name) else {
+            return Err(Refusal::NoSuchCheckpoint);
+        };
+        self.working.remove(i);
+        Ok(Answer::Done)
+    }
+
+    // Gives the alternative the records of a checkpoint, current and base.
+    pub(super) fn go_back(&mut self, alt: &Name, name: &Name) -> Result<Answer, Refusal>
+        ensures any { Goes (result ≡ Err Refusal.Device) (D.state (disk_of self.old)) (D.state (disk_of self.new)) }
+        ensures disk { disk_of self.new ≡ disk_of self.old }
+        ensures failed { has_failed self.new ≡ has_failed self.old }
+        ensures never { (result ≢ Err Refusal.Failed) × (result ≢ Err Refusal.Memory) }
+        ensures same { OnErr result (entries_of self.new ≡ entries_of self.old) }
+        ensures answer { (D.state (disk_of self.old)).honest ≡ true → (s : State) (holds : Holds self.old s)
+            → IsAnswer s (spare_of holds) (IsDeep (D.state (disk_of self.old)).now.contents (root_of self.old) s.working (Command.Back alt.now name.now)) (Command.Back alt.now name.now) result }
+        ensures state { (D.state (disk_of self.old)).honest ≡ true → (s : State) → Holds self.old s → Holds self.new (next s (Command.Back alt.now name.now) result) }
+        ensures crash { (D.state (disk_of self.old)).honest ≡ true → (s : State) → Holds self.old s
+            → Throughout (D.state (disk_of self.old)) (D.state (disk_of self.new)) (Leaves (LeftBy Shows s (Command.Back alt.now name.now))) }
+    {
+        let Some(i) = position_of(&self.working, alt) else {
+            return Err(Refusal::NoSuchAlternative);
+        };
+        let Some(j) = checkpoint_position(&self.working, alt, name) else {
+            return Err(Refusal::NoSuchCheckpoint);
+        };
+        let Entry { current, base, .. } = self.working[j];
+        self.working[i] = Entry {
+            current,
+            base,
+            ..self.working[i]
+        };
+        Ok(Answer::Done)
+    }
+}

@@ -1,0 +1,238 @@
+//! Alternatives and checkpoints, by hand.
+use super::{commit, fresh_disk, fresh_store, get_in, open_on, put_in};
+use crate::{Store, open};
+use std::test::Fail;
+use vm_disk::{Disk, FuseDisk};
+use vm_types::{Answer, Command, Key, Name, Refusal, Value};
+
+const FIRST: Key = Key {
+    table: 1,
+    number: 1,
+};
+
+// A name. Bytes that are none are answered `Memory`.
+fn name(bytes: &[u8]) -> Result<Name, Refusal> {
+    Name::new(bytes).ok_or(Refusal::Memory)
+}
+
+fn new<D: Disk>(store: &mut Store<D>, alt: &[u8], parent: &[u8]) -> Result<Answer, Refusal> {
+    let (name, parent) = (name(alt)?, name(parent)?);
+    store.apply(&Command::New { name, parent })
+}
+
+fn drop_alt<D: Disk>(store: &mut Store<D>, alt: &[u8]) -> Result<Answer, Refusal> {
+    let alt = name(alt)?;
+    store.apply(&Command::Drop { alt })
+}
+
+fn check<D: Disk>(store: &mut Store<D>, alt: &[u8], saved: &[u8]) -> Result<Answer, Refusal> {
+    let (alt, name) = (name(alt)?, name(saved)?);
+    store.apply(&Command::Checkpoint { alt, name })
+}
+
+fn uncheck<D: Disk>(store: &mut Store<D>, alt: &[u8], saved: &[u8]) -> Result<Answer, Refusal> {
+    let (alt, name) = (name(alt)?, name(saved)?);
+    store.apply(&Command::Uncheck { alt, name })
+}
+
+fn back<D: Disk>(store: &mut Store<D>, alt: &[u8], saved: &[u8]) -> Result<Answer, Refusal> {
+    let (alt, name) = (name(alt)?, name(saved)?);
+    store.apply(&Command::Back { alt, name })
+}
+
+// The letter `k` and three digits.
+fn numbered(n: u32) -> [u8; 4] {
+    let digit = |place: u32| b'0' + (n / place % 10) as u8;
+    [b'k', digit(100), digit(10), digit(1)]
+}
+
+const DONE: Result<Answer, Refusal> = Ok(Answer::Done);
+
+#[test]
+fn commands_on_alternatives_are_refused_in_their_order(rt: HostRuntime) -> Result<(), Fail> {
+    let mut store = fresh_store(rt.alloc())?;
+    assert_eq!(rt; new(&mut store, b"a", b"top"), DONE);
+    assert_eq!(rt; new(&mut store, b"b", b"a"), DONE);
+    assert_eq!(rt; drop_alt(&mut store, b"a"), Err(Refusal::HasChildren));
+    assert_eq!(rt; drop_alt(&mut store, b"top"), Err(Refusal::IsTop));
+    assert_eq!(rt;
+        drop_alt(&mut store, b"nope"),
+        Err(Refusal::NoSuchAlternative)
+    );
+    assert_eq!(rt;
+        new(&mut store, b"a", b"nope"),
+        Err(Refusal::NoSuchAlternative)
+    );
+    assert_eq!(rt;
+        new(&mut store, b"a", b"top"),
+        Err(Refusal::AlternativeExists)
+    );
+    assert_eq!(rt; drop_alt(&mut store, b"b"), DONE);
+    assert_eq!(rt; drop_alt(&mut store, b"a"), DONE);
+    assert_eq!(rt;
+        get_in(&mut store, b"a", FIRST),
+        Err(Refusal::NoSuchAlternative)
+    );
+    let _disk = store.close();
+    Ok(())
+}
+
+#[test]
+fn commands_on_checkpoints_are_refused_in_their_order(rt: HostRuntime) -> Result<(), Fail> {
+    let mut store = fresh_store(rt.alloc())?;
+    assert_eq!(rt; new(&mut store, b"a", b"top"), DONE);
+    assert_eq!(rt;
+        back(&mut store, b"a", b"q"),
+        Err(Refusal::NoSuchCheckpoint)
+    );
+    assert_eq!(rt; check(&mut store, b"a", b"c"), DONE);
+    assert_eq!(rt;
+        check(&mut store, b"a", b"c"),
+        Err(Refusal::CheckpointExists)
+    );
+    assert_eq!(rt;
+        uncheck(&mut store, b"top", b"c"),
+        Err(Refusal::NoSuchCheckpoint)
+    );
+    assert_eq!(rt; check(&mut store, b"top", b"c"), DONE);
+    assert_eq!(rt; uncheck(&mut store, b"a", b"c"), DONE);
+    assert_eq!(rt;
+        uncheck(&mut store, b"a", b"c"),
+        Err(Refusal::NoSuchCheckpoint)
+    );
+    assert_eq!(rt; back(&mut store, b"top", b"c"), DONE);
+    for refused in [
+        check(&mut store, b"c", b"c"),
+        uncheck(&mut store, b"c", b"c"),
+        back(&mut store, b"c", b"c"),
+    ] {
+        assert_eq!(rt; refused, Err(Refusal::NoSuchAlternative));
+    }
+    let _disk = store.close();
+    Ok(())
+}
+
+#[test]
+fn alternatives_show_what_their_parent_had(rt: HostRuntime) -> Result<(), Fail> {
+    let mut store = fresh_store(rt.alloc())?;
+    let (x, y) = (Value::new(b"x"), Value::new(b"y"));
+    assert_eq!(rt; put_in(&mut store, b"top", FIRST, b"x"), DONE);
+    assert_eq!(rt; new(&mut store, b"a", b"top"), DONE);
+    assert_eq!(rt; get_in(&mut store, b"a", FIRST), Ok(x));
+    assert_eq!(rt; put_in(&mut store, b"top", FIRST, b"z"), DONE);
+    assert_eq!(rt; get_in(&mut store, b"a", FIRST), Ok(x));
+    assert_eq!(rt; put_in(&mut store, b"a", FIRST, b"y"), DONE);
+    assert_eq!(rt; get_in(&mut store, b"a", FIRST), Ok(y));
+    assert_eq!(rt; get_in(&mut store, b"top", FIRST), Ok(Value::new(b"z")));
+    let _disk = store.close();
+    Ok(())
+}
+
+#[test]
+fn back_shows_the_records_of_the_checkpoint(rt: HostRuntime) -> Result<(), Fail> {
+    let mut store = fresh_store(rt.alloc())?;
+    assert_eq!(rt; new(&mut store, b"a", b"top"), DONE);
+    assert_eq!(rt; check(&mut store, b"a", b"c"), DONE);
+    assert_eq!(rt; put_in(&mut store, b"a", FIRST, b"x"), DONE);
+    assert_eq!(rt; check(&mut store, b"a", b"d"), DONE);
+    assert_eq!(rt; back(&mut store, b"a", b"c"), DONE);
+    assert_eq!(rt; get_in(&mut store, b"a", FIRST), Ok(None));
+    assert_eq!(rt; back(&mut store, b"a", b"d"), DONE);
+    assert_eq!(rt; get_in(&mut store, b"a", FIRST), Ok(Value::new(b"x")));
+    assert_eq!(rt; back(&mut store, b"a", b"c"), DONE);
+    let _disk = store.close();
+    Ok(())
+}
+
+#[test]
+fn checkpoints_go_with_their_alternative(rt: HostRuntime) -> Result<(), Fail> {
+    let mut store = fresh_store(rt.alloc())?;
+    assert_eq!(rt; new(&mut store, b"a", b"top"), DONE);
+    assert_eq!(rt; check(&mut store, b"top", b"c"), DONE);
+    assert_eq!(rt; check(&mut store, b"a", b"c"), DONE);
+    assert_eq!(rt; drop_alt(&mut store, b"a"), DONE);
+    assert_eq!(rt; new(&mut store, b"a", b"top"), DONE);
+    assert_eq!(rt;
+        back(&mut store, b"a", b"c"),
+        Err(Refusal::NoSuchCheckpoint)
+    );
+    assert_eq!(rt; back(&mut store, b"top", b"c"), DONE);
+    let _disk = store.close();
+    Ok(())
+}
+
+#[test]
+fn versions_are_there_after_opening(rt: HostRuntime) -> Result<(), Fail> {
+    let long = [b'n'; 32];
+    let mut store = fresh_store(rt.alloc())?;
+    assert_eq!(rt; new(&mut store, &long, b"top"), DONE);
+    assert_eq!(rt; put_in(&mut store, &long, FIRST, b"x"), DONE);
+    assert_eq!(rt; check(&mut store, &long, &long), DONE);
+    assert_eq!(rt; put_in(&mut store, &long, FIRST, b"y"), DONE);
+    assert_eq!(rt; commit(&mut store), DONE);
+    assert_eq!(rt; uncheck(&mut store, &long, &long), DONE);
+    let disk = store.close();
+    let mut store = open_on(rt.alloc(), disk)?;
+    assert_eq!(rt; get_in(&mut store, &long, FIRST), Ok(Value::new(b"y")));
+    assert_eq!(rt; back(&mut store, &long, &long), DONE);
+    assert_eq!(rt; get_in(&mut store, &long, FIRST), Ok(Value::new(b"x")));
+    assert_eq!(rt; get_in(&mut store, b"top", FIRST), Ok(None));
+    let _disk = store.close();
+    Ok(())
+}
+
+// 30 blocks are for data. Each of the 15 checkpoints keeps one, so 15 are spare for the next Put.
+#[test]
+fn checkpoints_keep_their_blocks(rt: HostRuntime) -> Result<(), Fail> {
+    let mut store = fresh_store(rt.alloc())?;
+    for n in 1..16 {
+        assert_eq!(rt; put_in(&mut store, b"top", FIRST, b"v"), DONE);
+        assert_eq!(rt; check(&mut store, b"top", &numbered(n)), DONE);
+    }
+    assert_eq!(rt; commit(&mut store), DONE);
+    let full = Err(Refusal::Full);
+    assert_eq!(rt; put_in(&mut store, b"top", FIRST, b"v"), full);
+    assert_eq!(rt; uncheck(&mut store, b"top", &numbered(1)), DONE);
+    assert_eq!(rt; put_in(&mut store, b"top", FIRST, b"v"), full);
+    assert_eq!(rt; commit(&mut store), DONE);
+    assert_eq!(rt; put_in(&mut store, b"top", FIRST, b"v"), DONE);
+    let _disk = store.close();
+    Ok(())
+}
+
+#[test]
+fn five_hundred_and_eleven_entries_are_the_most(rt: HostRuntime) -> Result<(), Fail> {
+    let disk = FuseDisk::once(fresh_disk(rt.alloc())?, 1000, [9; 4096]);
+    let mut store = open(rt.alloc(), disk).map_err(|refused| refused.1)?;
+    for n in 1..511 {
+        assert_eq!(rt; check(&mut store, b"top", &numbered(n)), DONE, "{n}");
+    }
+    assert_eq!(rt; check(&mut store, b"top", b"more"), Err(Refusal::TooMany));
+    assert_eq!(rt; new(&mut store, b"a", b"top"), Err(Refusal::TooMany));
+    assert_eq!(rt; commit(&mut store), DONE);
+    let disk = store.close();
+    assert_eq!(rt; disk.calls(), 23, "4 for opening, and 19 for Commit");
+    let mut store = open_on(rt.alloc(), disk.into_inner())?;
+    assert_eq!(rt;
+        check(&mut store, b"top", &numbered(510)),
+        Err(Refusal::CheckpointExists)
+    );
+    assert_eq!(rt; uncheck(&mut store, b"top", &numbered(77)), DONE);
+    assert_eq!(rt; new(&mut store, b"a", b"top"), DONE);
+    let _disk = store.close();
+    Ok(())
+}
+
+#[test]
+fn calls_that_change_entries_alone_make_no_device_call(rt: HostRuntime) -> Result<(), Fail> {
+    let disk = FuseDisk::once(fresh_disk(rt.alloc())?, 1000, [9; 4096]);
+    let mut store = open(rt.alloc(), disk).map_err(|refused| refused.1)?;
+    assert_eq!(rt; new(&mut store, b"a", b"top"), DONE);
+    assert_eq!(rt; check(&mut store, b"a", b"c"), DONE);
+    assert_eq!(rt; back(&mut store, b"a", b"c"), DONE);
+    assert_eq!(rt; uncheck(&mut store, b"a", b"c"), DONE);
+    assert_eq!(rt; drop_alt(&mut store, b"a"), DONE);
+    let disk = store.close();
+    assert_eq!(rt; disk.calls(), 4, "those of the opening");
+    Ok(())
+}
