@@ -230,7 +230,15 @@ free\n\
 reclaim\n\
 free\n\
 free x\n\
-reclaim now\n";
+reclaim now\n\
+new a top\n\
+checkpoint a c\n\
+put top 1 1 x\n\
+back a c\n\
+get a 1 1\n\
+put top 65535 18446744073709551615 -\n\
+get top 65535 18446744073709551615\n\
+remove top 0 0\n";
 
 const DESIGN_ANSWERS: &[u8] = b"\
 ok\n\
@@ -272,7 +280,15 @@ free 27\n\
 ok\n\
 free 30\n\
 error 22 BadLine\n\
-error 22 BadLine\n";
+error 22 BadLine\n\
+ok\n\
+ok\n\
+ok\n\
+ok\n\
+none\n\
+ok\n\
+value -\n\
+error 5 NoSuchRecord\n";
 
 #[test]
 fn answers_lines_of_designs(rt: HostRuntime) -> Result<(), Fail> {
@@ -304,6 +320,49 @@ fn refuses_lines_with_too_few_or_too_many_words(rt: HostRuntime) -> Result<(), F
     Ok(())
 }
 
+// Appends the line of a checkpoint of `top`, whose name is a number.
+fn push_checkpoint(into: &mut Vec<u8>, verb: &[u8], number: u32) -> Result<(), Fail> {
+    let mut buffer = itoa::Buffer::new();
+    into.extend_from_slice(verb)?;
+    into.extend_from_slice(b" top k")?;
+    into.extend_from_slice(buffer.format(number).as_bytes())?;
+    into.push(b'\n')?;
+    Ok(())
+}
+
+// 30 blocks are for data. Each of the 15 checkpoints keeps one, so 15 are spare for the next Put.
+#[test]
+fn answers_full_where_checkpoints_keep_the_blocks(rt: HostRuntime) -> Result<(), Fail> {
+    let mut lines = Vec::new(rt.alloc());
+    let mut answers = Vec::new(rt.alloc());
+    for number in 1..16 {
+        lines.extend_from_slice(b"put top 1 1 v\n")?;
+        push_checkpoint(&mut lines, b"checkpoint", number)?;
+        answers.extend_from_slice(b"ok\nok\n")?;
+    }
+    lines.extend_from_slice(b"commit\nput top 1 1 v\n")?;
+    push_checkpoint(&mut lines, b"uncheck", 1)?;
+    lines.extend_from_slice(b"put top 1 1 v\ncommit\nput top 1 1 v\nfree\n")?;
+    answers.extend_from_slice(b"ok\nerror 13 Full\nok\nerror 13 Full\nok\nok\nfree 15\n")?;
+    answered(rt.alloc(), lines.as_slice())?.expect(&rt, 0, answers.as_slice(), b"");
+    Ok(())
+}
+
+#[test]
+fn answers_too_many_after_511_entries(rt: HostRuntime) -> Result<(), Fail> {
+    let mut lines = Vec::new(rt.alloc());
+    let mut answers = Vec::new(rt.alloc());
+    for number in 1..511 {
+        push_checkpoint(&mut lines, b"checkpoint", number)?;
+        answers.extend_from_slice(b"ok\n")?;
+    }
+    push_checkpoint(&mut lines, b"checkpoint", 511)?;
+    lines.extend_from_slice(b"new a top\ncommit\n")?;
+    answers.extend_from_slice(b"error 12 TooMany\nerror 12 TooMany\nok\n")?;
+    answered(rt.alloc(), lines.as_slice())?.expect(&rt, 0, answers.as_slice(), b"");
+    Ok(())
+}
+
 // Appends what begins the line of a record, and its value of 240 zero bytes.
 fn push_zeros(into: &mut Vec<u8>, verb: &[u8], number: u8) -> Result<(), Fail> {
     into.extend_from_slice(verb)?;
@@ -326,11 +385,7 @@ fn lists_more_than_one_text_takes(rt: HostRuntime) -> Result<(), Fail> {
     }
     lines.extend_from_slice(b"list top\n")?;
     for number in b'0'..=b'9' {
-        push_zeros(
-            &mut answers,
-            b"record 65535 184467440737095516",
-            number,
-        )?;
+        push_zeros(&mut answers, b"record 65535 184467440737095516", number)?;
     }
     answers.extend_from_slice(b"end 10\n")?;
     answered(rt.alloc(), lines.as_slice())?.expect(&rt, 0, answers.as_slice(), b"");

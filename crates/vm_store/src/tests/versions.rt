@@ -228,6 +228,7 @@ fn checkpoints_keep_their_blocks(rt: HostRuntime) -> Result<(), Fail> {
     assert_eq!(rt; put_in(&mut store, b"top", FIRST, b"v"), full);
     assert_eq!(rt; commit(&mut store), DONE);
     assert_eq!(rt; put_in(&mut store, b"top", FIRST, b"v"), DONE);
+    assert_eq!(rt; store.free(), Ok(15));
     let _disk = store.close();
     Ok(())
 }
