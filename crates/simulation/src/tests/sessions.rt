@@ -149,7 +149,7 @@ fn stores_answer_and_keep_what_the_model_does(rt: HostRuntime) {
         kept_old: 0,
         kept_new: 0,
     };
-    for seed in 0..100 {
+    for seed in 0..150 {
         assert_eq!(rt;
             session(rt.alloc(), seed, &mut tally),
             Ok(()),
@@ -158,7 +158,7 @@ fn stores_answer_and_keep_what_the_model_does(rt: HostRuntime) {
     }
 
     // The seeds meet what they are for.
-    assert!(rt; tally.refused > 10);
-    assert!(rt; tally.kept_old > 0);
-    assert!(rt; tally.kept_new > 0);
+    assert!(rt; tally.refused > 100);
+    assert!(rt; tally.kept_old > 10);
+    assert!(rt; tally.kept_new > 10);
 }
