@@ -1,5 +1,5 @@
 -- What a store stands for, through the commands that change its entries alone.
-use Rattle.std.proofs.Common.{◌≡◌, ◌⊎◌, inl, inr, ℕ, ◌+◌, ◌<◌, ◌≤◌, ◌*◌, ◌^◌, nat_le, nat_lt, Bool, true, false, ◌&&◌, cond, List, [], ◌∷◌, ◌++◌, map, filter, find, length, Option, Some, None, is_some, not, option_map, get_or, set, remove, Result, Ok, Err, IfSome, IfNone, IsSomeAnd, codes, refl, sym, ap, ◌∙◌, subst, arith}
+use Rattle.std.proofs.Common.{◌≡◌, ◌⊎◌, inl, inr, ℕ, ◌+◌, ◌<◌, ◌≤◌, ◌*◌, ◌^◌, nat_le, nat_lt, Bool, true, false, ◌&&◌, cond, List, [], ◌∷◌, ◌++◌, map, filter, find, length, Option, Some, None, is_some, not, option_map, get_or, set, remove, Result, Ok, Err, IfSome, IfNone, IfOk, IsSomeAnd, codes, refl, sym, ap, ◌∙◌, subst, arith}
 use Rattle.std.specs.List.{list_any}
 use Rattle.std.specs.Str.{bytes_eq}
 use Rattle.std.proofs.lemmas.Bool.{false≢true, true≢false, cases_lt}
@@ -8,6 +8,7 @@ use Rattle.std.proofs.lemmas.Slice.Eq.{bytes_eq-Decides}
 use Rattle.vm_types.specs.Name.{IsName}
 use Rattle.vm_types.specs.Firsts.{IsFirst, change_first, without_first}
 use Rattle.vm_types.specs.Map.{Map}
+use Rattle.vm_types.specs.Shape.{shape, saved_names}
 use Rattle.vm_types.specs.Tree.{Tree, Alternative, Saved, named, saved_as, changed, has_children, entry_count, is_full}
 use Rattle.vm_types.specs.Step.{Outcome, or_refuse, refuse_if, done, new_alternative, step}
 use Rattle.vm_types.specs.State.{State, next, tree_after, edits, is_commit}
@@ -31,15 +32,16 @@ use Rattle.vm_block.specs.Tree.{Stands}
 use Rattle.vm_block.specs.declared.slot.Kind.TheVariants as kind
 use Rattle.vm_block.specs.declared.slot.Entry.{Entry}
 use Rattle.vm_store.specs.Answers.{IsDue, IsAnswer}
-use Rattle.vm_store.specs.Entries.{is_checkpoint_under, is_checkpoint_of, is_child_of, is_apart}
+use Rattle.vm_store.specs.Entries.{is_checkpoint_under, is_checkpoint_of, is_child_of, is_apart, alternatives_among, checkpoints_among}
+use Rattle.vm_store.specs.Listed.{checkpoints_of, checkpoints_in}
 use Rattle.vm_store.specs.Filed.{Filed, StandsAs, Standing, saved_of, bare, with_saved, add, grown, tree_of}
 use Rattle.vm_store.specs.Resting.{Rests}
 use Rattle.vm_store.specs.Shown.{Shows}
 use Rattle.vm_store.proofs.FiledLemmas.{is_filed, refiled_both, with_maps, grown_more, grown_named, grown_turned}
 use Rattle.vm_store.proofs.FoundLemmas.{any_none, any_same, change_first-same}
-use Rattle.vm_store.proofs.GrownLemmas.{is_filed_under, is_filed_child, MayBeAdded, InOrder, whole, there_grown, children_filed, count_grown, named_whole}
+use Rattle.vm_store.proofs.GrownLemmas.{is_filed_under, is_filed_child, filed_shape, grown_shape, MayBeAdded, InOrder, whole, there_grown, children_filed, count_grown, named_whole}
 use Rattle.vm_store.proofs.TakenLemmas.{is_filed_saved, is_filed_apart, unsaved, saved_found, grown_apart, grown_unsaved}
-use Rattle.vm_store.proofs.MovedLemmas.{agree_alternative, agree_saved, agree_child, agree_apart, standing_length, standing_join, standing_any, standing_filter, standing_without, standing_first, StandsFound, standing_found, standing_none}
+use Rattle.vm_store.proofs.MovedLemmas.{agree_alternative, agree_under, agree_saved, agree_child, agree_apart, standing_length, standing_join, standing_any, standing_filter, standing_without, standing_first, StandsFound, standing_found, standing_none}
 use Rattle.vm_store.proofs.LedgerLemmas.{with_roots, alike_back, fits_alike}
 use Rattle.vm_store.proofs.LedgerMoves.{checkpoint_unbased, called_alternative, some_parts, alternative_follows, checkpoint_follows, top_unbased, fits_more, fits_without, fits_apart}
 use Rattle.vm_store.proofs.RestingLemmas.{shows_old, rests_on, any_entry}
@@ -352,3 +354,48 @@ module _ (m : Medium) (limit : ℕ) (slot_b : Bool) (bits : List Bool) (committe
             (standing_first (IsHeld bits) m.contents limit (is_alternative_of alt) (is_filed alt) (agree_alternative (IsHeld bits) m.contents limit alt) (with_roots c.current c.base) (refiled_both (λ _. at.filed.current) (λ _. at.filed.base)) working rests.new rests.stands
             (λ d f stands. record { kind = stands.kind; name = stands.name; owner = stands.owner; current = at.stands.current; base = at.stands.base }))
             (grown_turned alt (λ _. at.filed.current) (λ _. at.filed.base) [] rests.new refl ∙ ap (λ (t : Tree). changed t alt (with_maps (λ _. at.filed.current) (λ _. at.filed.base))) rests.gives_new)
+
+  -- ---- queries
+
+  named_alike : (es : List Entry) (fs : List Filed) → Standing (IsHeld bits) m.contents limit es fs → filed_shape fs ≡ alternatives_among es
+  named_alike [] [] s = refl
+  named_alike (e ∷ es) (f ∷ fs) s =
+      let pair_of : Filed → List ℕ × Option (List ℕ) = λ f. (f.name, f.owner) in
+      let entry_pair : Entry → List ℕ × Option (List ℕ) = λ e. (e.name, e.owner) in
+      let rest_of : List Filed = filter (λ f. is_alternative f.kind) fs in
+      let entry_rest : List Entry = filter (λ e. is_alternative e.kind) es in
+      ap (λ k. map pair_of (cond (is_alternative k) (f ∷ rest_of) rest_of)) s.0.kind
+      ∙ elim (is_alternative e.kind) as (λ b. map pair_of (cond b (f ∷ rest_of) rest_of) ≡ map entry_pair (cond b (e ∷ entry_rest) entry_rest)) [
+        | true ↦ λ i. (s.0.name i, s.0.owner i) ∷ named_alike es fs s.1 i
+        | false ↦ named_alike es fs s.1
+      ]
+  named_alike [] (f ∷ fs) s = absurd s
+  named_alike (e ∷ es) [] s = absurd s
+
+  -- the alternatives are those of the model
+  pub alternatives_listed : alternatives_among working ≡ shape s.working
+  alternatives_listed = sym (named_alike working rests.new rests.stands) ∙ sym (grown_shape [] rests.new) ∙ ap shape rests.gives_new
+
+  saved_alike : (alt : List ℕ) (es : List Entry) (fs : List Filed) → Standing (IsHeld bits) m.contents limit es fs → saved_names (map saved_of (filter (is_filed_under alt) fs)) ≡ checkpoints_among es alt
+  saved_alike alt [] [] s = refl
+  saved_alike alt (e ∷ es) (f ∷ fs) s =
+      ap (λ b. saved_names (map saved_of (cond b (f ∷ filter (is_filed_under alt) fs) (filter (is_filed_under alt) fs)))) (agree_under (IsHeld bits) m.contents limit alt e f s.0)
+      ∙ elim (is_checkpoint_under alt e) as (λ b. saved_names (map saved_of (cond b (f ∷ filter (is_filed_under alt) fs) (filter (is_filed_under alt) fs))) ≡ map (λ (e : Entry). e.name) (cond b (e ∷ filter (is_checkpoint_under alt) es) (filter (is_checkpoint_under alt) es))) [
+        | true ↦ λ i. s.0.name i ∷ saved_alike alt es fs s.1 i
+        | false ↦ saved_alike alt es fs s.1
+      ]
+  saved_alike alt [] (f ∷ fs) s = absurd s
+  saved_alike alt (e ∷ es) [] s = absurd s
+
+  -- the checkpoints are those of the model
+  pub checkpoints_listed : (alt : List ℕ) (e : Entry) → find (is_alternative_of alt) working ≡ Some e → Ok (checkpoints_among working alt) ≡ checkpoints_in s.working alt
+  checkpoints_listed alt e found =
+      ap Ok (sym (saved_alike alt working rests.new rests.stands)) ∙ sym (ap checkpoints_of (there alt e found).is)
+
+  pub checkpoints_absent : (alt : List ℕ) → find (is_alternative_of alt) working ≡ None → Err NoSuchAlternative ≡ checkpoints_in s.working alt
+  checkpoints_absent alt none = sym (ap checkpoints_of (absent alt none))
+
+-- what a fact at Ok implies
+pub if_ok_so : {T E : Type 0} (r : Result T E) (P Q : T → Type 0) → ((x : T) → P x → Q x) → IfOk r P → IfOk r Q
+if_ok_so (Ok x) P Q so h = so x h
+if_ok_so (Err e) P Q so h = tt

@@ -1,5 +1,5 @@
--- Which entries belong to an alternative.
-use Rattle.std.specs.Prelude.{ℕ, Bool, ◌&&◌, ◌||◌, not, List, Some}
+-- Which entries belong to an alternative, and what they are called.
+use Rattle.std.specs.Prelude.{ℕ, Bool, ◌&&◌, ◌||◌, not, List, map, filter, Option, Some}
 use Rattle.std.specs.Option.{option_eq}
 use Rattle.std.specs.Str.{bytes_eq}
 use Rattle.vm_block.specs.Slot.{is_alternative, is_alternative_of}
@@ -20,3 +20,11 @@ is_child_of alt e = is_alternative e.kind && option_eq bytes_eq e.owner (Some al
 -- whether the entry is neither the alternative nor one of its checkpoints
 abbrev pub is_apart : List ℕ → Entry → Bool
 is_apart alt e = not (is_alternative_of alt e || is_checkpoint_under alt e)
+
+-- the alternatives among entries, each with its parent
+abbrev pub alternatives_among : List Entry → List (List ℕ × Option (List ℕ))
+alternatives_among es = map (λ e. (e.name, e.owner)) (filter (λ e. is_alternative e.kind) es)
+
+-- the names of an alternative's checkpoints among entries
+abbrev pub checkpoints_among : List Entry → List ℕ → List (List ℕ)
+checkpoints_among es alt = map (λ e. e.name) (filter (is_checkpoint_under alt) es)

@@ -4,6 +4,7 @@ pub mod Filed
 pub mod Formatting
 pub mod Free
 pub mod LeafMap
+pub mod Listed
 pub mod Marking
 pub mod Opening
 pub mod Refused

@@ -1,16 +1,17 @@
-//! Entries in memory: found by name, added, taken out, copied, and marked.
-ghost use Rattle.std.specs.Prelude.{◌≡◌, ◌≤◌, ◌<◌, ◌++◌, ◌∷◌, [], find, filter, length, None, vec_capacity, IfSome, IfNone};
+//! Entries in memory: found by name, added, taken out, listed, copied, and marked.
+ghost use Rattle.std.specs.Prelude.{◌≡◌, ◌≤◌, ◌<◌, ◌++◌, ◌∷◌, [], find, filter, length, None, vec_capacity, IfSome, IfNone, IfOk, IfErr};
 ghost use Rattle.std.specs.List.{list_any};
 ghost use Rattle.vm_types.specs.Firsts.{IsFirst};
 ghost use Rattle.vm_types.specs.Name.{IsName};
 ghost use Rattle.vm_block.specs.Slot.{is_alternative_of};
-ghost use Rattle.vm_store.specs.Entries.{is_checkpoint_under, is_checkpoint_of, is_child_of, is_apart};
+ghost use Rattle.vm_store.specs.Entries.{is_checkpoint_under, is_checkpoint_of, is_child_of, is_apart, alternatives_among, checkpoints_among};
 ghost use Rattle.vm_store.specs.Marking.{with_entries};
 
 use crate::leaf_map::mark;
+use std::alloc::Global;
 use vm_alloc::Marks;
 use vm_block::{Entry, Kind};
-use vm_types::Name;
+use vm_types::{Name, Refusal};
 
 // Whether the entry is the alternative of this name.
 fn is_alternative_of(name: &Name, entry: &Entry) -> bool
@@ -101,6 +102,45 @@ pub fn take_out(entries: &mut Vec<Entry>, alt: &Name)
     ensures room { vec_capacity entries.old ≤ vec_capacity entries.new }
 {
     entries.retain(|e| is_apart(alt, e));
+}
+
+/// The alternatives among the entries, each with its parent, in their order.
+///
+/// It answers `Memory` where there is none for the list.
+pub fn alternatives_among(
+    alloc: Global,
+    entries: &[Entry],
+) -> Result<Vec<(Name, Option<Name>)>, Refusal>
+    ensures list { IfOk result (λ list. list.items ≡ alternatives_among entries.now) }
+    ensures only { IfErr result (λ refusal. refusal ≡ Refusal.Memory) }
+{
+    let mut list = Vec::new(alloc);
+    for entry in entries {
+        if entry.kind == Kind::Alternative {
+            let Ok(()) = list.push((entry.name, entry.owner)) else {
+                return Err(Refusal::Memory);
+            };
+        }
+    }
+    Ok(list)
+}
+
+/// The names of the alternative's checkpoints among the entries, in their order.
+///
+/// It answers `Memory` where there is none for the list.
+pub fn checkpoints_among(alloc: Global, entries: &[Entry], alt: &Name) -> Result<Vec<Name>, Refusal>
+    ensures list { IfOk result (λ list. list.items ≡ checkpoints_among entries.now alt.now) }
+    ensures only { IfErr result (λ refusal. refusal ≡ Refusal.Memory) }
+{
+    let mut list = Vec::new(alloc);
+    for entry in entries {
+        if is_checkpoint_under(alt, entry) {
+            let Ok(()) = list.push(entry.name) else {
+                return Err(Refusal::Memory);
+            };
+        }
+    }
+    Ok(list)
 }
 
 /// Makes a list these entries. There has to be room, so it takes no memory.

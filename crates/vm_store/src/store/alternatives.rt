@@ -1,5 +1,6 @@
-//! Alternatives: made and dropped. No call here makes a device call.
-ghost use Rattle.std.specs.Prelude.{◌≡◌, ◌≢◌, ◌<◌, ◌≤◌, ◌^◌, true, length, ℕ, vec_capacity, OnErr};
+//! Alternatives: made, dropped and listed. No call here makes a device call.
+ghost use Rattle.std.specs.Prelude.{◌≡◌, ◌≢◌, ◌<◌, ◌≤◌, ◌^◌, true, false, length, ℕ, vec_capacity, OnErr, IfOk, IfErr};
+ghost use Rattle.vm_types.specs.Shape.{shape};
 ghost use Rattle.vm_types.specs.State.{State, next};
 ghost use Rattle.vm_types.specs.Kept.{LeftBy};
 ghost use Rattle.vm_disk.specs.Disk.{Goes};
@@ -9,7 +10,8 @@ ghost use Rattle.vm_store.specs.Resting.{spare_of};
 ghost use Rattle.vm_store.specs.Shown.{Shows};
 
 use super::Store;
-use crate::entries::{add_entry, has_children, position_of, take_out};
+use crate::entries::{add_entry, alternatives_among, has_children, position_of, take_out};
+use std::alloc::Global;
 use vm_block::{Entry, Kind};
 use vm_catalog::MAX_ENTRIES;
 use vm_disk::Disk;
@@ -76,5 +78,18 @@ impl<D: Disk> Store<D> {
         }
         take_out(&mut self.working, alt);
         Ok(Answer::Done)
+    }
+
+    /// The alternatives of the working state, each with its parent, in order of creation. It makes no
+    /// device call. It answers `Memory` where there is none for the list.
+    pub fn alternatives(&self, alloc: Global) -> Result<Vec<(Name, Option<Name>)>, Refusal>
+        ensures refused { has_failed self.now ≡ true → result ≡ Err Refusal.Failed }
+        ensures only_then { has_failed self.now ≡ false → IfErr result (λ refusal. refusal ≡ Refusal.Memory) }
+        ensures value { has_failed self.now ≡ false → (s : State) → Holds self.now s → IfOk result (λ list. list.items ≡ shape s.working) }
+    {
+        if self.failed {
+            return Err(Refusal::Failed);
+        }
+        alternatives_among(alloc, &self.working)
     }
 }

@@ -1,15 +1,17 @@
-//! Checkpoints: made, taken out, and gone back to. No call here makes a device call.
-ghost use Rattle.std.specs.Prelude.{◌≡◌, ◌≢◌, ◌<◌, ◌≤◌, ◌^◌, true, length, ℕ, vec_capacity, OnErr};
+//! Checkpoints: made, taken out, gone back to, and listed. No call here makes a device call.
+ghost use Rattle.std.specs.Prelude.{◌≡◌, ◌≢◌, ◌⊎◌, ◌<◌, ◌≤◌, ◌^◌, true, false, length, ℕ, vec_capacity, OnErr, IfOk, IfErr};
 ghost use Rattle.vm_types.specs.State.{State, next};
 ghost use Rattle.vm_types.specs.Kept.{LeftBy};
 ghost use Rattle.vm_disk.specs.Disk.{Goes};
 ghost use Rattle.vm_disk.specs.Moments.{Throughout, Leaves};
 ghost use Rattle.vm_store.specs.Answers.{IsDeep, IsAnswer};
+ghost use Rattle.vm_store.specs.Listed.{checkpoints_in};
 ghost use Rattle.vm_store.specs.Resting.{spare_of};
 ghost use Rattle.vm_store.specs.Shown.{Shows};
 
 use super::Store;
-use crate::entries::{add_entry, checkpoint_position, position_of};
+use crate::entries::{add_entry, checkpoint_position, checkpoints_among, position_of};
+use std::alloc::Global;
 use vm_block::{Entry, Kind};
 use vm_catalog::MAX_ENTRIES;
 use vm_disk::Disk;
@@ -99,5 +101,24 @@ impl<D: Disk> Store<D> {
             ..self.working[i]
         };
         Ok(Answer::Done)
+    }
+
+    /// The names of an alternative's checkpoints in the working state, in order of creation. It makes no
+    /// device call. It answers `NoSuchAlternative` where the alternative is not there, and `Memory` where
+    /// there is none for the list.
+    pub fn checkpoints(&self, alloc: Global, alt: &Name) -> Result<Vec<Name>, Refusal>
+        ensures refused { has_failed self.now ≡ true → result ≡ Err Refusal.Failed }
+        ensures only_then { has_failed self.now ≡ false → IfErr result (λ refusal. (refusal ≡ Refusal.Memory) ⊎ (refusal ≡ Refusal.NoSuchAlternative)) }
+        ensures value { has_failed self.now ≡ false → (s : State) → Holds self.now s → IfOk result (λ list. Ok list.items ≡ checkpoints_in s.working alt.now) }
+        ensures none { has_failed self.now ≡ false → (s : State) → Holds self.now s
+            → IfErr result (λ refusal. (refusal ≡ Refusal.Memory) ⊎ (Err refusal ≡ checkpoints_in s.working alt.now)) }
+    {
+        if self.failed {
+            return Err(Refusal::Failed);
+        }
+        if position_of(&self.working, alt).is_none() {
+            return Err(Refusal::NoSuchAlternative);
+        }
+        checkpoints_among(alloc, &self.working, alt)
     }
 }

@@ -1,6 +1,7 @@
 //! Alternatives and checkpoints, by hand.
-use super::{commit, fresh_disk, fresh_store, get_in, open_on, put_in};
+use super::{DUCT, commit, duct_disk, fresh_disk, fresh_store, get_in, open_on, put, put_in};
 use crate::{Store, open};
+use std::alloc::Global;
 use std::test::Fail;
 use vm_disk::{Disk, FuseDisk};
 use vm_types::{Answer, Command, Key, Name, Refusal, Value};
@@ -47,6 +48,38 @@ fn numbered(n: u32) -> [u8; 4] {
 }
 
 const DONE: Result<Answer, Refusal> = Ok(Answer::Done);
+
+// Whether these are the names and parents of the alternatives.
+fn are_alternatives<D: Disk>(
+    alloc: Global,
+    store: &Store<D>,
+    expected: &[(&[u8], &[u8])],
+) -> Result<bool, Refusal> {
+    let list = store.alternatives(alloc)?;
+    let same = list.iter().zip(expected).all(|(listed, wanted)| {
+        let parent = match &listed.1 {
+            Some(parent) => parent.as_bytes(),
+            None => b"",
+        };
+        listed.0.as_bytes() == wanted.0 && parent == wanted.1
+    });
+    Ok(list.len() == expected.len() && same)
+}
+
+// Whether these are the names of the checkpoints of an alternative.
+fn are_checkpoints<D: Disk>(
+    alloc: Global,
+    store: &Store<D>,
+    alt: &[u8],
+    expected: &[&[u8]],
+) -> Result<bool, Refusal> {
+    let list = store.checkpoints(alloc, &name(alt)?)?;
+    let same = list
+        .iter()
+        .zip(expected)
+        .all(|(listed, wanted)| listed.as_bytes() == *wanted);
+    Ok(list.len() == expected.len() && same)
+}
 
 #[test]
 fn commands_on_alternatives_are_refused_in_their_order(rt: HostRuntime) -> Result<(), Fail> {
@@ -115,14 +148,13 @@ fn commands_on_checkpoints_are_refused_in_their_order(rt: HostRuntime) -> Result
 #[test]
 fn alternatives_show_what_their_parent_had(rt: HostRuntime) -> Result<(), Fail> {
     let mut store = fresh_store(rt.alloc())?;
-    let (x, y) = (Value::new(b"x"), Value::new(b"y"));
     assert_eq!(rt; put_in(&mut store, b"top", FIRST, b"x"), DONE);
     assert_eq!(rt; new(&mut store, b"a", b"top"), DONE);
-    assert_eq!(rt; get_in(&mut store, b"a", FIRST), Ok(x));
+    assert_eq!(rt; get_in(&mut store, b"a", FIRST), Ok(Value::new(b"x")));
     assert_eq!(rt; put_in(&mut store, b"top", FIRST, b"z"), DONE);
-    assert_eq!(rt; get_in(&mut store, b"a", FIRST), Ok(x));
+    assert_eq!(rt; get_in(&mut store, b"a", FIRST), Ok(Value::new(b"x")));
     assert_eq!(rt; put_in(&mut store, b"a", FIRST, b"y"), DONE);
-    assert_eq!(rt; get_in(&mut store, b"a", FIRST), Ok(y));
+    assert_eq!(rt; get_in(&mut store, b"a", FIRST), Ok(Value::new(b"y")));
     assert_eq!(rt; get_in(&mut store, b"top", FIRST), Ok(Value::new(b"z")));
     let _disk = store.close();
     Ok(())
@@ -230,9 +262,82 @@ fn calls_that_change_entries_alone_make_no_device_call(rt: HostRuntime) -> Resul
     assert_eq!(rt; new(&mut store, b"a", b"top"), DONE);
     assert_eq!(rt; check(&mut store, b"a", b"c"), DONE);
     assert_eq!(rt; back(&mut store, b"a", b"c"), DONE);
+    assert_eq!(rt;
+        are_alternatives(rt.alloc(), &store, &[(b"top", b""), (b"a", b"top")]),
+        Ok(true)
+    );
+    assert_eq!(rt;
+        are_checkpoints(rt.alloc(), &store, b"a", &[b"c"]),
+        Ok(true)
+    );
     assert_eq!(rt; uncheck(&mut store, b"a", b"c"), DONE);
     assert_eq!(rt; drop_alt(&mut store, b"a"), DONE);
     let disk = store.close();
     assert_eq!(rt; disk.calls(), 4, "those of the opening");
+    Ok(())
+}
+
+#[test]
+fn alternatives_are_listed_in_order_of_creation(rt: HostRuntime) -> Result<(), Fail> {
+    let mut store = fresh_store(rt.alloc())?;
+    assert_eq!(rt;
+        are_alternatives(rt.alloc(), &store, &[(b"top", b"")]),
+        Ok(true)
+    );
+    assert_eq!(rt; new(&mut store, b"b", b"top"), DONE);
+    assert_eq!(rt; check(&mut store, b"b", b"c"), DONE);
+    assert_eq!(rt; new(&mut store, b"a", b"b"), DONE);
+    assert_eq!(rt; new(&mut store, b"d", b"top"), DONE);
+    let all: [(&[u8], &[u8]); 4] = [(b"top", b""), (b"b", b"top"), (b"a", b"b"), (b"d", b"top")];
+    assert_eq!(rt; are_alternatives(rt.alloc(), &store, &all), Ok(true));
+    assert_eq!(rt; drop_alt(&mut store, b"a"), DONE);
+    assert_eq!(rt; new(&mut store, b"a", b"d"), DONE);
+    let all: [(&[u8], &[u8]); 4] = [(b"top", b""), (b"b", b"top"), (b"d", b"top"), (b"a", b"d")];
+    assert_eq!(rt; are_alternatives(rt.alloc(), &store, &all), Ok(true));
+    let _disk = store.close();
+    Ok(())
+}
+
+#[test]
+fn checkpoints_are_listed_in_order_of_creation(rt: HostRuntime) -> Result<(), Fail> {
+    let mut store = fresh_store(rt.alloc())?;
+    assert_eq!(rt; are_checkpoints(rt.alloc(), &store, b"top", &[]), Ok(true));
+    assert_eq!(rt; new(&mut store, b"a", b"top"), DONE);
+    for saved in [b"z", b"y", b"x"] {
+        assert_eq!(rt; check(&mut store, b"top", saved), DONE);
+        assert_eq!(rt; check(&mut store, b"a", saved), DONE);
+    }
+    assert_eq!(rt;
+        are_checkpoints(rt.alloc(), &store, b"a", &[b"z", b"y", b"x"]),
+        Ok(true)
+    );
+    assert_eq!(rt; uncheck(&mut store, b"a", b"z"), DONE);
+    assert_eq!(rt; check(&mut store, b"a", b"z"), DONE);
+    assert_eq!(rt;
+        are_checkpoints(rt.alloc(), &store, b"a", &[b"y", b"x", b"z"]),
+        Ok(true)
+    );
+    assert_eq!(rt;
+        are_checkpoints(rt.alloc(), &store, b"top", &[b"z", b"y", b"x"]),
+        Ok(true)
+    );
+    let refused = are_checkpoints(rt.alloc(), &store, b"x", &[]);
+    assert_eq!(rt; refused, Err(Refusal::NoSuchAlternative));
+    let _disk = store.close();
+    Ok(())
+}
+
+// The write of the first Put fails.
+#[test]
+fn failed_store_lists_nothing(rt: HostRuntime) -> Result<(), Fail> {
+    let disk = FuseDisk::once(duct_disk(rt.alloc())?, 6, [9; 4096]);
+    let mut store = open(rt.alloc(), disk).map_err(|refused| refused.1)?;
+    assert_eq!(rt; put(&mut store, DUCT, b"pipe"), Err(Refusal::Device));
+    let refused = are_alternatives(rt.alloc(), &store, &[]);
+    assert_eq!(rt; refused, Err(Refusal::Failed));
+    let refused = are_checkpoints(rt.alloc(), &store, b"top", &[]);
+    assert_eq!(rt; refused, Err(Refusal::Failed));
+    assert_eq!(rt; new(&mut store, b"a", b"top"), Err(Refusal::Failed));
+    let _disk = store.close();
     Ok(())
 }
