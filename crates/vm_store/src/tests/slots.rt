@@ -76,9 +76,9 @@ fn first_root_without_a_map_is_named(rt: HostRuntime) -> Result<(), Fail> {
 #[test]
 fn slot_with_a_name_twice_is_damage(rt: HostRuntime) -> Result<(), Fail> {
     let mut disk = duct_disk(rt.alloc())?;
-    let [top, a, _] = entries((34, 34), (0, 0)).ok_or("no name")?;
+    let all = entries((34, 34), (0, 0)).ok_or("no name")?;
     if disk.blocks() >= 34 {
-        write_slot(&mut disk, true, 64, &[top, a, a])?;
+        write_slot(&mut disk, true, 64, &[all[0], all[1], all[1]])?;
     }
     assert_eq!(rt;
         refusal_to_open(rt.alloc(), disk),
