@@ -6,7 +6,8 @@ use Rattle.vm_types.specs.Firsts.{IsFirst}
 use Rattle.vm_types.specs.State.{tree_after, answer_of}
 use Rattle.vm_types.specs.Step.{Outcome, or_refuse}
 use Rattle.vm_types.specs.Tree.{Alternative, Tree, named, changed}
-use Rattle.vm_types.proofs.Steps.{IsOutcome, known, or_refuse-none}
+use Rattle.vm_types.specs.Outcomes.{IsOutcome}
+use Rattle.vm_types.proofs.Steps.{known, or_refuse-none}
 
 -- refused, since nothing is found
 pub or_refuse-absent : {X : Type 0} (o : Option X) (r : Refusal) (rest : X → Outcome) → is_some o ≡ false → or_refuse o r rest ≡ Err r

@@ -5,7 +5,7 @@ ghost use Rattle.vm_types.specs.Firsts.{IsFirst, without_first};
 ghost use Rattle.vm_types.specs.Map.{get, with_value, without};
 ghost use Rattle.vm_types.specs.Step.{new_alternative};
 ghost use Rattle.vm_types.specs.Tree.{saved_as};
-ghost use Rattle.vm_types.proofs.Steps.{gone_back};
+ghost use Rattle.vm_types.specs.Outcomes.{gone_back};
 
 use crate::map;
 use std::alloc::{AllocError, Global};

@@ -4,7 +4,7 @@ ghost use Rattle.vm_types.specs.declared.command.Command.{Command};
 ghost use Rattle.vm_types.specs.Firsts.{IsFirst};
 ghost use Rattle.vm_types.specs.Step.{step};
 ghost use Rattle.vm_types.specs.Tree.{named, has_children, is_full};
-ghost use Rattle.vm_types.proofs.Steps.{IsOutcome};
+ghost use Rattle.vm_types.specs.Outcomes.{IsOutcome};
 
 use crate::alternative::Alternative;
 use std::alloc::{AllocError, Global};

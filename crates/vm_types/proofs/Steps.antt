@@ -11,6 +11,7 @@ use Rattle.vm_types.specs.Firsts.{without_first, IsFirst}
 use Rattle.vm_types.specs.Tree.{Saved, Alternative, Tree, named, saved_as, has_children, is_full, changed}
 use Rattle.vm_types.specs.Step.{Outcome, or_refuse, refuse_found, refuse_if, done, settled_refusal, new_alternative, step}
 use Rattle.vm_types.specs.State.{tree_after, answer_of}
+use Rattle.vm_types.specs.Outcomes.{IsOutcome, gone_back}
 use Rattle.vm_types.proofs.FirstsLemmas.{change_first-none}
 
 -- ---- the tests of a step, one by one
@@ -84,22 +85,12 @@ module _ (tree : Tree) where
 
 -- ---- a reply and a new tree
 
--- the reply and the new tree are those of the step
-pub record IsOutcome (outcome : Outcome) (old new : Tree) (reply : Result Answer Refusal) : Type 0 where
-  pub answer : reply ≡ answer_of outcome
-  pub tree : new ≡ tree_after old outcome
-
 -- by what the step comes to
 pub IsOutcome-accepted : (outcome : Outcome) (old new : Tree) (answer : Answer) → outcome ≡ Ok (new, answer) → IsOutcome outcome old new (Ok answer)
 IsOutcome-accepted outcome old new answer is = record { answer = sym (ap answer_of is); tree = sym (ap (tree_after old) is) }
 
 pub IsOutcome-refused : (outcome : Outcome) (old new : Tree) (r : Refusal) → new ≡ old → outcome ≡ Err r → IsOutcome outcome old new (Err r)
 IsOutcome-refused outcome old new r same is = record { answer = sym (ap answer_of is); tree = same ∙ sym (ap (tree_after old) is) }
-
--- an alternative that goes back to a checkpoint, if there is one
-abbrev pub gone_back : Alternative → Option Saved → Alternative
-gone_back a None = a
-gone_back a (Some c) = record a { current = c.current; base = c.base }
 
 module _ {tree : Tree} {name : List ℕ} {i : ℕ} (first : IsFirst (λ (a : Alternative). bytes_eq a.name name) tree i) (d : Alternative) where
   -- what follows for the alternative is known

@@ -7,6 +7,7 @@ pub mod Laws
 pub mod Map
 pub mod Moments
 pub mod Name
+pub mod Outcomes
 pub mod Places
 pub mod Shape
 pub mod State
