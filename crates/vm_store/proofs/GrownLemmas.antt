@@ -1,12 +1,12 @@
 -- What stands in the tree that entries give: its names, its alternatives with their checkpoints, and how many there are.
-use Rattle.std.proofs.Common.{◌≡◌, ℕ, suc, ◌+◌, Bool, true, false, not, ◌&&◌, ◌||◌, cond, List, [], ◌∷◌, ◌++◌, map, filter, find, length, sum_by, Option, Some, None, is_some, unwrap_or, option_map, refl, sym, ap, ◌∙◌, subst, arith, append_assoc, append-nil}
+use Rattle.std.proofs.Common.{◌≡◌, ℕ, ◌+◌, Bool, true, false, not, ◌&&◌, ◌||◌, cond, List, [], ◌∷◌, ◌++◌, map, filter, find, length, Option, Some, None, is_some, unwrap_or, refl, sym, ap, ◌∙◌, subst, arith, append_assoc, append-nil}
 use Rattle.std.specs.List.{list_any}
 use Rattle.std.specs.Option.{option_eq}
 use Rattle.std.specs.Str.{bytes_eq}
 use Rattle.std.proofs.lemmas.List.{map-append}
 use Rattle.std.proofs.lemmas.List.Sums.{sum_by-append, sum_by-cons}
 use Rattle.std.proofs.lemmas.Slice.Eq.{bytes_eq-Decides}
-use Rattle.vm_types.specs.Tree.{Tree, Alternative, Saved, named, saved_as, changed, has_children, entry_count}
+use Rattle.vm_types.specs.Tree.{Tree, Alternative, Saved, named, changed, has_children, entry_count}
 use Rattle.vm_types.specs.Shape.{shape}
 use Rattle.vm_types.proofs.ShapeLemmas.{shape_changed}
 use Rattle.vm_block.specs.Slot.{is_alternative}

@@ -1,6 +1,6 @@
 -- Entries that a slot may have stay so where an entry is added, or taken out.
-use Rattle.std.proofs.Common.{◌≡◌, ℕ, ◌<◌, ◌≤◌, ◌+◌, Bool, true, false, not, ◌&&◌, ◌||◌, cond, List, [], ◌∷◌, ◌++◌, filter, find, length, Option, Some, None, IsSomeAnd, codes, refl, sym, ap, ◌∙◌, subst, arith, length-append, append-nil, append_assoc}
-use Rattle.std.specs.List.{AllByRecursion, list_any}
+use Rattle.std.proofs.Common.{◌≡◌, ℕ, ◌<◌, Bool, true, false, not, ◌&&◌, ◌||◌, cond, List, [], ◌∷◌, ◌++◌, filter, find, length, Option, Some, None, IsSomeAnd, codes, refl, sym, ap, ◌∙◌, subst, arith, length-append, append-nil, append_assoc}
+use Rattle.std.specs.List.{list_any}
 use Rattle.std.specs.Option.{option_eq}
 use Rattle.std.specs.Str.{bytes_eq}
 use Rattle.std.proofs.lemmas.Bool.{or_parts}
@@ -8,7 +8,7 @@ use Rattle.std.proofs.lemmas.List.Folds.{list_any-append}
 use Rattle.std.proofs.lemmas.Slice.Eq.{bytes_eq-Decides}
 use Rattle.vm_types.specs.Firsts.{without_first}
 use Rattle.vm_types.proofs.SoundLemmas.{each_append, each_without}
-use Rattle.vm_block.specs.Slot.{EntryFits, HeadFits, SlotFits, IsLedger, IsTopEntry, Follows, MayFollow, is_alternative, is_alternative_of, is_called_as, is_same_kind}
+use Rattle.vm_block.specs.Slot.{EntryFits, SlotFits, IsLedger, IsTopEntry, Follows, MayFollow, is_alternative, is_alternative_of, is_called_as, is_same_kind}
 use Rattle.vm_block.specs.declared.slot.Kind.{Kind}
 use Rattle.vm_block.specs.declared.slot.Kind.TheVariants.{Alternative, Checkpoint}
 use Rattle.vm_block.specs.declared.slot.Entry.{Entry}

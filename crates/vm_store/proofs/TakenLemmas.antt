@@ -1,5 +1,5 @@
 -- Entries taken out of those that give a tree: a checkpoint, or an alternative with its checkpoints.
-use Rattle.std.proofs.Common.{◌≡◌, ℕ, Bool, true, false, not, ◌&&◌, ◌||◌, cond, List, [], ◌∷◌, ◌++◌, map, filter, find, Option, Some, None, is_some, unwrap_or, option_map, refl, sym, ap, ◌∙◌, subst}
+use Rattle.std.proofs.Common.{◌≡◌, ℕ, Bool, true, false, not, ◌&&◌, ◌||◌, cond, List, [], ◌∷◌, ◌++◌, map, filter, find, Option, Some, None, is_some, unwrap_or, option_map, refl, sym, ap, ◌∙◌}
 use Rattle.std.specs.Option.{option_eq}
 use Rattle.std.specs.Str.{bytes_eq}
 use Rattle.std.proofs.lemmas.Slice.Eq.{bytes_eq-Decides}
@@ -8,7 +8,7 @@ use Rattle.vm_types.specs.Tree.{Tree, Alternative, Saved, named, saved_as, chang
 use Rattle.vm_block.specs.Slot.{is_alternative}
 use Rattle.vm_store.specs.Filed.{Filed, saved_of, bare, with_saved, add, grown}
 use Rattle.vm_store.proofs.FiledLemmas.{is_filed, there, now_there, not_there, changed_front}
-use Rattle.vm_store.proofs.GrownLemmas.{is_filed_under, MayBeAdded, InOrder, whole, not_eq, some_is, not_under, under_owner, named_add, bare_added}
+use Rattle.vm_store.proofs.GrownLemmas.{is_filed_under, MayBeAdded, InOrder, not_eq, some_is, not_under, under_owner, named_add, bare_added}
 
 -- whether it is the checkpoint of this name of the alternative
 abbrev pub is_filed_saved : List ℕ → List ℕ → Filed → Bool

@@ -1,19 +1,17 @@
 -- What a store stands for, through the commands that change its entries alone.
-use Rattle.std.proofs.Common.{◌≡◌, ◌⊎◌, inl, inr, ℕ, ◌+◌, ◌<◌, ◌≤◌, ◌*◌, ◌^◌, nat_le, nat_lt, Bool, true, false, ◌&&◌, cond, List, [], ◌∷◌, ◌++◌, map, filter, find, length, Option, Some, None, is_some, not, option_map, get_or, set, remove, Result, Ok, Err, IfSome, IfNone, IfOk, IsSomeAnd, codes, refl, sym, ap, ◌∙◌, subst, arith}
+use Rattle.std.proofs.Common.{◌≡◌, inl, inr, ℕ, ◌+◌, ◌<◌, ◌≤◌, ◌*◌, nat_le, nat_lt, Bool, true, false, ◌&&◌, cond, List, [], ◌∷◌, ◌++◌, map, filter, find, length, Option, Some, None, is_some, not, option_map, get_or, set, remove, Result, Ok, Err, IfSome, IfNone, IfOk, refl, sym, ap, ◌∙◌, subst, arith}
 use Rattle.std.specs.List.{list_any}
 use Rattle.std.specs.Str.{bytes_eq}
-use Rattle.std.proofs.lemmas.Bool.{false≢true, true≢false, cases_lt}
+use Rattle.std.proofs.lemmas.Bool.{false≢true, true≢false}
 use Rattle.std.proofs.lemmas.Bool.Decides.{nat_tests}
 use Rattle.std.proofs.lemmas.Slice.Eq.{bytes_eq-Decides}
 use Rattle.vm_types.specs.Name.{IsName}
 use Rattle.vm_types.specs.Firsts.{IsFirst, change_first, without_first}
-use Rattle.vm_types.specs.Map.{Map}
 use Rattle.vm_types.specs.Shape.{shape, saved_names}
-use Rattle.vm_types.specs.Tree.{Tree, Alternative, Saved, named, saved_as, changed, has_children, entry_count, is_full}
-use Rattle.vm_types.specs.Step.{Outcome, or_refuse, refuse_if, done, new_alternative, step}
+use Rattle.vm_types.specs.Tree.{Tree, Alternative, named, saved_as, changed, has_children, entry_count, is_full}
+use Rattle.vm_types.specs.Step.{Outcome, done, new_alternative, step}
 use Rattle.vm_types.specs.State.{State, next, tree_after, edits, is_commit}
 use Rattle.vm_types.specs.Kept.{LeftBy}
-use Rattle.vm_types.specs.declared.answer.Answer.{Answer}
 use Rattle.vm_types.specs.declared.answer.Answer.TheVariants.{Done}
 use Rattle.vm_types.specs.declared.command.Command.{Command}
 use Rattle.vm_types.specs.declared.command.Command.TheVariants.{New, Drop, Checkpoint, Uncheck, Back}
@@ -21,27 +19,26 @@ use Rattle.vm_types.specs.declared.refusal.Refusal.{Refusal}
 use Rattle.vm_types.specs.declared.refusal.Refusal.TheVariants.{NoSuchAlternative, AlternativeExists, NoSuchCheckpoint, CheckpointExists, IsTop, HasChildren, TooMany}
 use Rattle.vm_types.proofs.FirstsLemmas.{find_passes}
 use Rattle.vm_types.proofs.SoundLemmas.{each_found}
-use Rattle.vm_types.proofs.Steps.{or_refuse-none, or_refuse-some, or_refuse-any, refuse_if-true, refuse_if-false, new_accepted, drop_accepted, checkpoint_accepted, uncheck_accepted, back_accepted}
+use Rattle.vm_types.proofs.Steps.{or_refuse-none, or_refuse-some, refuse_if-true, refuse_if-false, new_accepted, drop_accepted, checkpoint_accepted, uncheck_accepted, back_accepted}
 use Rattle.vm_disk.specs.Disk as disk
 use Rattle.vm_disk.specs.Disk.{Contents, Medium}
 use Rattle.vm_disk.specs.Moments.{Throughout, Leaves}
 use Rattle.vm_disk.proofs.MomentLemmas.{started, spares_itself}
-use Rattle.vm_alloc.specs.Held.{IsHeld, HoldsMore}
+use Rattle.vm_alloc.specs.Held.{IsHeld}
 use Rattle.vm_block.specs.Slot.{EntryFits, SlotFits, IsLedger, Follows, MayFollow, is_alternative, is_alternative_of, is_called_as}
-use Rattle.vm_block.specs.Tree.{Stands}
 use Rattle.vm_block.specs.declared.slot.Kind.TheVariants as kind
 use Rattle.vm_block.specs.declared.slot.Entry.{Entry}
 use Rattle.vm_store.specs.Answers.{IsDue, IsAnswer}
 use Rattle.vm_store.specs.Entries.{is_checkpoint_under, is_checkpoint_of, is_child_of, is_apart, alternatives_among, checkpoints_among}
 use Rattle.vm_store.specs.Listing.{checkpoints_of, checkpoints_in}
-use Rattle.vm_store.specs.Filed.{Filed, StandsAs, Standing, saved_of, bare, with_saved, add, grown, tree_of}
+use Rattle.vm_store.specs.Filed.{Filed, StandsAs, Standing, saved_of, bare, with_saved, grown, tree_of}
 use Rattle.vm_store.specs.Resting.{Rests}
 use Rattle.vm_store.specs.Shown.{Shows}
-use Rattle.vm_store.proofs.FiledLemmas.{is_filed, refiled_both, with_maps, grown_more, grown_named, grown_turned}
+use Rattle.vm_store.proofs.FiledLemmas.{is_filed, refiled_both, with_maps, grown_more, grown_turned}
 use Rattle.vm_store.proofs.FoundLemmas.{any_none, any_same, change_first-same}
 use Rattle.vm_store.proofs.GrownLemmas.{is_filed_under, is_filed_child, filed_shape, grown_shape, MayBeAdded, InOrder, whole, there_grown, children_filed, count_grown, named_whole}
 use Rattle.vm_store.proofs.TakenLemmas.{is_filed_saved, is_filed_apart, unsaved, saved_found, grown_apart, grown_unsaved}
-use Rattle.vm_store.proofs.MovedLemmas.{agree_alternative, agree_under, agree_saved, agree_child, agree_apart, standing_length, standing_join, standing_any, standing_filter, standing_without, standing_first, StandsFound, standing_found, standing_none}
+use Rattle.vm_store.proofs.MovedLemmas.{agree_alternative, agree_under, agree_saved, agree_child, agree_apart, standing_length, standing_join, standing_any, standing_filter, standing_without, standing_first, standing_found, standing_none}
 use Rattle.vm_store.proofs.LedgerLemmas.{with_roots, alike_back, fits_alike}
 use Rattle.vm_store.proofs.LedgerMoves.{checkpoint_unbased, called_alternative, some_parts, alternative_follows, checkpoint_follows, top_unbased, fits_more, fits_without, fits_apart}
 use Rattle.vm_store.proofs.RestingLemmas.{shows_old, rests_on, any_entry}

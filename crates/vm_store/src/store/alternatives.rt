@@ -1,5 +1,5 @@
 //! Alternatives: made, dropped and listed. No call here makes a device call.
-ghost use Rattle.std.specs.Prelude.{◌≡◌, ◌≢◌, ◌<◌, ◌≤◌, ◌^◌, true, false, length, ℕ, vec_capacity, OnErr, IfOk, IfErr};
+ghost use Rattle.std.specs.Prelude.{◌≡◌, ◌≢◌, true, false, OnErr, IfOk, IfErr};
 ghost use Rattle.vm_types.specs.Shape.{shape};
 ghost use Rattle.vm_types.specs.State.{State, next};
 ghost use Rattle.vm_types.specs.Kept.{LeftBy};

@@ -1,5 +1,5 @@
 //! Checkpoints: made, taken out, gone back to, and listed. No call here makes a device call.
-ghost use Rattle.std.specs.Prelude.{◌≡◌, ◌≢◌, ◌⊎◌, ◌<◌, ◌≤◌, ◌^◌, true, false, length, ℕ, vec_capacity, OnErr, IfOk, IfErr};
+ghost use Rattle.std.specs.Prelude.{◌≡◌, ◌≢◌, ◌⊎◌, true, false, OnErr, IfOk, IfErr};
 ghost use Rattle.vm_types.specs.State.{State, next};
 ghost use Rattle.vm_types.specs.Kept.{LeftBy};
 ghost use Rattle.vm_disk.specs.Disk.{Goes};

@@ -1,13 +1,11 @@
-use Rattle.std.proofs.Common.{refl, not, List, ◌≡◌, ◌<◌, ◌≤◌, length, find, None, Some, Ok, Err, sym, ap, ◌∙◌, arith}
-use Rattle.std.proofs.lemmas.Grind.{common_steps}
+use Rattle.std.proofs.Common.{refl, Some, sym, ap, ◌∙◌}
 use Rattle.vm_types.specs.declared.command.Command.TheVariants.{Back}
 use Rattle.vm_block.specs.Slot.{is_alternative_of}
-use Rattle.std.specs.List.{list_any}
-use Rattle.vm_store.specs.Entries.{is_checkpoint_of, is_child_of}
+use Rattle.vm_store.specs.Entries.{is_checkpoint_of}
 use Rattle.vm_store.specs.Resting.{spare_of}
 use Rattle.vm_store.proofs.LedgerLemmas.{with_roots}
 use Rattle.vm_store.proofs.RestingLemmas.{rests_as, any_entry}
-use Rattle.vm_store.proofs.VersionLemmas.{found_in, not_in, some_in, none_in, changed_in, removed_in, answers_refused, answers_done, quiet, back_absent, back_none, back_step, back_rests}
+use Rattle.vm_store.proofs.VersionLemmas.{found_in, not_in, changed_in, answers_refused, answers_done, quiet, back_absent, back_none, back_step, back_rests}
 use Rattle.vm_store.proofs.store.Store.go_back.Goals as goal
 
 pub returns-in_default-clause-answer : goal.returns-in_default-clause-answer

@@ -1,13 +1,11 @@
-use Rattle.std.proofs.Common.{refl, not, List, ◌≡◌, ◌<◌, ◌≤◌, length, find, None, Some, Ok, Err, sym, ap, ◌∙◌, arith}
+use Rattle.std.proofs.Common.{refl, ◌<◌, ◌≤◌, length, Some, sym, ap, ◌∙◌, arith}
 use Rattle.std.proofs.lemmas.Grind.{common_steps}
 use Rattle.vm_types.specs.declared.command.Command.TheVariants.{Checkpoint}
 use Rattle.vm_block.specs.Slot.{is_alternative_of}
-use Rattle.std.specs.List.{list_any}
-use Rattle.vm_store.specs.Entries.{is_checkpoint_of, is_child_of}
+use Rattle.vm_store.specs.Entries.{is_checkpoint_of}
 use Rattle.vm_store.specs.Resting.{spare_of}
-use Rattle.vm_store.proofs.LedgerLemmas.{with_roots}
 use Rattle.vm_store.proofs.RestingLemmas.{rests_as, any_entry}
-use Rattle.vm_store.proofs.VersionLemmas.{found_in, not_in, some_in, none_in, changed_in, removed_in, answers_refused, answers_done, quiet, checkpoint_absent, checkpoint_exists, checkpoint_full, checkpoint_step, checkpoint_rests}
+use Rattle.vm_store.proofs.VersionLemmas.{found_in, not_in, some_in, none_in, answers_refused, answers_done, quiet, checkpoint_absent, checkpoint_exists, checkpoint_full, checkpoint_step, checkpoint_rests}
 use Rattle.vm_store.proofs.store.Store.make_checkpoint.Goals as goal
 
 pub returns-in_default-clause-answer : goal.returns-in_default-clause-answer

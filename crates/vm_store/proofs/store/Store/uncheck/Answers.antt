@@ -1,13 +1,10 @@
-use Rattle.std.proofs.Common.{refl, not, List, ◌≡◌, ◌<◌, ◌≤◌, length, find, None, Some, Ok, Err, sym, ap, ◌∙◌, arith}
-use Rattle.std.proofs.lemmas.Grind.{common_steps}
+use Rattle.std.proofs.Common.{refl, not, sym, ap, ◌∙◌}
 use Rattle.vm_types.specs.declared.command.Command.TheVariants.{Uncheck}
 use Rattle.vm_block.specs.Slot.{is_alternative_of}
-use Rattle.std.specs.List.{list_any}
-use Rattle.vm_store.specs.Entries.{is_checkpoint_of, is_child_of}
+use Rattle.vm_store.specs.Entries.{is_checkpoint_of}
 use Rattle.vm_store.specs.Resting.{spare_of}
-use Rattle.vm_store.proofs.LedgerLemmas.{with_roots}
 use Rattle.vm_store.proofs.RestingLemmas.{rests_as, any_entry}
-use Rattle.vm_store.proofs.VersionLemmas.{found_in, not_in, some_in, none_in, changed_in, removed_in, answers_refused, answers_done, quiet, uncheck_absent, uncheck_none, uncheck_step, uncheck_rests}
+use Rattle.vm_store.proofs.VersionLemmas.{found_in, not_in, some_in, none_in, removed_in, answers_refused, answers_done, quiet, uncheck_absent, uncheck_none, uncheck_step, uncheck_rests}
 use Rattle.vm_store.proofs.store.Store.uncheck.Goals as goal
 
 pub returns-then-is_none-clause-answer : goal.returns-then-is_none-clause-answer
