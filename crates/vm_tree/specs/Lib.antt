@@ -1,0 +1,4 @@
+pub mod Free
+pub mod Root
+pub mod Answers
+pub mod Reading
