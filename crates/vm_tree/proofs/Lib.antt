@@ -1,3 +1,5 @@
 pub mod Descent
+pub mod Growing
 pub mod Rising
+pub mod Sparing
 pub mod Splitting

@@ -8,6 +8,7 @@
 mod getting;
 mod reading;
 mod root;
+mod writing;
 
 pub use getting::get;
 pub use root::{Root, TreeFault};
