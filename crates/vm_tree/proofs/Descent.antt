@@ -80,13 +80,13 @@ pub record Opened (sizes : Sizes) (x : Contents) (limit level b p : ℕ) (rs : L
   pub way : Descends (Subtree sizes x limit (level - 1)) cs p i d rs under
 
 pub opens : (sizes : Sizes) (x : Contents) (limit level b p : ℕ) (rs : List Record) (bs : List ℕ) (cs : List Child) (i : ℕ) (d : Child) → 0 < level
-    → Subtree sizes x limit level b rs bs → RisesFrom 0 (places rs) → ((ds : List Child) → IsNodeAt x limit level b ds → cs ≡ ds) → IsChosen (lows cs) p i
+    → Subtree sizes x limit level b rs bs → RisesFrom 0 (places rs) → ((ds : List Child) → IsNodeAt x limit level b ds → length ds ≤ sizes.fan → cs ≡ ds) → IsChosen (lows cs) p i
     → Opened sizes x limit level b p rs bs cs i d
 opens sizes x limit level b p rs bs cs i d above tree rises only chosen =
     let up : suc (level - 1) ≡ level = omega arith in
     let at = node_opens sizes x limit level (level - 1) b rs bs (sym up) tree in
     let node = subst (λ n. IsNode (block x b) n at.children) up at.node in
-    let same = only at.children (record { inside = at.place; node = node }) in
+    let same = only at.children (record { inside = at.place; node = node }) at.few in
     record {
       inside = at.place;
       node = subst (λ (ds : List Child). IsNode (block x b) level ds) (sym same) node;
@@ -104,10 +104,10 @@ subtree_top sizes x limit (suc l) b rs bs tree = tree.0
 
 -- a leaf of a tree that was read
 pub opens_leaf : (sizes : Sizes) (x : Contents) (limit level b : ℕ) (rs : List Record) (bs : List ℕ) (lent : List Record) → level ≡ 0
-    → Subtree sizes x limit level b rs bs → ((qs : List Record) → IsLeafAt x limit b qs → lent ≡ qs) → (lent ≡ rs) × LeafAt sizes x limit b rs bs
+    → Subtree sizes x limit level b rs bs → ((qs : List Record) → IsLeafAt x limit b qs → length qs ≤ sizes.leaf → lent ≡ qs) → (lent ≡ rs) × LeafAt sizes x limit b rs bs
 opens_leaf sizes x limit level b rs bs lent zero_is tree only =
     let at = leaf_opens sizes x limit level b rs bs zero_is tree in
-    (only rs (record { inside = at.place; leaf = at.leaf }), at)
+    (only rs (record { inside = at.place; leaf = at.leaf }) at.few, at)
 
 -- what follows from an answer follows from it under the same fault
 pub ok_map : {T : Type 0} (result : Result T TreeFault) (P Q : T → Type 0) → OkOrDevice result P → ((x : T) → P x → Q x) → OkOrDevice result Q
@@ -117,7 +117,7 @@ ok_map (Err e) P Q h so = h
 -- the value under a chosen child is the value under its parent
 pub node_value : (sizes : Sizes) (old mid : Medium) (limit level b p : ℕ) (rs : List Record) (bs : List ℕ) (cs : List Child) (i : ℕ) (d : Child) (result : Result (Option (List ℕ)) TreeFault)
     → mid ≡ old → 0 < level → Subtree sizes old.contents limit level b rs bs → RisesFrom 0 (places rs)
-    → ((ds : List Child) → IsNodeAt old.contents limit level b ds → cs ≡ ds) → IsChosen (lows cs) p i
+    → ((ds : List Child) → IsNodeAt old.contents limit level b ds → length ds ≤ sizes.fan → cs ≡ ds) → IsChosen (lows cs) p i
     → ((sub : List Record) (own : List ℕ) → Subtree sizes mid.contents limit (level - 1) (get_or cs i d).block sub own → RisesFrom 0 (places sub) → OkOrDevice result (λ value. value ≡ value_at p sub))
     → OkOrDevice result (λ value. value ≡ value_at p rs)
 node_value sizes old mid limit level b p rs bs cs i d result still above tree rises only chosen below =
@@ -128,13 +128,13 @@ node_value sizes old mid limit level b p rs bs cs i d result still above tree ri
     (λ value is. is ∙ sym (ap (value_at p) s.records ∙ value_between p s.before s.sub s.after at.way.below at.way.above))
 
 -- what is read of a leaf of a tree
-pub leaf_read : (sizes : Sizes) (x : Contents) (limit level b : ℕ) (rs : List Record) (bs : List ℕ) → level ≡ 0 → Subtree sizes x limit level b rs bs → IsLeafAt x limit b rs
+pub leaf_read : (sizes : Sizes) (x : Contents) (limit level b : ℕ) (rs : List Record) (bs : List ℕ) → level ≡ 0 → Subtree sizes x limit level b rs bs → IsLeafAt x limit b rs × (length rs ≤ sizes.leaf)
 leaf_read sizes x limit level b rs bs zero_is tree =
-    let at = leaf_opens sizes x limit level b rs bs zero_is tree in record { inside = at.place; leaf = at.leaf }
+    let at = leaf_opens sizes x limit level b rs bs zero_is tree in (record { inside = at.place; leaf = at.leaf }, at.few)
 
 -- what is read of an inner block of a tree
-pub node_read : (sizes : Sizes) (x : Contents) (limit level b : ℕ) (rs : List Record) (bs : List ℕ) → 0 < level → Subtree sizes x limit level b rs bs → (cs : List Child) × IsNodeAt x limit level b cs
+pub node_read : (sizes : Sizes) (x : Contents) (limit level b : ℕ) (rs : List Record) (bs : List ℕ) → 0 < level → Subtree sizes x limit level b rs bs → (cs : List Child) × IsNodeAt x limit level b cs × (length cs ≤ sizes.fan)
 node_read sizes x limit level b rs bs above tree =
     let up : suc (level - 1) ≡ level = omega arith in
     let at = node_opens sizes x limit level (level - 1) b rs bs (sym up) tree in
-    (at.children, record { inside = at.place; node = subst (λ n. IsNode (block x b) n at.children) up at.node })
+    (at.children, record { inside = at.place; node = subst (λ n. IsNode (block x b) n at.children) up at.node }, at.few)

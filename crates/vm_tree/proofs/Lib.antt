@@ -1,5 +1,9 @@
 pub mod Descent
+pub mod FullPaths
 pub mod Growing
+pub mod Placing
+pub mod PutLemmas
 pub mod Rising
+pub mod RootLemmas
 pub mod Sparing
 pub mod Splitting

@@ -1,5 +1,5 @@
 -- Blocks of a tree as they are written anew.
-use Rattle.std.specs.Prelude.{◌≡◌, ℕ, ◌<◌, ◌≤◌, Bool, true, false, List, [], ◌∷◌, None, Result, Ok, Err}
+use Rattle.std.specs.Prelude.{◌≡◌, ◌↔◌, ℕ, ◌<◌, ◌≤◌, Bool, true, false, List, [], ◌∷◌, None, Result, Ok, Err}
 use Rattle.std.specs.List.{AllByRecursion}
 use Rattle.vm_types.specs.Places.{value_at}
 use Rattle.vm_disk.specs.Disk.{Contents}
@@ -35,11 +35,10 @@ pub record Splits (sizes : Sizes) (x : Contents) (p l b : ℕ) (rs : List Record
   pub absent : value_at p rs ≡ None
   pub full : FullBelow sizes x p l b
 
--- what a Put under a block answers on a tree, where `room` tells whether a block above it has room for one child more
-abbrev pub PutsBelow : Result Copied TreeFault → Bool → Type 0 → (List Child → Type 0) → Type 0
-PutsBelow (Ok (One c)) room splits P = P (c ∷ []) × (splits → ⊥)
-PutsBelow (Ok (Two c d)) room splits P = P (c ∷ d ∷ []) × splits
-PutsBelow (Err Device) room splits P = Unit {0}
-PutsBelow (Err (Damaged b)) room splits P = ⊥
-PutsBelow (Err Deep) room splits P = splits
-PutsBelow (Err Memory) room splits P = ⊥
+-- what a Put under a block answers on a tree: blocks with P, two where it splits; Deep, where it would split; or that the device failed
+abbrev pub PutsBelow : Result Copied TreeFault → Type 0 → (List Child → Type 0) → Type 0
+PutsBelow (Ok copied) splits P = P (children_of copied) × ((is_split copied ≡ true) ↔ splits)
+PutsBelow (Err Device) splits P = Unit {0}
+PutsBelow (Err (Damaged b)) splits P = ⊥
+PutsBelow (Err Deep) splits P = splits
+PutsBelow (Err Memory) splits P = ⊥

@@ -44,12 +44,12 @@ fn get_below<D: Disk>(
         → OkOrDevice result (λ value. value ≡ value_at place rs) }
 {
     if level == 0 {
-        return match leaf_at(disk, blocks, block) {
+        return match leaf_at::<D, 16>(disk, blocks, block) {
             Ok(records) => Ok(value_of(records.as_slice(), place)),
             Err(fault) => Err(fault),
         };
     }
-    match node_at(disk, blocks, level, block) {
+    match node_at::<D, 256>(disk, blocks, level, block) {
         Ok(children) => {
             let children = children.as_slice();
             let i = choose(children, place);

@@ -6,9 +6,12 @@
 #![tactic(auto)]
 
 mod getting;
+mod putting;
 mod reading;
 mod root;
+mod splicing;
 mod writing;
 
 pub use getting::get;
+pub use putting::put;
 pub use root::{Root, TreeFault};

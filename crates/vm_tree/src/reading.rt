@@ -24,8 +24,8 @@ fn is_data(blocks: u32, block: u32) -> bool
     (FIRST_DATA..blocks).contains(&block)
 }
 
-/// The records of a leaf.
-pub(crate) fn leaf_at<D: Disk>(
+/// The records of a leaf, which are MOST at most.
+pub(crate) fn leaf_at<D: Disk, const MOST: usize>(
     disk: &mut D,
     blocks: u32,
     block: u32,
@@ -34,10 +34,10 @@ pub(crate) fn leaf_at<D: Disk>(
     ensures any { Goes (result ≡ Err TreeFault.Device) (D.state disk.old) (D.state disk.new) }
     ensures deep { result ≢ Err TreeFault.Deep }
     ensures memory { result ≢ Err TreeFault.Memory }
-    ensures some { IfOk result (λ records. 0 < length records.items) }
+    ensures count { IfOk result (λ records. (0 < length records.items) × (length records.items ≤ MOST)) }
     ensures reads { (D.state disk.old).honest ≡ true → OnlyReads (D.state disk.old) (D.state disk.new) }
     ensures found { (D.state disk.old).honest ≡ true → IfOk result (λ records. IsLeafAt (D.state disk.old).now.contents blocks block records.items) }
-    ensures only { (D.state disk.old).honest ≡ true → (rs : List Record) → IsLeafAt (D.state disk.old).now.contents blocks block rs
+    ensures only { (D.state disk.old).honest ≡ true → (rs : List Record) → IsLeafAt (D.state disk.old).now.contents blocks block rs → length rs ≤ MOST
         → OkOrDevice result (λ records. records.items ≡ rs) }
 {
     if !is_data(blocks, block) {
@@ -46,15 +46,15 @@ pub(crate) fn leaf_at<D: Disk>(
     let mut bytes = [0; 4096];
     match disk.read(block, &mut bytes) {
         Ok(()) => match read_leaf(&bytes) {
-            Some(records) => Ok(records),
-            None => Err(TreeFault::Damaged(block)),
+            Some(records) if records.len() <= MOST => Ok(records),
+            _ => Err(TreeFault::Damaged(block)),
         },
         Err(_) => Err(TreeFault::Device),
     }
 }
 
-/// The children of an inner block of this level.
-pub(crate) fn node_at<D: Disk>(
+/// The children of an inner block of this level, which are MOST at most.
+pub(crate) fn node_at<D: Disk, const MOST: usize>(
     disk: &mut D,
     blocks: u32,
     level: u8,
@@ -64,10 +64,11 @@ pub(crate) fn node_at<D: Disk>(
     ensures any { Goes (result ≡ Err TreeFault.Device) (D.state disk.old) (D.state disk.new) }
     ensures deep { result ≢ Err TreeFault.Deep }
     ensures memory { result ≢ Err TreeFault.Memory }
-    ensures some { IfOk result (λ children. (0 < length children.items) × (level ≤ 7)) }
+    ensures count { IfOk result (λ children. (0 < length children.items) × (length children.items ≤ MOST)) }
+    ensures low { IfOk result (λ children. level ≤ 7) }
     ensures reads { (D.state disk.old).honest ≡ true → OnlyReads (D.state disk.old) (D.state disk.new) }
     ensures found { (D.state disk.old).honest ≡ true → IfOk result (λ children. IsNodeAt (D.state disk.old).now.contents blocks level block children.items) }
-    ensures only { (D.state disk.old).honest ≡ true → (cs : List Child) → IsNodeAt (D.state disk.old).now.contents blocks level block cs
+    ensures only { (D.state disk.old).honest ≡ true → (cs : List Child) → IsNodeAt (D.state disk.old).now.contents blocks level block cs → length cs ≤ MOST
         → OkOrDevice result (λ children. children.items ≡ cs) }
 {
     if !is_data(blocks, block) {
@@ -76,7 +77,7 @@ pub(crate) fn node_at<D: Disk>(
     let mut bytes = [0; 4096];
     match disk.read(block, &mut bytes) {
         Ok(()) => match read_node(&bytes) {
-            Some(node) if node.level == level => Ok(node.children),
+            Some(node) if node.level == level && node.children.len() <= MOST => Ok(node.children),
             _ => Err(TreeFault::Damaged(block)),
         },
         Err(_) => Err(TreeFault::Device),

@@ -1,4 +1,7 @@
 //! Where a map stands, and what a call on it answers where it gives no map.
+ghost use Rattle.std.specs.Prelude.{◌≡◌};
+
+use vm_block::Child;
 use vm_types::Key;
 
 /// The top of a tree: its block, its level above the leaves, and the lowest key under it.
@@ -21,4 +24,15 @@ pub enum TreeFault {
     Deep,
     /// No memory was found for the records of a tree.
     Memory,
+}
+
+/// The root that is the top of a subtree of this level.
+pub(crate) fn root_at(top: Child, level: u8) -> Root
+    ensures { result ≡ record { block = top.block; level = level; low = top.low } }
+{
+    Root {
+        block: top.block,
+        level,
+        low: top.low,
+    }
 }
