@@ -138,3 +138,12 @@ node_read sizes x limit level b rs bs above tree =
     let up : suc (level - 1) ≡ level = omega arith in
     let at = node_opens sizes x limit level (level - 1) b rs bs (sym up) tree in
     (at.children, record { inside = at.place; node = subst (λ n. IsNode (block x b) n at.children) up at.node }, at.few)
+
+-- what lies under an inner block that was read
+pub node_under : (sizes : Sizes) (x : Contents) (limit level b : ℕ) (rs : List Record) (bs : List ℕ) (cs : List Child) → 0 < level → Subtree sizes x limit level b rs bs → ((ds : List Child) → IsNodeAt x limit level b ds → cs ≡ ds)
+    → (under : List ℕ) × Children (Subtree sizes x limit (level - 1)) cs rs under
+node_under sizes x limit level b rs bs cs above tree only =
+    let up : suc (level - 1) ≡ level = omega arith in
+    let at = node_opens sizes x limit level (level - 1) b rs bs (sym up) tree in
+    let same = only at.children (record { inside = at.place; node = subst (λ n. IsNode (block x b) n at.children) up at.node }) in
+    (at.under, subst (λ (ds : List Child). Children (Subtree sizes x limit (level - 1)) ds rs at.under) (sym same) at.below)

@@ -5,5 +5,6 @@ pub mod Placing
 pub mod PutLemmas
 pub mod Rising
 pub mod RootLemmas
+pub mod ScanLemmas
 pub mod Sparing
 pub mod Splitting

@@ -9,9 +9,11 @@ mod getting;
 mod putting;
 mod reading;
 mod root;
+mod scanning;
 mod splicing;
 mod writing;
 
 pub use getting::get;
 pub use putting::put;
 pub use root::{Root, TreeFault};
+pub use scanning::scan;
