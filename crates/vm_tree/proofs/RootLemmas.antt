@@ -36,7 +36,7 @@ made_root P sizes x limit l c rs low rises made =
     let blocks : made.blocks ≡ t.2 = t.8 ∙ ap (λ z. t.2 ++ z) t.6.1 ∙ append-nil t.2 in
     let begins = subst (Begins c.low) (sym records) t.5 in
     let subtree = subst (λ (bs : List ℕ). Subtree sizes x limit l c.block rs bs) (sym blocks) (subst (λ (qs : List Record). Subtree sizes x limit l c.block qs t.2) (sym records) t.4) in
-    record { blocks = made.blocks; rooted = inr (record { level = low; subtree = subtree; rising = rises; lowest = begins }); each = made.each }
+    record { stands_in = made.blocks; rooted = inr (record { level = low; subtree = subtree; rising = rises; lowest = begins }); each = made.each }
 
 -- a descent from a block of a tree has the tree's level
 pub full_level : (sizes : Sizes) (x : Contents) (limit p l k b : ℕ) (rs : List Record) (bs : List ℕ) → FullBelow sizes x p l b → Subtree sizes x limit k b rs bs → l ≡ k

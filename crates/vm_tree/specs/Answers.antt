@@ -1,5 +1,5 @@
 -- What the calls on trees answer.
-use Rattle.std.specs.Prelude.{◌≡◌, ℕ, ◌<◌, None, Result, Ok, Err}
+use Rattle.std.specs.Prelude.{◌≡◌, ℕ, ◌<◌, Option, None, Some, Result, Ok, Err}
 use Rattle.vm_types.specs.declared.key.Key.{Key}
 use Rattle.vm_types.specs.Map.{Map, get}
 use Rattle.vm_types.specs.Places.{place}
@@ -36,3 +36,9 @@ Puts (Err Device) deep P = Unit {0}
 Puts (Err (Damaged b)) deep P = ⊥
 Puts (Err Deep) deep P = deep
 Puts (Err Memory) deep P = ⊥
+
+-- what a Remove answers on a tree: None, where the key is absent; else a root with P; or that the device failed
+abbrev pub Removes : {T : Type 0} → Result (Option T) TreeFault → Type 0 → (T → Type 0) → Type 0
+Removes (Ok None) absent P = absent
+Removes (Ok (Some x)) absent P = (absent → ⊥) × P x
+Removes (Err e) absent P = e ≡ Device

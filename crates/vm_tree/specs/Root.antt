@@ -39,6 +39,6 @@ IsRooted sizes x limit root m bs = IsBare root m bs ⊎ IsTop sizes x limit root
 
 -- under the root lies this map, in blocks that have P
 pub record Grown (sizes : Sizes) (P : ℕ → Type 0) (x : Contents) (limit : ℕ) (root : Root) (m : Map) : Type 0 where
-  pub blocks : List ℕ
-  pub rooted : IsRooted sizes x limit root m blocks
-  pub each : AllByRecursion P blocks
+  pub stands_in : List ℕ
+  pub rooted : IsRooted sizes x limit root m stands_in
+  pub each : AllByRecursion P stands_in

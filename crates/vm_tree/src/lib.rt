@@ -8,6 +8,7 @@
 mod getting;
 mod putting;
 mod reading;
+mod removing;
 mod root;
 mod scanning;
 mod splicing;
@@ -15,5 +16,6 @@ mod writing;
 
 pub use getting::get;
 pub use putting::put;
+pub use removing::remove;
 pub use root::{Root, TreeFault};
 pub use scanning::scan;
