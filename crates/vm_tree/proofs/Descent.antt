@@ -57,12 +57,12 @@ module _ (T : ℕ → List Record → List ℕ → Type 0) where
         split = s;
         below = first_or_not i s.before s.left s.front (λ some. omega (arith, chosen.reached some, get_or-map (λ (c : Child). place c.low) cs i d 0 within)) (before_begins (get_or cs i d).low s.before s.sub s.after s.begins whole);
         above = after_above T next p 0 s.after s.right s.back
-        (λ some. let more : i + 1 < length (lows cs) = omega (arith, length-drop (suc i) cs, length-map cs (λ (c : Child). place c.low)) in
-        let at = chosen.last more in
-        let same : slice_index (lows next) 0 ≡ slice_index (lows cs) (suc i) = ap (λ (ns : List ℕ). get_or ns 0 0) (sym (drop-map (λ (c : Child). place c.low) (suc i) cs)) ∙ get_or-drop (suc i) (lows cs) 0 0 ∙ ap (λ n. get_or (lows cs) n 0) (omega arith) in
-        let here : slice_index (lows cs) (i + 1) ≡ slice_index (lows cs) (suc i) = ap (λ n. get_or (lows cs) n 0) (omega arith) in
-        omega (arith, at, same, here))
-        (rises_back 0 s.sub s.after back);
+            (λ some. let more : i + 1 < length (lows cs) = omega (arith, length-drop (suc i) cs, length-map cs (λ (c : Child). place c.low)) in
+            let at = chosen.last more in
+            let same : slice_index (lows next) 0 ≡ slice_index (lows cs) (suc i) = ap (λ (ns : List ℕ). get_or ns 0 0) (sym (drop-map (λ (c : Child). place c.low) (suc i) cs)) ∙ get_or-drop (suc i) (lows cs) 0 0 ∙ ap (λ n. get_or (lows cs) n 0) (omega arith) in
+            let here : slice_index (lows cs) (i + 1) ≡ slice_index (lows cs) (suc i) = ap (λ n. get_or (lows cs) n 0) (omega arith) in
+            omega (arith, at, same, here))
+            (rises_back 0 s.sub s.after back);
         rising = rises_front 0 s.sub s.after back;
       }
     where

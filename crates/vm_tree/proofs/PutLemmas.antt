@@ -117,14 +117,13 @@ module _ (sizes : Sizes) (old mid : Medium) (limit level b : ℕ) (r : Record) (
       let there = λ (splits : Splits sizes old.contents p (level - 1) (get_or cs i d).block s.sub). subst (λ (m : Medium). Splits sizes m.contents p (level - 1) (get_or cs i d).block s.sub) (sym still) splits in
       let within : i < length cs = omega (arith, chosen.within, length-map cs (λ (c : Child). place c.low)) in
       let count = replaced_length cs (children_of copied) i within in
-      below_answers result (Splits sizes old.contents p level b rs) (sizes.fan < length lent) Q (λ ds. AllByRecursion P0 bs → Made P2 sizes x3 limit level ds (with_record r rs)) fine split
-      (
+      below_answers result (Splits sizes old.contents p level b rs) (sizes.fan < length lent) Q (λ ds. AllByRecursion P0 bs → Made P2 sizes x3 limit level ds (with_record r rs)) fine split (
         λ over. elim (cases_Bool (is_split copied)) [
           | inl two ↦ node_splits sizes old.contents limit level b p rs bs cs i d above at chosen (omega (arith, count, ap length is, (count_of copied).0 two)) (here (got.1.0 two))
           | inr one ↦ absurd (omega (arith, count, ap length is, (count_of copied).1 one, at.few))
         ],
         λ splits. let parts = splits_node sizes old.contents limit level b p rs bs cs i d above at chosen splits in
-        omega (arith, count, ap length is, (count_of copied).0 (got.1.1 (there parts.1)), parts.0),
+            omega (arith, count, ap length is, (count_of copied).0 (got.1.1 (there parts.1)), parts.0),
       )
       (if_ok_later result (AllByRecursion P0 bs) (λ c. Made P2 sizes x3 limit level (children_of c) (with_record r rs))
       (λ all.

@@ -79,9 +79,9 @@ module _ (sizes : Sizes) (x : Contents) (limit : ℕ) (root : Root) (m : Map) (b
       → PutsBelow (Ok copied) (Splits sizes x (place key) root.level root.block m) (λ cs. H → Made P sizes y limit root.level cs (with_record (key, value) m))
       → (H → Grown sizes P y limit (record { block = c.block; level = root.level; low = c.low }) (with_value m key value)) × (LacksRoom sizes x root m key → ⊥)
   root_one P y value copied c H is put = (
-      λ h. root_made P y root.level c value top.level (subst (λ (z : Copied). Made P sizes y limit root.level (children_of z) (with_record (key, value) m)) is (put.0 h)),
-      λ lacks. false≢true (ap is_split (sym is) ∙ put.1.1 (lacks_splits lacks).0),
-    )
+    λ h. root_made P y root.level c value top.level (subst (λ (z : Copied). Made P sizes y limit root.level (children_of z) (with_record (key, value) m)) is (put.0 h)),
+    λ lacks. false≢true (ap is_split (sym is) ∙ put.1.1 (lacks_splits lacks).0),
+  )
 
   -- the top was split, and a new one written over both
   pub root_two : (P Q : ℕ → Type 0) (y z : Contents) (other : ℕ) (value : List ℕ) (copied : Copied) (a b c : Child) (H : Type 0) → copied ≡ Two a b → other ≡ limit → (is_split copied ≡ true → root.level + 1 < sizes.levels)
@@ -94,9 +94,9 @@ module _ (sizes : Sizes) (x : Contents) (limit : ℕ) (root : Root) (m : Map) (b
       let same : root.level + 1 - 1 ≡ root.level = omega arith in
       let rs = with_record (key, value) m in (
         λ h.
-        let two = subst (λ (w : Copied). Made P sizes y limit root.level (children_of w) rs) is (put.0 h) in
-        let there = subst (λ n. Made P sizes y n (root.level + 1 - 1) (a ∷ b ∷ []) rs) (sym limits) (subst (λ l. Made P sizes y limit l (a ∷ b ∷ []) rs) (sym same) two) in
-        root_made Q z (root.level + 1) c value low (subst (λ n. Made Q sizes z n (root.level + 1) (c ∷ []) rs) limits (made rs (with_rises (key, value) 0 m (omega arith) top.rising) there)),
+            let two = subst (λ (w : Copied). Made P sizes y limit root.level (children_of w) rs) is (put.0 h) in
+            let there = subst (λ n. Made P sizes y n (root.level + 1 - 1) (a ∷ b ∷ []) rs) (sym limits) (subst (λ l. Made P sizes y limit l (a ∷ b ∷ []) rs) (sym same) two) in
+            root_made Q z (root.level + 1) c value low (subst (λ n. Made Q sizes z n (root.level + 1) (c ∷ []) rs) limits (made rs (with_rises (key, value) 0 m (omega arith) top.rising) there)),
         λ lacks. omega (arith, low, (lacks_splits lacks).1),
       )
 

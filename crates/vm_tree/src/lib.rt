@@ -12,6 +12,8 @@ mod removing;
 mod root;
 mod scanning;
 mod splicing;
+#[cfg(test)]
+mod tests;
 mod writing;
 
 pub use getting::get;

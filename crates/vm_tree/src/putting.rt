@@ -157,7 +157,15 @@ fn put_below<D: Disk, const LEAF: usize, const FAN: usize>(
             let children = children.as_slice();
             let i = choose(children, place);
             let room = room || children.len() < FAN;
-            match put_below::<D, LEAF, FAN>(disk, held, level - 1, children[i].block, room, key, value) {
+            match put_below::<D, LEAF, FAN>(
+                disk,
+                held,
+                level - 1,
+                children[i].block,
+                room,
+                key,
+                value,
+            ) {
                 Ok(copied) => {
                     let children = replaced(children, i, copied);
                     write_nodes::<D, FAN>(disk, held, level, children.as_slice())

@@ -226,7 +226,14 @@ fn remove_below<D: Disk, const LEAF: usize, const FAN: usize>(
             let children = children.as_slice();
             let i = choose(children, place);
             let alone = is_root && children.len() == 1;
-            match remove_below::<D, LEAF, FAN>(disk, held, level - 1, children[i].block, alone, place) {
+            match remove_below::<D, LEAF, FAN>(
+                disk,
+                held,
+                level - 1,
+                children[i].block,
+                alone,
+                place,
+            ) {
                 Ok(Left::Same) => Ok(Left::Same),
                 Ok(Left::Nothing) => {
                     let rest = spliced(children, i, &[]);

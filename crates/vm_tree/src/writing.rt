@@ -25,11 +25,7 @@ pub(crate) enum Copied {
 }
 
 /// Takes the lowest free block and writes it.
-fn write_free<D: Disk>(
-    disk: &mut D,
-    held: &mut Held,
-    bytes: &[u8; 4096],
-) -> Result<u32, TreeFault>
+fn write_free<D: Disk>(disk: &mut D, held: &mut Held, bytes: &[u8; 4096]) -> Result<u32, TreeFault>
     requires inside { length held.old ≤ (D.state disk.old).blocks }
     requires room { 0 < free_count held.old }
     ensures any { Goes (result ≡ Err TreeFault.Device) (D.state disk.old) (D.state disk.new) }
