@@ -1,0 +1,13 @@
+pub mod Descent
+pub mod FullPaths
+pub mod Growing
+pub mod Placing
+pub mod PutLemmas
+pub mod Removal
+pub mod RemoveLemmas
+pub mod Rising
+pub mod RootLemmas
+pub mod RootRemoval
+pub mod ScanLemmas
+pub mod Sparing
+pub mod Splitting

@@ -1,0 +1,149 @@
+-- What a Put under a block answers, from what it answers under the chosen child.
+use Rattle.std.proofs.Common.{◌≡◌, ◌↔◌, ℕ, zero, suc, ◌+◌, ◌-◌, ◌<◌, ◌≤◌, Bool, true, false, List, [], ◌∷◌, ◌++◌, length, get_or, take, drop, Result, Ok, Err, IfOk, refl, sym, ap, ◌∙◌, subst, arith, inl, inr, length-append, length-take, length-drop, length-take-le, take-append-drop}
+use Rattle.std.specs.List.{AllByRecursion}
+use Rattle.std.proofs.lemmas.Bool.{cases_Bool, false≢true}
+use Rattle.std.proofs.lemmas.List.{length-map}
+use Rattle.vm_types.specs.Places.{place, RisesFrom, places, with_record}
+use Rattle.vm_disk.specs.Disk.{Contents, block, Medium}
+use Rattle.vm_block.specs.Leaf.{Record, RecordFits}
+use Rattle.vm_block.specs.Node.{ChildFits, lows}
+use Rattle.vm_block.specs.FullPath.{IsChosen}
+use Rattle.vm_block.specs.Tree.{Sizes, Children, Subtree}
+use Rattle.vm_block.specs.declared.node.Child.{Child}
+use Rattle.vm_block.proofs.EachLemmas.{each_front, each_back, each_so}
+use Rattle.vm_block.proofs.TreeLemmas.{subtree_in, LeafAt}
+use Rattle.vm_tree.specs.Answers.{OkOrDevice}
+use Rattle.vm_tree.specs.Making.{Made, PutsBelow, Splits, children_of, is_split}
+use Rattle.vm_tree.specs.Reading.{IsNodeAt}
+use Rattle.vm_tree.specs.declared.root.TreeFault.{TreeFault}
+use Rattle.vm_tree.specs.declared.root.TreeFault.TheVariants.{Device, Damaged, Deep, Memory}
+use Rattle.vm_tree.specs.declared.writing.Copied.{Copied}
+use Rattle.vm_tree.specs.declared.writing.Copied.TheVariants.{One, Two}
+use Rattle.vm_tree.proofs.Descent.{Opened, opens}
+use Rattle.vm_tree.proofs.FullPaths.{leaf_splits, splits_leaf, node_splits, splits_node}
+use Rattle.vm_tree.proofs.Growing.{made_join, made_moved}
+use Rattle.vm_tree.proofs.Placing.{with_rises}
+use Rattle.vm_tree.proofs.Rising.{with_between}
+use Rattle.vm_tree.proofs.Splitting.{children_in}
+
+-- what was written is answered, where it was split just where it should
+pub below_answers : (result : Result Copied TreeFault) (splits over : Type 0) (Q : Copied → Type 0) (P : List Child → Type 0)
+    → OkOrDevice result Q → IfOk result (λ copied. (is_split copied ≡ true) ↔ over) → over ↔ splits → IfOk result (λ copied. P (children_of copied)) → PutsBelow result splits P
+below_answers (Ok copied) splits over Q P fine split both made = (made, (λ is. both.0 (split.0 is), λ s. split.1 (both.1 s)))
+below_answers (Err Device) splits over Q P fine split both made = tt
+below_answers (Err (Damaged b)) splits over Q P fine split both made = cc
+below_answers (Err Deep) splits over Q P fine split both made = cc
+below_answers (Err Memory) splits over Q P fine split both made = cc
+
+-- the device failed
+pub device_below : (e : TreeFault) (splits : Type 0) (P : List Child → Type 0) → e ≡ Device → PutsBelow (Err e) splits P
+device_below Device splits P is = tt
+device_below (Damaged b) splits P is = cc
+device_below Deep splits P is = cc
+device_below Memory splits P is = cc
+
+-- a fault is passed on
+pub fault_below : (e : TreeFault) (splits above : Type 0) (P Q : List Child → Type 0) → PutsBelow (Err e) splits P → (e ≡ Deep → splits → above) → PutsBelow (Err e) above Q
+fault_below Device splits above P Q fault so = tt
+fault_below (Damaged b) splits above P Q fault so = fault
+fault_below Deep splits above P Q fault so = so refl fault
+fault_below Memory splits above P Q fault so = fault
+
+if_ok_later : {T : Type 0} (result : Result T TreeFault) (H : Type 0) (M : T → Type 0) → (H → IfOk result M) → IfOk result (λ x. H → M x)
+if_ok_later (Ok x) H M made = made
+if_ok_later (Err e) H M made = tt
+
+-- a leaf, with one record more
+pub leaf_put : (sizes : Sizes) (x : Contents) (limit b : ℕ) (r : Record) (rs : List Record) (bs : List ℕ) (lent : List Record) (result : Result Copied TreeFault) (Q : Copied → Type 0) (P : List Child → List Record → Type 0)
+    → LeafAt sizes x limit b rs bs → RisesFrom 0 (places rs) → lent ≡ with_record r rs → OkOrDevice result Q → IfOk result (λ copied. (is_split copied ≡ true) ↔ (sizes.leaf < length lent))
+    → IfOk result (λ copied. P (children_of copied) lent) → PutsBelow result (Splits sizes x (place r.0) 0 b rs) (λ cs. P cs (with_record r rs))
+leaf_put sizes x limit b r rs bs lent result Q P at rises is fine split made =
+    below_answers result (Splits sizes x (place r.0) 0 b rs) (sizes.leaf < length lent) Q (λ cs. P cs (with_record r rs)) fine split
+    (λ over. leaf_splits sizes x limit b r rs bs at rises (omega (arith, ap length is)), λ splits. let over = splits_leaf sizes x limit b r rs bs at splits in omega (arith, ap length is, over))
+    (subst (λ (qs : List Record). IfOk result (λ copied. P (children_of copied) qs)) is made)
+
+-- the chosen child replaced by what was made in its place
+pub replaced_made : (P Q : ℕ → Type 0) (sizes : Sizes) (x y : Contents) (limit level b p : ℕ) (rs : List Record) (bs : List ℕ) (cs : List Child) (i : ℕ) (d : Child) → ((n : ℕ) → P n → block y n ≡ block x n) → ((n : ℕ) → P n → Q n)
+    → (at : Opened sizes x limit level b p rs bs cs i d) → AllByRecursion P bs → (now : List Child) (subs : List Record) → Made Q sizes y limit (level - 1) now subs
+    → Made Q sizes y limit (level - 1) (take i cs ++ (now ++ drop (i + 1) cs)) (at.way.split.before ++ (subs ++ at.way.split.after))
+replaced_made P Q sizes x y limit level b p rs bs cs i d same so at all now subs made =
+    let s = at.way.split in
+    let below = Subtree sizes x limit (level - 1) in
+    let later = Subtree sizes y limit (level - 1) in
+    let moved = subtree_in P sizes x y limit same (level - 1) in
+    let under = subst (AllByRecursion P) s.blocks (subst (AllByRecursion P) at.first all).1 in
+    let left = each_front P s.left (s.own ++ s.right) under in
+    let right = each_back P s.own s.right (each_back P s.left (s.own ++ s.right) under) in
+    let one : suc i ≡ i + 1 = omega arith in
+    let next : drop (suc i) cs ≡ drop (i + 1) cs = ap (λ n. drop n cs) one in
+    let back = subst (λ (ds : List Child). Children below ds s.after s.right) next s.back in
+    let fit = λ (n : ℕ). subst (AllByRecursion ChildFits) (sym (take-append-drop n cs)) at.node.fit in
+    made_join Q sizes y limit (level - 1) (take i cs) (now ++ drop (i + 1) cs) s.before (subs ++ s.after)
+    (record { blocks = s.left; under = children_in P below later moved (take i cs) s.before s.left s.front left; each = each_so P Q so s.left left; fit = each_front ChildFits (take i cs) (drop i cs) (fit i) })
+    (made_join Q sizes y limit (level - 1) now (drop (i + 1) cs) subs s.after made
+    (record { blocks = s.right; under = children_in P below later moved (drop (i + 1) cs) s.after s.right back right; each = each_so P Q so s.right right; fit = each_back ChildFits (take (i + 1) cs) (drop (i + 1) cs) (fit (i + 1)) }))
+
+count_of : (copied : Copied) → (is_split copied ≡ true → length (children_of copied) ≡ 2) × (is_split copied ≡ false → length (children_of copied) ≡ 1)
+count_of (One c) = (λ e. absurd (false≢true e), λ e. refl)
+count_of (Two c d) = (λ e. refl, λ e. absurd (false≢true (sym e)))
+
+-- how many children there are then
+pub replaced_length : (cs now : List Child) (i : ℕ) → i < length cs → length (take i cs ++ (now ++ drop (i + 1) cs)) + 1 ≡ length cs + length now
+replaced_length cs now i lt =
+    omega (arith, length-append (take i cs) (now ++ drop (i + 1) cs), length-append now (drop (i + 1) cs), length-take-le i cs (omega arith), length-drop (i + 1) cs)
+
+module _ (sizes : Sizes) (old mid : Medium) (limit level b : ℕ) (r : Record) (rs : List Record) (bs : List ℕ) (cs : List Child) (i : ℕ) (d : Child) (still : mid ≡ old) (above : 0 < level)
+    (tree : Subtree sizes old.contents limit level b rs bs) (rises : RisesFrom 0 (places rs)) (only : (ds : List Child) → IsNodeAt old.contents limit level b ds → length ds ≤ sizes.fan → cs ≡ ds) (chosen : IsChosen (lows cs) (place r.0) i) where
+  -- what is asked of a Put under the chosen child
+  abbrev pub Asked : Result Copied TreeFault → (ℕ → Type 0) → (List Child → List Record → Type 0) → Type 0
+  Asked result P M = (sub : List Record) (own : List ℕ) → Subtree sizes mid.contents limit (level - 1) (get_or cs i d).block sub own → RisesFrom 0 (places sub)
+      → PutsBelow result (Splits sizes mid.contents (place r.0) (level - 1) (get_or cs i d).block sub) (λ ds. AllByRecursion P own → M ds (with_record r sub))
+
+  -- an inner block, with the chosen child written anew
+  pub node_put : (P0 P1 P2 : ℕ → Type 0) (x2 x3 : Contents) (other : ℕ) (copied : Copied) (lent : List Child) (result : Result Copied TreeFault) (Q : Copied → Type 0)
+      → other ≡ limit → Asked (Ok copied) P0 (Made P1 sizes x2 limit (level - 1))
+      → ((n : ℕ) → P0 n → block x2 n ≡ block mid.contents n) → ((n : ℕ) → P0 n → P1 n)
+      → lent ≡ take i cs ++ (children_of copied ++ drop (i + 1) cs)
+      → OkOrDevice result Q → IfOk result (λ c. (is_split c ≡ true) ↔ (sizes.fan < length lent))
+      → ((qs : List Record) → RisesFrom 0 (places qs) → Made P1 sizes x2 other (level - 1) lent qs → IfOk result (λ c. Made P2 sizes x3 other level (children_of c) qs))
+      → PutsBelow result (Splits sizes old.contents (place r.0) level b rs) (λ ds. AllByRecursion P0 bs → Made P2 sizes x3 limit level ds (with_record r rs))
+  node_put P0 P1 P2 x2 x3 other copied lent result Q limits below same so is fine split made =
+      let p = place r.0 in
+      let at = opens sizes old.contents limit level b p rs bs cs i d above tree rises only chosen in
+      let s = at.way.split in
+      let child = subst (λ (m : Medium). Subtree sizes m.contents limit (level - 1) (get_or cs i d).block s.sub s.own) (sym still) s.child in
+      let got = below s.sub s.own child at.way.rising in
+      let here = λ (splits : Splits sizes mid.contents p (level - 1) (get_or cs i d).block s.sub). subst (λ (m : Medium). Splits sizes m.contents p (level - 1) (get_or cs i d).block s.sub) still splits in
+      let there = λ (splits : Splits sizes old.contents p (level - 1) (get_or cs i d).block s.sub). subst (λ (m : Medium). Splits sizes m.contents p (level - 1) (get_or cs i d).block s.sub) (sym still) splits in
+      let within : i < length cs = omega (arith, chosen.within, length-map cs (λ (c : Child). place c.low)) in
+      let count = replaced_length cs (children_of copied) i within in
+      below_answers result (Splits sizes old.contents p level b rs) (sizes.fan < length lent) Q (λ ds. AllByRecursion P0 bs → Made P2 sizes x3 limit level ds (with_record r rs)) fine split (
+        λ over. elim (cases_Bool (is_split copied)) [
+          | inl two ↦ node_splits sizes old.contents limit level b p rs bs cs i d above at chosen (omega (arith, count, ap length is, (count_of copied).0 two)) (here (got.1.0 two))
+          | inr one ↦ absurd (omega (arith, count, ap length is, (count_of copied).1 one, at.few))
+        ],
+        λ splits. let parts = splits_node sizes old.contents limit level b p rs bs cs i d above at chosen splits in
+            omega (arith, count, ap length is, (count_of copied).0 (got.1.1 (there parts.1)), parts.0),
+      )
+      (if_ok_later result (AllByRecursion P0 bs) (λ c. Made P2 sizes x3 limit level (children_of c) (with_record r rs))
+      (λ all.
+      let under = subst (AllByRecursion P0) s.blocks (subst (AllByRecursion P0) at.first all).1 in
+      let own = each_front P0 s.own s.right (each_back P0 s.left (s.own ++ s.right) under) in
+      let same_old = λ (n : ℕ) (has : P0 n). same n has ∙ ap (λ (m : Medium). block m.contents n) still in
+      let now = replaced_made P0 P1 sizes old.contents x2 limit level b p rs bs cs i d same_old so at all (children_of copied) (with_record r s.sub) (got.0 own) in
+      let records = ap (with_record r) s.records ∙ with_between r s.before s.sub s.after at.way.below at.way.above in
+      let whole = subst (λ (qs : List Record). Made P1 sizes x2 limit (level - 1) (take i cs ++ (children_of copied ++ drop (i + 1) cs)) qs) (sym records) now in
+      let asked = made_moved P1 P1 sizes x2 x2 limit other (level - 1) (λ n has. refl) (λ n has. has) limits (take i cs ++ (children_of copied ++ drop (i + 1) cs)) lent (with_record r rs) is whole in
+      subst (λ n. IfOk result (λ c. Made P2 sizes x3 n level (children_of c) (with_record r rs))) limits (made (with_record r rs) (with_rises r 0 rs (omega arith) rises) asked)))
+
+  -- an inner block, where a fault came from below: Deep only where no block above has room, so that this one is full
+  pub node_fault : (P0 : ℕ → Type 0) (M : List Child → List Record → Type 0) (Q : List Child → Type 0) (e : TreeFault) → Asked (Err e) P0 M → (e ≡ Deep → sizes.fan ≤ length cs)
+      → PutsBelow (Err e) (Splits sizes old.contents (place r.0) level b rs) Q
+  node_fault P0 M Q e below full =
+      let p = place r.0 in
+      let at = opens sizes old.contents limit level b p rs bs cs i d above tree rises only chosen in
+      let s = at.way.split in
+      let child = subst (λ (m : Medium). Subtree sizes m.contents limit (level - 1) (get_or cs i d).block s.sub s.own) (sym still) s.child in
+      fault_below e (Splits sizes mid.contents p (level - 1) (get_or cs i d).block s.sub) (Splits sizes old.contents p level b rs) (λ ds. AllByRecursion P0 s.own → M ds (with_record r s.sub)) Q
+      (below s.sub s.own child at.way.rising)
+      (λ is splits. node_splits sizes old.contents limit level b p rs bs cs i d above at chosen (full is) (subst (λ (m : Medium). Splits sizes m.contents p (level - 1) (get_or cs i d).block s.sub) still splits))

@@ -1,0 +1,73 @@
+use Rattle.std.proofs.Common.{◌≡◌, ◌∙◌, ◌+◌, ◌-◌, ◌≤◌, ◌<◌, Ok, Err, IfOk, true, List, [], ◌∷◌, length, ap, sym, subst, refl, inl, inr, arith}
+use Rattle.std.specs.List.{AllByRecursion}
+use Rattle.std.proofs.lemmas.Bool.{false≢true, ltb-false, ltb-true}
+use Rattle.vm_types.specs.Map.{Map, with_value}
+use Rattle.vm_types.specs.Places.{place}
+use Rattle.vm_alloc.specs.Held.{IsHeld}
+use Rattle.vm_block.specs.Leaf.{Record}
+use Rattle.vm_tree.specs.Answers.{LacksRoom}
+use Rattle.vm_tree.specs.Making.{Made, Splits, is_split}
+use Rattle.vm_tree.specs.declared.root.Root.{Root}
+use Rattle.vm_tree.specs.Root.{Grown, sizes_of}
+use Rattle.vm_tree.specs.declared.root.TreeFault.TheVariants.{Deep}
+use Rattle.vm_tree.proofs.Descent.{subtree_top}
+use Rattle.vm_tree.proofs.Placing.{with_rises}
+use Rattle.vm_tree.proofs.RootLemmas.{splits_lacks, root_one, root_two, fault_puts, first_puts}
+use Rattle.vm_tree.proofs.Sparing.{spares_then}
+use Rattle.vm_tree.proofs.putting.put.Goals as goal
+
+pub returns-then-root-eq0-clause-put : goal.returns-then-root-eq0-clause-put
+returns-then-root-eq0-clause-put g c honest m bs (inl bare) =
+    let sizes = sizes_of g.row.LEAF g.row.FAN g.row.LEVELS in
+    let made = c.put_first.ensures.put honest sizes (omega (arith, c.requires.sizes.leaf_least)) (omega (arith, c.requires.sizes.levels_least)) in
+    let G : Map → Root → Type 0 = λ n r. Grown sizes (IsHeld c.put_first.new.held) (g.D.Disk.state c.put_first.new.disk).now.contents (length c.args.held.now) r (with_value n c.args.key c.args.value.now) in
+    first_puts c.put_first.result _ _ _ (G m) c.put_first.ensures.device
+    (λ (lacks : LacksRoom sizes _ c.args.root m c.args.key). omega (arith, lacks.some, c.if-root-eq0.true))
+    (subst (λ (n : Map). IfOk c.put_first.result (G n)) (sym bare.empty) made)
+returns-then-root-eq0-clause-put g c honest m bs (inr top) =
+    let inside = subtree_top _ _ _ _ _ m bs top.subtree in absurd (omega (arith, c.if-root-eq0.true, inside.0))
+
+pub returns-in-Ok-One-clause-put : goal.returns-in-Ok-One-clause-put
+returns-in-Ok-One-clause-put g c honest m bs (inl bare) = absurd (c.if-root-eq0.false bare.none)
+returns-in-Ok-One-clause-put g c honest m bs (inr top) =
+    let sizes = sizes_of g.row.LEAF g.row.FAN g.row.LEVELS in
+    let held = IsHeld c.put_below.new.held in
+    let after = (g.D.Disk.state c.put_below.new.disk).now.contents in
+    let done = root_one sizes _ (length c.args.held.now) c.args.root m bs c.args.key c.put_below.ensures.fits top held after c.args.value.now c.in-Ok-One.field-0 c.in-Ok-One.top (AllByRecursion (IsHeld c.args.held.now) bs)
+    c.in-Ok-One.field-0-is (c.in-Ok-One.ensures.put honest g.row.LEVELS m bs top.subtree top.rising) in
+    (λ all. subst (λ (r : Root). Grown sizes held after (length c.args.held.now) r (with_value m c.args.key c.args.value.now)) (sym c.root_at.ensures) (done.0 all), done.1)
+
+pub returns-in-Ok-clause-moments : goal.returns-in-Ok-clause-moments
+returns-in-Ok-clause-moments g c honest =
+    spares_then _ _ _ _ _ c.in-Ok-Two.ensures.still (c.in-Ok-Two.ensures.moments honest) (c.write_node_block.ensures.moments (c.in-Ok-Two.ensures.any.same_honesty ∙ honest))
+
+pub returns-in-Ok-clause-put : goal.returns-in-Ok-clause-put
+returns-in-Ok-clause-put g c honest m bs (inl bare) = absurd (c.if-root-eq0.false bare.none)
+returns-in-Ok-clause-put g c honest m bs (inr top) =
+    let sizes = sizes_of g.row.LEAF g.row.FAN g.row.LEVELS in
+    let held = IsHeld c.write_node_block.new.held in
+    let after = (g.D.Disk.state c.write_node_block.new.disk).now.contents in
+    let level = c.args.root.level in
+    let room = λ (is : is_split c.in-Ok-Two.field-0 ≡ true). let less = ltb-true (c.from-2.result + 1) g.row.LEVELS (c.in-Ok-Two.ensures.split is) in
+    let low : level + 1 < g.row.LEVELS = omega (arith, less, c.from-2.ensures) in low in
+    let few : level + 1 ≤ 7 = omega (arith, room (ap is_split c.in-Ok-Two.field-0-is), c.requires.sizes.levels_most) in
+    let done = root_two sizes _ (length c.args.held.now) c.args.root m bs c.args.key c.put_below.ensures.fits top (IsHeld c.put_below.new.held) held (g.D.Disk.state c.put_below.new.disk).now.contents after (length c.put_below.new.held)
+    c.args.value.now c.in-Ok-Two.field-0 c.in-Ok-Two.left c.in-Ok-Two.right c.in-Ok.top (AllByRecursion (IsHeld c.args.held.now) bs)
+    c.in-Ok-Two.field-0-is c.in-Ok-Two.ensures.still.same_length room (c.in-Ok-Two.ensures.put honest g.row.LEVELS m bs top.subtree top.rising)
+    (λ rs rising made. c.in-Ok.ensures.made (c.in-Ok-Two.ensures.any.same_honesty ∙ honest) sizes rs (omega arith) few c.requires.sizes.fan_least rising made) in
+    (λ all. subst (λ (r : Root). Grown sizes held after (length c.args.held.now) r (with_value m c.args.key c.args.value.now)) (sym c.root_at-in-Ok.ensures) (done.0 all), done.1)
+
+pub returns-in-Err-write_node_block-clause-moments : goal.returns-in-Err-write_node_block-clause-moments
+returns-in-Err-write_node_block-clause-moments g c honest =
+    spares_then _ _ _ _ _ c.in-Ok-Two.ensures.still (c.in-Ok-Two.ensures.moments honest) (c.write_node_block.ensures.moments (c.in-Ok-Two.ensures.any.same_honesty ∙ honest))
+
+pub returns-in-Err-clause-put : goal.returns-in-Err-clause-put
+returns-in-Err-clause-put g c honest m bs (inl bare) = absurd (c.if-root-eq0.false bare.none)
+returns-in-Err-clause-put g c honest m bs (inr top) =
+    let sizes = sizes_of g.row.LEAF g.row.FAN g.row.LEVELS in
+    let x = (g.D.Disk.state c.args.disk.now).now.contents in
+    fault_puts c.in-Err.fault (Splits sizes x (place c.args.key) c.args.root.level c.args.root.block m) (LacksRoom sizes x c.args.root m c.args.key) _ _
+    (c.in-Err.ensures.put honest g.row.LEVELS m bs top.subtree top.rising)
+    (λ is splits.
+    let none = ltb-false (c.from-2.result + 1) g.row.LEVELS (c.in-Err.ensures.deep (ap Err is)).0 in
+    splits_lacks sizes x _ c.args.root m bs c.args.key c.put_below.ensures.fits top (omega (arith, none, c.from-2.ensures, top.level)) splits)

@@ -1,0 +1,44 @@
+-- What the calls on trees answer.
+use Rattle.std.specs.Prelude.{◌≡◌, ℕ, ◌<◌, Option, None, Some, Result, Ok, Err}
+use Rattle.vm_types.specs.declared.key.Key.{Key}
+use Rattle.vm_types.specs.Map.{Map, get}
+use Rattle.vm_types.specs.Places.{place}
+use Rattle.vm_disk.specs.Disk.{Contents}
+use Rattle.vm_block.specs.Tree.{Sizes}
+use Rattle.vm_block.specs.FullPath.{FullPath}
+use Rattle.vm_tree.specs.declared.root.Root.{Root}
+use Rattle.vm_tree.specs.declared.root.TreeFault.{TreeFault}
+use Rattle.vm_tree.specs.declared.root.TreeFault.TheVariants.{Device, Damaged, Deep, Memory}
+
+-- the key is absent from the map, and the tree under the root has no room for one more record where it belongs
+pub record LacksRoom (sizes : Sizes) (x : Contents) (root : Root) (m : Map) (key : Key) : Type 0 where
+  pub absent : get m key ≡ None
+  pub some : 0 < root.block
+  pub full : FullPath sizes x (place key) root.block
+
+-- what is answered on a tree: a value with P, or that the device failed
+abbrev pub OkOrDevice : {T : Type 0} → Result T TreeFault → (T → Type 0) → Type 0
+OkOrDevice (Ok x) P = P x
+OkOrDevice (Err e) P = e ≡ Device
+
+-- what a listing answers on a tree: a value with P, that the device failed, or that no memory was found
+abbrev pub Lists : {T : Type 0} → Result T TreeFault → (T → Type 0) → Type 0
+Lists (Ok x) P = P x
+Lists (Err Device) P = Unit {0}
+Lists (Err (Damaged b)) P = ⊥
+Lists (Err Deep) P = ⊥
+Lists (Err Memory) P = Unit {0}
+
+-- what a Put answers on a tree: a root with P, where there is room; Deep, where `deep` holds; or that the device failed
+abbrev pub Puts : {T : Type 0} → Result T TreeFault → Type 0 → (T → Type 0) → Type 0
+Puts (Ok x) deep P = P x × (deep → ⊥)
+Puts (Err Device) deep P = Unit {0}
+Puts (Err (Damaged b)) deep P = ⊥
+Puts (Err Deep) deep P = deep
+Puts (Err Memory) deep P = ⊥
+
+-- what a Remove answers on a tree: None, where the key is absent; else a root with P; or that the device failed
+abbrev pub Removes : {T : Type 0} → Result (Option T) TreeFault → Type 0 → (T → Type 0) → Type 0
+Removes (Ok None) absent P = absent
+Removes (Ok (Some x)) absent P = (absent → ⊥) × P x
+Removes (Err e) absent P = e ≡ Device

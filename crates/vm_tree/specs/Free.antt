@@ -1,0 +1,13 @@
+-- Blocks that may be written.
+use Rattle.std.specs.Prelude.{◌≡◌, ℕ, ◌<◌, ◌≤◌, Bool, not, List, length}
+use Rattle.vm_alloc.specs.Held.{is_held, IsHeld}
+
+-- is this block free?
+abbrev pub is_free : List Bool → ℕ → Bool
+is_free held n = not (is_held held n)
+
+-- a block for data, which is held now
+pub record IsTaken (held : List Bool) (n : ℕ) : Type 0 where
+  pub above : 34 ≤ n
+  pub inside : n < length held
+  pub held_now : IsHeld held n

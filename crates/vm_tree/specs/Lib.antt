@@ -1,0 +1,6 @@
+pub mod Free
+pub mod Making
+pub mod Removing
+pub mod Root
+pub mod Answers
+pub mod Reading

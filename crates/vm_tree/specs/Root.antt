@@ -1,0 +1,44 @@
+-- Roots, and what map lies under one.
+use Rattle.std.specs.Prelude.{◌≡◌, ◌⊎◌, ℕ, ◌<◌, ◌≤◌, List, []}
+use Rattle.std.specs.List.{AllByRecursion}
+use Rattle.vm_types.specs.Map.{Map}
+use Rattle.vm_types.specs.Places.{RisesFrom, places}
+use Rattle.vm_disk.specs.Disk.{Contents}
+use Rattle.vm_block.specs.Tree.{Sizes, Begins, Subtree}
+use Rattle.vm_tree.specs.declared.root.Root.{Root}
+
+-- trees with leaves of so many records, inner blocks of so many children, and so many levels
+abbrev pub sizes_of : ℕ → ℕ → ℕ → Sizes
+sizes_of leaf fan levels = record { leaf = leaf; fan = fan; levels = levels }
+
+-- sizes that trees may have
+pub record AreSizes (leaf fan levels : ℕ) : Type 0 where
+  pub leaf_least : 2 ≤ leaf
+  pub leaf_most : leaf ≤ 16
+  pub fan_least : 2 ≤ fan
+  pub fan_most : fan ≤ 256
+  pub levels_least : 1 ≤ levels
+  pub levels_most : levels ≤ 8
+
+-- the root is the top of a tree with this map, in these blocks: it tells the tree's level, and the lowest key in it
+pub record IsTop (sizes : Sizes) (x : Contents) (limit : ℕ) (root : Root) (m : Map) (bs : List ℕ) : Type 0 where
+  pub level : root.level < sizes.levels
+  pub subtree : Subtree sizes x limit root.level root.block m bs
+  pub rising : RisesFrom 0 (places m)
+  pub lowest : Begins root.low m
+
+-- the root has no block: the empty map
+pub record IsBare (root : Root) (m : Map) (bs : List ℕ) : Type 0 where
+  pub none : root.block ≡ 0
+  pub empty : m ≡ []
+  pub blocks : bs ≡ []
+
+-- under the root lies this map, in these blocks
+abbrev pub IsRooted : Sizes → Contents → ℕ → Root → Map → List ℕ → Type 0
+IsRooted sizes x limit root m bs = IsBare root m bs ⊎ IsTop sizes x limit root m bs
+
+-- under the root lies this map, in blocks that have P
+pub record Grown (sizes : Sizes) (P : ℕ → Type 0) (x : Contents) (limit : ℕ) (root : Root) (m : Map) : Type 0 where
+  pub stands_in : List ℕ
+  pub rooted : IsRooted sizes x limit root m stands_in
+  pub each : AllByRecursion P stands_in

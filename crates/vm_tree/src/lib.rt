@@ -1,0 +1,23 @@
+//! Maps in trees of blocks: a map is a root, and under it lie inner blocks, and leaves with the
+//! records. A change copies the blocks of one path, and leaves all others as they are.
+//!
+//! It stands on `vm_disk`, `vm_alloc` and `vm_block`. Its one promise: the new root has the map
+//! changed at one key, and at no moment has a block that was held other bytes than before.
+#![tactic(auto)]
+
+mod getting;
+mod putting;
+mod reading;
+mod removing;
+mod root;
+mod scanning;
+mod splicing;
+#[cfg(test)]
+mod tests;
+mod writing;
+
+pub use getting::get;
+pub use putting::put;
+pub use removing::remove;
+pub use root::{Root, TreeFault};
+pub use scanning::scan;

@@ -1,0 +1,257 @@
+//! A record more, or another value of a key.
+ghost use Rattle.std.specs.Prelude.{◌≡◌, ◌≢◌, ◌↔◌, ℕ, ◌+◌, ◌*◌, ◌<◌, ◌≤◌, ◌++◌, ◌∷◌, Bool, true, false, List, [], length, take, drop, IfOk, IfErr, MatchResult};
+ghost use Rattle.std.specs.List.{AllByRecursion};
+ghost use Rattle.vm_types.specs.Map.{Map, with_value};
+ghost use Rattle.vm_types.specs.Places.{KeyFits, RisesFrom, place, places, with_record};
+ghost use Rattle.vm_disk.specs.Disk.{Goes};
+ghost use Rattle.vm_disk.specs.Moments.{Throughout, Spares};
+ghost use Rattle.vm_alloc.specs.Held.{IsHeld, HoldsMore, free_count};
+ghost use Rattle.vm_block.specs.Leaf.{Record, RecordFits};
+ghost use Rattle.vm_block.specs.Tree.{Sizes, Subtree};
+ghost use Rattle.vm_tree.specs.Answers.{LacksRoom, OkOrDevice, Puts};
+ghost use Rattle.vm_tree.specs.Free.{is_free, IsTaken};
+ghost use Rattle.vm_tree.specs.Making.{Made, PutsBelow, Splits, children_of, is_split};
+ghost use Rattle.vm_tree.specs.Root.{AreSizes, Grown, IsRooted, sizes_of};
+
+use crate::reading::{choose, leaf_at, node_at};
+use crate::root::{Root, TreeFault, root_at};
+use crate::splicing::{push_all, spliced};
+use crate::writing::{Copied, write_leaf_block, write_leaves, write_node_block, write_nodes};
+use arrayvec::ArrayVec;
+use vm_alloc::Held;
+use vm_block::Child;
+use vm_disk::Disk;
+use vm_types::{Key, Value};
+
+/// Where a key stands among rising records: Ok with the index of its record, or else Err with the
+/// index at which its record would go.
+fn position(records: &[(Key, Value)], key: Key) -> Result<usize, usize>
+    ensures within { MatchResult result (λ i. i < length records.now) (λ i. i ≤ length records.now) }
+    ensures same { (value : List ℕ) → IfOk result (λ i. with_record (key, value) records.now ≡ take i records.now ++ (key, value) ∷ drop (i + 1) records.now) }
+    ensures new { (value : List ℕ) → IfErr result (λ i. with_record (key, value) records.now ≡ take i records.now ++ (key, value) ∷ drop i records.now) }
+    ensures fits { KeyFits key }
+{
+    let place = key.place();
+    for (i, (other, _)) in records.iter().enumerate() {
+        if other.place() == place {
+            return Ok(i);
+        }
+        if other.place() > place {
+            return Err(i);
+        }
+    }
+    Err(records.len())
+}
+
+/// The records with this one, which takes the place of one of the same key.
+fn with_record(records: &[(Key, Value)], key: Key, value: &Value) -> ArrayVec<(Key, Value), 17>
+    requires { length records.now ≤ 16 }
+    ensures records { result.items ≡ with_record (key, value.now) records.now }
+    ensures fits { RecordFits (key, value.now) }
+{
+    let short = value.as_bytes().len() <= Value::MAX_LEN;
+    prove!(short);
+    let (at, rest) = match position(records, key) {
+        Ok(i) => (i, i + 1),
+        Err(i) => (i, i),
+    };
+    let mut changed = ArrayVec::new();
+    push_all(&records[..at], &mut changed);
+    changed.push((key, *value));
+    push_all(&records[rest..], &mut changed);
+    changed
+}
+
+/// The children with the one at i replaced by what its block was written anew as.
+fn replaced(children: &[Child], i: usize, copied: Copied) -> ArrayVec<Child, 257>
+    requires few { length children.now ≤ 256 }
+    requires within { i < length children.now }
+    ensures { result.items ≡ take i children.now ++ (children_of copied ++ drop (i + 1) children.now) }
+{
+    match copied {
+        Copied::One(child) => spliced(children, i, &[child]),
+        Copied::Two(left, right) => spliced(children, i, &[left, right]),
+    }
+}
+
+/// Gives the key this value in a leaf. Where it would split, `room` tells whether it may.
+fn put_in_leaf<D: Disk, const LEAF: usize>(
+    disk: &mut D,
+    held: &mut Held,
+    block: u32,
+    room: bool,
+    key: Key,
+    value: &Value,
+) -> Result<Copied, TreeFault>
+    requires inside { length held.old ≤ (D.state disk.old).blocks }
+    requires least { 2 ≤ LEAF }
+    requires most { LEAF ≤ 16 }
+    requires free { 2 ≤ free_count held.old }
+    ensures any { Goes (result ≡ Err TreeFault.Device) (D.state disk.old) (D.state disk.new) }
+    ensures memory { result ≢ Err TreeFault.Memory }
+    ensures device { IfOk result (λ copied. AllByRecursion (λ child. IsTaken held.new child.block) (children_of copied)) }
+    ensures split { IfOk result (λ copied. is_split copied ≡ true → room ≡ true) }
+    ensures deep { result ≡ Err TreeFault.Deep → (room ≡ false) × (held.new ≡ held.old) }
+    ensures still { HoldsMore held.old held.new }
+    ensures one { room ≡ false → free_count held.old ≤ free_count held.new + 1 }
+    ensures taken { free_count held.old ≤ free_count held.new + 2 }
+    ensures moments { (D.state disk.old).honest ≡ true
+        → Throughout (D.state disk.old) (D.state disk.new) (Spares (is_free held.old) (D.state disk.old).now) }
+    ensures put { (D.state disk.old).honest ≡ true → (fan levels : ℕ) (rs : List Record) (bs : List ℕ)
+        → Subtree (sizes_of LEAF fan levels) (D.state disk.old).now.contents (length held.old) 0 block rs bs → RisesFrom 0 (places rs)
+        → PutsBelow result (Splits (sizes_of LEAF fan levels) (D.state disk.old).now.contents (place key) 0 block rs)
+        (λ cs. Made (IsHeld held.new) (sizes_of LEAF fan levels) (D.state disk.new).now.contents (length held.old) 0 cs (with_record (key, value.now) rs)) }
+{
+    match leaf_at::<D, LEAF>(disk, held.blocks(), block) {
+        Ok(records) => {
+            let records = with_record(records.as_slice(), key, value);
+            if records.len() > LEAF && !room {
+                return Err(TreeFault::Deep);
+            }
+            write_leaves::<D, LEAF>(disk, held, records.as_slice())
+        }
+        Err(fault) => Err(fault),
+    }
+}
+
+/// Gives the key this value under a block of this level. Where it would split, `room` tells whether
+/// it may: some block above has room for one child more, or the tree for a level.
+fn put_below<D: Disk, const LEAF: usize, const FAN: usize>(
+    disk: &mut D,
+    held: &mut Held,
+    level: u8,
+    block: u32,
+    room: bool,
+    key: Key,
+    value: &Value,
+) -> Result<Copied, TreeFault>
+    requires inside { length held.old ≤ (D.state disk.old).blocks }
+    requires leaf_least { 2 ≤ LEAF }
+    requires leaf_most { LEAF ≤ 16 }
+    requires fan_least { 2 ≤ FAN }
+    requires fan_most { FAN ≤ 256 }
+    requires low { level ≤ 7 }
+    requires free { 2 * level + 2 ≤ free_count held.old }
+    ensures any { Goes (result ≡ Err TreeFault.Device) (D.state disk.old) (D.state disk.new) }
+    ensures memory { result ≢ Err TreeFault.Memory }
+    ensures fits { KeyFits key }
+    ensures device { IfOk result (λ copied. AllByRecursion (λ child. IsTaken held.new child.block) (children_of copied)) }
+    ensures split { IfOk result (λ copied. is_split copied ≡ true → room ≡ true) }
+    ensures deep { result ≡ Err TreeFault.Deep → (room ≡ false) × (held.new ≡ held.old) }
+    ensures still { HoldsMore held.old held.new }
+    ensures one { room ≡ false → free_count held.old ≤ free_count held.new + (2 * level + 1) }
+    ensures taken { free_count held.old ≤ free_count held.new + (2 * level + 2) }
+    ensures moments { (D.state disk.old).honest ≡ true
+        → Throughout (D.state disk.old) (D.state disk.new) (Spares (is_free held.old) (D.state disk.old).now) }
+    ensures put { (D.state disk.old).honest ≡ true → (levels : ℕ) (rs : List Record) (bs : List ℕ)
+        → Subtree (sizes_of LEAF FAN levels) (D.state disk.old).now.contents (length held.old) level block rs bs → RisesFrom 0 (places rs)
+        → PutsBelow result (Splits (sizes_of LEAF FAN levels) (D.state disk.old).now.contents (place key) level block rs)
+        (λ cs. AllByRecursion (IsHeld held.old) bs → Made (IsHeld held.new) (sizes_of LEAF FAN levels) (D.state disk.new).now.contents (length held.old) level cs (with_record (key, value.now) rs)) }
+{
+    let place = key.place();
+    if level == 0 {
+        return put_in_leaf::<D, LEAF>(disk, held, block, room, key, value);
+    }
+    match node_at::<D, FAN>(disk, held.blocks(), level, block) {
+        Ok(children) => {
+            let children = children.as_slice();
+            let i = choose(children, place);
+            let room = room || children.len() < FAN;
+            match put_below::<D, LEAF, FAN>(
+                disk,
+                held,
+                level - 1,
+                children[i].block,
+                room,
+                key,
+                value,
+            ) {
+                Ok(copied) => {
+                    let children = replaced(children, i, copied);
+                    write_nodes::<D, FAN>(disk, held, level, children.as_slice())
+                }
+                Err(fault) => Err(fault),
+            }
+        }
+        Err(fault) => Err(fault),
+    }
+}
+
+/// Gives the key this value in the empty map: writes its one leaf.
+fn put_first<D: Disk>(
+    disk: &mut D,
+    held: &mut Held,
+    key: Key,
+    value: &Value,
+) -> Result<Root, TreeFault>
+    requires inside { length held.old ≤ (D.state disk.old).blocks }
+    requires room { 16 ≤ free_count held.old }
+    ensures any { Goes (result ≡ Err TreeFault.Device) (D.state disk.old) (D.state disk.new) }
+    ensures device { OkOrDevice result (λ r. IsTaken held.new r.block × (r.level ≡ 0)) }
+    ensures still { HoldsMore held.old held.new }
+    ensures taken { free_count held.old ≤ free_count held.new + 1 }
+    ensures moments { (D.state disk.old).honest ≡ true
+        → Throughout (D.state disk.old) (D.state disk.new) (Spares (is_free held.old) (D.state disk.old).now) }
+    ensures put { (D.state disk.old).honest ≡ true → (sizes : Sizes) → 0 < sizes.leaf → 0 < sizes.levels
+        → IfOk result (λ r. Grown sizes (IsHeld held.new) (D.state disk.new).now.contents (length held.old) r ((key, value.now) ∷ [])) }
+{
+    let record = with_record(&[], key, value);
+    match write_leaf_block(disk, held, record.as_slice()) {
+        Ok(leaf) => Ok(root_at(leaf, 0)),
+        Err(fault) => Err(fault),
+    }
+}
+
+/// Gives the key this value: writes its path anew, in blocks that were free, and returns the new
+/// root. The caller owes 16 free blocks.
+pub fn put<D: Disk, const LEAF: usize, const FAN: usize, const LEVELS: usize>(
+    disk: &mut D,
+    held: &mut Held,
+    root: Root,
+    key: Key,
+    value: &Value,
+) -> Result<Root, TreeFault>
+    requires sizes { AreSizes LEAF FAN LEVELS }
+    requires inside { length held.old ≤ (D.state disk.old).blocks }
+    requires room { 16 ≤ free_count held.old }
+    ensures any { Goes (result ≡ Err TreeFault.Device) (D.state disk.old) (D.state disk.new) }
+    ensures memory { result ≢ Err TreeFault.Memory }
+
+    // The root is that of a block for data, which is held now.
+    ensures root { IfOk result (λ r. IsTaken held.new r.block × (r.level < LEVELS)) }
+
+    // What is held stays held, and no more than 15 blocks are taken; none of them where the tree has no room.
+    ensures still { HoldsMore held.old held.new }
+    ensures taken { free_count held.old ≤ free_count held.new + 15 }
+    ensures deep { result ≡ Err TreeFault.Deep → held.new ≡ held.old }
+
+    // At no moment has a block that was held other bytes than before.
+    ensures moments { (D.state disk.old).honest ≡ true
+        → Throughout (D.state disk.old) (D.state disk.new) (Spares (is_free held.old) (D.state disk.old).now) }
+
+    // On a tree the answer is a root, or Deep just where there is no room, unless the device fails; and where the
+    // blocks of the tree are held, the root has the map with the value.
+    ensures put { (D.state disk.old).honest ≡ true → (m : Map) (bs : List ℕ)
+        → IsRooted (sizes_of LEAF FAN LEVELS) (D.state disk.old).now.contents (length held.old) root m bs
+        → Puts result (LacksRoom (sizes_of LEAF FAN LEVELS) (D.state disk.old).now.contents root m key)
+        (λ r. AllByRecursion (IsHeld held.old) bs → Grown (sizes_of LEAF FAN LEVELS) (IsHeld held.new) (D.state disk.new).now.contents (length held.old) r (with_value m key value.now)) }
+{
+    if root.block == 0 {
+        return put_first(disk, held, key, value);
+    }
+    let level = root.level;
+    if usize::from(level) >= LEVELS {
+        return Err(TreeFault::Damaged(root.block));
+    }
+    let room = usize::from(level) + 1 < LEVELS;
+    match put_below::<D, LEAF, FAN>(disk, held, level, root.block, room, key, value) {
+        Ok(Copied::One(top)) => Ok(root_at(top, level)),
+        Ok(Copied::Two(left, right)) => {
+            match write_node_block(disk, held, level + 1, &[left, right]) {
+                Ok(top) => Ok(root_at(top, level + 1)),
+                Err(fault) => Err(fault),
+            }
+        }
+        Err(fault) => Err(fault),
+    }
+}

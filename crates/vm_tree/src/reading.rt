@@ -1,0 +1,100 @@
+//! Blocks of a tree, read from a disk, and the way down to a key.
+ghost use Rattle.std.specs.Prelude.{◌≡◌, ◌≢◌, ◌↔◌, ℕ, ◌<◌, ◌≤◌, true, List, length, IsTrue, IfOk};
+ghost use Rattle.vm_disk.specs.Disk.{Goes};
+ghost use Rattle.vm_disk.specs.Moments.{OnlyReads};
+ghost use Rattle.vm_block.specs.Leaf.{Record};
+ghost use Rattle.vm_block.specs.Node.{lows};
+ghost use Rattle.vm_block.specs.FullPath.{IsChosen};
+ghost use Rattle.vm_block.specs.Tree.{IsData};
+ghost use Rattle.vm_block.specs.declared.node.Child.{Child};
+ghost use Rattle.vm_tree.specs.Answers.{OkOrDevice};
+ghost use Rattle.vm_tree.specs.Reading.{IsLeafAt, IsNodeAt};
+
+use crate::root::TreeFault;
+use arrayvec::ArrayVec;
+use vm_alloc::FIRST_DATA;
+use vm_block::{Child, read_leaf, read_node};
+use vm_disk::Disk;
+use vm_types::{Key, Value};
+
+/// Whether the block is for data, in a store of so many blocks.
+fn is_data(blocks: u32, block: u32) -> bool
+    ensures { IsTrue result ↔ IsData blocks block }
+{
+    (FIRST_DATA..blocks).contains(&block)
+}
+
+/// The records of a leaf, which are MOST at most.
+pub(crate) fn leaf_at<D: Disk, const MOST: usize>(
+    disk: &mut D,
+    blocks: u32,
+    block: u32,
+) -> Result<ArrayVec<(Key, Value), 16>, TreeFault>
+    requires { blocks ≤ (D.state disk.old).blocks }
+    ensures any { Goes (result ≡ Err TreeFault.Device) (D.state disk.old) (D.state disk.new) }
+    ensures deep { result ≢ Err TreeFault.Deep }
+    ensures memory { result ≢ Err TreeFault.Memory }
+    ensures count { IfOk result (λ records. (0 < length records.items) × (length records.items ≤ MOST)) }
+    ensures reads { (D.state disk.old).honest ≡ true → OnlyReads (D.state disk.old) (D.state disk.new) }
+    ensures found { (D.state disk.old).honest ≡ true → IfOk result (λ records. IsLeafAt (D.state disk.old).now.contents blocks block records.items) }
+    ensures only { (D.state disk.old).honest ≡ true → (rs : List Record) → IsLeafAt (D.state disk.old).now.contents blocks block rs → length rs ≤ MOST
+        → OkOrDevice result (λ records. records.items ≡ rs) }
+{
+    if !is_data(blocks, block) {
+        return Err(TreeFault::Damaged(block));
+    }
+    let mut bytes = [0; 4096];
+    match disk.read(block, &mut bytes) {
+        Ok(()) => match read_leaf(&bytes) {
+            Some(records) if records.len() <= MOST => Ok(records),
+            _ => Err(TreeFault::Damaged(block)),
+        },
+        Err(_) => Err(TreeFault::Device),
+    }
+}
+
+/// The children of an inner block of this level, which are MOST at most.
+pub(crate) fn node_at<D: Disk, const MOST: usize>(
+    disk: &mut D,
+    blocks: u32,
+    level: u8,
+    block: u32,
+) -> Result<ArrayVec<Child, 256>, TreeFault>
+    requires { blocks ≤ (D.state disk.old).blocks }
+    ensures any { Goes (result ≡ Err TreeFault.Device) (D.state disk.old) (D.state disk.new) }
+    ensures deep { result ≢ Err TreeFault.Deep }
+    ensures memory { result ≢ Err TreeFault.Memory }
+    ensures count { IfOk result (λ children. (0 < length children.items) × (length children.items ≤ MOST)) }
+    ensures low { IfOk result (λ children. level ≤ 7) }
+    ensures reads { (D.state disk.old).honest ≡ true → OnlyReads (D.state disk.old) (D.state disk.new) }
+    ensures found { (D.state disk.old).honest ≡ true → IfOk result (λ children. IsNodeAt (D.state disk.old).now.contents blocks level block children.items) }
+    ensures only { (D.state disk.old).honest ≡ true → (cs : List Child) → IsNodeAt (D.state disk.old).now.contents blocks level block cs → length cs ≤ MOST
+        → OkOrDevice result (λ children. children.items ≡ cs) }
+{
+    if !is_data(blocks, block) {
+        return Err(TreeFault::Damaged(block));
+    }
+    let mut bytes = [0; 4096];
+    match disk.read(block, &mut bytes) {
+        Ok(()) => match read_node(&bytes) {
+            Some(node) if node.level == level && node.children.len() <= MOST => Ok(node.children),
+            _ => Err(TreeFault::Damaged(block)),
+        },
+        Err(_) => Err(TreeFault::Device),
+    }
+}
+
+/// Which child a descent to a key at this place takes: the last whose lowest key is not above it,
+/// or else the first.
+pub(crate) fn choose(children: &[Child], place: u128) -> usize
+    requires { 0 < length children.now }
+    ensures chosen { IsChosen (lows children.now) place result }
+    ensures within { result < length children.now }
+{
+    for i in 1..children.len() {
+        if children[i].low.place() > place {
+            return i - 1;
+        }
+    }
+    children.len() - 1
+}

@@ -1,0 +1,303 @@
+//! A record less.
+ghost use Rattle.std.specs.Prelude.{◌≡◌, ◌≢◌, ◌↔◌, ℕ, ◌+◌, ◌-◌, ◌<◌, ◌≤◌, ◌++◌, ◌∷◌, Bool, true, false, List, [], None, Some, length, take, drop, IsTrue, IfOk, IfSome, IfNone};
+ghost use Rattle.std.specs.List.{AllByRecursion};
+ghost use Rattle.vm_types.specs.Map.{Map, get, without};
+ghost use Rattle.vm_types.specs.Places.{KeyFits, RisesFrom, place, places, value_at};
+ghost use Rattle.vm_disk.specs.Disk.{Goes};
+ghost use Rattle.vm_disk.specs.Moments.{Throughout, OnlyReads, Spares};
+ghost use Rattle.vm_alloc.specs.Held.{IsHeld, HoldsMore, free_count};
+ghost use Rattle.vm_block.specs.Leaf.{Record};
+ghost use Rattle.vm_block.specs.Tree.{Children, Subtree};
+ghost use Rattle.vm_tree.specs.Answers.{OkOrDevice, Removes};
+ghost use Rattle.vm_tree.specs.Free.{is_free, IsTaken};
+ghost use Rattle.vm_tree.specs.Making.{Made};
+ghost use Rattle.vm_tree.specs.Removing.{Narrows, RemovesBelow, Rests, child_of, level_of, without_place};
+ghost use Rattle.vm_tree.specs.Root.{AreSizes, Grown, IsRooted, sizes_of};
+
+use crate::reading::{choose, leaf_at, node_at};
+use crate::root::{Root, TreeFault, root_at};
+use crate::splicing::{push_all, spliced};
+use crate::writing::{write_leaf_block, write_node_block};
+use arrayvec::ArrayVec;
+use vm_alloc::Held;
+use vm_block::Child;
+use vm_disk::Disk;
+use vm_types::{Key, Value};
+
+/// What is left of a block without a record.
+#[derive(Clone, Copy, Debug)]
+enum Left {
+    /// The record was not there, and nothing was written.
+    Same,
+    /// No record is left, and no block was written for it.
+    Nothing,
+    /// The rest lies under this root.
+    Rest(Root),
+}
+
+/// The root as a child of a block above it.
+fn child_of(root: Root) -> Child
+    ensures { result ≡ child_of root }
+{
+    Child {
+        low: root.low,
+        block: root.block,
+    }
+}
+
+/// Where the record of the key at this place stands.
+fn index_of(records: &[(Key, Value)], place: u128) -> Option<usize>
+    ensures within { IfSome result (λ i. i < length records.now) }
+    ensures found { IfSome result (λ i. (value_at place records.now ≢ None) × (without_place place records.now ≡ take i records.now ++ drop (i + 1) records.now)) }
+    ensures absent { IfNone result (value_at place records.now ≡ None) }
+{
+    for (i, (key, _)) in records.iter().enumerate() {
+        if key.place() == place {
+            return Some(i);
+        }
+    }
+    None
+}
+
+/// The records without the one at i.
+fn without(records: &[(Key, Value)], i: usize) -> ArrayVec<(Key, Value), 16>
+    requires few { length records.now ≤ 16 }
+    requires within { i < length records.now }
+    ensures { result.items ≡ take i records.now ++ drop (i + 1) records.now }
+{
+    let mut rest = ArrayVec::new();
+    push_all(&records[..i], &mut rest);
+    push_all(&records[i + 1..], &mut rest);
+    rest
+}
+
+/// Takes the record of the key at this place out of a leaf.
+fn remove_from_leaf<D: Disk, const LEAF: usize>(
+    disk: &mut D,
+    held: &mut Held,
+    block: u32,
+    place: u128,
+) -> Result<Left, TreeFault>
+    requires inside { length held.old ≤ (D.state disk.old).blocks }
+    requires most { LEAF ≤ 16 }
+    requires free { 1 ≤ free_count held.old }
+    ensures any { Goes (result ≡ Err TreeFault.Device) (D.state disk.old) (D.state disk.new) }
+    ensures deep { result ≢ Err TreeFault.Deep }
+    ensures memory { result ≢ Err TreeFault.Memory }
+    ensures level { IfOk result (λ left. level_of left 0 ≡ 0) }
+    ensures still { HoldsMore held.old held.new }
+    ensures taken { free_count held.old ≤ free_count held.new + 1 }
+    ensures same { result ≡ Ok Left.Same → held.new ≡ held.old }
+    ensures reads { (D.state disk.old).honest ≡ true → result ≡ Ok Left.Same → OnlyReads (D.state disk.old) (D.state disk.new) }
+    ensures moments { (D.state disk.old).honest ≡ true
+        → Throughout (D.state disk.old) (D.state disk.new) (Spares (is_free held.old) (D.state disk.old).now) }
+    ensures remove { (D.state disk.old).honest ≡ true → (fan levels : ℕ) (rs : List Record) (bs : List ℕ)
+        → Subtree (sizes_of LEAF fan levels) (D.state disk.old).now.contents (length held.old) 0 block rs bs → RisesFrom 0 (places rs)
+        → RemovesBelow result place rs
+        (λ root. Made (IsHeld held.new) (sizes_of LEAF fan levels) (D.state disk.new).now.contents (length held.old) root.level (child_of root ∷ []) (without_place place rs)) }
+{
+    match leaf_at::<D, LEAF>(disk, held.blocks(), block) {
+        Ok(records) => {
+            let records = records.as_slice();
+            let Some(i) = index_of(records, place) else {
+                return Ok(Left::Same);
+            };
+            if records.len() == 1 {
+                return Ok(Left::Nothing);
+            }
+            match write_leaf_block(disk, held, without(records, i).as_slice()) {
+                Ok(leaf) => Ok(Left::Rest(root_at(leaf, 0))),
+                Err(fault) => Err(fault),
+            }
+        }
+        Err(fault) => Err(fault),
+    }
+}
+
+/// The first block from this one down that is a leaf or has more children than one.
+fn narrowed<D: Disk, const FAN: usize>(
+    disk: &mut D,
+    blocks: u32,
+    top: Child,
+    level: u8,
+) -> Result<Root, TreeFault>
+    requires { blocks ≤ (D.state disk.old).blocks }
+    ensures any { Goes (result ≡ Err TreeFault.Device) (D.state disk.old) (D.state disk.new) }
+    ensures deep { result ≢ Err TreeFault.Deep }
+    ensures memory { result ≢ Err TreeFault.Memory }
+    ensures level { IfOk result (λ root. root.level ≤ level) }
+    ensures reads { (D.state disk.old).honest ≡ true → OnlyReads (D.state disk.old) (D.state disk.new) }
+    ensures narrow { (D.state disk.old).honest ≡ true → (leaf levels : ℕ) (rs : List Record) (bs : List ℕ)
+        → Children (Subtree (sizes_of leaf FAN levels) (D.state disk.old).now.contents blocks level) (top ∷ []) rs bs
+        → OkOrDevice result (λ root. Narrows (sizes_of leaf FAN levels) (D.state disk.old).now.contents blocks top root rs bs) }
+{
+    if level == 0 {
+        return Ok(root_at(top, 0));
+    }
+    match node_at::<D, FAN>(disk, blocks, level, top.block) {
+        Ok(children) if children.len() == 1 => {
+            narrowed::<D, FAN>(disk, blocks, children.as_slice()[0], level - 1)
+        }
+        Ok(_) => Ok(root_at(top, level)),
+        Err(fault) => Err(fault),
+    }
+}
+
+/// Writes what is left of an inner block of this level: nothing, where no child is left. Where the
+/// block is the root and has one child left, that child takes its place.
+fn write_rest<D: Disk, const FAN: usize>(
+    disk: &mut D,
+    held: &mut Held,
+    level: u8,
+    is_root: bool,
+    children: &[Child],
+) -> Result<Left, TreeFault>
+    requires inside { length held.old ≤ (D.state disk.old).blocks }
+    requires above { 0 < level }
+    requires low { level ≤ 7 }
+    requires few { length children.now ≤ FAN }
+    requires most { FAN ≤ 256 }
+    requires free { 1 ≤ free_count held.old }
+    ensures any { Goes (result ≡ Err TreeFault.Device) (D.state disk.old) (D.state disk.new) }
+    ensures deep { result ≢ Err TreeFault.Deep }
+    ensures memory { result ≢ Err TreeFault.Memory }
+    ensures changed { result ≢ Ok Left.Same }
+    ensures level { IfOk result (λ left. level_of left level ≤ level) }
+    ensures same_level { is_root ≡ false → IfOk result (λ left. level_of left level ≡ level) }
+    ensures still { HoldsMore held.old held.new }
+    ensures taken { free_count held.old ≤ free_count held.new + 1 }
+    ensures moments { (D.state disk.old).honest ≡ true
+        → Throughout (D.state disk.old) (D.state disk.new) (Spares (is_free held.old) (D.state disk.old).now) }
+    ensures rest { (D.state disk.old).honest ≡ true → (leaf levels : ℕ) (rs : List Record) → RisesFrom 0 (places rs)
+        → Made (IsHeld held.old) (sizes_of leaf FAN levels) (D.state disk.old).now.contents (length held.old) (level - 1) children.now rs
+        → Rests result rs (λ root. Made (IsHeld held.new) (sizes_of leaf FAN levels) (D.state disk.new).now.contents (length held.old) root.level (child_of root ∷ []) rs) }
+{
+    if children.is_empty() {
+        return Ok(Left::Nothing);
+    }
+    if !is_root || children.len() > 1 {
+        return match write_node_block(disk, held, level, children) {
+            Ok(node) => Ok(Left::Rest(root_at(node, level))),
+            Err(fault) => Err(fault),
+        };
+    }
+    match narrowed::<D, FAN>(disk, held.blocks(), children[0], level - 1) {
+        Ok(root) => Ok(Left::Rest(root)),
+        Err(fault) => Err(fault),
+    }
+}
+
+/// Takes the record of the key at this place out of what lies under a block of this level. A root
+/// that would have one child is not written.
+fn remove_below<D: Disk, const LEAF: usize, const FAN: usize>(
+    disk: &mut D,
+    held: &mut Held,
+    level: u8,
+    block: u32,
+    is_root: bool,
+    place: u128,
+) -> Result<Left, TreeFault>
+    requires inside { length held.old ≤ (D.state disk.old).blocks }
+    requires leaf_most { LEAF ≤ 16 }
+    requires fan_most { FAN ≤ 256 }
+    requires low { level ≤ 7 }
+    requires free { level + 1 ≤ free_count held.old }
+    ensures any { Goes (result ≡ Err TreeFault.Device) (D.state disk.old) (D.state disk.new) }
+    ensures deep { result ≢ Err TreeFault.Deep }
+    ensures memory { result ≢ Err TreeFault.Memory }
+    ensures level { IfOk result (λ left. level_of left level ≤ level) }
+    ensures same_level { is_root ≡ false → IfOk result (λ left. level_of left level ≡ level) }
+    ensures still { HoldsMore held.old held.new }
+    ensures taken { free_count held.old ≤ free_count held.new + (level + 1) }
+    ensures same { result ≡ Ok Left.Same → held.new ≡ held.old }
+    ensures reads { (D.state disk.old).honest ≡ true → result ≡ Ok Left.Same → OnlyReads (D.state disk.old) (D.state disk.new) }
+    ensures moments { (D.state disk.old).honest ≡ true
+        → Throughout (D.state disk.old) (D.state disk.new) (Spares (is_free held.old) (D.state disk.old).now) }
+    ensures remove { (D.state disk.old).honest ≡ true → (levels : ℕ) (rs : List Record) (bs : List ℕ)
+        → Subtree (sizes_of LEAF FAN levels) (D.state disk.old).now.contents (length held.old) level block rs bs → RisesFrom 0 (places rs) → AllByRecursion (IsHeld held.old) bs
+        → RemovesBelow result place rs
+        (λ root. Made (IsHeld held.new) (sizes_of LEAF FAN levels) (D.state disk.new).now.contents (length held.old) root.level (child_of root ∷ []) (without_place place rs)) }
+{
+    if level == 0 {
+        return remove_from_leaf::<D, LEAF>(disk, held, block, place);
+    }
+    match node_at::<D, FAN>(disk, held.blocks(), level, block) {
+        Ok(children) => {
+            let children = children.as_slice();
+            let i = choose(children, place);
+            let alone = is_root && children.len() == 1;
+            match remove_below::<D, LEAF, FAN>(
+                disk,
+                held,
+                level - 1,
+                children[i].block,
+                alone,
+                place,
+            ) {
+                Ok(Left::Same) => Ok(Left::Same),
+                Ok(Left::Nothing) => {
+                    let rest = spliced(children, i, &[]);
+                    write_rest::<D, FAN>(disk, held, level, is_root, rest.as_slice())
+                }
+                Ok(Left::Rest(root)) => {
+                    if alone {
+                        return Ok(Left::Rest(root));
+                    }
+                    let rest = spliced(children, i, &[child_of(root)]);
+                    write_rest::<D, FAN>(disk, held, level, is_root, rest.as_slice())
+                }
+                Err(fault) => Err(fault),
+            }
+        }
+        Err(fault) => Err(fault),
+    }
+}
+
+/// Takes the record of a key out: writes its path anew, in blocks that were free, and returns the
+/// new root; or None where the key is absent. The caller owes 16 free blocks.
+pub fn remove<D: Disk, const LEAF: usize, const FAN: usize, const LEVELS: usize>(
+    disk: &mut D,
+    held: &mut Held,
+    root: Root,
+    key: Key,
+) -> Result<Option<Root>, TreeFault>
+    requires sizes { AreSizes LEAF FAN LEVELS }
+    requires inside { length held.old ≤ (D.state disk.old).blocks }
+    requires room { 16 ≤ free_count held.old }
+    ensures any { Goes (result ≡ Err TreeFault.Device) (D.state disk.old) (D.state disk.new) }
+    ensures deep { result ≢ Err TreeFault.Deep }
+    ensures memory { result ≢ Err TreeFault.Memory }
+    ensures level { IfOk result (λ rest. IfSome rest (λ r. r.level < LEVELS)) }
+
+    // What is held stays held, and no more than 8 blocks are taken.
+    ensures still { HoldsMore held.old held.new }
+    ensures taken { free_count held.old ≤ free_count held.new + 8 }
+
+    // Where the answer is None, nothing was written or taken.
+    ensures kept { result ≡ Ok None → held.new ≡ held.old }
+    ensures reads { (D.state disk.old).honest ≡ true → result ≡ Ok None → OnlyReads (D.state disk.old) (D.state disk.new) }
+
+    // At no moment has a block that was held other bytes than before.
+    ensures moments { (D.state disk.old).honest ≡ true
+        → Throughout (D.state disk.old) (D.state disk.new) (Spares (is_free held.old) (D.state disk.old).now) }
+
+    // On a tree in held blocks the answer is None just where the key is absent, and else a root that has the map
+    // without the key, unless the device fails.
+    ensures remove { (D.state disk.old).honest ≡ true → (m : Map)
+        → Grown (sizes_of LEAF FAN LEVELS) (IsHeld held.old) (D.state disk.old).now.contents (length held.old) root m
+        → Removes result (get m key ≡ None)
+        (λ r. Grown (sizes_of LEAF FAN LEVELS) (IsHeld held.new) (D.state disk.new).now.contents (length held.old) r (without m key)) }
+{
+    if root.block == 0 {
+        return Ok(None);
+    }
+    if usize::from(root.level) >= LEVELS {
+        return Err(TreeFault::Damaged(root.block));
+    }
+    match remove_below::<D, LEAF, FAN>(disk, held, root.level, root.block, true, key.place()) {
+        Ok(Left::Same) => Ok(None),
+        Ok(Left::Nothing) => Ok(Some(Root::default())),
+        Ok(Left::Rest(root)) => Ok(Some(root)),
+        Err(fault) => Err(fault),
+    }
+}

@@ -1,0 +1,38 @@
+//! Where a map stands, and what a call on it answers where it gives no map.
+ghost use Rattle.std.specs.Prelude.{◌≡◌};
+
+use vm_block::Child;
+use vm_types::Key;
+
+/// The top of a tree: its block, its level above the leaves, and the lowest key under it.
+/// Block 0 is the empty map.
+#[derive(Clone, Copy, Debug, Default, PartialEq, Eq)]
+pub struct Root {
+    pub block: u32,
+    pub level: u8,
+    pub low: Key,
+}
+
+/// Why a call on a tree gave no answer.
+#[derive(Clone, Copy, Debug, PartialEq, Eq)]
+pub enum TreeFault {
+    /// The device failed in this call.
+    Device,
+    /// This block is not what a tree has there.
+    Damaged(u32),
+    /// The tree has no room for one more record where it belongs.
+    Deep,
+    /// No memory was found for the records of a tree.
+    Memory,
+}
+
+/// The root that is the top of a subtree of this level.
+pub(crate) fn root_at(top: Child, level: u8) -> Root
+    ensures { result ≡ record { block = top.block; level = level; low = top.low } }
+{
+    Root {
+        block: top.block,
+        level,
+        low: top.low,
+    }
+}

@@ -1,0 +1,193 @@
+//! Blocks of a tree, written anew in blocks that were free.
+ghost use Rattle.std.specs.Prelude.{◌≡◌, ◌≢◌, ◌↔◌, ℕ, ◌+◌, ◌-◌, ◌<◌, ◌≤◌, true, false, List, [], ◌∷◌, length, IfOk, OnOk};
+ghost use Rattle.std.specs.List.{AllByRecursion};
+ghost use Rattle.vm_types.specs.Places.{RisesFrom, places};
+ghost use Rattle.vm_disk.specs.Disk.{Goes, block};
+ghost use Rattle.vm_disk.specs.Moments.{Throughout, Spares};
+ghost use Rattle.vm_alloc.specs.Held.{IsHeld, HoldsMore, free_count};
+ghost use Rattle.vm_block.specs.Leaf.{Record, RecordFits};
+ghost use Rattle.vm_block.specs.Tree.{Sizes};
+ghost use Rattle.vm_tree.specs.Answers.{OkOrDevice};
+ghost use Rattle.vm_tree.specs.Free.{is_free, IsTaken};
+ghost use Rattle.vm_tree.specs.Making.{Made, children_of, is_split};
+
+use crate::root::TreeFault;
+use vm_alloc::Held;
+use vm_block::{Child, write_leaf, write_node};
+use vm_disk::Disk;
+use vm_types::{Key, Value};
+
+/// What a block was written anew as: one block, or two where it was split.
+#[derive(Clone, Copy, Debug)]
+pub(crate) enum Copied {
+    One(Child),
+    Two(Child, Child),
+}
+
+/// Takes the lowest free block and writes it.
+fn write_free<D: Disk>(disk: &mut D, held: &mut Held, bytes: &[u8; 4096]) -> Result<u32, TreeFault>
+    requires inside { length held.old ≤ (D.state disk.old).blocks }
+    requires room { 0 < free_count held.old }
+    ensures any { Goes (result ≡ Err TreeFault.Device) (D.state disk.old) (D.state disk.new) }
+    ensures device { OkOrDevice result (IsTaken held.new) }
+    ensures still { HoldsMore held.old held.new }
+    ensures taken { free_count held.old ≤ free_count held.new + 1 }
+    ensures moments { (D.state disk.old).honest ≡ true
+        → Throughout (D.state disk.old) (D.state disk.new) (Spares (is_free held.old) (D.state disk.old).now) }
+    ensures written { (D.state disk.old).honest ≡ true → IfOk result (λ n. block (D.state disk.new).now.contents n ≡ bytes.now) }
+{
+    let free = held.free_count();
+    prove!(free > 0);
+    let Some(block) = held.take() else {
+        unreachable!()
+    };
+    match disk.write(block, bytes) {
+        Ok(()) => Ok(block),
+        Err(_) => Err(TreeFault::Device),
+    }
+}
+
+/// Writes the leaf of these records.
+pub(crate) fn write_leaf_block<D: Disk>(
+    disk: &mut D,
+    held: &mut Held,
+    records: &[(Key, Value)],
+) -> Result<Child, TreeFault>
+    requires inside { length held.old ≤ (D.state disk.old).blocks }
+    requires room { 0 < free_count held.old }
+    requires some { 0 < length records.now }
+    requires few { length records.now ≤ 16 }
+    ensures any { Goes (result ≡ Err TreeFault.Device) (D.state disk.old) (D.state disk.new) }
+    ensures device { OkOrDevice result (λ child. IsTaken held.new child.block) }
+    ensures still { HoldsMore held.old held.new }
+    ensures taken { free_count held.old ≤ free_count held.new + 1 }
+    ensures moments { (D.state disk.old).honest ≡ true
+        → Throughout (D.state disk.old) (D.state disk.new) (Spares (is_free held.old) (D.state disk.old).now) }
+    ensures made { (D.state disk.old).honest ≡ true → (sizes : Sizes) → length records.now ≤ sizes.leaf
+        → RisesFrom 0 (places records.now) → AllByRecursion RecordFits records.now
+        → IfOk result (λ child. Made (IsHeld held.new) sizes (D.state disk.new).now.contents (length held.old) 0 (child ∷ []) records.now) }
+{
+    let mut bytes = [0; 4096];
+    write_leaf(records, &mut bytes);
+    match write_free(disk, held, &bytes) {
+        Ok(block) => Ok(Child {
+            low: records[0].0,
+            block,
+        }),
+        Err(fault) => Err(fault),
+    }
+}
+
+/// Writes the inner block of this level and these children.
+pub(crate) fn write_node_block<D: Disk>(
+    disk: &mut D,
+    held: &mut Held,
+    level: u8,
+    children: &[Child],
+) -> Result<Child, TreeFault>
+    requires inside { length held.old ≤ (D.state disk.old).blocks }
+    requires room { 0 < free_count held.old }
+    requires some { 0 < length children.now }
+    requires few { length children.now ≤ 256 }
+    ensures any { Goes (result ≡ Err TreeFault.Device) (D.state disk.old) (D.state disk.new) }
+    ensures device { OkOrDevice result (λ child. IsTaken held.new child.block) }
+    ensures still { HoldsMore held.old held.new }
+    ensures taken { free_count held.old ≤ free_count held.new + 1 }
+    ensures moments { (D.state disk.old).honest ≡ true
+        → Throughout (D.state disk.old) (D.state disk.new) (Spares (is_free held.old) (D.state disk.old).now) }
+    ensures made { (D.state disk.old).honest ≡ true → (sizes : Sizes) (rs : List Record) → 0 < level → level ≤ 7 → length children.now ≤ sizes.fan
+        → RisesFrom 0 (places rs) → Made (IsHeld held.old) sizes (D.state disk.old).now.contents (length held.old) (level - 1) children.now rs
+        → IfOk result (λ child. Made (IsHeld held.new) sizes (D.state disk.new).now.contents (length held.old) level (child ∷ []) rs) }
+{
+    let mut bytes = [0; 4096];
+    write_node(level, children, &mut bytes);
+    match write_free(disk, held, &bytes) {
+        Ok(block) => Ok(Child {
+            low: children[0].low,
+            block,
+        }),
+        Err(fault) => Err(fault),
+    }
+}
+
+/// Writes one leaf or, where there are more than LEAF records, two: the left one gets the odd record.
+pub(crate) fn write_leaves<D: Disk, const LEAF: usize>(
+    disk: &mut D,
+    held: &mut Held,
+    records: &[(Key, Value)],
+) -> Result<Copied, TreeFault>
+    requires inside { length held.old ≤ (D.state disk.old).blocks }
+    requires least { 2 ≤ LEAF }
+    requires most { LEAF ≤ 16 }
+    requires some { 0 < length records.now }
+    requires few { length records.now ≤ LEAF + 1 }
+    requires room { 2 ≤ free_count held.old }
+    ensures any { Goes (result ≡ Err TreeFault.Device) (D.state disk.old) (D.state disk.new) }
+    ensures device { OkOrDevice result (λ copied. AllByRecursion (λ child. IsTaken held.new child.block) (children_of copied)) }
+    ensures split { IfOk result (λ copied. (is_split copied ≡ true) ↔ (LEAF < length records.now)) }
+    ensures still { HoldsMore held.old held.new }
+    ensures one { length records.now ≤ LEAF → free_count held.old ≤ free_count held.new + 1 }
+    ensures taken { free_count held.old ≤ free_count held.new + 2 }
+    ensures moments { (D.state disk.old).honest ≡ true
+        → Throughout (D.state disk.old) (D.state disk.new) (Spares (is_free held.old) (D.state disk.old).now) }
+    ensures made { (D.state disk.old).honest ≡ true → (sizes : Sizes) → LEAF ≤ sizes.leaf
+        → RisesFrom 0 (places records.now) → AllByRecursion RecordFits records.now
+        → IfOk result (λ copied. Made (IsHeld held.new) sizes (D.state disk.new).now.contents (length held.old) 0 (children_of copied) records.now) }
+{
+    if records.len() <= LEAF {
+        return match write_leaf_block(disk, held, records) {
+            Ok(leaf) => Ok(Copied::One(leaf)),
+            Err(fault) => Err(fault),
+        };
+    }
+    let half = records.len().div_ceil(2);
+    match write_leaf_block(disk, held, &records[..half]) {
+        Ok(left) => match write_leaf_block(disk, held, &records[half..]) {
+            Ok(right) => Ok(Copied::Two(left, right)),
+            Err(fault) => Err(fault),
+        },
+        Err(fault) => Err(fault),
+    }
+}
+
+/// Writes one inner block or, where there are more than FAN children, two: the left one gets the
+/// odd child.
+pub(crate) fn write_nodes<D: Disk, const FAN: usize>(
+    disk: &mut D,
+    held: &mut Held,
+    level: u8,
+    children: &[Child],
+) -> Result<Copied, TreeFault>
+    requires inside { length held.old ≤ (D.state disk.old).blocks }
+    requires least { 2 ≤ FAN }
+    requires most { FAN ≤ 256 }
+    requires some { 0 < length children.now }
+    requires few { length children.now ≤ FAN + 1 }
+    requires room { 2 ≤ free_count held.old }
+    ensures any { Goes (result ≡ Err TreeFault.Device) (D.state disk.old) (D.state disk.new) }
+    ensures device { OkOrDevice result (λ copied. AllByRecursion (λ child. IsTaken held.new child.block) (children_of copied)) }
+    ensures split { IfOk result (λ copied. (is_split copied ≡ true) ↔ (FAN < length children.now)) }
+    ensures still { HoldsMore held.old held.new }
+    ensures one { length children.now ≤ FAN → free_count held.old ≤ free_count held.new + 1 }
+    ensures taken { free_count held.old ≤ free_count held.new + 2 }
+    ensures moments { (D.state disk.old).honest ≡ true
+        → Throughout (D.state disk.old) (D.state disk.new) (Spares (is_free held.old) (D.state disk.old).now) }
+    ensures made { (D.state disk.old).honest ≡ true → (sizes : Sizes) (rs : List Record) → 0 < level → level ≤ 7 → FAN ≤ sizes.fan
+        → RisesFrom 0 (places rs) → Made (IsHeld held.old) sizes (D.state disk.old).now.contents (length held.old) (level - 1) children.now rs
+        → IfOk result (λ copied. Made (IsHeld held.new) sizes (D.state disk.new).now.contents (length held.old) level (children_of copied) rs) }
+{
+    if children.len() <= FAN {
+        return match write_node_block(disk, held, level, children) {
+            Ok(node) => Ok(Copied::One(node)),
+            Err(fault) => Err(fault),
+        };
+    }
+    let half = children.len().div_ceil(2);
+    match write_node_block(disk, held, level, &children[..half]) {
+        Ok(left) => match write_node_block(disk, held, level, &children[half..]) {
+            Ok(right) => Ok(Copied::Two(left, right)),
+            Err(fault) => Err(fault),
+        },
+        Err(fault) => Err(fault),
+    }
+}
