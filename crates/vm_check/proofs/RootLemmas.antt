@@ -1,17 +1,15 @@
 -- Marking what lies under roots, one after another.
-use Rattle.std.proofs.Common.{◌≡◌, ℕ, zero, suc, ◌+◌, ◌<◌, ◌≤◌, Bool, List, [], ◌∷◌, ◌++◌, length, get_or, take, refl, sym, ap, ◌∙◌, subst, arith, inl, inr}
+use Rattle.std.proofs.Common.{◌≡◌, ℕ, zero, suc, ◌+◌, ◌<◌, ◌≤◌, Bool, List, [], ◌∷◌, length, get_or, take, refl, sym, subst, arith, inl, inr}
 use Rattle.std.specs.List.{AllByRecursion}
 use Rattle.std.proofs.lemmas.List.{take_all}
 use Rattle.vm_alloc.specs.Marks.{IsMarked}
-use Rattle.vm_types.specs.Map.{Map}
 use Rattle.vm_disk.specs.Disk.{Contents, Medium}
 use Rattle.vm_block.specs.Leaf.{Record}
 use Rattle.vm_block.specs.Tree.{Sizes, Subtree}
-use Rattle.vm_block.proofs.TreeLemmas.{leaf_opens, node_opens}
-use Rattle.vm_tree.specs.Root.{IsRooted, IsTop}
+use Rattle.vm_block.proofs.TreeLemmas.{node_opens}
 use Rattle.vm_tree.specs.declared.root.Root.{Root}
 use Rattle.vm_tree.proofs.Descent.{subtree_top}
-use Rattle.vm_check.specs.Marking.{Joined, IsUnder, AreUnder, MarksMore, ClosedTo}
+use Rattle.vm_check.specs.Marking.{IsUnder, AreUnder, MarksMore, ClosedTo}
 use Rattle.vm_check.proofs.JoinLemmas.{LastOf, last_of, joined_front}
 use Rattle.vm_check.proofs.MarkLemmas.{Sealed, none_sealed, sealed_join, subtree_sealed, closed_more, more_then, same_more}
 

@@ -1,10 +1,10 @@
-use Rattle.std.proofs.Common.{◌≡◌, ◌+◌, ◌-◌, ◌<◌, ◌≤◌, Bool, true, List, length, sym, ap, subst, ◌∙◌, arith}
+use Rattle.std.proofs.Common.{List, sym, subst, ◌∙◌, arith}
 use Rattle.std.proofs.lemmas.Bool.{false≢true}
 use Rattle.vm_disk.proofs.MomentLemmas.{reads_then, same_medium}
 use Rattle.vm_alloc.proofs.HeldLemmas.{holds_more_then, taken_holds_more}
 use Rattle.vm_alloc.specs.Held.{HoldsMore}
 use Rattle.vm_tree.proofs.Descent.{subtree_top, node_read}
-use Rattle.vm_check.specs.Marking.{MarksMore, ClosedTo}
+use Rattle.vm_check.specs.Marking.{MarksMore}
 use Rattle.vm_check.proofs.MarkLemmas.{same_more, under_marked, set_less, leaf_marked, node_start, node_marked, node_fault, child_more}
 use Rattle.vm_check.proofs.marking.+mark_below.Goals as goal
 

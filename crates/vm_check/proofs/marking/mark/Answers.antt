@@ -1,4 +1,4 @@
-use Rattle.std.proofs.Common.{◌≡◌, ◌+◌, ◌≤◌, Bool, true, List, length, refl, sym, ap, subst, ◌∙◌, arith}
+use Rattle.std.proofs.Common.{List, refl, sym, subst, ◌∙◌, arith}
 use Rattle.vm_disk.proofs.MomentLemmas.{started, reads_then, same_medium}
 use Rattle.vm_alloc.proofs.HeldLemmas.{holds_same, holds_more_then}
 use Rattle.vm_check.specs.Marking.{MarksMore}
