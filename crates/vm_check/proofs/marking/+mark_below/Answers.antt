@@ -1,0 +1,81 @@
+use Rattle.std.proofs.Common.{List, sym, subst, ◌∙◌, arith}
+use Rattle.std.proofs.lemmas.Bool.{false≢true}
+use Rattle.vm_disk.proofs.MomentLemmas.{reads_then, same_medium}
+use Rattle.vm_alloc.proofs.HeldLemmas.{holds_more_then, taken_holds_more}
+use Rattle.vm_alloc.specs.Held.{HoldsMore}
+use Rattle.vm_tree.proofs.Descent.{subtree_top, node_read}
+use Rattle.vm_check.specs.Marking.{MarksMore}
+use Rattle.vm_check.proofs.MarkLemmas.{same_more, under_marked, set_less, leaf_marked, node_start, node_marked, node_fault, child_more}
+use Rattle.vm_check.proofs.marking.+mark_below.Goals as goal
+
+pub returns-then-not-is_data-clause-marked : goal.returns-then-not-is_data-clause-marked
+returns-then-not-is_data-clause-marked g t c honest sizes rs bs tree closed =
+    absurd (false≢true (sym c.if-not-is_data.true ∙ c.is_data.ensures.1 (subtree_top sizes _ _ _ _ rs bs tree)))
+
+pub returns-then-is_set-clause-marked : goal.returns-then-is_set-clause-marked
+returns-then-is_set-clause-marked g t c honest sizes rs bs tree closed =
+    same_more bs _ (under_marked sizes _ _ _ _ closed _ _ rs bs (omega arith) tree (c.is_set.ensures.0 c.if-is_set.true))
+
+pub returns-then-level-eq0-clause-marked : goal.returns-then-level-eq0-clause-marked
+returns-then-level-eq0-clause-marked g t c honest sizes rs bs tree closed =
+    let inside = subtree_top sizes _ _ _ _ rs bs tree in
+    leaf_marked sizes _ _ _ _ rs bs _ _ c.if-level-eq0.true (omega (arith, inside.1, c.requires.bits)) c.set.ensures tree
+
+pub loop-child-init : goal.loop-child-init
+loop-child-init g t c =
+    let any = c.children_at.ensures.any in
+    let inside = c.is_data.ensures.0 c.if-not-is_data.false in
+    let less = set_less c.args.marks.now c.args.block (omega (arith, inside.1, c.requires.bits)) (λ is. false≢true (sym c.if-is_set.false ∙ c.is_set.ensures.1 is)) in
+    let grows = subst (HoldsMore c.args.marks.now) (sym c.set.ensures) (taken_holds_more c.args.marks.now c.args.block) in
+    record {
+      blocks = any.same_blocks;
+      honesty = any.same_honesty;
+      rising = any.rising;
+      many = grows.same_length ∙ c.requires.bits;
+      once = rw c.set.ensures (omega (arith, c.children_at.ensures.once, less));
+      growing = grows;
+      reads = λ honest. c.children_at.ensures.reads honest;
+      marked = λ honest sizes bs none closed. subst (λ (ds : List _). MarksMore ds c.set.new.self c.set.new.self) (sym none) (same_more _ c.set.new.self tt);
+    }
+
+pub returns-in-Err-mark_below-clause-marked : goal.returns-in-Err-mark_below-clause-marked
+returns-in-Err-mark_below-clause-marked g t c honest sizes rs bs tree closed =
+    let so_far = c.loop-child.invariant in
+    let inside = subtree_top sizes _ _ _ _ rs bs tree in
+    let start = node_start sizes _ _ _ _ rs bs _ (omega (arith, c.if-level-eq0.false)) tree (λ ds node. c.as_slice-child-items.ensures.value ∙ c.in-Ok.ensures.only honest ds node) in
+    node_fault sizes _ _ _ _ _ _ bs _ _ _ _ _ _ (same_medium _ _ (so_far.reads honest)) (omega (arith, inside.1, c.requires.bits)) c.set.ensures (omega (arith, c.if-level-eq0.false))
+    c.loop-child-test.true start closed (so_far.marked honest sizes) (λ qs ds. c.in-Err-mark_below.ensures.marked (so_far.honesty ∙ honest) sizes qs ds)
+
+pub loop-child-preserved : goal.loop-child-preserved
+loop-child-preserved g t c =
+    let so_far = c.loop-child.invariant in
+    let any = c.mark_below.ensures.any in
+    let grows = c.mark_below.ensures.growing in
+    record {
+      blocks = any.same_blocks ∙ so_far.blocks;
+      honesty = any.same_honesty ∙ so_far.honesty;
+      rising = omega (arith, any.rising, so_far.rising);
+      many = grows.same_length ∙ so_far.many;
+      once = omega (arith, c.mark_below.ensures.once, so_far.once);
+      growing = holds_more_then _ _ _ so_far.growing grows;
+      reads = λ honest. reads_then _ _ _ (so_far.reads honest) (c.mark_below.ensures.reads (so_far.honesty ∙ honest));
+      marked = λ honest sizes. child_more sizes _ _ _ _ _ _ _ _ _ _ (same_medium _ _ (so_far.reads honest)) c.loop-child-test.true (so_far.marked honest sizes)
+          (λ rs ds. c.in-Ok-mark_below.ensures.marked (so_far.honesty ∙ honest) sizes rs ds);
+    }
+
+pub returns-after-loop-child-clause-marked : goal.returns-after-loop-child-clause-marked
+returns-after-loop-child-clause-marked g t c honest sizes rs bs tree closed =
+    let inside = subtree_top sizes _ _ _ _ rs bs tree in
+    let start = node_start sizes _ _ _ _ rs bs _ (omega (arith, c.if-level-eq0.false)) tree (λ ds node. c.as_slice-child-items.ensures.value ∙ c.in-Ok.ensures.only honest ds node) in
+    node_marked sizes _ _ _ _ _ bs _ _ _ _ (omega (arith, inside.1, c.requires.bits)) c.set.ensures (omega (arith, c.if-level-eq0.false)) c.loop-child-test.false start closed
+    (c.loop-child.invariant.marked honest sizes)
+
+pub returns-in-Err-clause-marked : goal.returns-in-Err-clause-marked
+returns-in-Err-clause-marked g t c honest sizes rs bs tree closed =
+    let at = node_read sizes _ _ _ _ rs bs (omega (arith, c.if-level-eq0.false)) tree in
+    c.in-Err.ensures.only honest at.0 at.1.node
+
+pub returns-in-Err-mark_below-clause-reads : goal.returns-in-Err-mark_below-clause-reads
+returns-in-Err-mark_below-clause-reads g t c honest =
+    let so_far = c.loop-child.invariant in
+    reads_then _ _ _ (so_far.reads honest) (c.mark_below.ensures.reads (so_far.honesty ∙ honest))

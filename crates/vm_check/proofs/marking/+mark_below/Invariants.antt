@@ -1,0 +1,23 @@
+use Rattle.std.proofs.Common.{◌≡◌, ◌+◌, ◌-◌, ◌≤◌, true, length}
+use Rattle.vm_disk.specs.Moments.{OnlyReads}
+use Rattle.vm_alloc.specs.Held.{HoldsMore, free_count}
+use Rattle.vm_block.specs.Tree.{Sizes}
+use Rattle.vm_check.proofs.MarkLemmas.{MarkedSoFar}
+use Rattle.vm_check.proofs.marking.+mark_below.Given as goal
+
+abbrev pub decreases-mark_below : goal.decreases-mark_below
+decreases-mark_below g l = l.level
+
+abbrev pub invariant-loop-child : goal.invariant-loop-child
+invariant-loop-child g l =
+    let old = g.D.Disk.state l.fn.disk in
+    let now = g.D.Disk.state l.disk in record {
+      blocks : now.blocks ≡ old.blocks;
+      honesty : now.honest ≡ old.honest;
+      rising : old.failures ≤ now.failures;
+      many : length l.marks ≡ l.blocks;
+      once : now.reads + free_count l.marks ≤ old.reads + free_count l.fn.marks;
+      growing : HoldsMore l.fn.marks l.marks;
+      reads : old.honest ≡ true → OnlyReads old now;
+      marked : old.honest ≡ true → (sizes : Sizes) → MarkedSoFar sizes l.blocks (l.level - 1) old.now.contents l.child-items l.child-index l.initial.marks l.marks;
+    }

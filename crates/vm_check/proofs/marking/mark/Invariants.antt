@@ -1,0 +1,20 @@
+use Rattle.std.proofs.Common.{◌≡◌, ◌+◌, ◌≤◌, true, length}
+use Rattle.vm_disk.specs.Moments.{OnlyReads}
+use Rattle.vm_alloc.specs.Held.{HoldsMore, free_count}
+use Rattle.vm_block.specs.Tree.{Sizes}
+use Rattle.vm_check.proofs.RootLemmas.{RootsSoFar}
+use Rattle.vm_check.proofs.marking.mark.Given as goal
+
+abbrev pub invariant-loop-root : goal.invariant-loop-root
+invariant-loop-root g l =
+    let old = g.D.Disk.state l.fn.disk in
+    let now = g.D.Disk.state l.disk in record {
+      blocks : now.blocks ≡ old.blocks;
+      honesty : now.honest ≡ old.honest;
+      rising : old.failures ≤ now.failures;
+      many : length l.marks ≡ l.blocks;
+      once : now.reads + free_count l.marks ≤ old.reads + free_count l.fn.marks;
+      growing : HoldsMore l.fn.marks l.marks;
+      reads : old.honest ≡ true → OnlyReads old now;
+      marked : old.honest ≡ true → (sizes : Sizes) → RootsSoFar sizes l.blocks old.now.contents l.roots l.root-index l.fn.marks l.marks;
+    }

@@ -1,0 +1,117 @@
+//! Marking what lies under roots.
+ghost use Rattle.std.specs.Prelude.{◌≡◌, ◌≢◌, ℕ, ◌+◌, ◌≤◌, true, List, length, OnOk};
+ghost use Rattle.vm_disk.specs.Disk.{Goes};
+ghost use Rattle.vm_disk.specs.Moments.{OnlyReads};
+ghost use Rattle.vm_alloc.specs.Held.{HoldsMore, free_count};
+ghost use Rattle.vm_block.specs.Leaf.{Record};
+ghost use Rattle.vm_block.specs.Tree.{Sizes, Subtree};
+ghost use Rattle.vm_tree.specs.Answers.{OkOrDevice};
+ghost use Rattle.vm_check.specs.Marking.{AreUnder, ClosedTo, IsClosed, IsUnder, MarksMore};
+
+use crate::reading::{children_at, is_data};
+use vm_alloc::Marks;
+use vm_disk::Disk;
+use vm_tree::{Root, TreeFault};
+
+/// Marks a block of this level and all blocks under it, unless it is marked. A leaf is not read.
+fn mark_below<D: Disk>(
+    disk: &mut D,
+    blocks: u32,
+    level: u8,
+    block: u32,
+    marks: &mut Marks,
+) -> Result<(), TreeFault>
+    requires inside { blocks ≤ (D.state disk.old).blocks }
+    requires bits { length marks.old ≡ blocks }
+    ensures any { Goes (result ≡ Err TreeFault.Device) (D.state disk.old) (D.state disk.new) }
+    ensures deep { result ≢ Err TreeFault.Deep }
+    ensures memory { result ≢ Err TreeFault.Memory }
+    ensures once { (D.state disk.new).reads + free_count marks.new ≤ (D.state disk.old).reads + free_count marks.old }
+    ensures growing { HoldsMore marks.old marks.new }
+    ensures reads { (D.state disk.old).honest ≡ true → OnlyReads (D.state disk.old) (D.state disk.new) }
+    ensures marked { (D.state disk.old).honest ≡ true → (sizes : Sizes) (rs : List Record) (bs : List ℕ)
+        → Subtree sizes (D.state disk.old).now.contents blocks level block rs bs → ClosedTo (D.state disk.old).now.contents level marks.old
+        → OkOrDevice result (λ _. MarksMore bs marks.old marks.new) }
+{
+    if !is_data(blocks, block) {
+        return Err(TreeFault::Damaged(block));
+    }
+    if marks.is_set(block) {
+        return Ok(());
+    }
+    marks.set(block);
+    if level == 0 {
+        return Ok(());
+    }
+    match children_at(disk, level, block) {
+        Ok(children) => {
+            for child in children.as_slice() {
+                match mark_below(disk, blocks, level - 1, child.block, marks) {
+                    Ok(()) => {}
+                    Err(fault) => return Err(fault),
+                }
+            }
+            Ok(())
+        }
+        Err(fault) => Err(fault),
+    }
+}
+
+/// Marks all blocks under a root.
+fn mark_root<D: Disk>(
+    disk: &mut D,
+    blocks: u32,
+    root: Root,
+    marks: &mut Marks,
+) -> Result<(), TreeFault>
+    requires inside { blocks ≤ (D.state disk.old).blocks }
+    requires bits { length marks.old ≡ blocks }
+    ensures any { Goes (result ≡ Err TreeFault.Device) (D.state disk.old) (D.state disk.new) }
+    ensures deep { result ≢ Err TreeFault.Deep }
+    ensures memory { result ≢ Err TreeFault.Memory }
+    ensures once { (D.state disk.new).reads + free_count marks.new ≤ (D.state disk.old).reads + free_count marks.old }
+    ensures growing { HoldsMore marks.old marks.new }
+    ensures reads { (D.state disk.old).honest ≡ true → OnlyReads (D.state disk.old) (D.state disk.new) }
+    ensures marked { (D.state disk.old).honest ≡ true → (sizes : Sizes) (bs : List ℕ)
+        → IsUnder sizes (D.state disk.old).now.contents blocks root bs → IsClosed (D.state disk.old).now.contents marks.old
+        → OkOrDevice result (λ _. MarksMore bs marks.old marks.new) }
+{
+    if root.block == 0 {
+        return Ok(());
+    }
+    mark_below(disk, blocks, root.level, root.block, marks)
+}
+
+/// Marks all blocks under the roots, without memory. What lies under a block that is marked already
+/// is not walked again, so the marks have to be closed: clear, or left by earlier calls.
+///
+/// On trees it answers neither Damaged nor Deep nor Memory. Where the device fails, some of the
+/// blocks are marked.
+pub fn mark<D: Disk>(disk: &mut D, roots: &[Root], marks: &mut Marks) -> Result<(), TreeFault>
+    requires { length marks.old ≤ (D.state disk.old).blocks }
+    ensures any { Goes (result ≡ Err TreeFault.Device) (D.state disk.old) (D.state disk.new) }
+    ensures deep { result ≢ Err TreeFault.Deep }
+    ensures memory { result ≢ Err TreeFault.Memory }
+    ensures growing { HoldsMore marks.old marks.new }
+    ensures reads { (D.state disk.old).honest ≡ true → OnlyReads (D.state disk.old) (D.state disk.new) }
+
+    // For each block that it reads it marks one that was not marked.
+    ensures once { (D.state disk.new).reads + free_count marks.new ≤ (D.state disk.old).reads + free_count marks.old }
+
+    // On trees, whatever the sizes of their blocks, the marks grow by exactly the blocks under the roots.
+    ensures marked { (D.state disk.old).honest ≡ true → (sizes : Sizes) (bs : List ℕ)
+        → AreUnder sizes (D.state disk.old).now.contents (length marks.old) roots.now bs → IsClosed (D.state disk.old).now.contents marks.old
+        → OkOrDevice result (λ _. MarksMore bs marks.old marks.new) }
+    ensures closed { (D.state disk.old).honest ≡ true → (sizes : Sizes) (bs : List ℕ)
+        → AreUnder sizes (D.state disk.old).now.contents (length marks.old) roots.now bs → IsClosed (D.state disk.old).now.contents marks.old
+        → OnOk result (IsClosed (D.state disk.old).now.contents marks.new) }
+{
+    let blocks = marks.blocks();
+    for root in roots {
+        match mark_root(disk, blocks, *root, marks) {
+            Ok(()) => {}
+            Err(fault) => return Err(fault),
+        }
+    }
+    Ok(())
+}

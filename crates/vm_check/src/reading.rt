@@ -1,0 +1,46 @@
+//! Blocks of a tree, read from a disk.
+ghost use Rattle.std.specs.Prelude.{◌≡◌, ◌≢◌, ◌↔◌, ℕ, ◌+◌, ◌<◌, true, List, IsTrue};
+ghost use Rattle.vm_disk.specs.Disk.{Goes, block as bytes_at};
+ghost use Rattle.vm_disk.specs.Moments.{OnlyReads};
+ghost use Rattle.vm_block.specs.Node.{IsNode};
+ghost use Rattle.vm_block.specs.Tree.{IsData};
+ghost use Rattle.vm_block.specs.declared.node.Child.{Child};
+ghost use Rattle.vm_tree.specs.Answers.{OkOrDevice};
+
+use arrayvec::ArrayVec;
+use vm_alloc::FIRST_DATA;
+use vm_block::{Child, read_node};
+use vm_disk::Disk;
+use vm_tree::TreeFault;
+
+/// Whether the block is for data, in a store of so many blocks.
+pub(crate) fn is_data(blocks: u32, block: u32) -> bool
+    ensures { IsTrue result ↔ IsData blocks block }
+{
+    (FIRST_DATA..blocks).contains(&block)
+}
+
+/// The children of a block that is an inner block of this level.
+pub(crate) fn children_at<D: Disk>(
+    disk: &mut D,
+    level: u8,
+    block: u32,
+) -> Result<ArrayVec<Child, 256>, TreeFault>
+    requires { block < (D.state disk.old).blocks }
+    ensures any { Goes (result ≡ Err TreeFault.Device) (D.state disk.old) (D.state disk.new) }
+    ensures deep { result ≢ Err TreeFault.Deep }
+    ensures memory { result ≢ Err TreeFault.Memory }
+    ensures once { (D.state disk.new).reads ≡ (D.state disk.old).reads + 1 }
+    ensures reads { (D.state disk.old).honest ≡ true → OnlyReads (D.state disk.old) (D.state disk.new) }
+    ensures only { (D.state disk.old).honest ≡ true → (cs : List Child) → IsNode (bytes_at (D.state disk.old).now.contents block) level cs
+        → OkOrDevice result (λ children. children.items ≡ cs) }
+{
+    let mut bytes = [0; 4096];
+    match disk.read(block, &mut bytes) {
+        Ok(()) => match read_node(&bytes) {
+            Some(node) if node.level == level => Ok(node.children),
+            _ => Err(TreeFault::Damaged(block)),
+        },
+        Err(_) => Err(TreeFault::Device),
+    }
+}

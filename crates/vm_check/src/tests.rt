@@ -1,0 +1,133 @@
+//! What is marked on disks whose blocks are written by hand.
+use crate::mark;
+use arrayvec::ArrayVec;
+use std::test::Fail;
+use vm_alloc::Marks;
+use vm_block::{Child, write_leaf, write_node};
+use vm_disk::{Disk, FuseDisk, MemDisk};
+use vm_tree::{Root, TreeFault};
+use vm_types::{Key, Value};
+
+// The key of this number in table 1.
+fn key(number: u64) -> Key {
+    Key { table: 1, number }
+}
+
+fn put_block<D: Disk>(disk: &mut D, block: u32, bytes: &[u8; 4096]) -> bool {
+    block < disk.blocks() && disk.write(block, bytes).is_ok()
+}
+
+// Makes the block a leaf of keys of table 1, with empty values.
+fn put_leaf<D: Disk>(disk: &mut D, block: u32, numbers: &[u64]) -> bool {
+    let Some(empty) = Value::new(b"") else {
+        return false;
+    };
+    let mut records: ArrayVec<(Key, Value), 16> = ArrayVec::new();
+    for number in numbers {
+        if records.is_full() {
+            return false;
+        }
+        records.push((key(*number), empty));
+    }
+    let mut bytes = [0; 4096];
+    write_leaf(records.as_slice(), &mut bytes);
+    put_block(disk, block, &bytes)
+}
+
+// Makes the block an inner block: of each child the lowest key, in table 1, and the block.
+fn put_node<D: Disk>(disk: &mut D, block: u32, level: u8, children: &[(u64, u32)]) -> bool {
+    let mut entries: ArrayVec<Child, 256> = ArrayVec::new();
+    for (number, child) in children {
+        if entries.is_full() {
+            return false;
+        }
+        entries.push(Child {
+            low: key(*number),
+            block: *child,
+        });
+    }
+    let mut bytes = [0; 4096];
+    write_node(level, entries.as_slice(), &mut bytes);
+    put_block(disk, block, &bytes)
+}
+
+// The call under test, on a disk that is large enough.
+fn mark_all<D: Disk>(disk: &mut D, roots: &[Root], marks: &mut Marks) -> Result<(), TreeFault> {
+    if disk.blocks() < marks.blocks() {
+        return Err(TreeFault::Device);
+    }
+    mark(disk, roots, marks)
+}
+
+// Whether just the blocks from first to last are marked.
+fn are_marked(marks: &Marks, first: u32, last: u32) -> bool {
+    for n in 0..marks.blocks() {
+        if marks.is_set(n) != (first..=last).contains(&n) {
+            return false;
+        }
+    }
+    true
+}
+
+fn root(block: u32, level: u8, low: u64) -> Root {
+    Root {
+        block,
+        level,
+        low: key(low),
+    }
+}
+
+#[test]
+fn marks_what_lies_under_roots_and_reads_no_block_twice(rt: HostRuntime) -> Result<(), Fail> {
+    let mut disk = FuseDisk::stop(MemDisk::new(rt.alloc(), 64)?, 1_000, [0; 4096]);
+    assert!(rt; put_leaf(&mut disk, 35, &[1]));
+    assert!(rt; put_leaf(&mut disk, 36, &[2]));
+    assert!(rt; put_node(&mut disk, 34, 1, &[(1, 35), (2, 36)]));
+    let mut marks = Marks::new(rt.alloc(), 64)?;
+    let roots = [root(34, 1, 1), Root::default(), root(35, 0, 1)];
+    let before = disk.calls();
+    assert!(rt; mark_all(&mut disk, &roots, &mut marks) == Ok(()));
+    assert!(rt; are_marked(&marks, 34, 36));
+    // Leaves are not read, and neither is a block that is marked.
+    assert_eq!(rt; disk.calls().wrapping_sub(before), 1);
+    assert!(rt; mark_all(&mut disk, &roots, &mut marks) == Ok(()));
+    assert!(rt; are_marked(&marks, 34, 36));
+    assert_eq!(rt; disk.calls().wrapping_sub(before), 1);
+    Ok(())
+}
+
+#[test]
+fn marks_no_more_than_the_roots_reach(rt: HostRuntime) -> Result<(), Fail> {
+    let mut disk = MemDisk::new(rt.alloc(), 64)?;
+    assert!(rt; put_leaf(&mut disk, 35, &[1]));
+    assert!(rt; put_leaf(&mut disk, 36, &[2]));
+    assert!(rt; put_node(&mut disk, 34, 1, &[(1, 35), (2, 36)]));
+    let mut marks = Marks::new(rt.alloc(), 64)?;
+    assert!(rt; mark_all(&mut disk, &[root(36, 0, 2)], &mut marks) == Ok(()));
+    assert!(rt; are_marked(&marks, 36, 36));
+    Ok(())
+}
+
+#[test]
+fn ends_on_blocks_that_are_no_tree(rt: HostRuntime) -> Result<(), Fail> {
+    let mut disk = FuseDisk::stop(MemDisk::new(rt.alloc(), 64)?, 1_000, [0; 4096]);
+    assert!(rt; put_node(&mut disk, 34, 1, &[(1, 34)]));
+    let mut marks = Marks::new(rt.alloc(), 64)?;
+    let before = disk.calls();
+    let _ = mark_all(&mut disk, &[root(34, 1, 1)], &mut marks);
+    assert_eq!(rt; disk.calls().wrapping_sub(before), 1);
+    assert!(rt; mark_all(&mut disk, &[root(35, 1, 1)], &mut marks) == Err(TreeFault::Damaged(35)));
+    assert!(rt; mark_all(&mut disk, &[root(64, 0, 1)], &mut marks) == Err(TreeFault::Damaged(64)));
+    Ok(())
+}
+
+#[test]
+fn answers_that_the_device_failed(rt: HostRuntime) -> Result<(), Fail> {
+    let mut below = MemDisk::new(rt.alloc(), 64)?;
+    assert!(rt; put_leaf(&mut below, 35, &[1]));
+    assert!(rt; put_node(&mut below, 34, 1, &[(1, 35)]));
+    let mut disk = FuseDisk::once(below, 0, [0; 4096]);
+    let mut marks = Marks::new(rt.alloc(), 64)?;
+    assert!(rt; mark_all(&mut disk, &[root(34, 1, 1)], &mut marks) == Err(TreeFault::Device));
+    Ok(())
+}
