@@ -1,8 +1,9 @@
 //! The plain model: two trees of alternatives, with whole copies of all maps.
-ghost use Rattle.std.specs.Prelude.{◌≡◌, IfOk, OnOk, OnErr};
+ghost use Rattle.std.specs.Prelude.{◌≡◌, ◌≢◌, IfOk, OnOk, OnErr};
 ghost use Rattle.vm_types.specs.State.{opened, next};
 ghost use Rattle.vm_types.specs.Tree.{fresh};
 ghost use Rattle.vm_store.specs.Answers.{value_in};
+ghost use Rattle.vm_store.specs.Listing.{IsList, records_in};
 ghost use Rattle.simulation.specs.Plain.{IsAnswer, IsCarriedOut};
 
 use crate::alternative::{self, Alternative};
@@ -118,6 +119,19 @@ impl Plain {
     {
         match steps::position_of(&self.working, alt) {
             Some(i) => Ok(self.working[i].get(key)),
+            None => Err(Refusal::NoSuchAlternative),
+        }
+    }
+
+    /// All records in the working state of an alternative, by rising keys.
+    pub fn list(&self, alt: &Name) -> Result<Vec<(Key, Value)>, Refusal>
+        ensures records { IsList result (records_in self.now.working alt.now) }
+        ensures device { result ≢ Err Refusal.Device }
+    {
+        match steps::position_of(&self.working, alt) {
+            Some(i) => self.working[i]
+                .records(self.alloc)
+                .map_err(|_| Refusal::Memory),
             None => Err(Refusal::NoSuchAlternative),
         }
     }

@@ -28,6 +28,8 @@ enum Wrong {
     Refused(Refusal),
     /// The store's answer isn't the model's, which comes second.
     Answer(Reply, Reply),
+    /// The store has other blocks free than the model has spare.
+    Free,
     /// The store has a record that the model hasn't, or the other way round.
     Record,
     /// What is shown is neither what was committed nor what the last Commit commits.

@@ -1,8 +1,18 @@
-//! The alternatives and keys that the sessions use.
+//! The names and keys that the sessions use, and a look at all that a store shows of them.
+use super::Wrong;
+use super::model::Model;
+use super::recording::RecordingDisk;
 use crate::Plain;
+use std::alloc::Global;
 use vm_disk::Disk;
-use vm_store::Store;
-use vm_types::{Key, Name, Refusal};
+use vm_store::{Store, open};
+use vm_types::{Command, Key, Name, Refusal};
+
+/// How many alternatives are in use, with the first one.
+pub const ALTERNATIVES: u32 = 4;
+
+/// How many names of checkpoints are in use.
+pub const CHECKPOINTS: u32 = 3;
 
 /// How many keys are in use: more than a map has room for.
 pub const KEYS: u32 = 20;
@@ -14,12 +24,25 @@ pub fn top() -> Name {
     name
 }
 
-/// An alternative that a session may or may not have.
-pub fn ring() -> Name {
-    let Some(name) = Name::new(b"ring") else {
-        unreachable!();
+/// The alternative of this number: `top`, and others that a session may or may not have.
+pub fn alternative(n: u32) -> Name {
+    let name = match n {
+        1 => Name::new(b"ring"),
+        2 => Name::new(b"spur"),
+        3 => Name::new(b"loop"),
+        _ => None,
     };
-    name
+    name.unwrap_or(top())
+}
+
+/// The name of the checkpoint of this number.
+pub fn checkpoint(n: u32) -> Name {
+    let name = match n {
+        1 => Name::new(b"noon"),
+        2 => Name::new(b"dusk"),
+        _ => Name::new(b"dawn"),
+    };
+    name.unwrap_or(top())
 }
 
 /// The key of this number, in one of two tables.
@@ -30,29 +53,93 @@ pub fn key(n: u32) -> Key {
     }
 }
 
-/// How many keys in use have a value in the model.
-pub fn count(plain: &Plain, alt: &Name) -> u32 {
-    let mut count: u32 = 0;
-    for n in 0..KEYS {
-        if matches!(plain.get(alt, key(n)), Ok(Some(_))) {
-            count = count.saturating_add(1);
-        }
+/// Whether the store lists the records of the model in this alternative, or both have none of that name.
+fn lists<D: Disk>(
+    alloc: Global,
+    store: &mut Store<D>,
+    plain: &Plain,
+    alt: &Name,
+) -> Result<bool, Wrong> {
+    match (store.list(alloc, alt), plain.list(alt)) {
+        (Err(Refusal::Device), _) => Err(Wrong::Refused(Refusal::Device)),
+        (Ok(found), Ok(expected)) => Ok(found.as_slice() == expected.as_slice()),
+        (Err(found), Err(expected)) => Ok(found == expected),
+        _ => Ok(false),
     }
-    count
 }
 
-/// Whether the store has just the records of the model.
-pub fn agrees<D: Disk>(store: &mut Store<D>, plain: &Plain) -> Result<bool, Refusal> {
-    for alt in [top(), ring()] {
-        for n in 0..KEYS {
-            let found = store.get(&alt, key(n));
-            if found == Err(Refusal::Device) {
-                return Err(Refusal::Device);
-            }
-            if found != plain.get(&alt, key(n)) {
+/// Whether the store finds the value of the model at this key.
+fn gets<D: Disk>(store: &mut Store<D>, plain: &Plain, alt: &Name, key: Key) -> Result<bool, Wrong> {
+    match store.get(alt, key) {
+        Err(Refusal::Device) => Err(Wrong::Refused(Refusal::Device)),
+        found => Ok(found == plain.get(alt, key)),
+    }
+}
+
+/// Whether the store lists just the records of the model, and finds the one of this key.
+pub fn agrees<D: Disk>(
+    alloc: Global,
+    store: &mut Store<D>,
+    plain: &Plain,
+    at: Key,
+) -> Result<bool, Wrong> {
+    for n in 0..ALTERNATIVES {
+        let alt = alternative(n);
+        if !lists(alloc, store, plain, &alt)? || !gets(store, plain, &alt, at)? {
+            return Ok(false);
+        }
+    }
+    Ok(true)
+}
+
+// Whether a store goes back to a checkpoint as the model does, or both have none of that name.
+fn goes_back<D: Disk>(
+    alloc: Global,
+    store: &mut Store<D>,
+    model: &mut Model,
+    alt: Name,
+    name: Name,
+) -> Result<bool, Wrong> {
+    let back = Command::Back { alt, name };
+    let answer = store.apply(&back);
+    if answer != model.apply(&back)? {
+        return Ok(false);
+    }
+    match answer {
+        Ok(_) => lists(alloc, store, &model.plain, &alt),
+        Err(_) => Ok(true),
+    }
+}
+
+// Whether a store that was just opened has the records of the model in each alternative and each
+// checkpoint, and so many blocks free. It goes back to each checkpoint in turn.
+fn agrees_anew<D: Disk>(
+    alloc: Global,
+    store: &mut Store<D>,
+    opened: &mut Model,
+) -> Result<bool, Wrong> {
+    if store.free() != Ok(opened.spare()) || !agrees(alloc, store, &opened.plain, key(0))? {
+        return Ok(false);
+    }
+    for n in 0..ALTERNATIVES {
+        for m in 0..CHECKPOINTS {
+            if !goes_back(alloc, store, opened, alternative(n), checkpoint(m))? {
                 return Ok(false);
             }
         }
     }
     Ok(true)
+}
+
+/// Whether a disk shows what is committed in the model. The disk comes back.
+pub fn shows(
+    alloc: Global,
+    disk: RecordingDisk,
+    model: &Model,
+) -> Result<(RecordingDisk, bool), Wrong> {
+    let mut opened = model.reopened(alloc)?;
+    let mut store = open(alloc, disk).map_err(|refused| Wrong::Refused(refused.1))?;
+    let same = agrees_anew(alloc, &mut store, &mut opened);
+    let disk = store.close();
+    Ok((disk, same?))
 }

@@ -3,7 +3,7 @@ ghost use Rattle.std.specs.Prelude.{◌<◌};
 ghost use Rattle.vm_store.specs.Answers.{IsCarriedOut};
 ghost use Rattle.simulation.specs.Plain as plain;
 
-use super::cast::{KEYS, key, ring, top};
+use super::cast::{ALTERNATIVES, CHECKPOINTS, KEYS, alternative, checkpoint, key, top};
 use rand_core::{Rng, SeedableRng};
 use rand_xoshiro::Xoshiro256PlusPlus;
 use vm_types::{Command, Key, Name, Value};
@@ -11,12 +11,15 @@ use vm_types::{Command, Key, Name, Value};
 #[derive(Drop)]
 pub struct Dice {
     rng: Xoshiro256PlusPlus,
+    grows: bool,
 }
 
 impl Dice {
+    /// With an odd seed, no command takes anything out.
     pub fn new(seed: u64) -> Dice {
         Dice {
             rng: Xoshiro256PlusPlus::seed_from_u64(seed),
+            grows: seed % 2 == 1,
         }
     }
 
@@ -36,28 +39,66 @@ impl Dice {
     }
 
     fn alt(&mut self) -> Name {
-        if self.once_in(12) { ring() } else { top() }
+        if self.once_in(2) {
+            top()
+        } else {
+            alternative(self.below(ALTERNATIVES))
+        }
     }
 
-    fn key(&mut self) -> Key {
+    fn checkpoint(&mut self) -> Name {
+        checkpoint(self.below(CHECKPOINTS))
+    }
+
+    pub fn key(&mut self) -> Key {
         key(self.below(KEYS))
     }
 
-    /// A value that no other draw gives.
+    /// One of two values now and then, else one that no other draw gives.
     fn value(&mut self) -> Value {
+        match self.below(6) {
+            0 => return Value::default(),
+            1 => return Value::new(b"duct").unwrap_or_default(),
+            _ => {}
+        }
         let mut bytes = [0; Value::MAX_LEN];
         self.rng.fill_bytes(&mut bytes);
         let len = 16 + self.below(225) as usize;
         Value::new(&bytes[..len]).unwrap_or_default()
     }
 
-    /// A command. A new kind of command is one more arm.
+    /// A command. A new kind of command is one more arm. Those that take something out are the last.
     pub fn command(&mut self) -> Command
         ensures store { IsCarriedOut result }
         ensures plain { plain.IsCarriedOut result }
     {
-        match self.below(6) {
-            0 => Command::Commit,
+        let kinds = if self.grows { 28 } else { 38 };
+        match self.below(kinds) {
+            0..=2 => Command::Commit,
+            3 => Command::Reclaim,
+            4..=6 => Command::New {
+                name: alternative(self.below(ALTERNATIVES)),
+                parent: alternative(self.below(ALTERNATIVES)),
+            },
+            7..=10 => Command::Checkpoint {
+                alt: self.alt(),
+                name: self.checkpoint(),
+            },
+            11 => Command::Back {
+                alt: self.alt(),
+                name: self.checkpoint(),
+            },
+            28..=31 => Command::Drop {
+                alt: alternative(self.below(ALTERNATIVES)),
+            },
+            32 => Command::Uncheck {
+                alt: self.alt(),
+                name: self.checkpoint(),
+            },
+            33..=37 => Command::Remove {
+                alt: self.alt(),
+                key: self.key(),
+            },
             _ => Command::Put {
                 alt: self.alt(),
                 key: self.key(),

@@ -2,11 +2,11 @@
 ghost use Rattle.std.specs.Prelude.{◌<◌, length, IfSome};
 ghost use Rattle.simulation.specs.Plain.{IsCarriedOut};
 
-use super::cast::{count, top};
+use super::cast::top;
 use super::{BLOCKS, Reply, Wrong};
 use crate::Plain;
 use std::alloc::Global;
-use vm_types::{Command, Key, Name, Refusal};
+use vm_types::{Command, Name, Refusal};
 
 /// How many blocks come before the first one for data.
 const FIRST_DATA: u32 = 34;
@@ -15,10 +15,10 @@ const FIRST_DATA: u32 = 34;
 const BLOCKS_A_CHANGE: u32 = 16;
 
 /// How many records a map has at most, as long as it lies in one leaf.
-const RECORDS: u32 = 16;
+const RECORDS: usize = 16;
 
-/// The blocks that the maps of one entry lie in: 0 for an empty map, else a number that no other map
-/// has.
+/// The blocks that the maps of one entry lie in: 0 for an empty map, else a number that only maps have
+/// of which one was copied from the other.
 #[derive(Clone, Copy)]
 struct Roots {
     alt: Name,
@@ -81,7 +81,7 @@ impl Model {
     pub fn apply(&mut self, command: &Command) -> Result<Reply, Wrong>
         requires { IsCarriedOut command.now }
     {
-        if let Some(refusal) = self.lack_of_room(command) {
+        if let Some(refusal) = self.lack_of_room(command)? {
             return Ok(Err(refusal));
         }
         let reply = self.plain.apply(command);
@@ -91,8 +91,8 @@ impl Model {
         Ok(reply)
     }
 
-    // How many blocks for data neither the committed maps nor the working ones lie in.
-    fn spare(&self) -> u32 {
+    /// How many blocks for data neither the committed maps nor the working ones lie in.
+    pub fn spare(&self) -> u32 {
         let mut spare = BLOCKS - FIRST_DATA;
         for n in 0..self.last {
             if names(&self.committed, n + 1) || names(&self.working, n + 1) {
@@ -102,30 +102,44 @@ impl Model {
         spare
     }
 
-    fn lack_of_room(&self, command: &Command) -> Option<Refusal> {
+    fn lack_of_room(&self, command: &Command) -> Result<Option<Refusal>, Wrong> {
+        let full = self.spare() < BLOCKS_A_CHANGE;
         match command {
             Command::Put { alt, key, .. } => match self.plain.get(alt, *key) {
-                Ok(_) if self.spare() < BLOCKS_A_CHANGE => Some(Refusal::Full),
-                Ok(None) if count(&self.plain, alt) >= RECORDS => Some(Refusal::Deep),
-                _ => None,
+                Ok(_) if full => Ok(Some(Refusal::Full)),
+                Ok(None) => self.lack_of_place(alt),
+                _ => Ok(None),
             },
             Command::Remove { alt, key } => match self.plain.get(alt, *key) {
-                Ok(Some(_)) if self.spare() < BLOCKS_A_CHANGE => Some(Refusal::Full),
-                _ => None,
+                Ok(Some(_)) if full => Ok(Some(Refusal::Full)),
+                _ => Ok(None),
             },
-            _ => None,
+            _ => Ok(None),
         }
+    }
+
+    // Whether the leaf of an alternative has a place for one more record.
+    fn lack_of_place(&self, alt: &Name) -> Result<Option<Refusal>, Wrong> {
+        let records = self.plain.list(alt)?;
+        if records.len() >= RECORDS {
+            return Ok(Some(Refusal::Deep));
+        }
+        Ok(None)
     }
 
     // What an accepted command does to the blocks that maps lie in.
     fn follow(&mut self, command: &Command) -> Result<(), Wrong> {
         match command {
-            Command::Put { alt, .. } => {
-                self.last = self.last.saturating_add(1);
-                if let Some(i) = position(&self.working, alt, None) {
-                    self.working[i].current = self.last;
+            Command::New { name, parent } => self.follow_new(name, parent)?,
+            Command::Drop { alt } => self.working.retain(|roots| roots.alt != *alt),
+            Command::Put { alt, .. } | Command::Remove { alt, .. } => self.follow_change(alt)?,
+            Command::Checkpoint { alt, name } => self.follow_checkpoint(alt, name)?,
+            Command::Uncheck { alt, name } => {
+                if let Some(i) = position(&self.working, alt, Some(*name)) {
+                    self.working.remove(i);
                 }
             }
+            Command::Back { alt, name } => self.follow_back(alt, name),
             Command::Commit => {
                 self.committed.clear();
                 self.committed.extend_from_slice(&self.working)?;
@@ -133,5 +147,57 @@ impl Model {
             _ => {}
         }
         Ok(())
+    }
+
+    // The new alternative shares the block of what its parent shows.
+    fn follow_new(&mut self, name: &Name, parent: &Name) -> Result<(), Wrong> {
+        if let Some(i) = position(&self.working, parent, None) {
+            let current = self.working[i].current;
+            let roots = Roots {
+                alt: *name,
+                saved: None,
+                current,
+                base: current,
+            };
+            self.working.push(roots).map_err(|_| Wrong::Memory)?;
+        }
+        Ok(())
+    }
+
+    // A changed map lies in a new block, or in none where it is empty.
+    fn follow_change(&mut self, alt: &Name) -> Result<(), Wrong> {
+        let mut current = 0;
+        if !self.plain.list(alt)?.is_empty() {
+            self.last = self.last.saturating_add(1);
+            current = self.last;
+        }
+        if let Some(i) = position(&self.working, alt, None) {
+            self.working[i].current = current;
+        }
+        Ok(())
+    }
+
+    fn follow_checkpoint(&mut self, alt: &Name, name: &Name) -> Result<(), Wrong> {
+        if let Some(i) = position(&self.working, alt, None) {
+            let checkpoint = Roots {
+                saved: Some(*name),
+                ..self.working[i]
+            };
+            self.working.push(checkpoint).map_err(|_| Wrong::Memory)?;
+        }
+        Ok(())
+    }
+
+    fn follow_back(&mut self, alt: &Name, name: &Name) {
+        let to = position(&self.working, alt, None);
+        let from = position(&self.working, alt, Some(*name));
+        if let (Some(to), Some(from)) = (to, from) {
+            let Roots { current, base, .. } = self.working[from];
+            self.working[to] = Roots {
+                current,
+                base,
+                ..self.working[to]
+            };
+        }
     }
 }

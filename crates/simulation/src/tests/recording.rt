@@ -1,4 +1,5 @@
-//! A memory disk that remembers what its blocks held at the last sync that succeeded.
+//! A memory disk that remembers what its blocks held at the last sync that succeeded, and which one was
+//! written last.
 ghost use Rattle.std.specs.Prelude.{◌≡◌, ◌<◌, true};
 
 use super::dice::Dice;
@@ -11,6 +12,7 @@ pub struct RecordingDisk {
     inner: MemDisk,
     written: Vec<[u8; 4096]>,
     synced: Vec<[u8; 4096]>,
+    last: u32,
 }
 
 /// What a crash leaves in each block that was not synced.
@@ -28,21 +30,33 @@ impl RecordingDisk {
             inner: MemDisk::new(alloc, BLOCKS)?,
             written: Vec::from_elem(alloc, [0; 4096], BLOCKS as usize)?,
             synced: Vec::from_elem(alloc, [0; 4096], BLOCKS as usize)?,
+            last: 0,
         })
+    }
+
+    /// The number of the block that was written last, or else 0.
+    pub fn last(&self) -> u32 {
+        self.last
+    }
+
+    /// What such a crash leaves in a block that was not synced.
+    pub fn bytes_in(&self, n: u32, fill: Fill) -> [u8; 4096] {
+        let at = n as usize;
+        match fill {
+            Fill::Synced if at < self.synced.len() => self.synced[at],
+            Fill::Written if at < self.written.len() => self.written[at],
+            Fill::Byte(byte) => [byte; 4096],
+            _ => [0; 4096],
+        }
     }
 
     /// The disk after a crash which leaves the same kind of bytes in each block that was not synced.
     pub fn crash(self, alloc: Global, fill: Fill) -> Result<RecordingDisk, Wrong> {
         let mut left = Vec::new(alloc);
         for n in 0..BLOCKS {
-            let at = n as usize;
-            if self.inner.is_dirty(n) && at < self.synced.len() && at < self.written.len() {
-                let bytes = match fill {
-                    Fill::Synced => self.synced[at],
-                    Fill::Written => self.written[at],
-                    Fill::Byte(byte) => [byte; 4096],
-                };
-                left.push((n, bytes)).map_err(|_| Wrong::Memory)?;
+            if self.inner.is_dirty(n) {
+                left.push((n, self.bytes_in(n, fill)))
+                    .map_err(|_| Wrong::Memory)?;
             }
         }
         after(alloc, self.inner.crash(&left))
@@ -52,9 +66,9 @@ impl RecordingDisk {
     pub fn crash_at_random(self, alloc: Global, dice: &mut Dice) -> Result<RecordingDisk, Wrong> {
         let mut left = Vec::new(alloc);
         for n in 0..BLOCKS {
-            let at = n as usize;
-            if self.inner.is_dirty(n) && at < self.synced.len() && at < self.written.len() {
-                let bytes = dice.left(&self.synced[at], &self.written[at]);
+            if self.inner.is_dirty(n) {
+                let synced = self.bytes_in(n, Fill::Synced);
+                let bytes = dice.left(&synced, &self.bytes_in(n, Fill::Written));
                 left.push((n, bytes)).map_err(|_| Wrong::Memory)?;
             }
         }
@@ -76,6 +90,7 @@ fn after(alloc: Global, mut inner: MemDisk) -> Result<RecordingDisk, Wrong> {
         inner,
         synced: Vec::from_slice(alloc, &written)?,
         written,
+        last: 0,
     })
 }
 
@@ -102,6 +117,7 @@ impl Disk for RecordingDisk {
         if at < self.written.len() {
             self.written[at] = *from;
         }
+        self.last = n;
         self.inner.write(n, from)
     }
 

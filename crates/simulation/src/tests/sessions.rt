@@ -1,10 +1,10 @@
 //! Random sessions: a store lives several times on one disk, and each life ends by closing or by a
 //! device that stops, and maybe by a crash.
-use super::cast::agrees;
+use super::cast::{agrees, shows};
 use super::dice::Dice;
 use super::model::Model;
 use super::recording::RecordingDisk;
-use super::{BLOCKS, Wrong};
+use super::{BLOCKS, Reply, Wrong};
 use std::alloc::Global;
 use vm_disk::{Disk, FuseDisk};
 use vm_store::{Store, format, open};
@@ -21,44 +21,114 @@ enum End {
     StoppedInCommit,
 }
 
-/// How often the cases that matter were met.
+/// How often the cases that matter were met: refusals by their number, and commands by their kind.
 #[derive(Clone, Copy)]
 struct Tally {
-    refused: u32,
+    refused: [u32; 22],
+    accepted: [u32; 9],
     kept_old: u32,
     kept_new: u32,
 }
 
-/// Carries out commands, and compares their answers with the model's; all records too, where it looks.
+impl Tally {
+    fn count(&mut self, command: &Command, answer: &Reply) {
+        match answer {
+            Ok(_) => add_one(&mut self.accepted, kind(command)),
+            Err(refusal) => add_one(&mut self.refused, refusal.code() as usize),
+        }
+    }
+}
+
+fn add_one(counts: &mut [u32], at: usize) {
+    if at < counts.len() {
+        counts[at] = counts[at].saturating_add(1);
+    }
+}
+
+fn kind(command: &Command) -> usize {
+    match command {
+        Command::New { .. } => 0,
+        Command::Drop { .. } => 1,
+        Command::Put { .. } => 2,
+        Command::Remove { .. } => 3,
+        Command::Checkpoint { .. } => 4,
+        Command::Uncheck { .. } => 5,
+        Command::Back { .. } => 6,
+        Command::Commit => 7,
+        _ => 8,
+    }
+}
+
+/// Whether the store has no more blocks free than the model has spare, and just as many where it has
+/// looked for them.
+fn counts_blocks<D: Disk>(store: &Store<D>, model: &Model, looked: bool) -> bool {
+    match store.free() {
+        Ok(free) if looked => free == model.spare(),
+        Ok(free) => free <= model.spare(),
+        Err(_) => false,
+    }
+}
+
+/// Carries out a command, and compares its answer and the count of blocks with the model's. Tells how
+/// the life ends, where the device stops in it.
 fn play<D: Disk>(
+    store: &mut Store<D>,
+    model: &mut Model,
+    dice: &mut Dice,
+    tally: &mut Tally,
+) -> Result<Option<End>, Wrong> {
+    let command = dice.command();
+    let answer = store.apply(&command);
+    if answer == Err(Refusal::Device) {
+        return Ok(match command {
+            Command::Commit => Some(End::StoppedInCommit),
+            _ => Some(End::Stopped),
+        });
+    }
+    let expected = model.apply(&command)?;
+    if answer != expected {
+        return Err(Wrong::Answer(answer, expected));
+    }
+    tally.count(&command, &answer);
+    if !counts_blocks(store, model, matches!(command, Command::Reclaim)) {
+        return Err(Wrong::Free);
+    }
+    Ok(None)
+}
+
+/// Compares the records of each alternative with the model's, and the value of one key.
+fn compare<D: Disk>(
+    alloc: Global,
+    store: &mut Store<D>,
+    model: &Model,
+    dice: &mut Dice,
+) -> Result<Option<End>, Wrong> {
+    match agrees(alloc, store, &model.plain, dice.key()) {
+        Ok(true) => Ok(None),
+        Ok(false) => Err(Wrong::Record),
+        Err(Wrong::Refused(Refusal::Device)) => Ok(Some(End::Stopped)),
+        Err(wrong) => Err(wrong),
+    }
+}
+
+/// Carries out commands on a store that was just opened. It compares all records too, where it looks.
+fn play_on<D: Disk>(
+    alloc: Global,
     store: &mut Store<D>,
     model: &mut Model,
     dice: &mut Dice,
     tally: &mut Tally,
     looks: bool,
 ) -> Result<End, Wrong> {
-    for _ in 0..dice.below(24) {
-        let command = dice.command();
-        let answer = store.apply(&command);
-        if answer == Err(Refusal::Device) {
-            return Ok(match command {
-                Command::Commit => End::StoppedInCommit,
-                _ => End::Stopped,
-            });
+    if !counts_blocks(store, model, true) {
+        return Err(Wrong::Free);
+    }
+    for _ in 0..dice.below(60) {
+        if let Some(end) = play(store, model, dice, tally)? {
+            return Ok(end);
         }
-        let expected = model.apply(&command)?;
-        if answer != expected {
-            return Err(Wrong::Answer(answer, expected));
-        }
-        if answer.is_err() {
-            tally.refused = tally.refused.saturating_add(1);
-        }
-        if looks {
-            match agrees(store, &model.plain) {
-                Ok(true) => {}
-                Ok(false) => return Err(Wrong::Record),
-                Err(_) => return Ok(End::Stopped),
-            }
+        if looks && let Some(end) = compare(alloc, store, model, dice)? {
+            return Ok(end);
         }
     }
     Ok(End::Closed)
@@ -75,11 +145,12 @@ fn live(
     let (passes, looks) = match dice.below(4) {
         0 => (NEVER, true),
         1 => (dice.below(400), true),
+        2 => (NEVER, false),
         _ => (dice.below(60), false),
     };
     match open(alloc, FuseDisk::stop(disk, passes, dice.bytes())) {
         Ok(mut store) => {
-            let end = play(&mut store, model, dice, tally, looks);
+            let end = play_on(alloc, &mut store, model, dice, tally, looks);
             let disk = store.close().into_inner();
             Ok((disk, end?))
         }
@@ -102,11 +173,9 @@ fn resolve(
         let _answer = model.apply(&Command::Commit)?;
     }
     let new = model.reopened(alloc)?;
-    let mut store = open(alloc, disk).map_err(|refused| Wrong::Refused(refused.1))?;
-    let shows_old = agrees(&mut store, &old.plain);
-    let shows_new = agrees(&mut store, &new.plain);
-    let disk = store.close();
-    match (shows_old?, shows_new?, end) {
+    let (disk, shows_old) = shows(alloc, disk, &old)?;
+    let (disk, shows_new) = shows(alloc, disk, &new)?;
+    match (shows_old, shows_new, end) {
         (true, true, End::StoppedInCommit) => Ok(None),
         (true, false, End::StoppedInCommit) => {
             tally.kept_old = tally.kept_old.saturating_add(1);
@@ -145,11 +214,12 @@ fn session(alloc: Global, seed: u64, tally: &mut Tally) -> Result<(), Wrong> {
 #[test]
 fn stores_answer_and_keep_what_the_model_does(rt: HostRuntime) {
     let mut tally = Tally {
-        refused: 0,
+        refused: [0; 22],
+        accepted: [0; 9],
         kept_old: 0,
         kept_new: 0,
     };
-    for seed in 0..150 {
+    for seed in 0..120 {
         assert_eq!(rt;
             session(rt.alloc(), seed, &mut tally),
             Ok(()),
@@ -158,7 +228,16 @@ fn stores_answer_and_keep_what_the_model_does(rt: HostRuntime) {
     }
 
     // The seeds meet what they are for.
-    assert!(rt; tally.refused > 100);
-    assert!(rt; tally.kept_old > 10);
-    assert!(rt; tally.kept_new > 10);
+    for (kind, count) in tally.accepted.iter().enumerate() {
+        assert!(rt;
+            *count > 20,
+            "{count} commands of kind {kind} were accepted"
+        );
+    }
+    for code in [1, 2, 3, 4, 5, 6, 7, 13, 14] {
+        let count = tally.refused[code];
+        assert!(rt; count > 0, "{count} commands were refused with {code}");
+    }
+    assert!(rt; tally.kept_old > 0);
+    assert!(rt; tally.kept_new > 0);
 }
