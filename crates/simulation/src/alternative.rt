@@ -2,7 +2,7 @@
 ghost use Rattle.std.specs.Prelude.{◌≡◌, [], ◌∷◌, ◌++◌, length, find, Some, None, is_some, IfSome, IfNone, IfOk, OnOk, OnErr, bytes_eq};
 ghost use Rattle.std.specs.Option.{option_eq};
 ghost use Rattle.vm_types.specs.Firsts.{IsFirst, without_first};
-ghost use Rattle.vm_types.specs.Map.{get, with_value, without, same_map};
+ghost use Rattle.vm_types.specs.Map.{get, with_value, without};
 ghost use Rattle.vm_types.specs.Step.{new_alternative};
 ghost use Rattle.vm_types.specs.Tree.{saved_as};
 ghost use Rattle.vm_types.specs.Outcomes.{gone_back};
@@ -180,32 +180,11 @@ impl Alternative {
         Ok(())
     }
 
-    /// Whether its base is what another one shows.
-    pub fn has_taken_in(&self, other: &Alternative) -> bool
-        ensures { result ≡ same_map self.now.base other.now.current }
-    {
-        map::same(&self.base, &other.current)
-    }
-
     /// A copy of what it shows.
     pub fn records(&self, alloc: Global) -> Result<Vec<(Key, Value)>, AllocError>
         ensures { IfOk result (λ copy. copy.items ≡ self.now.current) }
     {
         Vec::from_slice(alloc, &self.current)
-    }
-
-    /// Shows these records from now on.
-    pub fn show(&mut self, records: Vec<(Key, Value)>)
-        ensures { self.new ≡ record self.old { current = records.items } }
-    {
-        self.current = records;
-    }
-
-    /// Takes these records as its base.
-    pub fn rebase(&mut self, records: Vec<(Key, Value)>)
-        ensures { self.new ≡ record self.old { base = records.items } }
-    {
-        self.base = records;
     }
 
     /// Whether it has a checkpoint of this name.

@@ -1,6 +1,6 @@
 //! Maps as records by rising keys, each change a whole new copy.
 ghost use Rattle.std.specs.Prelude.{◌≡◌, ℕ, ◌+◌, ◌<◌, ◌≤◌, ◌++◌, ◌∷◌, List, length, take, drop, insert, IfOk, IfErr, MatchResult};
-ghost use Rattle.vm_types.specs.Map.{get, with_value, without, same_map};
+ghost use Rattle.vm_types.specs.Map.{get, with_value, without};
 
 use std::alloc::{AllocError, Global};
 use std::cmp::Ordering;
@@ -64,16 +64,4 @@ pub fn without(
         .copied()
         .filter(|record| key.cmp(&record.0) != Ordering::Equal)
         .collect(alloc)
-}
-
-/// Whether two maps are equal, record by record.
-pub fn same(m: &[(Key, Value)], n: &[(Key, Value)]) -> bool
-    ensures { result ≡ same_map m.now n.now }
-{
-    for (i, (key, value)) in m.iter().enumerate() {
-        if i >= n.len() || key.cmp(&n[i].0) != Ordering::Equal || *value != n[i].1 {
-            return false;
-        }
-    }
-    m.len() == n.len()
 }
