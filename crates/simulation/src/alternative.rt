@@ -3,6 +3,7 @@ ghost use Rattle.std.specs.Prelude.{◌≡◌, [], ◌∷◌, ◌++◌, length, 
 ghost use Rattle.std.specs.Option.{option_eq};
 ghost use Rattle.vm_types.specs.Firsts.{IsFirst, without_first};
 ghost use Rattle.vm_types.specs.Map.{get, with_value, without};
+ghost use Rattle.vm_types.specs.Shape.{saved_names};
 ghost use Rattle.vm_types.specs.Step.{new_alternative};
 ghost use Rattle.vm_types.specs.Tree.{saved_as};
 ghost use Rattle.vm_types.specs.Outcomes.{gone_back};
@@ -185,6 +186,20 @@ impl Alternative {
         ensures { IfOk result (λ copy. copy.items ≡ self.now.current) }
     {
         Vec::from_slice(alloc, &self.current)
+    }
+
+    /// Its name, and its parent.
+    pub fn labels(&self) -> (Name, Option<Name>)
+        ensures { result ≡ (self.now.name, self.now.parent) }
+    {
+        (self.name, self.parent)
+    }
+
+    /// The names of its checkpoints, in order of creation.
+    pub fn saved_names(&self, alloc: Global) -> Result<Vec<Name>, AllocError>
+        ensures { IfOk result (λ names. names.items ≡ saved_names self.now.saved) }
+    {
+        self.saved.iter().map(|c| c.name).collect(alloc)
     }
 
     /// Whether it has a checkpoint of this name.

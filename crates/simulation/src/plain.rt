@@ -1,9 +1,10 @@
 //! The plain model: two trees of alternatives, with whole copies of all maps.
 ghost use Rattle.std.specs.Prelude.{◌≡◌, ◌≢◌, IfOk, OnOk, OnErr};
+ghost use Rattle.vm_types.specs.Shape.{shape};
 ghost use Rattle.vm_types.specs.State.{opened, next};
 ghost use Rattle.vm_types.specs.Tree.{fresh};
 ghost use Rattle.vm_store.specs.Answers.{value_in};
-ghost use Rattle.vm_store.specs.Listing.{IsList, records_in};
+ghost use Rattle.vm_store.specs.Listing.{IsList, records_in, checkpoints_in};
 ghost use Rattle.simulation.specs.Plain.{IsAnswer, IsCarriedOut};
 
 use crate::alternative::{self, Alternative};
@@ -131,6 +132,26 @@ impl Plain {
         match steps::position_of(&self.working, alt) {
             Some(i) => self.working[i]
                 .records(self.alloc)
+                .map_err(|_| Refusal::Memory),
+            None => Err(Refusal::NoSuchAlternative),
+        }
+    }
+
+    /// All alternatives of the working state with their parents, in order of creation.
+    pub fn alternatives(&self) -> Result<Vec<(Name, Option<Name>)>, AllocError>
+        ensures { IfOk result (λ list. list.items ≡ shape self.now.working) }
+    {
+        self.working.iter().map(|a| a.labels()).collect(self.alloc)
+    }
+
+    /// The names of an alternative's checkpoints in the working state, in order of creation.
+    pub fn checkpoints(&self, alt: &Name) -> Result<Vec<Name>, Refusal>
+        ensures names { IsList result (checkpoints_in self.now.working alt.now) }
+        ensures device { result ≢ Err Refusal.Device }
+    {
+        match steps::position_of(&self.working, alt) {
+            Some(i) => self.working[i]
+                .saved_names(self.alloc)
                 .map_err(|_| Refusal::Memory),
             None => Err(Refusal::NoSuchAlternative),
         }

@@ -76,15 +76,39 @@ fn gets<D: Disk>(store: &mut Store<D>, plain: &Plain, alt: &Name, key: Key) -> R
     }
 }
 
-/// Whether the store lists just the records of the model, and finds the one of this key.
+// Whether the store lists the checkpoints of the model, or both have no such alternative.
+fn checks<D: Disk>(alloc: Global, store: &Store<D>, plain: &Plain, alt: &Name) -> bool {
+    match (store.checkpoints(alloc, alt), plain.checkpoints(alt)) {
+        (Ok(found), Ok(expected)) => found.as_slice() == expected.as_slice(),
+        (Err(found), Err(expected)) => found == expected,
+        _ => false,
+    }
+}
+
+// Whether the store lists the alternatives of the model.
+fn has_alternatives<D: Disk>(alloc: Global, store: &Store<D>, plain: &Plain) -> bool {
+    match (store.alternatives(alloc), plain.alternatives()) {
+        (Ok(found), Ok(expected)) => found.as_slice() == expected.as_slice(),
+        _ => false,
+    }
+}
+
+/// Whether the store lists just the alternatives, checkpoints and records of the model, and finds the
+/// record of this key.
 pub fn agrees<D: Disk>(
     alloc: Global,
     store: &mut Store<D>,
     plain: &Plain,
     at: Key,
 ) -> Result<bool, Wrong> {
+    if !has_alternatives(alloc, store, plain) {
+        return Ok(false);
+    }
     for n in 0..ALTERNATIVES {
         let alt = alternative(n);
+        if !checks(alloc, store, plain, &alt) {
+            return Ok(false);
+        }
         if !lists(alloc, store, plain, &alt)? || !gets(store, plain, &alt, at)? {
             return Ok(false);
         }
