@@ -5,38 +5,30 @@ use std::test::Fail;
 use vm_disk::{FuseDisk, MemDisk};
 use vm_types::{Answer, Command, Name, Refusal, Value};
 
-// A Put of `duct`, a Put into no alternative, and a Commit.
-fn commands() -> Option<[Command; 3]> {
-    let value = Value::new(b"duct")?;
-    Some([
+#[test]
+fn commands_are_answered_in_order(rt: HostRuntime) -> Result<(), Fail> {
+    let top = Name::new(b"top").ok_or("no name")?;
+    let nope = Name::new(b"nope").ok_or("no name")?;
+    let value = Value::new(b"duct").ok_or("no value")?;
+    let mut store = fresh_store(rt.alloc())?;
+    let commands = [
         Command::Put {
-            alt: Name::new(b"top")?,
+            alt: top,
             key: DUCT,
             value,
         },
         Command::Put {
-            alt: Name::new(b"nope")?,
+            alt: nope,
             key: DUCT,
             value,
         },
         Command::Commit,
-    ])
-}
-
-#[test]
-fn commands_are_answered_in_order(rt: HostRuntime) -> Result<(), Fail> {
-    let commands = commands().ok_or("no names")?;
-    let mut store = fresh_store(rt.alloc())?;
+    ];
     let (answers, stop) = store.run(rt.alloc(), &commands);
-    assert_eq!(rt;
-        answers.as_slice(),
-        [
-            Ok(Answer::Done),
-            Err(Refusal::NoSuchAlternative),
-            Ok(Answer::Done)
-        ]
-        .as_slice()
-    );
+    assert_eq!(rt; answers.len(), 3);
+    assert_eq!(rt; answers[0], Ok(Answer::Done));
+    assert_eq!(rt; answers[1], Err(Refusal::NoSuchAlternative));
+    assert_eq!(rt; answers[2], Ok(Answer::Done));
     assert_eq!(rt; stop, None);
     assert_eq!(rt; get(&mut store, DUCT), Ok(Value::new(b"duct")));
     assert_eq!(rt; record_on(rt.alloc(), store.close())?, Value::new(b"duct"));
@@ -57,15 +49,21 @@ fn empty_list_has_no_answers(rt: HostRuntime) -> Result<(), Fail> {
 // third after these.
 #[test]
 fn list_ends_where_the_device_fails(rt: HostRuntime) -> Result<(), Fail> {
-    let [put, refused, commit_all] = commands().ok_or("no names")?;
+    let alt = Name::new(b"top").ok_or("no name")?;
+    let value = Value::new(b"duct").ok_or("no value")?;
     let disk = FuseDisk::once(MemDisk::new(rt.alloc(), 64)?, 13, [9; 4096]);
     let disk = format(disk, 64).map_err(|refused| refused.1)?;
     let mut store = open(rt.alloc(), disk).map_err(|refused| refused.1)?;
-    let (answers, stop) = store.run(rt.alloc(), &[put, commit_all, refused]);
-    assert_eq!(rt;
-        answers.as_slice(),
-        [Ok(Answer::Done), Err(Refusal::Device)].as_slice()
-    );
+    let put = Command::Put {
+        alt,
+        key: DUCT,
+        value,
+    };
+    let commands = [put, Command::Commit, Command::Commit];
+    let (answers, stop) = store.run(rt.alloc(), &commands);
+    assert_eq!(rt; answers.len(), 2);
+    assert_eq!(rt; answers[0], Ok(Answer::Done));
+    assert_eq!(rt; answers[1], Err(Refusal::Device));
     assert_eq!(rt; stop, Some(Stop::Device));
 
     let (answers, stop) = store.run(rt.alloc(), &[Command::Commit]);
