@@ -1,7 +1,7 @@
 //! Walks of trees in blocks: `mark` marks what lies under roots that are known to be sound.
 //!
 //! It stands on `vm_tree`, `vm_block`, `vm_alloc` and `vm_disk`. Its one promise: the marks grow by
-//! just what is reached. It only reads, and reads no block that is marked.
+//! just what is reached. It only reads, and at most one block for each that it marks.
 #![tactic(auto)]
 
 mod marking;
