@@ -1,13 +1,16 @@
 -- A run so far: what it answered, and what a crash leaves at each moment of it.
 use Rattle.std.proofs.Common.{◌≡◌, ◌⊎◌, inl, inr, ℕ, ◌+◌, ◌*◌, ◌<◌, ◌≤◌, nat_lt, Bool, true, false, List, [], ◌∷◌, ◌++◌, length, take, get_or, Result, Ok, Err, refl, sym, ap, ◌∙◌, subst, arith}
+use Rattle.std.proofs.lemmas.Bool.Decides.{nat_tests}
 use Rattle.std.proofs.lemmas.List.{take_more}
 use Rattle.vm_types.specs.declared.answer.Answer.{Answer}
 use Rattle.vm_types.specs.declared.command.Command.{Command}
+use Rattle.vm_types.specs.declared.command.Command.TheVariants.{New, Drop, Put, Remove, Checkpoint, Uncheck, Back, Merge, Post, Commit, Reclaim}
 use Rattle.vm_types.specs.declared.refusal.Refusal.{Refusal}
 use Rattle.vm_types.specs.declared.refusal.Refusal.TheVariants.{Full, Deep, Device}
 use Rattle.vm_types.specs.Kept.{LeftBy}
 use Rattle.vm_types.specs.State.{State, next, after, answer_of, edits}
 use Rattle.vm_types.specs.Step.{Outcome, step}
+use Rattle.vm_types.specs.Tree.{Tree}
 use Rattle.vm_types.proofs.MomentsLemmas.{HasRun, HasRun-none, HasRun-more}
 use Rattle.vm_types.proofs.Runs.{after_more}
 use Rattle.vm_disk.specs.Disk as disk
@@ -15,11 +18,11 @@ use Rattle.vm_disk.specs.Disk.{Contents, Medium}
 use Rattle.vm_disk.specs.Moments.{Throughout, Leaves}
 use Rattle.vm_disk.proofs.MomentLemmas.{started, and_then, weaken, past_stays, moment_rises, leaves_only, spares_itself}
 use Rattle.vm_block.specs.declared.slot.Entry.{Entry}
-use Rattle.vm_store.specs.Answers.{IsDue, IsAnswer}
+use Rattle.vm_store.specs.Answers.{IsDue, IsDeep, IsAnswer}
 use Rattle.vm_store.specs.Free.{is_free}
 use Rattle.vm_store.specs.Guarded.{IsGuarded}
 use Rattle.vm_store.specs.Resting.{Rests}
-use Rattle.vm_store.specs.Running.{Accepts, MayAnswer, MayAnswerAll, NoneIsDevice}
+use Rattle.vm_store.specs.Running.{Accepts, AddsRecord, MayAnswer, MayAnswerAll, NoneIsDevice}
 use Rattle.vm_store.specs.Shown.{Shows}
 use Rattle.vm_store.proofs.RestingLemmas.{shows_old}
 
@@ -52,16 +55,37 @@ guarded_more old mid new bits so_far more =
 pub rests_show : (m : Medium) (limit : ℕ) (slot_b : Bool) (bits : List Bool) (committed working : List Entry) (s : State) → Rests m limit slot_b bits committed working s → Leaves (λ x. Shows x s.committed) m
 rests_show m limit slot_b bits committed working s rests left may = shows_old m limit slot_b bits committed working s rests m (spares_itself (is_free bits) m) left may
 
-due_may : (o : Outcome) (full : Bool) (deep : Type 0) (r : Result Answer Refusal) → IsDue o full deep r → (r ≡ answer_of o) ⊎ ((r ≡ Err Device) ⊎ (Accepts o × ((r ≡ Err Full) ⊎ (r ≡ Err Deep))))
-due_may (Err refusal) full deep r due = inl due
-due_may (Ok accepted) true deep r due = inr (inr (tt, inl due))
-due_may (Ok accepted) false deep r (inl due) = inl due.0
-due_may (Ok accepted) false deep r (inr due) = inr (inr (tt, inr due.0))
+-- blocks are wanting to a command that has record changes alone
+has_edits : (spare changes : ℕ) → nat_lt spare (16 * changes) ≡ true → 0 < changes
+has_edits spare changes full = let below : spare < 16 * changes = grind (arith, nat_tests) in omega (arith, below)
+
+-- and room to one that adds a record
+adds_record : (x : Contents) (root_of : List ℕ → ℕ) (tree : Tree) (command : Command) → IsDeep x root_of tree command → AddsRecord tree command
+adds_record x root_of tree (New name parent) deep = deep
+adds_record x root_of tree (Drop alt) deep = deep
+adds_record x root_of tree (Put alt key value) deep = deep.0
+adds_record x root_of tree (Remove alt key) deep = deep
+adds_record x root_of tree (Checkpoint alt name) deep = deep
+adds_record x root_of tree (Uncheck alt name) deep = deep
+adds_record x root_of tree (Back alt name) deep = deep
+adds_record x root_of tree (Merge alt settled) deep = deep
+adds_record x root_of tree (Post alt) deep = deep
+adds_record x root_of tree Commit deep = deep
+adds_record x root_of tree Reclaim deep = deep
+
+due_may : (o : Outcome) (full : Bool) (deep changes adds : Type 0) (r : Result Answer Refusal) → (full ≡ true → changes) → (deep → adds) → IsDue o full deep r
+    → (r ≡ answer_of o) ⊎ ((r ≡ Err Device) ⊎ (Accepts o × (((r ≡ Err Full) × changes) ⊎ ((r ≡ Err Deep) × adds))))
+due_may (Err refusal) full deep changes adds r is_full is_deep due = inl due
+due_may (Ok accepted) true deep changes adds r is_full is_deep due = inr (inr (tt, inl (due, is_full refl)))
+due_may (Ok accepted) false deep changes adds r is_full is_deep (inl due) = inl due.0
+due_may (Ok accepted) false deep changes adds r is_full is_deep (inr due) = inr (inr (tt, inr (due.0, is_deep due.1)))
 
 -- one answer of a run
-pub may_answer : (s : State) (spare : ℕ) (deep : Type 0) (command : Command) (r : Result Answer Refusal) → IsAnswer s spare deep command r → MayAnswer s command r
-may_answer s spare deep command r (inl device) = inr (inl device)
-may_answer s spare deep command r (inr due) = due_may (step s.working command) (nat_lt spare (16 * edits s.working command)) deep r due
+pub may_answer : (s : State) (spare : ℕ) (x : Contents) (root_of : List ℕ → ℕ) (command : Command) (r : Result Answer Refusal) → IsAnswer s spare (IsDeep x root_of s.working command) command r → MayAnswer s command r
+may_answer s spare x root_of command r (inl device) = inr (inl device)
+may_answer s spare x root_of command r (inr due) =
+    due_may (step s.working command) (nat_lt spare (16 * edits s.working command)) (IsDeep x root_of s.working command) (0 < edits s.working command) (AddsRecord s.working command) r
+    (has_edits spare (edits s.working command)) (adds_record x root_of s.working command) due
 
 -- and one more
 pub answered_more : (s : State) (commands : List Command) (answers : List (Result Answer Refusal)) (c : Command) (a : Result Answer Refusal) → MayAnswerAll s commands answers → MayAnswer (after s commands answers) c a
