@@ -1,3 +1,8 @@
+pub mod ChildLemmas
+pub mod FoundLemmas
 pub mod JoinLemmas
+pub mod KnownLemmas
 pub mod MarkLemmas
 pub mod RootLemmas
+pub mod SpanLemmas
+pub mod WalkLemmas

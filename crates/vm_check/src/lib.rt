@@ -8,5 +8,7 @@ mod marking;
 mod reading;
 #[cfg(test)]
 mod tests;
+mod verifying;
 
 pub use marking::mark;
+pub use verifying::verify;

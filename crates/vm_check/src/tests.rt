@@ -1,6 +1,7 @@
 //! What is marked on disks whose blocks are written by hand.
-use crate::mark;
+use crate::{mark, verify};
 use arrayvec::ArrayVec;
+use std::alloc::Global;
 use std::test::Fail;
 use vm_alloc::Marks;
 use vm_block::{Child, write_leaf, write_node};
@@ -129,5 +130,93 @@ fn answers_that_the_device_failed(rt: HostRuntime) -> Result<(), Fail> {
     let mut disk = FuseDisk::once(below, 0, [0; 4096]);
     let mut marks = Marks::new(rt.alloc(), 64)?;
     assert!(rt; mark_all(&mut disk, &[root(34, 1, 1)], &mut marks) == Err(TreeFault::Device));
+    Ok(())
+}
+
+// What `verify` finds under the numbers: how many roots, and how many reads it took.
+fn verify_all<D: Disk>(
+    alloc: Global,
+    disk: &mut FuseDisk<D>,
+    numbers: &[u32],
+) -> Result<(Vec<Root>, Marks, u32), TreeFault> {
+    if disk.blocks() < 64 {
+        return Err(TreeFault::Device);
+    }
+    let before = disk.calls();
+    match verify::<FuseDisk<D>, 16, 256, 8>(alloc, disk, 64, numbers) {
+        Ok((roots, marks)) => Ok((roots, marks, disk.calls().wrapping_sub(before))),
+        Err(fault) => Err(fault),
+    }
+}
+
+// The answer where it is no Ok.
+fn refused(alloc: Global, disk: &mut FuseDisk<MemDisk>, numbers: &[u32]) -> Option<TreeFault> {
+    match verify_all(alloc, disk, numbers) {
+        Ok(_) => None,
+        Err(fault) => Some(fault),
+    }
+}
+
+#[test]
+fn finds_roots_and_marks_and_reads_each_block_once(rt: HostRuntime) -> Result<(), Fail> {
+    let mut disk = FuseDisk::stop(MemDisk::new(rt.alloc(), 64)?, 1_000, [0; 4096]);
+    assert!(rt; put_leaf(&mut disk, 35, &[1]));
+    assert!(rt; put_leaf(&mut disk, 36, &[2]));
+    assert!(rt; put_node(&mut disk, 34, 1, &[(1, 35), (2, 36)]));
+    match verify_all(rt.alloc(), &mut disk, &[34, 0, 36, 34]) {
+        Ok((roots, marks, reads)) => {
+            let expected = [
+                root(34, 1, 1),
+                Root::default(),
+                root(36, 0, 2),
+                root(34, 1, 1),
+            ];
+            assert!(rt; roots.as_slice() == expected.as_slice());
+            assert!(rt; are_marked(&marks, 34, 36));
+            assert_eq!(rt; reads, 3);
+        }
+        Err(_) => panic!(rt; "refused"),
+    }
+    Ok(())
+}
+
+#[test]
+fn takes_a_root_with_one_child(rt: HostRuntime) -> Result<(), Fail> {
+    let mut disk = FuseDisk::stop(MemDisk::new(rt.alloc(), 64)?, 1_000, [0; 4096]);
+    assert!(rt; put_leaf(&mut disk, 35, &[1]));
+    assert!(rt; put_node(&mut disk, 34, 1, &[(1, 35)]));
+    assert!(rt; refused(rt.alloc(), &mut disk, &[34]) == None);
+    Ok(())
+}
+
+#[test]
+fn names_the_first_block_that_is_wrong(rt: HostRuntime) -> Result<(), Fail> {
+    let mut disk = FuseDisk::stop(MemDisk::new(rt.alloc(), 64)?, 1_000, [0; 4096]);
+    // A key twice.
+    assert!(rt; put_leaf(&mut disk, 34, &[1, 1]));
+    assert!(rt; refused(rt.alloc(), &mut disk, &[34]) == Some(TreeFault::Damaged(34)));
+    // A child of the wrong level.
+    assert!(rt; put_leaf(&mut disk, 35, &[1]));
+    assert!(rt; put_node(&mut disk, 34, 2, &[(1, 35)]));
+    assert!(rt; refused(rt.alloc(), &mut disk, &[34]) == Some(TreeFault::Damaged(35)));
+    // A child that begins with another key than its entry has.
+    assert!(rt; put_leaf(&mut disk, 35, &[2]));
+    assert!(rt; put_node(&mut disk, 34, 1, &[(1, 35)]));
+    assert!(rt; refused(rt.alloc(), &mut disk, &[34]) == Some(TreeFault::Damaged(35)));
+    // A child with a key that belongs to the next one.
+    assert!(rt; put_leaf(&mut disk, 35, &[1, 3]));
+    assert!(rt; put_leaf(&mut disk, 36, &[3]));
+    assert!(rt; put_node(&mut disk, 34, 1, &[(1, 35), (3, 36)]));
+    assert!(rt; refused(rt.alloc(), &mut disk, &[34]) == Some(TreeFault::Damaged(35)));
+    // A child twice.
+    assert!(rt; put_leaf(&mut disk, 35, &[1, 2]));
+    assert!(rt; put_node(&mut disk, 34, 1, &[(1, 35), (3, 35)]));
+    assert!(rt; refused(rt.alloc(), &mut disk, &[34]) == Some(TreeFault::Damaged(35)));
+    // A block that is its own child, and numbers out of range.
+    assert!(rt; put_node(&mut disk, 34, 1, &[(1, 34)]));
+    assert!(rt; refused(rt.alloc(), &mut disk, &[34]) == Some(TreeFault::Damaged(34)));
+    assert!(rt; refused(rt.alloc(), &mut disk, &[64]) == Some(TreeFault::Damaged(64)));
+    assert!(rt; put_node(&mut disk, 34, 1, &[(1, 0)]));
+    assert!(rt; refused(rt.alloc(), &mut disk, &[34]) == Some(TreeFault::Damaged(0)));
     Ok(())
 }

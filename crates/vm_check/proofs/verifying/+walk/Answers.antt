@@ -1,0 +1,154 @@
+use Rattle.std.proofs.Common.{◌≡◌, refl, sym, ap, subst, ◌∙◌, arith, length, List}
+use Rattle.std.proofs.Math.ListN.{length-set}
+use Rattle.std.proofs.lemmas.Bool.{false≢true}
+use Rattle.vm_disk.proofs.MomentLemmas.{reads_then, same_medium}
+use Rattle.vm_block.specs.Leaf.{IsLeaf}
+use Rattle.vm_block.specs.Node.{IsNode}
+use Rattle.vm_tree.proofs.Descent.{subtree_top}
+use Rattle.vm_check.specs.Verifying.{span_at}
+use Rattle.vm_alloc.proofs.HeldLemmas.{holds_more_then}
+use Rattle.vm_check.proofs.KnownLemmas.{level_one, subtree_level}
+use Rattle.vm_check.proofs.ChildLemmas.{leaf_top, node_top, top_form}
+use Rattle.vm_check.proofs.SpanLemmas.{keys_same, keys_differ}
+use Rattle.vm_check.proofs.WalkLemmas.{leaf_as, node_as, leaf_exit, node_exit, node_fault, child_step, child_fault, child_fits}
+use Rattle.vm_check.proofs.verifying.+walk.Goals as goal
+use Rattle.vm_check.proofs.verifying.+walk.Goals.{visit-then-span-least-via-then-span-least, visit-then-span-least-via-else-span-least+then-span-most}
+use Rattle.vm_check.proofs.verifying.+walk.Goals.{visit-then-least-gt0-via-then-least-gt0, visit-then-least-gt0-via-else-least-gt0+then-len}
+use Rattle.vm_check.proofs.verifying.+walk.Goals.{visit-then-level-least-via-then-level-least, visit-then-level-least-via-else-level-least+then-level-most, visit-then-level-least-via-else-level-least+else-level-most+then-children}
+use Rattle.vm_check.proofs.verifying.+walk.Goals.{visit_children-then-ne-via-then-ne, visit_children-then-ne-via-else-ne+then-not-is_below_next}
+
+pub visit-returns-then-not-is_data-clause-only : goal.visit-returns-then-not-is_data-clause-only
+visit-returns-then-not-is_data-clause-only g t c honest levels l rs bs known least most tree rises =
+    absurd (false≢true (sym c.if-not-is_data.true ∙ c.is_data.ensures.1 (subtree_top _ _ _ _ _ rs bs tree)))
+
+pub visit-returns-then-span-least-clause-only : goal.visit-returns-then-span-least-clause-only
+visit-returns-then-span-least-clause-only g t c honest levels l rs bs known least most tree rises =
+    let same = level_one _ l _ (subtree_level _ _ _ l _ rs bs tree) (known.formed _ (c.is_set.ensures.0 c.if-is_set.true)) in
+    elim c.then-span-least.branch [
+      | visit-then-span-least-via-then-span-least w ↦ absurd (omega (arith, same, w.if-span-least.true, least))
+      | visit-then-span-least-via-else-span-least+then-span-most w ↦ absurd (omega (arith, same, w.if-span-most.true, most))
+    ]
+
+pub visit-returns-then-least-gt0-clause-only : goal.visit-returns-then-least-gt0-clause-only
+visit-returns-then-least-gt0-clause-only g t c honest levels l rs bs known least most tree rises =
+    let top = leaf_top _ _ _ l _ _ rs bs (rw c.in-Ok-Leaf.field-0-is at c.in-Ok-Leaf.ensures.found honest) tree in
+    elim c.then-least-gt0.branch [
+      | visit-then-least-gt0-via-then-least-gt0 w ↦ absurd (omega (arith, top.level, w.if-least-gt0.true, least))
+      | visit-then-least-gt0-via-else-least-gt0+then-len w ↦ absurd (omega (arith, top.few, w.if-len.true, w.len.ensures.value))
+    ]
+
+pub visit-returns-then-level-least-clause-only : goal.visit-returns-then-level-least-clause-only
+visit-returns-then-level-least-clause-only g t c honest levels l rs bs known least most tree rises =
+    let top = node_top _ _ _ l _ _ _ rs bs (rw c.in-Ok-Node.field-0-is at c.in-Ok-Node.ensures.found honest) tree in
+    elim c.then-level-least.branch [
+      | visit-then-level-least-via-then-level-least w ↦ absurd (omega (arith, top.same_level, w.if-level-least.true, least))
+      | visit-then-level-least-via-else-level-least+then-level-most w ↦ absurd (omega (arith, top.same_level, w.if-level-most.true, most))
+      | visit-then-level-least-via-else-level-least+else-level-most+then-children w ↦ absurd (omega (arith, top.few, w.if-children.true, ap length c.as_slice-children.ensures.value))
+    ]
+
+pub visit-returns-else-len-clause-found : goal.visit-returns-else-len-clause-found
+visit-returns-else-len-clause-found g t c honest levels known =
+    let inside = c.is_data.ensures.0 c.if-not-is_data.false in
+    let leaf = leaf_as _ _ _ c.as_slice.ensures.value (rw c.in-Ok-Leaf.field-0-is at c.in-Ok-Leaf.ensures.found honest) in
+    leaf_exit _ _ _ _ _ _ c.as_slice.result.now _ _ _ _ c.set.ensures (omega (arith, inside.1, c.requires.bits)) (omega (arith, inside.1, c.requires.room))
+    (λ is. false≢true (sym c.if-is_set.false ∙ c.is_set.ensures.1 is)) (omega (arith, c.if-least-gt0.false))
+    (record {
+      inside = inside;
+      leaf = leaf;
+      few = omega (arith, c.if-len.false, c.len.ensures.value, ap length c.as_slice.ensures.value);
+      level = c.leaf_span-span.ensures.level;
+      lowest = c.leaf_span-span.ensures.low;
+      highest = c.leaf_span-span.ensures.high leaf.rising;
+    }) known
+
+pub visit-returns-in-Ok-clause-reads : goal.visit-returns-in-Ok-clause-reads
+visit-returns-in-Ok-clause-reads g t c honest =
+    reads_then _ _ _ (c.read_form.ensures.reads honest) (c.visit_children.ensures.reads (c.read_form.ensures.any.same_honesty ∙ honest))
+
+pub visit-returns-in-Err-visit_children-clause-reads : goal.visit-returns-in-Err-visit_children-clause-reads
+visit-returns-in-Err-visit_children-clause-reads g t c honest =
+    reads_then _ _ _ (c.read_form.ensures.reads honest) (c.visit_children.ensures.reads (c.read_form.ensures.any.same_honesty ∙ honest))
+
+pub visit-returns-in-Ok-clause-found : goal.visit-returns-in-Ok-clause-found
+visit-returns-in-Ok-clause-found g t c honest levels known =
+    let inside = c.is_data.ensures.0 c.if-not-is_data.false in
+    let node = rw c.in-Ok-Node.field-0-is at c.in-Ok-Node.ensures.found honest in
+    let first = record (span_at c.args.spans.now c.args.block) { level = c.in-Ok-Node.node.level } in
+    node_exit _ _ _ _ _ _ _ c.as_slice-children.result.now _ first _ _ _ _ _ _ (same_medium _ _ (c.read_form.ensures.reads honest))
+    (record {
+      is = c.set.ensures;
+      inside = omega (arith, inside.1, c.requires.bits);
+      room = omega (arith, inside.1, c.requires.room);
+      fresh = λ is. false≢true (sym c.if-is_set.false ∙ c.is_set.ensures.1 is);
+      data_block = inside;
+      node = node_as _ _ _ _ c.as_slice-children.ensures.value node;
+      few = c.if-children.false;
+      at_least = c.if-level-least.false;
+      at_most = c.if-level-most.false;
+    })
+    (c.visit_children.auto.spans ∙ length-set c.args.spans.now c.args.block first) refl refl (λ here. c.in-Ok.ensures.found (c.read_form.ensures.any.same_honesty ∙ honest) levels here) known
+
+pub visit-returns-in-Err-visit_children-clause-only : goal.visit-returns-in-Err-visit_children-clause-only
+visit-returns-in-Err-visit_children-clause-only g t c honest levels l rs bs known least most tree rises =
+    let inside = c.is_data.ensures.0 c.if-not-is_data.false in
+    let node = rw c.in-Ok-Node.field-0-is at c.in-Ok-Node.ensures.found honest in
+    let first = record (span_at c.args.spans.now c.args.block) { level = c.in-Ok-Node.node.level } in
+    node_fault _ _ _ _ _ _ _ l c.as_slice-children.result.now first _ _ _ rs bs _ (same_medium _ _ (c.read_form.ensures.reads honest))
+    (record {
+      is = c.set.ensures;
+      inside = omega (arith, inside.1, c.requires.bits);
+      room = omega (arith, inside.1, c.requires.room);
+      fresh = λ is. false≢true (sym c.if-is_set.false ∙ c.is_set.ensures.1 is);
+      data_block = inside;
+      node = node_as _ _ _ _ c.as_slice-children.ensures.value node;
+      few = c.if-children.false;
+      at_least = c.if-level-least.false;
+      at_most = c.if-level-most.false;
+    })
+    known tree (λ ds here under. c.in-Err-visit_children.ensures.only (c.read_form.ensures.any.same_honesty ∙ honest) levels rs ds here under rises)
+
+pub visit-returns-in-Err-clause-only : goal.visit-returns-in-Err-clause-only
+visit-returns-in-Err-clause-only g t c honest levels l rs bs known least most tree rises =
+    top_form _ _ _ l _ rs bs _ tree (λ qs leaf. c.in-Err.ensures.leaf honest qs leaf) (λ level cs node. c.in-Err.ensures.node honest level cs node)
+
+pub visit_children-returns-in-Err-clause-reads : goal.visit_children-returns-in-Err-clause-reads
+visit_children-returns-in-Err-clause-reads g t c honest =
+    let so_far = c.loop-i.invariant in reads_then _ _ _ (so_far.reads honest) (c.visit.ensures.reads (so_far.same_honesty ∙ honest))
+
+pub visit_children-returns-then-ne-clause-reads : goal.visit_children-returns-then-ne-clause-reads
+visit_children-returns-then-ne-clause-reads g t c honest =
+    let so_far = c.loop-i.invariant in reads_then _ _ _ (so_far.reads honest) (c.visit.ensures.reads (so_far.same_honesty ∙ honest))
+
+pub visit_children-returns-in-Err-clause-only : goal.visit_children-returns-in-Err-clause-only
+visit_children-returns-in-Err-clause-only g t c honest levels rs bs known under rises =
+    let so_far = c.loop-i.invariant in
+    child_fault _ _ _ _ _ _ _ _ rs bs _ _ _ _ _ _ (same_medium _ _ (so_far.reads honest)) c.loop-i-test.true (so_far.found honest levels known) under rises
+    (λ qs ds here sub up. c.in-Err.ensures.only (so_far.same_honesty ∙ honest) levels _ qs ds here (omega arith) (omega arith) sub up)
+
+pub visit_children-returns-then-ne-clause-only : goal.visit_children-returns-then-ne-clause-only
+visit_children-returns-then-ne-clause-only g t c honest levels rs bs known under rises =
+    let so_far = c.loop-i.invariant in
+    let fits = child_fits _ _ _ _ _ _ _ _ rs bs _ _ _ _ _ _ _ _ (same_medium _ _ (so_far.reads honest)) c.loop-i-test.true (so_far.found honest levels known) under rises
+    (λ here. c.in-Ok.ensures.found (so_far.same_honesty ∙ honest) levels here) in
+    elim c.then-ne.branch [
+      | visit_children-then-ne-via-then-ne w ↦ absurd (keys_differ _ _ _ c.ne.ensures w.if-ne.true fits.low)
+      | visit_children-then-ne-via-else-ne+then-not-is_below_next w ↦ absurd (false≢true (sym w.if-not-is_below_next.true ∙ w.is_below_next.ensures.1 fits.below))
+    ]
+
+pub visit_children-loop-i-preserved : goal.visit_children-loop-i-preserved
+visit_children-loop-i-preserved g t c =
+    let so_far = c.loop-i.invariant in
+    let any = c.visit.ensures.any in
+    let grows = c.visit.ensures.growing in
+    record {
+      same_blocks = any.same_blocks ∙ so_far.same_blocks;
+      same_honesty = any.same_honesty ∙ so_far.same_honesty;
+      rising = omega (arith, any.rising, so_far.rising);
+      many = grows.same_length ∙ so_far.many;
+      once = omega (arith, c.visit.ensures.once, so_far.once);
+      growing = holds_more_then _ _ _ so_far.growing grows;
+      reads = λ honest. reads_then _ _ _ (so_far.reads honest) (c.visit.ensures.reads (so_far.same_honesty ∙ honest));
+      found = λ honest levels known. child_step _ _ _ _ _ _ _ _ _ _ _ _ _ _ _ _ (same_medium _ _ (so_far.reads honest)) c.loop-i-test.true (keys_same _ _ _ c.ne.ensures c.if-ne.false) so_far.below (so_far.found honest levels known)
+          (λ here. c.in-Ok.ensures.found (so_far.same_honesty ∙ honest) levels here);
+      below = λ some more. c.is_below_next.ensures.0 c.if-not-is_below_next.false more;
+    }

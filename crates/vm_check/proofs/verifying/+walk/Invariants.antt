@@ -1,0 +1,32 @@
+use Rattle.std.proofs.Common.{◌≡◌, ◌+◌, ◌*◌, ◌≤◌, ◌<◌, ℕ, true, length, take}
+use Rattle.std.specs.Prelude.{slice_index_or}
+use Rattle.vm_types.specs.Places.{place}
+use Rattle.vm_disk.specs.Moments.{OnlyReads}
+use Rattle.vm_alloc.specs.Held.{HoldsMore, free_count}
+use Rattle.vm_block.specs.Node.{lows}
+use Rattle.vm_tree.specs.Root.{sizes_of}
+use Rattle.vm_check.specs.Verifying.{Known, VisitedAll}
+use Rattle.vm_check.proofs.verifying.+walk.Given as goal
+
+abbrev pub decreases-visit : goal.decreases-visit
+decreases-visit g l = 2 * l.most
+
+abbrev pub decreases-visit_children : goal.decreases-visit_children
+decreases-visit_children g l = 2 * l.level + 1
+
+-- what was found under the children so far, and that it stands below the next one
+abbrev pub invariant-visit_children-loop-i : goal.invariant-visit_children-loop-i
+invariant-visit_children-loop-i g l =
+    let old = g.D.Disk.state l.fn.disk in
+    let now = g.D.Disk.state l.disk in record {
+      same_blocks : now.blocks ≡ old.blocks;
+      same_honesty : now.honest ≡ old.honest;
+      rising : old.failures ≤ now.failures;
+      many : length l.marks ≡ l.blocks;
+      once : now.reads + free_count l.marks ≤ old.reads + free_count l.fn.marks;
+      growing : HoldsMore l.fn.marks l.marks;
+      reads : old.honest ≡ true → OnlyReads old now;
+      found : old.honest ≡ true → (levels : ℕ) → Known (sizes_of g.row.LEAF g.row.FAN levels) old.now.contents l.blocks l.level l.fn.marks l.initial.spans
+          → VisitedAll (sizes_of g.row.LEAF g.row.FAN levels) old.now.contents l.blocks l.level (take l.i l.children) l.high l.fn.marks l.initial.spans l.marks l.spans;
+      below : 0 < l.i → l.i < length l.children → place l.high < slice_index_or (lows l.children) l.i 0;
+    }

@@ -1,0 +1,23 @@
+use Rattle.std.proofs.Common.{◌≡◌, ◌+◌, ◌≤◌, true, length, take, map}
+use Rattle.vm_disk.specs.Moments.{OnlyReads}
+use Rattle.vm_alloc.specs.Held.{free_count}
+use Rattle.vm_tree.specs.Root.{sizes_of}
+use Rattle.vm_tree.specs.declared.root.Root.{Root}
+use Rattle.vm_check.proofs.FoundLemmas.{FoundSoFar}
+use Rattle.vm_check.proofs.verifying.verify.Given as goal
+
+-- what was found under the numbers so far
+abbrev pub invariant-loop-number : goal.invariant-loop-number
+invariant-loop-number g l =
+    let old = g.D.Disk.state l.fn.disk in
+    let now = g.D.Disk.state l.disk in record {
+      same_blocks : now.blocks ≡ old.blocks;
+      same_honesty : now.honest ≡ old.honest;
+      rising : old.failures ≤ now.failures;
+      many : length l.marks ≡ l.blocks;
+      room : length l.spans ≡ l.blocks;
+      once : now.reads + free_count l.marks ≤ old.reads + l.blocks;
+      named : map (λ (r : Root). r.block) l.roots.items ≡ take l.number-index l.numbers;
+      reads : old.honest ≡ true → OnlyReads old now;
+      found : old.honest ≡ true → FoundSoFar (sizes_of g.row.LEAF g.row.FAN g.row.LEVELS) old.now.contents l.blocks (take l.number-index l.numbers) l.roots.items l.marks l.spans;
+    }

@@ -1,0 +1,254 @@
+//! Telling whether trees lie under numbers that may name anything.
+ghost use Rattle.std.specs.Prelude.{◌≡◌, ◌≢◌, ◌↔◌, ℕ, ◌+◌, ◌-◌, ◌<◌, ◌≤◌, true, List, length, map, slice_index_or, IsTrue, IfOk};
+ghost use Rattle.vm_types.specs.Map.{Map};
+ghost use Rattle.vm_types.specs.Places.{RisesFrom, place, places};
+ghost use Rattle.vm_disk.specs.Disk.{Goes};
+ghost use Rattle.vm_disk.specs.Moments.{OnlyReads};
+ghost use Rattle.vm_alloc.specs.Held.{HoldsMore, free_count};
+ghost use Rattle.vm_block.specs.Leaf.{Record};
+ghost use Rattle.vm_block.specs.Node.{lows};
+ghost use Rattle.vm_block.specs.Tree.{Begins, Subtree, Children, IsTree};
+ghost use Rattle.vm_tree.specs.Answers.{OkOrDevice, Lists};
+ghost use Rattle.vm_tree.specs.Root.{AreSizes, sizes_of};
+ghost use Rattle.vm_check.specs.Verifying.{IsHighest, Known, Visited, VisitedAll, RootVisited, HaveTrees, Found};
+
+use crate::reading::{Form, is_data, read_form};
+use std::alloc::Global;
+use vm_alloc::Marks;
+use vm_block::Child;
+use vm_disk::Disk;
+use vm_tree::{Root, TreeFault};
+use vm_types::{Key, Value};
+
+/// What was found at a block: its level, and the lowest and the highest key under it. While the
+/// blocks under it are visited only the level is known.
+#[derive(Clone, Copy, Debug, Default)]
+pub(crate) struct Span {
+    level: u8,
+    low: Key,
+    high: Key,
+}
+
+/// Visits a block, whose level has to lie from `least` to `most`, and all blocks under it. A block
+/// that was met before is not read again.
+#[cycle(walk)]
+fn visit<D: Disk, const LEAF: usize, const FAN: usize>(
+    disk: &mut D,
+    blocks: u32,
+    least: u8,
+    most: u8,
+    block: u32,
+    marks: &mut Marks,
+    spans: &mut [Span],
+) -> Result<Span, TreeFault>
+    requires inside { blocks ≤ (D.state disk.old).blocks }
+    requires bits { length marks.old ≡ blocks }
+    requires room { length spans.old ≡ blocks }
+    ensures any { Goes (result ≡ Err TreeFault.Device) (D.state disk.old) (D.state disk.new) }
+    ensures deep { result ≢ Err TreeFault.Deep }
+    ensures memory { result ≢ Err TreeFault.Memory }
+    ensures once { (D.state disk.new).reads + free_count marks.new ≤ (D.state disk.old).reads + free_count marks.old }
+    ensures growing { HoldsMore marks.old marks.new }
+    ensures reads { (D.state disk.old).honest ≡ true → OnlyReads (D.state disk.old) (D.state disk.new) }
+    ensures found { (D.state disk.old).honest ≡ true → (levels : ℕ) → Known (sizes_of LEAF FAN levels) (D.state disk.old).now.contents blocks most marks.old spans.old
+        → IfOk result (λ span. Visited (sizes_of LEAF FAN levels) (D.state disk.old).now.contents blocks least most block span marks.old spans.old marks.new spans.new) }
+    ensures only { (D.state disk.old).honest ≡ true → (levels l : ℕ) (rs : List Record) (bs : List ℕ) → Known (sizes_of LEAF FAN levels) (D.state disk.old).now.contents blocks most marks.old spans.old
+        → least ≤ l → l ≤ most → Subtree (sizes_of LEAF FAN levels) (D.state disk.old).now.contents blocks l block rs bs → RisesFrom 0 (places rs)
+        → OkOrDevice result (λ _. Unit {0}) }
+{
+    if !is_data(blocks, block) {
+        return Err(TreeFault::Damaged(block));
+    }
+    let at = block as usize;
+    if marks.is_set(block) {
+        let span = spans[at];
+        if span.level < least || span.level > most {
+            return Err(TreeFault::Damaged(block));
+        }
+        return Ok(span);
+    }
+    marks.set(block);
+    match read_form(disk, block) {
+        Ok(Form::Leaf(records)) => {
+            if least > 0 || records.len() > LEAF {
+                return Err(TreeFault::Damaged(block));
+            }
+            let span = leaf_span(records.as_slice());
+            spans[at] = span;
+            Ok(span)
+        }
+        Ok(Form::Node(node)) => {
+            let level = node.level;
+            let children = node.children.as_slice();
+            if level < least || level > most || children.len() > FAN {
+                return Err(TreeFault::Damaged(block));
+            }
+            spans[at].level = level;
+            match visit_children::<D, LEAF, FAN>(disk, blocks, level - 1, children, marks, spans) {
+                Ok(high) => {
+                    let low = children[0].low;
+                    let span = Span { level, low, high };
+                    spans[at] = span;
+                    Ok(span)
+                }
+                Err(fault) => Err(fault),
+            }
+        }
+        Err(fault) => Err(fault),
+    }
+}
+
+/// What a leaf of these records is.
+fn leaf_span(records: &[(Key, Value)]) -> Span
+    requires { 0 < length records.now }
+    ensures level { result.level ≡ 0 }
+    ensures low { Begins result.low records.now }
+    ensures high { RisesFrom 0 (places records.now) → IsHighest result.high records.now }
+{
+    Span {
+        level: 0,
+        low: records[0].0,
+        high: records[records.len() - 1].0,
+    }
+}
+
+/// Visits children of this level in their order, and gives the highest key under them.
+#[cycle(walk)]
+fn visit_children<D: Disk, const LEAF: usize, const FAN: usize>(
+    disk: &mut D,
+    blocks: u32,
+    level: u8,
+    children: &[Child],
+    marks: &mut Marks,
+    spans: &mut [Span],
+) -> Result<Key, TreeFault>
+    requires inside { blocks ≤ (D.state disk.old).blocks }
+    requires bits { length marks.old ≡ blocks }
+    requires room { length spans.old ≡ blocks }
+    ensures any { Goes (result ≡ Err TreeFault.Device) (D.state disk.old) (D.state disk.new) }
+    ensures deep { result ≢ Err TreeFault.Deep }
+    ensures memory { result ≢ Err TreeFault.Memory }
+    ensures once { (D.state disk.new).reads + free_count marks.new ≤ (D.state disk.old).reads + free_count marks.old }
+    ensures growing { HoldsMore marks.old marks.new }
+    ensures reads { (D.state disk.old).honest ≡ true → OnlyReads (D.state disk.old) (D.state disk.new) }
+    ensures found { (D.state disk.old).honest ≡ true → (levels : ℕ) → Known (sizes_of LEAF FAN levels) (D.state disk.old).now.contents blocks level marks.old spans.old
+        → IfOk result (λ high. VisitedAll (sizes_of LEAF FAN levels) (D.state disk.old).now.contents blocks level children.now high marks.old spans.old marks.new spans.new) }
+    ensures only { (D.state disk.old).honest ≡ true → (levels : ℕ) (rs : List Record) (bs : List ℕ) → Known (sizes_of LEAF FAN levels) (D.state disk.old).now.contents blocks level marks.old spans.old
+        → Children (Subtree (sizes_of LEAF FAN levels) (D.state disk.old).now.contents blocks level) children.now rs bs → RisesFrom 0 (places rs)
+        → OkOrDevice result (λ _. Unit {0}) }
+{
+    let mut high = Key::default();
+    for (i, child) in children.iter().enumerate() {
+        match visit::<D, LEAF, FAN>(disk, blocks, level, level, child.block, marks, spans) {
+            Ok(span) => {
+                if span.low != child.low || !is_below_next(span.high, children, i) {
+                    return Err(TreeFault::Damaged(child.block));
+                }
+                high = span.high;
+            }
+            Err(fault) => return Err(fault),
+        }
+    }
+    Ok(high)
+}
+
+/// Whether a key stands below the lowest key of the child after the one at i, if there is one.
+fn is_below_next(high: Key, children: &[Child], i: usize) -> bool
+    requires { i < length children.now }
+    ensures { IsTrue result ↔ (i + 1 < length children.now → place high < slice_index_or (lows children.now) (i + 1) 0) }
+{
+    i + 1 >= children.len() || high.place() < children[i + 1].low.place()
+}
+
+/// Walks the trees under the numbers, in their order, and gives the root of each, and marks on
+/// just the blocks that they reach. A number may name anything: where it has no tree, the answer is
+/// Damaged with the first block of the walk that is wrong. Number 0 is the empty map.
+///
+/// It takes memory for the roots, for the marks, and for the level and the keys of each block.
+pub fn verify<D: Disk, const LEAF: usize, const FAN: usize, const LEVELS: usize>(
+    alloc: Global,
+    disk: &mut D,
+    blocks: u32,
+    numbers: &[u32],
+) -> Result<(Vec<Root>, Marks), TreeFault>
+    requires sizes { AreSizes LEAF FAN LEVELS }
+    requires enough { 64 ≤ blocks }
+    requires few { blocks ≤ 1048576 }
+    requires inside { blocks ≤ (D.state disk.old).blocks }
+    ensures any { Goes (result ≡ Err TreeFault.Device) (D.state disk.old) (D.state disk.new) }
+    ensures deep { result ≢ Err TreeFault.Deep }
+    ensures reads { (D.state disk.old).honest ≡ true → OnlyReads (D.state disk.old) (D.state disk.new) }
+
+    // On any disk there is a flag for each block, and a root for each number.
+    ensures count { IfOk result (λ found. length found.1 ≡ blocks) }
+    ensures roots { IfOk result (λ found. length found.0.items ≡ length numbers.now) }
+    ensures named { IfOk result (λ found. map (λ root. root.block) found.0.items ≡ numbers.now) }
+
+    // No block is read twice, whatever the disk holds: there are no more reads than blocks, and where
+    // it answers Ok, no more than blocks that are marked.
+    ensures once { (D.state disk.new).reads ≤ (D.state disk.old).reads + blocks }
+    ensures paid { IfOk result (λ found. (D.state disk.new).reads + free_count found.1 ≤ (D.state disk.old).reads + blocks) }
+
+    // It is Ok exactly where each number has a tree, unless the device fails or no memory is found.
+    ensures found { (D.state disk.old).honest ≡ true
+        → IfOk result (λ found. Found (sizes_of LEAF FAN LEVELS) (D.state disk.old).now.contents blocks numbers.now found.0.items found.1) }
+    ensures only { (D.state disk.old).honest ≡ true → HaveTrees (sizes_of LEAF FAN LEVELS) (D.state disk.old).now.contents blocks numbers.now
+        → Lists result (λ _. Unit {0}) }
+{
+    let (Ok(mut marks), Ok(mut spans)) = (
+        Marks::new(alloc, blocks),
+        vec![in alloc; Span::default(); blocks as usize],
+    ) else {
+        return Err(TreeFault::Memory);
+    };
+    let spans = spans.as_mut_slice();
+    let mut roots = Vec::new(alloc);
+    for number in numbers {
+        match visit_root::<D, LEAF, FAN, LEVELS>(disk, blocks, *number, &mut marks, spans) {
+            Ok(root) => match roots.push(root) {
+                Ok(()) => {}
+                Err(_) => return Err(TreeFault::Memory),
+            },
+            Err(fault) => return Err(fault),
+        }
+    }
+    Ok((roots, marks))
+}
+
+/// Visits the tree under a number, and gives its root.
+fn visit_root<D: Disk, const LEAF: usize, const FAN: usize, const LEVELS: usize>(
+    disk: &mut D,
+    blocks: u32,
+    number: u32,
+    marks: &mut Marks,
+    spans: &mut [Span],
+) -> Result<Root, TreeFault>
+    requires sizes { AreSizes LEAF FAN LEVELS }
+    requires inside { blocks ≤ (D.state disk.old).blocks }
+    requires bits { length marks.old ≡ blocks }
+    requires room { length spans.old ≡ blocks }
+    ensures any { Goes (result ≡ Err TreeFault.Device) (D.state disk.old) (D.state disk.new) }
+    ensures deep { result ≢ Err TreeFault.Deep }
+    ensures memory { result ≢ Err TreeFault.Memory }
+    ensures once { (D.state disk.new).reads + free_count marks.new ≤ (D.state disk.old).reads + free_count marks.old }
+    ensures count { length marks.new ≡ blocks }
+    ensures named { IfOk result (λ root. root.block ≡ number) }
+    ensures reads { (D.state disk.old).honest ≡ true → OnlyReads (D.state disk.old) (D.state disk.new) }
+    ensures found { (D.state disk.old).honest ≡ true → Known (sizes_of LEAF FAN LEVELS) (D.state disk.old).now.contents blocks (LEVELS - 1) marks.old spans.old
+        → IfOk result (λ root. RootVisited (sizes_of LEAF FAN LEVELS) (D.state disk.old).now.contents blocks number root marks.old spans.old marks.new spans.new) }
+    ensures only { (D.state disk.old).honest ≡ true → Known (sizes_of LEAF FAN LEVELS) (D.state disk.old).now.contents blocks (LEVELS - 1) marks.old spans.old
+        → (m : Map) (bs : List ℕ) → IsTree (sizes_of LEAF FAN LEVELS) (D.state disk.old).now.contents blocks number m bs → OkOrDevice result (λ _. Unit {0}) }
+{
+    if number == 0 {
+        return Ok(Root::default());
+    }
+    let most = (LEVELS - 1) as u8;
+    match visit::<D, LEAF, FAN>(disk, blocks, 0, most, number, marks, spans) {
+        Ok(span) => Ok(Root {
+            block: number,
+            level: span.level,
+            low: span.low,
+        }),
+        Err(fault) => Err(fault),
+    }
+}
