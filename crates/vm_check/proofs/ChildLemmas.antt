@@ -1,14 +1,13 @@
 -- The children of an inner block, which are visited one after another.
-use Rattle.std.proofs.Common.{◌≡◌, ◌⊎◌, inl, inr, ℕ, zero, suc, ◌+◌, ◌-◌, ◌<◌, ◌≤◌, Bool, List, [], ◌∷◌, ◌++◌, length, get_or, take, drop, refl, sym, ap, ◌∙◌, subst, arith, length-take, length-drop, get_or-drop}
-use Rattle.std.specs.Prelude.{slice_index_or, Contains}
-use Rattle.std.specs.List.{AllByRecursion}
-use Rattle.std.proofs.lemmas.List.{get_or-map, take_more, take_all}
+use Rattle.std.proofs.Common.{◌≡◌, inl, inr, ℕ, zero, suc, ◌+◌, ◌-◌, ◌<◌, ◌≤◌, Bool, List, [], ◌∷◌, ◌++◌, length, get_or, take, drop, refl, sym, ap, ◌∙◌, subst, arith, length-take, length-drop, get_or-drop}
+use Rattle.std.specs.Prelude.{slice_index_or}
+use Rattle.std.proofs.lemmas.List.{get_or-map, take_more}
 use Rattle.std.proofs.lemmas.List.Elements.{Contains-append_left, Contains-append_right}
 use Rattle.vm_types.specs.declared.key.Key.{Key}
 use Rattle.vm_types.specs.Places.{RisesFrom, place, places}
 use Rattle.vm_disk.specs.Disk.{Contents, block}
 use Rattle.vm_alloc.specs.Marks.{IsMarked}
-use Rattle.vm_alloc.proofs.HeldLemmas.{holds_same, holds_more_then}
+use Rattle.vm_alloc.proofs.HeldLemmas.{holds_more_then}
 use Rattle.vm_block.specs.Leaf.{Record, IsLeaf}
 use Rattle.vm_block.specs.Node.{IsNode, lows}
 use Rattle.vm_block.specs.Tree.{Sizes, Begins, Children, Subtree}
@@ -20,7 +19,7 @@ use Rattle.vm_block.proofs.NodeLemmas.{node_one}
 use Rattle.vm_block.proofs.TreeLemmas.{subtree_one}
 use Rattle.vm_tree.proofs.Rising.{rises_front, rises_back}
 use Rattle.vm_tree.proofs.Splitting.{split_at, children_join, child_alone}
-use Rattle.vm_check.specs.Verifying.{IsHighest, span_at, Known, Adds, Visited, VisitedAll}
+use Rattle.vm_check.specs.Visiting.{IsHighest, Adds, Visited, VisitedAll}
 use Rattle.vm_check.specs.declared.verifying.Span.{Span}
 use Rattle.vm_check.proofs.SpanLemmas.{begins_one, highest_join, lowest_highest, rises_join, highest_below}
 use Rattle.vm_check.proofs.KnownLemmas.{children_begin}
@@ -53,19 +52,6 @@ module _ (T : ℕ → List Record → List ℕ → Type 0) where
       highest_join high last xs ys (top (omega (arith, length-take (suc i) cs))) highest (omega (arith, below (omega arith), lowest_highest next last ys begins highest))
 
 module _ (sizes : Sizes) (x : Contents) (limit level : ℕ) where
-  -- before the first child
-  pub none_visited : (high : Key) (marks : List Bool) (spans : List Span) → Known sizes x limit level marks spans → VisitedAll sizes x limit level [] high marks spans marks spans
-  none_visited high marks spans known = record {
-    records = [];
-    blocks = [];
-    under = (refl, refl);
-    rising = tt;
-    highest = λ some. absurd (omega arith);
-    each = tt;
-    adds = record { grows = holds_same marks; kept = λ k at. refl; fresh = λ k at. inl at };
-    known = known;
-  }
-
   -- one child more
   pub child_more : (i : ℕ) (cs : List Child) (d : Child) (high : Key) (span : Span) (a b c : List Bool) (s t u : List Span) → i < length cs
       → span.low ≡ (get_or cs i d).low → (0 < i → i < length cs → place high < slice_index_or (lows cs) i 0)
@@ -89,9 +75,6 @@ module _ (sizes : Sizes) (x : Contents) (limit level : ℕ) where
         adds = adds_then level all.blocks v.whole.blocks a b c s t u all.adds v.adds;
         known = v.known;
       }
-
-  pub all_visited : (i : ℕ) (cs : List Child) (high : Key) (a b : List Bool) (s t : List Span) → length cs ≤ i → VisitedAll sizes x limit level (take i cs) high a s b t → VisitedAll sizes x limit level cs high a s b t
-  all_visited i cs high a b s t all visited = subst (λ (ds : List Child). VisitedAll sizes x limit level ds high a s b t) (take_all i cs all) visited
 
   -- # Where there is a tree
 

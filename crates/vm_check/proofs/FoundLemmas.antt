@@ -1,21 +1,20 @@
 -- What was found under numbers, one after another.
-use Rattle.std.proofs.Common.{◌≡◌, inl, inr, ℕ, zero, suc, ◌+◌, ◌-◌, ◌<◌, ◌≤◌, Bool, true, false, List, [], ◌∷◌, ◌++◌, length, get_or, take, map, replicate, refl, sym, ap, ◌∙◌, subst, arith, append_assoc, append-nil, length-append}
+use Rattle.std.proofs.Common.{◌≡◌, inl, inr, ℕ, zero, suc, ◌+◌, ◌-◌, ◌<◌, Bool, false, List, [], ◌∷◌, ◌++◌, length, get_or, take, map, replicate, refl, sym, ap, ◌∙◌, subst, arith, append_assoc, append-nil}
 use Rattle.std.specs.Prelude.{Contains}
 use Rattle.std.specs.List.{AllByRecursion}
 use Rattle.std.proofs.lemmas.Bool.{false≢true}
-use Rattle.std.proofs.lemmas.List.{map-append, take_more, take_all}
+use Rattle.std.proofs.lemmas.List.{map-append, take_more}
 use Rattle.std.proofs.lemmas.List.Elements.{Contains-append_left, Contains-append_right}
 use Rattle.vm_types.specs.Map.{Map}
 use Rattle.vm_disk.specs.Disk.{Contents, Medium}
 use Rattle.vm_alloc.specs.Marks.{IsMarked}
 use Rattle.vm_alloc.proofs.HeldLemmas.{holds_same, no_mark}
-use Rattle.vm_block.specs.Leaf.{Record}
-use Rattle.vm_block.specs.Tree.{Sizes, Subtree, IsTree}
+use Rattle.vm_block.specs.Tree.{Sizes, IsTree}
 use Rattle.vm_block.proofs.EachLemmas.{each_so, each_join}
-use Rattle.vm_block.proofs.TreeLemmas.{tree_opens, Rooted}
 use Rattle.vm_tree.specs.Root.{IsRooted}
 use Rattle.vm_tree.specs.declared.root.Root.{Root}
-use Rattle.vm_check.specs.Verifying.{Known, RootVisited, AreRoots, HaveTrees, Found}
+use Rattle.vm_check.specs.Verifying.{AreRoots, HaveTrees}
+use Rattle.vm_check.specs.Visiting.{Known, RootVisited}
 use Rattle.vm_check.specs.declared.verifying.Span.{Span}
 
 -- what holds of each element holds of the one at i
@@ -82,15 +81,6 @@ module _ (sizes : Sizes) (x : Contents) (limit : ℕ) where
       | inr new ↦ Contains-append_right found.blocks v.blocks k new.0
     ];
     known = v.known;
-  }
-
-  pub all_found : (ns : List ℕ) (i : ℕ) (roots : List Root) (marks : List Bool) (spans : List Span) → length ns ≤ i → length marks ≡ limit → FoundSoFar (take i ns) roots marks spans → Found sizes x limit ns roots marks
-  all_found ns i roots marks spans all count found = record {
-    blocks = found.blocks;
-    are = subst (λ (ks : List ℕ). AreRoots sizes x limit ks roots found.blocks) (take_all i ns all) found.are;
-    count = count;
-    each = found.each;
-    only = found.only;
   }
 
 module _ (sizes : Sizes) (limit : ℕ) where

@@ -1,14 +1,12 @@
 -- What is known of the blocks that were met: how it grows by a leaf, and by an inner block.
-use Rattle.std.proofs.Common.{◌≡◌, ◌⊎◌, inl, inr, ℕ, zero, suc, ◌-◌, ◌<◌, ◌≤◌, Bool, true, List, [], ◌∷◌, ◌++◌, length, get_or, refl, sym, ap, ◌∙◌, subst, arith}
+use Rattle.std.proofs.Common.{◌≡◌, ◌⊎◌, inl, inr, ℕ, zero, suc, ◌-◌, ◌<◌, ◌≤◌, Bool, true, List, [], ◌∷◌, ◌++◌, length, get_or, refl, sym, ◌∙◌, subst, arith}
 use Rattle.std.specs.Prelude.{slice_set, Contains}
-use Rattle.std.specs.List.{AllByRecursion}
 use Rattle.std.proofs.lemmas.Bool.{cases_eq}
 use Rattle.std.proofs.lemmas.List.{get_or-set_same, get_or-set_other}
-use Rattle.std.proofs.lemmas.List.Elements.{Contains-append_left, Contains-append_right}
 use Rattle.vm_disk.specs.Disk.{Contents, block}
 use Rattle.vm_alloc.specs.Held.{HoldsMore}
 use Rattle.vm_alloc.specs.Marks.{IsMarked}
-use Rattle.vm_alloc.proofs.HeldLemmas.{holds_same, holds_more_then, taken_holds_more, taken_is_held, others_as_before}
+use Rattle.vm_alloc.proofs.HeldLemmas.{holds_more_then, taken_holds_more, taken_is_held, others_as_before}
 use Rattle.vm_block.specs.Leaf.{Record, IsLeaf}
 use Rattle.vm_block.specs.Node.{IsNode}
 use Rattle.vm_block.specs.Tree.{Sizes, IsData, Begins, Children, Subtree}
@@ -17,9 +15,9 @@ use Rattle.vm_block.proofs.EachLemmas.{each_so}
 use Rattle.vm_block.proofs.FormLemmas.{leaf_or_node}
 use Rattle.vm_block.proofs.NodeLemmas.{node_one}
 use Rattle.vm_block.proofs.TreeLemmas.{leaf_closes, node_closes}
-use Rattle.vm_check.specs.Verifying.{IsHighest, HasLevel, span_at, Whole, Known, Adds, Visited, VisitedAll}
+use Rattle.vm_check.specs.Visiting.{IsHighest, HasLevel, span_at, Whole, Known, Adds, Visited, VisitedAll}
 use Rattle.vm_check.specs.declared.verifying.Span.{Span}
-use Rattle.vm_check.proofs.MarkLemmas.{first_or_other, is_first, is_other}
+use Rattle.vm_check.proofs.MarkLemmas.{is_first, is_other}
 
 -- # Levels
 
@@ -70,17 +68,6 @@ module _ (sizes : Sizes) (x : Contents) (limit : ℕ) where
     lowest = whole.lowest;
     highest = whole.highest;
     each = each_so (IsMarked marks) (IsMarked later) grows.still whole.blocks whole.each;
-  }
-
-  -- a block that was met before
-  pub met_before : (least most n : ℕ) (marks : List Bool) (spans : List Span) → IsMarked marks n → least ≤ (span_at spans n).level → (span_at spans n).level ≤ most → Known sizes x limit most marks spans
-      → Visited sizes x limit least most n (span_at spans n) marks spans marks spans
-  met_before least most n marks spans is low high known = record {
-    at_least = low;
-    at_most = high;
-    whole = known.whole n is high;
-    adds = record { grows = holds_same marks; kept = λ k at. refl; fresh = λ k at. inl at };
-    known = known;
   }
 
   -- what is found at a leaf
@@ -173,7 +160,6 @@ module _ (sizes : Sizes) (x : Contents) (limit : ℕ) where
     pub few : length cs ≤ sizes.fan
     pub at_least : least ≤ span.level
     pub at_most : span.level ≤ most
-    pub same_level : first.level ≡ span.level
     pub low : span.low ≡ (get_or cs 0 d).low
     pub under : VisitedAll sizes x limit (span.level - 1) cs span.high (slice_set marks b true) (slice_set spans b first) later now
 

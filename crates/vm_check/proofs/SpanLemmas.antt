@@ -1,5 +1,5 @@
 -- The lowest and the highest key of records, and how records are joined by them.
-use Rattle.std.proofs.Common.{◌≡◌, ℕ, zero, suc, ◌+◌, ◌-◌, ◌<◌, ◌≤◌, List, [], ◌∷◌, ◌++◌, length, get_or, Bool, true, false, not, ◌&&◌, inl, inr, refl, sym, ap, ap₂, ◌∙◌, subst, arith, eqb, eq-eqb}
+use Rattle.std.proofs.Common.{◌≡◌, ℕ, ◌+◌, ◌-◌, ◌<◌, ◌≤◌, List, [], ◌∷◌, ◌++◌, length, get_or, Bool, true, false, not, ◌&&◌, inl, inr, sym, ap, ap₂, ◌∙◌, subst, arith, eqb, eq-eqb}
 use Rattle.std.proofs.lemmas.Bool.{false≢true}
 use Rattle.std.proofs.lemmas.Bool.Decides.{eqb_tells}
 use Rattle.std.specs.List.{AllByRecursion}
@@ -9,7 +9,7 @@ use Rattle.vm_block.specs.Leaf.{Record}
 use Rattle.vm_block.specs.Tree.{Begins}
 use Rattle.vm_block.proofs.EachLemmas.{each_join, each_back}
 use Rattle.vm_tree.proofs.Rising.{rises_before}
-use Rattle.vm_check.specs.Verifying.{IsHighest}
+use Rattle.vm_check.specs.Visiting.{IsHighest}
 
 -- # Two keys, and the test whether they differ
 
@@ -44,10 +44,6 @@ pub highest_last : (rs : List Record) (d : Record) (low : ℕ) → 0 < length rs
 highest_last [] d low some rises = absurd (omega arith)
 highest_last (r ∷ rs) d low some rises =
     let same : length rs ≡ length (r ∷ rs) - 1 = omega arith in subst (λ k. IsHighest (get_or (r ∷ rs) k d).0 (r ∷ rs)) same (highest_at r rs d low rises)
-
-pub begins_first : (rs : List Record) (d : Record) → 0 < length rs → Begins (get_or rs 0 d).0 rs
-begins_first [] d some = absurd (omega arith)
-begins_first (r ∷ rs) d some = refl
 
 -- records have one lowest key
 pub begins_one : (a b : Key) (rs : List Record) → Begins a rs → Begins b rs → a ≡ b

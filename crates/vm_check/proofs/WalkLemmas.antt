@@ -9,9 +9,9 @@ use Rattle.vm_block.specs.Leaf.{Record, IsLeaf}
 use Rattle.vm_block.specs.Node.{IsNode, lows}
 use Rattle.vm_block.specs.Tree.{Sizes, IsData, Children, Subtree}
 use Rattle.vm_block.specs.declared.node.Child.{Child}
-use Rattle.vm_check.specs.Verifying.{Known, Visited, VisitedAll}
+use Rattle.vm_check.specs.Visiting.{Known, Visited, VisitedAll}
 use Rattle.vm_check.specs.declared.verifying.Span.{Span}
-use Rattle.vm_check.proofs.KnownLemmas.{LeafFound, leaf_visited, known_first, NodeFound, node_visited}
+use Rattle.vm_check.proofs.KnownLemmas.{LeafFound, leaf_visited, known_first, node_visited}
 use Rattle.vm_check.proofs.ChildLemmas.{child_of, child_more, Agrees, child_agrees, node_top}
 
 -- the same form, where the records or the children have another name
@@ -63,7 +63,6 @@ module _ (sizes : Sizes) (limit : ℕ) where
         few = at.few;
         at_least = omega (arith, at.at_least, level);
         at_most = omega (arith, at.at_most, level);
-        same_level = sym level;
         low = low;
         under = subst (λ l. VisitedAll sizes old.contents limit (l - 1) cs span.high (slice_set marks b true) (slice_set spans b first) later now) (sym level) there;
       })

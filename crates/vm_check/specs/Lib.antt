@@ -1,3 +1,4 @@
 pub mod Form
 pub mod Marking
 pub mod Verifying
+pub mod Visiting

@@ -1,83 +1,12 @@
--- What `verify` finds at blocks, and under numbers.
-use Rattle.std.specs.Prelude.{◌≡◌, ◌⊎◌, ℕ, zero, suc, ◌<◌, ◌≤◌, Bool, List, [], ◌∷◌, ◌++◌, ◌-◌, length, slice_index_or, Contains}
+-- What `verify` finds under numbers.
+use Rattle.std.specs.Prelude.{◌≡◌, ℕ, Bool, List, [], ◌∷◌, ◌++◌, length, Contains}
 use Rattle.std.specs.List.{AllByRecursion}
-use Rattle.vm_types.specs.declared.key.Key.{Key}
 use Rattle.vm_types.specs.Map.{Map}
-use Rattle.vm_types.specs.Places.{RisesFrom, place, places}
-use Rattle.vm_disk.specs.Disk.{Contents, block}
-use Rattle.vm_alloc.specs.Held.{HoldsMore}
+use Rattle.vm_disk.specs.Disk.{Contents}
 use Rattle.vm_alloc.specs.Marks.{IsMarked}
-use Rattle.vm_block.specs.Leaf.{Record, IsLeaf}
-use Rattle.vm_block.specs.Node.{IsNode}
-use Rattle.vm_block.specs.Tree.{Sizes, Begins, Children, Subtree, IsTree}
-use Rattle.vm_block.specs.declared.node.Child.{Child}
+use Rattle.vm_block.specs.Tree.{Sizes, IsTree}
 use Rattle.vm_tree.specs.Root.{IsRooted}
 use Rattle.vm_tree.specs.declared.root.Root.{Root}
-use Rattle.vm_check.specs.declared.verifying.Span.{Span}
-
--- the records have this highest key: they stand below a place exactly where it does
-pub record IsHighest (high : Key) (rs : List Record) : Type 0 where
-  pub above : (p : ℕ) → place high < p → AllByRecursion (λ r. place r.0 < p) rs
-  pub least : (p : ℕ) → AllByRecursion (λ r. place r.0 < p) rs → place high < p
-
--- the bytes are a leaf, or an inner block of this level
-abbrev pub HasLevel : List ℕ → ℕ → Type 0
-HasLevel bytes zero = (rs : List Record) × IsLeaf bytes rs
-HasLevel bytes (suc l) = (cs : List Child) × IsNode bytes (suc l) cs
-
--- what was found at block n
-abbrev pub span_at : List Span → ℕ → Span
-span_at spans n = slice_index_or spans n (record { level = 0; low = record { table = 0; number = 0 }; high = record { table = 0; number = 0 } })
-
--- block n is the top of a subtree of this level, with these lowest and highest keys, all of whose blocks are marked
-pub record Whole (sizes : Sizes) (x : Contents) (limit : ℕ) (marks : List Bool) (n : ℕ) (span : Span) : Type 0 where
-  pub records : List Record
-  pub blocks : List ℕ
-  pub subtree : Subtree sizes x limit span.level n records blocks
-  pub rising : RisesFrom 0 (places records)
-  pub lowest : Begins span.low records
-  pub highest : IsHighest span.high records
-  pub each : AllByRecursion (IsMarked marks) blocks
-
--- of each marked block the level is known, and where it is at most this one, the block was found whole
-pub record Known (sizes : Sizes) (x : Contents) (limit most : ℕ) (marks : List Bool) (spans : List Span) : Type 0 where
-  pub formed : (n : ℕ) → IsMarked marks n → HasLevel (block x n) (span_at spans n).level
-  pub whole : (n : ℕ) → IsMarked marks n → (span_at spans n).level ≤ most → Whole sizes x limit marks n (span_at spans n)
-
--- what is new since: nothing is said anew of a block that was marked, and each block marked since is one of these, of at most this level
-pub record Adds (most : ℕ) (bs : List ℕ) (marks : List Bool) (spans : List Span) (later : List Bool) (now : List Span) : Type 0 where
-  pub grows : HoldsMore marks later
-  pub kept : (n : ℕ) → IsMarked marks n → span_at now n ≡ span_at spans n
-  pub fresh : (n : ℕ) → IsMarked later n → IsMarked marks n ⊎ (Contains bs n × ((span_at now n).level ≤ most))
-
--- a visit found this at block n
-pub record Visited (sizes : Sizes) (x : Contents) (limit least most n : ℕ) (span : Span) (marks : List Bool) (spans : List Span) (later : List Bool) (now : List Span) : Type 0 where
-  pub at_least : least ≤ span.level
-  pub at_most : span.level ≤ most
-  pub whole : Whole sizes x limit later n span
-  pub adds : Adds most whole.blocks marks spans later now
-  pub known : Known sizes x limit most later now
-
--- visits found this under children of this level, with this highest key
-pub record VisitedAll (sizes : Sizes) (x : Contents) (limit level : ℕ) (cs : List Child) (high : Key) (marks : List Bool) (spans : List Span) (later : List Bool) (now : List Span) : Type 0 where
-  pub records : List Record
-  pub blocks : List ℕ
-  pub under : Children (Subtree sizes x limit level) cs records blocks
-  pub rising : RisesFrom 0 (places records)
-  pub highest : 0 < length cs → IsHighest high records
-  pub each : AllByRecursion (IsMarked later) blocks
-  pub adds : Adds level blocks marks spans later now
-  pub known : Known sizes x limit level later now
-
--- a visit found this root under number n
-pub record RootVisited (sizes : Sizes) (x : Contents) (limit n : ℕ) (root : Root) (marks : List Bool) (spans : List Span) (later : List Bool) (now : List Span) : Type 0 where
-  pub records : Map
-  pub blocks : List ℕ
-  pub named : root.block ≡ n
-  pub rooted : IsRooted sizes x limit root records blocks
-  pub each : AllByRecursion (IsMarked later) blocks
-  pub adds : Adds (sizes.levels - 1) blocks marks spans later now
-  pub known : Known sizes x limit (sizes.levels - 1) later now
 
 -- under the numbers lie maps, with these roots, in these blocks all together
 abbrev pub AreRoots : Sizes → Contents → ℕ → List ℕ → List Root → List ℕ → Type 0

@@ -1,7 +1,9 @@
-//! Walks of trees in blocks: `mark` marks what lies under roots that are known to be sound.
+//! Walks of trees in blocks: `mark` marks what lies under roots that are known to be sound, and
+//! `verify` tells whether trees lie under numbers that may name anything, and finds their roots.
 //!
-//! It stands on `vm_tree`, `vm_block`, `vm_alloc` and `vm_disk`. Its one promise: the marks grow by
-//! just what is reached. It only reads, and at most one block for each that it marks.
+//! It stands on `vm_tree`, `vm_block`, `vm_alloc` and `vm_disk`. Its promises: both only read, and at
+//! most one block for each that they mark; the marks grow by just what is reached; and `verify` is Ok
+//! exactly where each number has a tree, unless the device fails or no memory is found.
 #![tactic(auto)]
 
 mod marking;

@@ -1,4 +1,4 @@
-//! What is marked on disks whose blocks are written by hand.
+//! What is marked and found on disks whose blocks are written by hand.
 use crate::{mark, verify};
 use arrayvec::ArrayVec;
 use std::alloc::Global;
@@ -192,7 +192,8 @@ fn takes_a_root_with_one_child(rt: HostRuntime) -> Result<(), Fail> {
 #[test]
 fn names_the_first_block_that_is_wrong(rt: HostRuntime) -> Result<(), Fail> {
     let mut disk = FuseDisk::stop(MemDisk::new(rt.alloc(), 64)?, 1_000, [0; 4096]);
-    // A key twice.
+    // A block of zeros, and a key twice.
+    assert!(rt; refused(rt.alloc(), &mut disk, &[40]) == Some(TreeFault::Damaged(40)));
     assert!(rt; put_leaf(&mut disk, 34, &[1, 1]));
     assert!(rt; refused(rt.alloc(), &mut disk, &[34]) == Some(TreeFault::Damaged(34)));
     // A child of the wrong level.
@@ -208,15 +209,65 @@ fn names_the_first_block_that_is_wrong(rt: HostRuntime) -> Result<(), Fail> {
     assert!(rt; put_leaf(&mut disk, 36, &[3]));
     assert!(rt; put_node(&mut disk, 34, 1, &[(1, 35), (3, 36)]));
     assert!(rt; refused(rt.alloc(), &mut disk, &[34]) == Some(TreeFault::Damaged(35)));
-    // A child twice.
-    assert!(rt; put_leaf(&mut disk, 35, &[1, 2]));
-    assert!(rt; put_node(&mut disk, 34, 1, &[(1, 35), (3, 35)]));
-    assert!(rt; refused(rt.alloc(), &mut disk, &[34]) == Some(TreeFault::Damaged(35)));
-    // A block that is its own child, and numbers out of range.
-    assert!(rt; put_node(&mut disk, 34, 1, &[(1, 34)]));
-    assert!(rt; refused(rt.alloc(), &mut disk, &[34]) == Some(TreeFault::Damaged(34)));
+    // Numbers that are out of range.
+    assert!(rt; refused(rt.alloc(), &mut disk, &[33]) == Some(TreeFault::Damaged(33)));
     assert!(rt; refused(rt.alloc(), &mut disk, &[64]) == Some(TreeFault::Damaged(64)));
     assert!(rt; put_node(&mut disk, 34, 1, &[(1, 0)]));
     assert!(rt; refused(rt.alloc(), &mut disk, &[34]) == Some(TreeFault::Damaged(0)));
+    Ok(())
+}
+
+#[test]
+fn compares_what_was_met_before(rt: HostRuntime) -> Result<(), Fail> {
+    let mut disk = FuseDisk::stop(MemDisk::new(rt.alloc(), 64)?, 1_000, [0; 4096]);
+    // A block that is its own child, and two that are each other's.
+    assert!(rt; put_node(&mut disk, 34, 1, &[(1, 34)]));
+    assert!(rt; refused(rt.alloc(), &mut disk, &[34]) == Some(TreeFault::Damaged(34)));
+    assert!(rt; put_node(&mut disk, 34, 2, &[(1, 35)]));
+    assert!(rt; put_node(&mut disk, 35, 1, &[(1, 34)]));
+    assert!(rt; refused(rt.alloc(), &mut disk, &[34]) == Some(TreeFault::Damaged(34)));
+    // A child twice.
+    assert!(rt; put_leaf(&mut disk, 36, &[1, 2]));
+    assert!(rt; put_node(&mut disk, 35, 1, &[(1, 36), (3, 36)]));
+    assert!(rt; refused(rt.alloc(), &mut disk, &[35]) == Some(TreeFault::Damaged(36)));
+    // A root that is a child as well: of the wrong level, and under another key.
+    assert!(rt; put_node(&mut disk, 35, 2, &[(1, 36)]));
+    assert!(rt; refused(rt.alloc(), &mut disk, &[36, 35]) == Some(TreeFault::Damaged(36)));
+    assert!(rt; put_node(&mut disk, 35, 1, &[(2, 36)]));
+    assert!(rt; refused(rt.alloc(), &mut disk, &[36, 35]) == Some(TreeFault::Damaged(36)));
+    // And as it should be.
+    assert!(rt; put_node(&mut disk, 35, 1, &[(1, 36)]));
+    assert!(rt; refused(rt.alloc(), &mut disk, &[36, 35, 36]) == None);
+    Ok(())
+}
+
+#[test]
+fn takes_trees_of_the_given_sizes_only(rt: HostRuntime) -> Result<(), Fail> {
+    let mut disk = MemDisk::new(rt.alloc(), 64)?;
+    assert!(rt; put_leaf(&mut disk, 35, &[1, 2]));
+    assert!(rt; put_leaf(&mut disk, 36, &[3, 4, 5]));
+    assert!(rt; put_leaf(&mut disk, 37, &[6]));
+    assert!(rt; put_node(&mut disk, 34, 1, &[(1, 35), (6, 37)]));
+    assert!(rt; put_node(&mut disk, 38, 1, &[(1, 35), (3, 36), (6, 37)]));
+    assert!(rt; disk.blocks() >= 64);
+    let ok = verify::<MemDisk, 2, 2, 2>(rt.alloc(), &mut disk, 64, &[34]);
+    assert!(rt; ok.is_ok());
+    let records = verify::<MemDisk, 2, 2, 2>(rt.alloc(), &mut disk, 64, &[36]);
+    assert!(rt; records.err() == Some(TreeFault::Damaged(36)));
+    let children = verify::<MemDisk, 3, 2, 2>(rt.alloc(), &mut disk, 64, &[38]);
+    assert!(rt; children.err() == Some(TreeFault::Damaged(38)));
+    let levels = verify::<MemDisk, 3, 3, 1>(rt.alloc(), &mut disk, 64, &[34]);
+    assert!(rt; levels.err() == Some(TreeFault::Damaged(34)));
+    Ok(())
+}
+
+#[test]
+fn stops_where_the_device_fails(rt: HostRuntime) -> Result<(), Fail> {
+    let mut below = MemDisk::new(rt.alloc(), 64)?;
+    assert!(rt; put_leaf(&mut below, 35, &[1]));
+    assert!(rt; put_node(&mut below, 34, 1, &[(1, 35)]));
+    let mut disk = FuseDisk::once(below, 1, [0; 4096]);
+    assert!(rt; refused(rt.alloc(), &mut disk, &[34]) == Some(TreeFault::Device));
+    assert!(rt; refused(rt.alloc(), &mut disk, &[34]) == None);
     Ok(())
 }

@@ -10,7 +10,8 @@ ghost use Rattle.vm_block.specs.Node.{lows};
 ghost use Rattle.vm_block.specs.Tree.{Begins, Subtree, Children, IsTree};
 ghost use Rattle.vm_tree.specs.Answers.{OkOrDevice, Lists};
 ghost use Rattle.vm_tree.specs.Root.{AreSizes, sizes_of};
-ghost use Rattle.vm_check.specs.Verifying.{IsHighest, Known, Visited, VisitedAll, RootVisited, HaveTrees, Found};
+ghost use Rattle.vm_check.specs.Verifying.{HaveTrees, Found};
+ghost use Rattle.vm_check.specs.Visiting.{IsHighest, Known, Visited, VisitedAll, RootVisited};
 
 use crate::reading::{Form, is_data, read_form};
 use std::alloc::Global;
@@ -112,7 +113,8 @@ fn leaf_span(records: &[(Key, Value)]) -> Span
     }
 }
 
-/// Visits children of this level in their order, and gives the highest key under them.
+/// Visits children of this level in their order, and gives the highest key under them. What lies
+/// under a child has to begin with the key of its entry, and to end below that of the next entry.
 #[cycle(walk)]
 fn visit_children<D: Disk, const LEAF: usize, const FAN: usize>(
     disk: &mut D,
@@ -160,11 +162,13 @@ fn is_below_next(high: Key, children: &[Child], i: usize) -> bool
     i + 1 >= children.len() || high.place() < children[i + 1].low.place()
 }
 
-/// Walks the trees under the numbers, in their order, and gives the root of each, and marks on
-/// just the blocks that they reach. A number may name anything: where it has no tree, the answer is
-/// Damaged with the first block of the walk that is wrong. Number 0 is the empty map.
+/// Walks the trees under the numbers, in their order, and gives the root of each, and marks on just
+/// the blocks under them. Numbers and blocks may hold anything: it always ends, and reads no block
+/// twice. Number 0 is the empty map.
 ///
-/// It takes memory for the roots, for the marks, and for the level and the keys of each block.
+/// Where a number has no tree it answers Damaged, with the first block of the walk that is wrong;
+/// Device, where the device failed; and Memory, where none was found for the roots, the marks, and
+/// 40 bytes or so for each block of the store. It never answers Deep.
 pub fn verify<D: Disk, const LEAF: usize, const FAN: usize, const LEVELS: usize>(
     alloc: Global,
     disk: &mut D,

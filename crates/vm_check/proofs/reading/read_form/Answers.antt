@@ -1,4 +1,4 @@
-use Rattle.std.proofs.Common.{◌≡◌, List, subst}
+use Rattle.std.proofs.Common.{subst}
 use Rattle.vm_disk.proofs.MomentLemmas.{read_once}
 use Rattle.vm_block.specs.Leaf.{IsLeaf}
 use Rattle.vm_block.proofs.FormLemmas.{leaf_or_node}

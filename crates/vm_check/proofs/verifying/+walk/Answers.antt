@@ -1,11 +1,9 @@
-use Rattle.std.proofs.Common.{◌≡◌, refl, sym, ap, subst, ◌∙◌, arith, length, List}
+use Rattle.std.proofs.Common.{refl, sym, ap, ◌∙◌, arith, length}
 use Rattle.std.proofs.Math.ListN.{length-set}
 use Rattle.std.proofs.lemmas.Bool.{false≢true}
 use Rattle.vm_disk.proofs.MomentLemmas.{reads_then, same_medium}
-use Rattle.vm_block.specs.Leaf.{IsLeaf}
-use Rattle.vm_block.specs.Node.{IsNode}
 use Rattle.vm_tree.proofs.Descent.{subtree_top}
-use Rattle.vm_check.specs.Verifying.{span_at}
+use Rattle.vm_check.specs.Visiting.{span_at}
 use Rattle.vm_alloc.proofs.HeldLemmas.{holds_more_then}
 use Rattle.vm_check.proofs.KnownLemmas.{level_one, subtree_level}
 use Rattle.vm_check.proofs.ChildLemmas.{leaf_top, node_top, top_form}

@@ -5,7 +5,7 @@ use Rattle.vm_disk.specs.Moments.{OnlyReads}
 use Rattle.vm_alloc.specs.Held.{HoldsMore, free_count}
 use Rattle.vm_block.specs.Node.{lows}
 use Rattle.vm_tree.specs.Root.{sizes_of}
-use Rattle.vm_check.specs.Verifying.{Known, VisitedAll}
+use Rattle.vm_check.specs.Visiting.{Known, VisitedAll}
 use Rattle.vm_check.proofs.verifying.+walk.Given as goal
 
 abbrev pub decreases-visit : goal.decreases-visit
