@@ -5,12 +5,14 @@
 
 mod blocks;
 mod taking;
+mod trees;
 
 use std::rt::Env;
 use std::{env, io};
 
 const USES: &str = "bench take     takes of free blocks, in a row and scattered
-bench blocks   a leaf written and read";
+bench blocks   a leaf written and read
+bench trees    a million records put and got, with rising keys and with scattered ones";
 
 // The measurement that is asked for, if there is one.
 fn first_word<R: Env + AllocGlobal>(rt: &R) -> io::Result<Option<String>> {
@@ -22,6 +24,7 @@ fn main(rt: HostRuntime) -> io::Result<()> {
     match first_word(&rt)? {
         Some(word) if word.as_str() == "take" => taking::measure(&rt, rt.alloc()),
         Some(word) if word.as_str() == "blocks" => blocks::measure(&rt),
+        Some(word) if word.as_str() == "trees" => trees::measure(&rt, rt.alloc()),
         _ => println!(rt; "{USES}"),
     }
 }

@@ -7,7 +7,7 @@ use vm_alloc::{Held, Marks};
 const BLOCKS: u32 = 1_048_576;
 
 /// Takes every block of an empty map, and then the last thousand of one that is nearly full.
-pub fn measure<R: Print + Clock>(rt: &R, alloc: Global) -> io::Result<()> {
+pub(super) fn measure<R: Print + Clock>(rt: &R, alloc: Global) -> io::Result<()> {
     let mut held = Held::new(alloc, BLOCKS)?;
     let start = Instant::now(rt)?;
     let sum = take_all(&mut held);
