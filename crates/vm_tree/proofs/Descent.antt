@@ -1,16 +1,15 @@
 -- The way down to a place: the child that is chosen holds all records that could stand there.
-use Rattle.std.proofs.Common.{◌≡◌, ℕ, zero, suc, ◌+◌, ◌-◌, ◌<◌, ◌≤◌, List, [], ◌∷◌, ◌++◌, length, get_or, take, drop, map, Option, Result, Ok, Err, refl, sym, ap, ◌∙◌, subst, arith, length-drop, get_or-drop, inl, inr}
+use Rattle.std.proofs.Common.{◌≡◌, ℕ, zero, suc, ◌+◌, ◌-◌, ◌<◌, ◌≤◌, List, [], ◌∷◌, ◌++◌, length, get_or, take, drop, Option, Result, Ok, Err, sym, ap, ◌∙◌, subst, arith, length-drop, get_or-drop}
 use Rattle.std.specs.Prelude.{slice_index}
-use Rattle.std.specs.List.{AllByRecursion}
 use Rattle.std.proofs.lemmas.List.{length-map, get_or-map, drop-map}
 use Rattle.vm_types.specs.Places.{place, RisesFrom, places, value_at}
 use Rattle.vm_disk.specs.Disk.{Contents, block, Medium}
-use Rattle.vm_block.specs.Leaf.{Record, IsLeaf}
+use Rattle.vm_block.specs.Leaf.{Record}
 use Rattle.vm_block.specs.Node.{IsNode, lows}
 use Rattle.vm_block.specs.FullPath.{IsChosen}
 use Rattle.vm_block.specs.Tree.{Sizes, IsData, Begins, Children, Subtree}
 use Rattle.vm_block.specs.declared.node.Child.{Child}
-use Rattle.vm_block.proofs.TreeLemmas.{LeafAt, NodeAt, leaf_opens, node_opens}
+use Rattle.vm_block.proofs.TreeLemmas.{LeafAt, leaf_opens, node_opens}
 use Rattle.vm_tree.specs.Answers.{OkOrDevice}
 use Rattle.vm_tree.specs.Reading.{IsLeafAt, IsNodeAt}
 use Rattle.vm_tree.specs.declared.root.TreeFault.{TreeFault}

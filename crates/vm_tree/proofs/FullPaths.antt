@@ -1,11 +1,11 @@
 -- Where a record more splits a block, and where it does not.
-use Rattle.std.proofs.Common.{◌≡◌, ◌↔◌, ℕ, zero, suc, ◌+◌, ◌-◌, ◌<◌, ◌≤◌, List, [], ◌∷◌, length, get_or, refl, sym, ap, ◌∙◌, subst, arith, ⊎_elim}
+use Rattle.std.proofs.Common.{◌≡◌, ℕ, zero, suc, ◌+◌, ◌-◌, ◌<◌, ◌≤◌, List, [], ◌∷◌, length, get_or, sym, ap, ◌∙◌, subst, arith, ⊎_elim}
 use Rattle.std.specs.Prelude.{slice_index}
 use Rattle.std.proofs.lemmas.Bool.{cases_order}
 use Rattle.std.proofs.lemmas.List.{get_or-map, length-map}
 use Rattle.vm_types.specs.Places.{place, RisesFrom, places, value_at, with_record}
 use Rattle.vm_disk.specs.Disk.{Contents, block}
-use Rattle.vm_block.specs.Leaf.{Record, IsLeaf}
+use Rattle.vm_block.specs.Leaf.{Record}
 use Rattle.vm_block.specs.Node.{IsNode, lows}
 use Rattle.vm_block.specs.FullPath.{IsChosen, FullBelow, blocks_of}
 use Rattle.vm_block.specs.Tree.{Sizes}

@@ -1,19 +1,19 @@
 -- Blocks of a tree that were written anew: a leaf, an inner block over what was made before, and both of two.
-use Rattle.std.proofs.Common.{◌≡◌, ℕ, zero, suc, ◌+◌, ◌-◌, ◌<◌, ◌≤◌, ◌^◌, List, [], ◌∷◌, ◌++◌, length, get_or, take, drop, map, refl, sym, ap, ◌∙◌, subst, arith, append-nil, take-append-drop}
+use Rattle.std.proofs.Common.{◌≡◌, ℕ, suc, ◌+◌, ◌-◌, ◌<◌, ◌≤◌, ◌^◌, List, [], ◌∷◌, ◌++◌, length, take, drop, refl, sym, ap, subst, arith, take-append-drop}
 use Rattle.std.specs.Prelude.{slice_index_or}
 use Rattle.std.specs.List.{AllByRecursion}
 use Rattle.vm_types.specs.declared.key.Key.{Key}
-use Rattle.vm_types.specs.Places.{place, KeyFits, RisesFrom, places}
+use Rattle.vm_types.specs.Places.{place, RisesFrom, places}
 use Rattle.vm_disk.specs.Disk.{Contents, block}
-use Rattle.vm_block.specs.Leaf.{Record, RecordFits, IsLeaf, leaf_bytes}
+use Rattle.vm_block.specs.Leaf.{Record, RecordFits, leaf_bytes}
 use Rattle.vm_block.specs.Node.{ChildFits, IsNode, lows, node_bytes}
 use Rattle.vm_block.specs.Tree.{Sizes, IsData, Begins, Children, Subtree}
 use Rattle.vm_block.specs.declared.node.Child.{Child}
 use Rattle.vm_block.proofs.EachLemmas.{each_front, each_back, each_join, each_so}
 use Rattle.vm_block.proofs.TreeLemmas.{subtree_in, leaf_closes, node_closes}
 use Rattle.vm_tree.specs.Making.{Made}
-use Rattle.vm_tree.proofs.Rising.{rises_front, rises_back}
-use Rattle.vm_tree.proofs.Splitting.{children_in, children_join, child_alone, CutAt, cut_at}
+use Rattle.vm_tree.proofs.Rising.{rises_back}
+use Rattle.vm_tree.proofs.Splitting.{children_in, children_join, child_alone, cut_at}
 
 -- lowest keys rise as the records under them do
 pub lows_rise : (T : ℕ → List Record → List ℕ → Type 0) (cs : List Child) (low : ℕ) (rs : List Record) (bs : List ℕ) → Children T cs rs bs → RisesFrom low (places rs) → RisesFrom low (lows cs)

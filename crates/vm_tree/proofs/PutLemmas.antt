@@ -1,11 +1,11 @@
 -- What a Put under a block answers, from what it answers under the chosen child.
-use Rattle.std.proofs.Common.{◌≡◌, ◌↔◌, ℕ, zero, suc, ◌+◌, ◌-◌, ◌<◌, ◌≤◌, Bool, true, false, List, [], ◌∷◌, ◌++◌, length, get_or, take, drop, Result, Ok, Err, IfOk, refl, sym, ap, ◌∙◌, subst, arith, inl, inr, length-append, length-take, length-drop, length-take-le, take-append-drop}
+use Rattle.std.proofs.Common.{◌≡◌, ◌↔◌, ℕ, suc, ◌+◌, ◌-◌, ◌<◌, ◌≤◌, true, false, List, ◌++◌, length, get_or, take, drop, Result, Ok, Err, IfOk, refl, sym, ap, ◌∙◌, subst, arith, inl, inr, length-append, length-drop, length-take-le, take-append-drop}
 use Rattle.std.specs.List.{AllByRecursion}
 use Rattle.std.proofs.lemmas.Bool.{cases_Bool, false≢true}
 use Rattle.std.proofs.lemmas.List.{length-map}
 use Rattle.vm_types.specs.Places.{place, RisesFrom, places, with_record}
 use Rattle.vm_disk.specs.Disk.{Contents, block, Medium}
-use Rattle.vm_block.specs.Leaf.{Record, RecordFits}
+use Rattle.vm_block.specs.Leaf.{Record}
 use Rattle.vm_block.specs.Node.{ChildFits, lows}
 use Rattle.vm_block.specs.FullPath.{IsChosen}
 use Rattle.vm_block.specs.Tree.{Sizes, Children, Subtree}

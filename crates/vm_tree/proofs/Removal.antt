@@ -1,10 +1,10 @@
 -- Records without one: where it is taken out, and what is known of the rest.
-use Rattle.std.proofs.Common.{◌≡◌, ℕ, ◌+◌, ◌<◌, ◌≤◌, ◌==◌, cond, Bool, true, false, List, [], ◌∷◌, ◌++◌, length, None, refl, sym, ap, ◌∙◌, subst, arith}
+use Rattle.std.proofs.Common.{◌≡◌, ℕ, ◌+◌, ◌==◌, cond, true, false, List, [], ◌∷◌, ◌++◌, refl, ap, ◌∙◌, arith}
 use Rattle.std.specs.List.{AllByRecursion}
 use Rattle.std.proofs.lemmas.Bool.{ne_eqb}
 use Rattle.vm_types.specs.declared.key.Key.{Key}
 use Rattle.vm_types.specs.Map.{Map, without}
-use Rattle.vm_types.specs.Places.{place, KeyFits, FitKeys, RisesFrom, places, value_at}
+use Rattle.vm_types.specs.Places.{place, KeyFits, FitKeys, RisesFrom, places}
 use Rattle.vm_types.proofs.Bridge as bridge
 use Rattle.vm_types.proofs.Bridge.{RisesFrom-lower}
 use Rattle.vm_block.specs.Leaf.{Record}

@@ -1,11 +1,10 @@
 -- Records in rising order: what a joined list says of its parts, and in which part a key is looked up or changed.
-use Rattle.std.proofs.Common.{◌≡◌, ℕ, ◌+◌, ◌<◌, ◌≤◌, ◌==◌, nat_lt, cond, List, [], ◌∷◌, ◌++◌, length, Option, None, Some, refl, sym, ap, ap₂, ◌∙◌, subst, arith, Bool, true, false}
+use Rattle.std.proofs.Common.{◌≡◌, ℕ, ◌+◌, ◌<◌, ◌≤◌, ◌==◌, nat_lt, cond, List, [], ◌∷◌, ◌++◌, None, Some, refl, ap, ap₂, ◌∙◌, arith, true, false}
 use Rattle.std.specs.List.{AllByRecursion}
-use Rattle.std.proofs.lemmas.Bool.{ne_eqb, eq-eqb, lt-ltb, le-ltb}
+use Rattle.std.proofs.lemmas.Bool.{ne_eqb, lt-ltb, le-ltb}
 use Rattle.vm_types.specs.Places.{place, RisesFrom, places, value_at, with_record}
 use Rattle.vm_types.proofs.Bridge.{RisesFrom-lower}
 use Rattle.vm_block.specs.Leaf.{Record}
-use Rattle.vm_block.proofs.EachLemmas.{each_so}
 
 -- all of them stand below place p
 abbrev pub Below : ℕ → List Record → Type 0

@@ -1,16 +1,14 @@
 -- Roots: the top of what was made, and what a Put at a root answers.
-use Rattle.std.proofs.Common.{◌≡◌, ◌↔◌, ℕ, zero, suc, ◌+◌, ◌-◌, ◌<◌, ◌≤◌, Bool, true, false, List, [], ◌∷◌, ◌++◌, length, None, Result, Ok, Err, IfOk, refl, sym, ap, ◌∙◌, subst, arith, inl, inr, append-nil}
-use Rattle.std.specs.List.{AllByRecursion}
+use Rattle.std.proofs.Common.{◌≡◌, ℕ, zero, suc, ◌+◌, ◌-◌, ◌<◌, true, List, [], ◌∷◌, ◌++◌, Result, Ok, Err, IfOk, refl, sym, ap, ◌∙◌, subst, arith, inr, append-nil}
 use Rattle.std.proofs.lemmas.Bool.{false≢true}
 use Rattle.vm_types.specs.declared.key.Key.{Key}
 use Rattle.vm_types.specs.Map.{Map, get, with_value}
 use Rattle.vm_types.specs.Places.{place, KeyFits, FitKeys, RisesFrom, places, value_at, with_record}
 use Rattle.vm_types.proofs.Bridge.{value_at-get, with_record-value}
 use Rattle.vm_disk.specs.Disk.{Contents, block}
-use Rattle.vm_block.specs.Leaf.{Record, RecordFits, IsLeaf}
-use Rattle.vm_block.specs.Node.{IsNode}
-use Rattle.vm_block.specs.FullPath.{FullBelow, FullPath}
-use Rattle.vm_block.specs.Tree.{Sizes, Begins, Children, Subtree}
+use Rattle.vm_block.specs.Leaf.{Record, RecordFits}
+use Rattle.vm_block.specs.FullPath.{FullBelow}
+use Rattle.vm_block.specs.Tree.{Sizes, Begins, Subtree}
 use Rattle.vm_block.specs.declared.node.Child.{Child}
 use Rattle.vm_block.proofs.EachLemmas.{each_so}
 use Rattle.vm_block.proofs.FormLemmas.{leaf_or_node}
@@ -20,7 +18,7 @@ use Rattle.vm_tree.specs.Answers.{LacksRoom, OkOrDevice, Puts}
 use Rattle.vm_tree.specs.Making.{Made, PutsBelow, Splits, children_of, is_split}
 use Rattle.vm_tree.specs.declared.writing.Copied.{Copied}
 use Rattle.vm_tree.specs.declared.writing.Copied.TheVariants.{One, Two}
-use Rattle.vm_tree.specs.Root.{IsTop, IsRooted, Grown}
+use Rattle.vm_tree.specs.Root.{IsTop, Grown}
 use Rattle.vm_tree.specs.declared.root.Root.{Root}
 use Rattle.vm_tree.specs.declared.root.TreeFault.{TreeFault}
 use Rattle.vm_tree.specs.declared.root.TreeFault.TheVariants.{Device, Damaged, Deep, Memory}

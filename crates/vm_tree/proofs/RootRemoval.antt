@@ -1,11 +1,10 @@
 -- What a Remove at a root answers.
-use Rattle.std.proofs.Common.{◌≡◌, ◌≢◌, ℕ, ◌<◌, ◌≤◌, List, [], ◌∷◌, None, refl, sym, ap, ◌∙◌, subst, arith, inl, inr}
+use Rattle.std.proofs.Common.{◌≡◌, ◌≢◌, ℕ, ◌≤◌, List, [], ◌∷◌, refl, sym, ap, ◌∙◌, subst, arith, inl, inr}
 use Rattle.vm_types.specs.declared.key.Key.{Key}
 use Rattle.vm_types.specs.Map.{Map, get, without}
 use Rattle.vm_types.specs.Places.{place, KeyFits, value_at}
 use Rattle.vm_types.proofs.Bridge.{value_at-get}
 use Rattle.vm_disk.specs.Disk.{Contents}
-use Rattle.vm_block.specs.Leaf.{Record}
 use Rattle.vm_block.specs.Tree.{Sizes}
 use Rattle.vm_tree.specs.Making.{Made}
 use Rattle.vm_tree.specs.Removing.{child_of, without_place}

@@ -5,7 +5,7 @@ use Rattle.vm_disk.specs.Disk.{Medium, State, block, Writes}
 use Rattle.vm_disk.specs.declared.disk.DeviceFault.{DeviceFault}
 use Rattle.vm_alloc.proofs.HeldLemmas.{free_is}
 use Rattle.std.specs.Prelude.{slice_get}
-use Rattle.vm_disk.specs.Moments.{Throughout, OnlyReads, Spares}
+use Rattle.vm_disk.specs.Moments.{Throughout, Spares}
 use Rattle.vm_disk.proofs.MomentLemmas.{started, spares_itself, write_on, at_end, weaken, and_then}
 use Rattle.vm_alloc.specs.Held.{is_held, IsHeld, HoldsMore}
 use Rattle.vm_tree.specs.Free.{is_free}

@@ -1,5 +1,5 @@
 -- What the calls on trees answer.
-use Rattle.std.specs.Prelude.{◌≡◌, ℕ, ◌<◌, Option, None, Some, Result, Ok, Err}
+use Rattle.std.specs.Prelude.{◌≡◌, ◌<◌, Option, None, Some, Result, Ok, Err}
 use Rattle.vm_types.specs.declared.key.Key.{Key}
 use Rattle.vm_types.specs.Map.{Map, get}
 use Rattle.vm_types.specs.Places.{place}

@@ -1,5 +1,5 @@
 -- Blocks that may be written.
-use Rattle.std.specs.Prelude.{◌≡◌, ℕ, ◌<◌, ◌≤◌, Bool, not, List, length}
+use Rattle.std.specs.Prelude.{ℕ, ◌<◌, ◌≤◌, Bool, not, List, length}
 use Rattle.vm_alloc.specs.Held.{is_held, IsHeld}
 
 -- is this block free?

@@ -1,6 +1,6 @@
-use Rattle.std.proofs.Common.{◌≡◌, List, ap, sym, ◌∙◌, inl, inr, arith}
+use Rattle.std.proofs.Common.{◌≡◌, ap, sym, ◌∙◌, inl, inr, arith}
 use Rattle.vm_types.specs.Map.{Map, get}
-use Rattle.vm_types.specs.Places.{place, KeyFits, FitKeys, value_at}
+use Rattle.vm_types.specs.Places.{KeyFits, FitKeys, value_at}
 use Rattle.vm_types.proofs.Bridge.{value_at-get}
 use Rattle.vm_block.specs.Leaf.{RecordFits}
 use Rattle.vm_block.proofs.EachLemmas.{each_so}

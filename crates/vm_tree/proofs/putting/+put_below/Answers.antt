@@ -1,7 +1,6 @@
-use Rattle.std.proofs.Common.{◌≡◌, ◌∙◌, ◌-◌, Err, ◌≤◌, ◌<◌, List, length, ap, sym, subst, refl, arith}
+use Rattle.std.proofs.Common.{◌≡◌, ◌∙◌, ◌-◌, Err, ◌≤◌, ◌<◌, List, length, ap, sym, subst, arith}
 use Rattle.std.proofs.lemmas.Bool.{false≢true, ltb-false}
 use Rattle.vm_disk.proofs.MomentLemmas.{after_reads, reads_keep, spares_itself, same_medium}
-use Rattle.vm_types.specs.Places.{place}
 use Rattle.vm_block.specs.Node.{lows}
 use Rattle.vm_block.specs.FullPath.{IsChosen}
 use Rattle.vm_tree.specs.declared.root.TreeFault.TheVariants.{Deep}

@@ -1,17 +1,14 @@
-use Rattle.std.proofs.Common.{◌≡◌, ◌∙◌, ◌+◌, ◌-◌, ◌≤◌, ◌<◌, Ok, Err, IfOk, true, List, [], ◌∷◌, length, ap, sym, subst, refl, inl, inr, arith}
+use Rattle.std.proofs.Common.{◌≡◌, ◌∙◌, ◌+◌, ◌≤◌, ◌<◌, Err, IfOk, true, length, ap, sym, subst, inl, inr, arith}
 use Rattle.std.specs.List.{AllByRecursion}
-use Rattle.std.proofs.lemmas.Bool.{false≢true, ltb-false, ltb-true}
+use Rattle.std.proofs.lemmas.Bool.{ltb-false, ltb-true}
 use Rattle.vm_types.specs.Map.{Map, with_value}
 use Rattle.vm_types.specs.Places.{place}
 use Rattle.vm_alloc.specs.Held.{IsHeld}
-use Rattle.vm_block.specs.Leaf.{Record}
 use Rattle.vm_tree.specs.Answers.{LacksRoom}
-use Rattle.vm_tree.specs.Making.{Made, Splits, is_split}
+use Rattle.vm_tree.specs.Making.{Splits, is_split}
 use Rattle.vm_tree.specs.declared.root.Root.{Root}
 use Rattle.vm_tree.specs.Root.{Grown, sizes_of}
-use Rattle.vm_tree.specs.declared.root.TreeFault.TheVariants.{Deep}
 use Rattle.vm_tree.proofs.Descent.{subtree_top}
-use Rattle.vm_tree.proofs.Placing.{with_rises}
 use Rattle.vm_tree.proofs.RootLemmas.{splits_lacks, root_one, root_two, fault_puts, first_puts}
 use Rattle.vm_tree.proofs.Sparing.{spares_then}
 use Rattle.vm_tree.proofs.putting.put.Goals as goal

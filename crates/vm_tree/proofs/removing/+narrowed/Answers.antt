@@ -1,4 +1,4 @@
-use Rattle.std.proofs.Common.{◌≡◌, ◌∙◌, length, ap, sym, arith}
+use Rattle.std.proofs.Common.{◌∙◌, length, ap, sym, arith}
 use Rattle.vm_block.specs.Tree.{Subtree}
 use Rattle.vm_disk.proofs.MomentLemmas.{reads_then, same_medium}
 use Rattle.vm_tree.specs.Root.{sizes_of}

@@ -1,9 +1,9 @@
-use Rattle.std.proofs.Common.{◌≡◌, ◌∙◌, ◌≤◌, None, Ok, List, [], ◌∷◌, length, ap, sym, subst, refl, inl, inr, arith}
-use Rattle.vm_types.specs.Map.{Map, get, without}
+use Rattle.std.proofs.Common.{◌∙◌, ◌≤◌, Ok, [], ◌∷◌, length, ap, sym, subst}
+use Rattle.vm_types.specs.Map.{Map, get}
 use Rattle.vm_alloc.specs.Held.{IsHeld}
 use Rattle.vm_tree.specs.Making.{Made}
 use Rattle.vm_tree.specs.Removing.{RemovesBelow, child_of, level_of, without_place}
-use Rattle.vm_tree.specs.Root.{Grown, sizes_of}
+use Rattle.vm_tree.specs.Root.{sizes_of}
 use Rattle.vm_tree.specs.declared.removing.Left.{Left}
 use Rattle.vm_tree.proofs.RootRemoval.{rooted_top, rooted_bare, value_there, nothing_left, rest_left}
 use Rattle.vm_tree.proofs.removing.remove.Goals as goal

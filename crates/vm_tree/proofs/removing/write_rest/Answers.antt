@@ -1,7 +1,6 @@
-use Rattle.std.proofs.Common.{◌≡◌, ◌∙◌, ◌-◌, ◌<◌, List, [], ◌∷◌, Ok, Err, length, get_or, ap, sym, subst, arith, rules}
-use Rattle.vm_disk.specs.Disk.{Contents, Medium}
+use Rattle.std.proofs.Common.{◌≡◌, ◌-◌, ◌<◌, List, [], ◌∷◌, length, get_or, ap, sym, subst, arith, rules}
+use Rattle.vm_disk.specs.Disk.{Medium}
 use Rattle.vm_disk.proofs.MomentLemmas.{reads_keep, spares_itself, same_medium}
-use Rattle.vm_block.specs.Leaf.{Record}
 use Rattle.vm_block.specs.Tree.{Children, Subtree}
 use Rattle.vm_block.specs.declared.node.Child.{Child}
 use Rattle.vm_alloc.specs.Held.{IsHeld}

@@ -1,7 +1,6 @@
-use Rattle.std.proofs.Common.{◌≡◌, ◌∙◌, ◌++◌, List, ap, sym, arith}
+use Rattle.std.proofs.Common.{◌≡◌, ◌∙◌, ◌++◌, ap, arith}
 use Rattle.vm_disk.specs.Disk.{Medium}
 use Rattle.vm_disk.proofs.MomentLemmas.{reads_then, same_medium}
-use Rattle.vm_block.specs.Leaf.{Record}
 use Rattle.vm_tree.proofs.Descent.{node_read}
 use Rattle.vm_tree.proofs.ScanLemmas.{scans_more, scans_all, child_fails, device_lists}
 use Rattle.vm_tree.proofs.scanning.+scan_below.Goals as goal

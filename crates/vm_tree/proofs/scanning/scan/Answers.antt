@@ -1,4 +1,4 @@
-use Rattle.std.proofs.Common.{◌≡◌, ◌∙◌, sym, inl, inr, arith}
+use Rattle.std.proofs.Common.{◌∙◌, sym, inl, inr, arith}
 use Rattle.vm_tree.proofs.Descent.{subtree_top}
 use Rattle.vm_tree.proofs.scanning.scan.Goals as goal
 

@@ -1,4 +1,4 @@
-use Rattle.std.proofs.Common.{◌≡◌, ◌∙◌, ◌++◌, List, ap, refl}
+use Rattle.std.proofs.Common.{◌∙◌, ◌++◌, List, ap, refl}
 use Rattle.vm_block.specs.Leaf.{Record}
 use Rattle.vm_tree.proofs.Descent.{opens_leaf, leaf_read}
 use Rattle.vm_tree.proofs.ScanLemmas.{device_lists}

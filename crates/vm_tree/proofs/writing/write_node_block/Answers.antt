@@ -1,4 +1,4 @@
-use Rattle.std.proofs.Common.{◌≡◌, ◌<◌, ◌^◌, ◌∙◌, length, arith}
+use Rattle.std.proofs.Common.{◌<◌, ◌∙◌, length, arith}
 use Rattle.vm_alloc.specs.Held.{IsHeld}
 use Rattle.vm_tree.proofs.Growing.{node_made}
 use Rattle.vm_tree.proofs.Sparing.{held_kept}
