@@ -9,8 +9,6 @@
 mod entries;
 mod leaf_map;
 mod store;
-#[cfg(test)]
-mod tests;
 
 pub use store::{Stop, Store, format, open};
 

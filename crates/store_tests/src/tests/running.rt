@@ -1,8 +1,8 @@
 //! Lists of commands.
 use super::{DUCT, commit, fresh_store, get, record_on};
-use crate::{Stop, format, open};
 use std::test::Fail;
 use vm_disk::{FuseDisk, MemDisk};
+use vm_store::{Stop, format, open};
 use vm_types::{Answer, Command, Name, Refusal, Value};
 
 #[test]
@@ -25,10 +25,12 @@ fn commands_are_answered_in_order(rt: HostRuntime) -> Result<(), Fail> {
         Command::Commit,
     ];
     let (answers, stop) = store.run(rt.alloc(), &commands);
-    assert_eq!(rt; answers.len(), 3);
-    assert_eq!(rt; answers[0], Ok(Answer::Done));
-    assert_eq!(rt; answers[1], Err(Refusal::NoSuchAlternative));
-    assert_eq!(rt; answers[2], Ok(Answer::Done));
+    let expected = [
+        Ok(Answer::Done),
+        Err(Refusal::NoSuchAlternative),
+        Ok(Answer::Done),
+    ];
+    assert_eq!(rt; answers.as_slice(), expected.as_slice());
     assert_eq!(rt; stop, None);
     assert_eq!(rt; get(&mut store, DUCT), Ok(Value::new(b"duct")));
     assert_eq!(rt; record_on(rt.alloc(), store.close())?, Value::new(b"duct"));
@@ -61,9 +63,8 @@ fn list_ends_where_the_device_fails(rt: HostRuntime) -> Result<(), Fail> {
     };
     let commands = [put, Command::Commit, Command::Commit];
     let (answers, stop) = store.run(rt.alloc(), &commands);
-    assert_eq!(rt; answers.len(), 2);
-    assert_eq!(rt; answers[0], Ok(Answer::Done));
-    assert_eq!(rt; answers[1], Err(Refusal::Device));
+    let expected = [Ok(Answer::Done), Err(Refusal::Device)];
+    assert_eq!(rt; answers.as_slice(), expected.as_slice());
     assert_eq!(rt; stop, Some(Stop::Device));
 
     let (answers, stop) = store.run(rt.alloc(), &[Command::Commit]);

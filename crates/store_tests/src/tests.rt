@@ -8,16 +8,25 @@ mod running;
 mod slots;
 mod versions;
 
-use crate::{Store, format, open};
 use std::alloc::Global;
+use std::fmt::Debug;
+use std::process::Abort;
 use std::test::Fail;
 use vm_disk::{DeviceFault, Disk, MemDisk};
+use vm_store::{Store, format, open};
 use vm_types::{Answer, Command, Key, Name, Refusal, Value};
 
 const DUCT: Key = Key {
     table: 7,
     number: 1,
 };
+
+// Compares what calls gave with what is expected of each, in their order.
+fn expect<R: Abort, T: PartialEq + Debug>(rt: &R, calls: &[(T, T)]) {
+    for (i, (given, expected)) in calls.iter().enumerate() {
+        assert_eq!(rt; given, expected, "call {i}");
+    }
+}
 
 // Slot B after a commit of `top` with its root in block 34, in a store of 64 blocks.
 fn slot_bytes() -> [u8; 4096] {

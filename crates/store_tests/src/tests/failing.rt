@@ -1,9 +1,9 @@
 //! A device that fails at one call, and how many device calls each call makes.
-use super::{DUCT, commit, duct_disk, get, put};
-use crate::{Store, format, open};
+use super::{DUCT, commit, duct_disk, expect, get, put};
 use std::alloc::Global;
 use std::test::Fail;
 use vm_disk::{FuseDisk, MemDisk};
+use vm_store::{Store, format, open};
 use vm_types::{Answer, Refusal, Value};
 
 // More calls than any test makes.
@@ -33,9 +33,12 @@ fn get_goes_on_after_a_failed_read(rt: HostRuntime) -> Result<(), Fail> {
 #[test]
 fn store_fails_after_a_failed_write(rt: HostRuntime) -> Result<(), Fail> {
     let mut store = open_fused(rt.alloc(), duct_disk(rt.alloc())?, 6)?;
-    assert_eq!(rt; put(&mut store, DUCT, b"pipe"), Err(Refusal::Device));
-    assert_eq!(rt; put(&mut store, DUCT, b"pipe"), Err(Refusal::Failed));
-    assert_eq!(rt; commit(&mut store), Err(Refusal::Failed));
+    let answers = [
+        (put(&mut store, DUCT, b"pipe"), Err(Refusal::Device)),
+        (put(&mut store, DUCT, b"pipe"), Err(Refusal::Failed)),
+        (commit(&mut store), Err(Refusal::Failed)),
+    ];
+    expect(&rt, &answers);
     assert_eq!(rt; get(&mut store, DUCT), Err(Refusal::Failed));
     let disk = store.close();
     assert_eq!(rt; disk.calls(), 7);

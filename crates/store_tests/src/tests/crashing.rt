@@ -1,9 +1,9 @@
 //! A crash in a command, and a device that fails in one: what is shown afterwards.
-use super::{DUCT, bytes_of, commit, get, open_on, put, record_on, slot_bytes};
-use crate::{Store, format, open};
+use super::{DUCT, bytes_of, commit, expect, get, open_on, put, record_on, slot_bytes};
 use std::alloc::Global;
 use std::test::Fail;
 use vm_disk::{FuseDisk, MemDisk};
+use vm_store::{Store, format, open};
 use vm_types::{Answer, Key, Refusal, Value};
 
 const SECOND: Key = Key {
@@ -68,10 +68,13 @@ fn torn_selector_that_is_odd_shows_the_new_entries(rt: HostRuntime) -> Result<()
 fn commit_whose_last_sync_fails_may_be_shown(rt: HostRuntime) -> Result<(), Fail> {
     let disk = FuseDisk::once(MemDisk::new(rt.alloc(), 64)?, 21, [9; 4096]);
     let mut store = fresh_on(rt.alloc(), disk)?;
-    assert_eq!(rt; put(&mut store, DUCT, b"duct"), Ok(Answer::Done));
-    assert_eq!(rt; commit(&mut store), Ok(Answer::Done));
-    assert_eq!(rt; put(&mut store, DUCT, b"pipe"), Ok(Answer::Done));
-    assert_eq!(rt; commit(&mut store), Err(Refusal::Device));
+    let answers = [
+        (put(&mut store, DUCT, b"duct"), Ok(Answer::Done)),
+        (commit(&mut store), Ok(Answer::Done)),
+        (put(&mut store, DUCT, b"pipe"), Ok(Answer::Done)),
+        (commit(&mut store), Err(Refusal::Device)),
+    ];
+    expect(&rt, &answers);
     assert_eq!(rt; get(&mut store, DUCT), Err(Refusal::Failed));
     let disk = store.close();
     assert_eq!(rt; disk.calls(), 22);
@@ -84,9 +87,12 @@ fn commit_whose_last_sync_fails_may_be_shown(rt: HostRuntime) -> Result<(), Fail
         assert_eq!(rt; disk.is_dirty(n), n == 34, "block {n}");
     }
     let mut store = open_on(rt.alloc(), disk.crash(&[(34, [0xFF; 4096])]))?;
-    assert_eq!(rt; get(&mut store, DUCT), Ok(Value::new(b"pipe")));
-    assert_eq!(rt; get(&mut store, SECOND), Ok(None));
+    let found = [
+        (get(&mut store, DUCT), Ok(Value::new(b"pipe"))),
+        (get(&mut store, SECOND), Ok(None)),
+    ];
     let _disk = store.close();
+    expect(&rt, &found);
     Ok(())
 }
 
@@ -95,9 +101,12 @@ fn put_that_is_not_committed_is_gone_after_a_crash(rt: HostRuntime) -> Result<()
     for byte in [0, 0xFF] {
         let disk = FuseDisk::once(MemDisk::new(rt.alloc(), 64)?, 1000, [9; 4096]);
         let mut store = fresh_on(rt.alloc(), disk)?;
-        assert_eq!(rt; put(&mut store, DUCT, b"duct"), Ok(Answer::Done));
-        assert_eq!(rt; commit(&mut store), Ok(Answer::Done));
-        assert_eq!(rt; put(&mut store, DUCT, b"pipe"), Ok(Answer::Done));
+        let answers = [
+            (put(&mut store, DUCT, b"duct"), Ok(Answer::Done)),
+            (commit(&mut store), Ok(Answer::Done)),
+            (put(&mut store, DUCT, b"pipe"), Ok(Answer::Done)),
+        ];
+        expect(&rt, &answers);
         let left = crashed(store, &[(35, [byte; 4096])]);
         assert_eq!(rt; record_on(rt.alloc(), left)?, Value::new(b"duct"));
     }
@@ -110,10 +119,13 @@ fn slot_that_is_not_in_use_may_be_torn(rt: HostRuntime) -> Result<(), Fail> {
     for byte in [0, 0x41, 0xFF] {
         let disk = FuseDisk::stop(MemDisk::new(rt.alloc(), 64)?, 18, [byte; 4096]);
         let mut store = fresh_on(rt.alloc(), disk)?;
-        assert_eq!(rt; put(&mut store, DUCT, b"duct"), Ok(Answer::Done));
-        assert_eq!(rt; commit(&mut store), Ok(Answer::Done));
-        assert_eq!(rt; put(&mut store, DUCT, b"pipe"), Ok(Answer::Done));
-        assert_eq!(rt; commit(&mut store), Err(Refusal::Device));
+        let answers = [
+            (put(&mut store, DUCT, b"duct"), Ok(Answer::Done)),
+            (commit(&mut store), Ok(Answer::Done)),
+            (put(&mut store, DUCT, b"pipe"), Ok(Answer::Done)),
+            (commit(&mut store), Err(Refusal::Device)),
+        ];
+        expect(&rt, &answers);
         let mut left = crashed(store, &[]);
         assert!(rt; bytes_of(&mut left, 2)? == [byte; 4096]);
         assert_eq!(rt; record_on(rt.alloc(), left)?, Value::new(b"duct"));

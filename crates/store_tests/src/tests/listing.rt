@@ -3,9 +3,9 @@ use super::failing::open_fused;
 use super::{
     DUCT, commit, duct_disk, fresh_disk, fresh_store, list, list_of, open_on, put, record,
 };
-use crate::open;
 use std::test::Fail;
 use vm_disk::FuseDisk;
+use vm_store::open;
 use vm_types::{Answer, Key, Refusal};
 
 #[test]

@@ -1,9 +1,11 @@
 //! Alternatives and checkpoints, by hand.
-use super::{DUCT, commit, duct_disk, fresh_disk, fresh_store, get_in, open_on, put, put_in};
-use crate::{Store, open};
+use super::{
+    DUCT, commit, duct_disk, expect, fresh_disk, fresh_store, get_in, open_on, put, put_in,
+};
 use std::alloc::Global;
 use std::test::Fail;
 use vm_disk::{Disk, FuseDisk};
+use vm_store::{Store, open};
 use vm_types::{Answer, Command, Key, Name, Refusal, Value};
 
 const FIRST: Key = Key {
@@ -84,24 +86,27 @@ fn are_checkpoints<D: Disk>(
 #[test]
 fn commands_on_alternatives_are_refused_in_their_order(rt: HostRuntime) -> Result<(), Fail> {
     let mut store = fresh_store(rt.alloc())?;
-    assert_eq!(rt; new(&mut store, b"a", b"top"), DONE);
-    assert_eq!(rt; new(&mut store, b"b", b"a"), DONE);
-    assert_eq!(rt; drop_alt(&mut store, b"a"), Err(Refusal::HasChildren));
-    assert_eq!(rt; drop_alt(&mut store, b"top"), Err(Refusal::IsTop));
-    assert_eq!(rt;
-        drop_alt(&mut store, b"nope"),
-        Err(Refusal::NoSuchAlternative)
-    );
-    assert_eq!(rt;
-        new(&mut store, b"a", b"nope"),
-        Err(Refusal::NoSuchAlternative)
-    );
-    assert_eq!(rt;
-        new(&mut store, b"a", b"top"),
-        Err(Refusal::AlternativeExists)
-    );
-    assert_eq!(rt; drop_alt(&mut store, b"b"), DONE);
-    assert_eq!(rt; drop_alt(&mut store, b"a"), DONE);
+    let answers = [
+        (new(&mut store, b"a", b"top"), DONE),
+        (new(&mut store, b"b", b"a"), DONE),
+        (drop_alt(&mut store, b"a"), Err(Refusal::HasChildren)),
+        (drop_alt(&mut store, b"top"), Err(Refusal::IsTop)),
+        (
+            drop_alt(&mut store, b"nope"),
+            Err(Refusal::NoSuchAlternative),
+        ),
+        (
+            new(&mut store, b"a", b"nope"),
+            Err(Refusal::NoSuchAlternative),
+        ),
+        (
+            new(&mut store, b"a", b"top"),
+            Err(Refusal::AlternativeExists),
+        ),
+        (drop_alt(&mut store, b"b"), DONE),
+        (drop_alt(&mut store, b"a"), DONE),
+    ];
+    expect(&rt, &answers);
     assert_eq!(rt;
         get_in(&mut store, b"a", FIRST),
         Err(Refusal::NoSuchAlternative)
@@ -113,27 +118,27 @@ fn commands_on_alternatives_are_refused_in_their_order(rt: HostRuntime) -> Resul
 #[test]
 fn commands_on_checkpoints_are_refused_in_their_order(rt: HostRuntime) -> Result<(), Fail> {
     let mut store = fresh_store(rt.alloc())?;
-    assert_eq!(rt; new(&mut store, b"a", b"top"), DONE);
-    assert_eq!(rt;
-        back(&mut store, b"a", b"q"),
-        Err(Refusal::NoSuchCheckpoint)
-    );
-    assert_eq!(rt; check(&mut store, b"a", b"c"), DONE);
-    assert_eq!(rt;
-        check(&mut store, b"a", b"c"),
-        Err(Refusal::CheckpointExists)
-    );
-    assert_eq!(rt;
-        uncheck(&mut store, b"top", b"c"),
-        Err(Refusal::NoSuchCheckpoint)
-    );
-    assert_eq!(rt; check(&mut store, b"top", b"c"), DONE);
-    assert_eq!(rt; uncheck(&mut store, b"a", b"c"), DONE);
-    assert_eq!(rt;
-        uncheck(&mut store, b"a", b"c"),
-        Err(Refusal::NoSuchCheckpoint)
-    );
-    assert_eq!(rt; back(&mut store, b"top", b"c"), DONE);
+    let answers = [
+        (new(&mut store, b"a", b"top"), DONE),
+        (back(&mut store, b"a", b"q"), Err(Refusal::NoSuchCheckpoint)),
+        (check(&mut store, b"a", b"c"), DONE),
+        (
+            check(&mut store, b"a", b"c"),
+            Err(Refusal::CheckpointExists),
+        ),
+        (
+            uncheck(&mut store, b"top", b"c"),
+            Err(Refusal::NoSuchCheckpoint),
+        ),
+        (check(&mut store, b"top", b"c"), DONE),
+        (uncheck(&mut store, b"a", b"c"), DONE),
+        (
+            uncheck(&mut store, b"a", b"c"),
+            Err(Refusal::NoSuchCheckpoint),
+        ),
+        (back(&mut store, b"top", b"c"), DONE),
+    ];
+    expect(&rt, &answers);
     for refused in [
         check(&mut store, b"c", b"c"),
         uncheck(&mut store, b"c", b"c"),
@@ -148,26 +153,40 @@ fn commands_on_checkpoints_are_refused_in_their_order(rt: HostRuntime) -> Result
 #[test]
 fn alternatives_show_what_their_parent_had(rt: HostRuntime) -> Result<(), Fail> {
     let mut store = fresh_store(rt.alloc())?;
-    assert_eq!(rt; put_in(&mut store, b"top", FIRST, b"x"), DONE);
-    assert_eq!(rt; new(&mut store, b"a", b"top"), DONE);
-    assert_eq!(rt; get_in(&mut store, b"a", FIRST), Ok(Value::new(b"x")));
-    assert_eq!(rt; put_in(&mut store, b"top", FIRST, b"z"), DONE);
-    assert_eq!(rt; get_in(&mut store, b"a", FIRST), Ok(Value::new(b"x")));
-    assert_eq!(rt; put_in(&mut store, b"a", FIRST, b"y"), DONE);
-    assert_eq!(rt; get_in(&mut store, b"a", FIRST), Ok(Value::new(b"y")));
-    assert_eq!(rt; get_in(&mut store, b"top", FIRST), Ok(Value::new(b"z")));
+    let made = [
+        (put_in(&mut store, b"top", FIRST, b"x"), DONE),
+        (new(&mut store, b"a", b"top"), DONE),
+    ];
+    let inherited = get_in(&mut store, b"a", FIRST);
+    let above = (put_in(&mut store, b"top", FIRST, b"z"), DONE);
+    let kept = get_in(&mut store, b"a", FIRST);
+    let below = (put_in(&mut store, b"a", FIRST, b"y"), DONE);
+    let own = get_in(&mut store, b"a", FIRST);
+    let top = get_in(&mut store, b"top", FIRST);
     let _disk = store.close();
+    expect(&rt, &made);
+    expect(&rt, &[above, below]);
+    let found = [
+        (inherited, Ok(Value::new(b"x"))),
+        (kept, Ok(Value::new(b"x"))),
+        (own, Ok(Value::new(b"y"))),
+        (top, Ok(Value::new(b"z"))),
+    ];
+    expect(&rt, &found);
     Ok(())
 }
 
 #[test]
 fn back_shows_the_records_of_the_checkpoint(rt: HostRuntime) -> Result<(), Fail> {
     let mut store = fresh_store(rt.alloc())?;
-    assert_eq!(rt; new(&mut store, b"a", b"top"), DONE);
-    assert_eq!(rt; check(&mut store, b"a", b"c"), DONE);
-    assert_eq!(rt; put_in(&mut store, b"a", FIRST, b"x"), DONE);
-    assert_eq!(rt; check(&mut store, b"a", b"d"), DONE);
-    assert_eq!(rt; back(&mut store, b"a", b"c"), DONE);
+    let answers = [
+        (new(&mut store, b"a", b"top"), DONE),
+        (check(&mut store, b"a", b"c"), DONE),
+        (put_in(&mut store, b"a", FIRST, b"x"), DONE),
+        (check(&mut store, b"a", b"d"), DONE),
+        (back(&mut store, b"a", b"c"), DONE),
+    ];
+    expect(&rt, &answers);
     assert_eq!(rt; get_in(&mut store, b"a", FIRST), Ok(None));
     assert_eq!(rt; back(&mut store, b"a", b"d"), DONE);
     assert_eq!(rt; get_in(&mut store, b"a", FIRST), Ok(Value::new(b"x")));
@@ -179,17 +198,17 @@ fn back_shows_the_records_of_the_checkpoint(rt: HostRuntime) -> Result<(), Fail>
 #[test]
 fn checkpoints_go_with_their_alternative(rt: HostRuntime) -> Result<(), Fail> {
     let mut store = fresh_store(rt.alloc())?;
-    assert_eq!(rt; new(&mut store, b"a", b"top"), DONE);
-    assert_eq!(rt; check(&mut store, b"top", b"c"), DONE);
-    assert_eq!(rt; check(&mut store, b"a", b"c"), DONE);
-    assert_eq!(rt; drop_alt(&mut store, b"a"), DONE);
-    assert_eq!(rt; new(&mut store, b"a", b"top"), DONE);
-    assert_eq!(rt;
-        back(&mut store, b"a", b"c"),
-        Err(Refusal::NoSuchCheckpoint)
-    );
-    assert_eq!(rt; back(&mut store, b"top", b"c"), DONE);
+    let answers = [
+        (new(&mut store, b"a", b"top"), DONE),
+        (check(&mut store, b"top", b"c"), DONE),
+        (check(&mut store, b"a", b"c"), DONE),
+        (drop_alt(&mut store, b"a"), DONE),
+        (new(&mut store, b"a", b"top"), DONE),
+        (back(&mut store, b"a", b"c"), Err(Refusal::NoSuchCheckpoint)),
+        (back(&mut store, b"top", b"c"), DONE),
+    ];
     let _disk = store.close();
+    expect(&rt, &answers);
     Ok(())
 }
 
@@ -197,19 +216,25 @@ fn checkpoints_go_with_their_alternative(rt: HostRuntime) -> Result<(), Fail> {
 fn versions_are_there_after_opening(rt: HostRuntime) -> Result<(), Fail> {
     let long = [b'n'; 32];
     let mut store = fresh_store(rt.alloc())?;
-    assert_eq!(rt; new(&mut store, &long, b"top"), DONE);
-    assert_eq!(rt; put_in(&mut store, &long, FIRST, b"x"), DONE);
-    assert_eq!(rt; check(&mut store, &long, &long), DONE);
-    assert_eq!(rt; put_in(&mut store, &long, FIRST, b"y"), DONE);
-    assert_eq!(rt; commit(&mut store), DONE);
-    assert_eq!(rt; uncheck(&mut store, &long, &long), DONE);
+    let answers = [
+        (new(&mut store, &long, b"top"), DONE),
+        (put_in(&mut store, &long, FIRST, b"x"), DONE),
+        (check(&mut store, &long, &long), DONE),
+        (put_in(&mut store, &long, FIRST, b"y"), DONE),
+        (commit(&mut store), DONE),
+        (uncheck(&mut store, &long, &long), DONE),
+    ];
+    expect(&rt, &answers);
     let disk = store.close();
     let mut store = open_on(rt.alloc(), disk)?;
     assert_eq!(rt; get_in(&mut store, &long, FIRST), Ok(Value::new(b"y")));
     assert_eq!(rt; back(&mut store, &long, &long), DONE);
-    assert_eq!(rt; get_in(&mut store, &long, FIRST), Ok(Value::new(b"x")));
-    assert_eq!(rt; get_in(&mut store, b"top", FIRST), Ok(None));
+    let found = [
+        (get_in(&mut store, &long, FIRST), Ok(Value::new(b"x"))),
+        (get_in(&mut store, b"top", FIRST), Ok(None)),
+    ];
     let _disk = store.close();
+    expect(&rt, &found);
     Ok(())
 }
 
@@ -221,13 +246,16 @@ fn checkpoints_keep_their_blocks(rt: HostRuntime) -> Result<(), Fail> {
         assert_eq!(rt; put_in(&mut store, b"top", FIRST, b"v"), DONE);
         assert_eq!(rt; check(&mut store, b"top", &numbered(n)), DONE);
     }
-    assert_eq!(rt; commit(&mut store), DONE);
     let full = Err(Refusal::Full);
-    assert_eq!(rt; put_in(&mut store, b"top", FIRST, b"v"), full);
-    assert_eq!(rt; uncheck(&mut store, b"top", &numbered(1)), DONE);
-    assert_eq!(rt; put_in(&mut store, b"top", FIRST, b"v"), full);
-    assert_eq!(rt; commit(&mut store), DONE);
-    assert_eq!(rt; put_in(&mut store, b"top", FIRST, b"v"), DONE);
+    let answers = [
+        (commit(&mut store), DONE),
+        (put_in(&mut store, b"top", FIRST, b"v"), full),
+        (uncheck(&mut store, b"top", &numbered(1)), DONE),
+        (put_in(&mut store, b"top", FIRST, b"v"), full),
+        (commit(&mut store), DONE),
+        (put_in(&mut store, b"top", FIRST, b"v"), DONE),
+    ];
+    expect(&rt, &answers);
     assert_eq!(rt; store.free(), Ok(15));
     let _disk = store.close();
     Ok(())
@@ -240,18 +268,24 @@ fn five_hundred_and_eleven_entries_are_the_most(rt: HostRuntime) -> Result<(), F
     for n in 1..511 {
         assert_eq!(rt; check(&mut store, b"top", &numbered(n)), DONE, "{n}");
     }
-    assert_eq!(rt; check(&mut store, b"top", b"more"), Err(Refusal::TooMany));
-    assert_eq!(rt; new(&mut store, b"a", b"top"), Err(Refusal::TooMany));
-    assert_eq!(rt; commit(&mut store), DONE);
+    let last = [
+        (check(&mut store, b"top", b"more"), Err(Refusal::TooMany)),
+        (new(&mut store, b"a", b"top"), Err(Refusal::TooMany)),
+        (commit(&mut store), DONE),
+    ];
+    expect(&rt, &last);
     let disk = store.close();
     assert_eq!(rt; disk.calls(), 23, "4 for opening, and 19 for Commit");
     let mut store = open_on(rt.alloc(), disk.into_inner())?;
-    assert_eq!(rt;
-        check(&mut store, b"top", &numbered(510)),
-        Err(Refusal::CheckpointExists)
-    );
-    assert_eq!(rt; uncheck(&mut store, b"top", &numbered(77)), DONE);
-    assert_eq!(rt; new(&mut store, b"a", b"top"), DONE);
+    let answers = [
+        (
+            check(&mut store, b"top", &numbered(510)),
+            Err(Refusal::CheckpointExists),
+        ),
+        (uncheck(&mut store, b"top", &numbered(77)), DONE),
+        (new(&mut store, b"a", b"top"), DONE),
+    ];
+    expect(&rt, &answers);
     let _disk = store.close();
     Ok(())
 }
@@ -260,9 +294,12 @@ fn five_hundred_and_eleven_entries_are_the_most(rt: HostRuntime) -> Result<(), F
 fn calls_that_change_entries_alone_make_no_device_call(rt: HostRuntime) -> Result<(), Fail> {
     let disk = FuseDisk::once(fresh_disk(rt.alloc())?, 1000, [9; 4096]);
     let mut store = open(rt.alloc(), disk).map_err(|refused| refused.1)?;
-    assert_eq!(rt; new(&mut store, b"a", b"top"), DONE);
-    assert_eq!(rt; check(&mut store, b"a", b"c"), DONE);
-    assert_eq!(rt; back(&mut store, b"a", b"c"), DONE);
+    let made = [
+        (new(&mut store, b"a", b"top"), DONE),
+        (check(&mut store, b"a", b"c"), DONE),
+        (back(&mut store, b"a", b"c"), DONE),
+    ];
+    expect(&rt, &made);
     assert_eq!(rt;
         are_alternatives(rt.alloc(), &store, &[(b"top", b""), (b"a", b"top")]),
         Ok(true)
@@ -271,8 +308,11 @@ fn calls_that_change_entries_alone_make_no_device_call(rt: HostRuntime) -> Resul
         are_checkpoints(rt.alloc(), &store, b"a", &[b"c"]),
         Ok(true)
     );
-    assert_eq!(rt; uncheck(&mut store, b"a", b"c"), DONE);
-    assert_eq!(rt; drop_alt(&mut store, b"a"), DONE);
+    let undone = [
+        (uncheck(&mut store, b"a", b"c"), DONE),
+        (drop_alt(&mut store, b"a"), DONE),
+    ];
+    expect(&rt, &undone);
     let disk = store.close();
     assert_eq!(rt; disk.calls(), 4, "those of the opening");
     Ok(())

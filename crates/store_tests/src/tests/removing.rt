@@ -1,12 +1,13 @@
 //! Taking records out.
 use super::failing::{NEVER, open_fused};
 use super::{
-    DUCT, commit, duct_disk, every_block_filled, fresh_store, get, list, open_on, put, record,
+    DUCT, commit, duct_disk, every_block_filled, expect, fresh_store, get, list, open_on, put,
+    record,
 };
-use crate::Store;
 use std::alloc::Global;
 use std::test::Fail;
 use vm_disk::{Disk, MemDisk};
+use vm_store::Store;
 use vm_types::{Answer, Command, Key, Name, Refusal, Value};
 
 // The record beside `duct`.
@@ -36,6 +37,18 @@ fn two_records_disk(alloc: Global) -> Result<MemDisk, Refusal> {
     put?;
     commit?;
     Ok(disk)
+}
+
+// What a Remove on a disk is answered, how many device calls it and the opening make, and the disk.
+fn removed_on(
+    alloc: Global,
+    disk: MemDisk,
+    key: Key,
+) -> Result<(Result<Answer, Refusal>, u32, MemDisk), Refusal> {
+    let mut store = open_fused(alloc, disk, NEVER)?;
+    let answer = remove(&mut store, key);
+    let disk = store.close();
+    Ok((answer, disk.calls(), disk.into_inner()))
 }
 
 // Opening the store of `duct` makes five device calls, the Put two, and the Commit four.
@@ -88,12 +101,16 @@ fn record_that_is_absent_is_refused(rt: HostRuntime) -> Result<(), Fail> {
 #[test]
 fn records_are_taken_out_one_by_one(rt: HostRuntime) -> Result<(), Fail> {
     let mut store = open_on(rt.alloc(), two_records_disk(rt.alloc())?)?;
-    assert_eq!(rt; remove(&mut store, DUCT), Ok(Answer::Done));
-    assert_eq!(rt; remove(&mut store, DUCT), Err(Refusal::NoSuchRecord));
+    let first = [
+        (remove(&mut store, DUCT), Ok(Answer::Done)),
+        (remove(&mut store, DUCT), Err(Refusal::NoSuchRecord)),
+    ];
     let one = list(rt.alloc(), &mut store);
-    assert_eq!(rt; remove(&mut store, NEXT), Ok(Answer::Done));
+    let last = (remove(&mut store, NEXT), Ok(Answer::Done));
     let none = list(rt.alloc(), &mut store);
-    assert_eq!(rt; commit(&mut store), Ok(Answer::Done));
+    let committed = (commit(&mut store), Ok(Answer::Done));
+    expect(&rt, &first);
+    expect(&rt, &[last, committed]);
     let mut store = open_on(rt.alloc(), store.close())?;
     let still_none = list(rt.alloc(), &mut store);
     assert_eq!(rt; put(&mut store, NEXT, b""), Ok(Answer::Done));
@@ -109,20 +126,18 @@ fn records_are_taken_out_one_by_one(rt: HostRuntime) -> Result<(), Fail> {
 // Opening the store makes five device calls: a sync, and four reads.
 #[test]
 fn calls_of_remove_at_a_leaf(rt: HostRuntime) -> Result<(), Fail> {
-    let mut store = open_fused(rt.alloc(), two_records_disk(rt.alloc())?, NEVER)?;
-    assert_eq!(rt; remove(&mut store, NEXT), Ok(Answer::Done));
-    let disk = store.close();
-    assert_eq!(rt; disk.calls(), 8, "open and a Remove that leaves a record");
-    let mut store = open_fused(rt.alloc(), duct_disk(rt.alloc())?, NEVER)?;
-    assert_eq!(rt; remove(&mut store, NEXT), Err(Refusal::NoSuchRecord));
-    let disk = store.close();
-    assert_eq!(rt; disk.calls(), 6, "open and a Remove of an absent record");
-    let mut store = open_fused(rt.alloc(), duct_disk(rt.alloc())?, NEVER)?;
-    assert_eq!(rt; remove(&mut store, DUCT), Ok(Answer::Done));
-    let disk = store.close();
-    assert_eq!(rt; disk.calls(), 7, "open and a Remove of the last record");
+    let two = two_records_disk(rt.alloc())?;
+    let (answer, calls, _disk) = removed_on(rt.alloc(), two, NEXT)?;
+    assert_eq!(rt; answer, Ok(Answer::Done));
+    assert_eq!(rt; calls, 8, "open and a Remove that leaves a record");
+    let (answer, calls, _disk) = removed_on(rt.alloc(), duct_disk(rt.alloc())?, NEXT)?;
+    assert_eq!(rt; answer, Err(Refusal::NoSuchRecord));
+    assert_eq!(rt; calls, 6, "open and a Remove of an absent record");
+    let (answer, calls, disk) = removed_on(rt.alloc(), duct_disk(rt.alloc())?, DUCT)?;
+    assert_eq!(rt; answer, Ok(Answer::Done));
+    assert_eq!(rt; calls, 7, "open and a Remove of the last record");
     for n in 0..64 {
-        assert!(rt; !disk.inner().is_dirty(n), "block {n}");
+        assert!(rt; !disk.is_dirty(n), "block {n}");
     }
     Ok(())
 }

@@ -1,5 +1,5 @@
 use Rattle.std.proofs.Common.{◌<◌, zero, suc, arith}
-use Rattle.vm_store.proofs.tests.running.list_ends_where_the_device_fails.Goals as goal
+use Rattle.store_tests.proofs.tests.running.list_ends_where_the_device_fails.Goals as goal
 
 pub run-answers-requires : goal.run-answers-requires
 run-answers-requires g c zero d lt = tt

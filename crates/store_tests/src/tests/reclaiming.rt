@@ -1,8 +1,8 @@
 //! Blocks that no version needs.
-use super::{DUCT, commit, duct_disk, fresh_store, get, open_on, put};
-use crate::open;
+use super::{DUCT, commit, duct_disk, expect, fresh_store, get, open_on, put};
 use std::test::Fail;
 use vm_disk::FuseDisk;
+use vm_store::open;
 use vm_types::{Answer, Command, Key, Refusal, Value};
 
 #[test]
@@ -16,16 +16,21 @@ fn new_store_of_64_blocks_has_30_free(rt: HostRuntime) -> Result<(), Fail> {
 #[test]
 fn reclaim_frees_what_no_version_needs(rt: HostRuntime) -> Result<(), Fail> {
     let mut store = open_on(rt.alloc(), duct_disk(rt.alloc())?)?;
-    assert_eq!(rt; store.free(), Ok(29));
-    assert_eq!(rt; put(&mut store, DUCT, b"pipe"), Ok(Answer::Done));
-    assert_eq!(rt; put(&mut store, DUCT, b"tube"), Ok(Answer::Done));
-    assert_eq!(rt; store.free(), Ok(27));
-    assert_eq!(rt; store.apply(&Command::Reclaim), Ok(Answer::Done));
-    assert_eq!(rt; store.free(), Ok(28));
-    assert_eq!(rt; commit(&mut store), Ok(Answer::Done));
-    assert_eq!(rt; store.free(), Ok(28));
-    assert_eq!(rt; store.apply(&Command::Reclaim), Ok(Answer::Done));
-    assert_eq!(rt; store.free(), Ok(29));
+    let opened = (store.free(), Ok(29));
+    let put = [
+        (put(&mut store, DUCT, b"pipe"), Ok(Answer::Done)),
+        (put(&mut store, DUCT, b"tube"), Ok(Answer::Done)),
+    ];
+    let taken = (store.free(), Ok(27));
+    let first = (store.apply(&Command::Reclaim), Ok(Answer::Done));
+    let freed = (store.free(), Ok(28));
+    let committed = (commit(&mut store), Ok(Answer::Done));
+    let kept = (store.free(), Ok(28));
+    let second = (store.apply(&Command::Reclaim), Ok(Answer::Done));
+    let freed_again = (store.free(), Ok(29));
+    expect(&rt, &put);
+    expect(&rt, &[first, committed, second]);
+    expect(&rt, &[opened, taken, freed, kept, freed_again]);
     assert_eq!(rt; get(&mut store, DUCT), Ok(Value::new(b"tube")));
     let _disk = store.close();
     Ok(())
