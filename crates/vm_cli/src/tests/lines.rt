@@ -1,0 +1,276 @@
+//! What lines are answered.
+use super::{CREATE, Outcome, RUN, Shelf, ran};
+use std::alloc::Global;
+use std::test::Fail;
+
+/// Runs the lines on a new store.
+fn answered(alloc: Global, lines: &[u8]) -> Result<Outcome, Fail> {
+    let mut shelf = Shelf::new(alloc);
+    let _made = ran(alloc, &mut shelf, CREATE.as_slice(), b"")?;
+    ran(alloc, &mut shelf, RUN.as_slice(), lines)
+}
+
+/// Lines, and below them what each is answered.
+const LINES: &[u8] = b"\
+put top 1 1 -\n\
+get top 1 1\n\
+put top 1 2 %2d\n\
+get top 1 2\n\
+put top 1 3 %zz\n\
+put top 01 007 a\n\
+get top 1 7\n\
+# note\n\
+\n  \n  #\n\
+PUT top 1 1 a\n\
+get top 7 x\n\
+get nope 1 1\n\
+get top 9 9\n\
+  put   top 65535 18446744073709551615  a%25~b \r\n\
+get top 65535 18446744073709551615\r\n\
+get top 65536 1\n\
+get top 1 18446744073709551616\n\
+commit now\n\
+commit\n\
+commit";
+
+const ANSWERS: &[u8] = b"\
+ok\n\
+value -\n\
+ok\n\
+value %2D\n\
+error 22 BadLine\n\
+ok\n\
+value a\n\
+error 22 BadLine\n\
+error 22 BadLine\n\
+error 1 NoSuchAlternative\n\
+none\n\
+ok\n\
+value a%25%7Eb\n\
+error 22 BadLine\n\
+error 22 BadLine\n\
+error 22 BadLine\n\
+ok\n\
+ok\n";
+
+#[test]
+fn answers_lines(rt: HostRuntime) -> Result<(), Fail> {
+    answered(rt.alloc(), LINES)?.expect(&rt, 0, ANSWERS, b"");
+    Ok(())
+}
+
+/// Lines of two designs, one below the other.
+const DESIGNS: &[u8] = b"\
+new a top\n\
+new b a\n\
+put a 7 2 -\n\
+put a 7 1 duct\n\
+list a\n\
+list top\n\
+alts\n\
+drop a\n\
+drop top\n\
+new a top\n\
+new c nope\n\
+checkpoint a c\n\
+checkpoint a c\n\
+checks a\n\
+remove a 7 1\n\
+remove a 7 1\n\
+get a 7 1\n\
+back a c\n\
+get a 7 1\n\
+back a q\n\
+uncheck a c\n\
+uncheck a c\n\
+checks a\n\
+checks q\n\
+list q\n\
+drop b\n\
+drop a\n\
+alts\n\
+free\n\
+reclaim\n\
+free\n\
+free x\n\
+reclaim now\n\
+new a top\n\
+checkpoint a c\n\
+put top 1 1 x\n\
+back a c\n\
+get a 1 1\n\
+put top 65535 18446744073709551615 -\n\
+get top 65535 18446744073709551615\n\
+remove top 0 0\n";
+
+const DESIGN_ANSWERS: &[u8] = b"\
+ok\n\
+ok\n\
+ok\n\
+ok\n\
+record 7 1 duct\n\
+record 7 2 -\n\
+end 2\n\
+end 0\n\
+alternative top ~\n\
+alternative a top\n\
+alternative b a\n\
+end 3\n\
+error 7 HasChildren\n\
+error 6 IsTop\n\
+error 2 AlternativeExists\n\
+error 1 NoSuchAlternative\n\
+ok\n\
+error 4 CheckpointExists\n\
+checkpoint c\n\
+end 1\n\
+ok\n\
+error 5 NoSuchRecord\n\
+none\n\
+ok\n\
+value duct\n\
+error 3 NoSuchCheckpoint\n\
+ok\n\
+error 3 NoSuchCheckpoint\n\
+end 0\n\
+error 1 NoSuchAlternative\n\
+error 1 NoSuchAlternative\n\
+ok\n\
+ok\n\
+alternative top ~\n\
+end 1\n\
+free 27\n\
+ok\n\
+free 30\n\
+error 22 BadLine\n\
+error 22 BadLine\n\
+ok\n\
+ok\n\
+ok\n\
+ok\n\
+none\n\
+ok\n\
+value -\n\
+error 5 NoSuchRecord\n";
+
+#[test]
+fn answers_lines_of_designs(rt: HostRuntime) -> Result<(), Fail> {
+    answered(rt.alloc(), DESIGNS)?.expect(&rt, 0, DESIGN_ANSWERS, b"");
+    Ok(())
+}
+
+#[test]
+fn refuses_lines_with_too_few_or_too_many_words(rt: HostRuntime) -> Result<(), Fail> {
+    for line in [
+        b"new a\n".as_slice(),
+        b"new a top x\n",
+        b"new a! top\n",
+        b"drop\n",
+        b"drop a b\n",
+        b"remove top 7\n",
+        b"remove top 7 1 x\n",
+        b"checkpoint top\n",
+        b"uncheck top a b\n",
+        b"back top\n",
+        b"list\n",
+        b"list top top\n",
+        b"alts top\n",
+        b"checks\n",
+        b"New a top\n",
+    ] {
+        answered(rt.alloc(), line)?.expect(&rt, 0, b"error 22 BadLine\n", b"");
+    }
+    Ok(())
+}
+
+// Appends the line of a checkpoint of `top`, whose name is a number.
+fn push_checkpoint(into: &mut Vec<u8>, verb: &[u8], number: u32) -> Result<(), Fail> {
+    let mut buffer = itoa::Buffer::new();
+    into.extend_from_slice(verb)?;
+    into.extend_from_slice(b" top k")?;
+    into.extend_from_slice(buffer.format(number).as_bytes())?;
+    into.push(b'\n')?;
+    Ok(())
+}
+
+// 30 blocks are for data. Each of the 15 checkpoints keeps one, so 15 are spare for the next Put.
+#[test]
+fn answers_full_where_checkpoints_keep_the_blocks(rt: HostRuntime) -> Result<(), Fail> {
+    let mut lines = Vec::new(rt.alloc());
+    let mut answers = Vec::new(rt.alloc());
+    for number in 1..16 {
+        lines.extend_from_slice(b"put top 1 1 v\n")?;
+        push_checkpoint(&mut lines, b"checkpoint", number)?;
+        answers.extend_from_slice(b"ok\nok\n")?;
+    }
+    lines.extend_from_slice(b"commit\nput top 1 1 v\n")?;
+    push_checkpoint(&mut lines, b"uncheck", 1)?;
+    lines.extend_from_slice(b"put top 1 1 v\ncommit\nput top 1 1 v\nfree\n")?;
+    answers.extend_from_slice(b"ok\nerror 13 Full\nok\nerror 13 Full\nok\nok\nfree 15\n")?;
+    answered(rt.alloc(), lines.as_slice())?.expect(&rt, 0, answers.as_slice(), b"");
+    Ok(())
+}
+
+#[test]
+fn answers_too_many_after_511_entries(rt: HostRuntime) -> Result<(), Fail> {
+    let mut lines = Vec::new(rt.alloc());
+    let mut answers = Vec::new(rt.alloc());
+    for number in 1..511 {
+        push_checkpoint(&mut lines, b"checkpoint", number)?;
+        answers.extend_from_slice(b"ok\n")?;
+    }
+    push_checkpoint(&mut lines, b"checkpoint", 511)?;
+    lines.extend_from_slice(b"new a top\ncommit\n")?;
+    answers.extend_from_slice(b"error 12 TooMany\nerror 12 TooMany\nok\n")?;
+    answered(rt.alloc(), lines.as_slice())?.expect(&rt, 0, answers.as_slice(), b"");
+    Ok(())
+}
+
+// Appends what begins the line of a record, and its value of 240 zero bytes.
+fn push_zeros(into: &mut Vec<u8>, verb: &[u8], number: u8) -> Result<(), Fail> {
+    into.extend_from_slice(verb)?;
+    into.push(number)?;
+    into.push(b' ')?;
+    for _ in 0..240 {
+        into.extend_from_slice(b"%00")?;
+    }
+    into.push(b'\n')?;
+    Ok(())
+}
+
+#[test]
+fn lists_more_than_one_text_takes(rt: HostRuntime) -> Result<(), Fail> {
+    let mut lines = Vec::new(rt.alloc());
+    let mut answers = Vec::new(rt.alloc());
+    for number in b'0'..=b'9' {
+        push_zeros(&mut lines, b"put top 65535 184467440737095516", number)?;
+        answers.extend_from_slice(b"ok\n")?;
+    }
+    lines.extend_from_slice(b"list top\n")?;
+    for number in b'0'..=b'9' {
+        push_zeros(&mut answers, b"record 65535 184467440737095516", number)?;
+    }
+    answers.extend_from_slice(b"end 10\n")?;
+    answered(rt.alloc(), lines.as_slice())?.expect(&rt, 0, answers.as_slice(), b"");
+    Ok(())
+}
+
+/// A comment of this many bytes, and a query behind it.
+fn comment(alloc: Global, len: usize) -> Result<Vec<u8>, Fail> {
+    let mut line = Vec::new(alloc);
+    for _ in 0..len {
+        line.push(b'#')?;
+    }
+    line.extend_from_slice(b"\nget top 9 9\n")?;
+    Ok(line)
+}
+
+#[test]
+fn skips_long_lines(rt: HostRuntime) -> Result<(), Fail> {
+    let longest = comment(rt.alloc(), 1_048_576)?;
+    answered(rt.alloc(), longest.as_slice())?.expect(&rt, 0, b"none\n", b"");
+    let longer = comment(rt.alloc(), 1_048_577)?;
+    let answers = b"error 23 LongLine\nnone\n";
+    answered(rt.alloc(), longer.as_slice())?.expect(&rt, 0, answers, b"");
+    Ok(())
+}
