@@ -11,10 +11,10 @@ const SECOND: Key = Key {
     number: 2,
 };
 
-type Fused = Store<FuseDisk<MemDisk>>;
+pub(super) type Fused = Store<FuseDisk<MemDisk>>;
 
 // A new store of 64 blocks. Formatting and opening take the first eleven device calls.
-fn fresh_on(alloc: Global, disk: FuseDisk<MemDisk>) -> Result<Fused, Refusal> {
+pub(super) fn fresh_on(alloc: Global, disk: FuseDisk<MemDisk>) -> Result<Fused, Refusal> {
     let disk = format(disk, 64).map_err(|refused| refused.1)?;
     open(alloc, disk).map_err(|refused| refused.1)
 }

@@ -57,23 +57,32 @@ fn what_was_removed_and_not_committed_leaves_no_trace_after_a_stop(
     rt: HostRuntime,
 ) -> Result<(), Fail> {
     let mut store = open_fused(rt.alloc(), duct_disk(rt.alloc())?, 10)?;
-    assert_eq!(rt; put(&mut store, DUCT, b"pipe"), Ok(Answer::Done));
-    assert_eq!(rt; commit(&mut store), Err(Refusal::Device));
+    let stopped = [
+        (put(&mut store, DUCT, b"pipe"), Ok(Answer::Done)),
+        (commit(&mut store), Err(Refusal::Device)),
+    ];
+    expect(&rt, &stopped);
     assert_eq!(rt; get(&mut store, DUCT), Err(Refusal::Failed));
-    let disk = store.close().into_inner();
-    let mut store = open_on(rt.alloc(), disk)?;
-    assert_eq!(rt; get(&mut store, DUCT), Ok(Value::new(b"pipe")));
-    assert_eq!(rt; put(&mut store, NEXT, b"x"), Ok(Answer::Done));
-    assert_eq!(rt; remove(&mut store, NEXT), Ok(Answer::Done));
-    assert_eq!(rt; get(&mut store, NEXT), Ok(None));
+    let mut store = open_on(rt.alloc(), store.close().into_inner())?;
+    let shown = (get(&mut store, DUCT), Ok(Value::new(b"pipe")));
+    let answers = [
+        (put(&mut store, NEXT, b"x"), Ok(Answer::Done)),
+        (remove(&mut store, NEXT), Ok(Answer::Done)),
+    ];
+    let removed = (get(&mut store, NEXT), Ok(None));
+    expect(&rt, &answers);
+    expect(&rt, &[shown, removed]);
     let disk = store.close();
     assert!(rt; disk.is_dirty(34));
     assert!(rt; !disk.is_dirty(35));
     let filling = every_block_filled(rt.alloc(), 0xFF)?;
     let mut store = open_on(rt.alloc(), disk.crash(&filling))?;
-    assert_eq!(rt; get(&mut store, DUCT), Ok(Value::new(b"pipe")));
-    assert_eq!(rt; get(&mut store, NEXT), Ok(None));
+    let left = [
+        (get(&mut store, DUCT), Ok(Value::new(b"pipe"))),
+        (get(&mut store, NEXT), Ok(None)),
+    ];
     let _disk = store.close();
+    expect(&rt, &left);
     Ok(())
 }
 
@@ -84,15 +93,19 @@ fn record_that_is_absent_is_refused(rt: HostRuntime) -> Result<(), Fail> {
         number: 0,
     };
     let mut store = fresh_store(rt.alloc())?;
-    assert_eq!(rt; remove(&mut store, none), Err(Refusal::NoSuchRecord));
+    let empty = (remove(&mut store, none), Err(Refusal::NoSuchRecord));
     let _disk = store.close();
     let mut store = open_on(rt.alloc(), duct_disk(rt.alloc())?)?;
-    assert_eq!(rt; remove(&mut store, none), Err(Refusal::NoSuchRecord));
-    assert_eq!(rt; remove(&mut store, NEXT), Err(Refusal::NoSuchRecord));
-    assert_eq!(rt;
-        remove_from(&mut store, b"nope", DUCT),
-        Err(Refusal::NoSuchAlternative)
-    );
+    let answers = [
+        empty,
+        (remove(&mut store, none), Err(Refusal::NoSuchRecord)),
+        (remove(&mut store, NEXT), Err(Refusal::NoSuchRecord)),
+        (
+            remove_from(&mut store, b"nope", DUCT),
+            Err(Refusal::NoSuchAlternative),
+        ),
+    ];
+    expect(&rt, &answers);
     assert_eq!(rt; get(&mut store, DUCT), Ok(Value::new(b"duct")));
     let _disk = store.close();
     Ok(())

@@ -1,8 +1,9 @@
 //! Lists of commands.
+use super::crashing::fresh_on;
 use super::{DUCT, commit, fresh_store, get, record_on};
 use std::test::Fail;
 use vm_disk::{FuseDisk, MemDisk};
-use vm_store::{Stop, format, open};
+use vm_store::Stop;
 use vm_types::{Answer, Command, Name, Refusal, Value};
 
 #[test]
@@ -54,8 +55,7 @@ fn list_ends_where_the_device_fails(rt: HostRuntime) -> Result<(), Fail> {
     let alt = Name::new(b"top").ok_or("no name")?;
     let value = Value::new(b"duct").ok_or("no value")?;
     let disk = FuseDisk::once(MemDisk::new(rt.alloc(), 64)?, 13, [9; 4096]);
-    let disk = format(disk, 64).map_err(|refused| refused.1)?;
-    let mut store = open(rt.alloc(), disk).map_err(|refused| refused.1)?;
+    let mut store = fresh_on(rt.alloc(), disk)?;
     let put = Command::Put {
         alt,
         key: DUCT,

@@ -186,12 +186,14 @@ fn back_shows_the_records_of_the_checkpoint(rt: HostRuntime) -> Result<(), Fail>
         (check(&mut store, b"a", b"d"), DONE),
         (back(&mut store, b"a", b"c"), DONE),
     ];
-    expect(&rt, &answers);
-    assert_eq!(rt; get_in(&mut store, b"a", FIRST), Ok(None));
-    assert_eq!(rt; back(&mut store, b"a", b"d"), DONE);
-    assert_eq!(rt; get_in(&mut store, b"a", FIRST), Ok(Value::new(b"x")));
-    assert_eq!(rt; back(&mut store, b"a", b"c"), DONE);
+    let before = (get_in(&mut store, b"a", FIRST), Ok(None));
+    let forth = (back(&mut store, b"a", b"d"), DONE);
+    let after = (get_in(&mut store, b"a", FIRST), Ok(Value::new(b"x")));
+    let again = (back(&mut store, b"a", b"c"), DONE);
     let _disk = store.close();
+    expect(&rt, &answers);
+    expect(&rt, &[forth, again]);
+    expect(&rt, &[before, after]);
     Ok(())
 }
 
@@ -321,50 +323,61 @@ fn calls_that_change_entries_alone_make_no_device_call(rt: HostRuntime) -> Resul
 #[test]
 fn alternatives_are_listed_in_order_of_creation(rt: HostRuntime) -> Result<(), Fail> {
     let mut store = fresh_store(rt.alloc())?;
-    assert_eq!(rt;
-        are_alternatives(rt.alloc(), &store, &[(b"top", b"")]),
-        Ok(true)
-    );
-    assert_eq!(rt; new(&mut store, b"b", b"top"), DONE);
-    assert_eq!(rt; check(&mut store, b"b", b"c"), DONE);
-    assert_eq!(rt; new(&mut store, b"a", b"b"), DONE);
-    assert_eq!(rt; new(&mut store, b"d", b"top"), DONE);
+    let first = are_alternatives(rt.alloc(), &store, &[(b"top", b"")]);
+    let made = [
+        (new(&mut store, b"b", b"top"), DONE),
+        (check(&mut store, b"b", b"c"), DONE),
+        (new(&mut store, b"a", b"b"), DONE),
+        (new(&mut store, b"d", b"top"), DONE),
+    ];
     let all: [(&[u8], &[u8]); 4] = [(b"top", b""), (b"b", b"top"), (b"a", b"b"), (b"d", b"top")];
-    assert_eq!(rt; are_alternatives(rt.alloc(), &store, &all), Ok(true));
-    assert_eq!(rt; drop_alt(&mut store, b"a"), DONE);
-    assert_eq!(rt; new(&mut store, b"a", b"d"), DONE);
+    let second = are_alternatives(rt.alloc(), &store, &all);
+    let moved = [
+        (drop_alt(&mut store, b"a"), DONE),
+        (new(&mut store, b"a", b"d"), DONE),
+    ];
     let all: [(&[u8], &[u8]); 4] = [(b"top", b""), (b"b", b"top"), (b"d", b"top"), (b"a", b"d")];
-    assert_eq!(rt; are_alternatives(rt.alloc(), &store, &all), Ok(true));
+    let third = are_alternatives(rt.alloc(), &store, &all);
     let _disk = store.close();
+    expect(&rt, &made);
+    expect(&rt, &moved);
+    expect(
+        &rt,
+        &[(first, Ok(true)), (second, Ok(true)), (third, Ok(true))],
+    );
     Ok(())
 }
 
 #[test]
 fn checkpoints_are_listed_in_order_of_creation(rt: HostRuntime) -> Result<(), Fail> {
     let mut store = fresh_store(rt.alloc())?;
-    assert_eq!(rt; are_checkpoints(rt.alloc(), &store, b"top", &[]), Ok(true));
+    let none = are_checkpoints(rt.alloc(), &store, b"top", &[]);
     assert_eq!(rt; new(&mut store, b"a", b"top"), DONE);
     for saved in [b"z", b"y", b"x"] {
-        assert_eq!(rt; check(&mut store, b"top", saved), DONE);
-        assert_eq!(rt; check(&mut store, b"a", saved), DONE);
+        let answers = [
+            (check(&mut store, b"top", saved), DONE),
+            (check(&mut store, b"a", saved), DONE),
+        ];
+        expect(&rt, &answers);
     }
-    assert_eq!(rt;
-        are_checkpoints(rt.alloc(), &store, b"a", &[b"z", b"y", b"x"]),
-        Ok(true)
-    );
-    assert_eq!(rt; uncheck(&mut store, b"a", b"z"), DONE);
-    assert_eq!(rt; check(&mut store, b"a", b"z"), DONE);
-    assert_eq!(rt;
-        are_checkpoints(rt.alloc(), &store, b"a", &[b"y", b"x", b"z"]),
-        Ok(true)
-    );
-    assert_eq!(rt;
-        are_checkpoints(rt.alloc(), &store, b"top", &[b"z", b"y", b"x"]),
-        Ok(true)
-    );
+    let first = are_checkpoints(rt.alloc(), &store, b"a", &[b"z", b"y", b"x"]);
+    let moved = [
+        (uncheck(&mut store, b"a", b"z"), DONE),
+        (check(&mut store, b"a", b"z"), DONE),
+    ];
+    expect(&rt, &moved);
+    let second = are_checkpoints(rt.alloc(), &store, b"a", &[b"y", b"x", b"z"]);
+    let kept = are_checkpoints(rt.alloc(), &store, b"top", &[b"z", b"y", b"x"]);
     let refused = are_checkpoints(rt.alloc(), &store, b"x", &[]);
-    assert_eq!(rt; refused, Err(Refusal::NoSuchAlternative));
     let _disk = store.close();
+    let lists = [
+        (none, Ok(true)),
+        (first, Ok(true)),
+        (second, Ok(true)),
+        (kept, Ok(true)),
+        (refused, Err(Refusal::NoSuchAlternative)),
+    ];
+    expect(&rt, &lists);
     Ok(())
 }
 
