@@ -86,8 +86,13 @@ fn list<D: Disk>(alloc: Global, store: &mut Store<D>) -> Result<Vec<(Key, Value)
     list_of(alloc, store, b"top")
 }
 
-fn record(key: Key, value: &[u8]) -> Result<(Key, Value), Fail> {
-    Ok((key, Value::new(value).ok_or("no value")?))
+// Compares a list of records with these keys and values.
+fn expect_records<R: Abort>(rt: &R, records: &[(Key, Value)], expected: &[(Key, &[u8])]) {
+    assert_eq!(rt; records.len(), expected.len());
+    for (i, (record, wanted)) in records.iter().zip(expected).enumerate() {
+        assert_eq!(rt; record.0, wanted.0, "record {i}");
+        assert_eq!(rt; Some(record.1), Value::new(wanted.1), "record {i}");
+    }
 }
 
 // What a crash may leave in each of 64 blocks, if it is not synced.

@@ -1,8 +1,8 @@
 //! Taking records out.
 use super::failing::{NEVER, open_fused};
 use super::{
-    DUCT, commit, duct_disk, every_block_filled, expect, fresh_store, get, list, open_on, put,
-    record,
+    DUCT, commit, duct_disk, every_block_filled, expect, expect_records, fresh_store, get, list,
+    open_on, put,
 };
 use std::alloc::Global;
 use std::test::Fail;
@@ -44,11 +44,11 @@ fn removed_on(
     alloc: Global,
     disk: MemDisk,
     key: Key,
-) -> Result<(Result<Answer, Refusal>, u32, MemDisk), Refusal> {
+) -> Result<((Result<Answer, Refusal>, u32), MemDisk), Refusal> {
     let mut store = open_fused(alloc, disk, NEVER)?;
     let answer = remove(&mut store, key);
     let disk = store.close();
-    Ok((answer, disk.calls(), disk.into_inner()))
+    Ok(((answer, disk.calls()), disk.into_inner()))
 }
 
 // Opening the store of `duct` makes five device calls, the Put two, and the Commit four.
@@ -129,26 +129,25 @@ fn records_are_taken_out_one_by_one(rt: HostRuntime) -> Result<(), Fail> {
     assert_eq!(rt; put(&mut store, NEXT, b""), Ok(Answer::Done));
     let again = list(rt.alloc(), &mut store);
     let _disk = store.close();
-    assert_eq!(rt; one?.as_slice(), [record(NEXT, b"x")?].as_slice());
+    expect_records(&rt, &one?, &[(NEXT, b"x")]);
     assert!(rt; none?.is_empty());
     assert!(rt; still_none?.is_empty());
-    assert_eq!(rt; again?.as_slice(), [record(NEXT, b"")?].as_slice());
+    expect_records(&rt, &again?, &[(NEXT, b"")]);
     Ok(())
 }
 
 // Opening the store makes five device calls: a sync, and four reads.
 #[test]
 fn calls_of_remove_at_a_leaf(rt: HostRuntime) -> Result<(), Fail> {
-    let two = two_records_disk(rt.alloc())?;
-    let (answer, calls, _disk) = removed_on(rt.alloc(), two, NEXT)?;
-    assert_eq!(rt; answer, Ok(Answer::Done));
-    assert_eq!(rt; calls, 8, "open and a Remove that leaves a record");
-    let (answer, calls, _disk) = removed_on(rt.alloc(), duct_disk(rt.alloc())?, NEXT)?;
-    assert_eq!(rt; answer, Err(Refusal::NoSuchRecord));
-    assert_eq!(rt; calls, 6, "open and a Remove of an absent record");
-    let (answer, calls, disk) = removed_on(rt.alloc(), duct_disk(rt.alloc())?, DUCT)?;
-    assert_eq!(rt; answer, Ok(Answer::Done));
-    assert_eq!(rt; calls, 7, "open and a Remove of the last record");
+    let (one_of_two, _disk) = removed_on(rt.alloc(), two_records_disk(rt.alloc())?, NEXT)?;
+    let (absent, _disk) = removed_on(rt.alloc(), duct_disk(rt.alloc())?, NEXT)?;
+    let (last, disk) = removed_on(rt.alloc(), duct_disk(rt.alloc())?, DUCT)?;
+    let answers = [
+        (one_of_two, (Ok(Answer::Done), 8)),
+        (absent, (Err(Refusal::NoSuchRecord), 6)),
+        (last, (Ok(Answer::Done), 7)),
+    ];
+    expect(&rt, &answers);
     for n in 0..64 {
         assert!(rt; !disk.is_dirty(n), "block {n}");
     }
