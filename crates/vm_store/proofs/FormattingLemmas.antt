@@ -12,7 +12,9 @@ use Rattle.vm_disk.specs.Moments.{Leaves, Spares}
 use Rattle.vm_block.specs.Header.{IsHeader}
 use Rattle.vm_block.specs.Selector.{names_b, selector_bytes}
 use Rattle.vm_block.specs.Slot.{SlotFits, IsSlot, used_blocks}
-use Rattle.vm_block.specs.Tree.{Stands}
+use Rattle.vm_tree.specs.Root.{Grown}
+use Rattle.vm_tree.specs.declared.root.Root.{Root}
+use Rattle.vm_tree.proofs.RootRemoval.{rooted_bare}
 use Rattle.vm_block.specs.declared.slot.Kind.TheVariants as kind
 use Rattle.vm_block.specs.declared.slot.Entry.{Entry}
 use Rattle.vm_catalog.specs.Place.{selected, blocks_from, region}
@@ -26,7 +28,9 @@ use Rattle.vm_store.specs.Filed.{Filed, Standing, tree_of}
 use Rattle.vm_store.specs.Shown.{ShowsAtMostFresh}
 use Rattle.vm_store.specs.Refused.{IsSynced, IsAtMostSynced}
 use Rattle.vm_store.specs.Formatting.{fresh_entry, IsLaidOut, IsFormatted, IsFormatting}
-use Rattle.vm_store.proofs.OneLeaf.{no_leaf, tree_of_none}
+use Rattle.vm_store.specs.Versions.{entry_of, slot_entries}
+use Rattle.vm_store.specs.declared.versions.Version.{Version}
+use Rattle.vm_store.proofs.TopLemmas.{none_grown}
 
 -- block 0 is as it was, and clean
 pub record KeepsFirst (old m : Medium) : Type 0 where
@@ -50,16 +54,28 @@ pub first_synced : {T : Type 0} (result : Result T DeviceFault) (old : Medium) (
 first_synced (Ok x) old mid new keeps sync = record { same = ap (λ (x : Contents). block x 0) sync.same ∙ keeps.same; clean = sync.synced 0 }
 first_synced (Err e) old mid new keeps sync = record { same = ap (λ (x : Contents). block x 0) sync.same ∙ keeps.same; clean = ap (λ (m : Medium). m.dirty 0) sync.failed ∙ keeps.clean }
 
--- what is under root 0 is empty
-empty_map : (x : Contents) (limit : ℕ) (m : Map) → Stands sizes (λ n. Unit {0}) x limit 0 m → m ≡ []
-empty_map x limit m stands = (no_leaf x limit 0 m stands.blocks refl stands.tree).0
+-- no tree
+abbrev no_root : Root
+no_root = record { block = 0; level = 0; low = record { table = 0; number = 0 } }
 
-one_filed : (x : Contents) (limit : ℕ) (fs : List Filed) → Standing (λ n. Unit {0}) x limit (fresh_entry ∷ []) fs → tree_of fs ≡ fresh
-one_filed x limit [] s = absurd s
-one_filed x limit (f ∷ g ∷ fs) s = absurd s.1
-one_filed x limit (f ∷ []) s =
+-- `top` without a record, in memory
+abbrev fresh_version : Version
+fresh_version = record { kind = kind.Alternative; name = fresh_entry.name; owner = None; current = no_root; base = no_root }
+
+-- what is under block 0 is empty
+empty_map : (x : Contents) (limit : ℕ) (root : Root) (m : Map) → root.block ≡ 0 → Grown sizes (λ n. Unit {0}) x limit root m → m ≡ []
+empty_map x limit root m none grown = (rooted_bare sizes x limit root m grown.stands_in grown.rooted none).empty
+
+one_filed : (x : Contents) (limit : ℕ) (vs : List Version) (fs : List Filed) → slot_entries vs ≡ fresh_entry ∷ [] → Standing (λ n. Unit {0}) x limit vs fs → tree_of fs ≡ fresh
+one_filed x limit [] fs is s = cc
+one_filed x limit (v ∷ w ∷ vs) fs is s = cc
+one_filed x limit (v ∷ []) [] is s = absurd s
+one_filed x limit (v ∷ []) (f ∷ g ∷ fs) is s = absurd s.1
+one_filed x limit (v ∷ []) (f ∷ []) is s =
+    let it : entry_of v ≡ fresh_entry = cc in
     let filed : Filed = record { kind = kind.Alternative; name = fresh_entry.name; owner = None; current = []; base = [] } in
-    let same : f ≡ filed = by_parts f s.0.kind s.0.name s.0.owner (empty_map x limit f.current s.0.current) (empty_map x limit f.base s.0.base) in
+    let same : f ≡ filed = by_parts f (s.0.kind ∙ ap (λ (e : Entry). e.kind) it) (s.0.name ∙ ap (λ (e : Entry). e.name) it) (s.0.owner ∙ ap (λ (e : Entry). e.owner) it)
+    (empty_map x limit v.current f.current (ap (λ (e : Entry). e.current) it) s.0.current) (empty_map x limit v.base f.base (ap (λ (e : Entry). e.base) it) s.0.base) in
     ap (λ (g : Filed). tree_of (g ∷ [])) same
   where
     by_parts : (f : Filed) → f.kind ≡ kind.Alternative → f.name ≡ fresh_entry.name → f.owner ≡ None → f.current ≡ [] → f.base ≡ []
@@ -74,8 +90,8 @@ one_filed x limit (f ∷ []) s =
 -- where slot A holds the one entry of a new store, and is named, only a new store can be shown
 pub only_fresh : (x : Contents) (blocks : ℕ) → selected x ≡ false → SlotAt x false blocks (fresh_entry ∷ []) → ShowsAtMostFresh x
 only_fresh x blocks in_use slot tree shown =
-    let same = slot_one x false shown.limit blocks shown.entries (fresh_entry ∷ []) (subst (λ b. SlotAt x b shown.limit shown.entries) in_use shown.names.slot) slot in
-    sym shown.gives ∙ one_filed x shown.limit shown.filed (subst (λ (es : List Entry). Standing (λ n. Unit {0}) x shown.limit es shown.filed) same.1 shown.stands)
+    let same = slot_one x false shown.limit blocks (slot_entries shown.versions) (fresh_entry ∷ []) (subst (λ b. SlotAt x b shown.limit (slot_entries shown.versions)) in_use shown.names.slot) slot in
+    sym shown.gives ∙ one_filed x shown.limit shown.versions shown.filed same.1 shown.stands
 
 -- all but block 0 is as in a disk that is laid out, and clean
 pub record KeepsRest (old m : Medium) : Type 0 where
@@ -110,7 +126,7 @@ formatted_now blocks (Ok y) old mid new laid keeps header inside sync =
     record {
       shown = record {
         limit = blocks;
-        entries = fresh_entry ∷ [];
+        versions = fresh_version ∷ [];
         filed = record { kind = kind.Alternative; name = fresh_entry.name; owner = None; current = []; base = [] } ∷ [];
         names = record { header = ap (λ (x : Contents). block x 0) sync.same ∙ header; slot = subst (λ b. SlotAt x b blocks (fresh_entry ∷ [])) (sym in_use) slot };
         inside = subst (λ n. blocks ≤ n) (sym (ap length sync.same ∙ keeps.count)) inside;
@@ -121,8 +137,8 @@ formatted_now blocks (Ok y) old mid new laid keeps header inside sync =
       clean = sync.synced;
     }
   where
-    empty : (x : Contents) → Stands sizes (λ n. Unit {0}) x blocks 0 []
-    empty x = record { blocks = []; tree = tree_of_none x blocks 0 refl; each = tt }
+    empty : (x : Contents) → Grown sizes (λ n. Unit {0}) x blocks no_root []
+    empty x = none_grown (λ n. Unit {0}) x blocks no_root refl
 
 -- the slot and the selector are written, and synced
 pub laid_now : {T : Type 0} (blocks : ℕ) (es : List Entry) (result : Result T DeviceFault) (written chosen new : disk.State) {U : Type 0} (select : Result U DeviceFault) (u : U) → es ≡ fresh_entry ∷ []

@@ -6,12 +6,14 @@ use Rattle.vm_disk.specs.Moments.{Spares}
 use Rattle.vm_disk.proofs.MomentLemmas.{spares_itself}
 use Rattle.vm_alloc.specs.Held.{IsHeld, HoldsMore}
 use Rattle.vm_block.specs.Tree.{IsData}
+use Rattle.vm_store.specs.Versions.{slot_entries}
+use Rattle.vm_store.specs.declared.versions.Version.{Version}
 use Rattle.vm_block.specs.declared.slot.Entry.{Entry}
 use Rattle.vm_catalog.specs.Place.{selected, is_used}
 use Rattle.vm_catalog.specs.Catalog.{SlotAt, AtRest}
 use Rattle.vm_catalog.specs.Publishing.{IsTurning, IsSafelyPublishing}
 use Rattle.vm_catalog.proofs.PlaceLemmas.{used_front}
-use Rattle.vm_store.specs.Free.{is_free}
+use Rattle.vm_tree.specs.Free.{is_free}
 use Rattle.vm_store.specs.Filed.{Filed, Standing}
 use Rattle.vm_store.specs.Guarded.{IsWhole, IsGuarded}
 use Rattle.vm_store.specs.Resting.{IsSafe, Rests}
@@ -19,16 +21,16 @@ use Rattle.vm_store.proofs.RestingLemmas.{at_rest, safe_on}
 use Rattle.vm_store.proofs.StandingLemmas.{standing_in, standing_data}
 
 -- the slot in use is whole, and the selector is clean
-settled_guarded : (bits : List Bool) (m : Medium) (slot_b : Bool) (limit : ℕ) (es : List Entry) (fs : List Filed) → AtRest slot_b m limit es → limit ≤ length m.contents → Standing (IsSafe bits m) m.contents limit es fs
+settled_guarded : (bits : List Bool) (m : Medium) (slot_b : Bool) (limit : ℕ) (es : List Version) (fs : List Filed) → AtRest slot_b m limit (slot_entries es) → limit ≤ length m.contents → Standing (IsSafe bits m) m.contents limit es fs
     → IsWhole bits m (selected m.contents)
 settled_guarded bits m slot_b limit es fs rest inside safe = record {
   limit = limit;
-  entries = es;
+  versions = es;
   filed = fs;
   inside = inside;
   header = rest.names.header;
   slot = rest.names.slot;
-  clean = λ n other used. rest.clean n (subst (λ b. is_used b (length es) n ≡ true) rest.in_use used);
+  clean = λ n other used. rest.clean n (subst (λ b. is_used b (length (slot_entries es)) n ≡ true) rest.in_use used);
   safe = safe;
 }
 
@@ -38,16 +40,16 @@ either P true p q false = q
 either P false p q true = q
 either P false p q false = p
 
-module _ (m : Medium) (limit : ℕ) (slot_b : Bool) (bits : List Bool) (committed working : List Entry) (s : State)
+module _ (m : Medium) (limit : ℕ) (slot_b : Bool) (bits : List Bool) (committed working : List Version) (s : State)
     (rests : Rests m limit slot_b bits committed working s) where
   -- after calls that write free blocks alone
   pub guarded_on : (now : Medium) (after : List Bool) → Spares (is_free bits) m now → HoldsMore bits after → IsGuarded after now
   guarded_on now after spares more =
-      let rest : AtRest slot_b now limit committed = at_rest m limit slot_b bits committed working s rests now spares in
+      let rest : AtRest slot_b now limit (slot_entries committed) = at_rest m limit slot_b bits committed working s rests now spares in
       record {
         settled = λ clean. settled_guarded after now slot_b limit committed rests.old rest (subst (λ n. limit ≤ n) (sym spares.count) rests.inside)
             (safe_on m limit slot_b bits committed working s rests now after spares more);
-        turning = λ dirty. let clean = rest.clean 1 (used_front slot_b (length committed) 1 (omega arith)) in cc (dirty, clean);
+        turning = λ dirty. let clean = rest.clean 1 (used_front slot_b (length (slot_entries committed)) 1 (omega arith)) in cc (dirty, clean);
       }
 
   -- before any call
@@ -55,10 +57,10 @@ module _ (m : Medium) (limit : ℕ) (slot_b : Bool) (bits : List Bool) (committe
   guarded_at_rest = guarded_on m bits (spares_itself (is_free bits) m) (record { same_length = refl; still = λ n held. held })
 
   -- at each moment of a publish of the working entries
-  pub guarded_publishing : (now : Medium) → IsSafelyPublishing slot_b m limit committed limit working now → IsGuarded bits now
+  pub guarded_publishing : (now : Medium) → IsSafelyPublishing slot_b m limit (slot_entries committed) limit (slot_entries working) now → IsGuarded bits now
   guarded_publishing now publishing = record {
     settled = λ clean. by_slot (publishing.settled clean);
-    turning = λ dirty. let t : IsTurning slot_b now limit committed limit working = publishing.turning dirty in
+    turning = λ dirty. let t : IsTurning slot_b now limit (slot_entries committed) limit (slot_entries working) = publishing.turning dirty in
         either (IsWhole bits now) slot_b (turned slot_b committed rests.old t.old t (safe_old)) (turned (not slot_b) working rests.new t.new_slot t (safe_new (λ n inner. t.clean n (apart n inner))));
   }
     where
@@ -78,14 +80,14 @@ module _ (m : Medium) (limit : ℕ) (slot_b : Bool) (bits : List Bool) (committe
           (λ n held. record { held = held.0; clean = clean n held.1 }) working rests.new
           (standing_data (IsHeld bits) m.contents limit working rests.new rests.stands)
 
-      by_slot : AtRest slot_b now limit committed ⊎ (AtRest (not slot_b) now limit working × IsClean now) → IsWhole bits now (selected now.contents)
+      by_slot : AtRest slot_b now limit (slot_entries committed) ⊎ (AtRest (not slot_b) now limit (slot_entries working) × IsClean now) → IsWhole bits now (selected now.contents)
       by_slot (inl rest) = settled_guarded bits now slot_b limit committed rests.old rest inside safe_old
       by_slot (inr rest) = settled_guarded bits now (not slot_b) limit working rests.new rest.0 inside (safe_new (λ n inner. rest.1 n))
 
-      turned : (b : Bool) (es : List Entry) (fs : List Filed) → SlotAt now.contents b limit es → IsTurning slot_b now limit committed limit working → Standing (IsSafe bits now) now.contents limit es fs → IsWhole bits now b
+      turned : (b : Bool) (es : List Version) (fs : List Filed) → SlotAt now.contents b limit (slot_entries es) → IsTurning slot_b now limit (slot_entries committed) limit (slot_entries working) → Standing (IsSafe bits now) now.contents limit es fs → IsWhole bits now b
       turned b es fs slot t safe = record {
         limit = limit;
-        entries = es;
+        versions = es;
         filed = fs;
         inside = inside;
         header = t.header;
@@ -93,3 +95,9 @@ module _ (m : Medium) (limit : ℕ) (slot_b : Bool) (bits : List Bool) (committe
         clean = λ n other used. t.clean n other;
         safe = safe;
       }
+
+-- the same, where the working entries were written to a list of their own
+pub lent_guarded : (m : Medium) (limit : ℕ) (slot_b : Bool) (bits : List Bool) (committed working : List Version) (s : State) → Rests m limit slot_b bits committed working s
+    → (lent : List Entry) → lent ≡ slot_entries working → (now : Medium) → IsSafelyPublishing slot_b m limit (slot_entries committed) limit lent now → IsGuarded bits now
+lent_guarded m limit slot_b bits committed working s rests lent same now publishing =
+    guarded_publishing m limit slot_b bits committed working s rests now (subst (λ (es : List Entry). IsSafelyPublishing slot_b m limit (slot_entries committed) limit es now) same publishing)

@@ -8,11 +8,14 @@ use Rattle.vm_types.specs.Firsts.{change_first}
 use Rattle.vm_block.specs.Slot.{EntryFits, HeadFits, SlotFits, IsLedger, Follows, MayFollow, is_alternative, is_alternative_of, is_called_as, is_same_kind}
 use Rattle.vm_block.specs.declared.slot.Kind.{Kind}
 use Rattle.vm_block.specs.declared.slot.Entry.{Entry}
-use Rattle.vm_store.proofs.StandingLemmas.{with_current}
 
 -- the base has to be empty: that of `top`, and that of a checkpoint, which may be one of `top`
 abbrev pub IsUnbasedKind : Entry → Type 0
 IsUnbasedKind e = (is_alternative e.kind ≡ false) ⊎ (e.name ≡ codes "top")
+
+-- the entry with another current root
+abbrev pub with_current : ℕ → Entry → Entry
+with_current root e = record e { current = root }
 
 -- two entries that differ in their roots alone
 pub record IsAlike (e f : Entry) : Type 0 where

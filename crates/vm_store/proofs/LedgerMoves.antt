@@ -12,7 +12,7 @@ use Rattle.vm_block.specs.Slot.{EntryFits, SlotFits, IsLedger, IsTopEntry, Follo
 use Rattle.vm_block.specs.declared.slot.Kind.{Kind}
 use Rattle.vm_block.specs.declared.slot.Kind.TheVariants.{Alternative, Checkpoint}
 use Rattle.vm_block.specs.declared.slot.Entry.{Entry}
-use Rattle.vm_store.specs.Entries.{is_checkpoint_under, is_checkpoint_of, is_child_of, is_apart}
+use Rattle.vm_store.proofs.EntryTests.{is_checkpoint_under, is_checkpoint_of, is_child_of, is_apart}
 use Rattle.vm_store.proofs.FoundLemmas.{any_found, any_none, any_same, each_filter, length-filtered, length-without}
 use Rattle.vm_store.proofs.GrownLemmas.{not_eq}
 

@@ -5,19 +5,20 @@ use Rattle.vm_types.specs.declared.refusal.Refusal.TheVariants.{NoSuchAlternativ
 use Rattle.vm_types.specs.Map.{Map}
 use Rattle.vm_types.specs.State.{State}
 use Rattle.vm_disk.specs.Disk.{Medium}
-use Rattle.vm_block.specs.Slot.{is_alternative_of}
-use Rattle.vm_block.specs.declared.slot.Entry.{Entry}
-use Rattle.vm_store.specs.LeafMap.{Lists, refusal_of}
+use Rattle.vm_store.specs.Versions.{is_alternative_of}
+use Rattle.vm_store.specs.declared.versions.Version.{Version}
+use Rattle.vm_store.specs.Faults.{refusal_of}
+use Rattle.vm_tree.specs.Answers.{Lists}
 use Rattle.vm_store.specs.Listing.{records_of, records_in}
 use Rattle.vm_store.specs.Resting.{Rests}
-use Rattle.vm_store.specs.declared.leaf_map.TreeFault.{TreeFault}
-use Rattle.vm_store.specs.declared.leaf_map.TreeFault.TheVariants as fault
+use Rattle.vm_tree.specs.declared.root.TreeFault.{TreeFault}
+use Rattle.vm_tree.specs.declared.root.TreeFault.TheVariants as fault
 use Rattle.vm_store.proofs.RestingLemmas.{found_entry, named_as, unnamed}
 
-module _ (m : Medium) (limit : ℕ) (slot_b : Bool) (bits : List Bool) (committed working : List Entry) (s : State)
+module _ (m : Medium) (limit : ℕ) (slot_b : Bool) (bits : List Bool) (committed working : List Version) (s : State)
     (rests : Rests m limit slot_b bits committed working s) (name : List ℕ) where
   -- the records of an alternative that was found
-  pub records_found : (e : Entry) (is : find (is_alternative_of name) working ≡ Some e) (records : Map)
+  pub records_found : (e : Version) (is : find (is_alternative_of name) working ≡ Some e) (records : Map)
       → records ≡ (found_entry m limit slot_b bits committed working s rests name e is).filed.current → records_in s.working name ≡ Ok records
   records_found e is records same =
       let found = found_entry m limit slot_b bits committed working s rests name e is in

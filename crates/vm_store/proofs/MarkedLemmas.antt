@@ -1,30 +1,25 @@
--- A marking holds just what the committed and the working entries reach.
-use Rattle.std.proofs.Common.{◌≡◌, ◌⊎◌, ℕ, ◌<◌, ◌≤◌, eqb, Bool, true, false, List, ◌++◌, length, refl, sym, ◌∙◌, arith, replicate, ⊎_elim, inl, inr}
-use Rattle.std.proofs.lemmas.Bool.{false≢true, cases_lt}
-use Rattle.std.proofs.lemmas.List.{get_or-replicate, get_or_past, length-replicate}
+-- After a marking just what the committed and the working versions reach is held.
+use Rattle.std.proofs.Common.{◌≡◌, ◌⊎◌, ℕ, ◌<◌, ◌≤◌, eqb, Bool, true, false, List, ◌++◌, length, refl, sym, ap, ◌∙◌, subst, arith, replicate, ⊎_elim, inl, inr}
+use Rattle.std.proofs.lemmas.Bool.{false≢true}
 use Rattle.std.specs.List.{AllByRecursion, list_any}
 use Rattle.vm_types.specs.State.{State}
 use Rattle.vm_disk.specs.Disk.{Medium}
 use Rattle.vm_alloc.specs.Held.{is_held, IsHeld, free_count}
 use Rattle.vm_alloc.specs.Marks.{is_marked, IsMarked}
 use Rattle.vm_block.specs.Tree.{IsData}
-use Rattle.vm_block.specs.declared.slot.Entry.{Entry}
-use Rattle.vm_block.proofs.EachLemmas.{each_so, each_join}
+use Rattle.vm_block.proofs.EachLemmas.{each_so, each_join, each_front, each_back}
+use Rattle.std.proofs.lemmas.List.{length-replicate}
+use Rattle.vm_check.specs.Marking.{IsClosed, MarksMore}
+use Rattle.vm_check.proofs.MarkLemmas.{more_then}
+use Rattle.vm_store.specs.Marking.{AreReached}
 use Rattle.vm_store.specs.Filed.{reach}
-use Rattle.vm_store.specs.Marking.{with_entries}
 use Rattle.vm_store.specs.Resting.{IsSafe, Rests, spare_of}
-use Rattle.vm_store.proofs.MarkingLemmas.{reach_marked, marked_reached, entries_keep, length-entries, any_front, any_back}
+use Rattle.vm_store.specs.declared.versions.Version.{Version}
+use Rattle.vm_store.proofs.MarkingLemmas.{none_marked, any_contained, standing_reached, clear_closed}
 use Rattle.vm_store.proofs.SpareLemmas.{free-spare, free-le-spare, any_of}
 use Rattle.vm_store.proofs.StandingLemmas.{standing_in, standing_data, standing_and, reach_each}
 
-none_marked : (limit n : ℕ) → IsMarked (replicate limit false) n → ⊥
-none_marked limit n is = by_case (cases_lt n limit)
-  where
-    by_case : (n < limit) ⊎ (limit ≤ n) → ⊥
-    by_case (inl lt) = false≢true (sym (get_or-replicate limit n false false lt) ∙ is)
-    by_case (inr past) = false≢true (sym (get_or_past (replicate limit false) n false (omega (arith, length-replicate {A = Bool} limit false))) ∙ is)
-
-module _ (m : Medium) (limit : ℕ) (slot_b : Bool) (bits : List Bool) (committed working : List Entry) (s : State)
+module _ (m : Medium) (limit : ℕ) (slot_b : Bool) (bits : List Bool) (committed working : List Version) (s : State)
     (many : length bits ≡ limit) (rests : Rests m limit slot_b bits committed working s) where
   -- all that is reached is held, and so no more blocks are free than are spare
   pub free_at_most : free_count bits ≤ spare_of rests
@@ -34,34 +29,19 @@ module _ (m : Medium) (limit : ℕ) (slot_b : Bool) (bits : List Bool) (committe
       (each_so (IsSafe bits m) (IsHeld bits) (λ n safe. safe.held) _ (reach_each (IsSafe bits m) m.contents limit committed rests.old rests.safe))
       (reach_each (IsHeld bits) m.contents limit working rests.new rests.stands))
 
-  -- the marks of a marking
-  abbrev marking : List Bool
-  marking = with_entries working (with_entries committed (replicate limit false))
-
-  abbrev reached : List ℕ
+  -- all that they reach
+  abbrev pub reached : List ℕ
   reached = reach (IsSafe bits m) m.contents limit committed rests.old rests.safe ++ reach (IsHeld bits) m.contents limit working rests.new rests.stands
 
-  module _ (some : 0 < limit) where
-    length-start : length (replicate limit false) ≡ limit
-    length-start = length-replicate {A = Bool} limit false
-
+  module _ (marking : List Bool) (marked : MarksMore reached (replicate limit false) marking) where
     committed_marked : AllByRecursion (IsMarked marking) (reach (IsSafe bits m) m.contents limit committed rests.old rests.safe)
-    committed_marked =
-        each_so (IsMarked (with_entries committed (replicate limit false))) (IsMarked marking) (λ n is. entries_keep working (with_entries committed (replicate limit false)) n is) _
-        (reach_marked (IsSafe bits m) m.contents limit some committed rests.old (replicate limit false) length-start rests.safe)
+    committed_marked = each_front (IsMarked marking) (reach (IsSafe bits m) m.contents limit committed rests.old rests.safe) (reach (IsHeld bits) m.contents limit working rests.new rests.stands) marked.each
 
     working_marked : AllByRecursion (IsMarked marking) (reach (IsHeld bits) m.contents limit working rests.new rests.stands)
-    working_marked =
-        reach_marked (IsHeld bits) m.contents limit some working rests.new (with_entries committed (replicate limit false)) (length-entries committed (replicate limit false) ∙ length-start) rests.stands
+    working_marked = each_back (IsMarked marking) (reach (IsSafe bits m) m.contents limit committed rests.old rests.safe) (reach (IsHeld bits) m.contents limit working rests.new rests.stands) marked.each
 
     just_reached : (n : ℕ) → IsMarked marking n → list_any (λ b. eqb b n) reached ≡ true
-    just_reached n is =
-        ⊎_elim
-        (λ is. ⊎_elim (λ is. absurd (none_marked limit n is))
-        (λ any. any_front (λ b. eqb b n) (reach (IsSafe bits m) m.contents limit committed rests.old rests.safe) (reach (IsHeld bits) m.contents limit working rests.new rests.stands) any)
-        (marked_reached (IsSafe bits m) m.contents limit committed rests.old (replicate limit false) n rests.safe is))
-        (λ any. any_back (λ b. eqb b n) (reach (IsSafe bits m) m.contents limit committed rests.old rests.safe) (reach (IsHeld bits) m.contents limit working rests.new rests.stands) any)
-        (marked_reached (IsHeld bits) m.contents limit working rests.new (with_entries committed (replicate limit false)) n rests.stands is)
+    just_reached n is = ⊎_elim (λ before. absurd (none_marked limit n before)) (λ at. any_contained reached n at) (marked.only n is)
 
     module _ (after : List Bool) (many' : length after ≡ limit) (system' : (n : ℕ) → n < 34 → IsHeld after n) (replaced : (n : ℕ) → 34 ≤ n → is_held after n ≡ is_marked marking n) where
       same_flags : (n : ℕ) → is_marked marking n ≡ list_any (λ b. eqb b n) reached
@@ -98,3 +78,43 @@ module _ (m : Medium) (limit : ℕ) (slot_b : Bool) (bits : List Bool) (committe
         gives_old = rests.gives_old;
         gives_new = rests.gives_new;
       }
+
+-- ---- the two markings
+
+module _ (m : Medium) (limit : ℕ) (slot_b : Bool) (bits : List Bool) (committed working : List Version) (s : State)
+    (rests : Rests m limit slot_b bits committed working s)
+    (marks cleared : List Bool) (count : length marks ≡ limit) (clear : cleared ≡ replicate (length marks) false) (lent : List Version) (same : lent ≡ committed) where
+  is_clear : cleared ≡ replicate limit false
+  is_clear = clear ∙ ap (λ n. replicate n false) count
+
+  length_clear : length cleared ≡ limit
+  length_clear = ap length is_clear ∙ length-replicate {A = Bool} limit false
+
+  -- what the first one reaches, and where it begins
+  abbrev pub reached_old : List ℕ
+  reached_old = reach (IsSafe bits m) m.contents limit committed rests.old rests.safe
+
+  pub first_reach : AreReached m.contents (length cleared) lent reached_old
+  first_reach =
+      subst (λ (vs : List Version). AreReached m.contents (length cleared) vs reached_old) (sym same)
+      (subst (λ n. AreReached m.contents n committed reached_old) (sym length_clear) (standing_reached (IsSafe bits m) m.contents limit committed rests.old rests.safe))
+
+  pub first_closed : IsClosed m.contents cleared
+  first_closed = subst (IsClosed m.contents) (sym is_clear) (clear_closed m.contents limit)
+
+  -- what the second one reaches, and where it begins
+  abbrev pub reached_new : List ℕ
+  reached_new = reach (IsHeld bits) m.contents limit working rests.new rests.stands
+
+  module _ (first : List Bool) (mid : Medium) (read : mid ≡ m) (many : length first ≡ length cleared) (lent' : List Version) (same' : lent' ≡ working) where
+    pub second_reach : AreReached mid.contents (length first) lent' reached_new
+    second_reach =
+        subst (λ (n : Medium). AreReached n.contents (length first) lent' reached_new) (sym read)
+        (subst (λ (vs : List Version). AreReached m.contents (length first) vs reached_new) (sym same')
+        (subst (λ n. AreReached m.contents n working reached_new) (sym (many ∙ length_clear)) (standing_reached (IsHeld bits) m.contents limit working rests.new rests.stands)))
+
+    pub second_closed : IsClosed m.contents first → IsClosed mid.contents first
+    second_closed closed = subst (λ (n : Medium). IsClosed n.contents first) (sym read) closed
+
+    pub both_marked : (second : List Bool) → MarksMore reached_old cleared first → MarksMore reached_new first second → MarksMore (reached_old ++ reached_new) (replicate limit false) second
+    both_marked second one two = subst (λ a. MarksMore (reached_old ++ reached_new) a second) is_clear (more_then reached_old reached_new cleared first second one two)

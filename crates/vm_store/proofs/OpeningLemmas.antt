@@ -2,7 +2,7 @@
 use Rattle.std.proofs.Common.{◌≡◌, ◌≢◌, inl, inr, ⊎_elim, ℕ, ◌<◌, ◌≤◌, Bool, List, [], ◌∷◌, ◌++◌, length, take, get_or, zero, suc, ◌+◌, Result, Ok, Err, OnOk, refl, sym, ap, ◌∙◌, subst, arith}
 use Rattle.std.proofs.lemmas.List.{take_more}
 use Rattle.vm_types.specs.Map.{Map}
-use Rattle.vm_types.specs.State.{opened}
+use Rattle.vm_types.specs.State.{State, opened}
 use Rattle.vm_types.specs.declared.refusal.Refusal.{Refusal}
 use Rattle.vm_types.specs.declared.refusal.Refusal.TheVariants as refusal
 use Rattle.vm_disk.specs.Disk as disk
@@ -12,19 +12,29 @@ use Rattle.vm_disk.specs.Moments.{Throughout, OnlyReads}
 use Rattle.vm_disk.proofs.MomentLemmas.{started, goes_on, same_medium}
 use Rattle.vm_alloc.specs.Held.{is_held, IsHeld, HoldsMore}
 use Rattle.vm_alloc.specs.Marks.{is_marked, IsMarked}
-use Rattle.vm_block.specs.Tree.{IsData, Stands, IsTree}
+use Rattle.std.specs.List.{AllByRecursion}
+use Rattle.vm_block.specs.Slot.{SlotFits}
+use Rattle.vm_block.specs.Tree.{IsData}
 use Rattle.vm_block.specs.declared.slot.Entry.{Entry}
-use Rattle.vm_block.proofs.TreeLemmas.{stands_in}
+use Rattle.vm_block.proofs.EachLemmas.{each_front, each_back}
+use Rattle.vm_tree.specs.Answers.{Lists}
+use Rattle.vm_tree.specs.declared.root.Root.{Root}
+use Rattle.vm_tree.specs.declared.root.TreeFault.{TreeFault}
+use Rattle.vm_tree.specs.declared.root.TreeFault.TheVariants as fault
+use Rattle.vm_check.specs.Verifying.{AreRoots, Found, HaveTrees}
 use Rattle.vm_catalog.specs.Place.{selected}
 use Rattle.vm_catalog.specs.Catalog.{SlotAt, Names}
 use Rattle.vm_catalog.proofs.PublishLemmas.{names_slot}
 use Rattle.vm_catalog.proofs.SlotOne.{slot_one}
+use Rattle.vm_store.specs.Faults.{refusal_of}
 use Rattle.vm_store.specs.Sizes.{sizes}
+use Rattle.vm_store.specs.Versions.{numbers_of, slot_entries, versions_of}
+use Rattle.vm_store.specs.declared.versions.Version.{Version}
+use Rattle.vm_store.proofs.TopLemmas.{rooted_tree}
 use Rattle.vm_store.specs.Filed.{Filed, StandsAs, Standing, tree_of}
 use Rattle.vm_store.specs.Shown.{Shows, ShowsNothing}
 use Rattle.vm_store.specs.Resting.{IsSafe, Rests}
 use Rattle.vm_store.specs.Refused.{IsStore, LacksMap, IsRefused, IsSynced, IsAtMostSynced}
-use Rattle.vm_store.proofs.MovedLemmas.{standing_join}
 use Rattle.vm_store.proofs.StandingLemmas.{standing_in, standing_data}
 
 -- a sync leaves all as it was, or synced
@@ -48,99 +58,114 @@ pub at_ok : {T E : Type 0} (r : Result T E) (A B : Type 0) → (A → B) → OnO
 at_ok (Ok x) A B so h = so h
 at_ok (Err e) A B so h = tt
 
--- both roots of an entry were found to stand
-pub entry_verified : {T E : Type 0} (old mid : disk.State) (limit : ℕ) (e : Entry) (marks more : List Bool) (r : Result T E) → OnlyReads old mid → HoldsMore marks more
-    → (m : Map) × Stands sizes (IsMarked marks) old.now.contents limit e.current m
-    → OnOk r ((m : Map) × Stands sizes (IsMarked more) mid.now.contents limit e.base m)
-    → OnOk r ((f : Filed) × StandsAs (IsMarked more) old.now.contents limit e f)
-entry_verified old mid limit e marks more r reads grows current base =
-    at_ok r ((m : Map) × Stands sizes (IsMarked more) mid.now.contents limit e.base m) ((f : Filed) × StandsAs (IsMarked more) old.now.contents limit e f) (λ found. (
-      record { kind = e.kind; name = e.name; owner = e.owner; current = current.0; base = found.0 },
-      record {
-        kind = refl;
-        name = refl;
-        owner = refl;
-        current = stands_in (IsMarked marks) (IsMarked more) sizes old.now.contents old.now.contents limit (λ n is. refl) (λ n is. grows.still n is) e.current current.0 current.1;
-        base = subst (λ (m : Medium). Stands sizes (IsMarked more) m.contents limit e.base found.0) (same_medium old mid reads) found.1;
-      },
-    )) base
+-- the entry with these roots
+abbrev entry_with : Entry → ℕ → ℕ → Entry
+entry_with e current base = record { kind = e.kind; name = e.name; owner = e.owner; current = current; base = base }
 
--- the tree under a root, after reads
-pub tree_read : (old mid : disk.State) (limit b : ℕ) (m : Map) (bs : List ℕ) → OnlyReads old mid → IsTree sizes old.now.contents limit b m bs → IsTree sizes mid.now.contents limit b m bs
-tree_read old mid limit b m bs reads tree = subst (λ (x : Medium). IsTree sizes x.contents limit b m bs) (sym (same_medium old mid reads)) tree
+-- entries whose roots were found, as versions
+pub record FoundStanding (P : ℕ → Type 0) (x : Contents) (limit : ℕ) (es : List Entry) (rs : List Root) : Type 0 where
+  pub filed : List Filed
+  pub stands : Standing P x limit (versions_of es rs) filed
+  pub same : slot_entries (versions_of es rs) ≡ es
+
+pub found_standing : (P : ℕ → Type 0) (x : Contents) (limit : ℕ) (es : List Entry) (rs : List Root) (bs : List ℕ) → AreRoots sizes x limit (numbers_of es) rs bs → AllByRecursion P bs → FoundStanding P x limit es rs
+found_standing P x limit [] rs bs are all = record { filed = []; stands = tt; same = refl }
+found_standing P x limit (e ∷ es) [] bs are all = absurd are
+found_standing P x limit (e ∷ es) (r ∷ []) bs are all = absurd are.5
+found_standing P x limit (e ∷ es) (r ∷ q ∷ rs) bs are all =
+    let base = are.5 in
+    let whole = subst (AllByRecursion P) are.6 all in
+    let behind = subst (AllByRecursion P) base.6 (each_back P are.1 are.2 whole) in
+    let rest = found_standing P x limit es rs base.2 base.5 (each_back P base.1 base.2 behind) in
+    record {
+      filed = record { kind = e.kind; name = e.name; owner = e.owner; current = are.0; base = base.0 } ∷ rest.filed;
+      stands = (
+        record {
+          kind = refl;
+          name = refl;
+          owner = refl;
+          current = record { stands_in = are.1; rooted = are.4; each = each_front P are.1 are.2 whole };
+          base = record { stands_in = base.1; rooted = base.4; each = each_front P base.1 base.2 behind };
+        },
+        rest.stands,
+      );
+      same =
+          ap (λ n. entry_with e n q.block ∷ slot_entries (versions_of es rs)) are.3
+          ∙ ap (λ n. entry_with e e.current n ∷ slot_entries (versions_of es rs)) base.3
+          ∙ ap (λ es. e ∷ es) rest.same;
+    }
+
+-- standing versions have trees under their numbers
+pub have_trees : (P : ℕ → Type 0) (x : Contents) (limit : ℕ) (vs : List Version) (fs : List Filed) → Standing P x limit vs fs → HaveTrees sizes x limit (numbers_of (slot_entries vs))
+have_trees P x limit [] [] s = tt
+have_trees P x limit (v ∷ vs) (f ∷ fs) s =
+    let current = s.0.current in
+    let base = s.0.base in (
+      (f.current, current.stands_in, rooted_tree x limit v.current f.current current.stands_in current.rooted),
+      ((f.base, base.stands_in, rooted_tree x limit v.base f.base base.stands_in base.rooted), have_trees P x limit vs fs s.1),
+    )
+have_trees P x limit [] (f ∷ fs) s = absurd s
+have_trees P x limit (v ∷ vs) [] s = absurd s
 
 -- what the model of a disk says of a fact that holds anyway
 pub on_ok : {T E : Type 0} (r : Result T E) (A : Type 0) → A → OnOk r A
 on_ok (Ok x) A a = a
 on_ok (Err e) A a = tt
 
--- the entry at a place, and what it stands as
-pub standing_at : (P : ℕ → Type 0) (x : Contents) (limit : ℕ) (es : List Entry) (fs : List Filed) (i : ℕ) (d : Entry) → Standing P x limit es fs → i < length es → (f : Filed) × StandsAs P x limit (get_or es i d) f
-standing_at P x limit [] [] i d s lt = absurd (omega arith)
-standing_at P x limit (e ∷ es) (f ∷ fs) zero d s lt = (f, s.0)
-standing_at P x limit (e ∷ es) (f ∷ fs) (suc i) d s lt = standing_at P x limit es fs i d s.1 (omega arith)
-standing_at P x limit [] (f ∷ fs) i d s lt = absurd s
-standing_at P x limit (e ∷ es) [] i d s lt = absurd s
-
--- one entry more was found to stand
-pub standing_more : (old mid : disk.State) (limit : ℕ) (es : List Entry) (i : ℕ) (e : Entry) (marks more : List Bool) → i < length es → e ≡ get_or es i e → HoldsMore marks more → OnlyReads old mid
-    → (fs : List Filed) × Standing (IsMarked marks) old.now.contents limit (take i es) fs
-    → (f : Filed) × StandsAs (IsMarked more) mid.now.contents limit e f
-    → (fs : List Filed) × Standing (IsMarked more) old.now.contents limit (take (i + 1) es) fs
-standing_more old mid limit es i e marks more lt is grows reads so_far here =
-    let x = old.now.contents in
-    let before = standing_in (IsMarked marks) (IsMarked more) x x limit (λ n is. refl) (λ n is. grows.still n is) (take i es) so_far.0 so_far.1 in
-    let found = subst (λ (m : Medium). StandsAs (IsMarked more) m.contents limit e here.0) (same_medium old mid reads) here.1 in (
-      so_far.0 ++ here.0 ∷ [],
-      subst (λ (l : List Entry). Standing (IsMarked more) x limit l (so_far.0 ++ here.0 ∷ [])) (sym (take_more es i e lt ∙ ap (λ (d : Entry). take i es ++ d ∷ []) (sym is)))
-          (standing_join (IsMarked more) x limit (take i es) so_far.0 e here.0 before found),
-    )
-
--- the entry at a place, after reads
-pub entry_read : (old mid : disk.State) (limit : ℕ) (es : List Entry) (fs : List Filed) (i : ℕ) (e : Entry) → OnlyReads old mid → i < length es → e ≡ get_or es i e
-    → Standing (λ n. Unit {0}) old.now.contents limit es fs → (f : Filed) × StandsAs (λ n. Unit {0}) mid.now.contents limit e f
-entry_read old mid limit es fs i e reads lt is s =
-    let at = standing_at (λ n. Unit {0}) old.now.contents limit es fs i e s lt in
-    (at.0, subst (λ (m : Medium). StandsAs (λ n. Unit {0}) m.contents limit e at.0) (sym (same_medium old mid reads)) (subst (λ (d : Entry). StandsAs (λ n. Unit {0}) old.now.contents limit d at.0) (sym is) at.1))
-
 module _ (m : Medium) (limit : ℕ) (slot_b : Bool) (es : List Entry) (clean : IsClean m) (store : IsStore m.contents) (in_use : slot_b ≡ selected m.contents) (slot : SlotAt m.contents slot_b limit es)
     (inside : limit ≤ length m.contents) where
   names : Names m.contents limit es
   names = names_slot m.contents slot_b limit es store.header (sym in_use) slot
 
-  -- entries that all stand are shown
-  pub shows_found : (P : ℕ → Type 0) (fs : List Filed) → Standing P m.contents limit es fs → Shows m.contents (tree_of fs)
-  shows_found P fs s = record {
+  -- versions that all stand are shown
+  pub shows_found : (P : ℕ → Type 0) (vs : List Version) (fs : List Filed) → slot_entries vs ≡ es → Standing P m.contents limit vs fs → Shows m.contents (tree_of fs)
+  shows_found P vs fs same s = record {
     limit = limit;
-    entries = es;
+    versions = vs;
     filed = fs;
-    names = names;
+    names = subst (λ (l : List Entry). Names m.contents limit l) (sym same) names;
     inside = inside;
-    stands = standing_in P (λ n. Unit {0}) m.contents m.contents limit (λ n is. refl) (λ n is. tt) es fs s;
+    stands = standing_in P (λ n. Unit {0}) m.contents m.contents limit (λ n is. refl) (λ n is. tt) vs fs s;
     gives = refl;
   }
 
   -- and a store with them stands for the tree that is shown
-  pub rests_found : (marks bits : List Bool) (fs : List Filed) → ((n : ℕ) → n < 34 → IsHeld bits n) → ((n : ℕ) → 34 ≤ n → is_held bits n ≡ is_marked marks n) → Standing (IsMarked marks) m.contents limit es fs
-      → Rests m limit slot_b bits es es (opened (tree_of fs))
-  rests_found marks bits fs system replaced s =
-      let data_blocks = standing_data (IsMarked marks) m.contents limit es fs s in
+  pub rests_found : (marks bits : List Bool) (vs : List Version) (fs : List Filed) → slot_entries vs ≡ es → ((n : ℕ) → n < 34 → IsHeld bits n) → ((n : ℕ) → 34 ≤ n → is_held bits n ≡ is_marked marks n) → Standing (IsMarked marks) m.contents limit vs fs
+      → Rests m limit slot_b bits vs vs (opened (tree_of fs))
+  rests_found marks bits vs fs same system replaced s =
+      let data_blocks = standing_data (IsMarked marks) m.contents limit vs fs s in
       record {
         old = fs;
         new = fs;
         inside = inside;
         system = system;
-        rest = record { names = names; in_use = sym in_use; clean = λ n used. clean n };
-        fits = slot.fits;
-        safe = standing_in (λ n. IsMarked marks n × IsData limit n) (IsSafe bits m) m.contents m.contents limit (λ n is. refl) (λ n is. record { held = replaced n is.1.0 ∙ is.0; clean = clean n }) es fs data_blocks;
-        stands = standing_in (λ n. IsMarked marks n × IsData limit n) (IsHeld bits) m.contents m.contents limit (λ n is. refl) (λ n is. replaced n is.1.0 ∙ is.0) es fs data_blocks;
+        rest = record { names = subst (λ (l : List Entry). Names m.contents limit l) (sym same) names; in_use = sym in_use; clean = λ n used. clean n };
+        fits = subst (SlotFits limit) (sym same) slot.fits;
+        safe = standing_in (λ n. IsMarked marks n × IsData limit n) (IsSafe bits m) m.contents m.contents limit (λ n is. refl) (λ n is. record { held = replaced n is.1.0 ∙ is.0; clean = clean n }) vs fs data_blocks;
+        stands = standing_in (λ n. IsMarked marks n × IsData limit n) (IsHeld bits) m.contents m.contents limit (λ n is. refl) (λ n is. replaced n is.1.0 ∙ is.0) vs fs data_blocks;
         gives_old = refl;
         gives_new = refl;
       }
 
   -- entries of which some root has no map
-  pub lacks_map : ((fs : List Filed) → Standing (λ n. Unit {0}) m.contents limit es fs → ⊥) → LacksMap m.contents
-  lacks_map none = record { limit = limit; entries = es; slot = subst (λ b. SlotAt m.contents b limit es) in_use slot; inside = inside; none = none }
+  pub lacks_map : (HaveTrees sizes m.contents limit (numbers_of es) → ⊥) → LacksMap m.contents
+  lacks_map none = record {
+    limit = limit;
+    entries = es;
+    slot = subst (λ b. SlotAt m.contents b limit es) in_use slot;
+    inside = inside;
+    none = λ vs fs same s. none (subst (λ (l : List Entry). HaveTrees sizes m.contents limit (numbers_of l)) same (have_trees (λ n. Unit {0}) m.contents limit vs fs s));
+  }
+
+  -- a fault of the walk
+  pub fault_refused : (f : TreeFault) (r : Refusal) → r ≡ refusal_of f → f ≢ fault.Deep → (HaveTrees sizes m.contents limit (numbers_of es) → Lists {T = List Root × List Bool} (Err f) (λ _. Unit {0})) → IsRefused m.contents r
+  fault_refused f r same shallow only = subst (IsRefused m.contents) (sym same) (by_fault f shallow only)
+    where
+      by_fault : (f : TreeFault) → f ≢ fault.Deep → (HaveTrees sizes m.contents limit (numbers_of es) → Lists {T = List Root × List Bool} (Err f) (λ _. Unit {0})) → IsRefused m.contents (refusal_of f)
+      by_fault fault.Device shallow only = tt
+      by_fault (fault.Damaged n) shallow only = (store, inr (lacks_map only))
+      by_fault fault.Deep shallow only = absurd (shallow refl)
+      by_fault fault.Memory shallow only = tt
 
 -- what is refused shows nothing
 pub refused_none : (x : Contents) (r : Refusal) → IsRefused x r → r ≢ refusal.Device → r ≢ refusal.Memory → ShowsNothing x
@@ -148,17 +173,17 @@ refused_none x refusal.NotAStore why no_device no_memory tree shown =
     why (record { least = omega (arith, shown.inside, shown.names.slot.fits.head.least); header = shown.names.header })
 refused_none x refusal.BadSize why no_device no_memory tree shown =
     let large = why.1 in
-    let same = slot_one x (selected x) shown.limit large.limit shown.entries large.entries shown.names.slot large.slot in
+    let same = slot_one x (selected x) shown.limit large.limit (slot_entries shown.versions) large.entries shown.names.slot large.slot in
     let inside = shown.inside in
     let larger = large.larger in
     let is = same.0 in
     omega arith
 refused_none x (refusal.Damaged n) why no_device no_memory tree shown =
     ⊎_elim
-    (λ none. none.1 shown.limit shown.entries shown.names.slot)
+    (λ none. none.1 shown.limit (slot_entries shown.versions) shown.names.slot)
     (λ lacks.
-    let same = slot_one x (selected x) shown.limit lacks.limit shown.entries lacks.entries shown.names.slot lacks.slot in
-    lacks.none shown.filed (subst (λ l. Standing (λ n. Unit {0}) x l lacks.entries shown.filed) same.0 (subst (λ (es : List Entry). Standing (λ n. Unit {0}) x shown.limit es shown.filed) same.1 shown.stands)))
+    let same = slot_one x (selected x) shown.limit lacks.limit (slot_entries shown.versions) lacks.entries shown.names.slot lacks.slot in
+    lacks.none shown.versions shown.filed same.1 (subst (λ l. Standing (λ n. Unit {0}) x l shown.versions shown.filed) same.0 shown.stands))
     why.1
 refused_none x refusal.Device why no_device no_memory tree shown = no_device refl
 refused_none x refusal.Memory why no_device no_memory tree shown = no_memory refl
@@ -178,3 +203,22 @@ refused_none x refusal.Full why no_device no_memory tree shown = why
 refused_none x refusal.Deep why no_device no_memory tree shown = why
 refused_none x refusal.Failed why no_device no_memory tree shown = why
 refused_none x refusal.AlreadyAStore why no_device no_memory tree shown = why
+
+-- what the walk found under the numbers of lent entries
+pub found_here : (x : Contents) (limit : ℕ) (es first : List Entry) (numbers lent : List ℕ) (rs : List Root) (marks : List Bool) → lent ≡ numbers → numbers ≡ numbers_of first → first ≡ es
+    → Found sizes x limit lent rs marks → FoundStanding (IsMarked marks) x limit es rs
+found_here x limit es first numbers lent rs marks same are is found =
+    found_standing (IsMarked marks) x limit es rs found.blocks (subst (λ ns. AreRoots sizes x limit ns rs found.blocks) (same ∙ are ∙ ap numbers_of is) found.are) found.each
+
+pub trees_here : (x : Contents) (limit : ℕ) (es first : List Entry) (numbers lent : List ℕ) → lent ≡ numbers → numbers ≡ numbers_of first → first ≡ es → HaveTrees sizes x limit (numbers_of es) → HaveTrees sizes x limit lent
+trees_here x limit es first numbers lent same are is trees = subst (HaveTrees sizes x limit) (sym (same ∙ are ∙ ap numbers_of is)) trees
+
+-- the versions of lent entries and roots
+pub found_alike : (es lent : List Entry) (rs lent_roots : List Root) → lent ≡ es → lent_roots ≡ rs → versions_of lent lent_roots ≡ versions_of es rs
+found_alike es lent rs lent_roots same same' = ap (λ l. versions_of l lent_roots) same ∙ ap (versions_of es) same'
+
+-- the same versions, known by other names
+pub rests_named : (m : Medium) (limit : ℕ) (slot_b : Bool) (bits : List Bool) (vs committed working : List Version) (s : State) → committed ≡ vs → working ≡ vs
+    → Rests m limit slot_b bits vs vs s → Rests m limit slot_b bits committed working s
+rests_named m limit slot_b bits vs committed working s same same' rests =
+    subst (λ (us : List Version). Rests m limit slot_b bits us working s) (sym same) (subst (λ (us : List Version). Rests m limit slot_b bits vs us s) (sym same') rests)

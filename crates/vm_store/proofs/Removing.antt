@@ -15,19 +15,26 @@ use Rattle.vm_disk.specs.Disk.{Medium}
 use Rattle.vm_disk.specs.Moments.{Spares, OnlyReads}
 use Rattle.vm_disk.proofs.MomentLemmas.{same_medium}
 use Rattle.vm_alloc.specs.Held.{IsHeld, HoldsMore}
-use Rattle.vm_block.specs.Slot.{is_alternative_of}
-use Rattle.vm_block.specs.Tree.{IsData, Stands}
-use Rattle.vm_block.specs.declared.slot.Entry.{Entry}
+use Rattle.vm_store.specs.Versions.{is_alternative_of}
+use Rattle.vm_block.specs.Slot as slot
+use Rattle.vm_block.specs.Slot.{SlotFits}
+use Rattle.vm_tree.specs.Answers.{Removes}
+use Rattle.vm_tree.specs.Root.{Grown}
+use Rattle.vm_tree.specs.declared.root.Root.{Root}
+use Rattle.vm_store.specs.declared.versions.Version.{Version}
 use Rattle.vm_store.specs.Filed.{Filed}
-use Rattle.vm_store.specs.Free.{is_free}
-use Rattle.vm_store.specs.LeafMap.{Removes, refusal_of}
+use Rattle.vm_tree.specs.Free.{is_free}
+use Rattle.vm_store.specs.Faults.{refusal_of}
 use Rattle.vm_store.specs.Sizes.{sizes}
 use Rattle.vm_store.specs.Resting.{Rests, spare_of}
 use Rattle.vm_store.specs.Answers.{value_in, value_of, IsDue, IsAnswer}
-use Rattle.vm_store.specs.declared.leaf_map.TreeFault.{TreeFault}
-use Rattle.vm_store.specs.declared.leaf_map.TreeFault.TheVariants as fault
+use Rattle.vm_tree.specs.declared.root.TreeFault.{TreeFault}
+use Rattle.vm_tree.specs.declared.root.TreeFault.TheVariants as fault
 use Rattle.vm_store.proofs.FiledLemmas.{is_filed, refiled, recurrent, grown_changed}
+use Rattle.vm_store.specs.Versions.{slot_entries}
+use Rattle.vm_store.proofs.LedgerLemmas as ledger
 use Rattle.vm_store.proofs.LedgerLemmas.{alike_turned, fits_alike}
+use Rattle.vm_store.proofs.SlotLemmas.{slot_changed}
 use Rattle.vm_store.proofs.StandingLemmas.{standing_changed, with_current}
 use Rattle.vm_store.proofs.RestingLemmas.{found_entry, rests_on, stands_on}
 
@@ -93,11 +100,11 @@ module _ (s : State) (name : List ℕ) (key : Key) (spare : ℕ) (deep : Type 0)
   pub removes_device : (f : TreeFault) (r : Refusal) → r ≡ refusal_of f → f ≡ fault.Device → IsAnswer s spare deep (Remove name key) (Err r)
   removes_device f r same device = inl (ap Err (same ∙ ap refusal_of device))
 
-module _ (m : Medium) (limit : ℕ) (slot_b : Bool) (bits : List Bool) (committed working : List Entry) (s : State)
-    (rests : Rests m limit slot_b bits committed working s) (name : List ℕ) (e : Entry) (is : find (is_alternative_of name) working ≡ Some e) (key : Key) where
+module _ (m : Medium) (limit : ℕ) (slot_b : Bool) (bits : List Bool) (committed working : List Version) (s : State)
+    (rests : Rests m limit slot_b bits committed working s) (name : List ℕ) (e : Version) (is : find (is_alternative_of name) working ≡ Some e) (key : Key) where
   -- after it the store stands for the next state
-  pub remove_rests : (value : List ℕ) → Ok (Some value) ≡ value_in s.working name key → (now : Medium) (after : List Bool) (root : ℕ) → root < 2 ^ 32 → Spares (is_free bits) m now → HoldsMore bits after
-      → Stands sizes (IsHeld after) now.contents limit root (without (found_entry m limit slot_b bits committed working s rests name e is).filed.current key)
+  pub remove_rests : (value : List ℕ) → Ok (Some value) ≡ value_in s.working name key → (now : Medium) (after : List Bool) (root : Root) → root.block < 2 ^ 32 → Spares (is_free bits) m now → HoldsMore bits after
+      → Grown sizes (IsHeld after) now.contents limit root (without (found_entry m limit slot_b bits committed working s rests name e is).filed.current key)
       → Rests now limit slot_b after committed (change_first (is_alternative_of name) (with_current root) working) (next s (Remove name key) (Ok Done))
   remove_rests value there now after root small spares more new =
       let g : Map → Map = λ m. without m key in
@@ -106,15 +113,16 @@ module _ (m : Medium) (limit : ℕ) (slot_b : Bool) (bits : List Bool) (committe
       (sym (ap (tree_after s.working) (step_there s.working name key value there)))
       (rests_on m limit slot_b bits committed working s rests now after (change_first (is_alternative_of name) (with_current root) working) (change_first (is_filed name) (refiled g) rests.new)
       (changed s.working name (recurrent g)) spares more
-      (fits_alike limit working _ (alike_turned (is_alternative_of name) root small working) rests.fits)
+      (subst (SlotFits limit) (sym (slot_changed (is_alternative_of name) (slot.is_alternative_of name) (λ v. refl) (with_current root) (ledger.with_current root.block) (λ v. refl) working))
+      (fits_alike limit (slot_entries working) _ (alike_turned (slot.is_alternative_of name) root.block small (slot_entries working)) rests.fits))
       (standing_changed (IsHeld after) now.contents limit name root g working rests.new (stands_on m limit slot_b bits committed working s rests now after spares more)
-      (λ f' found'. let same : found.filed ≡ f' = cc (found.found, found') in subst (λ (f : Filed). Stands sizes (IsHeld after) now.contents limit root (g f.current)) same new))
+      (λ f' found'. let same : found.filed ≡ f' = cc (found.found, found') in subst (λ (f : Filed). Grown sizes (IsHeld after) now.contents limit root (g f.current)) same new))
       (grown_changed name g [] rests.new refl ∙ ap (λ t. changed t name (recurrent g)) rests.gives_new))
 
 -- ---- what is known between the look-up and the Remove
 
 -- a test whether 16 blocks are spare, before reads and after them
-pub spare_after : (old new : disk.State) (limit : ℕ) (slot_b : Bool) (bits : List Bool) (committed working : List Entry) (s : State) (b : Bool) → OnlyReads old new
+pub spare_after : (old new : disk.State) (limit : ℕ) (slot_b : Bool) (bits : List Bool) (committed working : List Version) (s : State) (b : Bool) → OnlyReads old new
     → ((s : State) (holds : Rests new.now limit slot_b bits committed working s) → (IsTrue b → 16 ≤ spare_of holds) × (16 ≤ spare_of holds → IsTrue b))
     → (holds : Rests old.now limit slot_b bits committed working s) → (IsTrue b → 16 ≤ spare_of holds) × (16 ≤ spare_of holds → IsTrue b)
 spare_after old new limit slot_b bits committed working s b reads test =
@@ -122,23 +130,15 @@ spare_after old new limit slot_b bits committed working s b reads test =
     subst T (same_medium old new reads) (test s)
 
 -- an entry found in the working list is found where the entries are the same
-pub found_again : (alt : List ℕ) (old new : List Entry × List Entry) (e : Entry) → new ≡ old → find (is_alternative_of alt) old.1 ≡ Some e → find (is_alternative_of alt) new.1 ≡ Some e
-found_again alt old new e same is = subst (λ (p : List Entry × List Entry). find (is_alternative_of alt) p.1 ≡ Some e) (sym same) is
+pub found_again : (alt : List ℕ) (old new : List Version × List Version) (e : Version) → new ≡ old → find (is_alternative_of alt) old.1 ≡ Some e → find (is_alternative_of alt) new.1 ≡ Some e
+found_again alt old new e same is = subst (λ (p : List Version × List Version). find (is_alternative_of alt) p.1 ≡ Some e) (sym same) is
 
 -- the root that a Remove answered
-pub removed_root : (found : Option ℕ) (root : ℕ) (value : Option (List ℕ)) (P : ℕ → Type 0) → found ≡ Some root → Removes (Ok found) value P → P root
-removed_root None root value P is h = cc
-removed_root (Some r) root value P is h = let same : r ≡ root = cc in subst P same h.1
+pub removed_root : {T : Type 0} (found : Option T) (root : T) (absent : Type 0) (P : T → Type 0) → found ≡ Some root → Removes (Ok found) absent P → P root
+removed_root None root absent P is h = cc
+removed_root (Some r) root absent P is h = let same : r ≡ root = cc in subst P same h.1
 
 -- that the key was absent
-pub removed_none : (found : Option ℕ) (value : Option (List ℕ)) (P : ℕ → Type 0) → found ≡ None → Removes (Ok found) value P → value ≡ None
-removed_none None value P is h = h
-removed_none (Some r) value P is h = cc
-
-pub root_small : (found : Option ℕ) (root limit : ℕ) (P : ℕ → Type 0) → found ≡ Some root → IfSome found (λ r. (r ≡ 0) ⊎ (IsData limit r × P r)) → limit ≤ 2 ^ 20 → root < 2 ^ 32
-root_small None root limit P is h most = cc
-root_small (Some r) root limit P is h most = let same : r ≡ root = cc in by_case h same
-  where
-    by_case : (r ≡ 0) ⊎ (IsData limit r × P r) → r ≡ root → root < 2 ^ 32
-    by_case (inl none) same = omega arith
-    by_case (inr at) same = omega (arith, at.0.1)
+pub removed_none : {T : Type 0} (found : Option T) (absent : Type 0) (P : T → Type 0) → found ≡ None → Removes (Ok found) absent P → absent
+removed_none None absent P is h = h
+removed_none (Some r) absent P is h = cc

@@ -17,8 +17,9 @@ use Rattle.vm_disk.specs.Disk.{Contents, block, Medium, MayLeave, IsClean}
 use Rattle.vm_disk.specs.Moments.{Spares, OnlyReads}
 use Rattle.vm_disk.proofs.MomentLemmas.{spared, same_medium}
 use Rattle.vm_alloc.specs.Held.{IsHeld, HoldsMore}
-use Rattle.vm_block.specs.Slot.{SlotFits, is_alternative_of, used_blocks}
-use Rattle.vm_block.specs.Tree.{IsData, Stands}
+use Rattle.vm_block.specs.Slot.{SlotFits, used_blocks}
+use Rattle.vm_block.specs.Slot as slot
+use Rattle.vm_block.specs.Tree.{IsData}
 use Rattle.vm_block.specs.declared.slot.Kind.TheVariants as kind
 use Rattle.vm_block.specs.declared.slot.Entry.{Entry}
 use Rattle.vm_block.specs.Selector.{names_b}
@@ -27,18 +28,25 @@ use Rattle.vm_catalog.specs.Catalog.{Names, AtRest}
 use Rattle.vm_catalog.specs.Publishing.{IsPublished, PublishLeaves}
 use Rattle.vm_catalog.proofs.PlaceLemmas.{used_cases, sixteen}
 use Rattle.vm_catalog.proofs.PublishLemmas.{names_in}
-use Rattle.vm_store.specs.Free.{is_free}
-use Rattle.vm_store.specs.LeafMap.{LacksRoom, OkOrDevice, Puts, refusal_of}
-use Rattle.vm_store.specs.declared.leaf_map.TreeFault.{TreeFault}
-use Rattle.vm_store.specs.declared.leaf_map.TreeFault.TheVariants as fault
+use Rattle.vm_tree.specs.Answers.{OkOrDevice, Puts}
+use Rattle.vm_tree.specs.Free.{is_free}
+use Rattle.vm_tree.specs.Root.{Grown}
+use Rattle.vm_tree.specs.declared.root.Root.{Root}
+use Rattle.vm_tree.specs.declared.root.TreeFault.{TreeFault}
+use Rattle.vm_tree.specs.declared.root.TreeFault.TheVariants as fault
+use Rattle.vm_store.specs.Faults.{refusal_of}
 use Rattle.vm_store.specs.Sizes.{sizes}
 use Rattle.vm_store.specs.Filed.{Filed, Standing, tree_of}
 use Rattle.vm_store.specs.Shown.{Shows}
 use Rattle.vm_store.specs.Resting.{IsSafe, Rests}
-use Rattle.vm_store.specs.Answers.{value_in, value_of, IsDue, IsAnswer}
+use Rattle.vm_store.specs.Answers.{value_in, value_of, LacksRoom, IsDue, IsAnswer}
 use Rattle.vm_store.specs.Roots.{current_root}
+use Rattle.vm_store.specs.Versions.{entry_of, slot_entries, is_alternative_of}
+use Rattle.vm_store.specs.declared.versions.Version.{Version}
 use Rattle.vm_store.proofs.FiledLemmas.{is_filed, refiled, recurrent, maps_of, filed_maps, grown_named, grown_changed}
+use Rattle.vm_store.proofs.LedgerLemmas as ledger
 use Rattle.vm_store.proofs.LedgerLemmas.{alike_turned, fits_alike}
+use Rattle.vm_store.proofs.SlotLemmas.{slot_changed}
 use Rattle.vm_store.proofs.StandingLemmas.{standing_in, standing_data, found_as, not_found, FoundAs, standing_changed, with_current}
 
 held_not_free : (bits : List Bool) (n : ℕ) → IsHeld bits n → is_free bits n ≡ false
@@ -53,37 +61,37 @@ used_low slot_b count n few is = low slot_b (used_cases slot_b count n is)
     low true (inr at) = omega (arith, sixteen count few)
     low false (inr at) = omega (arith, sixteen count few)
 
-module _ (m : Medium) (limit : ℕ) (slot_b : Bool) (bits : List Bool) (committed working : List Entry) (s : State)
+module _ (m : Medium) (limit : ℕ) (slot_b : Bool) (bits : List Bool) (committed working : List Version) (s : State)
     (rests : Rests m limit slot_b bits committed working s) where
-  few : length committed ≤ 511
+  few : length (slot_entries committed) ≤ 511
   few = rests.rest.names.slot.fits.head.few
 
   -- blocks that are held and clean are kept by a crash after calls that write free blocks alone
   kept_safe : (now : Medium) → Spares (is_free bits) m now → (left : Contents) → MayLeave now left → (n : ℕ) → IsSafe bits m n → block left n ≡ block m.contents n
   kept_safe now spares left may n safe = spared (is_free bits) m now spares left may n (held_not_free bits n safe.held) safe.clean
 
-  kept_used : (now : Medium) → Spares (is_free bits) m now → (left : Contents) → MayLeave now left → (n : ℕ) → is_used slot_b (length committed) n ≡ true → block left n ≡ block m.contents n
+  kept_used : (now : Medium) → Spares (is_free bits) m now → (left : Contents) → MayLeave now left → (n : ℕ) → is_used slot_b (length (slot_entries committed)) n ≡ true → block left n ≡ block m.contents n
   kept_used now spares left may n used =
-      spared (is_free bits) m now spares left may n (held_not_free bits n (rests.system n (used_low slot_b (length committed) n few used))) (rests.rest.clean n used)
+      spared (is_free bits) m now spares left may n (held_not_free bits n (rests.system n (used_low slot_b (length (slot_entries committed)) n few used))) (rests.rest.clean n used)
 
   -- a crash after calls that write free blocks alone shows what was committed
   pub shows_old : (now : Medium) → Spares (is_free bits) m now → (left : Contents) → MayLeave now left → Shows left s.committed
   shows_old now spares left may = record {
     limit = limit;
-    entries = committed;
+    versions = committed;
     filed = rests.old;
-    names = names_in m.contents left slot_b limit committed (kept_used now spares left may) rests.rest.in_use rests.rest.names;
+    names = names_in m.contents left slot_b limit (slot_entries committed) (kept_used now spares left may) rests.rest.in_use rests.rest.names;
     inside = subst (λ n. limit ≤ n) (sym (may.count ∙ spares.count)) rests.inside;
     stands = standing_in (IsSafe bits m) (λ n. Unit {0}) m.contents left limit (kept_safe now spares left may) (λ n safe. tt) committed rests.old rests.safe;
     gives = rests.gives_old;
   }
 
   -- the committed entries are at rest after calls that write free blocks alone
-  pub at_rest : (now : Medium) → Spares (is_free bits) m now → AtRest slot_b now limit committed
+  pub at_rest : (now : Medium) → Spares (is_free bits) m now → AtRest slot_b now limit (slot_entries committed)
   at_rest now spares =
-      let same : (n : ℕ) → is_used slot_b (length committed) n ≡ true → is_free bits n ≡ false = λ n used. held_not_free bits n (rests.system n (used_low slot_b (length committed) n few used)) in
+      let same : (n : ℕ) → is_used slot_b (length (slot_entries committed)) n ≡ true → is_free bits n ≡ false = λ n used. held_not_free bits n (rests.system n (used_low slot_b (length (slot_entries committed)) n few used)) in
       record {
-        names = names_in m.contents now.contents slot_b limit committed (λ n used. spares.same n (same n used)) rests.rest.in_use rests.rest.names;
+        names = names_in m.contents now.contents slot_b limit (slot_entries committed) (λ n used. spares.same n (same n used)) rests.rest.in_use rests.rest.names;
         in_use = ap (λ b. names_b b) (spares.same 1 (held_not_free bits 1 (rests.system 1 (omega arith)))) ∙ rests.rest.in_use;
         clean = λ n used. spares.clean n (same n used) (rests.rest.clean n used);
       }
@@ -98,8 +106,8 @@ module _ (m : Medium) (limit : ℕ) (slot_b : Bool) (bits : List Bool) (committe
       standing_in (IsHeld bits) (IsHeld after) m.contents now.contents limit (λ n held. spares.same n (held_not_free bits n held)) more.still working rests.new rests.stands
 
   -- the store stands for other working entries, after calls that write free blocks alone
-  pub rests_on : (now : Medium) (after : List Bool) (changed : List Entry) (new : List Filed) (tree : Tree) → Spares (is_free bits) m now → HoldsMore bits after
-      → SlotFits limit changed → Standing (IsHeld after) now.contents limit changed new → tree_of new ≡ tree
+  pub rests_on : (now : Medium) (after : List Bool) (changed : List Version) (new : List Filed) (tree : Tree) → Spares (is_free bits) m now → HoldsMore bits after
+      → SlotFits limit (slot_entries changed) → Standing (IsHeld after) now.contents limit changed new → tree_of new ≡ tree
       → Rests now limit slot_b after committed changed (record { committed = s.committed; working = tree })
   rests_on now after changed new tree spares more fits stands gives = record {
     old = rests.old;
@@ -119,17 +127,17 @@ module _ (m : Medium) (limit : ℕ) (slot_b : Bool) (bits : List Bool) (committe
   rests_more now after spares more = rests_on now after working rests.new s.working spares more rests.fits (stands_on now after spares more) rests.gives_new
 
   -- a crash in a publish shows what was committed, or what was working
-  pub published_left : (left : Contents) → PublishLeaves m limit committed limit working left → LeftBy Shows s Commit left
+  pub published_left : (left : Contents) → PublishLeaves m limit (slot_entries committed) limit (slot_entries working) left → LeftBy Shows s Commit left
   published_left left leaves = by_names leaves.1
     where
       inside : limit ≤ length left
       inside = subst (λ n. limit ≤ n) (sym leaves.0) rests.inside
 
-      by_names : (Names left limit committed × ((n : ℕ) → 34 ≤ n → m.dirty n ≡ false → block left n ≡ block m.contents n))
-          ⊎ (Names left limit working × ((n : ℕ) → 34 ≤ n → block left n ≡ block m.contents n)) → LeftBy Shows s Commit left
+      by_names : (Names left limit (slot_entries committed) × ((n : ℕ) → 34 ≤ n → m.dirty n ≡ false → block left n ≡ block m.contents n))
+          ⊎ (Names left limit (slot_entries working) × ((n : ℕ) → 34 ≤ n → block left n ≡ block m.contents n)) → LeftBy Shows s Commit left
       by_names (inl old) = inl (record {
         limit = limit;
-        entries = committed;
+        versions = committed;
         filed = rests.old;
         names = old.0;
         inside = inside;
@@ -141,7 +149,7 @@ module _ (m : Medium) (limit : ℕ) (slot_b : Bool) (bits : List Bool) (committe
         refl,
         record {
           limit = limit;
-          entries = working;
+          versions = working;
           filed = rests.new;
           names = new.0;
           inside = inside;
@@ -152,7 +160,7 @@ module _ (m : Medium) (limit : ℕ) (slot_b : Bool) (bits : List Bool) (committe
       )
 
   -- after a publish the working entries are the committed ones
-  pub published : (now : Medium) (copied : List Entry) (answer : Answer) → IsPublished (not slot_b) m now limit working → copied ≡ working
+  pub published : (now : Medium) (copied : List Version) (answer : Answer) → IsPublished (not slot_b) m now limit (slot_entries working) → copied ≡ working
       → Rests now limit (not slot_b) bits copied working (next s Commit (Ok answer))
   published now copied answer done same =
       let stands : Standing (λ n. IsHeld bits n × IsData limit n) m.contents limit working rests.new = standing_data (IsHeld bits) m.contents limit working rests.new rests.stands in
@@ -168,7 +176,7 @@ module _ (m : Medium) (limit : ℕ) (slot_b : Bool) (bits : List Bool) (committe
         gives_old = rests.gives_new;
         gives_new = rests.gives_new;
       } in
-      subst (λ (es : List Entry). Rests now limit (not slot_b) bits es working (next s Commit (Ok answer))) (sym same) rests'
+      subst (λ (es : List Version). Rests now limit (not slot_b) bits es working (next s Commit (Ok answer))) (sym same) rests'
 
   -- the alternative of an entry that was found
   pub record IsNamedAs (f : Filed) (name : List ℕ) : Type 0 where
@@ -193,11 +201,11 @@ module _ (m : Medium) (limit : ℕ) (slot_b : Bool) (bits : List Bool) (committe
       by_maps None maps = refl
       by_maps (Some a) maps = cc
 
-  pub found_entry : (name : List ℕ) (e : Entry) → find (is_alternative_of name) working ≡ Some e → FoundAs (IsHeld bits) m.contents limit name e rests.new
+  pub found_entry : (name : List ℕ) (e : Version) → find (is_alternative_of name) working ≡ Some e → FoundAs (IsHeld bits) m.contents limit name e rests.new
   found_entry name e is = found_as (IsHeld bits) m.contents limit name e working rests.new rests.stands is
 
   -- the value of a record of an alternative that was found
-  pub value_found : (name : List ℕ) (e : Entry) (is : find (is_alternative_of name) working ≡ Some e) (key : Key) (value : Option (List ℕ))
+  pub value_found : (name : List ℕ) (e : Version) (is : find (is_alternative_of name) working ≡ Some e) (key : Key) (value : Option (List ℕ))
       → value ≡ get (found_entry name e is).filed.current key → Ok value ≡ value_in s.working name key
   value_found name e is key value eq =
       let found = found_entry name e is in
@@ -215,7 +223,7 @@ module _ (m : Medium) (limit : ℕ) (slot_b : Bool) (bits : List Bool) (committe
   unfolding or_refuse
   put_absent name key value none = ap (λ o. or_refuse o NoSuchAlternative (λ _. done (changed s.working name (λ x. record x { current = with_value x.current key value })))) (unnamed name none)
 
-  module _ (name : List ℕ) (e : Entry) (is : find (is_alternative_of name) working ≡ Some e) (key : Key) (value : List ℕ) where
+  module _ (name : List ℕ) (e : Version) (is : find (is_alternative_of name) working ≡ Some e) (key : Key) (value : List ℕ) where
     pub put_step : step s.working (Put name key value) ≡ Ok (changed s.working name (λ x. record x { current = with_value x.current key value }), Done)
     unfolding or_refuse
     put_step =
@@ -230,8 +238,8 @@ module _ (m : Medium) (limit : ℕ) (slot_b : Bool) (bits : List Bool) (committe
         ap (λ o. unwrap_or (option_map (λ (a : Alternative). a.current) o) []) as_named.named ∙ as_named.current
 
     -- after it the store stands for the next state
-    pub put_rests : (now : Medium) (after : List Bool) (root : ℕ) → root < 2 ^ 32 → Spares (is_free bits) m now → HoldsMore bits after
-        → Stands sizes (IsHeld after) now.contents limit root (with_value (found_entry name e is).filed.current key value)
+    pub put_rests : (now : Medium) (after : List Bool) (root : Root) → root.block < 2 ^ 32 → Spares (is_free bits) m now → HoldsMore bits after
+        → Grown sizes (IsHeld after) now.contents limit root (with_value (found_entry name e is).filed.current key value)
         → Rests now limit slot_b after committed (change_first (is_alternative_of name) (with_current root) working) (next s (Put name key value) (Ok Done))
     put_rests now after root small spares more new =
         let g : Map → Map = λ m. with_value m key value in
@@ -239,27 +247,29 @@ module _ (m : Medium) (limit : ℕ) (slot_b : Bool) (bits : List Bool) (committe
         subst (λ (t : Tree). Rests now limit slot_b after committed (change_first (is_alternative_of name) (with_current root) working) (record { committed = s.committed; working = t }))
         (sym (ap (tree_after s.working) put_step))
         (rests_on now after (change_first (is_alternative_of name) (with_current root) working) (change_first (is_filed name) (refiled g) rests.new) (put_tree name key value) spares more
-        (fits_alike limit working _ (alike_turned (is_alternative_of name) root small working) rests.fits)
+        (subst (SlotFits limit) (sym (slot_changed (is_alternative_of name) (slot.is_alternative_of name) (λ v. refl) (with_current root) (ledger.with_current root.block) (λ v. refl) working))
+        (fits_alike limit (slot_entries working) _ (alike_turned (slot.is_alternative_of name) root.block small (slot_entries working)) rests.fits))
         (standing_changed (IsHeld after) now.contents limit name root g working rests.new (stands_on now after spares more)
-        (λ f' found'. let same : found.filed ≡ f' = cc (found.found, found') in subst (λ (f : Filed). Stands sizes (IsHeld after) now.contents limit root (g f.current)) same new))
+        (λ f' found'. let same : found.filed ≡ f' = cc (found.found, found') in subst (λ (f : Filed). Grown sizes (IsHeld after) now.contents limit root (g f.current)) same new))
         (grown_changed name g [] rests.new refl ∙ ap (λ t. changed t name (recurrent g)) rests.gives_new))
 
--- the same entries, lent
-pub lent_rests : (m : Medium) (limit : ℕ) (slot_b : Bool) (bits : List Bool) (committed working lent : List Entry) (s : State) → lent ≡ working
-    → Rests m limit slot_b bits committed working s → Rests m limit slot_b bits committed lent s
-lent_rests m limit slot_b bits committed working lent s same rests = subst (λ (es : List Entry). Rests m limit slot_b bits committed es s) (sym same) rests
+-- a crash in a publish of the working entries, written to a list of their own
+pub lent_left : (m : Medium) (limit : ℕ) (slot_b : Bool) (bits : List Bool) (committed working : List Version) (s : State) → Rests m limit slot_b bits committed working s
+    → (lent : List Entry) → lent ≡ slot_entries working → (left : Contents) → PublishLeaves m limit (slot_entries committed) limit lent left → LeftBy Shows s Commit left
+lent_left m limit slot_b bits committed working s rests lent same left leaves =
+    published_left m limit slot_b bits committed working s rests left (subst (λ (es : List Entry). PublishLeaves m limit (slot_entries committed) limit es left) same leaves)
 
 -- reads change nothing
-pub read_rests : (old new : disk.State) (limit : ℕ) (slot_b : Bool) (bits : List Bool) (committed working : List Entry) (s : State) → OnlyReads old new
+pub read_rests : (old new : disk.State) (limit : ℕ) (slot_b : Bool) (bits : List Bool) (committed working : List Version) (s : State) → OnlyReads old new
     → Rests old.now limit slot_b bits committed working s → Rests new.now limit slot_b bits committed working s
 read_rests old new limit slot_b bits committed working s reads rests =
     subst (λ (m : Medium). Rests m limit slot_b bits committed working s) (sym (same_medium old new reads)) rests
 
 -- what is committed is shown
-pub shows_now : (m : Medium) (limit : ℕ) (slot_b : Bool) (bits : List Bool) (committed working : List Entry) (s : State) → Rests m limit slot_b bits committed working s → Shows m.contents s.committed
+pub shows_now : (m : Medium) (limit : ℕ) (slot_b : Bool) (bits : List Bool) (committed working : List Version) (s : State) → Rests m limit slot_b bits committed working s → Shows m.contents s.committed
 shows_now m limit slot_b bits committed working s rests = record {
   limit = limit;
-  entries = committed;
+  versions = committed;
   filed = rests.old;
   names = rests.rest.names;
   inside = rests.inside;
@@ -270,13 +280,13 @@ shows_now m limit slot_b bits committed working s rests = record {
 pub is_published_as : (slot_b : Bool) (old new : Medium) (limit : ℕ) (lent working : List Entry) → lent ≡ working → IsPublished slot_b old new limit lent → IsPublished slot_b old new limit working
 is_published_as slot_b old new limit lent working same done = subst (λ (es : List Entry). IsPublished slot_b old new limit es) same done
 
--- some entry, for places where none stands
-pub any_entry : Entry
-any_entry = record { kind = kind.Alternative; name = []; owner = None; current = 0; base = 0 }
+-- some version, for places where none stands
+pub any_version : Version
+any_version = let none : Root = record { block = 0; level = 0; low = record { table = 0; number = 0 } } in record { kind = kind.Alternative; name = []; owner = None; current = none; base = none }
 
 -- an entry found at a place of a lent list
-pub found_at : (alt : List ℕ) (lent working : List Entry) (i : ℕ) (d : Entry) → lent ≡ working → IsFirst (is_alternative_of alt) lent i → find (is_alternative_of alt) working ≡ Some (get_or working i d)
-found_at alt lent working i d same first = subst (λ (es : List Entry). find (is_alternative_of alt) es ≡ Some (get_or es i d)) same (first.found d)
+pub found_at : (alt : List ℕ) (lent working : List Version) (i : ℕ) (d : Version) → lent ≡ working → IsFirst (is_alternative_of alt) lent i → find (is_alternative_of alt) working ≡ Some (get_or working i d)
+found_at alt lent working i d same first = subst (λ (es : List Version). find (is_alternative_of alt) es ≡ Some (get_or es i d)) same (first.found d)
 
 -- what a call that only reads a tree answered, where it was Ok
 pub got : {T : Type 0} (r : Result T TreeFault) (value : T) (P : T → Type 0) → r ≡ Ok value → OkOrDevice r P → P value
@@ -288,13 +298,13 @@ only_device (Ok x) e P is h = cc
 only_device (Err d) e P is h = cc
 
 -- which fault a put into a tree answers
-pub fault_of_put : (f : TreeFault) (deep : Type 0) (P : ℕ → Type 0) → Puts (Err f) deep P → (f ≡ fault.Device) ⊎ ((f ≡ fault.Deep) × deep)
+pub fault_of_put : (f : TreeFault) (deep : Type 0) (P : Root → Type 0) → Puts (Err f) deep P → (f ≡ fault.Device) ⊎ ((f ≡ fault.Deep) × deep)
 fault_of_put fault.Device deep P h = inl refl
 fault_of_put (fault.Damaged b) deep P h = absurd h
 fault_of_put fault.Deep deep P h = inr (refl, h)
 fault_of_put fault.Memory deep P h = absurd h
 
-module _ (m : Medium) (limit : ℕ) (slot_b : Bool) (bits : List Bool) (committed working : List Entry) (s : State)
+module _ (m : Medium) (limit : ℕ) (slot_b : Bool) (bits : List Bool) (committed working : List Version) (s : State)
     (rests : Rests m limit slot_b bits committed working s) (name : List ℕ) (key : Key) (value : List ℕ) where
   due_absent : (full : Bool) (deep : Type 0) → find (is_alternative_of name) working ≡ None → IsDue (step s.working (Put name key value)) full deep (Err NoSuchAlternative)
   due_absent full deep none = subst (λ o. IsDue o full deep (Err NoSuchAlternative)) (sym (put_absent m limit slot_b bits committed working s rests name key value none)) refl
@@ -303,7 +313,7 @@ module _ (m : Medium) (limit : ℕ) (slot_b : Bool) (bits : List Bool) (committe
   pub answers_absent : (spare : ℕ) (deep : Type 0) → find (is_alternative_of name) working ≡ None → IsAnswer s spare deep (Put name key value) (Err NoSuchAlternative)
   answers_absent spare deep none = inr (due_absent _ deep none)
 
-  module _ (e : Entry) (is : find (is_alternative_of name) working ≡ Some e) where
+  module _ (e : Version) (is : find (is_alternative_of name) working ≡ Some e) where
     accepts : step s.working (Put name key value) ≡ Ok (changed s.working name (λ x. record x { current = with_value x.current key value }), Done)
     accepts = put_step m limit slot_b bits committed working s rests name e is key value
 
@@ -320,7 +330,7 @@ module _ (m : Medium) (limit : ℕ) (slot_b : Bool) (bits : List Bool) (committe
         (subst (λ (b : Bool). IsDue (Ok (changed s.working name (λ x. record x { current = with_value x.current key value }), Done)) b deep (Ok Done)) (sym room) (inl (refl, shallow))))
 
     -- a Put that the device fails, or that finds no room in the tree
-    pub answers_fault : (spare : ℕ) (deep here : Type 0) (f : TreeFault) (r : Refusal) (P : ℕ → Type 0) → nat_lt spare 16 ≡ false → (here → deep) → r ≡ refusal_of f → Puts (Err f) here P → IsAnswer s spare deep (Put name key value) (Err r)
+    pub answers_fault : (spare : ℕ) (deep here : Type 0) (f : TreeFault) (r : Refusal) (P : Root → Type 0) → nat_lt spare 16 ≡ false → (here → deep) → r ≡ refusal_of f → Puts (Err f) here P → IsAnswer s spare deep (Put name key value) (Err r)
     answers_fault spare deep here f r P room so same h = by_fault (fault_of_put f here P h)
       where
         by_fault : (f ≡ fault.Device) ⊎ ((f ≡ fault.Deep) × here) → IsAnswer s spare deep (Put name key value) (Err r)
@@ -330,24 +340,24 @@ module _ (m : Medium) (limit : ℕ) (slot_b : Bool) (bits : List Bool) (committe
             (subst (λ (b : Bool). IsDue (Ok (changed s.working name (λ x. record x { current = with_value x.current key value }), Done)) b deep (Err r)) (sym room) (inr (ap Err (same ∙ ap refusal_of at.0), so at.1))))
 
     -- the tree of the alternative and the records that the model has there
-    pub deep_here : (x : Contents) → LacksRoom x (current_root (find (is_alternative_of name) working)) (current_of s.working name) key → LacksRoom x e.current (found_entry m limit slot_b bits committed working s rests name e is).filed.current key
+    pub deep_here : (x : Contents) → LacksRoom x (current_root (find (is_alternative_of name) working)) (current_of s.working name) key → LacksRoom x e.current.block (found_entry m limit slot_b bits committed working s rests name e is).filed.current key
     deep_here x deep =
-        subst (λ (c : Map). LacksRoom x e.current c key) (put_current m limit slot_b bits committed working s rests name e is key value)
-        (subst (λ (o : Option Entry). LacksRoom x (current_root o) (current_of s.working name) key) is deep)
+        subst (λ (c : Map). LacksRoom x e.current.block c key) (put_current m limit slot_b bits committed working s rests name e is key value)
+        (subst (λ (o : Option Version). LacksRoom x (current_root o) (current_of s.working name) key) is deep)
 
-    pub here_deep : (x : Contents) → LacksRoom x e.current (found_entry m limit slot_b bits committed working s rests name e is).filed.current key → LacksRoom x (current_root (find (is_alternative_of name) working)) (current_of s.working name) key
+    pub here_deep : (x : Contents) → LacksRoom x e.current.block (found_entry m limit slot_b bits committed working s rests name e is).filed.current key → LacksRoom x (current_root (find (is_alternative_of name) working)) (current_of s.working name) key
     here_deep x here =
-        subst (λ (o : Option Entry). LacksRoom x (current_root o) (current_of s.working name) key) (sym is)
-        (subst (λ (c : Map). LacksRoom x e.current c key) (sym (put_current m limit slot_b bits committed working s rests name e is key value)) here)
+        subst (λ (o : Option Version). LacksRoom x (current_root o) (current_of s.working name) key) (sym is)
+        (subst (λ (c : Map). LacksRoom x e.current.block c key) (sym (put_current m limit slot_b bits committed working s rests name e is key value)) here)
 
 -- the entry at a place has another current root
-pub placed : (alt : List ℕ) (lent working : List Entry) (i root : ℕ) (d : Entry) → lent ≡ working → IsFirst (is_alternative_of alt) lent i → d ≡ get_or working i d
+pub placed : (alt : List ℕ) (lent working : List Version) (i : ℕ) (root : Root) (d : Version) → lent ≡ working → IsFirst (is_alternative_of alt) lent i → d ≡ get_or working i d
     → change_first (is_alternative_of alt) (with_current root) working ≡ set working i (with_current root d)
 placed alt lent working i root d same first is =
-    let first' : IsFirst (is_alternative_of alt) working i = subst (λ (es : List Entry). IsFirst (is_alternative_of alt) es i) same first in
+    let first' : IsFirst (is_alternative_of alt) working i = subst (λ (es : List Version). IsFirst (is_alternative_of alt) es i) same first in
     first'.change (with_current root) d ∙ ap (λ e. set working i (with_current root e)) (sym is)
 
 -- entries that are known by another name
-pub rests_as : (m : Medium) (limit : ℕ) (slot_b : Bool) (bits : List Bool) (committed working other : List Entry) (s : State) → working ≡ other
+pub rests_as : (m : Medium) (limit : ℕ) (slot_b : Bool) (bits : List Bool) (committed working other : List Version) (s : State) → working ≡ other
     → Rests m limit slot_b bits committed working s → Rests m limit slot_b bits committed other s
-rests_as m limit slot_b bits committed working other s same rests = subst (λ (es : List Entry). Rests m limit slot_b bits committed es s) same rests
+rests_as m limit slot_b bits committed working other s same rests = subst (λ (es : List Version). Rests m limit slot_b bits committed es s) same rests

@@ -17,9 +17,9 @@ use Rattle.vm_disk.specs.Disk as disk
 use Rattle.vm_disk.specs.Disk.{Contents, Medium}
 use Rattle.vm_disk.specs.Moments.{Throughout, Leaves}
 use Rattle.vm_disk.proofs.MomentLemmas.{started, and_then, weaken, past_stays, moment_rises, leaves_only, spares_itself}
-use Rattle.vm_block.specs.declared.slot.Entry.{Entry}
+use Rattle.vm_store.specs.declared.versions.Version.{Version}
 use Rattle.vm_store.specs.Answers.{IsDue, IsDeep, IsAnswer}
-use Rattle.vm_store.specs.Free.{is_free}
+use Rattle.vm_tree.specs.Free.{is_free}
 use Rattle.vm_store.specs.Guarded.{IsGuarded}
 use Rattle.vm_store.specs.Resting.{Rests}
 use Rattle.vm_store.specs.Running.{Accepts, AddsRecord, MayAnswer, MayAnswerAll, NoneIsDevice}
@@ -52,7 +52,7 @@ guarded_more old mid new bits so_far more =
     and_then old mid new (λ m. (held : List Bool) × IsGuarded held m) so_far (weaken mid new (IsGuarded bits) (λ m. (held : List Bool) × IsGuarded held m) (λ m guarded. (bits, guarded)) more)
 
 -- a crash before the first command shows what is committed
-pub rests_show : (m : Medium) (limit : ℕ) (slot_b : Bool) (bits : List Bool) (committed working : List Entry) (s : State) → Rests m limit slot_b bits committed working s → Leaves (λ x. Shows x s.committed) m
+pub rests_show : (m : Medium) (limit : ℕ) (slot_b : Bool) (bits : List Bool) (committed working : List Version) (s : State) → Rests m limit slot_b bits committed working s → Leaves (λ x. Shows x s.committed) m
 rests_show m limit slot_b bits committed working s rests left may = shows_old m limit slot_b bits committed working s rests m (spares_itself (is_free bits) m) left may
 
 -- blocks are wanting to a command that has record changes alone

@@ -5,7 +5,7 @@ use Rattle.std.proofs.lemmas.Bool.{false≢true, eqb-true}
 use Rattle.std.proofs.lemmas.Bool.Decides.{nat_tests}
 use Rattle.std.proofs.lemmas.List.Sums.{sum_by-cons}
 use Rattle.vm_alloc.specs.Held.{is_held, IsHeld, free_count}
-use Rattle.vm_store.specs.Free.{is_free}
+use Rattle.vm_tree.specs.Free.{is_free}
 use Rattle.vm_store.specs.Spare.{is_spare, count_below, spare}
 
 -- what passes one test passes another, and so not more numbers pass it

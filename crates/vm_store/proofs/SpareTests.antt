@@ -1,9 +1,7 @@
 -- Tests of counts of spare blocks.
-use Rattle.std.proofs.Common.{◌≡◌, ℕ, ◌≤◌, ◌<◌, ◌⊎◌, inl, inr, refl, Bool, true, false, leb, nat_lt, List, length, IsTrue, replicate, sym, ap, ◌∙◌, subst, arith}
+use Rattle.std.proofs.Common.{◌≡◌, ℕ, ◌≤◌, ◌<◌, ◌⊎◌, inl, inr, refl, Bool, true, false, leb, nat_lt, IsTrue, sym, ◌∙◌, subst, arith}
 use Rattle.std.proofs.lemmas.Bool.Decides.{leb_tells, nat_tests}
 use Rattle.std.proofs.lemmas.Bool.{false≢true, cases_lt}
-use Rattle.vm_block.specs.declared.slot.Entry.{Entry}
-use Rattle.vm_store.specs.Marking.{with_entries}
 
 pub enough : (count free held spare : ℕ) → count ≤ free → free ≡ held → held ≤ spare → (IsTrue true → count ≤ spare) × (count ≤ spare → IsTrue true)
 enough count free held spare le same at_most = (λ _. omega arith, λ _. refl)
@@ -17,13 +15,6 @@ told count free held spare same exactly = subst (λ n. (IsTrue (leb count free) 
 
     ask : (count free : ℕ) → (IsTrue (leb count free) → count ≤ free) × (count ≤ free → IsTrue (leb count free))
     ask count free = by_test count free (leb_tells count free)
-
--- the marks after a clearing and the marking of two lists of entries
-pub marking_of : (limit : ℕ) (marks cleared first second : List Bool) (committed lent working lent' : List Entry) → length marks ≡ limit → cleared ≡ replicate (length marks) false
-    → lent ≡ committed → first ≡ with_entries lent cleared → lent' ≡ working → second ≡ with_entries lent' first
-    → second ≡ with_entries working (with_entries committed (replicate limit false))
-marking_of limit marks cleared first second committed lent working lent' many clear is one is' two =
-    two ∙ ap (λ es. with_entries es first) is' ∙ ap (with_entries working) (one ∙ ap (λ es. with_entries es cleared) is ∙ ap (with_entries committed) (clear ∙ ap (λ n. replicate n false) many))
 
 -- a test whether 16 blocks are spare, the other way round
 pub room_for : (b : Bool) (n : ℕ) → (IsTrue b → 16 ≤ n) × (16 ≤ n → IsTrue b) → b ≡ true → nat_lt n 16 ≡ false

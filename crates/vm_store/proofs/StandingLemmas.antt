@@ -1,96 +1,99 @@
--- Entries whose roots stand: in other contents, found by name, and with one root changed.
+-- Versions whose maps stand: in other contents, found by name, and with one root changed.
 use Rattle.std.proofs.Common.{◌≡◌, ℕ, Bool, true, false, ◌&&◌, cond, List, [], ◌∷◌, ◌++◌, find, Some, None, refl, sym, ap, ◌∙◌, subst}
 use Rattle.std.specs.List.{AllByRecursion}
 use Rattle.std.specs.Str.{bytes_eq}
 use Rattle.vm_types.specs.Map.{Map}
 use Rattle.vm_types.specs.Firsts.{change_first}
 use Rattle.vm_disk.specs.Disk.{Contents, block}
-use Rattle.vm_block.specs.Slot.{is_alternative, is_alternative_of}
-use Rattle.vm_block.specs.Tree.{IsData, Stands}
-use Rattle.vm_block.specs.declared.slot.Entry.{Entry}
+use Rattle.vm_block.specs.Slot.{is_alternative}
+use Rattle.vm_block.specs.Tree.{IsData}
 use Rattle.vm_block.proofs.EachLemmas.{each_join, each_front, each_back, each_both}
-use Rattle.vm_block.proofs.TreeLemmas.{stands_in, stands_data}
+use Rattle.vm_tree.specs.Root.{Grown}
+use Rattle.vm_tree.specs.declared.root.Root.{Root}
 use Rattle.vm_store.specs.Sizes.{sizes}
 use Rattle.vm_store.specs.Filed.{Filed, StandsAs, Standing, reach}
+use Rattle.vm_store.specs.Versions.{is_alternative_of}
+use Rattle.vm_store.specs.declared.versions.Version.{Version}
+use Rattle.vm_store.proofs.TopLemmas.{grown_in, grown_data}
 use Rattle.vm_store.proofs.FiledLemmas.{is_filed, refiled}
 
--- the frame law for entries: their blocks keep their bytes, and have another property as well
+-- the frame law for versions: their blocks keep their bytes, and have another property as well
 pub standing_in : (P Q : ℕ → Type 0) (x y : Contents) (limit : ℕ) → ((n : ℕ) → P n → block y n ≡ block x n) → ((n : ℕ) → P n → Q n)
-    → (es : List Entry) (fs : List Filed) → Standing P x limit es fs → Standing Q y limit es fs
+    → (es : List Version) (fs : List Filed) → Standing P x limit es fs → Standing Q y limit es fs
 standing_in P Q x y limit same so [] [] s = tt
 standing_in P Q x y limit same so (e ∷ es) (f ∷ fs) s = (
   record {
     kind = s.0.kind;
     name = s.0.name;
     owner = s.0.owner;
-    current = stands_in P Q sizes x y limit same so e.current f.current s.0.current;
-    base = stands_in P Q sizes x y limit same so e.base f.base s.0.base;
+    current = grown_in P Q x y limit same so e.current f.current s.0.current;
+    base = grown_in P Q x y limit same so e.base f.base s.0.base;
   },
   standing_in P Q x y limit same so es fs s.1,
 )
 standing_in P Q x y limit same so [] (f ∷ fs) s = absurd s
 standing_in P Q x y limit same so (e ∷ es) [] s = absurd s
 
--- all blocks of standing entries are for data
-pub standing_data : (P : ℕ → Type 0) (x : Contents) (limit : ℕ) (es : List Entry) (fs : List Filed) → Standing P x limit es fs → Standing (λ n. P n × IsData limit n) x limit es fs
+-- all blocks of standing versions are for data
+pub standing_data : (P : ℕ → Type 0) (x : Contents) (limit : ℕ) (es : List Version) (fs : List Filed) → Standing P x limit es fs → Standing (λ n. P n × IsData limit n) x limit es fs
 standing_data P x limit [] [] s = tt
 standing_data P x limit (e ∷ es) (f ∷ fs) s = (
   record {
     kind = s.0.kind;
     name = s.0.name;
     owner = s.0.owner;
-    current = stands_data P sizes x limit e.current f.current s.0.current;
-    base = stands_data P sizes x limit e.base f.base s.0.base;
+    current = grown_data P x limit e.current f.current s.0.current;
+    base = grown_data P x limit e.base f.base s.0.base;
   },
   standing_data P x limit es fs s.1,
 )
 standing_data P x limit [] (f ∷ fs) s = absurd s
 standing_data P x limit (e ∷ es) [] s = absurd s
 
--- what holds of the blocks of standing entries holds of all that they reach
-pub reach_each : (P : ℕ → Type 0) (x : Contents) (limit : ℕ) (es : List Entry) (fs : List Filed) (s : Standing P x limit es fs) → AllByRecursion P (reach P x limit es fs s)
+-- what holds of the blocks of standing versions holds of all that they reach
+pub reach_each : (P : ℕ → Type 0) (x : Contents) (limit : ℕ) (es : List Version) (fs : List Filed) (s : Standing P x limit es fs) → AllByRecursion P (reach P x limit es fs s)
 reach_each P x limit [] [] s = tt
 reach_each P x limit (e ∷ es) (f ∷ fs) s =
-    each_join P s.0.current.blocks _ s.0.current.each (each_join P s.0.base.blocks _ s.0.base.each (reach_each P x limit es fs s.1))
+    each_join P s.0.current.stands_in _ s.0.current.each (each_join P s.0.base.stands_in _ s.0.base.each (reach_each P x limit es fs s.1))
 reach_each P x limit [] (f ∷ fs) s = absurd s
 reach_each P x limit (e ∷ es) [] s = absurd s
 
--- what holds of all that entries reach holds of the blocks in which they stand
-pub standing_and : (P Q : ℕ → Type 0) (x : Contents) (limit : ℕ) (es : List Entry) (fs : List Filed) (s : Standing P x limit es fs) → AllByRecursion Q (reach P x limit es fs s) → Standing (λ n. P n × Q n) x limit es fs
+-- what holds of all that versions reach holds of the blocks in which they stand
+pub standing_and : (P Q : ℕ → Type 0) (x : Contents) (limit : ℕ) (es : List Version) (fs : List Filed) (s : Standing P x limit es fs) → AllByRecursion Q (reach P x limit es fs s) → Standing (λ n. P n × Q n) x limit es fs
 standing_and P Q x limit [] [] s all = tt
 standing_and P Q x limit (e ∷ es) (f ∷ fs) s all =
     let current = s.0.current in
     let base = s.0.base in
-    let behind = each_back Q current.blocks (base.blocks ++ reach P x limit es fs s.1) all in (
+    let behind = each_back Q current.stands_in (base.stands_in ++ reach P x limit es fs s.1) all in (
       record {
         kind = s.0.kind;
         name = s.0.name;
         owner = s.0.owner;
-        current = record { blocks = current.blocks; tree = current.tree; each = each_both P Q current.blocks current.each (each_front Q current.blocks (base.blocks ++ reach P x limit es fs s.1) all) };
-        base = record { blocks = base.blocks; tree = base.tree; each = each_both P Q base.blocks base.each (each_front Q base.blocks (reach P x limit es fs s.1) behind) };
+        current = record { stands_in = current.stands_in; rooted = current.rooted; each = each_both P Q current.stands_in current.each (each_front Q current.stands_in (base.stands_in ++ reach P x limit es fs s.1) all) };
+        base = record { stands_in = base.stands_in; rooted = base.rooted; each = each_both P Q base.stands_in base.each (each_front Q base.stands_in (reach P x limit es fs s.1) behind) };
       },
-      standing_and P Q x limit es fs s.1 (each_back Q base.blocks (reach P x limit es fs s.1) behind),
+      standing_and P Q x limit es fs s.1 (each_back Q base.stands_in (reach P x limit es fs s.1) behind),
     )
 standing_and P Q x limit [] (f ∷ fs) s all = absurd s
 standing_and P Q x limit (e ∷ es) [] s all = absurd s
 
--- an entry that was found, and what it stands as
-pub record FoundAs (P : ℕ → Type 0) (x : Contents) (limit : ℕ) (name : List ℕ) (e : Entry) (fs : List Filed) : Type 0 where
+-- a version that was found, and what it stands as
+pub record FoundAs (P : ℕ → Type 0) (x : Contents) (limit : ℕ) (name : List ℕ) (e : Version) (fs : List Filed) : Type 0 where
   pub filed : Filed
   pub found : find (is_filed name) fs ≡ Some filed
   pub stands : StandsAs P x limit e filed
 
-same_test : (P : ℕ → Type 0) (x : Contents) (limit : ℕ) (name : List ℕ) (e : Entry) (f : Filed) → StandsAs P x limit e f → is_filed name f ≡ is_alternative_of name e
+same_test : (P : ℕ → Type 0) (x : Contents) (limit : ℕ) (name : List ℕ) (e : Version) (f : Filed) → StandsAs P x limit e f → is_filed name f ≡ is_alternative_of name e
 same_test P x limit name e f s = ap (λ k. is_alternative k && bytes_eq f.name name) s.kind ∙ ap (λ n. is_alternative e.kind && bytes_eq n name) s.name
 
-pub found_as : (P : ℕ → Type 0) (x : Contents) (limit : ℕ) (name : List ℕ) (e : Entry) (es : List Entry) (fs : List Filed) → Standing P x limit es fs → find (is_alternative_of name) es ≡ Some e → FoundAs P x limit name e fs
+pub found_as : (P : ℕ → Type 0) (x : Contents) (limit : ℕ) (name : List ℕ) (e : Version) (es : List Version) (fs : List Filed) → Standing P x limit es fs → find (is_alternative_of name) es ≡ Some e → FoundAs P x limit name e fs
 found_as P x limit name e [] [] s is = cc
 found_as P x limit name e (e' ∷ es) (f ∷ fs) s is =
     elim (is_alternative_of name e') as (λ b. is_alternative_of name e' ≡ b → cond b (Some e') (find (is_alternative_of name) es) ≡ Some e → FoundAs P x limit name e (f ∷ fs)) [
       | true ↦ λ test is. let same : e' ≡ e = cc in record {
         filed = f;
         found = ap (λ b. cond b (Some f) (find (is_filed name) fs)) (same_test P x limit name e' f s.0 ∙ test);
-        stands = subst (λ (e : Entry). StandsAs P x limit e f) same s.0;
+        stands = subst (λ (e : Version). StandsAs P x limit e f) same s.0;
       }
       | false ↦ λ test is. let more = found_as P x limit name e es fs s.1 is in record {
         filed = more.filed;
@@ -101,7 +104,7 @@ found_as P x limit name e (e' ∷ es) (f ∷ fs) s is =
 found_as P x limit name e [] (f ∷ fs) s is = absurd s
 found_as P x limit name e (e' ∷ es) [] s is = absurd s
 
-pub not_found : (P : ℕ → Type 0) (x : Contents) (limit : ℕ) (name : List ℕ) (es : List Entry) (fs : List Filed) → Standing P x limit es fs → find (is_alternative_of name) es ≡ None → find (is_filed name) fs ≡ None
+pub not_found : (P : ℕ → Type 0) (x : Contents) (limit : ℕ) (name : List ℕ) (es : List Version) (fs : List Filed) → Standing P x limit es fs → find (is_alternative_of name) es ≡ None → find (is_filed name) fs ≡ None
 not_found P x limit name [] [] s is = refl
 not_found P x limit name (e' ∷ es) (f ∷ fs) s is =
     elim (is_alternative_of name e') as (λ b. is_alternative_of name e' ≡ b → cond b (Some e') (find (is_alternative_of name) es) ≡ None → cond (is_filed name f) (Some f) (find (is_filed name) fs) ≡ None) [
@@ -111,13 +114,13 @@ not_found P x limit name (e' ∷ es) (f ∷ fs) s is =
 not_found P x limit name [] (f ∷ fs) s is = absurd s
 not_found P x limit name (e' ∷ es) [] s is = absurd s
 
--- the entry with another current root
-abbrev pub with_current : ℕ → Entry → Entry
+-- the version with another current root
+abbrev pub with_current : Root → Version → Version
 with_current root e = record e { current = root }
 
--- the first entry of a name has another root, under which its records lie, changed so
-pub standing_changed : (P : ℕ → Type 0) (x : Contents) (limit : ℕ) (name : List ℕ) (root : ℕ) (g : Map → Map) (es : List Entry) (fs : List Filed) → Standing P x limit es fs
-    → ((f : Filed) → find (is_filed name) fs ≡ Some f → Stands sizes P x limit root (g f.current))
+-- the first version of a name has another root, under which its records lie, changed so
+pub standing_changed : (P : ℕ → Type 0) (x : Contents) (limit : ℕ) (name : List ℕ) (root : Root) (g : Map → Map) (es : List Version) (fs : List Filed) → Standing P x limit es fs
+    → ((f : Filed) → find (is_filed name) fs ≡ Some f → Grown sizes P x limit root (g f.current))
     → Standing P x limit (change_first (is_alternative_of name) (with_current root) es) (change_first (is_filed name) (refiled g) fs)
 standing_changed P x limit name root g [] [] s new = tt
 standing_changed P x limit name root g (e ∷ es) (f ∷ fs) s new =

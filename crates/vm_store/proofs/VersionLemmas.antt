@@ -1,5 +1,5 @@
 -- What a store stands for, through the commands that change its entries alone.
-use Rattle.std.proofs.Common.{◌≡◌, inl, inr, ℕ, ◌+◌, ◌<◌, ◌≤◌, ◌*◌, nat_le, nat_lt, Bool, true, false, ◌&&◌, cond, List, [], ◌∷◌, ◌++◌, map, filter, find, length, Option, Some, None, is_some, not, option_map, get_or, set, remove, Result, Ok, Err, IfSome, IfNone, IfOk, refl, sym, ap, ◌∙◌, subst, arith}
+use Rattle.std.proofs.Common.{◌≡◌, inl, inr, ℕ, ◌+◌, ◌<◌, ◌≤◌, ◌*◌, nat_le, nat_lt, Bool, true, false, ◌&&◌, cond, List, [], ◌∷◌, ◌++◌, map, filter, find, length, Option, Some, None, is_some, not, option_map, get_or, set, remove, Result, Ok, Err, IfSome, IfNone, IfOk, IfErr, refl, sym, ap, ◌∙◌, subst, arith}
 use Rattle.std.specs.List.{list_any}
 use Rattle.std.specs.Str.{bytes_eq}
 use Rattle.std.proofs.lemmas.Bool.{false≢true, true≢false}
@@ -12,11 +12,12 @@ use Rattle.vm_types.specs.Tree.{Tree, Alternative, named, saved_as, changed, has
 use Rattle.vm_types.specs.Step.{Outcome, done, new_alternative, step}
 use Rattle.vm_types.specs.State.{State, next, tree_after, edits, is_commit}
 use Rattle.vm_types.specs.Kept.{LeftBy}
+use Rattle.vm_types.specs.declared.answer.Answer.{Answer}
 use Rattle.vm_types.specs.declared.answer.Answer.TheVariants.{Done}
 use Rattle.vm_types.specs.declared.command.Command.{Command}
-use Rattle.vm_types.specs.declared.command.Command.TheVariants.{New, Drop, Checkpoint, Uncheck, Back}
+use Rattle.vm_types.specs.declared.command.Command.TheVariants.{New, Drop, Checkpoint, Uncheck, Back, Reclaim}
 use Rattle.vm_types.specs.declared.refusal.Refusal.{Refusal}
-use Rattle.vm_types.specs.declared.refusal.Refusal.TheVariants.{NoSuchAlternative, AlternativeExists, NoSuchCheckpoint, CheckpointExists, IsTop, HasChildren, TooMany}
+use Rattle.vm_types.specs.declared.refusal.Refusal.TheVariants.{NoSuchAlternative, AlternativeExists, NoSuchCheckpoint, CheckpointExists, IsTop, HasChildren, TooMany, Device}
 use Rattle.vm_types.proofs.FirstsLemmas.{find_passes}
 use Rattle.vm_types.proofs.SoundLemmas.{each_found}
 use Rattle.vm_types.proofs.Steps.{or_refuse-none, or_refuse-some, refuse_if-true, refuse_if-false, new_accepted, drop_accepted, checkpoint_accepted, uncheck_accepted, back_accepted}
@@ -25,11 +26,13 @@ use Rattle.vm_disk.specs.Disk.{Contents, Medium}
 use Rattle.vm_disk.specs.Moments.{Throughout, Leaves}
 use Rattle.vm_disk.proofs.MomentLemmas.{started, spares_itself}
 use Rattle.vm_alloc.specs.Held.{IsHeld}
-use Rattle.vm_block.specs.Slot.{EntryFits, SlotFits, IsLedger, Follows, MayFollow, is_alternative, is_alternative_of, is_called_as}
-use Rattle.vm_block.specs.declared.slot.Kind.TheVariants as kind
+use Rattle.vm_block.specs.Slot as slot
+use Rattle.vm_block.specs.Slot.{EntryFits, SlotFits, IsLedger, Follows, MayFollow, is_alternative, is_called_as}
 use Rattle.vm_block.specs.declared.slot.Entry.{Entry}
+use Rattle.vm_block.specs.declared.slot.Kind.TheVariants as kind
+use Rattle.vm_store.specs.declared.versions.Version.{Version}
 use Rattle.vm_store.specs.Answers.{IsDue, IsAnswer}
-use Rattle.vm_store.specs.Entries.{is_checkpoint_under, is_checkpoint_of, is_child_of, is_apart, alternatives_among, checkpoints_among}
+use Rattle.vm_store.specs.Versions.{entry_of, slot_entries, is_alternative_of, is_checkpoint_under, is_checkpoint_of, is_child_of, is_apart, alternatives_among, checkpoints_among}
 use Rattle.vm_store.specs.Listing.{checkpoints_of, checkpoints_in}
 use Rattle.vm_store.specs.Filed.{Filed, StandsAs, Standing, saved_of, bare, with_saved, grown, tree_of}
 use Rattle.vm_store.specs.Resting.{Rests}
@@ -39,38 +42,49 @@ use Rattle.vm_store.proofs.FoundLemmas.{any_none, any_same, change_first-same}
 use Rattle.vm_store.proofs.GrownLemmas.{is_filed_under, is_filed_child, filed_shape, grown_shape, MayBeAdded, InOrder, whole, there_grown, children_filed, count_grown, named_whole}
 use Rattle.vm_store.proofs.TakenLemmas.{is_filed_saved, is_filed_apart, unsaved, saved_found, grown_apart, grown_unsaved}
 use Rattle.vm_store.proofs.MovedLemmas.{agree_alternative, agree_under, agree_saved, agree_child, agree_apart, standing_length, standing_join, standing_any, standing_filter, standing_without, standing_first, standing_found, standing_none}
-use Rattle.vm_store.proofs.LedgerLemmas.{with_roots, alike_back, fits_alike}
+use Rattle.vm_tree.specs.declared.root.Root.{Root}
+use Rattle.vm_store.proofs.EntryTests as entry
+use Rattle.vm_store.proofs.SlotLemmas.{slot-length, slot_more, slot_any, slot_filter, slot_without, slot_found, slot_none, slot_changed}
+use Rattle.vm_store.proofs.LedgerLemmas as ledger
+use Rattle.vm_store.proofs.LedgerLemmas.{alike_back, fits_alike}
 use Rattle.vm_store.proofs.LedgerMoves.{checkpoint_unbased, called_alternative, some_parts, alternative_follows, checkpoint_follows, top_unbased, fits_more, fits_without, fits_apart}
-use Rattle.vm_store.proofs.RestingLemmas.{shows_old, rests_on, any_entry}
+use Rattle.vm_store.proofs.RestingLemmas.{shows_old, rests_on, any_version}
+
+-- the version with other tops
+abbrev pub with_tops : Root → Root → Version → Version
+with_tops current base v = record v { current = current; base = base }
 
 -- ---- entries that a slot may have come in their order
 
 module _ (P : ℕ → Type 0) (x : Contents) (limit : ℕ) where
-  may_be_added : (earlier : List Entry) (before : List Filed) (e : Entry) (f : Filed) → Standing P x limit earlier before → StandsAs P x limit e f → MayFollow earlier e → MayBeAdded (grown [] before) f
+  may_be_added : (earlier : List Version) (before : List Filed) (e : Version) (f : Filed) → Standing P x limit earlier before → StandsAs P x limit e f → MayFollow (slot_entries earlier) (entry_of e) → MayBeAdded (grown [] before) f
   may_be_added earlier before e f s here may = record {
     new = λ is.
         let alternative : is_alternative e.kind ≡ true = ap is_alternative (sym here.kind) ∙ is in
         there_grown f.name [] before ∙ ap (λ n. list_any (is_filed n) before) here.name
         ∙ standing_any P x limit (is_alternative_of e.name) (is_filed e.name) (agree_alternative P x limit e.name) earlier before s
-        ∙ any_same (is_alternative_of e.name) (is_called_as e) earlier (called_alternative e alternative) ∙ may.new;
+        ∙ sym (slot_any (is_alternative_of e.name) (slot.is_alternative_of e.name) (λ v. refl) earlier)
+        ∙ any_same (slot.is_alternative_of e.name) (is_called_as (entry_of e)) (slot_entries earlier) (called_alternative (entry_of e) alternative) ∙ may.new;
     owned = λ is.
-        let owned = some_parts e.owner (λ owner. list_any (is_alternative_of owner) earlier ≡ true) may.owned in (
+        let owned = some_parts e.owner (λ owner. list_any (slot.is_alternative_of owner) (slot_entries earlier) ≡ true) may.owned in (
           owned.0,
           here.owner ∙ owned.1,
-          there_grown owned.0 [] before ∙ standing_any P x limit (is_alternative_of owned.0) (is_filed owned.0) (agree_alternative P x limit owned.0) earlier before s ∙ owned.2,
+          there_grown owned.0 [] before ∙ standing_any P x limit (is_alternative_of owned.0) (is_filed owned.0) (agree_alternative P x limit owned.0) earlier before s
+              ∙ sym (slot_any (is_alternative_of owned.0) (slot.is_alternative_of owned.0) (λ v. refl) earlier) ∙ owned.2,
         );
   }
 
-  follow_in_order : (earlier : List Entry) (before : List Filed) (es : List Entry) (fs : List Filed) → Standing P x limit earlier before → Standing P x limit es fs → Follows earlier es → InOrder (grown [] before) fs
+  follow_in_order : (earlier : List Version) (before : List Filed) (es : List Version) (fs : List Filed) → Standing P x limit earlier before → Standing P x limit es fs → Follows (slot_entries earlier) (slot_entries es) → InOrder (grown [] before) fs
   follow_in_order earlier before [] [] b s h = tt
   follow_in_order earlier before (e ∷ es) (f ∷ fs) b s h = (
     may_be_added earlier before e f b s.0 h.0,
-    subst (λ (t : Tree). InOrder t fs) (grown_more [] before f) (follow_in_order (earlier ++ e ∷ []) (before ++ f ∷ []) es fs (standing_join P x limit earlier before e f b s.0) s.1 h.1),
+    subst (λ (t : Tree). InOrder t fs) (grown_more [] before f) (follow_in_order (earlier ++ e ∷ []) (before ++ f ∷ []) es fs (standing_join P x limit earlier before e f b s.0) s.1
+    (subst (λ (xs : List Entry). Follows xs (slot_entries es)) (sym (slot_more earlier e)) h.1)),
   )
   follow_in_order earlier before [] (f ∷ fs) b s h = absurd s
   follow_in_order earlier before (e ∷ es) [] b s h = absurd s
 
-  pub ledger_in_order : (es : List Entry) (fs : List Filed) → Standing P x limit es fs → IsLedger es → InOrder [] fs
+  pub ledger_in_order : (es : List Version) (fs : List Filed) → Standing P x limit es fs → IsLedger (slot_entries es) → InOrder [] fs
   ledger_in_order [] fs s h = absurd h
   ledger_in_order (top ∷ es) [] s h = absurd s
   ledger_in_order (top ∷ es) (f ∷ fs) s h = (
@@ -80,31 +94,31 @@ module _ (P : ℕ → Type 0) (x : Contents) (limit : ℕ) where
 
 -- ---- entries found in a lent list
 
-module _ (test : Entry → Bool) (lent working : List Entry) (same : lent ≡ working) where
+module _ (test : Version → Bool) (lent working : List Version) (same : lent ≡ working) where
   -- at a place
-  pub found_in : (i : ℕ) (d : Entry) → IsFirst test lent i → find test working ≡ Some (get_or working i d)
-  found_in i d first = subst (λ (es : List Entry). find test es ≡ Some (get_or es i d)) same (first.found d)
+  pub found_in : (i : ℕ) (d : Version) → IsFirst test lent i → find test working ≡ Some (get_or working i d)
+  found_in i d first = subst (λ (es : List Version). find test es ≡ Some (get_or es i d)) same (first.found d)
 
   pub not_in : find test lent ≡ None → find test working ≡ None
-  not_in none = subst (λ (es : List Entry). find test es ≡ None) same none
+  not_in none = subst (λ (es : List Version). find test es ≡ None) same none
 
   -- or told by whether there is a place
-  pub some_in : (o : Option ℕ) (b : Bool) → IfSome o (IsFirst test lent) → b ≡ is_some o → b ≡ true → (e : Entry) × (find test working ≡ Some e)
+  pub some_in : (o : Option ℕ) (b : Bool) → IfSome o (IsFirst test lent) → b ≡ is_some o → b ≡ true → (e : Version) × (find test working ≡ Some e)
   some_in None b first is told = absurd (true≢false (sym told ∙ is))
-  some_in (Some i) b first is told = (get_or working i any_entry, found_in i any_entry first)
+  some_in (Some i) b first is told = (get_or working i any_version, found_in i any_version first)
 
   pub none_in : (o : Option ℕ) (b : Bool) → IfNone o (find test lent ≡ None) → b ≡ is_some o → b ≡ false → find test working ≡ None
   none_in None b none is told = not_in none
   none_in (Some i) b none is told = absurd (true≢false (sym is ∙ told))
 
   -- the entry at a place, changed or taken out
-  pub changed_in : (φ : Entry → Entry) (i : ℕ) (d : Entry) → IsFirst test lent i → d ≡ get_or working i d → change_first test φ working ≡ set working i (φ d)
+  pub changed_in : (φ : Version → Version) (i : ℕ) (d : Version) → IsFirst test lent i → d ≡ get_or working i d → change_first test φ working ≡ set working i (φ d)
   changed_in φ i d first is =
-      let first' : IsFirst test working i = subst (λ (es : List Entry). IsFirst test es i) same first in
+      let first' : IsFirst test working i = subst (λ (es : List Version). IsFirst test es i) same first in
       first'.change φ d ∙ ap (λ e. set working i (φ e)) (sym is)
 
   pub removed_in : (i : ℕ) → IsFirst test lent i → without_first test working ≡ remove working i
-  removed_in i first = subst (λ (es : List Entry). without_first test es ≡ remove es i) same first.rest
+  removed_in i first = subst (λ (es : List Version). without_first test es ≡ remove es i) same first.rest
 
 -- an owner, told by whether there is none
 pub no_owner_in : (o : Option (List ℕ)) (b : Bool) → is_some o ≡ not b → b ≡ true → o ≡ None
@@ -130,17 +144,22 @@ answers_done s spare deep command tree none shallow is =
     inr (subst (λ (o : Outcome). IsDue o (nat_lt spare (16 * edits s.working command)) deep (Ok Done)) (sym is)
     (subst (λ (b : Bool). IsDue (done tree) b deep (Ok Done)) (sym (ap (λ n. nat_lt spare (16 * n)) none ∙ none_less spare)) (inl (refl, shallow))))
 
+-- a Reclaim
+pub answers_reclaim : (s : State) (spare : ℕ) (r : Result Answer Refusal) → IfOk r (λ a. a ≡ Done) → IfErr r (λ e. e ≡ Device) → IsAnswer s spare ⊥ Reclaim r
+answers_reclaim s spare (Ok a) done_is device = subst (λ (b : Answer). IsAnswer s spare ⊥ Reclaim (Ok b)) (sym done_is) (answers_done s spare ⊥ Reclaim s.working refl (λ d. d) refl)
+answers_reclaim s spare (Err e) done_is device = inl (ap Err device)
+
 -- without a device call a crash shows what was committed
-pub quiet : (d : disk.State) (limit : ℕ) (slot_b : Bool) (bits : List Bool) (committed working : List Entry) (s : State) → Rests d.now limit slot_b bits committed working s → (command : Command) → Throughout d d (Leaves (LeftBy Shows s command))
+pub quiet : (d : disk.State) (limit : ℕ) (slot_b : Bool) (bits : List Bool) (committed working : List Version) (s : State) → Rests d.now limit slot_b bits committed working s → (command : Command) → Throughout d d (Leaves (LeftBy Shows s command))
 quiet d limit slot_b bits committed working s rests command = started d (Leaves (LeftBy Shows s command)) (λ left may. inl (shows_old d.now limit slot_b bits committed working s rests d.now (spares_itself _ d.now) left may))
 
-module _ (m : Medium) (limit : ℕ) (slot_b : Bool) (bits : List Bool) (committed working : List Entry) (s : State)
+module _ (m : Medium) (limit : ℕ) (slot_b : Bool) (bits : List Bool) (committed working : List Version) (s : State)
     (rests : Rests m limit slot_b bits committed working s) where
   in_order : InOrder [] rests.new
   in_order = ledger_in_order (IsHeld bits) m.contents limit working rests.new rests.stands rests.fits.ledger
 
   -- other entries, which stand in blocks that are held, without a device call
-  stepped : (command : Command) (changed : List Entry) (new : List Filed) (tree : Tree) → is_commit command ≡ false → step s.working command ≡ done tree → SlotFits limit changed
+  stepped : (command : Command) (changed : List Version) (new : List Filed) (tree : Tree) → is_commit command ≡ false → step s.working command ≡ done tree → SlotFits limit (slot_entries changed)
       → Standing (IsHeld bits) m.contents limit changed new → tree_of new ≡ tree → Rests m limit slot_b bits committed changed (next s command (Ok Done))
   stepped command changed new tree plain is fits stands gives =
       subst (λ (t : State). Rests m limit slot_b bits committed changed t) (sym (is_next command tree plain is))
@@ -154,13 +173,13 @@ module _ (m : Medium) (limit : ℕ) (slot_b : Bool) (bits : List Bool) (committe
           if_not false h = refl
 
   -- an alternative that an entry is
-  pub record IsThere (name : List ℕ) (e : Entry) : Type 0 where
+  pub record IsThere (name : List ℕ) (e : Version) : Type 0 where
     pub filed : Filed
     pub found : find (is_filed name) rests.new ≡ Some filed
     pub stands : StandsAs (IsHeld bits) m.contents limit e filed
     pub is : named s.working name ≡ Some (whole name rests.new filed)
 
-  pub there : (name : List ℕ) (e : Entry) → find (is_alternative_of name) working ≡ Some e → IsThere name e
+  pub there : (name : List ℕ) (e : Version) → find (is_alternative_of name) working ≡ Some e → IsThere name e
   there name e found =
       let at = standing_found (IsHeld bits) m.contents limit (is_alternative_of name) (is_filed name) (agree_alternative (IsHeld bits) m.contents limit name) working rests.new e rests.stands found in
       record {
@@ -201,8 +220,17 @@ module _ (m : Medium) (limit : ℕ) (slot_b : Bool) (bits : List Bool) (committe
       last true b h = h
       last false b h = absurd (false≢true h)
 
-  fits_of : (test : Entry → Bool) (e : Entry) → find test working ≡ Some e → EntryFits e
-  fits_of test e found = each_found EntryFits test working e rests.fits.each found
+  fits_of : (test : Version → Bool) (asked : Entry → Bool) → ((v : Version) → asked (entry_of v) ≡ test v) → (e : Version) → find test working ≡ Some e → EntryFits (entry_of e)
+  fits_of test asked same e found = each_found EntryFits asked (slot_entries working) (entry_of e) rests.fits.each (slot_found test asked same working e found)
+
+  few_entries : length working < 511 → length (slot_entries working) < 511
+  few_entries few = subst (λ n. n < 511) (sym (slot-length working)) few
+
+  entry_found : (name : List ℕ) (e : Version) → find (is_alternative_of name) working ≡ Some e → find (slot.is_alternative_of name) (slot_entries working) ≡ Some (entry_of e)
+  entry_found name e found = slot_found (is_alternative_of name) (slot.is_alternative_of name) (λ v. refl) working e found
+
+  saved_entry : (alt name : List ℕ) (e : Version) → find (is_checkpoint_of alt name) working ≡ Some e → find (entry.is_checkpoint_of alt name) (slot_entries working) ≡ Some (entry_of e)
+  saved_entry alt name e found = slot_found (is_checkpoint_of alt name) (entry.is_checkpoint_of alt name) (λ v. refl) working e found
 
   -- ---- New
 
@@ -210,8 +238,8 @@ module _ (m : Medium) (limit : ℕ) (slot_b : Bool) (bits : List Bool) (committe
     pub new_absent : find (is_alternative_of parent) working ≡ None → step s.working (New name parent) ≡ Err NoSuchAlternative
     new_absent none = or_refuse-none _ _ _ (absent parent none)
 
-    module _ (p : Entry) (found : find (is_alternative_of parent) working ≡ Some p) where
-      pub new_exists : (e : Entry) → find (is_alternative_of name) working ≡ Some e → step s.working (New name parent) ≡ Err AlternativeExists
+    module _ (p : Version) (found : find (is_alternative_of parent) working ≡ Some p) where
+      pub new_exists : (e : Version) → find (is_alternative_of name) working ≡ Some e → step s.working (New name parent) ≡ Err AlternativeExists
       new_exists e old = or_refuse-some _ _ _ _ (there parent p found).is ∙ refuse_if-true _ _ _ (ap is_some (there name e old).is)
 
       pub new_full : find (is_alternative_of name) working ≡ None → 511 ≤ length working → step s.working (New name parent) ≡ Err TooMany
@@ -224,13 +252,14 @@ module _ (m : Medium) (limit : ℕ) (slot_b : Bool) (bits : List Bool) (committe
           → Rests m limit slot_b bits committed (working ++ record { kind = kind.Alternative; name = name; owner = Some parent; current = p.current; base = p.current } ∷ []) (next s (New name parent) (Ok Done))
       new_rests free few is_name =
           let at = there parent p found in
-          let e : Entry = record { kind = kind.Alternative; name = name; owner = Some parent; current = p.current; base = p.current } in
+          let e : Version = record { kind = kind.Alternative; name = name; owner = Some parent; current = p.current; base = p.current } in
           let f : Filed = record { kind = kind.Alternative; name = name; owner = Some parent; current = at.filed.current; base = at.filed.current } in
           let same : parent ≡ at.filed.name = sym (name_of parent at.filed at.found) in
-          let own = fits_of (is_alternative_of parent) p found in
+          let own = fits_of (is_alternative_of parent) (slot.is_alternative_of parent) (λ v. refl) p found in
           stepped (New name parent) (working ++ e ∷ []) (rests.new ++ f ∷ []) _ refl (new_step free few)
-          (fits_more limit working e rests.fits few (record { name = is_name; owner = subst IsName (sym (same ∙ at.stands.name)) own.name; current = own.current; base = own.current })
-          (alternative_follows working e p parent refl refl found free))
+          (subst (SlotFits limit) (sym (slot_more working e))
+          (fits_more limit (slot_entries working) (entry_of e) rests.fits (few_entries few) (record { name = is_name; owner = subst IsName (sym (same ∙ at.stands.name)) own.name; current = own.current; base = own.current })
+          (alternative_follows (slot_entries working) (entry_of e) (entry_of p) parent refl refl (entry_found parent p found) (slot_none (is_alternative_of name) (slot.is_alternative_of name) (λ v. refl) working free))))
           (standing_join (IsHeld bits) m.contents limit working rests.new e f rests.stands (record { kind = refl; name = refl; owner = refl; current = at.stands.current; base = at.stands.current }))
           (grown_more [] rests.new f ∙ ap (λ (t : Tree). t ++ bare f ∷ []) rests.gives_new ∙ ap (λ n. s.working ++ record { name = name; parent = Some n; current = at.filed.current; base = at.filed.current; saved = [] } ∷ []) same)
 
@@ -245,7 +274,7 @@ module _ (m : Medium) (limit : ℕ) (slot_b : Bool) (bits : List Bool) (committe
     pub drop_absent : find (is_alternative_of alt) working ≡ None → step s.working (Drop alt) ≡ Err NoSuchAlternative
     drop_absent none = or_refuse-none _ _ _ (absent alt none)
 
-    module _ (e : Entry) (found : find (is_alternative_of alt) working ≡ Some e) where
+    module _ (e : Version) (found : find (is_alternative_of alt) working ≡ Some e) where
       pub drop_top : e.owner ≡ None → step s.working (Drop alt) ≡ Err IsTop
       drop_top none = or_refuse-some _ _ _ _ (there alt e found).is ∙ or_refuse-none _ _ _ ((there alt e found).stands.owner ∙ none)
 
@@ -260,7 +289,8 @@ module _ (m : Medium) (limit : ℕ) (slot_b : Bool) (bits : List Bool) (committe
         pub drop_rests : list_any (is_child_of alt) working ≡ false → Rests m limit slot_b bits committed (filter (is_apart alt) working) (next s (Drop alt) (Ok Done))
         drop_rests childless =
             stepped (Drop alt) (filter (is_apart alt) working) (filter (is_filed_apart alt) rests.new) _ refl (drop_step childless)
-            (fits_apart alt limit working e parent rests.fits found owner childless)
+            (subst (SlotFits limit) (sym (slot_filter (is_apart alt) (entry.is_apart alt) (λ v. refl) working))
+            (fits_apart alt limit (slot_entries working) (entry_of e) parent rests.fits (entry_found alt e found) owner (slot_any (is_child_of alt) (entry.is_child_of alt) (λ v. refl) working ∙ childless)))
             (standing_filter (IsHeld bits) m.contents limit (is_apart alt) (is_filed_apart alt) (agree_apart (IsHeld bits) m.contents limit alt) working rests.new rests.stands)
             (grown_apart alt [] rests.new in_order refl ∙ ap (λ (t : Tree). without_first (λ a. bytes_eq a.name alt) t) rests.gives_new)
 
@@ -268,13 +298,13 @@ module _ (m : Medium) (limit : ℕ) (slot_b : Bool) (bits : List Bool) (committe
 
   module _ (alt name : List ℕ) where
     -- the checkpoint that an entry is
-    pub record IsSavedThere (a : Alternative) (c : Entry) : Type 0 where
+    pub record IsSavedThere (a : Alternative) (c : Version) : Type 0 where
       pub filed : Filed
       pub found : find (is_filed_saved alt name) rests.new ≡ Some filed
       pub stands : StandsAs (IsHeld bits) m.contents limit c filed
       pub is : saved_as a name ≡ Some (saved_of filed)
 
-    pub saved_there : (f : Filed) (c : Entry) → find (is_checkpoint_of alt name) working ≡ Some c → IsSavedThere (whole alt rests.new f) c
+    pub saved_there : (f : Filed) (c : Version) → find (is_checkpoint_of alt name) working ≡ Some c → IsSavedThere (whole alt rests.new f) c
     saved_there f c found =
         let at = standing_found (IsHeld bits) m.contents limit (is_checkpoint_of alt name) (is_filed_saved alt name) (agree_saved (IsHeld bits) m.contents limit alt name) working rests.new c rests.stands found in
         record { filed = at.this; found = at.found; stands = at.stands; is = saved_found alt name rests.new ∙ ap (option_map saved_of) at.found }
@@ -293,8 +323,8 @@ module _ (m : Medium) (limit : ℕ) (slot_b : Bool) (bits : List Bool) (committe
     pub back_absent : find (is_alternative_of alt) working ≡ None → step s.working (Back alt name) ≡ Err NoSuchAlternative
     back_absent none = or_refuse-none _ _ _ (absent alt none)
 
-    module _ (e : Entry) (found : find (is_alternative_of alt) working ≡ Some e) where
-      pub checkpoint_exists : (c : Entry) → find (is_checkpoint_of alt name) working ≡ Some c → step s.working (Checkpoint alt name) ≡ Err CheckpointExists
+    module _ (e : Version) (found : find (is_alternative_of alt) working ≡ Some e) where
+      pub checkpoint_exists : (c : Version) → find (is_checkpoint_of alt name) working ≡ Some c → step s.working (Checkpoint alt name) ≡ Err CheckpointExists
       checkpoint_exists c old = or_refuse-some _ _ _ _ (there alt e found).is ∙ refuse_if-true _ _ _ (ap is_some (saved_there (there alt e found).filed c old).is)
 
       pub checkpoint_full : find (is_checkpoint_of alt name) working ≡ None → 511 ≤ length working → step s.working (Checkpoint alt name) ≡ Err TooMany
@@ -309,13 +339,15 @@ module _ (m : Medium) (limit : ℕ) (slot_b : Bool) (bits : List Bool) (committe
           → Rests m limit slot_b bits committed (working ++ record { kind = kind.Checkpoint; name = name; owner = Some alt; current = e.current; base = e.base } ∷ []) (next s (Checkpoint alt name) (Ok Done))
       checkpoint_rests free few is_name =
           let at = there alt e found in
-          let c : Entry = record { kind = kind.Checkpoint; name = name; owner = Some alt; current = e.current; base = e.base } in
+          let c : Version = record { kind = kind.Checkpoint; name = name; owner = Some alt; current = e.current; base = e.base } in
           let f : Filed = record { kind = kind.Checkpoint; name = name; owner = Some alt; current = at.filed.current; base = at.filed.base } in
           let same : alt ≡ e.name = sym (name_of alt at.filed at.found) ∙ at.stands.name in
-          let own = fits_of (is_alternative_of alt) e found in
+          let own = fits_of (is_alternative_of alt) (slot.is_alternative_of alt) (λ v. refl) e found in
           stepped (Checkpoint alt name) (working ++ c ∷ []) (rests.new ++ f ∷ []) _ refl (checkpoint_step free few)
-          (fits_more limit working c rests.fits few (record { name = is_name; owner = subst IsName (sym same) own.name; current = own.current; base = own.base })
-          (checkpoint_follows working c e alt refl refl found free (top_unbased working alt e rests.fits.ledger found)))
+          (subst (SlotFits limit) (sym (slot_more working c))
+          (fits_more limit (slot_entries working) (entry_of c) rests.fits (few_entries few) (record { name = is_name; owner = subst IsName (sym same) own.name; current = own.current; base = own.base })
+          (checkpoint_follows (slot_entries working) (entry_of c) (entry_of e) alt refl refl (entry_found alt e found) (slot_none (is_checkpoint_of alt name) (entry.is_checkpoint_of alt name) (λ v. refl) working free)
+          (top_unbased (slot_entries working) alt (entry_of e) rests.fits.ledger (entry_found alt e found)))))
           (standing_join (IsHeld bits) m.contents limit working rests.new c f rests.stands (record { kind = refl; name = refl; owner = refl; current = at.stands.current; base = at.stands.base }))
           (grown_more [] rests.new f ∙ ap (λ (t : Tree). changed t alt (with_saved (saved_of f))) rests.gives_new
           ∙ change_first-same (λ (a : Alternative). bytes_eq a.name alt) (with_saved (saved_of f)) (λ x. record x { saved = x.saved ++ record { name = name; current = x.current; base = x.base } ∷ [] }) s.working (whole alt rests.new at.filed) at.is refl)
@@ -326,14 +358,14 @@ module _ (m : Medium) (limit : ℕ) (slot_b : Bool) (bits : List Bool) (committe
       pub back_none : find (is_checkpoint_of alt name) working ≡ None → step s.working (Back alt name) ≡ Err NoSuchCheckpoint
       back_none none = or_refuse-some _ _ _ _ (there alt e found).is ∙ or_refuse-none _ _ _ (saved_absent (there alt e found).filed none)
 
-      module _ (c : Entry) (old : find (is_checkpoint_of alt name) working ≡ Some c) where
+      module _ (c : Version) (old : find (is_checkpoint_of alt name) working ≡ Some c) where
         pub uncheck_step : step s.working (Uncheck alt name) ≡ done (changed s.working alt (λ x. record x { saved = without_first (λ k. bytes_eq k.name name) x.saved }))
         uncheck_step = uncheck_accepted s.working alt _ (there alt e found).is name (ap is_some (saved_there (there alt e found).filed c old).is)
 
         pub uncheck_rests : Rests m limit slot_b bits committed (without_first (is_checkpoint_of alt name) working) (next s (Uncheck alt name) (Ok Done))
         uncheck_rests =
             stepped (Uncheck alt name) (without_first (is_checkpoint_of alt name) working) (without_first (is_filed_saved alt name) rests.new) _ refl uncheck_step
-            (fits_without limit alt name working rests.fits)
+            (subst (SlotFits limit) (sym (slot_without (is_checkpoint_of alt name) (entry.is_checkpoint_of alt name) (λ v. refl) working)) (fits_without limit alt name (slot_entries working) rests.fits))
             (standing_without (IsHeld bits) m.contents limit (is_checkpoint_of alt name) (is_filed_saved alt name) (agree_saved (IsHeld bits) m.contents limit alt name) working rests.new rests.stands)
             (grown_unsaved name alt [] rests.new in_order (λ a none. cc) (ap is_some (saved_there (there alt e found).filed c old).found)
             ∙ ap (λ (t : Tree). changed t alt (unsaved name)) rests.gives_new)
@@ -342,25 +374,26 @@ module _ (m : Medium) (limit : ℕ) (slot_b : Bool) (bits : List Bool) (committe
             ≡ done (changed s.working alt (λ x. record x { current = (saved_there (there alt e found).filed c old).filed.current; base = (saved_there (there alt e found).filed c old).filed.base }))
         back_step = back_accepted s.working alt _ (there alt e found).is name _ (saved_there (there alt e found).filed c old).is
 
-        pub back_rests : Rests m limit slot_b bits committed (change_first (is_alternative_of alt) (with_roots c.current c.base) working) (next s (Back alt name) (Ok Done))
+        pub back_rests : Rests m limit slot_b bits committed (change_first (is_alternative_of alt) (with_tops c.current c.base) working) (next s (Back alt name) (Ok Done))
         back_rests =
             let at = saved_there (there alt e found).filed c old in
-            let own = fits_of (is_checkpoint_of alt name) c old in
-            stepped (Back alt name) (change_first (is_alternative_of alt) (with_roots c.current c.base) working) (change_first (is_filed alt) (refiled_both (λ _. at.filed.current) (λ _. at.filed.base)) rests.new) _ refl back_step
-            (fits_alike limit working _ (alike_back alt c.current c.base own.current own.base (checkpoint_unbased working alt name c rests.fits.ledger old) working) rests.fits)
-            (standing_first (IsHeld bits) m.contents limit (is_alternative_of alt) (is_filed alt) (agree_alternative (IsHeld bits) m.contents limit alt) (with_roots c.current c.base) (refiled_both (λ _. at.filed.current) (λ _. at.filed.base)) working rests.new rests.stands
+            let own = fits_of (is_checkpoint_of alt name) (entry.is_checkpoint_of alt name) (λ v. refl) c old in
+            stepped (Back alt name) (change_first (is_alternative_of alt) (with_tops c.current c.base) working) (change_first (is_filed alt) (refiled_both (λ _. at.filed.current) (λ _. at.filed.base)) rests.new) _ refl back_step
+            (subst (SlotFits limit) (sym (slot_changed (is_alternative_of alt) (slot.is_alternative_of alt) (λ v. refl) (with_tops c.current c.base) (ledger.with_roots c.current.block c.base.block) (λ v. refl) working))
+            (fits_alike limit (slot_entries working) _ (alike_back alt c.current.block c.base.block own.current own.base (checkpoint_unbased (slot_entries working) alt name (entry_of c) rests.fits.ledger (saved_entry alt name c old)) (slot_entries working)) rests.fits))
+            (standing_first (IsHeld bits) m.contents limit (is_alternative_of alt) (is_filed alt) (agree_alternative (IsHeld bits) m.contents limit alt) (with_tops c.current c.base) (refiled_both (λ _. at.filed.current) (λ _. at.filed.base)) working rests.new rests.stands
             (λ d f stands. record { kind = stands.kind; name = stands.name; owner = stands.owner; current = at.stands.current; base = at.stands.base }))
             (grown_turned alt (λ _. at.filed.current) (λ _. at.filed.base) [] rests.new refl ∙ ap (λ (t : Tree). changed t alt (with_maps (λ _. at.filed.current) (λ _. at.filed.base))) rests.gives_new)
 
   -- ---- queries
 
-  named_alike : (es : List Entry) (fs : List Filed) → Standing (IsHeld bits) m.contents limit es fs → filed_shape fs ≡ alternatives_among es
+  named_alike : (es : List Version) (fs : List Filed) → Standing (IsHeld bits) m.contents limit es fs → filed_shape fs ≡ alternatives_among es
   named_alike [] [] s = refl
   named_alike (e ∷ es) (f ∷ fs) s =
       let pair_of : Filed → List ℕ × Option (List ℕ) = λ f. (f.name, f.owner) in
-      let entry_pair : Entry → List ℕ × Option (List ℕ) = λ e. (e.name, e.owner) in
+      let entry_pair : Version → List ℕ × Option (List ℕ) = λ e. (e.name, e.owner) in
       let rest_of : List Filed = filter (λ f. is_alternative f.kind) fs in
-      let entry_rest : List Entry = filter (λ e. is_alternative e.kind) es in
+      let entry_rest : List Version = filter (λ e. is_alternative e.kind) es in
       ap (λ k. map pair_of (cond (is_alternative k) (f ∷ rest_of) rest_of)) s.0.kind
       ∙ elim (is_alternative e.kind) as (λ b. map pair_of (cond b (f ∷ rest_of) rest_of) ≡ map entry_pair (cond b (e ∷ entry_rest) entry_rest)) [
         | true ↦ λ i. (s.0.name i, s.0.owner i) ∷ named_alike es fs s.1 i
@@ -373,11 +406,11 @@ module _ (m : Medium) (limit : ℕ) (slot_b : Bool) (bits : List Bool) (committe
   pub alternatives_listed : alternatives_among working ≡ shape s.working
   alternatives_listed = sym (named_alike working rests.new rests.stands) ∙ sym (grown_shape [] rests.new) ∙ ap shape rests.gives_new
 
-  saved_alike : (alt : List ℕ) (es : List Entry) (fs : List Filed) → Standing (IsHeld bits) m.contents limit es fs → saved_names (map saved_of (filter (is_filed_under alt) fs)) ≡ checkpoints_among es alt
+  saved_alike : (alt : List ℕ) (es : List Version) (fs : List Filed) → Standing (IsHeld bits) m.contents limit es fs → saved_names (map saved_of (filter (is_filed_under alt) fs)) ≡ checkpoints_among es alt
   saved_alike alt [] [] s = refl
   saved_alike alt (e ∷ es) (f ∷ fs) s =
       ap (λ b. saved_names (map saved_of (cond b (f ∷ filter (is_filed_under alt) fs) (filter (is_filed_under alt) fs)))) (agree_under (IsHeld bits) m.contents limit alt e f s.0)
-      ∙ elim (is_checkpoint_under alt e) as (λ b. saved_names (map saved_of (cond b (f ∷ filter (is_filed_under alt) fs) (filter (is_filed_under alt) fs))) ≡ map (λ (e : Entry). e.name) (cond b (e ∷ filter (is_checkpoint_under alt) es) (filter (is_checkpoint_under alt) es))) [
+      ∙ elim (is_checkpoint_under alt e) as (λ b. saved_names (map saved_of (cond b (f ∷ filter (is_filed_under alt) fs) (filter (is_filed_under alt) fs))) ≡ map (λ (e : Version). e.name) (cond b (e ∷ filter (is_checkpoint_under alt) es) (filter (is_checkpoint_under alt) es))) [
         | true ↦ λ i. s.0.name i ∷ saved_alike alt es fs s.1 i
         | false ↦ saved_alike alt es fs s.1
       ]
@@ -385,7 +418,7 @@ module _ (m : Medium) (limit : ℕ) (slot_b : Bool) (bits : List Bool) (committe
   saved_alike alt (e ∷ es) [] s = absurd s
 
   -- the checkpoints are those of the model
-  pub checkpoints_listed : (alt : List ℕ) (e : Entry) → find (is_alternative_of alt) working ≡ Some e → Ok (checkpoints_among working alt) ≡ checkpoints_in s.working alt
+  pub checkpoints_listed : (alt : List ℕ) (e : Version) → find (is_alternative_of alt) working ≡ Some e → Ok (checkpoints_among working alt) ≡ checkpoints_in s.working alt
   checkpoints_listed alt e found =
       ap Ok (sym (saved_alike alt working rests.new rests.stands)) ∙ sym (ap checkpoints_of (there alt e found).is)
 

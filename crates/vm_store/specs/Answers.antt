@@ -1,17 +1,19 @@
 -- What a store answers.
-use Rattle.std.specs.Prelude.{◌≡◌, ◌⊎◌, ℕ, ◌*◌, nat_lt, Bool, true, false, List, Option, Some, None, Result, Ok, Err}
+use Rattle.std.specs.Prelude.{◌≡◌, ◌⊎◌, ℕ, ◌*◌, ◌<◌, nat_lt, Bool, true, false, List, Option, Some, None, Result, Ok, Err}
 use Rattle.vm_types.specs.declared.answer.Answer.{Answer}
 use Rattle.vm_types.specs.declared.command.Command.{Command}
 use Rattle.vm_types.specs.declared.command.Command.TheVariants.{New, Drop, Put, Remove, Checkpoint, Uncheck, Back, Commit, Reclaim}
 use Rattle.vm_types.specs.declared.key.Key.{Key}
 use Rattle.vm_types.specs.declared.refusal.Refusal.{Refusal}
 use Rattle.vm_types.specs.declared.refusal.Refusal.TheVariants.{NoSuchAlternative, Full, Deep, Device}
-use Rattle.vm_types.specs.Map.{get}
+use Rattle.vm_types.specs.Map.{Map, get}
+use Rattle.vm_types.specs.Places.{place}
 use Rattle.vm_types.specs.State.{State, edits}
 use Rattle.vm_types.specs.Step.{Outcome, step}
 use Rattle.vm_types.specs.Tree.{Tree, Alternative, named, current_of}
 use Rattle.vm_disk.specs.Disk.{Contents}
-use Rattle.vm_store.specs.LeafMap.{LacksRoom}
+use Rattle.vm_block.specs.FullPath.{FullPath}
+use Rattle.vm_store.specs.Sizes.{sizes}
 
 -- the commands that are carried out so far
 abbrev pub IsCarriedOut : Command → Type 0
@@ -26,7 +28,11 @@ IsCarriedOut Commit = Unit {0}
 IsCarriedOut Reclaim = Unit {0}
 IsCarriedOut command = ⊥
 
--- a Put would add a record to the tree of an alternative, whose root `root_of` tells, and there is no room for it
+-- the key is absent from the map, and the tree under the root has no room for one more record where it belongs
+abbrev pub LacksRoom : Contents → ℕ → Map → Key → Type 0
+LacksRoom x root m key = (get m key ≡ None) × (0 < root) × FullPath sizes x (place key) root
+
+-- a Put would add a record to the tree of an alternative, the block of whose root `root_of` tells, and there is no room for it
 abbrev pub IsDeep : Contents → (List ℕ → ℕ) → Tree → Command → Type 0
 IsDeep x root_of tree (Put alt key value) = LacksRoom x (root_of alt) (current_of tree alt) key
 IsDeep x root_of tree command = ⊥

@@ -2,23 +2,24 @@
 use Rattle.std.specs.Prelude.{◌≡◌, ◌≢◌, ℕ, ◌≤◌, Bool, true, false, List, length}
 use Rattle.vm_disk.specs.Disk.{block, Medium}
 use Rattle.vm_block.specs.Header.{IsHeader}
-use Rattle.vm_block.specs.declared.slot.Entry.{Entry}
 use Rattle.vm_catalog.specs.Place.{selected, is_used}
 use Rattle.vm_catalog.specs.Catalog.{SlotAt}
 use Rattle.vm_store.specs.Filed.{Filed, Standing}
 use Rattle.vm_store.specs.Resting.{IsSafe}
+use Rattle.vm_store.specs.Versions.{slot_entries}
+use Rattle.vm_store.specs.declared.versions.Version.{Version}
 
--- a header stands before this slot, which holds entries within the disk. The header, each block that names the entries and
+-- a header stands before this slot, which names versions within the disk. The header, each block that names them and
 -- each block under their roots is clean, so no write has gone to any of these; those under the roots are held, too
 pub record IsWhole (bits : List Bool) (m : Medium) (slot_b : Bool) : Type 0 where
   pub limit : ℕ
-  pub entries : List Entry
+  pub versions : List Version
   pub filed : List Filed
   pub inside : limit ≤ length m.contents
   pub header : IsHeader (block m.contents 0)
-  pub slot : SlotAt m.contents slot_b limit entries
-  pub clean : (n : ℕ) → n ≢ 1 → is_used slot_b (length entries) n ≡ true → m.dirty n ≡ false
-  pub safe : Standing (IsSafe bits m) m.contents limit entries filed
+  pub slot : SlotAt m.contents slot_b limit (slot_entries versions)
+  pub clean : (n : ℕ) → n ≢ 1 → is_used slot_b (length (slot_entries versions)) n ≡ true → m.dirty n ≡ false
+  pub safe : Standing (IsSafe bits m) m.contents limit versions filed
 
 -- while the selector is clean, the slot that it names is whole, and the other one may hold anything;
 -- while the selector is dirty, a crash may leave either slot in use, and both are whole

@@ -1,10 +1,8 @@
 pub mod Answers
-pub mod Entries
+pub mod Faults
 pub mod Filed
 pub mod Formatting
-pub mod Free
 pub mod Guarded
-pub mod LeafMap
 pub mod Listing
 pub mod Marking
 pub mod Opening
@@ -16,3 +14,4 @@ pub mod Shown
 pub mod Sizes
 pub mod Spare
 pub mod Store
+pub mod Versions

@@ -1,12 +1,14 @@
--- Marks on the roots of entries.
-use Rattle.std.specs.Prelude.{Bool, List, fold}
-use Rattle.vm_block.specs.declared.slot.Entry.{Entry}
-use Rattle.vm_store.specs.LeafMap.{with_root}
+-- The blocks that versions reach.
+use Rattle.std.specs.Prelude.{◌≡◌, ℕ, List, ◌++◌}
+use Rattle.vm_disk.specs.Disk.{Contents}
+use Rattle.vm_check.specs.Marking.{IsUnder, Joined}
+use Rattle.vm_store.specs.Sizes.{sizes}
+use Rattle.vm_store.specs.declared.versions.Version.{Version}
 
--- these marks, with those of an entry's roots
-abbrev pub with_entry : List Bool → Entry → List Bool
-with_entry marks e = with_root e.base (with_root e.current marks)
+-- under both roots of the version lie maps, in these blocks together
+abbrev pub IsReached : Contents → ℕ → Version → List ℕ → Type 0
+IsReached x limit v bs = (current : List ℕ) × (base : List ℕ) × IsUnder sizes x limit v.current current × IsUnder sizes x limit v.base base × (bs ≡ current ++ base)
 
--- these marks, with those of the roots of all these entries
-abbrev pub with_entries : List Entry → List Bool → List Bool
-with_entries es marks = fold with_entry marks es
+-- under the roots of the versions lie maps, in these blocks all together
+abbrev pub AreReached : Contents → ℕ → List Version → List ℕ → Type 0
+AreReached x limit vs bs = Joined (IsReached x limit) vs bs

@@ -8,6 +8,8 @@ use Rattle.vm_block.specs.declared.slot.Entry.{Entry}
 use Rattle.vm_catalog.specs.Place.{slot_at, selected}
 use Rattle.vm_catalog.specs.Catalog.{SlotAt}
 use Rattle.vm_store.specs.Filed.{Filed, Standing}
+use Rattle.vm_store.specs.Versions.{slot_entries}
+use Rattle.vm_store.specs.declared.versions.Version.{Version}
 
 -- there are blocks enough for a store, and the first one is a header
 pub record IsStore (x : Contents) : Type 0 where
@@ -28,13 +30,13 @@ pub record IsTooLarge (x : Contents) : Type 0 where
   pub slot : SlotAt x (selected x) limit entries
   pub larger : length x < limit
 
--- that slot is one, of a store within the disk, but some root has no map
+-- that slot is one, of a store within the disk, but under some root lies no map
 pub record LacksMap (x : Contents) : Type 0 where
   pub limit : ℕ
   pub entries : List Entry
   pub slot : SlotAt x (selected x) limit entries
   pub inside : limit ≤ length x
-  pub none : (filed : List Filed) → Standing (λ n. Unit {0}) x limit entries filed → ⊥
+  pub none : (versions : List Version) (filed : List Filed) → slot_entries versions ≡ entries → Standing (λ n. Unit {0}) x limit versions filed → ⊥
 
 -- why an opening refuses these contents; that the device fails and that memory is wanting may come anywhere
 abbrev pub IsRefused : Contents → Refusal → Type 0

@@ -1,8 +1,8 @@
--- The roots of entries.
+-- The roots of versions.
 use Rattle.std.specs.Prelude.{ℕ, Option, Some, None}
-use Rattle.vm_block.specs.declared.slot.Entry.{Entry}
+use Rattle.vm_store.specs.declared.versions.Version.{Version}
 
--- the current root of an entry that was found, and 0 where none was
-abbrev pub current_root : Option Entry → ℕ
+-- the block of the current root of a version that was found, and 0 where none was
+abbrev pub current_root : Option Version → ℕ
 current_root None = 0
-current_root (Some e) = e.current
+current_root (Some v) = v.current.block

@@ -2,18 +2,19 @@
 use Rattle.std.specs.Prelude.{◌≡◌, ℕ, ◌≤◌, List, length}
 use Rattle.vm_types.specs.Tree.{Tree, fresh}
 use Rattle.vm_disk.specs.Disk.{Contents}
-use Rattle.vm_block.specs.declared.slot.Entry.{Entry}
 use Rattle.vm_catalog.specs.Catalog.{Names}
 use Rattle.vm_store.specs.Filed.{Filed, Standing, tree_of}
+use Rattle.vm_store.specs.Versions.{slot_entries}
+use Rattle.vm_store.specs.declared.versions.Version.{Version}
 
--- these contents show this tree: a header and a slot name entries within the disk, and each root has a map
+-- these contents show this tree: a header and a slot name versions within the disk, and under each root lies a map
 pub record Shows (x : Contents) (tree : Tree) : Type 0 where
   pub limit : ℕ
-  pub entries : List Entry
+  pub versions : List Version
   pub filed : List Filed
-  pub names : Names x limit entries
+  pub names : Names x limit (slot_entries versions)
   pub inside : limit ≤ length x
-  pub stands : Standing (λ n. Unit {0}) x limit entries filed
+  pub stands : Standing (λ n. Unit {0}) x limit versions filed
   pub gives : tree_of filed ≡ tree
 
 -- these contents show nothing

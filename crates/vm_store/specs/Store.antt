@@ -2,11 +2,11 @@
 use Rattle.std.specs.Prelude.{ℕ, Bool, List, find}
 use Rattle.vm_types.specs.State.{State}
 use Rattle.vm_alloc.specs.Held.{free_count}
-use Rattle.vm_block.specs.Slot.{is_alternative_of}
-use Rattle.vm_block.specs.declared.slot.Entry.{Entry}
 use Rattle.vm_store.specs.Resting.{Rests}
 use Rattle.vm_store.specs.Roots.{current_root}
+use Rattle.vm_store.specs.Versions.{is_alternative_of}
 use Rattle.vm_store.specs.declared.store.Store.{Store}
+use Rattle.vm_store.specs.declared.versions.Version.{Version}
 
 module _ {D : Type 0} {members : _} where
   -- the disk below
@@ -17,11 +17,11 @@ module _ {D : Type 0} {members : _} where
   abbrev pub has_failed : Store D members → Bool
   has_failed store = store.failed
 
-  -- the entries, committed and working
-  abbrev pub entries_of : Store D members → List Entry × List Entry
+  -- the entries, committed and working, with the tops of their trees
+  abbrev pub entries_of : Store D members → List Version × List Version
   entries_of store = (store.committed.items, store.working.items)
 
-  -- the root of the working records of an alternative
+  -- the block of the root of the working records of an alternative
   abbrev pub root_of : Store D members → List ℕ → ℕ
   root_of store alt = current_root (find (is_alternative_of alt) store.working.items)
 

@@ -1,16 +1,22 @@
 //! The store: commands and queries over any disk of blocks.
 //!
-//! It stands on vm_catalog for the entries and their slots, on vm_alloc for the blocks that are held,
-//! and on vm_block for the leaves. Its one promise: commands answer and change what the model says,
+//! It stands on vm_catalog for the entries and their slots, on vm_tree and vm_check for the maps, and on
+//! vm_alloc for the blocks that are held. Its one promise: commands answer and change what the model says,
 //! and a crash at any moment of them shows the model after a beginning of the commands that is empty
 //! or ends with a commit, and that holds every commit that was acknowledged.
 #![tactic(auto)]
 
-mod entries;
-mod leaf_map;
+mod faults;
 mod store;
+mod versions;
 
 pub use store::{Stop, Store, format, open};
 
-/// How many levels a tree has at most. For now a map lies in one leaf.
-pub const LEVELS: u8 = 1;
+/// How many records a leaf has at most.
+const LEAF: usize = 16;
+
+/// How many children an inner block has at most.
+const FAN: usize = 256;
+
+/// How many levels a tree has at most.
+pub const LEVELS: usize = 8;

@@ -1,5 +1,5 @@
 //! A store, and its commands and queries.
-ghost use Rattle.std.specs.Prelude.{◌≡◌, ◌≢◌, ◌⊎◌, ◌↔◌, ◌<◌, ◌≤◌, ◌^◌, true, false, length, ℕ, vec_capacity, OnErr, OnOk, IsTrue};
+ghost use Rattle.std.specs.Prelude.{◌≡◌, ◌≢◌, ◌⊎◌, ◌↔◌, ◌<◌, ◌≤◌, ◌^◌, true, false, length, ℕ, vec_capacity, OnErr, OnOk, IfOk, IfErr, IsTrue};
 ghost use Rattle.vm_types.specs.State.{State, next};
 ghost use Rattle.vm_types.specs.Kept.{LeftBy};
 ghost use Rattle.vm_disk.specs.Disk.{Goes, NoCalls};
@@ -19,8 +19,9 @@ mod reclaiming;
 mod removing;
 mod running;
 
-use crate::entries::{copy_entries, mark_entries, position_of};
-use crate::leaf_map::{self, refusal_of};
+use crate::faults::refusal_of;
+use crate::versions::{Version, copy_versions, mark_versions, position_of, write_entries};
+use crate::{FAN, LEAF, LEVELS};
 pub use formatting::format;
 pub use opening::open;
 pub use running::Stop;
@@ -28,6 +29,7 @@ use vm_alloc::{Held, Marks};
 use vm_block::Entry;
 use vm_catalog::publish;
 use vm_disk::Disk;
+use vm_tree::{get, put};
 use vm_types::{Answer, Command, Key, Name, Refusal, Value};
 
 /// How many blocks one record change may take.
@@ -45,8 +47,9 @@ pub struct Store<D: Disk> {
     disk: D,
     blocks: u32,
     slot_b: bool,
-    committed: Vec<Entry>,
-    working: Vec<Entry>,
+    entries: Vec<Entry>,
+    committed: Vec<Version>,
+    working: Vec<Version>,
     held: Held,
     marks: Marks,
     failed: bool,
@@ -56,6 +59,7 @@ pub struct Store<D: Disk> {
     ghost bits: { length held ≡ blocks },
     ghost mark_bits: { length marks ≡ blocks },
     ghost few: { length working.items ≤ 511 },
+    ghost room_entries: { 511 ≤ vec_capacity entries },
     ghost room: { 511 ≤ vec_capacity committed },
     ghost room_working: { 511 ≤ vec_capacity working },
 }
@@ -95,8 +99,8 @@ impl<D: Disk> Store<D> {
             → Throughout (D.state (disk_of self.old)) (D.state (disk_of self.new)) (IsGuarded (held_of self.new)) }
 
         // After a Reclaim just the spare blocks are free.
-        ensures reclaimed { command.now ≡ Command.Reclaim → has_failed self.old ≡ false
-            → (s : State) (holds : Holds self.old s) → free_of self.new ≡ spare_of holds }
+        ensures reclaimed { (D.state (disk_of self.old)).honest ≡ true → has_failed self.old ≡ false → command.now ≡ Command.Reclaim
+            → (s : State) (holds : Holds self.old s) → OnOk result (free_of self.new ≡ spare_of holds) }
     {
         if self.failed {
             return Err(Refusal::Failed);
@@ -119,7 +123,7 @@ impl<D: Disk> Store<D> {
             → Throughout (D.state (disk_of self.old)) (D.state (disk_of self.new)) (Leaves (LeftBy Shows s command.now)) }
         ensures guarded { (D.state (disk_of self.old)).honest ≡ true → (s : State) → Holds self.old s
             → Throughout (D.state (disk_of self.old)) (D.state (disk_of self.new)) (IsGuarded (held_of self.new)) }
-        ensures reclaimed { command.now ≡ Command.Reclaim → (s : State) (holds : Holds self.old s) → free_of self.new ≡ spare_of holds }
+        ensures reclaimed { (D.state (disk_of self.old)).honest ≡ true → command.now ≡ Command.Reclaim → (s : State) (holds : Holds self.old s) → OnOk result (free_of self.new ≡ spare_of holds) }
     {
         match command {
             Command::Put { alt, key, value } => self.put(alt, *key, value),
@@ -136,35 +140,50 @@ impl<D: Disk> Store<D> {
     }
 
     // Holds just the blocks that the committed or the working entries reach, beside the store's own.
-    fn mark_all(&mut self)
-        ensures disk { disk_of self.new ≡ disk_of self.old }
+    fn mark_all(&mut self) -> Result<(), Refusal>
+        ensures any { Goes (result ≡ Err Refusal.Device) (D.state (disk_of self.old)) (D.state (disk_of self.new)) }
         ensures failed { has_failed self.new ≡ has_failed self.old }
+        ensures never { (result ≢ Err Refusal.Failed) × (result ≢ Err Refusal.Memory) }
         ensures same { entries_of self.new ≡ entries_of self.old }
         ensures roots { root_of self.new ≡ root_of self.old }
-        ensures exact { (s : State) (holds : Holds self.old s) → free_of self.new ≡ spare_of holds }
-        ensures state { (s : State) → Holds self.old s → Holds self.new s }
+        ensures reads { (D.state (disk_of self.old)).honest ≡ true → OnlyReads (D.state (disk_of self.old)) (D.state (disk_of self.new)) }
+        ensures only { (D.state (disk_of self.old)).honest ≡ true → (s : State) → Holds self.old s → IfErr result (λ refusal. refusal ≡ Refusal.Device) }
+        ensures exact { (D.state (disk_of self.old)).honest ≡ true → (s : State) (holds : Holds self.old s) → OnOk result (free_of self.new ≡ spare_of holds) }
+        ensures state { (D.state (disk_of self.old)).honest ≡ true → (s : State) → Holds self.old s → Holds self.new s }
     {
         self.marks.clear();
-        mark_entries(self.blocks, &self.committed, &mut self.marks);
-        mark_entries(self.blocks, &self.working, &mut self.marks);
+        match mark_versions(&mut self.disk, &self.committed, &mut self.marks) {
+            Ok(()) => {}
+            Err(fault) => return Err(refusal_of(fault)),
+        }
+        match mark_versions(&mut self.disk, &self.working, &mut self.marks) {
+            Ok(()) => {}
+            Err(fault) => return Err(refusal_of(fault)),
+        }
         self.held.replace(&self.marks);
+        Ok(())
     }
 
     // Whether so many blocks are spare. Where fewer are free, it marks what the entries reach.
-    fn has_spare(&mut self, count: u32) -> bool
-        ensures disk { disk_of self.new ≡ disk_of self.old }
+    fn has_spare(&mut self, count: u32) -> Result<bool, Refusal>
+        ensures any { Goes (result ≡ Err Refusal.Device) (D.state (disk_of self.old)) (D.state (disk_of self.new)) }
         ensures failed { has_failed self.new ≡ has_failed self.old }
+        ensures never { (result ≢ Err Refusal.Failed) × (result ≢ Err Refusal.Memory) }
         ensures same { entries_of self.new ≡ entries_of self.old }
         ensures roots { root_of self.new ≡ root_of self.old }
-        ensures free { IsTrue result → count ≤ free_of self.new }
-        ensures spare { (s : State) (holds : Holds self.old s) → IsTrue result ↔ (count ≤ spare_of holds) }
-        ensures state { (s : State) → Holds self.old s → Holds self.new s }
+        ensures free { IfOk result (λ yes. IsTrue yes → count ≤ free_of self.new) }
+        ensures reads { (D.state (disk_of self.old)).honest ≡ true → OnlyReads (D.state (disk_of self.old)) (D.state (disk_of self.new)) }
+        ensures only { (D.state (disk_of self.old)).honest ≡ true → (s : State) → Holds self.old s → IfErr result (λ refusal. refusal ≡ Refusal.Device) }
+        ensures spare { (D.state (disk_of self.old)).honest ≡ true → (s : State) (holds : Holds self.old s) → IfOk result (λ yes. IsTrue yes ↔ (count ≤ spare_of holds)) }
+        ensures state { (D.state (disk_of self.old)).honest ≡ true → (s : State) → Holds self.old s → Holds self.new s }
     {
         if self.held.free_count() >= count {
-            return true;
+            return Ok(true);
         }
-        self.mark_all();
-        self.held.free_count() >= count
+        match self.mark_all() {
+            Ok(()) => Ok(self.held.free_count() >= count),
+            Err(refusal) => Err(refusal),
+        }
     }
 
     // Gives a record of the alternative a value.
@@ -184,18 +203,13 @@ impl<D: Disk> Store<D> {
         let Some(i) = position_of(&self.working, alt) else {
             return Err(Refusal::NoSuchAlternative);
         };
-        if !self.has_spare(BLOCKS_A_CHANGE) {
-            return Err(Refusal::Full);
+        match self.has_spare(BLOCKS_A_CHANGE) {
+            Ok(true) => {}
+            Ok(false) => return Err(Refusal::Full),
+            Err(refusal) => return Err(refusal),
         }
         let root = self.working[i].current;
-        match leaf_map::put(
-            &mut self.disk,
-            &mut self.held,
-            self.blocks,
-            root,
-            key,
-            value,
-        ) {
+        match put::<D, LEAF, FAN, LEVELS>(&mut self.disk, &mut self.held, root, key, value) {
             Ok(root) => {
                 self.working[i].current = root;
                 Ok(Answer::Done)
@@ -216,10 +230,11 @@ impl<D: Disk> Store<D> {
         ensures guarded { (D.state (disk_of self.old)).honest ≡ true → (s : State) → Holds self.old s
             → Throughout (D.state (disk_of self.old)) (D.state (disk_of self.new)) (IsGuarded (held_of self.new)) }
     {
-        match publish(&mut self.disk, self.slot_b, self.blocks, &self.working) {
+        write_entries(&mut self.entries, &self.working);
+        match publish(&mut self.disk, self.slot_b, self.blocks, &self.entries) {
             Ok(()) => {
                 self.slot_b = !self.slot_b;
-                copy_entries(&mut self.committed, &self.working);
+                copy_versions(&mut self.committed, &self.working);
                 Ok(Answer::Done)
             }
             Err(_) => Err(Refusal::Device),
@@ -248,7 +263,7 @@ impl<D: Disk> Store<D> {
             return Err(Refusal::NoSuchAlternative);
         };
         let root = self.working[i].current;
-        match leaf_map::get(&mut self.disk, self.blocks, root, key) {
+        match get(&mut self.disk, self.blocks, root, key) {
             Ok(value) => Ok(value),
             Err(fault) => Err(refusal_of(fault)),
         }
@@ -264,6 +279,7 @@ impl<D: Disk> Store<D> {
             disk,
             blocks: _,
             slot_b: _,
+            entries: _,
             committed: _,
             working: _,
             held: _,

@@ -10,9 +10,9 @@ ghost use Rattle.vm_store.specs.Resting.{spare_of};
 ghost use Rattle.vm_store.specs.Shown.{Shows};
 
 use super::Store;
-use crate::entries::{add_entry, alternatives_among, has_children, position_of, take_out};
+use crate::versions::{Version, add_version, alternatives_among, has_children, position_of, take_out};
 use std::alloc::Global;
-use vm_block::{Entry, Kind};
+use vm_block::Kind;
 use vm_catalog::MAX_ENTRIES;
 use vm_disk::Disk;
 use vm_types::{Answer, Command, Name, Refusal};
@@ -43,14 +43,14 @@ impl<D: Disk> Store<D> {
             return Err(Refusal::TooMany);
         }
         let root = self.working[i].current;
-        let entry = Entry {
+        let version = Version {
             kind: Kind::Alternative,
             name: *name,
             owner: Some(*parent),
             current: root,
             base: root,
         };
-        add_entry(&mut self.working, entry);
+        add_version(&mut self.working, version);
         Ok(Answer::Done)
     }
 

@@ -10,9 +10,9 @@ ghost use Rattle.vm_store.specs.Resting.{spare_of};
 ghost use Rattle.vm_store.specs.Shown.{Shows};
 
 use super::Store;
-use crate::entries::{add_entry, checkpoint_position, checkpoints_among, position_of};
+use crate::versions::{Version, add_version, checkpoint_position, checkpoints_among, position_of};
 use std::alloc::Global;
-use vm_block::{Entry, Kind};
+use vm_block::Kind;
 use vm_catalog::MAX_ENTRIES;
 use vm_disk::Disk;
 use vm_types::{Answer, Command, Name, Refusal};
@@ -42,13 +42,13 @@ impl<D: Disk> Store<D> {
         if self.working.len() >= MAX_ENTRIES {
             return Err(Refusal::TooMany);
         }
-        let entry = Entry {
+        let version = Version {
             kind: Kind::Checkpoint,
             name: *name,
             owner: Some(*alt),
             ..self.working[i]
         };
-        add_entry(&mut self.working, entry);
+        add_version(&mut self.working, version);
         Ok(Answer::Done)
     }
 
@@ -94,8 +94,8 @@ impl<D: Disk> Store<D> {
         let Some(j) = checkpoint_position(&self.working, alt, name) else {
             return Err(Refusal::NoSuchCheckpoint);
         };
-        let Entry { current, base, .. } = self.working[j];
-        self.working[i] = Entry {
+        let Version { current, base, .. } = self.working[j];
+        self.working[i] = Version {
             current,
             base,
             ..self.working[i]

@@ -6,10 +6,11 @@ ghost use Rattle.vm_disk.specs.Moments.{OnlyReads};
 ghost use Rattle.vm_store.specs.Listing.{IsList, records_in};
 
 use super::Store;
-use crate::entries::position_of;
-use crate::leaf_map::{refusal_of, scan};
+use crate::faults::refusal_of;
+use crate::versions::position_of;
 use std::alloc::Global;
 use vm_disk::Disk;
+use vm_tree::scan;
 use vm_types::{Key, Name, Refusal, Value};
 
 impl<D: Disk> Store<D> {

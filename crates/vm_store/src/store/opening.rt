@@ -1,29 +1,29 @@
 //! Opening a store.
-ghost use Rattle.std.specs.Prelude.{◌≡◌, ◌≢◌, ℕ, ◌≤◌, true, false, List, length, vec_capacity, IfOk, IfErr, OnOk, IsErrAnd, IfSome};
+ghost use Rattle.std.specs.Prelude.{◌≡◌, ◌≢◌, ℕ, ◌*◌, ◌≤◌, true, false, List, length, vec_capacity, IfOk, IfErr, OnOk, IsErrAnd, IfSome};
 ghost use Rattle.vm_types.specs.Tree.{Tree};
 ghost use Rattle.vm_disk.specs.Disk.{Goes, IsClean, block};
 ghost use Rattle.vm_disk.specs.Moments.{Throughout, OnlyReads};
-ghost use Rattle.vm_alloc.specs.Held.{HoldsMore};
-ghost use Rattle.vm_alloc.specs.Marks.{IsMarked};
 ghost use Rattle.vm_block.specs.Selector.{names_b};
 ghost use Rattle.vm_block.specs.Slot.{SlotFits};
 ghost use Rattle.vm_catalog.specs.Catalog.{SlotAt};
-ghost use Rattle.vm_store.specs.Filed.{Filed, Standing, StandsAs};
-ghost use Rattle.vm_store.specs.LeafMap.{OkOrDevice};
 ghost use Rattle.vm_store.specs.Refused.{IsAtMostSynced, IsSynced, IsNoStore, IsRefused, IsStore};
 ghost use Rattle.vm_store.specs.Shown.{Shows, ShowsNothing};
 ghost use Rattle.vm_store.specs.Opening.{OpensAs, PartsHold, disk_in};
 ghost use Rattle.vm_store.specs.Store.{has_failed};
+ghost use Rattle.vm_store.specs.Versions.{versions_of};
 
 use super::Store;
 use super::parts::Parts;
-use crate::entries::copy_entries;
-use crate::leaf_map::{TreeFault, refusal_of, verify};
+use crate::faults::refusal_of;
+use crate::versions::{Version, add_versions, copy_versions, root_numbers};
+use crate::{FAN, LEAF, LEVELS};
 use std::alloc::Global;
-use vm_alloc::{Held, Marks};
+use vm_alloc::Held;
 use vm_block::Entry;
 use vm_catalog::{LoadFault, MAX_ENTRIES, Slot, first_block, load, slot_in_use};
+use vm_check::verify;
 use vm_disk::Disk;
+use vm_tree::Root;
 use vm_types::Refusal;
 
 /// How many blocks a store has at least.
@@ -77,55 +77,26 @@ fn load_slot<D: Disk>(alloc: Global, disk: &mut D, slot_b: bool) -> Result<Slot,
     }
 }
 
-// Tests that maps lie under both roots of an entry, and marks their blocks.
-fn verify_entry<D: Disk>(
-    disk: &mut D,
-    blocks: u32,
-    entry: &Entry,
-    marks: &mut Marks,
-) -> Result<(), TreeFault>
-    requires inside { blocks ≤ (D.state disk.old).blocks }
-    requires bits { length marks.old ≡ blocks }
-    ensures any { Goes (result ≡ Err TreeFault.Device) (D.state disk.old) (D.state disk.new) }
-    ensures deep { result ≢ Err TreeFault.Deep }
-    ensures growing { HoldsMore marks.old marks.new }
-    ensures reads { (D.state disk.old).honest ≡ true → OnlyReads (D.state disk.old) (D.state disk.new) }
-    ensures found { (D.state disk.old).honest ≡ true
-        → OnOk result ((f : Filed) × StandsAs (IsMarked marks.new) (D.state disk.old).now.contents blocks entry.now f) }
-    ensures only { (D.state disk.old).honest ≡ true → (f : Filed) → StandsAs (λ n. Unit {0}) (D.state disk.old).now.contents blocks entry.now f
-        → OkOrDevice result (λ _. Unit {0}) }
-{
-    match verify(disk, blocks, entry.current, marks) {
-        Ok(()) => verify(disk, blocks, entry.base, marks),
-        Err(fault) => Err(fault),
-    }
-}
-
-// Tests that maps lie under all roots of the entries, in their order, and marks their blocks.
-fn verify_entries<D: Disk>(
-    disk: &mut D,
-    blocks: u32,
+// The versions of entries whose roots these are, and the same again.
+fn versions_twice(
+    alloc: Global,
     entries: &[Entry],
-    marks: &mut Marks,
-) -> Result<(), TreeFault>
-    requires inside { blocks ≤ (D.state disk.old).blocks }
-    requires bits { length marks.old ≡ blocks }
-    ensures any { Goes (result ≡ Err TreeFault.Device) (D.state disk.old) (D.state disk.new) }
-    ensures deep { result ≢ Err TreeFault.Deep }
-    ensures growing { HoldsMore marks.old marks.new }
-    ensures reads { (D.state disk.old).honest ≡ true → OnlyReads (D.state disk.old) (D.state disk.new) }
-    ensures found { (D.state disk.old).honest ≡ true
-        → OnOk result ((fs : List Filed) × Standing (IsMarked marks.new) (D.state disk.old).now.contents blocks entries.now fs) }
-    ensures only { (D.state disk.old).honest ≡ true → (fs : List Filed) → Standing (λ n. Unit {0}) (D.state disk.old).now.contents blocks entries.now fs
-        → OkOrDevice result (λ _. Unit {0}) }
+    roots: &[Root],
+) -> Option<(Vec<Version>, Vec<Version>)>
+    requires few { length entries.now ≤ 511 }
+    requires roots { length roots.now ≡ 2 * length entries.now }
+    ensures items { IfSome result (λ pair. (pair.0.items ≡ versions_of entries.now roots.now) × (pair.1.items ≡ versions_of entries.now roots.now)) }
+    ensures room { IfSome result (λ pair. (511 ≤ vec_capacity pair.0) × (511 ≤ vec_capacity pair.1)) }
 {
-    for entry in entries {
-        match verify_entry(disk, blocks, entry, marks) {
-            Ok(()) => {}
-            Err(fault) => return Err(fault),
-        }
-    }
-    Ok(())
+    let (Ok(mut committed), Ok(mut working)) = (
+        Vec::with_capacity(alloc, MAX_ENTRIES),
+        Vec::with_capacity(alloc, MAX_ENTRIES),
+    ) else {
+        return None;
+    };
+    add_versions(&mut committed, entries, roots);
+    copy_versions(&mut working, &committed);
+    Some((committed, working))
 }
 
 // Reads the maps of a slot, reserves what a store needs, and holds the blocks that are reached.
@@ -149,20 +120,20 @@ fn read_maps<D: Disk>(
         → IfErr result (IsRefused (D.state disk.old).now.contents) }
 {
     let Slot { blocks, entries } = slot;
-    let Ok(mut working) = Vec::with_capacity(alloc, MAX_ENTRIES) else {
+    let (Some(numbers), Ok(mut held)) = (root_numbers(alloc, &entries), Held::new(alloc, blocks)) else {
         return Err(Refusal::Memory);
     };
-    copy_entries(&mut working, &entries);
-    let (Ok(mut held), Ok(mut marks)) = (Held::new(alloc, blocks), Marks::new(alloc, blocks)) else {
-        return Err(Refusal::Memory);
-    };
-    match verify_entries(disk, blocks, &entries, &mut marks) {
-        Ok(()) => {
+    match verify::<D, LEAF, FAN, LEVELS>(alloc, disk, blocks, &numbers) {
+        Ok((roots, marks)) => {
             held.replace(&marks);
+            let Some((committed, working)) = versions_twice(alloc, &entries, &roots) else {
+                return Err(Refusal::Memory);
+            };
             Ok(Parts {
                 blocks,
                 slot_b,
-                committed: entries,
+                entries,
+                committed,
                 working,
                 held,
                 marks,
@@ -213,6 +184,7 @@ pub fn open<D: Disk>(alloc: Global, mut disk: D) -> Result<Store<D>, (D, Refusal
             let Parts {
                 blocks,
                 slot_b,
+                entries,
                 committed,
                 working,
                 held,
@@ -222,6 +194,7 @@ pub fn open<D: Disk>(alloc: Global, mut disk: D) -> Result<Store<D>, (D, Refusal
                 disk,
                 blocks,
                 slot_b,
+                entries,
                 committed,
                 working,
                 held,

@@ -1,6 +1,7 @@
 //! A store without its disk.
 ghost use Rattle.std.specs.Prelude.{◌≡◌, ◌<◌, ◌≤◌, ◌^◌, length, vec_capacity};
 
+use crate::versions::Version;
 use vm_alloc::{Held, Marks};
 use vm_block::Entry;
 
@@ -9,8 +10,9 @@ use vm_block::Entry;
 pub struct Parts {
     pub blocks: u32,
     pub slot_b: bool,
-    pub committed: Vec<Entry>,
-    pub working: Vec<Entry>,
+    pub entries: Vec<Entry>,
+    pub committed: Vec<Version>,
+    pub working: Vec<Version>,
     pub held: Held,
     pub marks: Marks,
     ghost least: { 64 ≤ blocks },
@@ -18,6 +20,7 @@ pub struct Parts {
     ghost bits: { length held ≡ blocks },
     ghost mark_bits: { length marks ≡ blocks },
     ghost few: { length working.items ≤ 511 },
+    ghost room_entries: { 511 ≤ vec_capacity entries },
     ghost room: { 511 ≤ vec_capacity committed },
     ghost room_working: { 511 ≤ vec_capacity working },
 }

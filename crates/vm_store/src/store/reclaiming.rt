@@ -1,7 +1,8 @@
 //! Blocks that no version needs.
-ghost use Rattle.std.specs.Prelude.{◌≡◌, ◌≤◌, true, false, Ok, Err, IfOk};
+ghost use Rattle.std.specs.Prelude.{◌≡◌, ◌≢◌, ◌≤◌, true, false, Ok, Err, IfOk, IfErr, OnOk};
 ghost use Rattle.vm_types.specs.State.{State};
 ghost use Rattle.vm_types.specs.Kept.{LeftBy};
+ghost use Rattle.vm_disk.specs.Disk.{Goes};
 ghost use Rattle.vm_disk.specs.Moments.{Throughout, Leaves};
 ghost use Rattle.vm_store.specs.Guarded.{IsGuarded};
 ghost use Rattle.vm_store.specs.Resting.{spare_of};
@@ -29,18 +30,22 @@ impl<D: Disk> Store<D> {
 
     // Frees each block that neither the committed nor the working entries reach.
     pub(super) fn reclaim(&mut self) -> Result<Answer, Refusal>
-        ensures disk { disk_of self.new ≡ disk_of self.old }
+        ensures any { Goes (result ≡ Err Refusal.Device) (D.state (disk_of self.old)) (D.state (disk_of self.new)) }
         ensures failed { has_failed self.new ≡ has_failed self.old }
-        ensures done { result ≡ Ok Answer.Done }
+        ensures never { (result ≢ Err Refusal.Failed) × (result ≢ Err Refusal.Memory) }
         ensures same { entries_of self.new ≡ entries_of self.old }
-        ensures exact { (s : State) (holds : Holds self.old s) → free_of self.new ≡ spare_of holds }
-        ensures state { (s : State) → Holds self.old s → Holds self.new s }
-        ensures crash { (s : State) → Holds self.old s
+        ensures done { IfOk result (λ answer. answer ≡ Answer.Done) }
+        ensures only { (D.state (disk_of self.old)).honest ≡ true → (s : State) → Holds self.old s → IfErr result (λ refusal. refusal ≡ Refusal.Device) }
+        ensures exact { (D.state (disk_of self.old)).honest ≡ true → (s : State) (holds : Holds self.old s) → OnOk result (free_of self.new ≡ spare_of holds) }
+        ensures state { (D.state (disk_of self.old)).honest ≡ true → (s : State) → Holds self.old s → Holds self.new s }
+        ensures crash { (D.state (disk_of self.old)).honest ≡ true → (s : State) → Holds self.old s
             → Throughout (D.state (disk_of self.old)) (D.state (disk_of self.new)) (Leaves (LeftBy Shows s Command.Reclaim)) }
-        ensures guarded { (s : State) → Holds self.old s
+        ensures guarded { (D.state (disk_of self.old)).honest ≡ true → (s : State) → Holds self.old s
             → Throughout (D.state (disk_of self.old)) (D.state (disk_of self.new)) (IsGuarded (held_of self.new)) }
     {
-        self.mark_all();
-        Ok(Answer::Done)
+        match self.mark_all() {
+            Ok(()) => Ok(Answer::Done),
+            Err(refusal) => Err(refusal),
+        }
     }
 }

@@ -11,9 +11,11 @@ ghost use Rattle.vm_store.specs.Resting.{spare_of};
 ghost use Rattle.vm_store.specs.Shown.{Shows};
 
 use super::{BLOCKS_A_CHANGE, Store};
-use crate::entries::position_of;
-use crate::leaf_map::{self, refusal_of};
+use crate::faults::refusal_of;
+use crate::versions::position_of;
+use crate::{FAN, LEAF, LEVELS};
 use vm_disk::Disk;
+use vm_tree::{get, remove};
 use vm_types::{Answer, Key, Name, Refusal};
 
 impl<D: Disk> Store<D> {
@@ -38,15 +40,17 @@ impl<D: Disk> Store<D> {
             return Err(Refusal::NoSuchAlternative);
         };
         let root = self.working[i].current;
-        match leaf_map::get(&mut self.disk, self.blocks, root, key) {
+        match get(&mut self.disk, self.blocks, root, key) {
             Ok(Some(_)) => {}
             Ok(None) => return Err(Refusal::NoSuchRecord),
             Err(fault) => return Err(refusal_of(fault)),
         }
-        if !self.has_spare(BLOCKS_A_CHANGE) {
-            return Err(Refusal::Full);
+        match self.has_spare(BLOCKS_A_CHANGE) {
+            Ok(true) => {}
+            Ok(false) => return Err(Refusal::Full),
+            Err(refusal) => return Err(refusal),
         }
-        match leaf_map::remove(&mut self.disk, &mut self.held, self.blocks, root, key) {
+        match remove::<D, LEAF, FAN, LEVELS>(&mut self.disk, &mut self.held, root, key) {
             Ok(Some(root)) => {
                 self.working[i].current = root;
                 Ok(Answer::Done)

@@ -1,6 +1,6 @@
 use Rattle.std.proofs.Common.{◌≡◌, ◌∙◌, ap}
 use Rattle.vm_types.specs.Shape.{shape}
-use Rattle.vm_store.specs.Entries.{alternatives_among}
+use Rattle.vm_store.specs.Versions.{alternatives_among}
 use Rattle.vm_store.proofs.VersionLemmas.{alternatives_listed, if_ok_so}
 use Rattle.vm_store.proofs.store.Store.alternatives.Goals as goal
 

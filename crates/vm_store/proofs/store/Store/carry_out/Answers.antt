@@ -7,6 +7,7 @@ use Rattle.vm_store.specs.Guarded.{IsGuarded}
 use Rattle.vm_store.specs.Resting.{spare_of}
 use Rattle.vm_store.specs.Store.{root_of}
 use Rattle.vm_store.proofs.GuardLemmas.{guarded_at_rest}
+use Rattle.vm_store.proofs.VersionLemmas.{answers_reclaim}
 use Rattle.vm_store.proofs.store.Store.carry_out.Goals as goal
 
 pub returns-in-Put-clause-answer : goal.returns-in-Put-clause-answer
@@ -80,3 +81,12 @@ returns-in-Back-clause-guarded g c honest s holds =
     let Q = IsGuarded c.go_back.new.self.held in
     subst (λ d. Throughout (g.D.Disk.state d) (g.D.Disk.state c.go_back.new.self.disk) Q) c.go_back.ensures.disk
     (started _ Q (guarded_at_rest _ _ _ _ _ _ _ (c.go_back.ensures.state honest s holds)))
+
+pub returns-in-Reclaim-clause-answer : goal.returns-in-Reclaim-clause-answer
+returns-in-Reclaim-clause-answer g c honest s holds =
+    let x = (g.D.Disk.state c.args.self.now.disk).now.contents in
+    let answers = λ (command : Command). IsAnswer s (spare_of holds) (IsDeep x (root_of c.args.self.now) s.working command) command c.reclaim.result in
+    subst answers (sym c.in-Reclaim.is) (answers_reclaim s (spare_of holds) c.reclaim.result c.reclaim.ensures.done (c.reclaim.ensures.only honest s holds))
+
+pub returns-in-Reclaim-clause-reclaimed : goal.returns-in-Reclaim-clause-reclaimed
+returns-in-Reclaim-clause-reclaimed g c honest is s holds = c.reclaim.ensures.exact honest s holds

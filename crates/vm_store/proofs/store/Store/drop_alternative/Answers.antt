@@ -1,8 +1,8 @@
 use Rattle.std.proofs.Common.{refl, Some, sym, ap, ◌∙◌}
 use Rattle.vm_types.specs.declared.command.Command.TheVariants.{Drop}
-use Rattle.vm_block.specs.Slot.{is_alternative_of}
+use Rattle.vm_store.specs.Versions.{is_alternative_of}
 use Rattle.std.specs.List.{list_any}
-use Rattle.vm_store.specs.Entries.{is_child_of}
+use Rattle.vm_store.specs.Versions.{is_child_of}
 use Rattle.vm_store.specs.Resting.{spare_of}
 use Rattle.vm_store.proofs.RestingLemmas.{rests_as}
 use Rattle.vm_store.proofs.VersionLemmas.{found_in, not_in, answers_refused, answers_done, quiet, no_owner_in, owner_in, drop_absent, drop_top, drop_parent, drop_step, drop_rests}

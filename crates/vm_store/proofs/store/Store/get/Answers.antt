@@ -1,6 +1,7 @@
 use Rattle.std.proofs.Common.{◌≡◌, find, None, Some, Err, subst, inl, inr, ap, ◌∙◌, sym}
-use Rattle.vm_block.specs.Slot.{is_alternative_of}
-use Rattle.vm_store.specs.LeafMap.{refusal_of}
+use Rattle.vm_store.specs.Versions.{is_alternative_of}
+use Rattle.vm_store.specs.Faults.{refusal_of}
+use Rattle.vm_store.specs.Sizes.{sizes}
 use Rattle.vm_store.proofs.RestingLemmas.{read_rests, found_at, found_entry, value_found, value_absent}
 use Rattle.vm_store.proofs.store.Store.get.Goals as goal
 
@@ -13,7 +14,7 @@ returns-in-Ok-clause-value g c honest well s rests =
     let e = c.index.result.now in
     let is = found_at c.args.alt.now _ _ c.in-Some.i e c.deref.ensures.value c.in-Some.ensures.found ∙ ap Some (sym c.index.ensures) in
     let found = found_entry _ _ _ _ _ _ s rests c.args.alt.now e is in
-    inr (value_found _ _ _ _ _ _ s rests c.args.alt.now e is c.args.key c.in-Ok.value (c.in-Ok.ensures.value honest found.filed.current found.stands.current.blocks found.stands.current.tree))
+    inr (value_found _ _ _ _ _ _ s rests c.args.alt.now e is c.args.key c.in-Ok.value (c.in-Ok.ensures.value honest sizes found.filed.current found.stands.current.stands_in found.stands.current.rooted))
 
 pub returns-in-Ok-clause-state : goal.returns-in-Ok-clause-state
 returns-in-Ok-clause-state g c honest s rests = read_rests _ _ _ _ _ _ _ s (c.in-Ok.ensures.reads honest) rests
@@ -23,7 +24,7 @@ returns-in-Err-clause-value g c honest well s rests =
     let e = c.index.result.now in
     let is = found_at c.args.alt.now _ _ c.in-Some.i e c.deref.ensures.value c.in-Some.ensures.found ∙ ap Some (sym c.index.ensures) in
     let found = found_entry _ _ _ _ _ _ s rests c.args.alt.now e is in
-    inl (ap Err (c.refusal_of.ensures ∙ ap refusal_of (c.in-Err.ensures.value honest found.filed.current found.stands.current.blocks found.stands.current.tree)))
+    inl (ap Err (c.refusal_of.ensures ∙ ap refusal_of (c.in-Err.ensures.value honest sizes found.filed.current found.stands.current.stands_in found.stands.current.rooted)))
 
 pub returns-in-Err-clause-state : goal.returns-in-Err-clause-state
 returns-in-Err-clause-state g c honest s rests = read_rests _ _ _ _ _ _ _ s (c.in-Err.ensures.reads honest) rests

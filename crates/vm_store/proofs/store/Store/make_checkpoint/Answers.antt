@@ -1,10 +1,10 @@
 use Rattle.std.proofs.Common.{refl, ◌<◌, ◌≤◌, length, Some, sym, ap, ◌∙◌, arith}
 use Rattle.std.proofs.lemmas.Grind.{common_steps}
 use Rattle.vm_types.specs.declared.command.Command.TheVariants.{Checkpoint}
-use Rattle.vm_block.specs.Slot.{is_alternative_of}
-use Rattle.vm_store.specs.Entries.{is_checkpoint_of}
+use Rattle.vm_store.specs.Versions.{is_alternative_of}
+use Rattle.vm_store.specs.Versions.{is_checkpoint_of}
 use Rattle.vm_store.specs.Resting.{spare_of}
-use Rattle.vm_store.proofs.RestingLemmas.{rests_as, any_entry}
+use Rattle.vm_store.proofs.RestingLemmas.{rests_as, any_version}
 use Rattle.vm_store.proofs.VersionLemmas.{found_in, not_in, some_in, none_in, answers_refused, answers_done, quiet, checkpoint_absent, checkpoint_exists, checkpoint_full, checkpoint_step, checkpoint_rests}
 use Rattle.vm_store.proofs.store.Store.make_checkpoint.Goals as goal
 
@@ -17,7 +17,7 @@ returns-in_default-clause-crash g c honest s rests = quiet _ _ _ _ _ _ s rests (
 
 pub returns-then-is_some-clause-answer : goal.returns-then-is_some-clause-answer
 returns-then-is_some-clause-answer g c honest s rests =
-    let found = found_in (is_alternative_of c.args.alt.now) _ c.args.self.now.working.items c.deref.ensures.value c.in-Some.i any_entry c.in-Some.ensures.found in
+    let found = found_in (is_alternative_of c.args.alt.now) _ c.args.self.now.working.items c.deref.ensures.value c.in-Some.i any_version c.in-Some.ensures.found in
     let old = some_in (is_checkpoint_of c.args.alt.now c.args.name.now) _ c.args.self.now.working.items c.deref-2.ensures.value _ _ c.checkpoint_position.ensures.found c.is_some.ensures c.if-is_some.true in
     answers_refused s (spare_of rests) ⊥ (Checkpoint c.args.alt.now c.args.name.now) _ (checkpoint_exists _ _ _ _ _ _ s rests c.args.alt.now c.args.name.now _ found old.0 old.1)
 
@@ -26,7 +26,7 @@ returns-then-is_some-clause-crash g c honest s rests = quiet _ _ _ _ _ _ s rests
 
 pub returns-then-len-ge-MAX_ENTRIES-clause-answer : goal.returns-then-len-ge-MAX_ENTRIES-clause-answer
 returns-then-len-ge-MAX_ENTRIES-clause-answer g c honest s rests =
-    let found = found_in (is_alternative_of c.args.alt.now) _ c.args.self.now.working.items c.deref.ensures.value c.in-Some.i any_entry c.in-Some.ensures.found in
+    let found = found_in (is_alternative_of c.args.alt.now) _ c.args.self.now.working.items c.deref.ensures.value c.in-Some.i any_version c.in-Some.ensures.found in
     let free = none_in (is_checkpoint_of c.args.alt.now c.args.name.now) _ c.args.self.now.working.items c.deref-2.ensures.value _ _ c.checkpoint_position.ensures.none c.is_some.ensures c.if-is_some.false in
     let many : 511 ≤ length c.args.self.now.working.items = grind (arith, common_steps) in
     answers_refused s (spare_of rests) ⊥ (Checkpoint c.args.alt.now c.args.name.now) _ (checkpoint_full _ _ _ _ _ _ s rests c.args.alt.now c.args.name.now _ found free many)
@@ -46,7 +46,7 @@ returns-clause-state g c honest s rests =
     let found = found_in (is_alternative_of c.args.alt.now) _ c.args.self.now.working.items c.deref.ensures.value c.in-Some.i c.index.result.now c.in-Some.ensures.found ∙ ap (λ e. Some e) (sym c.index.ensures) in
     let free = none_in (is_checkpoint_of c.args.alt.now c.args.name.now) _ c.args.self.now.working.items c.deref-2.ensures.value _ _ c.checkpoint_position.ensures.none c.is_some.ensures c.if-is_some.false in
     let few : length c.args.self.now.working.items < 511 = grind (arith, common_steps) in
-    rests_as _ _ _ _ _ _ _ _ (sym c.add_entry.ensures.items) (checkpoint_rests _ _ _ _ _ _ s rests c.args.alt.now c.args.name.now c.index.result.now found free few c.add_entry.ensures.name)
+    rests_as _ _ _ _ _ _ _ _ (sym c.add_version.ensures.items) (checkpoint_rests _ _ _ _ _ _ s rests c.args.alt.now c.args.name.now c.index.result.now found free few c.add_version.ensures.name)
 
 pub returns-clause-crash : goal.returns-clause-crash
 returns-clause-crash g c honest s rests = quiet _ _ _ _ _ _ s rests (Checkpoint c.args.alt.now c.args.name.now)

@@ -1,15 +1,17 @@
-use Rattle.std.proofs.Common.{◌≡◌, true, find, Some, None, inl, subst, sym, ap, ◌∙◌}
+use Rattle.std.proofs.Common.{◌≡◌, true, find, Some, None, Err, inl, subst, sym, ap, ◌∙◌}
 use Rattle.vm_types.specs.Kept.{LeftBy}
 use Rattle.vm_types.specs.declared.command.Command.TheVariants.{Remove}
 use Rattle.vm_disk.specs.Moments.{Throughout, Leaves}
-use Rattle.vm_disk.proofs.MomentLemmas.{started, weaken, at_end, spares_itself, same_medium, reads_keep, reads_first}
-use Rattle.vm_block.specs.Slot.{is_alternative_of}
+use Rattle.vm_disk.proofs.MomentLemmas.{started, weaken, at_end, spares_itself, same_medium, reads_keep, reads_first, reads_then}
+use Rattle.vm_store.specs.Versions.{is_alternative_of}
 use Rattle.vm_store.specs.Guarded.{IsGuarded}
 use Rattle.vm_store.specs.Shown.{Shows}
 use Rattle.vm_store.proofs.GuardLemmas.{guarded_on, guarded_at_rest}
 use Rattle.vm_store.proofs.SpareTests.{room_for, full_for}
 use Rattle.vm_store.proofs.RestingLemmas.{read_rests, shows_old, found_at, found_entry, value_found, value_absent, rests_more, rests_as, placed}
-use Rattle.vm_store.proofs.Removing.{removes_absent, removes_missing, removes_full, removes_done, removes_device, remove_rests, spare_after, found_again, removed_root, removed_none, root_small}
+use Rattle.vm_store.specs.Sizes.{sizes}
+use Rattle.vm_store.proofs.TopLemmas.{grown_of, grown_small}
+use Rattle.vm_store.proofs.Removing.{removes_absent, removes_missing, removes_full, removes_done, removes_device, remove_rests, spare_after, found_again, removed_root, removed_none}
 use Rattle.vm_store.proofs.store.Store.remove.Goals as goal
 
 pub returns-in_default-clause-answer : goal.returns-in_default-clause-answer
@@ -26,7 +28,7 @@ returns-in-Ok-None-clause-answer g c honest s rests =
     let is = found_at c.args.alt.now _ _ c.in-Some.i e c.deref.ensures.value c.in-Some.ensures.found ∙ ap Some (sym c.index.ensures) in
     let found = found_entry _ _ _ _ _ _ s rests c.args.alt.now e is in
     removes_missing s c.args.alt.now c.args.key _ _
-    (value_found _ _ _ _ _ _ s rests c.args.alt.now e is c.args.key None (sym c.in-Ok-None.field-0-is ∙ c.in-Ok-None.ensures.value honest found.filed.current found.stands.current.blocks found.stands.current.tree))
+    (value_found _ _ _ _ _ _ s rests c.args.alt.now e is c.args.key None (sym c.in-Ok-None.field-0-is ∙ c.in-Ok-None.ensures.value honest sizes found.filed.current found.stands.current.stands_in found.stands.current.rooted))
 
 pub returns-in-Ok-None-clause-state : goal.returns-in-Ok-None-clause-state
 returns-in-Ok-None-clause-state g c honest s rests = read_rests _ _ _ _ _ _ _ s (c.in-Ok-None.ensures.reads honest) rests
@@ -40,7 +42,7 @@ returns-in-Err-clause-answer g c honest s rests =
     let e = c.index.result.now in
     let is = found_at c.args.alt.now _ _ c.in-Some.i e c.deref.ensures.value c.in-Some.ensures.found ∙ ap Some (sym c.index.ensures) in
     let found = found_entry _ _ _ _ _ _ s rests c.args.alt.now e is in
-    removes_device s c.args.alt.now c.args.key _ _ c.in-Err.fault c.refusal_of.result c.refusal_of.ensures (c.in-Err.ensures.value honest found.filed.current found.stands.current.blocks found.stands.current.tree)
+    removes_device s c.args.alt.now c.args.key _ _ c.in-Err.fault c.refusal_of.result c.refusal_of.ensures (c.in-Err.ensures.value honest sizes found.filed.current found.stands.current.stands_in found.stands.current.rooted)
 
 pub returns-in-Err-clause-state : goal.returns-in-Err-clause-state
 returns-in-Err-clause-state g c honest s rests = read_rests _ _ _ _ _ _ _ s (c.in-Err.ensures.reads honest) rests
@@ -48,113 +50,6 @@ returns-in-Err-clause-state g c honest s rests = read_rests _ _ _ _ _ _ _ s (c.i
 pub returns-in-Err-clause-crash : goal.returns-in-Err-clause-crash
 returns-in-Err-clause-crash g c honest s rests =
     reads_keep _ _ _ (c.in-Err.ensures.reads honest) (λ left may. inl (shows_old _ _ _ _ _ _ s rests _ (spares_itself _ _) left may))
-
-pub returns-then-not-has_spare-clause-answer : goal.returns-then-not-has_spare-clause-answer
-returns-then-not-has_spare-clause-answer g c honest s rests =
-    let e = c.index.result.now in
-    let is = found_at c.args.alt.now _ _ c.in-Some.i e c.deref.ensures.value c.in-Some.ensures.found ∙ ap Some (sym c.index.ensures) in
-    let found = found_entry _ _ _ _ _ _ s rests c.args.alt.now e is in
-    let there = value_found _ _ _ _ _ _ s rests c.args.alt.now e is c.args.key (Some c.in-Ok-Some.field-0-0) (sym c.in-Ok-Some.field-0-is ∙ c.in-Ok-Some.ensures.value honest found.filed.current found.stands.current.blocks found.stands.current.tree) in
-    removes_full s c.args.alt.now c.args.key _ _ _ there (full_for _ _ (spare_after _ _ _ _ _ _ _ s _ (c.in-Ok-Some.ensures.reads honest) c.has_spare.ensures.spare rests) c.if-not-has_spare.true)
-
-pub returns-then-not-has_spare-clause-state : goal.returns-then-not-has_spare-clause-state
-returns-then-not-has_spare-clause-state g c honest s rests =
-    c.has_spare.ensures.state s (read_rests _ _ _ _ _ _ _ s (c.in-Ok-Some.ensures.reads honest) rests)
-
-pub returns-then-not-has_spare-clause-crash : goal.returns-then-not-has_spare-clause-crash
-returns-then-not-has_spare-clause-crash g c honest s rests =
-    let Q = Leaves (LeftBy Shows s (Remove c.args.alt.now c.args.key)) in
-    subst (λ d. Throughout (g.D.Disk.state c.args.self.now.disk) (g.D.Disk.state d) Q) (sym c.has_spare.ensures.disk)
-    (reads_keep _ _ Q (c.in-Ok-Some.ensures.reads honest) (λ left may. inl (shows_old _ _ _ _ _ _ s rests _ (spares_itself _ _) left may)))
-
-pub returns-in-Ok-Some-remove-clause-answer : goal.returns-in-Ok-Some-remove-clause-answer
-returns-in-Ok-Some-remove-clause-answer g c honest s rests =
-    let e = c.index.result.now in
-    let is = found_at c.args.alt.now _ _ c.in-Some.i e c.deref.ensures.value c.in-Some.ensures.found ∙ ap Some (sym c.index.ensures) in
-    let found = found_entry _ _ _ _ _ _ s rests c.args.alt.now e is in
-    let there = value_found _ _ _ _ _ _ s rests c.args.alt.now e is c.args.key (Some c.in-Ok-Some.field-0-0) (sym c.in-Ok-Some.field-0-is ∙ c.in-Ok-Some.ensures.value honest found.filed.current found.stands.current.blocks found.stands.current.tree) in
-    removes_done s c.args.alt.now c.args.key _ _ _ there (room_for _ _ (spare_after _ _ _ _ _ _ _ s _ (c.in-Ok-Some.ensures.reads honest) c.has_spare.ensures.spare rests) c.if-not-has_spare.false) (λ deep. deep)
-
-pub returns-in-Ok-Some-remove-clause-state : goal.returns-in-Ok-Some-remove-clause-state
-returns-in-Ok-Some-remove-clause-state g c honest s rests =
-    let e = c.index.result.now in
-    let is = found_at c.args.alt.now _ _ c.in-Some.i e c.deref.ensures.value c.in-Some.ensures.found ∙ ap Some (sym c.index.ensures) in
-    let found = found_entry _ _ _ _ _ _ s rests c.args.alt.now e is in
-    let there = value_found _ _ _ _ _ _ s rests c.args.alt.now e is c.args.key (Some c.in-Ok-Some.field-0-0) (sym c.in-Ok-Some.field-0-is ∙ c.in-Ok-Some.ensures.value honest found.filed.current found.stands.current.blocks found.stands.current.tree) in
-    let mid = c.has_spare.new.self in
-    let honest' = subst (λ d. (g.D.Disk.state d).honest ≡ true) (sym c.has_spare.ensures.disk) (c.in-Ok-Some.ensures.any.same_honesty ∙ honest) in
-    let rests' = c.has_spare.ensures.state s (read_rests _ _ _ _ _ _ _ s (c.in-Ok-Some.ensures.reads honest) rests) in
-    let is' = found_again c.args.alt.now _ (mid.committed.items, mid.working.items) e c.has_spare.ensures.same is in
-    let found' = found_entry _ _ _ _ _ _ s rests' c.args.alt.now e is' in
-    let removed = c.in-Ok-Some-remove.ensures.removed honest' found'.filed.current found'.stands.current.blocks found'.stands.current.tree in
-    let same = c.deref.ensures.value ∙ sym (ap (λ p. p.1) c.has_spare.ensures.same) in
-    let root = c.in-Ok-Some-remove.field-0-is in
-    rests_as _ _ _ _ _ _ _ _ (placed c.args.alt.now _ mid.working.items c.in-Some.i c.in-Ok-Some-remove.root c.index_mut.result.now same c.in-Some.ensures.found c.index_mut.ensures.value)
-    (remove_rests _ _ _ _ _ _ s rests' c.args.alt.now e is' c.args.key _ there _ c.remove.new.held c.in-Ok-Some-remove.root (root_small _ _ _ _ root c.in-Ok-Some-remove.ensures.root mid.most)
-    (at_end _ _ _ (c.in-Ok-Some-remove.ensures.moments honest')) c.in-Ok-Some-remove.ensures.still (removed_root _ _ _ _ root removed))
-
-pub returns-in-Ok-Some-remove-clause-crash : goal.returns-in-Ok-Some-remove-clause-crash
-returns-in-Ok-Some-remove-clause-crash g c honest s rests =
-    let honest' = subst (λ d. (g.D.Disk.state d).honest ≡ true) (sym c.has_spare.ensures.disk) (c.in-Ok-Some.ensures.any.same_honesty ∙ honest) in
-    let rests' = c.has_spare.ensures.state s (read_rests _ _ _ _ _ _ _ s (c.in-Ok-Some.ensures.reads honest) rests) in
-    let Q = Leaves (LeftBy Shows s (Remove c.args.alt.now c.args.key)) in
-    reads_first _ _ _ Q (c.in-Ok-Some.ensures.reads honest)
-    (subst (λ d. Throughout (g.D.Disk.state d) (g.D.Disk.state c.remove.new.disk) Q) c.has_spare.ensures.disk
-    (weaken _ _ _ Q (λ m spares left may. inl (shows_old _ _ _ _ _ _ s rests' m spares left may)) (c.in-Ok-Some-remove.ensures.moments honest')))
-
-pub returns-in-Ok-None-remove-clause-answer : goal.returns-in-Ok-None-remove-clause-answer
-returns-in-Ok-None-remove-clause-answer g c honest s rests =
-    let e = c.index.result.now in
-    let is = found_at c.args.alt.now _ _ c.in-Some.i e c.deref.ensures.value c.in-Some.ensures.found ∙ ap Some (sym c.index.ensures) in
-    let mid = c.has_spare.new.self in
-    let honest' = subst (λ d. (g.D.Disk.state d).honest ≡ true) (sym c.has_spare.ensures.disk) (c.in-Ok-Some.ensures.any.same_honesty ∙ honest) in
-    let rests' = c.has_spare.ensures.state s (read_rests _ _ _ _ _ _ _ s (c.in-Ok-Some.ensures.reads honest) rests) in
-    let is' = found_again c.args.alt.now _ (mid.committed.items, mid.working.items) e c.has_spare.ensures.same is in
-    let found' = found_entry _ _ _ _ _ _ s rests' c.args.alt.now e is' in
-    let removed = c.in-Ok-None-remove.ensures.removed honest' found'.filed.current found'.stands.current.blocks found'.stands.current.tree in
-    removes_missing s c.args.alt.now c.args.key _ _ (value_found _ _ _ _ _ _ s rests' c.args.alt.now e is' c.args.key None (sym (removed_none _ _ _ c.in-Ok-None-remove.field-0-is removed)))
-
-pub returns-in-Ok-None-remove-clause-state : goal.returns-in-Ok-None-remove-clause-state
-returns-in-Ok-None-remove-clause-state g c honest s rests =
-    let honest' = subst (λ d. (g.D.Disk.state d).honest ≡ true) (sym c.has_spare.ensures.disk) (c.in-Ok-Some.ensures.any.same_honesty ∙ honest) in
-    let rests' = c.has_spare.ensures.state s (read_rests _ _ _ _ _ _ _ s (c.in-Ok-Some.ensures.reads honest) rests) in
-    rests_more _ _ _ _ _ _ s rests' _ _ (at_end _ _ _ (c.in-Ok-None-remove.ensures.moments honest')) c.in-Ok-None-remove.ensures.still
-
-pub returns-in-Ok-None-remove-clause-crash : goal.returns-in-Ok-None-remove-clause-crash
-returns-in-Ok-None-remove-clause-crash g c honest s rests =
-    let honest' = subst (λ d. (g.D.Disk.state d).honest ≡ true) (sym c.has_spare.ensures.disk) (c.in-Ok-Some.ensures.any.same_honesty ∙ honest) in
-    let rests' = c.has_spare.ensures.state s (read_rests _ _ _ _ _ _ _ s (c.in-Ok-Some.ensures.reads honest) rests) in
-    let Q = Leaves (LeftBy Shows s (Remove c.args.alt.now c.args.key)) in
-    reads_first _ _ _ Q (c.in-Ok-Some.ensures.reads honest)
-    (subst (λ d. Throughout (g.D.Disk.state d) (g.D.Disk.state c.remove.new.disk) Q) c.has_spare.ensures.disk
-    (weaken _ _ _ Q (λ m spares left may. inl (shows_old _ _ _ _ _ _ s rests' m spares left may)) (c.in-Ok-None-remove.ensures.moments honest')))
-
-pub returns-in-Err-remove-clause-answer : goal.returns-in-Err-remove-clause-answer
-returns-in-Err-remove-clause-answer g c honest s rests =
-    let e = c.index.result.now in
-    let is = found_at c.args.alt.now _ _ c.in-Some.i e c.deref.ensures.value c.in-Some.ensures.found ∙ ap Some (sym c.index.ensures) in
-    let mid = c.has_spare.new.self in
-    let honest' = subst (λ d. (g.D.Disk.state d).honest ≡ true) (sym c.has_spare.ensures.disk) (c.in-Ok-Some.ensures.any.same_honesty ∙ honest) in
-    let rests' = c.has_spare.ensures.state s (read_rests _ _ _ _ _ _ _ s (c.in-Ok-Some.ensures.reads honest) rests) in
-    let is' = found_again c.args.alt.now _ (mid.committed.items, mid.working.items) e c.has_spare.ensures.same is in
-    let found' = found_entry _ _ _ _ _ _ s rests' c.args.alt.now e is' in
-    let removed = c.in-Err-remove.ensures.removed honest' found'.filed.current found'.stands.current.blocks found'.stands.current.tree in
-    removes_device s c.args.alt.now c.args.key _ _ c.in-Err-remove.fault c.refusal_of-in-Err-remove.result c.refusal_of-in-Err-remove.ensures removed
-
-pub returns-in-Err-remove-clause-state : goal.returns-in-Err-remove-clause-state
-returns-in-Err-remove-clause-state g c honest s rests =
-    let honest' = subst (λ d. (g.D.Disk.state d).honest ≡ true) (sym c.has_spare.ensures.disk) (c.in-Ok-Some.ensures.any.same_honesty ∙ honest) in
-    let rests' = c.has_spare.ensures.state s (read_rests _ _ _ _ _ _ _ s (c.in-Ok-Some.ensures.reads honest) rests) in
-    rests_more _ _ _ _ _ _ s rests' _ _ (at_end _ _ _ (c.in-Err-remove.ensures.moments honest')) c.in-Err-remove.ensures.still
-
-pub returns-in-Err-remove-clause-crash : goal.returns-in-Err-remove-clause-crash
-returns-in-Err-remove-clause-crash g c honest s rests =
-    let honest' = subst (λ d. (g.D.Disk.state d).honest ≡ true) (sym c.has_spare.ensures.disk) (c.in-Ok-Some.ensures.any.same_honesty ∙ honest) in
-    let rests' = c.has_spare.ensures.state s (read_rests _ _ _ _ _ _ _ s (c.in-Ok-Some.ensures.reads honest) rests) in
-    let Q = Leaves (LeftBy Shows s (Remove c.args.alt.now c.args.key)) in
-    reads_first _ _ _ Q (c.in-Ok-Some.ensures.reads honest)
-    (subst (λ d. Throughout (g.D.Disk.state d) (g.D.Disk.state c.remove.new.disk) Q) c.has_spare.ensures.disk
-    (weaken _ _ _ Q (λ m spares left may. inl (shows_old _ _ _ _ _ _ s rests' m spares left may)) (c.in-Err-remove.ensures.moments honest')))
 
 pub returns-in_default-clause-guarded : goal.returns-in_default-clause-guarded
 returns-in_default-clause-guarded g c honest s rests = started _ _ (guarded_at_rest _ _ _ _ _ _ s rests)
@@ -165,39 +60,157 @@ returns-in-Ok-None-clause-guarded g c honest s rests = reads_keep _ _ _ (c.in-Ok
 pub returns-in-Err-clause-guarded : goal.returns-in-Err-clause-guarded
 returns-in-Err-clause-guarded g c honest s rests = reads_keep _ _ _ (c.in-Err.ensures.reads honest) (guarded_at_rest _ _ _ _ _ _ s rests)
 
-pub returns-then-not-has_spare-clause-guarded : goal.returns-then-not-has_spare-clause-guarded
-returns-then-not-has_spare-clause-guarded g c honest s rests =
-    let bits = c.has_spare.new.self.held in
-    let Q = IsGuarded bits in
-    let reads = c.in-Ok-Some.ensures.reads honest in
-    let rests' = c.has_spare.ensures.state s (read_rests _ _ _ _ _ _ _ s reads rests) in
-    let guarded = subst (λ d. IsGuarded bits (g.D.Disk.state d).now) c.has_spare.ensures.disk (guarded_at_rest _ _ _ _ _ _ s rests') in
-    subst (λ d. Throughout (g.D.Disk.state c.args.self.now.disk) (g.D.Disk.state d) Q) (sym c.has_spare.ensures.disk)
-    (reads_keep _ _ Q reads (subst Q (same_medium _ _ reads) guarded))
+pub returns-in-Ok-false-clause-answer : goal.returns-in-Ok-false-clause-answer
+returns-in-Ok-false-clause-answer g c honest s rests =
+    let e = c.index.result.now in
+    let is = found_at c.args.alt.now _ _ c.in-Some.i e c.deref.ensures.value c.in-Some.ensures.found ∙ ap Some (sym c.index.ensures) in
+    let found = found_entry _ _ _ _ _ _ s rests c.args.alt.now e is in
+    let there = value_found _ _ _ _ _ _ s rests c.args.alt.now e is c.args.key (Some c.in-Ok-Some.field-0-0) (sym c.in-Ok-Some.field-0-is ∙ c.in-Ok-Some.ensures.value honest sizes found.filed.current found.stands.current.stands_in found.stands.current.rooted) in
+    removes_full s c.args.alt.now c.args.key _ _ _ there (full_for _ _ (spare_after _ _ _ _ _ _ _ s _ (c.in-Ok-Some.ensures.reads honest) (c.in-Ok-false.ensures.spare (c.in-Ok-Some.ensures.any.same_honesty ∙ honest)) rests) c.in-Ok-false.field-0-test)
+
+pub returns-in-Ok-false-clause-state : goal.returns-in-Ok-false-clause-state
+returns-in-Ok-false-clause-state g c honest s rests =
+    c.has_spare.ensures.state (c.in-Ok-Some.ensures.any.same_honesty ∙ honest) s (read_rests _ _ _ _ _ _ _ s (c.in-Ok-Some.ensures.reads honest) rests)
+
+pub returns-in-Ok-false-clause-crash : goal.returns-in-Ok-false-clause-crash
+returns-in-Ok-false-clause-crash g c honest s rests =
+    let reads = reads_then _ _ _ (c.in-Ok-Some.ensures.reads honest) (c.has_spare.ensures.reads (c.in-Ok-Some.ensures.any.same_honesty ∙ honest)) in
+    reads_keep _ _ (Leaves (LeftBy Shows s (Remove c.args.alt.now c.args.key))) reads (λ left may. inl (shows_old _ _ _ _ _ _ s rests _ (spares_itself _ _) left may))
+
+pub returns-in-Ok-false-clause-guarded : goal.returns-in-Ok-false-clause-guarded
+returns-in-Ok-false-clause-guarded g c honest s rests =
+    let reads = reads_then _ _ _ (c.in-Ok-Some.ensures.reads honest) (c.has_spare.ensures.reads (c.in-Ok-Some.ensures.any.same_honesty ∙ honest)) in
+    let rests' = c.has_spare.ensures.state (c.in-Ok-Some.ensures.any.same_honesty ∙ honest) s (read_rests _ _ _ _ _ _ _ s (c.in-Ok-Some.ensures.reads honest) rests) in
+    let Q = IsGuarded c.has_spare.new.self.held in
+    reads_keep _ _ Q reads (subst Q (same_medium _ _ reads) (guarded_at_rest _ _ _ _ _ _ s rests'))
+
+pub returns-in-Err-has_spare-clause-state : goal.returns-in-Err-has_spare-clause-state
+returns-in-Err-has_spare-clause-state g c honest s rests =
+    c.has_spare.ensures.state (c.in-Ok-Some.ensures.any.same_honesty ∙ honest) s (read_rests _ _ _ _ _ _ _ s (c.in-Ok-Some.ensures.reads honest) rests)
+
+pub returns-in-Err-has_spare-clause-crash : goal.returns-in-Err-has_spare-clause-crash
+returns-in-Err-has_spare-clause-crash g c honest s rests =
+    let reads = reads_then _ _ _ (c.in-Ok-Some.ensures.reads honest) (c.has_spare.ensures.reads (c.in-Ok-Some.ensures.any.same_honesty ∙ honest)) in
+    reads_keep _ _ (Leaves (LeftBy Shows s (Remove c.args.alt.now c.args.key))) reads (λ left may. inl (shows_old _ _ _ _ _ _ s rests _ (spares_itself _ _) left may))
+
+pub returns-in-Err-has_spare-clause-guarded : goal.returns-in-Err-has_spare-clause-guarded
+returns-in-Err-has_spare-clause-guarded g c honest s rests =
+    let reads = reads_then _ _ _ (c.in-Ok-Some.ensures.reads honest) (c.has_spare.ensures.reads (c.in-Ok-Some.ensures.any.same_honesty ∙ honest)) in
+    let rests' = c.has_spare.ensures.state (c.in-Ok-Some.ensures.any.same_honesty ∙ honest) s (read_rests _ _ _ _ _ _ _ s (c.in-Ok-Some.ensures.reads honest) rests) in
+    let Q = IsGuarded c.has_spare.new.self.held in
+    reads_keep _ _ Q reads (subst Q (same_medium _ _ reads) (guarded_at_rest _ _ _ _ _ _ s rests'))
+
+pub returns-in-Err-has_spare-clause-answer : goal.returns-in-Err-has_spare-clause-answer
+returns-in-Err-has_spare-clause-answer g c honest s rests =
+    inl (ap Err (c.in-Err-has_spare.ensures.only (c.in-Ok-Some.ensures.any.same_honesty ∙ honest) s (read_rests _ _ _ _ _ _ _ s (c.in-Ok-Some.ensures.reads honest) rests)))
+
+pub returns-in-Ok-Some-remove-clause-answer : goal.returns-in-Ok-Some-remove-clause-answer
+returns-in-Ok-Some-remove-clause-answer g c honest s rests =
+    let e = c.index.result.now in
+    let is = found_at c.args.alt.now _ _ c.in-Some.i e c.deref.ensures.value c.in-Some.ensures.found ∙ ap Some (sym c.index.ensures) in
+    let found = found_entry _ _ _ _ _ _ s rests c.args.alt.now e is in
+    let there = value_found _ _ _ _ _ _ s rests c.args.alt.now e is c.args.key (Some c.in-Ok-Some.field-0-0) (sym c.in-Ok-Some.field-0-is ∙ c.in-Ok-Some.ensures.value honest sizes found.filed.current found.stands.current.stands_in found.stands.current.rooted) in
+    removes_done s c.args.alt.now c.args.key _ _ _ there (room_for _ _ (spare_after _ _ _ _ _ _ _ s _ (c.in-Ok-Some.ensures.reads honest) (c.in-Ok-true.ensures.spare (c.in-Ok-Some.ensures.any.same_honesty ∙ honest)) rests) c.in-Ok-true.field-0-test) (λ deep. deep)
+
+pub returns-in-Ok-Some-remove-clause-state : goal.returns-in-Ok-Some-remove-clause-state
+returns-in-Ok-Some-remove-clause-state g c honest s rests =
+    let e = c.index.result.now in
+    let is = found_at c.args.alt.now _ _ c.in-Some.i e c.deref.ensures.value c.in-Some.ensures.found ∙ ap Some (sym c.index.ensures) in
+    let found = found_entry _ _ _ _ _ _ s rests c.args.alt.now e is in
+    let there = value_found _ _ _ _ _ _ s rests c.args.alt.now e is c.args.key (Some c.in-Ok-Some.field-0-0) (sym c.in-Ok-Some.field-0-is ∙ c.in-Ok-Some.ensures.value honest sizes found.filed.current found.stands.current.stands_in found.stands.current.rooted) in
+    let honest' = c.has_spare.ensures.any.same_honesty ∙ (c.in-Ok-Some.ensures.any.same_honesty ∙ honest) in
+    let rests' = c.has_spare.ensures.state (c.in-Ok-Some.ensures.any.same_honesty ∙ honest) s (read_rests _ _ _ _ _ _ _ s (c.in-Ok-Some.ensures.reads honest) rests) in
+    let mid = c.has_spare.new.self in
+    let is' = found_again c.args.alt.now _ (mid.committed.items, mid.working.items) e c.has_spare.ensures.same is in
+    let found' = found_entry _ _ _ _ _ _ s rests' c.args.alt.now e is' in
+    let removed = c.in-Ok-Some-remove.ensures.remove honest' found'.filed.current (grown_of _ _ _ _ e.current _ (sym mid.bits) found'.stands.current) in
+    let same = c.deref.ensures.value ∙ sym (ap (λ p. p.1) c.has_spare.ensures.same) in
+    let grown = grown_of _ _ _ _ c.in-Ok-Some-remove.root _ mid.bits (removed_root _ _ _ _ c.in-Ok-Some-remove.field-0-is removed) in
+    rests_as _ _ _ _ _ _ _ _ (placed c.args.alt.now _ mid.working.items c.in-Some.i c.in-Ok-Some-remove.root c.index_mut.result.now same c.in-Some.ensures.found c.index_mut.ensures.value)
+    (remove_rests _ _ _ _ _ _ s rests' c.args.alt.now e is' c.args.key _ there _ c.remove.new.held c.in-Ok-Some-remove.root (grown_small _ _ _ _ _ mid.most grown)
+    (at_end _ _ _ (c.in-Ok-Some-remove.ensures.moments honest')) c.in-Ok-Some-remove.ensures.still grown)
+
+pub returns-in-Ok-Some-remove-clause-crash : goal.returns-in-Ok-Some-remove-clause-crash
+returns-in-Ok-Some-remove-clause-crash g c honest s rests =
+    let honest' = c.has_spare.ensures.any.same_honesty ∙ (c.in-Ok-Some.ensures.any.same_honesty ∙ honest) in
+    let rests' = c.has_spare.ensures.state (c.in-Ok-Some.ensures.any.same_honesty ∙ honest) s (read_rests _ _ _ _ _ _ _ s (c.in-Ok-Some.ensures.reads honest) rests) in
+    let reads = reads_then _ _ _ (c.in-Ok-Some.ensures.reads honest) (c.has_spare.ensures.reads (c.in-Ok-Some.ensures.any.same_honesty ∙ honest)) in
+    let Q = Leaves (LeftBy Shows s (Remove c.args.alt.now c.args.key)) in
+    reads_first _ _ _ Q reads (weaken _ _ _ Q (λ m spares left may. inl (shows_old _ _ _ _ _ _ s rests' m spares left may)) (c.in-Ok-Some-remove.ensures.moments honest'))
 
 pub returns-in-Ok-Some-remove-clause-guarded : goal.returns-in-Ok-Some-remove-clause-guarded
 returns-in-Ok-Some-remove-clause-guarded g c honest s rests =
-    let honest' = subst (λ d. (g.D.Disk.state d).honest ≡ true) (sym c.has_spare.ensures.disk) (c.in-Ok-Some.ensures.any.same_honesty ∙ honest) in
-    let rests' = c.has_spare.ensures.state s (read_rests _ _ _ _ _ _ _ s (c.in-Ok-Some.ensures.reads honest) rests) in
+    let honest' = c.has_spare.ensures.any.same_honesty ∙ (c.in-Ok-Some.ensures.any.same_honesty ∙ honest) in
+    let rests' = c.has_spare.ensures.state (c.in-Ok-Some.ensures.any.same_honesty ∙ honest) s (read_rests _ _ _ _ _ _ _ s (c.in-Ok-Some.ensures.reads honest) rests) in
+    let reads = reads_then _ _ _ (c.in-Ok-Some.ensures.reads honest) (c.has_spare.ensures.reads (c.in-Ok-Some.ensures.any.same_honesty ∙ honest)) in
     let Q = IsGuarded c.remove.new.held in
-    reads_first _ _ _ Q (c.in-Ok-Some.ensures.reads honest)
-    (subst (λ d. Throughout (g.D.Disk.state d) (g.D.Disk.state c.remove.new.disk) Q) c.has_spare.ensures.disk
-    (weaken _ _ _ Q (λ m spares. guarded_on _ _ _ _ _ _ s rests' m _ spares c.in-Ok-Some-remove.ensures.still) (c.in-Ok-Some-remove.ensures.moments honest')))
+    reads_first _ _ _ Q reads (weaken _ _ _ Q (λ m spares. guarded_on _ _ _ _ _ _ s rests' m _ spares c.in-Ok-Some-remove.ensures.still) (c.in-Ok-Some-remove.ensures.moments honest'))
+
+pub returns-in-Ok-None-remove-clause-crash : goal.returns-in-Ok-None-remove-clause-crash
+returns-in-Ok-None-remove-clause-crash g c honest s rests =
+    let honest' = c.has_spare.ensures.any.same_honesty ∙ (c.in-Ok-Some.ensures.any.same_honesty ∙ honest) in
+    let rests' = c.has_spare.ensures.state (c.in-Ok-Some.ensures.any.same_honesty ∙ honest) s (read_rests _ _ _ _ _ _ _ s (c.in-Ok-Some.ensures.reads honest) rests) in
+    let reads = reads_then _ _ _ (c.in-Ok-Some.ensures.reads honest) (c.has_spare.ensures.reads (c.in-Ok-Some.ensures.any.same_honesty ∙ honest)) in
+    let Q = Leaves (LeftBy Shows s (Remove c.args.alt.now c.args.key)) in
+    reads_first _ _ _ Q reads (weaken _ _ _ Q (λ m spares left may. inl (shows_old _ _ _ _ _ _ s rests' m spares left may)) (c.in-Ok-None-remove.ensures.moments honest'))
 
 pub returns-in-Ok-None-remove-clause-guarded : goal.returns-in-Ok-None-remove-clause-guarded
 returns-in-Ok-None-remove-clause-guarded g c honest s rests =
-    let honest' = subst (λ d. (g.D.Disk.state d).honest ≡ true) (sym c.has_spare.ensures.disk) (c.in-Ok-Some.ensures.any.same_honesty ∙ honest) in
-    let rests' = c.has_spare.ensures.state s (read_rests _ _ _ _ _ _ _ s (c.in-Ok-Some.ensures.reads honest) rests) in
+    let honest' = c.has_spare.ensures.any.same_honesty ∙ (c.in-Ok-Some.ensures.any.same_honesty ∙ honest) in
+    let rests' = c.has_spare.ensures.state (c.in-Ok-Some.ensures.any.same_honesty ∙ honest) s (read_rests _ _ _ _ _ _ _ s (c.in-Ok-Some.ensures.reads honest) rests) in
+    let reads = reads_then _ _ _ (c.in-Ok-Some.ensures.reads honest) (c.has_spare.ensures.reads (c.in-Ok-Some.ensures.any.same_honesty ∙ honest)) in
     let Q = IsGuarded c.remove.new.held in
-    reads_first _ _ _ Q (c.in-Ok-Some.ensures.reads honest)
-    (subst (λ d. Throughout (g.D.Disk.state d) (g.D.Disk.state c.remove.new.disk) Q) c.has_spare.ensures.disk
-    (weaken _ _ _ Q (λ m spares. guarded_on _ _ _ _ _ _ s rests' m _ spares c.in-Ok-None-remove.ensures.still) (c.in-Ok-None-remove.ensures.moments honest')))
+    reads_first _ _ _ Q reads (weaken _ _ _ Q (λ m spares. guarded_on _ _ _ _ _ _ s rests' m _ spares c.in-Ok-None-remove.ensures.still) (c.in-Ok-None-remove.ensures.moments honest'))
+
+pub returns-in-Ok-None-remove-clause-state : goal.returns-in-Ok-None-remove-clause-state
+returns-in-Ok-None-remove-clause-state g c honest s rests =
+    let honest' = c.has_spare.ensures.any.same_honesty ∙ (c.in-Ok-Some.ensures.any.same_honesty ∙ honest) in
+    let rests' = c.has_spare.ensures.state (c.in-Ok-Some.ensures.any.same_honesty ∙ honest) s (read_rests _ _ _ _ _ _ _ s (c.in-Ok-Some.ensures.reads honest) rests) in
+    rests_more _ _ _ _ _ _ s rests' _ _ (at_end _ _ _ (c.in-Ok-None-remove.ensures.moments honest')) c.in-Ok-None-remove.ensures.still
+
+pub returns-in-Err-remove-clause-crash : goal.returns-in-Err-remove-clause-crash
+returns-in-Err-remove-clause-crash g c honest s rests =
+    let honest' = c.has_spare.ensures.any.same_honesty ∙ (c.in-Ok-Some.ensures.any.same_honesty ∙ honest) in
+    let rests' = c.has_spare.ensures.state (c.in-Ok-Some.ensures.any.same_honesty ∙ honest) s (read_rests _ _ _ _ _ _ _ s (c.in-Ok-Some.ensures.reads honest) rests) in
+    let reads = reads_then _ _ _ (c.in-Ok-Some.ensures.reads honest) (c.has_spare.ensures.reads (c.in-Ok-Some.ensures.any.same_honesty ∙ honest)) in
+    let Q = Leaves (LeftBy Shows s (Remove c.args.alt.now c.args.key)) in
+    reads_first _ _ _ Q reads (weaken _ _ _ Q (λ m spares left may. inl (shows_old _ _ _ _ _ _ s rests' m spares left may)) (c.in-Err-remove.ensures.moments honest'))
 
 pub returns-in-Err-remove-clause-guarded : goal.returns-in-Err-remove-clause-guarded
 returns-in-Err-remove-clause-guarded g c honest s rests =
-    let honest' = subst (λ d. (g.D.Disk.state d).honest ≡ true) (sym c.has_spare.ensures.disk) (c.in-Ok-Some.ensures.any.same_honesty ∙ honest) in
-    let rests' = c.has_spare.ensures.state s (read_rests _ _ _ _ _ _ _ s (c.in-Ok-Some.ensures.reads honest) rests) in
+    let honest' = c.has_spare.ensures.any.same_honesty ∙ (c.in-Ok-Some.ensures.any.same_honesty ∙ honest) in
+    let rests' = c.has_spare.ensures.state (c.in-Ok-Some.ensures.any.same_honesty ∙ honest) s (read_rests _ _ _ _ _ _ _ s (c.in-Ok-Some.ensures.reads honest) rests) in
+    let reads = reads_then _ _ _ (c.in-Ok-Some.ensures.reads honest) (c.has_spare.ensures.reads (c.in-Ok-Some.ensures.any.same_honesty ∙ honest)) in
     let Q = IsGuarded c.remove.new.held in
-    reads_first _ _ _ Q (c.in-Ok-Some.ensures.reads honest)
-    (subst (λ d. Throughout (g.D.Disk.state d) (g.D.Disk.state c.remove.new.disk) Q) c.has_spare.ensures.disk
-    (weaken _ _ _ Q (λ m spares. guarded_on _ _ _ _ _ _ s rests' m _ spares c.in-Err-remove.ensures.still) (c.in-Err-remove.ensures.moments honest')))
+    reads_first _ _ _ Q reads (weaken _ _ _ Q (λ m spares. guarded_on _ _ _ _ _ _ s rests' m _ spares c.in-Err-remove.ensures.still) (c.in-Err-remove.ensures.moments honest'))
+
+pub returns-in-Err-remove-clause-state : goal.returns-in-Err-remove-clause-state
+returns-in-Err-remove-clause-state g c honest s rests =
+    let honest' = c.has_spare.ensures.any.same_honesty ∙ (c.in-Ok-Some.ensures.any.same_honesty ∙ honest) in
+    let rests' = c.has_spare.ensures.state (c.in-Ok-Some.ensures.any.same_honesty ∙ honest) s (read_rests _ _ _ _ _ _ _ s (c.in-Ok-Some.ensures.reads honest) rests) in
+    rests_more _ _ _ _ _ _ s rests' _ _ (at_end _ _ _ (c.in-Err-remove.ensures.moments honest')) c.in-Err-remove.ensures.still
+
+pub returns-in-Ok-None-remove-clause-answer : goal.returns-in-Ok-None-remove-clause-answer
+returns-in-Ok-None-remove-clause-answer g c honest s rests =
+    let e = c.index.result.now in
+    let is = found_at c.args.alt.now _ _ c.in-Some.i e c.deref.ensures.value c.in-Some.ensures.found ∙ ap Some (sym c.index.ensures) in
+    let honest' = c.has_spare.ensures.any.same_honesty ∙ (c.in-Ok-Some.ensures.any.same_honesty ∙ honest) in
+    let rests' = c.has_spare.ensures.state (c.in-Ok-Some.ensures.any.same_honesty ∙ honest) s (read_rests _ _ _ _ _ _ _ s (c.in-Ok-Some.ensures.reads honest) rests) in
+    let mid = c.has_spare.new.self in
+    let is' = found_again c.args.alt.now _ (mid.committed.items, mid.working.items) e c.has_spare.ensures.same is in
+    let found' = found_entry _ _ _ _ _ _ s rests' c.args.alt.now e is' in
+    let removed = c.in-Ok-None-remove.ensures.remove honest' found'.filed.current (grown_of _ _ _ _ e.current _ (sym mid.bits) found'.stands.current) in
+    removes_missing s c.args.alt.now c.args.key _ _ (value_found _ _ _ _ _ _ s rests' c.args.alt.now e is' c.args.key None (sym (removed_none _ _ _ c.in-Ok-None-remove.field-0-is removed)))
+
+pub returns-in-Err-remove-clause-answer : goal.returns-in-Err-remove-clause-answer
+returns-in-Err-remove-clause-answer g c honest s rests =
+    let e = c.index.result.now in
+    let is = found_at c.args.alt.now _ _ c.in-Some.i e c.deref.ensures.value c.in-Some.ensures.found ∙ ap Some (sym c.index.ensures) in
+    let honest' = c.has_spare.ensures.any.same_honesty ∙ (c.in-Ok-Some.ensures.any.same_honesty ∙ honest) in
+    let rests' = c.has_spare.ensures.state (c.in-Ok-Some.ensures.any.same_honesty ∙ honest) s (read_rests _ _ _ _ _ _ _ s (c.in-Ok-Some.ensures.reads honest) rests) in
+    let mid = c.has_spare.new.self in
+    let is' = found_again c.args.alt.now _ (mid.committed.items, mid.working.items) e c.has_spare.ensures.same is in
+    let found' = found_entry _ _ _ _ _ _ s rests' c.args.alt.now e is' in
+    let removed = c.in-Err-remove.ensures.remove honest' found'.filed.current (grown_of _ _ _ _ e.current _ (sym mid.bits) found'.stands.current) in
+    removes_device s c.args.alt.now c.args.key _ _ c.in-Err-remove.fault c.refusal_of-in-Err-remove.result c.refusal_of-in-Err-remove.ensures removed
+

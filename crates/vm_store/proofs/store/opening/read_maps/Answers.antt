@@ -1,29 +1,58 @@
-use Rattle.std.proofs.Common.{◌≤◌, List, length, subst, sym, ◌∙◌, arith}
+use Rattle.std.proofs.Common.{◌≤◌, Err, length, refl, subst, sym, ap, ◌∙◌, arith}
+use Rattle.vm_types.specs.State.{opened}
 use Rattle.vm_disk.specs.Disk.{Medium}
 use Rattle.vm_disk.proofs.MomentLemmas.{same_medium}
 use Rattle.vm_alloc.specs.Marks.{IsMarked}
-use Rattle.vm_block.specs.declared.slot.Entry.{Entry}
-use Rattle.vm_types.specs.State.{opened}
-use Rattle.vm_store.specs.Filed.{Standing, tree_of}
+use Rattle.vm_store.specs.Filed.{tree_of}
 use Rattle.vm_store.specs.Resting.{Rests}
 use Rattle.vm_store.specs.Shown.{Shows}
-use Rattle.vm_store.proofs.OpeningLemmas.{shows_found, rests_found}
+use Rattle.vm_store.proofs.AddedLemmas.{roots_count, versions_few}
+use Rattle.vm_store.proofs.OpeningLemmas.{found_here, found_alike, trees_here, rests_named, shows_found, rests_found, fault_refused}
 use Rattle.vm_store.proofs.store.opening.read_maps.Goals as goal
 
-pub returns-in-Ok-verify_entries-clause-holds : goal.returns-in-Ok-verify_entries-clause-holds
-returns-in-Ok-verify_entries-clause-holds g c honest clean store in_use slot =
+pub versions_twice-requires-clause-roots : goal.versions_twice-requires-clause-roots
+versions_twice-requires-clause-roots g c =
+    roots_count _ _ _ _ _ _ _ c.deref-in-Ok-2.ensures.value c.in-Ok.ensures.roots c.deref-2.ensures.value c.in-Some-Ok.ensures c.deref.ensures.value c.deref-in-Ok.ensures.value
+
+pub invariant_of-result : goal.invariant_of-result
+invariant_of-result g c =
+    let head = c.requires.fits.head in
+    let count = roots_count _ _ _ _ _ _ _ c.deref-in-Ok-2.ensures.value c.in-Ok.ensures.roots c.deref-2.ensures.value c.in-Some-Ok.ensures c.deref.ensures.value c.deref-in-Ok.ensures.value in
+    let entries = ap length c.deref-in-Ok.ensures.value in
+    record {
+      least = head.least;
+      most = head.most;
+      bits = c.replace.ensures.count ∙ c.in-Some-Ok.ensures'.count;
+      mark_bits = c.in-Ok.ensures.count;
+      few = versions_few _ _ _ _ _ count (omega (arith, entries, head.few)) refl c.in-Some.ensures.items.1 refl;
+      room_entries = c.requires.reserved;
+      room = c.in-Some.ensures.room.0;
+      room_working = c.in-Some.ensures.room.1;
+    }
+
+pub returns-in-Some-clause-holds : goal.returns-in-Some-clause-holds
+returns-in-Some-clause-holds g c honest clean store in_use slot =
     let m = (g.D.Disk.state c.args.disk.now).now in
-    let es = c.args.slot.entries.items in
     let limit = c.args.slot.blocks in
     let whole = g.met.D.Disk.whole c.args.disk.now honest in
     let inside : limit ≤ length m.contents = omega (arith, whole, c.requires.inside) in
-    let same = same_medium _ _ (c.in-Ok-verify_entries.ensures.reads honest) in
-    let found = c.in-Ok-verify_entries.ensures.found honest in
-    let stands = subst (λ (l : List Entry). Standing (IsMarked c.verify_entries.new.marks) m.contents limit l found.0) c.deref-2.ensures.value found.1 in
-    let rests = rests_found m limit c.args.slot_b es clean store in_use slot inside c.verify_entries.new.marks c.replace.new.self found.0 c.replace.ensures.system c.replace.ensures.marked stands in
+    let read = same_medium _ _ (c.verify.ensures.reads honest) in
+    let found = found_here _ _ _ _ _ _ _ _ c.deref-2.ensures.value c.in-Some-Ok.ensures c.deref.ensures.value (c.in-Ok.ensures.found honest) in
+    let are = c.in-Some.ensures.items in
+    let alike = found_alike _ _ _ _ c.deref-in-Ok.ensures.value c.deref-in-Ok-2.ensures.value in
+    let rests = rests_found m limit c.args.slot_b c.args.slot.entries.items clean store in_use slot inside c.in-Ok.marks c.replace.new.self _ found.filed found.same c.replace.ensures.system c.replace.ensures.marked found.stands in
     record {
-      tree = tree_of found.0;
-      shown = subst (λ (n : Medium). Shows n.contents (tree_of found.0)) (sym same) (shows_found m limit c.args.slot_b es clean store in_use slot inside (IsMarked c.verify_entries.new.marks) found.0 stands);
-      holds = subst (λ (n : Medium). Rests n limit c.args.slot_b c.replace.new.self es c.copy_entries.new.into.items (opened (tree_of found.0))) (sym same)
-          (subst (λ (l : List Entry). Rests m limit c.args.slot_b c.replace.new.self es l (opened (tree_of found.0))) (sym (c.copy_entries.ensures.items ∙ c.deref.ensures.value)) rests);
+      tree = tree_of found.filed;
+      shown = subst (λ (n : Medium). Shows n.contents (tree_of found.filed)) (sym read) (shows_found m limit c.args.slot_b c.args.slot.entries.items clean store in_use slot inside (IsMarked c.in-Ok.marks) _ found.filed found.same found.stands);
+      holds = subst (λ (n : Medium). Rests n limit c.args.slot_b c.replace.new.self c.in-Some.committed.items c.in-Some.working.items (opened (tree_of found.filed))) (sym read)
+          (rests_named m limit c.args.slot_b c.replace.new.self _ c.in-Some.committed.items c.in-Some.working.items (opened (tree_of found.filed)) (are.0 ∙ alike) (are.1 ∙ alike) rests);
     }
+
+pub returns-in-Err-clause-refused : goal.returns-in-Err-clause-refused
+returns-in-Err-clause-refused g c honest store in_use slot =
+    let m = (g.D.Disk.state c.args.disk.now).now in
+    let limit = c.args.slot.blocks in
+    let whole = g.met.D.Disk.whole c.args.disk.now honest in
+    let inside : limit ≤ length m.contents = omega (arith, whole, c.requires.inside) in
+    fault_refused m limit c.args.slot_b c.args.slot.entries.items store in_use slot inside c.in-Err.fault c.refusal_of.result c.refusal_of.ensures (λ same. c.in-Err.ensures.deep (c.in-Err.is ∙ ap Err same))
+    (λ trees. c.in-Err.ensures.only honest (trees_here _ _ _ _ _ c.deref-2.ensures.value c.in-Some-Ok.ensures c.deref.ensures.value trees))

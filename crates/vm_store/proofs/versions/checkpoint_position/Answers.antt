@@ -1,0 +1,15 @@
+use Rattle.std.proofs.Common.{sym, ap, ◌∙◌, arith}
+use Rattle.vm_types.proofs.FirstsLemmas.{IsFirst-at}
+use Rattle.vm_store.proofs.FoundLemmas.{find_none}
+use Rattle.vm_store.specs.Versions.{is_checkpoint_of}
+use Rattle.vm_store.proofs.versions.checkpoint_position.Goals as goal
+
+pub returns-then-is_checkpoint_of-clause-found : goal.returns-then-is_checkpoint_of-clause-found
+returns-then-is_checkpoint_of-clause-found c =
+    let e = c.index-versions-i.result in
+    IsFirst-at (is_checkpoint_of c.args.alt.now c.args.name.now) c.args.versions.now c.loop-i.i e c.loop-i-test.true
+    (ap (is_checkpoint_of c.args.alt.now c.args.name.now) (sym c.index-versions-i.is) ∙ sym c.is_checkpoint_of.ensures ∙ c.if-is_checkpoint_of.true)
+    (λ k lt. c.loop-i.invariant k e lt)
+
+pub returns-clause-none : goal.returns-clause-none
+returns-clause-none c = find_none (is_checkpoint_of c.args.alt.now c.args.name.now) c.args.versions.now (λ k d lt. c.loop-i.invariant k d (omega arith))

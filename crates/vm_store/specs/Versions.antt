@@ -1,0 +1,56 @@
+-- Alternatives and checkpoints in memory: what a slot says of them, which belong to an alternative, and what they are called.
+use Rattle.std.specs.Prelude.{ℕ, Bool, ◌&&◌, ◌||◌, not, List, [], ◌∷◌, map, filter, Option, Some}
+use Rattle.std.specs.Option.{option_eq}
+use Rattle.std.specs.Str.{bytes_eq}
+use Rattle.vm_block.specs.Slot.{is_alternative}
+use Rattle.vm_block.specs.declared.slot.Entry.{Entry}
+use Rattle.vm_tree.specs.declared.root.Root.{Root}
+use Rattle.vm_store.specs.declared.versions.Version.{Version}
+
+-- what a slot says of it
+abbrev pub entry_of : Version → Entry
+entry_of v = record { kind = v.kind; name = v.name; owner = v.owner; current = v.current.block; base = v.base.block }
+
+-- what a slot says of them all
+abbrev pub slot_entries : List Version → List Entry
+slot_entries vs = map entry_of vs
+
+-- the block numbers of the roots of entries, current before base
+abbrev pub numbers_of : List Entry → List ℕ
+numbers_of [] = []
+numbers_of (e ∷ es) = e.current ∷ e.base ∷ numbers_of es
+
+-- entries with these roots, current before base
+abbrev pub versions_of : List Entry → List Root → List Version
+versions_of (e ∷ es) (r ∷ q ∷ rs) = record { kind = e.kind; name = e.name; owner = e.owner; current = r; base = q } ∷ versions_of es rs
+versions_of [] rs = []
+versions_of (e ∷ es) [] = []
+versions_of (e ∷ es) (r ∷ []) = []
+
+-- whether it is the alternative of this name
+abbrev pub is_alternative_of : List ℕ → Version → Bool
+is_alternative_of alt v = is_alternative v.kind && bytes_eq v.name alt
+
+-- whether it is a checkpoint of the alternative
+abbrev pub is_checkpoint_under : List ℕ → Version → Bool
+is_checkpoint_under alt v = not (is_alternative v.kind) && option_eq bytes_eq v.owner (Some alt)
+
+-- whether it is the checkpoint of this name of the alternative
+abbrev pub is_checkpoint_of : List ℕ → List ℕ → Version → Bool
+is_checkpoint_of alt name v = is_checkpoint_under alt v && bytes_eq v.name name
+
+-- whether it is an alternative whose parent is this one
+abbrev pub is_child_of : List ℕ → Version → Bool
+is_child_of alt v = is_alternative v.kind && option_eq bytes_eq v.owner (Some alt)
+
+-- whether it is neither the alternative nor one of its checkpoints
+abbrev pub is_apart : List ℕ → Version → Bool
+is_apart alt v = not (is_alternative_of alt v || is_checkpoint_under alt v)
+
+-- the alternatives, each with its parent
+abbrev pub alternatives_among : List Version → List (List ℕ × Option (List ℕ))
+alternatives_among vs = map (λ v. (v.name, v.owner)) (filter (λ v. is_alternative v.kind) vs)
+
+-- the names of an alternative's checkpoints
+abbrev pub checkpoints_among : List Version → List ℕ → List (List ℕ)
+checkpoints_among vs alt = map (λ v. v.name) (filter (is_checkpoint_under alt) vs)
