@@ -147,6 +147,9 @@ module _ (m : Medium) (limit : ℕ) (slot_b : Bool) (es : List Entry) (clean : I
         gives_new = refl;
       }
 
+-- without a premise on what is clean
+module _ (m : Medium) (limit : ℕ) (slot_b : Bool) (es : List Entry) (store : IsStore m.contents) (in_use : slot_b ≡ selected m.contents) (slot : SlotAt m.contents slot_b limit es)
+    (inside : limit ≤ length m.contents) where
   -- entries of which some root has no map
   pub lacks_map : (HaveTrees sizes m.contents limit (numbers_of es) → ⊥) → LacksMap m.contents
   lacks_map none = record {
@@ -158,10 +161,10 @@ module _ (m : Medium) (limit : ℕ) (slot_b : Bool) (es : List Entry) (clean : I
   }
 
   -- a fault of the walk
-  pub fault_refused : (f : TreeFault) (r : Refusal) → r ≡ refusal_of f → f ≢ fault.Deep → (HaveTrees sizes m.contents limit (numbers_of es) → Lists {T = List Root × List Bool} (Err f) (λ _. Unit {0})) → IsRefused m.contents r
+  pub fault_refused : (f : TreeFault) (r : Refusal) → r ≡ refusal_of f → f ≢ fault.Deep → (HaveTrees sizes m.contents limit (numbers_of es) → Lists {T = Unit {0}} (Err f) (λ _. Unit {0})) → IsRefused m.contents r
   fault_refused f r same shallow only = subst (IsRefused m.contents) (sym same) (by_fault f shallow only)
     where
-      by_fault : (f : TreeFault) → f ≢ fault.Deep → (HaveTrees sizes m.contents limit (numbers_of es) → Lists {T = List Root × List Bool} (Err f) (λ _. Unit {0})) → IsRefused m.contents (refusal_of f)
+      by_fault : (f : TreeFault) → f ≢ fault.Deep → (HaveTrees sizes m.contents limit (numbers_of es) → Lists {T = Unit {0}} (Err f) (λ _. Unit {0})) → IsRefused m.contents (refusal_of f)
       by_fault fault.Device shallow only = tt
       by_fault (fault.Damaged n) shallow only = (store, inr (lacks_map only))
       by_fault fault.Deep shallow only = absurd (shallow refl)

@@ -3,6 +3,7 @@ use Rattle.vm_types.specs.State.{opened}
 use Rattle.vm_disk.specs.Disk.{Medium}
 use Rattle.vm_disk.proofs.MomentLemmas.{same_medium}
 use Rattle.vm_alloc.specs.Marks.{IsMarked}
+use Rattle.vm_tree.proofs.ScanLemmas.{fault_lists}
 use Rattle.vm_store.specs.Filed.{tree_of}
 use Rattle.vm_store.specs.Resting.{Rests}
 use Rattle.vm_store.specs.Shown.{Shows}
@@ -54,5 +55,5 @@ returns-in-Err-clause-refused g c honest store in_use slot =
     let limit = c.args.slot.blocks in
     let whole = g.met.D.Disk.whole c.args.disk.now honest in
     let inside : limit ≤ length m.contents = omega (arith, whole, c.requires.inside) in
-    fault_refused m limit c.args.slot_b c.args.slot.entries.items store in_use slot inside c.in-Err.fault c.refusal_of.result c.refusal_of.ensures (λ same. c.in-Err.ensures.deep (c.in-Err.is ∙ ap Err same))
-    (λ trees. c.in-Err.ensures.only honest (trees_here _ _ _ _ _ c.deref-2.ensures.value c.in-Some-Ok.ensures c.deref.ensures.value trees))
+    fault_refused m limit c.args.slot_b c.args.slot.entries.items store in_use slot inside c.in-Err.fault c.refusal_of.result c.refusal_of.ensures (λ same. c.in-Err.ensures.deep (ap Err same))
+    (λ trees. fault_lists c.in-Err.fault _ _ (c.in-Err.ensures.only honest (trees_here _ _ _ _ _ _ c.deref-2.ensures.value c.in-Some-Ok.ensures c.deref.ensures.value trees)))
