@@ -253,33 +253,6 @@ fn alternative_that_is_not_there_is_refused(rt: HostRuntime) -> Result<(), Fail>
 }
 
 #[test]
-fn seventeenth_record_is_too_deep(rt: HostRuntime) -> Result<(), Fail> {
-    let mut store = fresh_store(rt.alloc())?;
-    for number in 1..17 {
-        let key = Key { table: 1, number };
-        assert_eq!(rt;
-            put(&mut store, key, b"v"),
-            Ok(Answer::Done),
-            "record {number}"
-        );
-    }
-    let next = Key {
-        table: 1,
-        number: 17,
-    };
-    assert_eq!(rt; put(&mut store, next, b"v"), Err(Refusal::Deep));
-    assert_eq!(rt; get(&mut store, next), Ok(None));
-    let there = Key {
-        table: 1,
-        number: 16,
-    };
-    assert_eq!(rt; put(&mut store, there, b"w"), Ok(Answer::Done));
-    assert_eq!(rt; get(&mut store, there), Ok(Value::new(b"w")));
-    let _disk = store.close();
-    Ok(())
-}
-
-#[test]
 fn what_is_not_committed_is_gone_after_closing(rt: HostRuntime) -> Result<(), Fail> {
     let mut store = open_on(rt.alloc(), duct_disk(rt.alloc())?)?;
     assert_eq!(rt; put(&mut store, DUCT, b"pipe"), Ok(Answer::Done));

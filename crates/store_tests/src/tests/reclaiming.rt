@@ -1,8 +1,11 @@
 //! Blocks that no version needs.
+use super::removing::remove;
+use super::versions::new;
 use super::{DUCT, commit, duct_disk, expect, fresh_store, get, open_on, put};
+use std::alloc::Global;
 use std::test::Fail;
-use vm_disk::FuseDisk;
-use vm_store::open;
+use vm_disk::{Disk, FuseDisk, MemDisk};
+use vm_store::{Store, open};
 use vm_types::{Answer, Command, Key, Refusal, Value};
 
 #[test]
@@ -64,5 +67,87 @@ fn failed_store_has_no_count(rt: HostRuntime) -> Result<(), Fail> {
     assert_eq!(rt; store.apply(&Command::Reclaim), Err(Refusal::Failed));
     let disk = store.close();
     assert_eq!(rt; disk.calls(), 7);
+    Ok(())
+}
+
+// The record of this number, with the value `v`, in a store that has the ones before it.
+fn put_record<D: Disk>(store: &mut Store<D>, number: u64) -> Result<Answer, Refusal> {
+    put(store, Key { table: 1, number }, b"v")
+}
+
+// The seventeenth record splits the leaf: two leaves and a root are written. The Remove of the eleventh
+// record marks, and that of the tenth leaves nine records, which are the first leaf: it writes no block.
+#[test]
+fn leaf_is_split_and_takes_the_place_of_the_root_again(rt: HostRuntime) -> Result<(), Fail> {
+    let mut store = fresh_store(rt.alloc())?;
+    for number in 1..18 {
+        assert_eq!(rt;
+            put_record(&mut store, number),
+            Ok(Answer::Done),
+            "record {number}"
+        );
+    }
+    let split = store.free();
+    let first = store.apply(&Command::Reclaim);
+    let reclaimed = store.free();
+    for n in 0..8 {
+        assert_eq!(rt;
+            remove(
+                &mut store,
+                Key {
+                    table: 1,
+                    number: 17 - n
+                }
+            ),
+            Ok(Answer::Done),
+            "record {n} from the last"
+        );
+    }
+    let collapsed = store.free();
+    let second = store.apply(&Command::Reclaim);
+    expect(
+        &rt,
+        &[(first, Ok(Answer::Done)), (second, Ok(Answer::Done))],
+    );
+    expect(
+        &rt,
+        &[
+            (split, Ok(25)),
+            (reclaimed, Ok(27)),
+            (collapsed, Ok(25)),
+            (store.free(), Ok(29)),
+        ],
+    );
+    for number in 1..18 {
+        let found = get(&mut store, Key { table: 1, number });
+        let due = if number < 10 { Value::new(b"v") } else { None };
+        assert_eq!(rt; found, Ok(due), "record {number}");
+    }
+    let _disk = store.close();
+    Ok(())
+}
+
+// A disk on which `top` has seventeen records, and `spur` under it the same map.
+fn split_disk(alloc: Global) -> Result<MemDisk, Refusal> {
+    let mut store = fresh_store(alloc)?;
+    let mut put = Ok(Answer::Done);
+    for number in 1..18 {
+        put = put.and(put_record(&mut store, number));
+    }
+    let made = new(&mut store, b"spur", b"top");
+    let committed = commit(&mut store);
+    let disk = store.close();
+    put.and(made).and(committed).map(|_| disk)
+}
+
+// A root over two leaves is the current map of both alternatives, and the base of one: each of the
+// three blocks is held once. A record changed in one of them takes a leaf and a root more.
+#[test]
+fn shared_blocks_are_held_once(rt: HostRuntime) -> Result<(), Fail> {
+    let mut store = open_on(rt.alloc(), split_disk(rt.alloc())?)?;
+    assert_eq!(rt; store.free(), Ok(27));
+    assert_eq!(rt; put_record(&mut store, 17), Ok(Answer::Done));
+    assert_eq!(rt; store.free(), Ok(25));
+    let _disk = store.close();
     Ok(())
 }

@@ -24,7 +24,7 @@ fn remove_from<D: Disk>(store: &mut Store<D>, alt: &[u8], key: Key) -> Result<An
     store.apply(&Command::Remove { alt, key })
 }
 
-fn remove<D: Disk>(store: &mut Store<D>, key: Key) -> Result<Answer, Refusal> {
+pub fn remove<D: Disk>(store: &mut Store<D>, key: Key) -> Result<Answer, Refusal> {
     remove_from(store, b"top", key)
 }
 

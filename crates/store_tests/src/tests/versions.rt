@@ -18,7 +18,7 @@ fn name(bytes: &[u8]) -> Result<Name, Refusal> {
     Name::new(bytes).ok_or(Refusal::Memory)
 }
 
-fn new<D: Disk>(store: &mut Store<D>, alt: &[u8], parent: &[u8]) -> Result<Answer, Refusal> {
+pub fn new<D: Disk>(store: &mut Store<D>, alt: &[u8], parent: &[u8]) -> Result<Answer, Refusal> {
     let (name, parent) = (name(alt)?, name(parent)?);
     store.apply(&Command::New { name, parent })
 }
