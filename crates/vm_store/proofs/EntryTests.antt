@@ -1,5 +1,5 @@
 -- Entries of a slot: which belong to an alternative.
-use Rattle.std.specs.Prelude.{ℕ, Bool, ◌&&◌, ◌||◌, not, List, Option, Some}
+use Rattle.std.specs.Prelude.{ℕ, Bool, ◌&&◌, ◌||◌, not, List, Some}
 use Rattle.std.specs.Option.{option_eq}
 use Rattle.std.specs.Str.{bytes_eq}
 use Rattle.vm_block.specs.Slot.{is_alternative, is_alternative_of}
@@ -20,4 +20,3 @@ is_child_of alt e = is_alternative e.kind && option_eq bytes_eq e.owner (Some al
 -- whether the entry is neither the alternative nor one of its checkpoints
 abbrev pub is_apart : List ℕ → Entry → Bool
 is_apart alt e = not (is_alternative_of alt e || is_checkpoint_under alt e)
-

@@ -1,7 +1,7 @@
 -- The slots stay whole through puts and commits.
-use Rattle.std.proofs.Common.{◌≡◌, ◌≢◌, ◌⊎◌, inl, inr, ℕ, ◌≤◌, not, Bool, true, false, List, length, refl, sym, subst, ◌∙◌, arith}
+use Rattle.std.proofs.Common.{◌≡◌, ◌≢◌, ◌⊎◌, inl, inr, ℕ, ◌≤◌, not, Bool, true, false, List, length, refl, sym, subst, arith}
 use Rattle.vm_types.specs.State.{State}
-use Rattle.vm_disk.specs.Disk.{block, Medium, IsClean}
+use Rattle.vm_disk.specs.Disk.{Medium, IsClean}
 use Rattle.vm_disk.specs.Moments.{Spares}
 use Rattle.vm_disk.proofs.MomentLemmas.{spares_itself}
 use Rattle.vm_alloc.specs.Held.{IsHeld, HoldsMore}

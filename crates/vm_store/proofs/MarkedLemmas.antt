@@ -1,5 +1,5 @@
 -- After a marking just what the committed and the working versions reach is held.
-use Rattle.std.proofs.Common.{◌≡◌, ◌⊎◌, ℕ, ◌<◌, ◌≤◌, eqb, Bool, true, false, List, ◌++◌, length, refl, sym, ap, ◌∙◌, subst, arith, replicate, ⊎_elim, inl, inr}
+use Rattle.std.proofs.Common.{◌≡◌, ℕ, ◌<◌, ◌≤◌, eqb, Bool, true, false, List, ◌++◌, length, refl, sym, ap, ◌∙◌, subst, replicate, ⊎_elim}
 use Rattle.std.proofs.lemmas.Bool.{false≢true}
 use Rattle.std.specs.List.{AllByRecursion, list_any}
 use Rattle.vm_types.specs.State.{State}

@@ -1,18 +1,14 @@
 -- What standing versions reach, as a marking sees it.
-use Rattle.std.proofs.Common.{◌≡◌, ◌⊎◌, inl, inr, ℕ, zero, suc, ◌<◌, ◌≤◌, ◌||◌, eqb, Bool, true, false, List, [], ◌∷◌, ◌++◌, length, replicate, refl, sym, ap, ◌∙◌, eq-eqb, append_assoc, arith}
+use Rattle.std.proofs.Common.{◌≡◌, ◌⊎◌, inl, inr, ℕ, zero, suc, ◌<◌, ◌≤◌, ◌||◌, eqb, Bool, true, false, List, [], ◌∷◌, ◌++◌, replicate, refl, sym, ap, ◌∙◌, eq-eqb, append_assoc, arith}
 use Rattle.std.specs.Prelude.{Contains}
-use Rattle.std.specs.List.{AllByRecursion, list_any}
+use Rattle.std.specs.List.{list_any}
 use Rattle.std.proofs.lemmas.Bool.{cases_lt, false≢true}
 use Rattle.std.proofs.lemmas.List.{get_or-replicate, get_or_past, length-replicate}
-use Rattle.vm_types.specs.Map.{Map}
 use Rattle.vm_disk.specs.Disk.{Contents}
 use Rattle.vm_alloc.specs.Marks.{IsMarked}
-use Rattle.vm_tree.specs.Root.{Grown}
-use Rattle.vm_tree.specs.declared.root.Root.{Root}
-use Rattle.vm_check.specs.Marking.{IsUnder, IsClosed, Joined}
+use Rattle.vm_check.specs.Marking.{IsClosed}
 use Rattle.vm_store.specs.Filed.{Filed, Standing, reach}
-use Rattle.vm_store.specs.Marking.{IsReached, AreReached}
-use Rattle.vm_store.specs.Sizes.{sizes}
+use Rattle.vm_store.specs.Marking.{AreReached}
 use Rattle.vm_store.specs.declared.versions.Version.{Version}
 
 -- standing versions reach just what is under their roots

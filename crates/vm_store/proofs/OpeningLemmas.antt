@@ -1,7 +1,5 @@
 -- An opening: a sync, and reads that find a store or why there is none.
-use Rattle.std.proofs.Common.{◌≡◌, ◌≢◌, inl, inr, ⊎_elim, ℕ, ◌<◌, ◌≤◌, Bool, List, [], ◌∷◌, ◌++◌, length, take, get_or, zero, suc, ◌+◌, Result, Ok, Err, OnOk, refl, sym, ap, ◌∙◌, subst, arith}
-use Rattle.std.proofs.lemmas.List.{take_more}
-use Rattle.vm_types.specs.Map.{Map}
+use Rattle.std.proofs.Common.{◌≡◌, ◌≢◌, inl, inr, ⊎_elim, ℕ, ◌<◌, ◌≤◌, Bool, List, [], ◌∷◌, length, Result, Ok, Err, OnOk, refl, sym, ap, ◌∙◌, subst, arith}
 use Rattle.vm_types.specs.State.{State, opened}
 use Rattle.vm_types.specs.declared.refusal.Refusal.{Refusal}
 use Rattle.vm_types.specs.declared.refusal.Refusal.TheVariants as refusal
@@ -10,7 +8,7 @@ use Rattle.vm_disk.specs.Disk.{Contents, block, Medium, IsClean, Syncs}
 use Rattle.vm_disk.specs.declared.disk.DeviceFault.{DeviceFault}
 use Rattle.vm_disk.specs.Moments.{Throughout, OnlyReads}
 use Rattle.vm_disk.proofs.MomentLemmas.{started, goes_on, same_medium}
-use Rattle.vm_alloc.specs.Held.{is_held, IsHeld, HoldsMore}
+use Rattle.vm_alloc.specs.Held.{is_held, IsHeld}
 use Rattle.vm_alloc.specs.Marks.{is_marked, IsMarked}
 use Rattle.std.specs.List.{AllByRecursion}
 use Rattle.vm_block.specs.Slot.{SlotFits}
@@ -31,7 +29,7 @@ use Rattle.vm_store.specs.Sizes.{sizes}
 use Rattle.vm_store.specs.Versions.{numbers_of, slot_entries, versions_of}
 use Rattle.vm_store.specs.declared.versions.Version.{Version}
 use Rattle.vm_store.proofs.TopLemmas.{rooted_tree}
-use Rattle.vm_store.specs.Filed.{Filed, StandsAs, Standing, tree_of}
+use Rattle.vm_store.specs.Filed.{Filed, Standing, tree_of}
 use Rattle.vm_store.specs.Shown.{Shows, ShowsNothing}
 use Rattle.vm_store.specs.Resting.{IsSafe, Rests}
 use Rattle.vm_store.specs.Refused.{IsStore, LacksMap, IsRefused, IsSynced, IsAtMostSynced}

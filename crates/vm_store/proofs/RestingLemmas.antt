@@ -41,7 +41,7 @@ use Rattle.vm_store.specs.Shown.{Shows}
 use Rattle.vm_store.specs.Resting.{IsSafe, Rests}
 use Rattle.vm_store.specs.Answers.{value_in, value_of, LacksRoom, IsDue, IsAnswer}
 use Rattle.vm_store.specs.Roots.{current_root}
-use Rattle.vm_store.specs.Versions.{entry_of, slot_entries, is_alternative_of}
+use Rattle.vm_store.specs.Versions.{slot_entries, is_alternative_of}
 use Rattle.vm_store.specs.declared.versions.Version.{Version}
 use Rattle.vm_store.proofs.FiledLemmas.{is_filed, refiled, recurrent, maps_of, filed_maps, grown_named, grown_changed}
 use Rattle.vm_store.proofs.LedgerLemmas as ledger

@@ -1,5 +1,5 @@
 -- What a slot says of versions, where one is added, changed or taken out.
-use Rattle.std.proofs.Common.{◌≡◌, ℕ, suc, Bool, true, false, ◌||◌, cond, List, [], ◌∷◌, ◌++◌, filter, find, length, Option, Some, None, refl, sym, ap, ◌∙◌}
+use Rattle.std.proofs.Common.{◌≡◌, suc, Bool, true, false, ◌||◌, cond, List, [], ◌∷◌, ◌++◌, filter, find, length, Some, None, refl, sym, ap, ◌∙◌}
 use Rattle.std.specs.List.{list_any}
 use Rattle.vm_types.specs.Firsts.{change_first, without_first}
 use Rattle.vm_block.specs.declared.slot.Entry.{Entry}

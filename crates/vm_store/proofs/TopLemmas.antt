@@ -1,17 +1,15 @@
 -- Trees under tops: contents that agree on the blocks of a tree have the same tree, and all blocks of a tree are for data.
-use Rattle.std.proofs.Common.{◌≡◌, ◌⊎◌, inl, inr, ℕ, zero, suc, ◌<◌, ◌≤◌, ◌^◌, List, [], refl, sym, subst, arith}
+use Rattle.std.proofs.Common.{◌≡◌, inl, inr, ℕ, ◌<◌, ◌≤◌, ◌^◌, List, [], refl, sym, subst, arith}
 use Rattle.std.specs.List.{AllByRecursion}
 use Rattle.vm_types.specs.declared.key.Key.{Key}
-use Rattle.vm_types.specs.Map.{Map, get}
-use Rattle.vm_types.specs.Places.{place}
+use Rattle.vm_types.specs.Map.{Map}
 use Rattle.vm_disk.specs.Disk.{Contents, block}
-use Rattle.vm_block.specs.FullPath.{FullPath}
-use Rattle.vm_block.specs.Tree.{Sizes, IsData, IsTree, Subtree}
+use Rattle.vm_block.specs.Tree.{IsData, IsTree}
 use Rattle.vm_block.proofs.EachLemmas.{each_so, each_both}
-use Rattle.vm_block.proofs.TreeLemmas.{subtree_in, tree_data, tree_none, tree_closes, tree_one}
+use Rattle.vm_block.proofs.TreeLemmas.{subtree_in, tree_data, tree_none, tree_closes}
 use Rattle.vm_tree.proofs.Descent.{subtree_top}
 use Rattle.vm_tree.specs.Answers as tree
-use Rattle.vm_tree.specs.Root.{IsTop, IsBare, IsRooted, Grown}
+use Rattle.vm_tree.specs.Root.{IsRooted, Grown}
 use Rattle.vm_tree.specs.declared.root.Root.{Root}
 use Rattle.vm_store.specs.Answers.{LacksRoom}
 use Rattle.vm_store.specs.Sizes.{sizes}

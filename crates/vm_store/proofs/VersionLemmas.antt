@@ -79,7 +79,7 @@ module _ (P : ℕ → Type 0) (x : Contents) (limit : ℕ) where
   follow_in_order earlier before (e ∷ es) (f ∷ fs) b s h = (
     may_be_added earlier before e f b s.0 h.0,
     subst (λ (t : Tree). InOrder t fs) (grown_more [] before f) (follow_in_order (earlier ++ e ∷ []) (before ++ f ∷ []) es fs (standing_join P x limit earlier before e f b s.0) s.1
-    (subst (λ (xs : List Entry). Follows xs (slot_entries es)) (sym (slot_more earlier e)) h.1)),
+        (subst (λ (xs : List Entry). Follows xs (slot_entries es)) (sym (slot_more earlier e)) h.1)),
   )
   follow_in_order earlier before [] (f ∷ fs) b s h = absurd s
   follow_in_order earlier before (e ∷ es) [] b s h = absurd s

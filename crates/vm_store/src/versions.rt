@@ -161,7 +161,11 @@ pub fn alternatives_among(
 /// The names of the alternative's checkpoints among the versions, in their order.
 ///
 /// It answers `Memory` where there is none for the list.
-pub fn checkpoints_among(alloc: Global, versions: &[Version], alt: &Name) -> Result<Vec<Name>, Refusal>
+pub fn checkpoints_among(
+    alloc: Global,
+    versions: &[Version],
+    alt: &Name,
+) -> Result<Vec<Name>, Refusal>
     ensures list { IfOk result (λ list. list.items ≡ checkpoints_among versions.now alt.now) }
     ensures only { IfErr result (λ refusal. refusal ≡ Refusal.Memory) }
 {

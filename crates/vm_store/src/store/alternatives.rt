@@ -10,7 +10,9 @@ ghost use Rattle.vm_store.specs.Resting.{spare_of};
 ghost use Rattle.vm_store.specs.Shown.{Shows};
 
 use super::Store;
-use crate::versions::{Version, add_version, alternatives_among, has_children, position_of, take_out};
+use crate::versions::{
+    Version, add_version, alternatives_among, has_children, position_of, take_out,
+};
 use std::alloc::Global;
 use vm_block::Kind;
 use vm_catalog::MAX_ENTRIES;

@@ -120,7 +120,8 @@ fn read_maps<D: Disk>(
         → IfErr result (IsRefused (D.state disk.old).now.contents) }
 {
     let Slot { blocks, entries } = slot;
-    let (Some(numbers), Ok(mut held)) = (root_numbers(alloc, &entries), Held::new(alloc, blocks)) else {
+    let (Some(numbers), Ok(mut held)) = (root_numbers(alloc, &entries), Held::new(alloc, blocks))
+    else {
         return Err(Refusal::Memory);
     };
     match verify::<D, LEAF, FAN, LEVELS>(alloc, disk, blocks, &numbers) {

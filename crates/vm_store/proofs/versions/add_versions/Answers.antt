@@ -1,4 +1,4 @@
-use Rattle.std.proofs.Common.{◌∙◌, arith}
+use Rattle.std.proofs.Common.{arith}
 use Rattle.vm_store.proofs.AddedLemmas.{versions_more}
 use Rattle.vm_store.proofs.versions.add_versions.Goals as goal
 

@@ -1,4 +1,4 @@
-use Rattle.std.proofs.Common.{arith, ap, ◌∙◌}
+use Rattle.std.proofs.Common.{ap, ◌∙◌}
 use Rattle.vm_disk.proofs.MomentLemmas.{reads_then, same_medium}
 use Rattle.vm_store.specs.Faults.{refusal_of}
 use Rattle.vm_store.proofs.MarkedLemmas.{first_reach, first_closed, second_reach, second_closed, both_marked, free_exactly, rests_marked}

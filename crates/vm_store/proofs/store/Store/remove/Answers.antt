@@ -1,7 +1,7 @@
-use Rattle.std.proofs.Common.{◌≡◌, true, find, Some, None, Err, inl, subst, sym, ap, ◌∙◌}
+use Rattle.std.proofs.Common.{◌≡◌, find, Some, None, Err, inl, subst, sym, ap, ◌∙◌}
 use Rattle.vm_types.specs.Kept.{LeftBy}
 use Rattle.vm_types.specs.declared.command.Command.TheVariants.{Remove}
-use Rattle.vm_disk.specs.Moments.{Throughout, Leaves}
+use Rattle.vm_disk.specs.Moments.{Leaves}
 use Rattle.vm_disk.proofs.MomentLemmas.{started, weaken, at_end, spares_itself, same_medium, reads_keep, reads_first, reads_then}
 use Rattle.vm_store.specs.Versions.{is_alternative_of}
 use Rattle.vm_store.specs.Guarded.{IsGuarded}
@@ -213,4 +213,3 @@ returns-in-Err-remove-clause-answer g c honest s rests =
     let found' = found_entry _ _ _ _ _ _ s rests' c.args.alt.now e is' in
     let removed = c.in-Err-remove.ensures.remove honest' found'.filed.current (grown_of _ _ _ _ e.current _ (sym mid.bits) found'.stands.current) in
     removes_device s c.args.alt.now c.args.key _ _ c.in-Err-remove.fault c.refusal_of-in-Err-remove.result c.refusal_of-in-Err-remove.ensures removed
-
