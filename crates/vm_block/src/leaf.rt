@@ -1,5 +1,5 @@
 //! A leaf: the block of a tree that holds records.
-ghost use Rattle.std.specs.Prelude.{◌≡◌, ℕ, ◌≤◌, ◌+◌, ◌*◌, ◌-◌, ◌++◌, ◌↔◌, List, length, take, drop, IsTrue, IfSome, IsSomeAnd};
+ghost use Rattle.std.specs.Prelude.{◌≡◌, ℕ, ◌≤◌, ◌+◌, ◌*◌, ◌-◌, ◌++◌, ◌↔◌, List, [], length, take, drop, IsTrue, IfSome, IsSomeAnd};
 ghost use Rattle.std.specs.List.{AllByRecursion, flat_map};
 ghost use Rattle.vm_types.specs.Places.{RisesFrom, places};
 ghost use Rattle.vm_block.specs.Padding.{padded, zeros};
@@ -91,21 +91,21 @@ fn read_record(bytes: &[u8]) -> Option<(Key, Value)>
     }
 }
 
-/// So many records, where the bytes begin with them.
-fn read_records(bytes: &[u8], count: usize) -> Option<ArrayVec<(Key, Value), 16>>
+/// Reads so many records into an empty list, and says whether the bytes begin with them.
+fn read_records(bytes: &[u8], count: usize, records: &mut ArrayVec<(Key, Value), 16>) -> bool
     requires few { count ≤ 16 }
     requires room { 252 * count ≤ length bytes.now }
-    ensures found { IfSome result (λ records. AllByRecursion RecordFits records.items × (length records.items ≡ count) × (take (252 * count) bytes.now ≡ flat_map record_bytes records.items)) }
-    ensures only { (rs : List Record) (rest : List ℕ) → AllByRecursion RecordFits rs → length rs ≡ count → bytes.now ≡ flat_map record_bytes rs ++ rest → IsSomeAnd result (λ records. records.items ≡ rs) }
+    requires empty { records.old.items ≡ [] }
+    ensures found { IsTrue result → AllByRecursion RecordFits records.new.items × (length records.new.items ≡ count) × (take (252 * count) bytes.now ≡ flat_map record_bytes records.new.items) }
+    ensures only { (rs : List Record) (rest : List ℕ) → AllByRecursion RecordFits rs → length rs ≡ count → bytes.now ≡ flat_map record_bytes rs ++ rest → IsTrue result × (records.new.items ≡ rs) }
 {
-    let mut records = ArrayVec::new();
     for i in 0..count {
         match read_record(&bytes[252 * i..252 * i + 252]) {
             Some(r) => records.push(r),
-            None => return None,
+            None => return false,
         }
     }
-    Some(records)
+    true
 }
 
 /// The records of a leaf, where the bytes are one.
@@ -122,8 +122,11 @@ pub fn read_leaf(bytes: &[u8; 4096]) -> Option<ArrayVec<(Key, Value), 16>>
     if !is_framed(bytes, &head, 16 + 252 * count as usize) {
         return None;
     }
-    match read_records(&bytes[16..], count as usize) {
-        Some(records) if are_rising(records.as_slice()) => Some(records),
-        _ => None,
+    let mut records = ArrayVec::new();
+    if !read_records(&bytes[16..], count as usize, &mut records)
+        || !are_rising(records.as_slice())
+    {
+        return None;
     }
+    Some(records)
 }

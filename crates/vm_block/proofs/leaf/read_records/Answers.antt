@@ -24,4 +24,4 @@ returns-in-None-clause-only c = λ rs rest fit many e.
 
 pub returns-clause-only : goal.returns-clause-only
 returns-clause-only c = λ rs rest fit many e.
-    rows_same record_bytes RecordFits 252 length-record record_one c.loop-i.records.items rs c.args.bytes.now rest c.loop-i.i c.args.count c.loop-i.invariant.fit fit c.loop-i.invariant.many many (omega arith) c.loop-i.invariant.spelled e
+    (refl, rows_same record_bytes RecordFits 252 length-record record_one c.loop-i.records.items rs c.args.bytes.now rest c.loop-i.i c.args.count c.loop-i.invariant.fit fit c.loop-i.invariant.many many (omega arith) c.loop-i.invariant.spelled e)
