@@ -1,5 +1,5 @@
 //! An inner block of a tree: it holds the numbers of blocks one level below.
-ghost use Rattle.std.specs.Prelude.{◌≡◌, ℕ, ◌<◌, ◌≤◌, ◌*◌, ◌++◌, ◌↔◌, List, length, take, drop, IsTrue, IfSome, IsSomeAnd};
+ghost use Rattle.std.specs.Prelude.{◌≡◌, ℕ, ◌<◌, ◌≤◌, ◌*◌, ◌++◌, ◌↔◌, List, [], length, take, drop, IsTrue, IfSome, IsSomeAnd};
 ghost use Rattle.std.specs.List.{AllByRecursion, flat_map};
 ghost use Rattle.vm_types.specs.Places.{RisesFrom};
 ghost use Rattle.vm_block.specs.declared.node.Child.{Child};
@@ -98,19 +98,18 @@ fn read_child(bytes: &[u8]) -> Child
     }
 }
 
-/// So many children, with which the bytes begin.
-fn read_children(bytes: &[u8], count: usize) -> ArrayVec<Child, 256>
+/// Puts so many children, with which the bytes begin, into an empty list.
+fn read_children(bytes: &[u8], count: usize, children: &mut ArrayVec<Child, 256>)
     requires few { count ≤ 256 }
     requires room { 14 * count ≤ length bytes.now }
-    ensures fit { AllByRecursion ChildFits result.items }
-    ensures many { length result.items ≡ count }
-    ensures spelled { take (14 * count) bytes.now ≡ flat_map child_bytes result.items }
+    requires empty { children.old.items ≡ [] }
+    ensures fit { AllByRecursion ChildFits children.new.items }
+    ensures many { length children.new.items ≡ count }
+    ensures spelled { take (14 * count) bytes.now ≡ flat_map child_bytes children.new.items }
 {
-    let mut children = ArrayVec::new();
     for i in 0..count {
         children.push(read_child(&bytes[14 * i..14 * i + 14]));
     }
-    children
 }
 
 /// Whether an inner block may have this level and so many children.
@@ -135,13 +134,13 @@ pub fn read_node(bytes: &[u8; 4096]) -> Option<Node>
     if !is_framed(bytes, &head, 16 + 14 * count as usize) {
         return None;
     }
-    let children = read_children(&bytes[16..], count as usize);
-    if are_rising(children.as_slice()) {
-        Some(Node {
-            level: level as u8,
-            children,
-        })
-    } else {
-        None
+    let mut node = Node {
+        level: level as u8,
+        children: ArrayVec::new(),
+    };
+    read_children(&bytes[16..], count as usize, &mut node.children);
+    if !are_rising(node.children.as_slice()) {
+        return None;
     }
+    Some(node)
 }
