@@ -1,4 +1,5 @@
 //! What a store answers, and what it leaves on a disk, by hand.
+mod counting;
 mod crashing;
 mod failing;
 mod listing;
