@@ -6,12 +6,13 @@ mod dice;
 mod model;
 mod recording;
 mod sessions;
+mod trees;
 
 use std::alloc::AllocError;
 use vm_disk::DeviceFault;
 use vm_types::{Answer, Refusal};
 
-/// How many blocks each disk and each store has.
+/// How many blocks a store has at least.
 const BLOCKS: u32 = 64;
 
 /// What a command is answered.

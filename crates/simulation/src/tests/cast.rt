@@ -14,8 +14,8 @@ pub const ALTERNATIVES: u32 = 4;
 /// How many names of checkpoints are in use.
 pub const CHECKPOINTS: u32 = 3;
 
-/// How many keys are in use: more than a map has room for.
-pub const KEYS: u32 = 20;
+/// How many keys are in use: more than one leaf has room for.
+pub const KEYS: u32 = 40;
 
 pub fn top() -> Name {
     let Some(name) = Name::new(b"top") else {
@@ -45,11 +45,12 @@ pub fn checkpoint(n: u32) -> Name {
     name.unwrap_or(top())
 }
 
-/// The key of this number, in one of two tables.
+/// The key of this number: the first half of them is in one table, and the others in the next one.
 pub fn key(n: u32) -> Key {
+    let half = KEYS / 2;
     Key {
-        table: 1 + (n % 2) as u16,
-        number: u64::from(n),
+        table: if n < half { 1 } else { 2 },
+        number: u64::from(n % half),
     }
 }
 
@@ -142,7 +143,7 @@ fn agrees_anew<D: Disk>(
     store: &mut Store<D>,
     opened: &mut Model,
 ) -> Result<bool, Wrong> {
-    if store.free() != Ok(opened.spare()) || !agrees(alloc, store, &opened.plain, key(0))? {
+    if store.free() != Ok(opened.spare()?) || !agrees(alloc, store, &opened.plain, key(0))? {
         return Ok(false);
     }
     for n in 0..ALTERNATIVES {
@@ -161,7 +162,7 @@ pub fn shows(
     disk: RecordingDisk,
     model: &Model,
 ) -> Result<(RecordingDisk, bool), Wrong> {
-    let mut opened = model.reopened(alloc)?;
+    let mut opened = model.reopened()?;
     let mut store = open(alloc, disk).map_err(|refused| Wrong::Refused(refused.1))?;
     let same = agrees_anew(alloc, &mut store, &mut opened);
     let disk = store.close();

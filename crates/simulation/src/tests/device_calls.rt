@@ -131,7 +131,7 @@ fn last_kept(number: u32) -> u32 {
 
 // What the definitions make of the script up to a command.
 fn model_before(alloc: Global, number: u32) -> Result<Model, Wrong> {
-    let mut model = Model::new(alloc)?;
+    let mut model = Model::new(alloc, BLOCKS)?;
     for n in 0..number {
         let answer = model.apply(&command(n))?;
         if answer != Ok(Answer::Done) {
@@ -169,7 +169,7 @@ fn run_until_stop(
 ) -> Result<(RecordingDisk, Stage), Wrong>
     requires { passes < 2000 }
 {
-    let fuse = FuseDisk::stop(RecordingDisk::new(alloc)?, passes, torn);
+    let fuse = FuseDisk::stop(RecordingDisk::new(alloc, BLOCKS)?, passes, torn);
     let disk = match format(fuse, BLOCKS) {
         Ok(disk) => disk,
         Err((disk, Refusal::Device)) => return Ok((disk.into_inner(), Stage::Format)),
@@ -320,7 +320,7 @@ fn run_past_fault(
 ) -> Result<(RecordingDisk, Stage), Wrong>
     requires { passes < 1000 }
 {
-    let fuse = FuseDisk::once(RecordingDisk::new(alloc)?, passes, torn);
+    let fuse = FuseDisk::once(RecordingDisk::new(alloc, BLOCKS)?, passes, torn);
     let disk = match format(fuse, BLOCKS) {
         Ok(disk) => disk,
         Err((disk, Refusal::Device)) => format_again(disk)?,

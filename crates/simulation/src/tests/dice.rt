@@ -8,10 +8,20 @@ use rand_core::{Rng, SeedableRng};
 use rand_xoshiro::Xoshiro256PlusPlus;
 use vm_types::{Command, Key, Name, Value};
 
+/// Whether no command takes anything out, some do, or most of them.
+#[derive(Clone, Copy, PartialEq, Eq)]
+enum Season {
+    Growth,
+    Change,
+    Sweep,
+}
+
 #[derive(Drop)]
 pub struct Dice {
     rng: Xoshiro256PlusPlus,
-    grows: bool,
+    keeps: bool,
+    season: Season,
+    next: u32,
 }
 
 impl Dice {
@@ -19,8 +29,22 @@ impl Dice {
     pub fn new(seed: u64) -> Dice {
         Dice {
             rng: Xoshiro256PlusPlus::seed_from_u64(seed),
-            grows: seed % 2 == 1,
+            keeps: seed % 2 == 1,
+            season: Season::Growth,
+            next: 0,
         }
+    }
+
+    /// Begins a new season. It may be a sweep where `top` has more than one leaf: one key of `top` after
+    /// another is taken out, so that whole leaves become empty.
+    pub fn turn(&mut self, has_leaves: bool) {
+        self.season = match self.below(4) {
+            _ if self.keeps => Season::Growth,
+            0 => Season::Change,
+            1 | 2 if has_leaves => Season::Sweep,
+            _ => Season::Growth,
+        };
+        self.next = self.below(KEYS);
     }
 
     /// A number below the bound.
@@ -54,6 +78,12 @@ impl Dice {
         key(self.below(KEYS))
     }
 
+    // The key after the last one that a sweep took out.
+    fn next_key(&mut self) -> Key {
+        self.next = self.next.saturating_add(1) % KEYS;
+        key(self.next)
+    }
+
     /// One of two values now and then, else one that no other draw gives.
     fn value(&mut self) -> Value {
         match self.below(6) {
@@ -72,7 +102,11 @@ impl Dice {
         ensures store { IsCarriedOut result }
         ensures plain { plain.IsCarriedOut result }
     {
-        let kinds = if self.grows { 28 } else { 38 };
+        let kinds = match self.season {
+            Season::Growth => 28,
+            Season::Change => 38,
+            Season::Sweep => 200,
+        };
         match self.below(kinds) {
             0..=2 => Command::Commit,
             3 => Command::Reclaim,
@@ -98,6 +132,10 @@ impl Dice {
             33..=37 => Command::Remove {
                 alt: self.alt(),
                 key: self.key(),
+            },
+            38..=199 => Command::Remove {
+                alt: top(),
+                key: self.next_key(),
             },
             _ => Command::Put {
                 alt: self.alt(),

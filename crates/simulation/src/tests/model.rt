@@ -3,10 +3,11 @@ ghost use Rattle.std.specs.Prelude.{◌<◌, length, IfSome};
 ghost use Rattle.simulation.specs.Plain.{IsCarriedOut};
 
 use super::cast::top;
-use super::{BLOCKS, Reply, Wrong};
+use super::trees::{EMPTY, Trees};
+use super::{Reply, Wrong};
 use crate::Plain;
 use std::alloc::Global;
-use vm_types::{Command, Name, Refusal};
+use vm_types::{Command, Key, Name, Refusal};
 
 /// How many blocks come before the first one for data.
 const FIRST_DATA: u32 = 34;
@@ -14,26 +15,24 @@ const FIRST_DATA: u32 = 34;
 /// How many blocks have to be spare for a record change.
 const BLOCKS_A_CHANGE: u32 = 16;
 
-/// How many records a map has at most, as long as it lies in one leaf.
-const RECORDS: usize = 16;
-
-/// The blocks that the maps of one entry lie in: 0 for an empty map, else a number that only maps have
-/// of which one was copied from the other.
+/// The roots of the maps of one entry.
 #[derive(Clone, Copy)]
 struct Roots {
     alt: Name,
     saved: Option<Name>,
-    current: u32,
-    base: u32,
+    current: usize,
+    base: usize,
 }
 
 /// What is known of a store.
 #[derive(Drop)]
 pub struct Model {
     pub plain: Plain,
+    alloc: Global,
+    blocks: u32,
+    trees: Trees,
     committed: Vec<Roots>,
     working: Vec<Roots>,
-    last: u32,
 }
 
 fn position(entries: &[Roots], alt: &Name, saved: Option<Name>) -> Option<usize>
@@ -44,36 +43,34 @@ fn position(entries: &[Roots], alt: &Name, saved: Option<Name>) -> Option<usize>
         .position(|roots| roots.alt == *alt && roots.saved == saved)
 }
 
-fn names(entries: &[Roots], number: u32) -> bool {
-    entries
-        .iter()
-        .any(|roots| roots.current == number || roots.base == number)
-}
-
 impl Model {
-    /// The model of a new store.
-    pub fn new(alloc: Global) -> Result<Model, Wrong> {
+    /// The model of a new store of so many blocks.
+    pub fn new(alloc: Global, blocks: u32) -> Result<Model, Wrong> {
         let first = Roots {
             alt: top(),
             saved: None,
-            current: 0,
-            base: 0,
+            current: EMPTY,
+            base: EMPTY,
         };
         Ok(Model {
             plain: Plain::new(alloc)?,
+            alloc,
+            blocks,
+            trees: Trees::new(alloc)?,
             committed: Vec::from_elem(alloc, first, 1)?,
             working: Vec::from_elem(alloc, first, 1)?,
-            last: 0,
         })
     }
 
     /// What the store is once it was closed and opened again.
-    pub fn reopened(&self, alloc: Global) -> Result<Model, Wrong> {
+    pub fn reopened(&self) -> Result<Model, Wrong> {
         Ok(Model {
             plain: self.plain.reopened()?,
-            committed: Vec::from_slice(alloc, &self.committed)?,
-            working: Vec::from_slice(alloc, &self.committed)?,
-            last: self.last,
+            alloc: self.alloc,
+            blocks: self.blocks,
+            trees: self.trees.copy()?,
+            committed: Vec::from_slice(self.alloc, &self.committed)?,
+            working: Vec::from_slice(self.alloc, &self.committed)?,
         })
     }
 
@@ -92,37 +89,33 @@ impl Model {
     }
 
     /// How many blocks for data neither the committed maps nor the working ones lie in.
-    pub fn spare(&self) -> u32 {
-        let mut spare = BLOCKS - FIRST_DATA;
-        for n in 0..self.last {
-            if names(&self.committed, n + 1) || names(&self.working, n + 1) {
-                spare = spare.saturating_sub(1);
+    pub fn spare(&self) -> Result<u32, Wrong> {
+        let mut roots = Vec::new(self.alloc);
+        for entries in [&self.committed, &self.working] {
+            for entry in entries {
+                roots.extend_from_slice(&[entry.current, entry.base])?;
             }
         }
-        spare
+        let data = self.blocks.saturating_sub(FIRST_DATA);
+        Ok(data.saturating_sub(self.trees.count(&roots)?))
+    }
+
+    /// How many levels of blocks the map of an alternative has above its leaves.
+    pub fn level(&self, alt: &Name) -> u32 {
+        match position(&self.working, alt, None) {
+            Some(i) => self.trees.level(self.working[i].current),
+            None => 0,
+        }
     }
 
     fn lack_of_room(&self, command: &Command) -> Result<Option<Refusal>, Wrong> {
-        let full = self.spare() < BLOCKS_A_CHANGE;
-        match command {
-            Command::Put { alt, key, .. } => match self.plain.get(alt, *key) {
-                Ok(_) if full => Ok(Some(Refusal::Full)),
-                Ok(None) => self.lack_of_place(alt),
-                _ => Ok(None),
-            },
-            Command::Remove { alt, key } => match self.plain.get(alt, *key) {
-                Ok(Some(_)) if full => Ok(Some(Refusal::Full)),
-                _ => Ok(None),
-            },
-            _ => Ok(None),
-        }
-    }
-
-    // Whether the leaf of an alternative has a place for one more record.
-    fn lack_of_place(&self, alt: &Name) -> Result<Option<Refusal>, Wrong> {
-        let records = self.plain.list(alt)?;
-        if records.len() >= RECORDS {
-            return Ok(Some(Refusal::Deep));
+        let changes = match command {
+            Command::Put { alt, key, .. } => self.plain.get(alt, *key).is_ok(),
+            Command::Remove { alt, key } => matches!(self.plain.get(alt, *key), Ok(Some(_))),
+            _ => false,
+        };
+        if changes && self.spare()? < BLOCKS_A_CHANGE {
+            return Ok(Some(Refusal::Full));
         }
         Ok(None)
     }
@@ -132,7 +125,8 @@ impl Model {
         match command {
             Command::New { name, parent } => self.follow_new(name, parent)?,
             Command::Drop { alt } => self.working.retain(|roots| roots.alt != *alt),
-            Command::Put { alt, .. } | Command::Remove { alt, .. } => self.follow_change(alt)?,
+            Command::Put { alt, key, .. } => self.follow_put(alt, *key)?,
+            Command::Remove { alt, key } => self.follow_remove(alt, *key)?,
             Command::Checkpoint { alt, name } => self.follow_checkpoint(alt, name)?,
             Command::Uncheck { alt, name } => {
                 if let Some(i) = position(&self.working, alt, Some(*name)) {
@@ -149,7 +143,7 @@ impl Model {
         Ok(())
     }
 
-    // The new alternative shares the block of what its parent shows.
+    // The new alternative shares the blocks of what its parent shows.
     fn follow_new(&mut self, name: &Name, parent: &Name) -> Result<(), Wrong> {
         if let Some(i) = position(&self.working, parent, None) {
             let current = self.working[i].current;
@@ -164,15 +158,16 @@ impl Model {
         Ok(())
     }
 
-    // A changed map lies in a new block, or in none where it is empty.
-    fn follow_change(&mut self, alt: &Name) -> Result<(), Wrong> {
-        let mut current = 0;
-        if !self.plain.list(alt)?.is_empty() {
-            self.last = self.last.saturating_add(1);
-            current = self.last;
-        }
+    fn follow_put(&mut self, alt: &Name, key: Key) -> Result<(), Wrong> {
         if let Some(i) = position(&self.working, alt, None) {
-            self.working[i].current = current;
+            self.working[i].current = self.trees.put(self.working[i].current, key)?;
+        }
+        Ok(())
+    }
+
+    fn follow_remove(&mut self, alt: &Name, key: Key) -> Result<(), Wrong> {
+        if let Some(i) = position(&self.working, alt, None) {
+            self.working[i].current = self.trees.remove(self.working[i].current, key)?;
         }
         Ok(())
     }

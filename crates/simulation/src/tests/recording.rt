@@ -2,8 +2,8 @@
 //! written last.
 ghost use Rattle.std.specs.Prelude.{◌≡◌, ◌<◌, true};
 
+use super::Wrong;
 use super::dice::Dice;
-use super::{BLOCKS, Wrong};
 use std::alloc::{AllocError, Global};
 use vm_disk::{DeviceFault, Disk, MemDisk};
 
@@ -24,12 +24,12 @@ pub enum Fill {
 }
 
 impl RecordingDisk {
-    /// A disk of zero bytes, all of it synced.
-    pub fn new(alloc: Global) -> Result<RecordingDisk, AllocError> {
+    /// A disk of so many blocks of zero bytes, all of it synced.
+    pub fn new(alloc: Global, blocks: u32) -> Result<RecordingDisk, AllocError> {
         Ok(RecordingDisk {
-            inner: MemDisk::new(alloc, BLOCKS)?,
-            written: Vec::from_elem(alloc, [0; 4096], BLOCKS as usize)?,
-            synced: Vec::from_elem(alloc, [0; 4096], BLOCKS as usize)?,
+            inner: MemDisk::new(alloc, blocks)?,
+            written: Vec::from_elem(alloc, [0; 4096], blocks as usize)?,
+            synced: Vec::from_elem(alloc, [0; 4096], blocks as usize)?,
             last: 0,
         })
     }
@@ -53,7 +53,7 @@ impl RecordingDisk {
     /// The disk after a crash which leaves the same kind of bytes in each block that was not synced.
     pub fn crash(self, alloc: Global, fill: Fill) -> Result<RecordingDisk, Wrong> {
         let mut left = Vec::new(alloc);
-        for n in 0..BLOCKS {
+        for n in 0..self.inner.blocks() {
             if self.inner.is_dirty(n) {
                 left.push((n, self.bytes_in(n, fill)))
                     .map_err(|_| Wrong::Memory)?;
@@ -65,7 +65,7 @@ impl RecordingDisk {
     /// The disk after a crash which leaves anything in blocks that were not synced.
     pub fn crash_at_random(self, alloc: Global, dice: &mut Dice) -> Result<RecordingDisk, Wrong> {
         let mut left = Vec::new(alloc);
-        for n in 0..BLOCKS {
+        for n in 0..self.inner.blocks() {
             if self.inner.is_dirty(n) {
                 let synced = self.bytes_in(n, Fill::Synced);
                 let bytes = dice.left(&synced, &self.bytes_in(n, Fill::Written));
@@ -79,7 +79,7 @@ impl RecordingDisk {
 // A disk whose blocks are all synced, recorded anew.
 fn after(alloc: Global, mut inner: MemDisk) -> Result<RecordingDisk, Wrong> {
     let mut written = Vec::new(alloc);
-    for n in 0..BLOCKS {
+    for n in 0..inner.blocks() {
         let mut bytes = [0; 4096];
         if n < inner.blocks() {
             inner.read(n, &mut bytes)?;

@@ -1,11 +1,12 @@
 //! Random sessions: a store lives several times on one disk, and each life ends by closing or by a
 //! device that stops, and maybe by a crash.
-use super::cast::{agrees, shows};
+use super::cast::{agrees, shows, top};
 use super::dice::Dice;
 use super::model::Model;
 use super::recording::RecordingDisk;
 use super::{BLOCKS, Reply, Wrong};
 use std::alloc::Global;
+use std::cmp::Ordering;
 use vm_disk::{Disk, FuseDisk};
 use vm_store::{Store, format, open};
 use vm_types::{Command, Refusal};
@@ -21,11 +22,14 @@ enum End {
     StoppedInCommit,
 }
 
-/// How often the cases that matter were met: refusals by their number, and commands by their kind.
+/// How often the cases that matter were met: refusals by their number, commands by their kind, and
+/// changes that gave a map a level more or took one from it.
 #[derive(Clone, Copy)]
 struct Tally {
     refused: [u32; 22],
     accepted: [u32; 9],
+    grown: u32,
+    shrunk: u32,
     kept_old: u32,
     kept_new: u32,
 }
@@ -35,6 +39,14 @@ impl Tally {
         match answer {
             Ok(_) => add_one(&mut self.accepted, kind(command)),
             Err(refusal) => add_one(&mut self.refused, refusal.code() as usize),
+        }
+    }
+
+    fn count_levels(&mut self, before: u32, after: u32) {
+        match before.cmp(&after) {
+            Ordering::Less => self.grown = self.grown.saturating_add(1),
+            Ordering::Equal => {}
+            Ordering::Greater => self.shrunk = self.shrunk.saturating_add(1),
         }
     }
 }
@@ -59,14 +71,23 @@ fn kind(command: &Command) -> usize {
     }
 }
 
+// The level of the map whose records a command changes, or else 0.
+fn changed_level(model: &Model, command: &Command) -> u32 {
+    match command {
+        Command::Put { alt, .. } | Command::Remove { alt, .. } => model.level(alt),
+        _ => 0,
+    }
+}
+
 /// Whether the store has no more blocks free than the model has spare, and just as many where it has
 /// looked for them.
-fn counts_blocks<D: Disk>(store: &Store<D>, model: &Model, looked: bool) -> bool {
-    match store.free() {
-        Ok(free) if looked => free == model.spare(),
-        Ok(free) => free <= model.spare(),
+fn counts_blocks<D: Disk>(store: &Store<D>, model: &Model, looked: bool) -> Result<bool, Wrong> {
+    let spare = model.spare()?;
+    Ok(match store.free() {
+        Ok(free) if looked => free == spare,
+        Ok(free) => free <= spare,
         Err(_) => false,
-    }
+    })
 }
 
 /// Carries out a command, and compares its answer and the count of blocks with the model's. Tells how
@@ -85,12 +106,14 @@ fn play<D: Disk>(
             _ => Some(End::Stopped),
         });
     }
+    let level = changed_level(model, &command);
     let expected = model.apply(&command)?;
     if answer != expected {
         return Err(Wrong::Answer(answer, expected));
     }
     tally.count(&command, &answer);
-    if !counts_blocks(store, model, matches!(command, Command::Reclaim)) {
+    tally.count_levels(level, changed_level(model, &command));
+    if !counts_blocks(store, model, matches!(command, Command::Reclaim))? {
         return Err(Wrong::Free);
     }
     Ok(None)
@@ -120,10 +143,11 @@ fn play_on<D: Disk>(
     tally: &mut Tally,
     looks: bool,
 ) -> Result<End, Wrong> {
-    if !counts_blocks(store, model, true) {
+    if !counts_blocks(store, model, true)? {
         return Err(Wrong::Free);
     }
-    for _ in 0..dice.below(60) {
+    dice.turn(model.level(&top()) > 0);
+    for _ in 0..dice.below(80) {
         if let Some(end) = play(store, model, dice, tally)? {
             return Ok(end);
         }
@@ -168,11 +192,11 @@ fn resolve(
     end: End,
     tally: &mut Tally,
 ) -> Result<Option<(RecordingDisk, Model)>, Wrong> {
-    let old = model.reopened(alloc)?;
+    let old = model.reopened()?;
     if end == End::StoppedInCommit {
         let _answer = model.apply(&Command::Commit)?;
     }
-    let new = model.reopened(alloc)?;
+    let new = model.reopened()?;
     let (disk, shows_old) = shows(alloc, disk, &old)?;
     let (disk, shows_new) = shows(alloc, disk, &new)?;
     match (shows_old, shows_new, end) {
@@ -193,10 +217,11 @@ fn resolve(
 /// Several lives of a store on one disk.
 fn session(alloc: Global, seed: u64, tally: &mut Tally) -> Result<(), Wrong> {
     let mut dice = Dice::new(seed);
-    let mut model = Model::new(alloc)?;
-    let mut disk = format(RecordingDisk::new(alloc)?, BLOCKS).map_err(|refused| Wrong::Refused(
-        refused.1,
-    ))?;
+    let blocks = if seed % 4 < 2 { BLOCKS } else { 2 * BLOCKS };
+    let mut model = Model::new(alloc, blocks)?;
+    let mut disk = format(RecordingDisk::new(alloc, blocks)?, blocks).map_err(
+        |refused| Wrong::Refused(refused.1),
+    )?;
     for _ in 0..8 {
         let (mut left, end) = live(alloc, disk, &mut model, &mut dice, tally)?;
         if dice.once_in(2) {
@@ -216,6 +241,8 @@ fn stores_answer_and_keep_what_the_model_does(rt: HostRuntime) {
     let mut tally = Tally {
         refused: [0; 22],
         accepted: [0; 9],
+        grown: 0,
+        shrunk: 0,
         kept_old: 0,
         kept_new: 0,
     };
@@ -234,10 +261,11 @@ fn stores_answer_and_keep_what_the_model_does(rt: HostRuntime) {
             "{count} commands of kind {kind} were accepted"
         );
     }
-    for code in [1, 2, 3, 4, 5, 6, 7, 13, 14] {
+    for code in [1, 2, 3, 4, 5, 6, 7, 13] {
         let count = tally.refused[code];
         assert!(rt; count > 0, "{count} commands were refused with {code}");
     }
-    assert!(rt; tally.kept_old > 0);
-    assert!(rt; tally.kept_new > 0);
+    for count in [tally.grown, tally.shrunk, tally.kept_old, tally.kept_new] {
+        assert!(rt; count > 0);
+    }
 }

@@ -1,0 +1,247 @@
+//! The blocks that maps lie in, as a plain list of nodes: a change copies the nodes of one path and
+//! leaves all others as they are. A node stands for a block, and two maps share the nodes that they
+//! both reach.
+use std::alloc::{AllocError, Global};
+use vm_types::Key;
+
+/// The node of the empty map, which lies in no block.
+pub const EMPTY: usize = 0;
+
+/// How many records a leaf has at most.
+const RECORDS: usize = 16;
+
+/// How many children an inner node has at most.
+const CHILDREN: usize = 256;
+
+/// A record of a leaf, or a child of an inner node with the lowest key under it. A record has no child.
+#[derive(Clone, Copy)]
+struct Row {
+    low: Key,
+    child: usize,
+}
+
+/// A leaf has level 0, and the children of an inner node are one level below it. The rows are in the
+/// order of their keys.
+#[derive(Drop)]
+struct Node {
+    level: u32,
+    rows: Vec<Row>,
+}
+
+/// All nodes that ever were. A child comes before the nodes that it is under.
+#[derive(Drop)]
+pub struct Trees {
+    alloc: Global,
+    nodes: Vec<Node>,
+}
+
+/// Whether a key is put or taken out.
+#[derive(Clone, Copy, PartialEq, Eq)]
+enum Change {
+    Put,
+    Remove,
+}
+
+// At which child a key is: the last one whose lowest key isn't above it, or else the first one.
+fn place_of(rows: &[Row], key: Key) -> usize {
+    rows.iter()
+        .filter(|row| row.low <= key)
+        .count()
+        .saturating_sub(1)
+}
+
+// The rows of a leaf without a key.
+fn without(alloc: Global, rows: &[Row], key: Key) -> Result<Vec<Row>, AllocError> {
+    rows.iter()
+        .copied()
+        .filter(|row| row.low != key)
+        .collect(alloc)
+}
+
+// The rows of a leaf with a key.
+fn with(alloc: Global, rows: &[Row], key: Key) -> Result<Vec<Row>, AllocError> {
+    let record = Row {
+        low: key,
+        child: EMPTY,
+    };
+    let mut rows = without(alloc, rows, key)?;
+    match rows.iter().position(|row| row.low > key) {
+        Some(i) => rows.insert(i, record)?,
+        None => rows.push(record)?,
+    }
+    Ok(rows)
+}
+
+// The rows of an inner node with others in place of one.
+fn with_others(
+    alloc: Global,
+    rows: &[Row],
+    place: usize,
+    others: &[Row],
+) -> Result<Vec<Row>, AllocError> {
+    let mut all = Vec::new(alloc);
+    for (i, row) in rows.iter().enumerate() {
+        if i == place {
+            all.extend_from_slice(others)?;
+        } else {
+            all.push(*row)?;
+        }
+    }
+    Ok(all)
+}
+
+fn reach(reached: &mut [bool], node: usize) {
+    if node < reached.len() {
+        reached[node] = true;
+    }
+}
+
+impl Trees {
+    /// No node but that of the empty map.
+    pub fn new(alloc: Global) -> Result<Trees, AllocError> {
+        let mut nodes = Vec::new(alloc);
+        nodes.push(Node {
+            level: 0,
+            rows: Vec::new(alloc),
+        })?;
+        Ok(Trees { alloc, nodes })
+    }
+
+    /// The same once more.
+    pub fn copy(&self) -> Result<Trees, AllocError> {
+        let mut nodes = Vec::new(self.alloc);
+        for node in &self.nodes {
+            nodes.push(Node {
+                level: node.level,
+                rows: Vec::from_slice(self.alloc, &node.rows)?,
+            })?;
+        }
+        Ok(Trees {
+            alloc: self.alloc,
+            nodes,
+        })
+    }
+
+    fn rows(&self, node: usize) -> &[Row] {
+        match self.nodes.get(node) {
+            Some(node) => &node.rows,
+            None => &[],
+        }
+    }
+
+    /// How many levels of inner nodes the map under a root has.
+    pub fn level(&self, root: usize) -> u32 {
+        self.nodes.get(root).map_or(0, |node| node.level)
+    }
+
+    // The nodes from the root down to the leaf where a key is.
+    fn path(&self, root: usize, key: Key) -> Result<Vec<usize>, AllocError> {
+        let mut path = Vec::new(self.alloc);
+        let mut node = root;
+        path.push(node)?;
+        for _ in 0..self.level(root) {
+            let rows = self.rows(node);
+            node = match rows.get(place_of(rows, key)) {
+                Some(row) => row.child,
+                None => EMPTY,
+            };
+            path.push(node)?;
+        }
+        Ok(path)
+    }
+
+    // A new node with these rows. Gives the row that names it.
+    fn add(&mut self, level: u32, rows: &[Row]) -> Result<Option<Row>, AllocError> {
+        let Some(first) = rows.first() else {
+            return Ok(None);
+        };
+        let row = Row {
+            low: first.low,
+            child: self.nodes.len(),
+        };
+        let rows = Vec::from_slice(self.alloc, rows)?;
+        self.nodes.push(Node { level, rows })?;
+        Ok(Some(row))
+    }
+
+    // New nodes with these rows, and the rows that name them: no node for no rows, and two nodes for
+    // more rows than one has room for. The left one has one row more than the right one, or as many.
+    fn add_all(&mut self, level: u32, rows: &[Row]) -> Result<Vec<Row>, AllocError> {
+        let room = if level == 0 { RECORDS } else { CHILDREN };
+        let half = if rows.len() > room {
+            rows.len() - rows.len() / 2
+        } else {
+            rows.len()
+        };
+        let mut names = Vec::new(self.alloc);
+        for part in [&rows[..half], &rows[half..]] {
+            if let Some(row) = self.add(level, part)? {
+                names.push(row)?;
+            }
+        }
+        Ok(names)
+    }
+
+    // Copies the nodes of a path with a change of the leaf. Gives the rows that name the copies of the
+    // root: none, one or two.
+    fn copy_path(&mut self, root: usize, key: Key, change: Change) -> Result<Vec<Row>, AllocError> {
+        let path = self.path(root, key)?;
+        let mut names = Vec::new(self.alloc);
+        for node in path.iter().rev() {
+            let level = self.level(*node);
+            let old = self.rows(*node);
+            let rows = match change {
+                _ if level > 0 => with_others(self.alloc, old, place_of(old, key), &names)?,
+                Change::Put => with(self.alloc, old, key)?,
+                Change::Remove => without(self.alloc, old, key)?,
+            };
+            names = self.add_all(level, &rows)?;
+        }
+        Ok(names)
+    }
+
+    /// The root of the map with a key more. The nodes of the path are copied also where the key is
+    /// there. Where the root is cut in two, a new root stands above both.
+    pub fn put(&mut self, root: usize, key: Key) -> Result<usize, AllocError> {
+        let level = self.level(root).saturating_add(1);
+        let names = self.copy_path(root, key, Change::Put)?;
+        let name = match names.as_slice() {
+            [one] => Some(*one),
+            both => self.add(level, both)?,
+        };
+        Ok(name.map_or(EMPTY, |row| row.child))
+    }
+
+    /// The root of the map without a key. A node that would be empty is left out of the one above it,
+    /// and a root with one child gives way to the child, and so on down.
+    pub fn remove(&mut self, root: usize, key: Key) -> Result<usize, AllocError> {
+        let names = self.copy_path(root, key, Change::Remove)?;
+        let mut root = names.first().map_or(EMPTY, |row| row.child);
+        for _ in 0..self.level(root) {
+            if let [only] = self.rows(root) {
+                if self.level(root) > 0 {
+                    root = only.child;
+                }
+            }
+        }
+        Ok(root)
+    }
+
+    /// How many nodes are reached from these roots.
+    pub fn count(&self, roots: &[usize]) -> Result<u32, AllocError> {
+        let mut reached = Vec::from_elem(self.alloc, false, self.nodes.len())?;
+        for root in roots {
+            reach(&mut reached, *root);
+        }
+        let mut count: u32 = 0;
+        for n in (1..self.nodes.len()).rev() {
+            if n < reached.len() && reached[n] {
+                count = count.saturating_add(1);
+                for row in self.rows(n) {
+                    reach(&mut reached, row.child);
+                }
+            }
+        }
+        Ok(count)
+    }
+}
