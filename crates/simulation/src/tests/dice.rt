@@ -35,13 +35,13 @@ impl Dice {
         }
     }
 
-    /// Begins a new season. It may be a sweep where `top` has more than one leaf: one key of `top` after
-    /// another is taken out, so that whole leaves become empty.
-    pub fn turn(&mut self, has_leaves: bool) {
+    /// Begins a new season. It may be a sweep where `top` has more than one leaf: then most commands take
+    /// out one key of `top` after another, so that whole leaves become empty.
+    pub fn turn(&mut self, many_leaves: bool) {
         self.season = match self.below(4) {
             _ if self.keeps => Season::Growth,
             0 => Season::Change,
-            1 | 2 if has_leaves => Season::Sweep,
+            1 | 2 if many_leaves => Season::Sweep,
             _ => Season::Growth,
         };
         self.next = self.below(KEYS);
@@ -78,7 +78,7 @@ impl Dice {
         key(self.below(KEYS))
     }
 
-    // The key after the last one that a sweep took out.
+    // The key after the one that was drawn last in this way. The first follows the last.
     fn next_key(&mut self) -> Key {
         self.next = self.next.saturating_add(1) % KEYS;
         key(self.next)

@@ -219,9 +219,7 @@ impl Trees {
         let mut root = names.first().map_or(EMPTY, |row| row.child);
         for _ in 0..self.level(root) {
             if let [only] = self.rows(root) {
-                if self.level(root) > 0 {
-                    root = only.child;
-                }
+                root = only.child;
             }
         }
         Ok(root)
