@@ -1,0 +1,5 @@
+pub mod CursorLemmas
+pub mod OpenLemmas
+pub mod DeltaLemmas
+pub mod StepLemmas
+pub mod CompareLemmas

@@ -1,0 +1,12 @@
+use Rattle.std.proofs.Common.{◌+◌}
+use Rattle.vm_diff.specs.Walk.{size}
+use Rattle.vm_diff.proofs.CompareLemmas.{Compares}
+use Rattle.vm_diff.proofs.comparing.changed.Given as goal
+
+abbrev pub decreases-steps : goal.decreases-steps
+decreases-steps g l = size l.one + size l.other
+
+-- the differences so far are there
+abbrev pub invariant-steps : goal.invariant-steps
+invariant-steps g l =
+    Compares (g.D.Disk.state l.initial.disk) (g.D.Disk.state l.disk) l.blocks l.initial.one l.initial.other l.one l.other l.changes.items

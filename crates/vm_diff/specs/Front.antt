@@ -1,0 +1,23 @@
+-- What a walk stands before.
+use Rattle.std.specs.Prelude.{ℕ, ◌^◌, List, [], ◌∷◌}
+use Rattle.vm_types.specs.Places.{place}
+use Rattle.vm_block.specs.Leaf.{Record}
+use Rattle.vm_tree.specs.declared.root.Root.{Root}
+use Rattle.vm_diff.specs.Walk.{Walk}
+use Rattle.vm_diff.specs.declared.front.Front.{Front}
+use Rattle.vm_diff.specs.declared.front.Front.TheVariants.{End, Pair, Top}
+
+abbrev pub first_of : List Record → List Root → Front
+first_of [] [] = End
+first_of [] (t ∷ ts) = Top t
+first_of (r ∷ rs) ts = Pair r.0 r.1
+
+-- what a walk stands before
+abbrev pub front_of : Walk → Front
+front_of walk = first_of walk.pending walk.tops
+
+-- where its first key stands: at the end above all keys
+abbrev pub place_of : Front → ℕ
+place_of End = 2 ^ 80
+place_of (Pair key value) = place key
+place_of (Top top) = place top.low

@@ -1,0 +1,4 @@
+pub mod Walk
+pub mod Front
+pub mod Differ
+pub mod Steps

@@ -1,0 +1,50 @@
+-- Walks through trees: what lies ahead of one, and how much that is.
+use Rattle.std.specs.Prelude.{◌≡◌, ℕ, zero, suc, ◌+◌, ◌*◌, ◌≤◌, List, [], ◌∷◌, ◌++◌, length, map}
+use Rattle.vm_disk.specs.Disk.{Contents}
+use Rattle.vm_block.specs.Leaf.{Record}
+use Rattle.vm_block.specs.Tree.{Sizes, Begins, Subtree}
+use Rattle.vm_block.specs.declared.node.Child.{Child}
+use Rattle.vm_tree.specs.declared.root.Root.{Root}
+
+-- a walk through a tree
+pub record Walk : Type 0 where
+  -- the records that come next, from a leaf that is open
+  pub pending : List Record
+  -- the tops of the subtrees that come then
+  pub tops : List Root
+
+-- the tops of subtrees of this level
+abbrev pub tops_of : ℕ → List Child → List Root
+tops_of level cs = map (λ c. record { block = c.block; level = level; low = c.low }) cs
+
+-- opening one after another, of levels up to 7, never makes more than 1786 of them
+abbrev pub IsRoomy : List Root → Type 0
+IsRoomy [] = Unit {0}
+IsRoomy (t ∷ ts) = (length ts + 255 * t.level ≤ 1785) × IsRoomy ts
+
+-- more than all that a top of this level is opened into, whatever the blocks hold
+unfoldable pub weight : ℕ → ℕ
+weight zero = 17
+weight (suc level) = 257 * weight level
+
+abbrev pub weight_of : List Root → ℕ
+weight_of [] = 0
+weight_of (t ∷ ts) = weight t.level + weight_of ts
+
+-- how much is ahead of a walk at most
+abbrev pub size : Walk → ℕ
+size walk = length walk.pending + weight_of walk.tops
+
+-- under these tops lie these records, joined, in these blocks
+abbrev pub Under : Sizes → Contents → ℕ → List Root → List Record → List ℕ → Type 0
+Under sizes x limit [] rs bs = (rs ≡ []) × (bs ≡ [])
+Under sizes x limit (t ∷ ts) rs bs =
+    (first : List Record) × (rest : List Record) × (own : List ℕ) × (others : List ℕ)
+    × Subtree sizes x limit t.level t.block first own × Begins t.low first × Under sizes x limit ts rest others
+    × (rs ≡ first ++ rest) × (bs ≡ own ++ others)
+
+-- these records are ahead of the walk, and the subtrees that it has not opened lie in these blocks
+pub record IsAhead (sizes : Sizes) (x : Contents) (limit : ℕ) (walk : Walk) (rs : List Record) (bs : List ℕ) : Type 0 where
+  pub later : List Record
+  pub under : Under sizes x limit walk.tops later bs
+  pub records : rs ≡ walk.pending ++ later

@@ -1,0 +1,91 @@
+//! Where two maps differ.
+ghost use Rattle.std.specs.Prelude.{◌≡◌, ◌≢◌, ◌↔◌, ℕ, ◌≤◌, true, List, [], IsTrue};
+ghost use Rattle.vm_types.specs.Map.{Map, delta};
+ghost use Rattle.vm_disk.specs.Disk.{Goes};
+ghost use Rattle.vm_disk.specs.Moments.{OnlyReads};
+ghost use Rattle.vm_block.specs.Tree.{Sizes};
+ghost use Rattle.vm_tree.specs.Answers.{Lists, OkOrDevice};
+ghost use Rattle.vm_tree.specs.Root.{IsRooted};
+
+use crate::cursor::Cursor;
+use crate::front::Step;
+use crate::stepping::step;
+use std::alloc::Global;
+use vm_disk::Disk;
+use vm_tree::{Root, TreeFault};
+use vm_types::Change;
+
+/// Where the map under the second root differs from the one under the first: each such key once, in
+/// order, with both values. It takes memory for them alone.
+pub fn changed<D: Disk>(
+    alloc: Global,
+    disk: &mut D,
+    blocks: u32,
+    first: Root,
+    second: Root,
+) -> Result<Vec<Change>, TreeFault>
+    requires { blocks ≤ (D.state disk.old).blocks }
+    ensures any { Goes (result ≡ Err TreeFault.Device) (D.state disk.old) (D.state disk.new) }
+    ensures deep { result ≢ Err TreeFault.Deep }
+    ensures reads { (D.state disk.old).honest ≡ true → OnlyReads (D.state disk.old) (D.state disk.new) }
+
+    // On trees it is just the differences of their maps, whatever the sizes of their blocks, unless
+    // the device fails or no memory is found.
+    ensures changes { (D.state disk.old).honest ≡ true → (sizes : Sizes) (m n : Map) (bs cs : List ℕ)
+        → IsRooted sizes (D.state disk.old).now.contents blocks first m bs → IsRooted sizes (D.state disk.old).now.contents blocks second n cs
+        → Lists result (λ changes. changes.items ≡ delta m n) }
+{
+    let Some(mut one) = Cursor::new(first) else {
+        return Err(TreeFault::Damaged(first.block));
+    };
+    let Some(mut other) = Cursor::new(second) else {
+        return Err(TreeFault::Damaged(second.block));
+    };
+    let mut changes = Vec::new(alloc);
+    'steps: loop {
+        match step(disk, blocks, &mut one, &mut other) {
+            Ok(Step::Done) => return Ok(changes),
+            Ok(Step::Moved) => {}
+            Ok(Step::Found(change)) => match changes.extend_from_slice(&[change]) {
+                Ok(()) => {}
+                Err(_) => return Err(TreeFault::Memory),
+            },
+            Err(fault) => return Err(fault),
+        }
+    }
+}
+
+/// Whether the maps under two roots are equal. It takes no memory, and ends at the first difference.
+pub fn same<D: Disk>(
+    disk: &mut D,
+    blocks: u32,
+    first: Root,
+    second: Root,
+) -> Result<bool, TreeFault>
+    requires { blocks ≤ (D.state disk.old).blocks }
+    ensures any { Goes (result ≡ Err TreeFault.Device) (D.state disk.old) (D.state disk.new) }
+    ensures deep { result ≢ Err TreeFault.Deep }
+    ensures memory { result ≢ Err TreeFault.Memory }
+    ensures reads { (D.state disk.old).honest ≡ true → OnlyReads (D.state disk.old) (D.state disk.new) }
+
+    // On trees it tells whether their maps differ nowhere, whatever the sizes of their blocks, unless
+    // the device fails.
+    ensures equal { (D.state disk.old).honest ≡ true → (sizes : Sizes) (m n : Map) (bs cs : List ℕ)
+        → IsRooted sizes (D.state disk.old).now.contents blocks first m bs → IsRooted sizes (D.state disk.old).now.contents blocks second n cs
+        → OkOrDevice result (λ equal. IsTrue equal ↔ (delta m n ≡ [])) }
+{
+    let Some(mut one) = Cursor::new(first) else {
+        return Err(TreeFault::Damaged(first.block));
+    };
+    let Some(mut other) = Cursor::new(second) else {
+        return Err(TreeFault::Damaged(second.block));
+    };
+    'steps: loop {
+        match step(disk, blocks, &mut one, &mut other) {
+            Ok(Step::Done) => return Ok(true),
+            Ok(Step::Moved) => {}
+            Ok(Step::Found(_)) => return Ok(false),
+            Err(fault) => return Err(fault),
+        }
+    }
+}
