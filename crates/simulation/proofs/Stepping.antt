@@ -1,5 +1,5 @@
 -- What a step on one alternative comes to, where the alternative stands at a place of the tree.
-use Rattle.std.proofs.Common.{◌≡◌, ℕ, ◌<◌, Bool, true, false, List, [], ◌∷◌, get_or, set, Option, Some, None, is_some, Ok, Err, bytes_eq, refl, sym, ap, ◌∙◌, arith}
+use Rattle.std.proofs.Common.{◌≡◌, ℕ, false, List, [], ◌∷◌, get_or, set, Option, Some, None, is_some, Ok, Err, bytes_eq, refl, sym, ap, ◌∙◌, arith}
 use Rattle.vm_types.specs.declared.answer.Answer.{Answer}
 use Rattle.vm_types.specs.declared.refusal.Refusal.{Refusal}
 use Rattle.vm_types.specs.Firsts.{IsFirst}

@@ -2,16 +2,16 @@
 ghost use Rattle.std.specs.Prelude.{◌≡◌, [], ◌∷◌, ◌++◌, length, find, Some, None, is_some, IfSome, IfNone, IfOk, OnOk, OnErr, bytes_eq};
 ghost use Rattle.std.specs.Option.{option_eq};
 ghost use Rattle.vm_types.specs.Firsts.{IsFirst, without_first};
-ghost use Rattle.vm_types.specs.Map.{get, with_value, without};
+ghost use Rattle.vm_types.specs.Map.{get, with_value, without, same_map, delta, conflicts, merge};
 ghost use Rattle.vm_types.specs.Shape.{saved_names};
 ghost use Rattle.vm_types.specs.Step.{new_alternative};
 ghost use Rattle.vm_types.specs.Tree.{saved_as};
 ghost use Rattle.vm_types.specs.Outcomes.{gone_back};
 
-use crate::map;
+use crate::{comparing, map};
 use std::alloc::{AllocError, Global};
 use std::marker::Model;
-use vm_types::{Key, Name, Value};
+use vm_types::{Change, Conflict, Key, Name, Side, Value};
 
 /// A checkpoint: an earlier state of an alternative, under a name.
 #[derive(Drop)]
@@ -90,7 +90,7 @@ fn copy_saved(alloc: Global, saved: &[Saved]) -> Result<Vec<Saved>, AllocError>
 
 impl Alternative {
     /// The first alternative of a store, without records.
-    pub fn first(alloc: Global, name: &Name) -> Alternative
+    pub(super) fn first(alloc: Global, name: &Name) -> Alternative
         ensures { result ≡ record { name = name.now; parent = None; current = []; base = []; saved = [] } }
     {
         Alternative {
@@ -103,7 +103,7 @@ impl Alternative {
     }
 
     /// A new alternative under this one, which shows its records.
-    pub fn child(&self, alloc: Global, name: &Name) -> Result<Alternative, AllocError>
+    pub(super) fn child(&self, alloc: Global, name: &Name) -> Result<Alternative, AllocError>
         ensures { IfOk result (λ child. child ≡ new_alternative name.now self.now) }
     {
         Ok(Alternative {
@@ -116,7 +116,7 @@ impl Alternative {
     }
 
     /// The same once more.
-    pub fn copy(&self, alloc: Global) -> Result<Alternative, AllocError>
+    pub(super) fn copy(&self, alloc: Global) -> Result<Alternative, AllocError>
         ensures { IfOk result (λ copy. copy ≡ self.now) }
     {
         Ok(Alternative {
@@ -129,42 +129,42 @@ impl Alternative {
     }
 
     /// Whether it has this name.
-    pub fn is_named(&self, name: &Name) -> bool
+    pub(super) fn is_named(&self, name: &Name) -> bool
         ensures { result ≡ bytes_eq self.now.name name.now }
     {
         self.name == *name
     }
 
     /// The name of its parent. The first alternative has none.
-    pub fn parent(&self) -> Option<Name>
+    pub(super) fn parent(&self) -> Option<Name>
         ensures { result ≡ self.now.parent }
     {
         self.parent
     }
 
     /// Whether its parent has this name.
-    pub fn is_under(&self, name: &Name) -> bool
+    pub(super) fn is_under(&self, name: &Name) -> bool
         ensures { result ≡ option_eq bytes_eq self.now.parent (Some name.now) }
     {
         self.parent == Some(*name)
     }
 
     /// How many checkpoints it has.
-    pub fn saved_count(&self) -> usize
+    pub(super) fn saved_count(&self) -> usize
         ensures { result ≡ length self.now.saved }
     {
         self.saved.len()
     }
 
     /// The value of a record.
-    pub fn get(&self, key: Key) -> Option<Value>
+    pub(super) fn get(&self, key: Key) -> Option<Value>
         ensures { result ≡ get self.now.current key }
     {
         map::get(&self.current, key)
     }
 
     /// Gives a record a value.
-    pub fn put(&mut self, alloc: Global, key: Key, value: &Value) -> Result<(), AllocError>
+    pub(super) fn put(&mut self, alloc: Global, key: Key, value: &Value) -> Result<(), AllocError>
         ensures ok { OnOk result (self.new ≡ record self.old { current = with_value self.old.current key value.now }) }
         ensures err { OnErr result (self.new ≡ self.old) }
     {
@@ -173,7 +173,7 @@ impl Alternative {
     }
 
     /// Takes a record out.
-    pub fn remove(&mut self, alloc: Global, key: Key) -> Result<(), AllocError>
+    pub(super) fn remove(&mut self, alloc: Global, key: Key) -> Result<(), AllocError>
         ensures ok { OnOk result (self.new ≡ record self.old { current = without self.old.current key }) }
         ensures err { OnErr result (self.new ≡ self.old) }
     {
@@ -182,35 +182,107 @@ impl Alternative {
     }
 
     /// A copy of what it shows.
-    pub fn records(&self, alloc: Global) -> Result<Vec<(Key, Value)>, AllocError>
+    pub(super) fn records(&self, alloc: Global) -> Result<Vec<(Key, Value)>, AllocError>
         ensures { IfOk result (λ copy. copy.items ≡ self.now.current) }
     {
         Vec::from_slice(alloc, &self.current)
     }
 
+    /// What changed since its base, by rising keys.
+    pub(super) fn changes(&self, alloc: Global) -> Result<Vec<Change>, AllocError>
+        ensures { IfOk result (λ list. list.items ≡ delta self.now.base self.now.current) }
+    {
+        comparing::changes(alloc, &self.base, &self.current)
+    }
+
+    /// Where it is in conflict with its parent, by rising keys.
+    pub(super) fn conflicts(
+        &self,
+        alloc: Global,
+        parent: &Alternative,
+    ) -> Result<Vec<Conflict>, AllocError>
+        ensures { IfOk result (λ list. list.items ≡ conflicts self.now.base parent.now.current self.now.current) }
+    {
+        comparing::conflicts(alloc, &self.base, &parent.current, &self.current)
+    }
+
+    /// Whether its base is what its parent shows.
+    pub(super) fn is_merged(&self, parent: &Alternative) -> bool
+        ensures { result ≡ same_map self.now.base parent.now.current }
+    {
+        comparing::same(&self.base, &parent.current)
+    }
+
+    /// What it shows once it is merged with its parent, with conflicts settled so.
+    pub(super) fn merged(
+        &self,
+        alloc: Global,
+        parent: &Alternative,
+        settled: &[(Key, Side)],
+    ) -> Result<Vec<(Key, Value)>, AllocError>
+        ensures { IfOk result (λ merged. merged.items ≡ merge self.now.base parent.now.current self.now.current settled.now) }
+    {
+        comparing::merge(alloc, &self.base, &parent.current, &self.current, settled)
+    }
+
+    /// How many of its records change where it shows these instead. More changes than a `u32` counts
+    /// take more than a TiB, and are refused as want of memory.
+    pub(super) fn change_count(
+        &self,
+        alloc: Global,
+        records: &[(Key, Value)],
+    ) -> Result<u32, AllocError>
+        ensures { IfOk result (λ count. count ≡ length (delta self.now.current records.now)) }
+    {
+        let changes = comparing::changes(alloc, &self.current, records)?;
+        u32::try_from(changes.len()).map_err(|_| AllocError)
+    }
+
+    /// Shows these records from now on, and has these as its base.
+    pub(super) fn rebase(&mut self, current: Vec<(Key, Value)>, base: Vec<(Key, Value)>)
+        ensures { self.new ≡ record self.old { current = current.items; base = base.items } }
+    {
+        self.set_current(current);
+        self.set_base(base);
+    }
+
+    /// Shows these records from now on.
+    pub(super) fn set_current(&mut self, records: Vec<(Key, Value)>)
+        ensures { self.new ≡ record self.old { current = records.items } }
+    {
+        self.current = records;
+    }
+
+    /// Has these as its base from now on.
+    pub(super) fn set_base(&mut self, records: Vec<(Key, Value)>)
+        ensures { self.new ≡ record self.old { base = records.items } }
+    {
+        self.base = records;
+    }
+
     /// Its name, and its parent.
-    pub fn labels(&self) -> (Name, Option<Name>)
+    pub(super) fn labels(&self) -> (Name, Option<Name>)
         ensures { result ≡ (self.now.name, self.now.parent) }
     {
         (self.name, self.parent)
     }
 
     /// The names of its checkpoints, in order of creation.
-    pub fn saved_names(&self, alloc: Global) -> Result<Vec<Name>, AllocError>
+    pub(super) fn saved_names(&self, alloc: Global) -> Result<Vec<Name>, AllocError>
         ensures { IfOk result (λ names. names.items ≡ saved_names self.now.saved) }
     {
         self.saved.iter().map(|c| c.name).collect(alloc)
     }
 
     /// Whether it has a checkpoint of this name.
-    pub fn has_saved(&self, name: &Name) -> bool
+    pub(super) fn has_saved(&self, name: &Name) -> bool
         ensures { result ≡ is_some (saved_as self.now name.now) }
     {
         position_of(&self.saved, name).is_some()
     }
 
     /// Names its present state.
-    pub fn save(&mut self, alloc: Global, name: &Name) -> Result<(), AllocError>
+    pub(super) fn save(&mut self, alloc: Global, name: &Name) -> Result<(), AllocError>
         ensures ok { OnOk result (self.new ≡ record self.old { saved = self.old.saved ++ record { name = name.now; current = self.old.current; base = self.old.base } ∷ [] }) }
         ensures err { OnErr result (self.new ≡ self.old) }
     {
@@ -224,7 +296,7 @@ impl Alternative {
     }
 
     /// Takes the checkpoint of this name out, if there is one.
-    pub fn forget(&mut self, name: &Name)
+    pub(super) fn forget(&mut self, name: &Name)
         ensures { self.new ≡ record self.old { saved = without_first (λ c. bytes_eq c.name name.now) self.old.saved } }
     {
         if let Some(i) = position_of(&self.saved, name) {
@@ -233,7 +305,7 @@ impl Alternative {
     }
 
     /// Goes back to the checkpoint of this name, if there is one.
-    pub fn go_back(&mut self, alloc: Global, name: &Name) -> Result<(), AllocError>
+    pub(super) fn go_back(&mut self, alloc: Global, name: &Name) -> Result<(), AllocError>
         ensures ok { OnOk result (self.new ≡ gone_back self.old (saved_as self.old name.now)) }
         ensures err { OnErr result (self.new ≡ self.old) }
     {
@@ -249,7 +321,7 @@ impl Alternative {
 }
 
 /// The same tree once more.
-pub fn copy_tree(alloc: Global, tree: &[Alternative]) -> Result<Vec<Alternative>, AllocError>
+pub(super) fn copy_tree(alloc: Global, tree: &[Alternative]) -> Result<Vec<Alternative>, AllocError>
     ensures { IfOk result (λ copy. copy.items ≡ tree.now) }
 {
     let mut copy = Vec::new(alloc);

@@ -7,8 +7,10 @@
 #![tactic(auto)]
 
 mod alternative;
+mod comparing;
 mod map;
 mod plain;
+mod settling;
 #[tactic(auto, unfolding(vm_types::specs::Step::or_refuse, vm_types::specs::Step::refuse_if, vm_types::specs::Step::refuse_found))]
 mod steps;
 #[cfg(test)]

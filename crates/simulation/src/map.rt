@@ -7,7 +7,7 @@ use std::cmp::Ordering;
 use vm_types::{Key, Value};
 
 /// The value at a key, if there is one.
-pub fn get(map: &[(Key, Value)], key: Key) -> Option<Value>
+pub(super) fn get(map: &[(Key, Value)], key: Key) -> Option<Value>
     ensures { result ≡ get map.now key }
 {
     for (other, value) in map {
@@ -36,7 +36,7 @@ fn place_of(map: &[(Key, Value)], key: Key) -> Result<usize, usize>
 }
 
 /// The map with this value at the key.
-pub fn with_value(
+pub(super) fn with_value(
     alloc: Global,
     map: &[(Key, Value)],
     key: Key,
@@ -53,7 +53,7 @@ pub fn with_value(
 }
 
 /// The map without the key.
-pub fn without(
+pub(super) fn without(
     alloc: Global,
     map: &[(Key, Value)],
     key: Key,

@@ -4,14 +4,14 @@ ghost use Rattle.vm_types.specs.Shape.{shape};
 ghost use Rattle.vm_types.specs.State.{opened, next};
 ghost use Rattle.vm_types.specs.Tree.{fresh};
 ghost use Rattle.vm_store.specs.Answers.{value_in};
-ghost use Rattle.vm_store.specs.Listing.{IsList, records_in, checkpoints_in};
-ghost use Rattle.simulation.specs.Plain.{IsAnswer, IsCarriedOut};
+ghost use Rattle.vm_store.specs.Listing.{IsList, records_in, checkpoints_in, changes_in, conflicts_in};
+ghost use Rattle.simulation.specs.Plain.{IsAnswer};
 
 use crate::alternative::{self, Alternative};
 use crate::steps::{self, Reply};
 use std::alloc::{AllocError, Global};
 use std::marker::Model;
-use vm_types::{Answer, Command, Key, Name, Refusal, Value};
+use vm_types::{Answer, Change, Command, Conflict, Key, Name, Refusal, Value};
 
 /// A store as the definitions have it: slow, and obvious.
 #[derive(Drop)]
@@ -74,9 +74,19 @@ impl Plain {
         })
     }
 
+    /// The same once more.
+    pub fn copy(&self) -> Result<Plain, AllocError>
+        ensures { IfOk result (λ copy. copy ≡ self.now) }
+    {
+        Ok(Plain {
+            alloc: self.alloc,
+            committed: alternative::copy_tree(self.alloc, &self.committed)?,
+            working: alternative::copy_tree(self.alloc, &self.working)?,
+        })
+    }
+
     /// Carries out one command. Where there is no memory for it, it changes nothing.
     pub fn apply(&mut self, command: &Command) -> Reply
-        requires { IsCarriedOut command.now }
         ensures answer { IsAnswer self.old command.now result }
         ensures state { self.new ≡ next self.old command.now result }
     {
@@ -95,9 +105,12 @@ impl Plain {
             }
             Command::Uncheck { alt, name } => steps::uncheck(tree, alt, name),
             Command::Back { alt, name } => reply_of(steps::back(alloc, tree, alt, name)),
+            Command::Merge { alt, settled } => {
+                reply_of(steps::merge(alloc, tree, alt, settled.as_slice()))
+            }
+            Command::Post { alt } => reply_of(steps::post(alloc, tree, alt)),
             Command::Commit => self.commit(),
             Command::Reclaim => Ok(Answer::Done),
-            Command::Merge { .. } | Command::Post { .. } => unreachable!(),
         }
     }
 
@@ -155,5 +168,29 @@ impl Plain {
                 .map_err(|_| Refusal::Memory),
             None => Err(Refusal::NoSuchAlternative),
         }
+    }
+
+    /// What changed in an alternative since its base, in the working state, by rising keys.
+    pub fn changes(&self, alt: &Name) -> Result<Vec<Change>, Refusal>
+        ensures changes { IsList result (changes_in self.now.working alt.now) }
+        ensures device { result ≢ Err Refusal.Device }
+    {
+        match steps::position_of(&self.working, alt) {
+            Some(i) => self.working[i]
+                .changes(self.alloc)
+                .map_err(|_| Refusal::Memory),
+            None => Err(Refusal::NoSuchAlternative),
+        }
+    }
+
+    /// Where an alternative is in conflict with its parent, in the working state, by rising keys.
+    pub fn conflicts(&self, alt: &Name) -> Result<Vec<Conflict>, Refusal>
+        ensures conflicts { IsList result (conflicts_in self.now.working alt.now) }
+        ensures device { result ≢ Err Refusal.Device }
+    {
+        let (i, j) = steps::with_parent(&self.working, alt)?;
+        self.working[i]
+            .conflicts(self.alloc, &self.working[j])
+            .map_err(|_| Refusal::Memory)
     }
 }

@@ -1,14 +1,16 @@
 //! What each command does to a tree of alternatives. Where there is no memory the tree is as before.
-ghost use Rattle.std.specs.Prelude.{◌≡◌, find, None, is_some, IfSome, IfNone, IfOk, OnErr, bytes_eq};
+ghost use Rattle.std.specs.Prelude.{◌≡◌, ℕ, ◌<◌, false, slice_index_or, find, Some, None, is_some, IfSome, IfNone, IfOk, IfErr, OnErr, bytes_eq};
 ghost use Rattle.vm_types.specs.declared.command.Command.{Command};
 ghost use Rattle.vm_types.specs.Firsts.{IsFirst};
 ghost use Rattle.vm_types.specs.Step.{step};
-ghost use Rattle.vm_types.specs.Tree.{named, has_children, is_full};
+ghost use Rattle.vm_types.specs.Tree.{Alternative, named, has_children, is_full};
 ghost use Rattle.vm_types.specs.Outcomes.{IsOutcome};
+ghost use Rattle.simulation.specs.Plain.{IsUnder, parent_refusal};
 
 use crate::alternative::Alternative;
+use crate::settling;
 use std::alloc::{AllocError, Global};
-use vm_types::{Answer, Key, Name, Refusal, Value};
+use vm_types::{Answer, Key, Name, Refusal, Side, Value};
 
 /// What a command is answered.
 pub type Reply = Result<Answer, Refusal>;
@@ -17,8 +19,9 @@ pub type Reply = Result<Answer, Refusal>;
 const MAX_ENTRIES: usize = 511;
 
 /// Where the alternative of this name stands.
-pub fn position_of(tree: &[Alternative], name: &Name) -> Option<usize>
+pub(super) fn position_of(tree: &[Alternative], name: &Name) -> Option<usize>
     ensures found { IfSome result (IsFirst (λ a. bytes_eq a.name name.now) tree.now) }
+    ensures earlier { IfSome result (λ i. (k : ℕ) (d : Alternative) → k < i → bytes_eq (slice_index_or tree.now k d).name name.now ≡ false) }
     ensures none { IfNone result (find (λ a. bytes_eq a.name name.now) tree.now ≡ None) }
 {
     for (i, alternative) in tree.iter().enumerate() {
@@ -33,6 +36,23 @@ fn is_there(tree: &[Alternative], name: &Name) -> bool
     ensures { result ≡ is_some (named tree.now name.now) }
 {
     position_of(tree, name).is_some()
+}
+
+/// Where the alternative of this name and its parent stand.
+pub(super) fn with_parent(tree: &[Alternative], alt: &Name) -> Result<(usize, usize), Refusal>
+    ensures places { IfOk result (λ places. IsUnder tree.now alt.now places.0 places.1) }
+    ensures refusal { IfErr result (λ refusal. parent_refusal tree.now (named tree.now alt.now) ≡ Some refusal) }
+{
+    let Some(i) = position_of(tree, alt) else {
+        return Err(Refusal::NoSuchAlternative);
+    };
+    let Some(parent) = tree[i].parent() else {
+        return Err(Refusal::IsTop);
+    };
+    match position_of(tree, &parent) {
+        Some(j) => Ok((i, j)),
+        None => Err(Refusal::NoSuchAlternative),
+    }
 }
 
 fn has_children(tree: &[Alternative], name: &Name) -> bool
@@ -55,7 +75,7 @@ fn is_full(tree: &[Alternative]) -> bool
     false
 }
 
-pub fn new_alternative(
+pub(super) fn new_alternative(
     alloc: Global,
     tree: &mut Vec<Alternative>,
     name: &Name,
@@ -78,7 +98,7 @@ pub fn new_alternative(
     Ok(Ok(Answer::Done))
 }
 
-pub fn drop_alternative(tree: &mut Vec<Alternative>, alt: &Name) -> Reply
+pub(super) fn drop_alternative(tree: &mut Vec<Alternative>, alt: &Name) -> Reply
     ensures { IsOutcome (step tree.old.items (Command.Drop alt.now)) tree.old.items tree.new.items result }
 {
     let Some(i) = position_of(tree, alt) else {
@@ -94,7 +114,7 @@ pub fn drop_alternative(tree: &mut Vec<Alternative>, alt: &Name) -> Reply
     Ok(Answer::Done)
 }
 
-pub fn put(
+pub(super) fn put(
     alloc: Global,
     tree: &mut [Alternative],
     alt: &Name,
@@ -111,7 +131,7 @@ pub fn put(
     Ok(Ok(Answer::Done))
 }
 
-pub fn remove(
+pub(super) fn remove(
     alloc: Global,
     tree: &mut [Alternative],
     alt: &Name,
@@ -130,7 +150,7 @@ pub fn remove(
     Ok(Ok(Answer::Done))
 }
 
-pub fn checkpoint(
+pub(super) fn checkpoint(
     alloc: Global,
     tree: &mut [Alternative],
     alt: &Name,
@@ -152,7 +172,7 @@ pub fn checkpoint(
     Ok(Ok(Answer::Done))
 }
 
-pub fn uncheck(tree: &mut [Alternative], alt: &Name, name: &Name) -> Reply
+pub(super) fn uncheck(tree: &mut [Alternative], alt: &Name, name: &Name) -> Reply
     ensures { IsOutcome (step tree.old (Command.Uncheck alt.now name.now)) tree.old tree.new result }
 {
     let Some(i) = position_of(tree, alt) else {
@@ -165,7 +185,7 @@ pub fn uncheck(tree: &mut [Alternative], alt: &Name, name: &Name) -> Reply
     Ok(Answer::Done)
 }
 
-pub fn back(
+pub(super) fn back(
     alloc: Global,
     tree: &mut [Alternative],
     alt: &Name,
@@ -181,5 +201,47 @@ pub fn back(
         return Ok(Err(Refusal::NoSuchCheckpoint));
     }
     tree[i].go_back(alloc, name)?;
+    Ok(Ok(Answer::Done))
+}
+
+pub(super) fn merge(
+    alloc: Global,
+    tree: &mut [Alternative],
+    alt: &Name,
+    settled: &[(Key, Side)],
+) -> Result<Reply, AllocError>
+    ensures ok { IfOk result (IsOutcome (step tree.old (Command.Merge alt.now settled.now)) tree.old tree.new) }
+    ensures err { OnErr result (tree.new ≡ tree.old) }
+{
+    let (i, j) = match with_parent(tree, alt) {
+        Ok(places) => places,
+        Err(refusal) => return Ok(Err(refusal)),
+    };
+    let conflicts = tree[i].conflicts(alloc, &tree[j])?;
+    if let Some(refusal) = settling::refusal(settled, &conflicts) {
+        return Ok(Err(refusal));
+    }
+    let merged = tree[i].merged(alloc, &tree[j], settled)?;
+    let count = tree[i].change_count(alloc, &merged)?;
+    let base = tree[j].records(alloc)?;
+    tree[i].rebase(merged, base);
+    Ok(Ok(Answer::Merged(count)))
+}
+
+pub(super) fn post(alloc: Global, tree: &mut [Alternative], alt: &Name) -> Result<Reply, AllocError>
+    ensures ok { IfOk result (IsOutcome (step tree.old (Command.Post alt.now)) tree.old tree.new) }
+    ensures err { OnErr result (tree.new ≡ tree.old) }
+{
+    let (i, j) = match with_parent(tree, alt) {
+        Ok(places) => places,
+        Err(refusal) => return Ok(Err(refusal)),
+    };
+    if !tree[i].is_merged(&tree[j]) {
+        return Ok(Err(Refusal::NotMerged));
+    }
+    let current = tree[i].records(alloc)?;
+    let base = tree[i].records(alloc)?;
+    tree[j].set_current(current);
+    tree[i].set_base(base);
     Ok(Ok(Answer::Done))
 }

@@ -2,10 +2,15 @@
 //! each call in turn.
 mod cast;
 mod device_calls;
+mod device_faults;
 mod dice;
+mod merging;
 mod model;
 mod recording;
+mod scripts;
 mod sessions;
+mod states;
+mod tally;
 mod trees;
 
 use std::alloc::AllocError;
@@ -23,16 +28,18 @@ type Reply = Result<Answer, Refusal>;
 enum Wrong {
     /// No memory for the test itself.
     Memory,
-    /// A device call of the test itself failed.
+    /// A device call of the test itself failed, or a call is answered so where the device served.
     Device,
+    /// The device failed, and no call is answered so.
+    Hidden,
     /// A call was refused, where it should serve.
     Refused(Refusal),
     /// The store's answer isn't the model's, which comes second.
     Answer(Reply, Reply),
-    /// The store has other blocks free than the model has spare.
+    /// The store has more blocks free than the model, or fewer.
     Free,
-    /// The store has a record that the model hasn't, or the other way round.
-    Record,
+    /// The store shows something else than the model.
+    Differs,
     /// What is shown is neither what was committed nor what the last Commit commits.
     Shown,
 }

@@ -1,12 +1,19 @@
 //! What a store answers, and what it leaves on a disk, by hand.
+mod commands;
 mod counting;
 mod crashing;
+mod differences;
 mod failing;
+mod library;
 mod listing;
+mod merging;
+mod posting;
 mod reclaiming;
 mod removing;
 mod running;
+mod settling;
 mod slots;
+mod spending;
 mod versions;
 
 use std::alloc::Global;
@@ -93,6 +100,23 @@ fn expect_records<R: Abort>(rt: &R, records: &[(Key, Value)], expected: &[(Key, 
     for (i, (record, wanted)) in records.iter().zip(expected).enumerate() {
         assert_eq!(rt; record.0, wanted.0, "record {i}");
         assert_eq!(rt; Some(record.1), Value::new(wanted.1), "record {i}");
+    }
+}
+
+// Compares what a query gave with the list that is expected of it.
+fn expect_list<R: Abort, T: PartialEq + Debug>(
+    rt: &R,
+    given: &Result<Vec<T>, Refusal>,
+    expected: &[T],
+) {
+    match given {
+        Ok(list) => {
+            assert_eq!(rt; list.len(), expected.len());
+            for (i, (item, wanted)) in list.iter().zip(expected).enumerate() {
+                assert_eq!(rt; item, wanted, "item {i}");
+            }
+        }
+        Err(refusal) => panic!(rt; "{refusal:?}"),
     }
 }
 

@@ -2,8 +2,14 @@ pub mod Numbers
 pub mod Matches
 pub mod Parts
 pub mod Spaces
+pub mod Settlements
 pub mod Escapes
 pub mod Names
 pub mod Known
 pub mod Written
-pub mod Carried
+pub mod CarriedLemmas
+pub mod TalkLemmas
+pub mod HandledLemmas
+pub mod WritesLemmas
+pub mod FeedLemmas
+pub mod ServeLemmas

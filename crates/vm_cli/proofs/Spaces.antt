@@ -1,42 +1,67 @@
--- The first word of a line.
-use Rattle.std.proofs.Common.{◌≡◌, ◌<◌, ◌+◌, ◌-◌, ◌==◌, ℕ, false, List, [], ◌∷◌, length, take, drop, get_or, zero, suc, refl, arith, add-one}
+-- The first piece of a text, and the first word of a line.
+use Rattle.std.proofs.Common.{◌≡◌, ◌<◌, ◌+◌, ◌-◌, ◌==◌, ℕ, Bool, true, false, List, [], ◌∷◌, length, take, drop, get_or, zero, suc, refl, arith, add-one}
 use Rattle.std.proofs.lemmas.List.{take_rest}
 use Rattle.std.specs.List.{slice_split, filter}
+use Rattle.vm_cli.specs.Pieces.{before_mark, behind_mark}
 use Rattle.vm_cli.specs.Spaces.{is_some_byte, with_word, words_of}
 
-abbrev pub pieces : List ℕ → List (List ℕ)
-pieces bytes = slice_split (λ b. b == 32) bytes
+other : (b mark : ℕ) → (b ≡ mark → ⊥) → (b == mark) ≡ false
+other b mark h = grind (arith, h)
 
-no_space : (b : ℕ) → (b ≡ 32 → ⊥) → (b == 32) ≡ false
-no_space b h = grind (arith, h)
+same : (b mark : ℕ) → b ≡ mark → (b == mark) ≡ true
+same b mark h = grind (arith, h)
 
--- the first piece ends at the first space
-pieces-at : (i : ℕ) (bytes : List ℕ) → i < length bytes → get_or bytes i 0 ≡ 32 → ((k : ℕ) → k < i → get_or bytes k 0 ≡ 32 → ⊥)
-    → pieces bytes ≡ take i bytes ∷ pieces (drop (suc i) bytes)
-pieces-at i [] lt at before = absurd (omega arith)
-pieces-at zero (b ∷ bytes) lt at before = rw at refl
-pieces-at (suc i) (b ∷ bytes) lt at before =
-    let first = no_space b (before 0 (omega arith)) in
-    let rest = pieces-at i bytes (omega arith) at (λ k h. before (suc k) (omega arith)) in
-    rw (first, rest) refl
+pub before_mark-at : (i mark : ℕ) (bytes : List ℕ) → i < length bytes → get_or bytes i 0 ≡ mark → ((k : ℕ) → k < i → get_or bytes k 0 ≡ mark → ⊥)
+    → take i bytes ≡ before_mark mark bytes
+before_mark-at i mark [] lt at none = absurd (omega arith)
+before_mark-at zero mark (b ∷ bytes) lt at none = rw (same b mark at) refl
+before_mark-at (suc i) mark (b ∷ bytes) lt at none =
+    rw (other b mark (none 0 (omega arith)), before_mark-at i mark bytes (omega arith) at (λ k h. none (suc k) (omega arith))) refl
 
--- without a space there is one piece
-pieces-one : (bytes : List ℕ) → ((k : ℕ) → k < length bytes → get_or bytes k 0 ≡ 32 → ⊥) → pieces bytes ≡ bytes ∷ []
-pieces-one [] none = refl
-pieces-one (b ∷ bytes) none =
-    let first = no_space b (none 0 (omega arith)) in
-    let rest = pieces-one bytes (λ k h. none (suc k) (omega arith)) in
-    rw (first, rest) refl
+behind_mark-drop : (i mark : ℕ) (bytes : List ℕ) → i < length bytes → get_or bytes i 0 ≡ mark → ((k : ℕ) → k < i → get_or bytes k 0 ≡ mark → ⊥)
+    → drop (suc i) bytes ≡ behind_mark mark bytes
+behind_mark-drop i mark [] lt at none = absurd (omega arith)
+behind_mark-drop zero mark (b ∷ bytes) lt at none = rw (same b mark at) refl
+behind_mark-drop (suc i) mark (b ∷ bytes) lt at none =
+    rw (other b mark (none 0 (omega arith)), behind_mark-drop i mark bytes (omega arith) at (λ k h. none (suc k) (omega arith))) refl
+
+pub behind_mark-at : (i mark : ℕ) (bytes : List ℕ) → i < length bytes → get_or bytes i 0 ≡ mark → ((k : ℕ) → k < i → get_or bytes k 0 ≡ mark → ⊥)
+    → take (length bytes - (i + 1)) (drop (i + 1) bytes) ≡ behind_mark mark bytes
+behind_mark-at i mark bytes lt at none = rw (take_rest bytes (i + 1), add-one i) (behind_mark-drop i mark bytes lt at none)
+
+pub before_mark-none : (mark : ℕ) (bytes : List ℕ) → ((k : ℕ) → k < length bytes → get_or bytes k 0 ≡ mark → ⊥) → bytes ≡ before_mark mark bytes
+before_mark-none mark [] none = refl
+before_mark-none mark (b ∷ bytes) none =
+    rw (other b mark (none 0 (omega arith)), ← before_mark-none mark bytes (λ k h. none (suc k) (omega arith))) refl
+
+pub behind_mark-none : (mark : ℕ) (bytes : List ℕ) → ((k : ℕ) → k < length bytes → get_or bytes k 0 ≡ mark → ⊥) → [] ≡ behind_mark mark bytes
+behind_mark-none mark [] none = refl
+behind_mark-none mark (b ∷ bytes) none =
+    rw (other b mark (none 0 (omega arith)), ← behind_mark-none mark bytes (λ k h. none (suc k) (omega arith))) refl
+
+-- what a text is split into at spaces: its first piece, and others
+abbrev Split : List ℕ → Type 0
+Split bytes =
+    (others : List (List ℕ)) × (slice_split (λ b. b == 32) bytes ≡ before_mark 32 bytes ∷ others) × (filter is_some_byte others ≡ words_of (behind_mark 32 bytes))
+
+split : (bytes : List ℕ) → Split bytes
+split [] = ([], refl, refl)
+split (b ∷ bytes) = go (b == 32) refl (split bytes)
+  where
+    go : (t : Bool) → (b == 32) ≡ t → Split bytes → Split (b ∷ bytes)
+    go true e rest = rw e (slice_split (λ x. x == 32) bytes, refl, refl)
+    go false e rest = rw e (rest.0, rw rest.1 refl, rest.2)
 
 with_first : (piece : List ℕ) (others : List (List ℕ)) → filter is_some_byte (piece ∷ others) ≡ with_word piece (filter is_some_byte others)
 with_first [] others = refl
 with_first (b ∷ piece) others = refl
 
-pub words_of-at : (i : ℕ) (bytes : List ℕ) → i < length bytes → get_or bytes i 0 ≡ 32 → ((k : ℕ) → k < i → get_or bytes k 0 ≡ 32 → ⊥)
-    → words_of bytes ≡ with_word (take i bytes) (words_of (take (length bytes - (i + 1)) (drop (i + 1) bytes)))
-words_of-at i bytes lt at before =
-    rw (take_rest bytes (i + 1), add-one i, pieces-at i bytes lt at before) (with_first (take i bytes) (pieces (drop (suc i) bytes)))
+words_of-first : (bytes : List ℕ) → words_of bytes ≡ with_word (before_mark 32 bytes) (words_of (behind_mark 32 bytes))
+words_of-first bytes =
+    let parts = split bytes in
+    rw (parts.1, ← parts.2) (with_first (before_mark 32 bytes) parts.0)
 
-pub words_of-one : (bytes : List ℕ) → ((k : ℕ) → k < length bytes → get_or bytes k 0 ≡ 32 → ⊥)
-    → words_of bytes ≡ with_word bytes []
-words_of-one bytes none = rw (pieces-one bytes none) (with_first bytes [])
+-- the words of a line, by its first piece and what stands behind it
+pub words_of-pieces : (bytes piece rest : List ℕ) → piece ≡ before_mark 32 bytes → rest ≡ behind_mark 32 bytes
+    → words_of bytes ≡ with_word piece (words_of rest)
+words_of-pieces bytes piece rest p r = rw (p, r) (words_of-first bytes)

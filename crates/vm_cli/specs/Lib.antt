@@ -3,9 +3,13 @@ pub mod Fed
 pub mod Lines
 pub mod Listings
 pub mod Numbers
+pub mod Pieces
 pub mod Requests
 pub mod Spaces
 pub mod Words
 pub mod Replies
+pub mod Settlements
 pub mod File
 pub mod Exits
+pub mod Carried
+pub mod Talk

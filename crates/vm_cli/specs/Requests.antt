@@ -1,12 +1,13 @@
 -- What a line asks for.
-use Rattle.std.specs.Prelude.{◌==◌, ◌&&◌, ◌||◌, ℕ, Bool, false, List, [], ◌∷◌, Option, Some, None, codes, if◌then◌else◌, length, nat_le, option_and_then, option_map, unwrap_or}
+use Rattle.std.specs.Prelude.{◌≡◌, ◌==◌, ◌&&◌, ◌||◌, ℕ, Bool, false, List, [], ◌∷◌, Option, Some, None, codes, if◌then◌else◌, length, nat_le, option_and_then, option_map, unwrap_or}
 use Rattle.std.specs.List.{list_all}
 use Rattle.std.specs.Str.{bytes_eq}
 use Rattle.vm_types.specs.declared.command.Command.{Command}
-use Rattle.vm_types.specs.declared.command.Command.TheVariants.{New, Drop, Put, Remove, Checkpoint, Uncheck, Back, Commit, Reclaim}
+use Rattle.vm_types.specs.declared.command.Command.TheVariants.{New, Drop, Put, Remove, Checkpoint, Uncheck, Back, Merge, Post, Commit, Reclaim}
 use Rattle.vm_types.specs.declared.key.Key.{Key}
 use Rattle.vm_cli.specs.Escapes.{value_of}
-use Rattle.vm_cli.specs.Numbers.{number_of}
+use Rattle.vm_cli.specs.Numbers.{key_of}
+use Rattle.vm_cli.specs.Settlements.{settled_of}
 use Rattle.vm_cli.specs.declared.request.Request.{Request}
 use Rattle.vm_cli.specs.declared.request.Request.TheVariants as request
 
@@ -18,11 +19,6 @@ is_name_byte b =
 -- the name that a word is: 1 to 32 such bytes
 abbrev pub name_of : List ℕ → Option (List ℕ)
 name_of word = if nat_le 1 (length word) && (nat_le (length word) 32 && list_all is_name_byte word) then Some word else None
-
--- the key that two words say
-abbrev pub key_of : List ℕ → List ℕ → Option Key
-key_of table number =
-    option_and_then (λ t. option_map (λ n. record { table = t; number = n }) (number_of 18446744073709551615 number)) (number_of 65535 table)
 
 -- `ALT TABLE NUMBER`
 abbrev pub record_of : List (List ℕ) → Option (List ℕ × Key)
@@ -45,6 +41,11 @@ put_of (alt ∷ table ∷ number ∷ value ∷ []) =
     option_and_then (λ a. option_and_then (λ k. option_map (λ v. Put a k v) (value_of value)) (key_of table number)) (name_of alt)
 put_of _ = None
 
+-- `merge ALT` and settlements
+abbrev pub merge_of : List (List ℕ) → Option Command
+merge_of [] = None
+merge_of (alt ∷ words) = option_and_then (λ a. option_map (λ settled. Merge a settled) (settled_of words)) (name_of alt)
+
 -- no further word
 abbrev pub alone : {X : Type 0} → X → List (List ℕ) → Option X
 alone x [] = Some x
@@ -58,7 +59,7 @@ two_named verb first second =
     else (if bytes_eq verb (codes "uncheck") then Some (Uncheck first second)
     else (if bytes_eq verb (codes "back") then Some (Back first second) else None)))
 
--- the command that the words after the first complete
+-- the command that the words after the first complete, but for a merge
 abbrev pub command_of : List ℕ → List (List ℕ) → Option Command
 command_of verb words =
     if bytes_eq verb (codes "put") then put_of words
@@ -66,7 +67,8 @@ command_of verb words =
     else (if bytes_eq verb (codes "commit") then alone Commit words
     else (if bytes_eq verb (codes "reclaim") then alone Reclaim words
     else (if bytes_eq verb (codes "drop") then option_map Drop (named_of words)
-    else option_and_then (λ names. two_named verb names.0 names.1) (names_of words)))))
+    else (if bytes_eq verb (codes "post") then option_map Post (named_of words)
+    else option_and_then (λ names. two_named verb names.0 names.1) (names_of words))))))
 
 -- the query that the words after the first complete
 abbrev pub query_of : List ℕ → List (List ℕ) → Option Request
@@ -74,8 +76,10 @@ query_of verb words =
     if bytes_eq verb (codes "get") then option_map (λ r. request.Get r.0 r.1) (record_of words)
     else (if bytes_eq verb (codes "list") then option_map request.List (named_of words)
     else (if bytes_eq verb (codes "checks") then option_map request.Checkpoints (named_of words)
+    else (if bytes_eq verb (codes "changes") then option_map request.Changes (named_of words)
+    else (if bytes_eq verb (codes "conflicts") then option_map request.Conflicts (named_of words)
     else (if bytes_eq verb (codes "alts") then alone request.Alternatives words
-    else (if bytes_eq verb (codes "free") then alone request.Free words else None))))
+    else (if bytes_eq verb (codes "free") then alone request.Free words else None))))))
 
 -- a command, or else a query
 abbrev pub command_or : Option Command → Option Request → Option Request
@@ -84,7 +88,14 @@ command_or None query = query
 
 -- what the words after the first ask for
 abbrev pub asked_by : List ℕ → List (List ℕ) → Option Request
-asked_by verb words = command_or (command_of verb words) (query_of verb words)
+asked_by verb words =
+    if bytes_eq verb (codes "merge") then option_map request.Command (merge_of words)
+    else command_or (command_of verb words) (query_of verb words)
+
+-- a merge with further words after its alternative: only such a line takes memory
+abbrev pub IsLongMerge : List (List ℕ) → Type 0
+IsLongMerge (verb ∷ alt ∷ word ∷ words) = verb ≡ codes "merge"
+IsLongMerge _ = ⊥
 
 -- the line is a comment: its first word begins with `#` (35)
 abbrev pub is_comment : List ℕ → Bool

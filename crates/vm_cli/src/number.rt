@@ -1,6 +1,8 @@
 //! Numbers in lines.
 ghost use Rattle.std.specs.Prelude.{◌≡◌};
-ghost use Rattle.vm_cli.specs.Numbers.{number_of};
+ghost use Rattle.vm_cli.specs.Numbers.{key_of, number_of};
+
+use vm_types::Key;
 
 /// The number that a word of 1 to 20 decimal digits says, where it is at most `most`.
 pub fn number(word: &[u8], most: u64) -> Option<u64>
@@ -20,4 +22,16 @@ pub fn number(word: &[u8], most: u64) -> Option<u64>
         return None;
     }
     Some(number as u64)
+}
+
+/// The key that two words say.
+pub fn key(table: &[u8], number_in_table: &[u8]) -> Option<Key>
+    ensures { result ≡ key_of table.now number_in_table.now }
+{
+    let table = number(table, 65_535)?;
+    let number = number(number_in_table, u64::MAX)?;
+    Some(Key {
+        table: table as u16,
+        number,
+    })
 }

@@ -1,5 +1,9 @@
 //! What a line asks for.
-use crate::{escape, number};
+use crate::escape;
+use crate::number::key;
+use crate::pieces::first_word;
+use crate::settlement::settled;
+use std::alloc::{AllocError, Global};
 use vm_types::{Command, Key, Name};
 
 /// What a line asks for.
@@ -16,40 +20,66 @@ pub enum Request {
     Alternatives,
     /// The checkpoints of an alternative.
     Checkpoints { alt: Name },
+    /// What changed in an alternative since its base.
+    Changes { alt: Name },
+    /// The conflicts of an alternative with its parent.
+    Conflicts { alt: Name },
     /// The number of free blocks.
     Free,
     /// The line is none of those that there are.
     Bad,
 }
 
-ghost use Rattle.std.specs.Prelude.{◌≡◌, ◌<◌, ◌∷◌, [], ℕ, List, length, MatchOption, None};
-ghost use Rattle.vm_cli.specs.Requests.{asked_by, command_of, key_of, name_of, named_of, names_of, put_of, query_of, record_of, request_of, two_named};
-ghost use Rattle.vm_cli.specs.Spaces.{with_word, words_of};
+ghost use Rattle.std.specs.Prelude.{◌≡◌, ◌∷◌, [], ℕ, List, codes, IfOk, MatchOption, OnErr};
+ghost use Rattle.vm_cli.specs.Requests.{IsLongMerge, asked_by, command_of, merge_of, name_of, named_of, names_of, put_of, query_of, record_of, request_of, two_named};
+ghost use Rattle.vm_cli.specs.Spaces.{words_of};
 
 /// Reads a line, given without the bytes that end it.
-pub fn read_request(line: &[u8]) -> Request
-    ensures { result ≡ request_of (words_of line.now) }
+pub fn read_request(alloc: Global, line: &[u8]) -> Result<Request, AllocError>
+    ensures request { IfOk result (λ request. request ≡ request_of (words_of line.now)) }
+    ensures memory { OnErr result (IsLongMerge (words_of line.now)) }
 {
     let Some((verb, rest)) = first_word(line) else {
-        return Request::Nothing;
+        return Ok(Request::Nothing);
     };
     if verb.first() == Some(&b'#') {
-        return Request::Nothing;
+        return Ok(Request::Nothing);
     }
-    asked(verb, rest).unwrap_or(Request::Bad)
+    let asked = asked(alloc, verb, rest)?;
+    Ok(asked.unwrap_or(Request::Bad))
 }
 
 // What the words after the first ask for.
-fn asked(verb: &[u8], rest: &[u8]) -> Option<Request>
-    ensures { result ≡ asked_by verb.now (words_of rest.now) }
+fn asked(alloc: Global, verb: &[u8], rest: &[u8]) -> Result<Option<Request>, AllocError>
+    ensures request { IfOk result (λ request. request ≡ asked_by verb.now (words_of rest.now)) }
+    ensures memory { OnErr result (IsLongMerge (verb.now ∷ words_of rest.now)) }
 {
+    if verb == b"merge".as_slice() {
+        let merge = merge(alloc, rest)?;
+        return Ok(merge.map(Request::Command));
+    }
     match command(verb, rest) {
-        Some(command) => Some(Request::Command(command)),
-        None => query(verb, rest),
+        Some(command) => Ok(Some(Request::Command(command))),
+        None => Ok(query(verb, rest)),
     }
 }
 
-// The command that the words after the first complete.
+// `merge ALT` and settlements
+fn merge(alloc: Global, rest: &[u8]) -> Result<Option<Command>, AllocError>
+    ensures command { IfOk result (λ command. command ≡ merge_of (words_of rest.now)) }
+    ensures memory { OnErr result (IsLongMerge (codes "merge" ∷ words_of rest.now)) }
+{
+    let Some((alt, rest)) = first_word(rest) else {
+        return Ok(None);
+    };
+    let Some(alt) = name(alt) else {
+        return Ok(None);
+    };
+    let settled = settled(alloc, rest)?;
+    Ok(settled.map(|settled| Command::Merge { alt, settled }))
+}
+
+// The command that the words after the first complete, but for a merge.
 fn command(verb: &[u8], rest: &[u8]) -> Option<Command>
     ensures { result ≡ command_of verb.now (words_of rest.now) }
 {
@@ -71,6 +101,10 @@ fn command(verb: &[u8], rest: &[u8]) -> Option<Command>
     if verb == b"drop".as_slice() {
         let alt = one_name(rest)?;
         return Some(Command::Drop { alt });
+    }
+    if verb == b"post".as_slice() {
+        let alt = one_name(rest)?;
+        return Some(Command::Post { alt });
     }
     let (first, second) = two_names(rest)?;
     of_two_names(verb, first, second)
@@ -122,6 +156,14 @@ fn query(verb: &[u8], rest: &[u8]) -> Option<Request>
     if verb == b"checks".as_slice() {
         let alt = one_name(rest)?;
         return Some(Request::Checkpoints { alt });
+    }
+    if verb == b"changes".as_slice() {
+        let alt = one_name(rest)?;
+        return Some(Request::Changes { alt });
+    }
+    if verb == b"conflicts".as_slice() {
+        let alt = one_name(rest)?;
+        return Some(Request::Conflicts { alt });
     }
     if verb == b"alts".as_slice() {
         ends(rest)?;
@@ -183,18 +225,6 @@ fn two_names(rest: &[u8]) -> Option<(Name, Name)>
     Some((first, second))
 }
 
-// The key that two words say.
-fn key(table: &[u8], number: &[u8]) -> Option<Key>
-    ensures { result ≡ key_of table.now number.now }
-{
-    let table = number::number(table, 65_535)?;
-    let number = number::number(number, u64::MAX)?;
-    Some(Key {
-        table: table as u16,
-        number,
-    })
-}
-
 // The name that a word is.
 fn name(word: &[u8]) -> Option<Name>
     ensures { result ≡ name_of word.now }
@@ -210,32 +240,4 @@ fn ends(rest: &[u8]) -> Option<()>
         None => Some(()),
         Some(_) => None,
     }
-}
-
-// The first word of a line, and what stands after it.
-fn first_word(line: &[u8]) -> Option<(&[u8], &[u8])>
-    ensures { MatchOption result (words_of line.now ≡ []) (λ p. words_of line.now ≡ p.0.now ∷ words_of p.1.now) }
-{
-    let mut rest = line;
-    while !rest.is_empty() {
-        let (piece, after) = first_piece(rest);
-        if !piece.is_empty() {
-            return Some((piece, after));
-        }
-        rest = after;
-    }
-    None
-}
-
-// What stands before the first space, and what stands behind it.
-fn first_piece(line: &[u8]) -> (&[u8], &[u8])
-    ensures parts { words_of line.now ≡ with_word result.0.now (words_of result.1.now) }
-    ensures shorter { 0 < length line.now → length result.1.now < length line.now }
-{
-    for (i, byte) in line.iter().enumerate() {
-        if *byte == b' ' {
-            return (&line[..i], &line[i + 1..]);
-        }
-    }
-    (line, &[])
 }

@@ -1,14 +1,21 @@
 //! The talk: lines in, answers out.
-ghost use Rattle.std.specs.Prelude.{◌≡◌, ◌+◌, ◌≤◌, [], length, OnOk};
-ghost use Rattle.vm_store.specs.Answers.{IsCarriedOut};
+ghost use Rattle.std.specs.Prelude.{◌≡◌, ◌≢◌, ◌⊎◌, ◌+◌, ◌≤◌, ◌++◌, ◌∷◌, ℕ, List, [], length, true, false, flat_map, IfErr, IfOk, IfSome, OnErr, OnOk};
+ghost use Rattle.std.specs.Io.KnownBytes.{Appends};
+ghost use Rattle.vm_cli.specs.Carried.{Begins, Carries};
+ghost use Rattle.vm_cli.specs.Fed.{Holds as HoldsLine};
+ghost use Rattle.vm_cli.specs.Replies.{ends_talk, reply_text};
+ghost use Rattle.vm_cli.specs.Talk.{Answered, AnyNumber, Carried, Ended, Fed, Handled, Meets, Replies, Says, Serves, Writes, error_text};
+ghost use Rattle.vm_store.specs.Resting.{spare_of};
+ghost use Rattle.vm_store.specs.Store.{Holds, disk_of, has_failed};
+ghost use Rattle.vm_types.specs.State.{State};
 
 use crate::line::{Kind, Line};
-use crate::listing::{push_alternative, push_checkpoint, push_record};
+use crate::listing::Listed;
 use crate::reply::Reply;
 use crate::request::{Request, read_request};
 use crate::text::Text;
 use crate::writing::{WriteFault, flush, put_all};
-use std::alloc::Global;
+use std::alloc::{AllocError, Global};
 use std::io::{Read, Write};
 use thiserror::Error;
 use vm_disk::Disk;
@@ -16,7 +23,7 @@ use vm_store::Store;
 use vm_types::{Answer, Command, Key, Name, Refusal};
 
 /// No line of an answer has more bytes.
-const LONGEST_LINE: usize = 1024;
+const LONGEST_LINE: usize = 2304;
 
 /// Why a talk ended before the end of its input.
 #[derive(Debug, Drop, Error)]
@@ -39,7 +46,15 @@ pub fn serve<R: Read, W: Write, D: Disk>(
     reader: &mut R,
     writer: &mut W,
     store: &mut Store<D>,
-) -> Result<(), ServeFault> {
+) -> Result<(), ServeFault>
+    // On any disk the talk ends with Store only where the device failed in it, or had failed before.
+    ensures ok { has_failed store.old ≡ false → OnOk result (has_failed store.new ≡ false) }
+    ensures err { has_failed store.old ≡ false → IfErr result (λ fault. fault ≡ ServeFault.Store → has_failed store.new ≡ true) }
+
+    // The lines of the input are answered one after another, and the store stands for what their commands leave.
+    ensures answers { (D.state (disk_of store.old)).honest ≡ true → has_failed store.old ≡ false → (s : State) → Holds store.old s
+        → IfSome (R.remaining reader.old) (Serves store.new s result (W.contents writer.old) (W.contents writer.new)) }
+{
     let mut line = Line::new(alloc);
     let mut chunk = [0; 8192];
     for _ in 0..u64::MAX {
@@ -50,7 +65,10 @@ pub fn serve<R: Read, W: Write, D: Disk>(
                 }
                 return answer(alloc, &line, writer, store);
             }
-            Ok(count) => feed(alloc, &chunk[..count], &mut line, writer, store)?,
+            Ok(count) => match feed(alloc, &chunk[..count], &mut line, writer, store) {
+                Ok(()) => {}
+                Err(fault) => return Err(fault),
+            },
             Err(_) => return Err(ServeFault::Read),
         }
     }
@@ -64,9 +82,22 @@ fn feed<W: Write, D: Disk>(
     line: &mut Line,
     writer: &mut W,
     store: &mut Store<D>,
-) -> Result<(), ServeFault> {
+) -> Result<(), ServeFault>
+    ensures honest { (D.state (disk_of store.new)).honest ≡ (D.state (disk_of store.old)).honest }
+    ensures ok { has_failed store.old ≡ false → OnOk result (has_failed store.new ≡ false) }
+    ensures err { has_failed store.old ≡ false → IfErr result (λ fault. (fault ≡ ServeFault.Write) ⊎ ((fault ≡ ServeFault.Store) × (has_failed store.new ≡ true))) }
+    ensures fed { (D.state (disk_of store.old)).honest ≡ true → has_failed store.old ≡ false → (s : State) → Holds store.old s
+        → (from : List ℕ) → HoldsLine line.old from
+        → OnOk result ((to : List ℕ) × HoldsLine line.new to × Fed store.new s bytes.now from to (W.contents writer.old) (W.contents writer.new)) }
+    ensures ended { (D.state (disk_of store.old)).honest ≡ true → has_failed store.old ≡ false → (s : State) → Holds store.old s
+        → (from : List ℕ) → HoldsLine line.old from
+        → OnErr result (Ended store.new s bytes.now from result (W.contents writer.old) (W.contents writer.new)) }
+{
     for byte in bytes {
-        feed_byte(alloc, *byte, line, writer, store)?;
+        match feed_byte(alloc, *byte, line, writer, store) {
+            Ok(()) => {}
+            Err(fault) => return Err(fault),
+        }
     }
     Ok(())
 }
@@ -78,14 +109,28 @@ fn feed_byte<W: Write, D: Disk>(
     line: &mut Line,
     writer: &mut W,
     store: &mut Store<D>,
-) -> Result<(), ServeFault> {
+) -> Result<(), ServeFault>
+    ensures honest { (D.state (disk_of store.new)).honest ≡ (D.state (disk_of store.old)).honest }
+    ensures ok { has_failed store.old ≡ false → OnOk result (has_failed store.new ≡ false) }
+    ensures err { has_failed store.old ≡ false → IfErr result (λ fault. (fault ≡ ServeFault.Write) ⊎ ((fault ≡ ServeFault.Store) × (has_failed store.new ≡ true))) }
+    ensures fed { (D.state (disk_of store.old)).honest ≡ true → has_failed store.old ≡ false → (s : State) → Holds store.old s
+        → (from : List ℕ) → HoldsLine line.old from
+        → OnOk result ((to : List ℕ) × HoldsLine line.new to × Fed store.new s (byte ∷ []) from to (W.contents writer.old) (W.contents writer.new)) }
+    ensures ended { (D.state (disk_of store.old)).honest ≡ true → has_failed store.old ≡ false → (s : State) → Holds store.old s
+        → (from : List ℕ) → HoldsLine line.old from
+        → OnErr result (Ended store.new s (byte ∷ []) from result (W.contents writer.old) (W.contents writer.new)) }
+{
     if byte != b'\n' {
         line.push(byte);
         return Ok(());
     }
-    answer(alloc, line, writer, store)?;
-    line.clear();
-    Ok(())
+    match answer(alloc, line, writer, store) {
+        Ok(()) => {
+            line.clear();
+            Ok(())
+        }
+        Err(fault) => Err(fault),
+    }
 }
 
 // Carries out a line and writes its answer.
@@ -94,16 +139,36 @@ fn answer<W: Write, D: Disk>(
     line: &Line,
     writer: &mut W,
     store: &mut Store<D>,
-) -> Result<(), ServeFault> {
+) -> Result<(), ServeFault>
+    ensures honest { (D.state (disk_of store.new)).honest ≡ (D.state (disk_of store.old)).honest }
+    ensures ok { has_failed store.old ≡ false → OnOk result (has_failed store.new ≡ false) }
+    ensures err { has_failed store.old ≡ false → IfErr result (λ fault. (fault ≡ ServeFault.Write) ⊎ ((fault ≡ ServeFault.Store) × (has_failed store.new ≡ true))) }
+    ensures answer { (D.state (disk_of store.old)).honest ≡ true → has_failed store.old ≡ false → (s : State) → Holds store.old s
+        → (part : List ℕ) → HoldsLine line.now part
+        → Writes (λ text. Handled store.new s (Answered AnyNumber s part text)) result (W.contents writer.old) (W.contents writer.new) }
+{
     let mut text = Text::new();
-    let reply = reply_to(alloc, line, &mut text, writer, store).map_err(|_| ServeFault::Write)?;
-    reply.push_onto(&mut text);
-    put_all(writer, text.as_bytes()).map_err(|_| ServeFault::Write)?;
-    flush(writer).map_err(|_| ServeFault::Write)?;
+    let Ok(reply) = reply_to(alloc, line, &mut text, writer, store) else {
+        return Err(ServeFault::Write);
+    };
+    let Ok(()) = send(reply, &mut text, writer) else {
+        return Err(ServeFault::Write);
+    };
     if reply.is_last() {
         return Err(ServeFault::Store);
     }
     Ok(())
+}
+
+// Writes what is left of an answer, with its last line.
+fn send<W: Write>(reply: Reply, text: &mut Text, writer: &mut W) -> Result<(), WriteFault>
+    requires { length text.old + 1024 ≤ 4096 }
+    ensures ok { OnOk result (Appends (W.contents writer.old) (W.contents writer.new) (text.old ++ reply_text reply)) }
+    ensures err { OnErr result (Begins (W.contents writer.old) (W.contents writer.new) (text.old ++ reply_text reply)) }
+{
+    reply.push_onto(text);
+    put_all(writer, text.as_bytes())?;
+    flush(writer)
 }
 
 // Carries out a line. The text takes the lines of a list but for the last, and what doesn't fit
@@ -116,39 +181,87 @@ fn reply_to<W: Write, D: Disk>(
     store: &mut Store<D>,
 ) -> Result<Reply, WriteFault>
     requires { text.old ≡ [] }
-    ensures { OnOk result (length text.new + 1024 ≤ 4096) }
+    ensures room { OnOk result (length text.new + 1024 ≤ 4096) }
+    ensures honest { (D.state (disk_of store.new)).honest ≡ (D.state (disk_of store.old)).honest }
+    ensures last { has_failed store.old ≡ false → IfOk result (λ reply. ends_talk reply ≡ has_failed store.new) }
+    ensures answer { (D.state (disk_of store.old)).honest ≡ true → has_failed store.old ≡ false → (s : State) → Holds store.old s
+        → (part : List ℕ) → HoldsLine line.now part
+        → Replies (λ text. Handled store.new s (Answered AnyNumber s part text)) result (W.contents writer.old) (W.contents writer.new) text.new }
 {
-    let reply = match line.kind {
-        Kind::Long => Reply::LongLine,
-        Kind::NoMemory => Reply::Refused(Refusal::Memory),
-        Kind::Kept => match read_request(line.text()) {
-            Request::Nothing => Reply::Nothing,
-            Request::Bad => Reply::BadLine,
-            Request::Command(command) => carry_out(&command, store),
-            Request::Get { alt, key } => get(&alt, key, store),
-            Request::Free => free(store),
-            Request::List { alt } => return list(alloc, &alt, text, writer, store),
-            Request::Alternatives => return alternatives(alloc, text, writer, store),
-            Request::Checkpoints { alt } => return checkpoints(alloc, &alt, text, writer, store),
+    match line.kind {
+        Kind::Long => Ok(Reply::LongLine),
+        Kind::NoMemory => Ok(Reply::Refused(Refusal::Memory)),
+        Kind::Kept => match read_request(alloc, line.text()) {
+            Ok(request) => reply_to_request(alloc, request, text, writer, store),
+            Err(AllocError) => Ok(Reply::Refused(Refusal::Memory)),
         },
-    };
-    Ok(reply)
+    }
+}
+
+// Does what a line asks for. The text takes the lines of a list as above.
+fn reply_to_request<W: Write, D: Disk>(
+    alloc: Global,
+    request: Request,
+    text: &mut Text,
+    writer: &mut W,
+    store: &mut Store<D>,
+) -> Result<Reply, WriteFault>
+    requires { text.old ≡ [] }
+    ensures room { OnOk result (length text.new + 1024 ≤ 4096) }
+    ensures honest { (D.state (disk_of store.new)).honest ≡ (D.state (disk_of store.old)).honest }
+    ensures last { has_failed store.old ≡ false → IfOk result (λ reply. ends_talk reply ≡ has_failed store.new) }
+    ensures answer { (D.state (disk_of store.old)).honest ≡ true → has_failed store.old ≡ false → (s : State) → Holds store.old s
+        → Replies (λ text. Handled store.new s (Meets AnyNumber s request text)) result (W.contents writer.old) (W.contents writer.new) text.new }
+{
+    match request {
+        Request::Nothing => Ok(Reply::Nothing),
+        Request::Bad => Ok(Reply::BadLine),
+        Request::Command(command) => Ok(carry_out(&command, store)),
+        Request::Get { alt, key } => Ok(get(&alt, key, store)),
+        Request::Free => Ok(free(store)),
+        Request::List { alt } => list(alloc, &alt, text, writer, store),
+        Request::Alternatives => alternatives(alloc, text, writer, store),
+        Request::Checkpoints { alt } => checkpoints(alloc, &alt, text, writer, store),
+        Request::Changes { alt } => changes(alloc, &alt, text, writer, store),
+        Request::Conflicts { alt } => conflicts(alloc, &alt, text, writer, store),
+    }
 }
 
 // Carries out a command. Where the device failed in it, the store carries out nothing more.
 fn carry_out<D: Disk>(command: &Command, store: &mut Store<D>) -> Reply
-    requires { IsCarriedOut command.now }
+    ensures honest { (D.state (disk_of store.new)).honest ≡ (D.state (disk_of store.old)).honest }
+    ensures last { has_failed store.old ≡ false → ends_talk result ≡ has_failed store.new }
+    ensures answer { (D.state (disk_of store.old)).honest ≡ true → has_failed store.old ≡ false → (s : State) → Holds store.old s
+        → Carried store.new s command.now (ends_talk result) (reply_text result) }
 {
     match store.apply(command) {
         Ok(Answer::Done) => Reply::Done,
         Ok(Answer::Merged(changes)) => Reply::Merged(changes),
-        Err(Refusal::Device) => Reply::Last(Refusal::Device),
-        Err(refusal) => refused(refusal),
+        Err(refusal) => refused_command(refusal),
+    }
+}
+
+// What is answered to a command that is refused.
+fn refused_command(refusal: Refusal) -> Reply
+    ensures text { reply_text result ≡ error_text refusal }
+    ensures last { refusal ≢ Refusal.Device → refusal ≢ Refusal.Failed → ends_talk result ≡ false }
+    ensures device { refusal ≡ Refusal.Device → ends_talk result ≡ true }
+    ensures failed { refusal ≡ Refusal.Failed → ends_talk result ≡ true }
+{
+    match refusal {
+        Refusal::Device => Reply::Last(refusal),
+        _ => refused(refusal),
     }
 }
 
 // Answers a query for the value of a record.
-fn get<D: Disk>(alt: &Name, key: Key, store: &mut Store<D>) -> Reply {
+fn get<D: Disk>(alt: &Name, key: Key, store: &mut Store<D>) -> Reply
+    ensures honest { (D.state (disk_of store.new)).honest ≡ (D.state (disk_of store.old)).honest }
+    ensures last { has_failed store.old ≡ false → (ends_talk result ≡ false) × (has_failed store.new ≡ false) }
+    ensures state { (D.state (disk_of store.old)).honest ≡ true → (s : State) → Holds store.old s → Holds store.new s }
+    ensures answer { (D.state (disk_of store.old)).honest ≡ true → has_failed store.old ≡ false → (s : State) → Holds store.old s
+        → Says AnyNumber s (Request.Get alt.now key) (reply_text result) }
+{
     match store.get(alt, key) {
         Ok(value) => Reply::Found(value),
         Err(refusal) => refused(refusal),
@@ -156,7 +269,11 @@ fn get<D: Disk>(alt: &Name, key: Key, store: &mut Store<D>) -> Reply {
 }
 
 // Answers a query for the number of free blocks.
-fn free<D: Disk>(store: &Store<D>) -> Reply {
+fn free<D: Disk>(store: &Store<D>) -> Reply
+    ensures last { has_failed store.now ≡ false → ends_talk result ≡ false }
+    ensures answer { has_failed store.now ≡ false → (s : State) (holds : Holds store.now s)
+        → Says (λ n. n ≤ spare_of holds) s Request.Free (reply_text result) }
+{
     match store.free() {
         Ok(count) => Reply::Free(count),
         Err(refusal) => refused(refusal),
@@ -164,7 +281,11 @@ fn free<D: Disk>(store: &Store<D>) -> Reply {
 }
 
 // What is answered to a line that is refused, where the device didn't fail in a command.
-fn refused(refusal: Refusal) -> Reply {
+fn refused(refusal: Refusal) -> Reply
+    ensures text { reply_text result ≡ error_text refusal }
+    ensures last { refusal ≢ Refusal.Failed → ends_talk result ≡ false }
+    ensures failed { refusal ≡ Refusal.Failed → ends_talk result ≡ true }
+{
     match refusal {
         Refusal::Failed => Reply::Last(refusal),
         _ => Reply::Refused(refusal),
@@ -180,18 +301,18 @@ fn list<W: Write, D: Disk>(
     store: &mut Store<D>,
 ) -> Result<Reply, WriteFault>
     requires { text.old ≡ [] }
-    ensures { OnOk result (length text.new + 1024 ≤ 4096) }
+    ensures room { OnOk result (length text.new + 1024 ≤ 4096) }
+    ensures honest { (D.state (disk_of store.new)).honest ≡ (D.state (disk_of store.old)).honest }
+    ensures failed { has_failed store.new ≡ has_failed store.old }
+    ensures last { has_failed store.old ≡ false → IfOk result (λ reply. ends_talk reply ≡ false) }
+    ensures state { (D.state (disk_of store.old)).honest ≡ true → (s : State) → Holds store.old s → Holds store.new s }
+    ensures answer { (D.state (disk_of store.old)).honest ≡ true → has_failed store.old ≡ false → (s : State) → Holds store.old s
+        → Replies (Says AnyNumber s (Request.List alt.now)) result (W.contents writer.old) (W.contents writer.new) text.new }
 {
-    let records = match store.list(alloc, alt) {
-        Ok(records) => records,
-        Err(refusal) => return Ok(refused(refusal)),
-    };
-    for (key, value) in &records {
-        make_room(text, writer)?;
-        push_record(text, *key, value);
+    match store.list(alloc, alt) {
+        Ok(records) => write_list(&records, text, writer),
+        Err(refusal) => Ok(refused(refusal)),
     }
-    make_room(text, writer)?;
-    Ok(Reply::End(records.len()))
 }
 
 // Answers a query for all alternatives.
@@ -199,21 +320,18 @@ fn alternatives<W: Write, D: Disk>(
     alloc: Global,
     text: &mut Text,
     writer: &mut W,
-    store: &mut Store<D>,
+    store: &Store<D>,
 ) -> Result<Reply, WriteFault>
     requires { text.old ≡ [] }
-    ensures { OnOk result (length text.new + 1024 ≤ 4096) }
+    ensures room { OnOk result (length text.new + 1024 ≤ 4096) }
+    ensures last { has_failed store.now ≡ false → IfOk result (λ reply. ends_talk reply ≡ false) }
+    ensures answer { has_failed store.now ≡ false → (s : State) → Holds store.now s
+        → Replies (Says AnyNumber s Request.Alternatives) result (W.contents writer.old) (W.contents writer.new) text.new }
 {
-    let alternatives = match store.alternatives(alloc) {
-        Ok(alternatives) => alternatives,
-        Err(refusal) => return Ok(refused(refusal)),
-    };
-    for (name, parent) in &alternatives {
-        make_room(text, writer)?;
-        push_alternative(text, name, *parent);
+    match store.alternatives(alloc) {
+        Ok(alternatives) => write_list(&alternatives, text, writer),
+        Err(refusal) => Ok(refused(refusal)),
     }
-    make_room(text, writer)?;
-    Ok(Reply::End(alternatives.len()))
 }
 
 // Answers a query for the checkpoints of an alternative.
@@ -222,26 +340,91 @@ fn checkpoints<W: Write, D: Disk>(
     alt: &Name,
     text: &mut Text,
     writer: &mut W,
+    store: &Store<D>,
+) -> Result<Reply, WriteFault>
+    requires { text.old ≡ [] }
+    ensures room { OnOk result (length text.new + 1024 ≤ 4096) }
+    ensures last { has_failed store.now ≡ false → IfOk result (λ reply. ends_talk reply ≡ false) }
+    ensures answer { has_failed store.now ≡ false → (s : State) → Holds store.now s
+        → Replies (Says AnyNumber s (Request.Checkpoints alt.now)) result (W.contents writer.old) (W.contents writer.new) text.new }
+{
+    match store.checkpoints(alloc, alt) {
+        Ok(names) => write_list(&names, text, writer),
+        Err(refusal) => Ok(refused(refusal)),
+    }
+}
+
+// Answers a query for what changed in an alternative since its base.
+fn changes<W: Write, D: Disk>(
+    alloc: Global,
+    alt: &Name,
+    text: &mut Text,
+    writer: &mut W,
     store: &mut Store<D>,
 ) -> Result<Reply, WriteFault>
     requires { text.old ≡ [] }
-    ensures { OnOk result (length text.new + 1024 ≤ 4096) }
+    ensures room { OnOk result (length text.new + 1024 ≤ 4096) }
+    ensures honest { (D.state (disk_of store.new)).honest ≡ (D.state (disk_of store.old)).honest }
+    ensures failed { has_failed store.new ≡ has_failed store.old }
+    ensures last { has_failed store.old ≡ false → IfOk result (λ reply. ends_talk reply ≡ false) }
+    ensures state { (D.state (disk_of store.old)).honest ≡ true → (s : State) → Holds store.old s → Holds store.new s }
+    ensures answer { (D.state (disk_of store.old)).honest ≡ true → has_failed store.old ≡ false → (s : State) → Holds store.old s
+        → Replies (Says AnyNumber s (Request.Changes alt.now)) result (W.contents writer.old) (W.contents writer.new) text.new }
 {
-    let names = match store.checkpoints(alloc, alt) {
-        Ok(names) => names,
-        Err(refusal) => return Ok(refused(refusal)),
-    };
-    for name in &names {
+    match store.changes(alloc, alt) {
+        Ok(changes) => write_list(&changes, text, writer),
+        Err(refusal) => Ok(refused(refusal)),
+    }
+}
+
+// Answers a query for the conflicts of an alternative with its parent.
+fn conflicts<W: Write, D: Disk>(
+    alloc: Global,
+    alt: &Name,
+    text: &mut Text,
+    writer: &mut W,
+    store: &mut Store<D>,
+) -> Result<Reply, WriteFault>
+    requires { text.old ≡ [] }
+    ensures room { OnOk result (length text.new + 1024 ≤ 4096) }
+    ensures honest { (D.state (disk_of store.new)).honest ≡ (D.state (disk_of store.old)).honest }
+    ensures failed { has_failed store.new ≡ has_failed store.old }
+    ensures last { has_failed store.old ≡ false → IfOk result (λ reply. ends_talk reply ≡ false) }
+    ensures state { (D.state (disk_of store.old)).honest ≡ true → (s : State) → Holds store.old s → Holds store.new s }
+    ensures answer { (D.state (disk_of store.old)).honest ≡ true → has_failed store.old ≡ false → (s : State) → Holds store.old s
+        → Replies (Says AnyNumber s (Request.Conflicts alt.now)) result (W.contents writer.old) (W.contents writer.new) text.new }
+{
+    match store.conflicts(alloc, alt) {
+        Ok(conflicts) => write_list(&conflicts, text, writer),
+        Err(refusal) => Ok(refused(refusal)),
+    }
+}
+
+// Writes the lines of a list, but for what the text still has room for, and gives its end back.
+fn write_list<L: Listed, W: Write>(
+    list: &[L],
+    text: &mut Text,
+    writer: &mut W,
+) -> Result<Reply, WriteFault>
+    requires { text.old ≡ [] }
+    ensures room { OnOk result (length text.new + 1024 ≤ 4096) }
+    ensures reply { IfOk result (λ reply. reply ≡ Reply.End (length list.now)) }
+    ensures ok { OnOk result (Carries (W.contents writer.old) (W.contents writer.new) text.new (flat_map L.line list.now)) }
+    ensures err { OnErr result (Begins (W.contents writer.old) (W.contents writer.new) (flat_map L.line list.now)) }
+{
+    for listed in list {
         make_room(text, writer)?;
-        push_checkpoint(text, name);
+        listed.push_onto(text);
     }
     make_room(text, writer)?;
-    Ok(Reply::End(names.len()))
+    Ok(Reply::End(list.len()))
 }
 
 // Makes room for one more line, and writes what there is where that is too much.
 fn make_room<W: Write>(text: &mut Text, writer: &mut W) -> Result<(), WriteFault>
-    ensures { OnOk result (length text.new + 1024 ≤ 4096) }
+    ensures room { OnOk result (length text.new + 2304 ≤ 4096) }
+    ensures ok { OnOk result (Carries (W.contents writer.old) (W.contents writer.new) text.new text.old) }
+    ensures err { OnErr result (Begins (W.contents writer.old) (W.contents writer.new) text.old) }
 {
     if text.as_bytes().len() > Text::MAX_LEN - LONGEST_LINE {
         put_all(writer, text.as_bytes())?;

@@ -1,5 +1,5 @@
 //! Bytes on their way to a writer.
-ghost use Rattle.std.specs.Io.KnownBytes.{Appends};
+ghost use Rattle.std.specs.Io.KnownBytes.{Appends, Keeps};
 ghost use Rattle.std.specs.Prelude.{◌≡◌, ℕ, OnErr, OnOk, take};
 
 use std::io::Write;
@@ -28,7 +28,9 @@ pub fn put_all<W: Write>(writer: &mut W, bytes: &[u8]) -> Result<(), WriteFault>
 }
 
 /// Hands on what the writer still holds.
-pub fn flush<W: Write>(writer: &mut W) -> Result<(), WriteFault> {
+pub fn flush<W: Write>(writer: &mut W) -> Result<(), WriteFault>
+    ensures { Keeps (W.contents writer.old) (W.contents writer.new) }
+{
     match writer.flush() {
         Ok(()) => Ok(()),
         Err(_) => Err(WriteFault),

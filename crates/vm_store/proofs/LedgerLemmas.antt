@@ -53,6 +53,15 @@ alike_turned test root small (e ∷ es) =
       | false ↦ (record { kind = refl; name = refl; owner = refl; base = λ kind empty. empty; fits = λ fits. fits }, alike_turned test root small es)
     ]
 
+-- an alternative that has to have no base is the first one
+alt_is_top : (alt : List ℕ) (e : Entry) → is_alternative_of alt e ≡ true → IsUnbasedKind e → alt ≡ codes "top"
+alt_is_top alt e is (inl checkpoint) = let none : is_alternative_of alt e ≡ false = ap (λ b. b && bytes_eq e.name alt) checkpoint in absurd (true≢false (sym is ∙ none))
+alt_is_top alt e is (inr named) = sym ((bytes_eq-Decides e.name alt).0 (last (is_alternative e.kind) (bytes_eq e.name alt) is)) ∙ named
+  where
+    last : (a b : Bool) → (a && b) ≡ true → b ≡ true
+    last true b h = h
+    last false b h = absurd (true≢false (sym h))
+
 -- the entry with other roots
 abbrev pub with_roots : ℕ → ℕ → Entry → Entry
 with_roots current base e = record e { current = current; base = base }
@@ -67,21 +76,35 @@ alike_back alt current base small small_base unbased (e ∷ es) =
           kind = refl;
           name = refl;
           owner = refl;
-          base = λ kind empty. unbased (alt_is_top is kind);
+          base = λ kind empty. unbased (alt_is_top alt e is kind);
           fits = λ fits. record { name = fits.name; owner = fits.owner; current = small; base = small_base };
         },
         alike_itself es,
       )
       | false ↦ λ is. (record { kind = refl; name = refl; owner = refl; base = λ kind empty. empty; fits = λ fits. fits }, alike_back alt current base small small_base unbased es)
     ] refl
-  where
-    alt_is_top : is_alternative_of alt e ≡ true → IsUnbasedKind e → alt ≡ codes "top"
-    alt_is_top is (inl checkpoint) = let none : is_alternative_of alt e ≡ false = ap (λ b. b && bytes_eq e.name alt) checkpoint in absurd (true≢false (sym is ∙ none))
-    alt_is_top is (inr named) = sym ((bytes_eq-Decides e.name alt).0 (last (is_alternative e.kind) (bytes_eq e.name alt) is)) ∙ named
-      where
-        last : (a b : Bool) → (a && b) ≡ true → b ≡ true
-        last true b h = h
-        last false b h = absurd (true≢false (sym h))
+
+-- the entry with another base
+abbrev pub with_base : ℕ → Entry → Entry
+with_base root e = record e { base = root }
+
+-- the first entry of an alternative that is not `top` has another base
+pub alike_based : (alt : List ℕ) (base : ℕ) → base < 2 ^ 32 → (alt ≡ codes "top" → ⊥) → (es : List Entry) → AreAlike es (change_first (is_alternative_of alt) (with_base base) es)
+alike_based alt base small not_top [] = tt
+alike_based alt base small not_top (e ∷ es) =
+    elim (is_alternative_of alt e) as (λ b. is_alternative_of alt e ≡ b → AreAlike (e ∷ es) (cond b (with_base base e ∷ es) (e ∷ change_first (is_alternative_of alt) (with_base base) es))) [
+      | true ↦ λ is. (
+        record {
+          kind = refl;
+          name = refl;
+          owner = refl;
+          base = λ kind empty. absurd (not_top (alt_is_top alt e is kind));
+          fits = λ fits. record { name = fits.name; owner = fits.owner; current = fits.current; base = small };
+        },
+        alike_itself es,
+      )
+      | false ↦ λ is. (record { kind = refl; name = refl; owner = refl; base = λ kind empty. empty; fits = λ fits. fits }, alike_based alt base small not_top es)
+    ] refl
 
 length-alike : (es fs : List Entry) → AreAlike es fs → length fs ≡ length es
 length-alike [] [] a = refl

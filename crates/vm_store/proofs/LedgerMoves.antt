@@ -98,6 +98,16 @@ ledger_more : (es : List Entry) (e : Entry) → IsLedger es → MayFollow es e �
 ledger_more [] e h may = absurd h
 ledger_more (top ∷ es) e h may = (h.0, follows_push (top ∷ []) es e h.1 may)
 
+-- an alternative of an entry with an owner is not the first one
+pub owned_not_top : (es : List Entry) (alt : List ℕ) (e : Entry) (parent : List ℕ) → IsLedger es → find (is_alternative_of alt) es ≡ Some e → e.owner ≡ Some parent → alt ≡ codes "top" → ⊥
+owned_not_top [] alt e parent h is owner same = absurd h
+owned_not_top (top ∷ es) alt e parent h is owner same =
+    let here : is_alternative_of alt top ≡ true = ap (λ k. is_alternative k && bytes_eq top.name alt) h.0.kind ∙ (bytes_eq-Decides top.name alt).1 (h.0.name ∙ sym same) in
+    let it : Some top ≡ Some e = sym (ap (λ b. cond b (Some top) (find (is_alternative_of alt) es)) here) ∙ is in
+    let top_is : top ≡ e = cc in
+    let none : Some parent ≡ None = sym owner ∙ ap (λ (d : Entry). d.owner) (sym top_is) ∙ h.0.owner in
+    cc
+
 pub fits_more : (limit : ℕ) (es : List Entry) (e : Entry) → SlotFits limit es → length es < 511 → EntryFits e → MayFollow es e → SlotFits limit (es ++ e ∷ [])
 fits_more limit es e fits few own may =
     let count = length-append es (e ∷ []) in

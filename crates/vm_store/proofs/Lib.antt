@@ -1,4 +1,5 @@
 pub mod AddedLemmas
+pub mod ChangingLemmas
 pub mod EntryTests
 pub mod FiledLemmas
 pub mod FormattingLemmas
@@ -10,12 +11,16 @@ pub mod LedgerMoves
 pub mod Listing
 pub mod MarkedLemmas
 pub mod MarkingLemmas
+pub mod MergeSteps
+pub mod MergingLemmas
 pub mod MovedLemmas
 pub mod OpeningLemmas
+pub mod PairLemmas
 pub mod ReachLemmas
 pub mod Removing
 pub mod RestingLemmas
 pub mod RunLemmas
+pub mod SidesLemmas
 pub mod SlotLemmas
 pub mod SpareLemmas
 pub mod SpareTests

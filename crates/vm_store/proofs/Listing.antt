@@ -1,5 +1,5 @@
 -- What a list of records answers.
-use Rattle.std.proofs.Common.{◌≡◌, ◌⊎◌, inl, inr, ℕ, Bool, List, find, Some, None, Ok, Err, sym, ap, ◌∙◌}
+use Rattle.std.proofs.Common.{◌≡◌, ◌⊎◌, inl, inr, ℕ, Bool, List, find, Some, None, Result, Ok, Err, Vec, sym, ap, ◌∙◌}
 use Rattle.vm_types.specs.declared.refusal.Refusal.{Refusal}
 use Rattle.vm_types.specs.declared.refusal.Refusal.TheVariants.{NoSuchAlternative, Device, Memory}
 use Rattle.vm_types.specs.Map.{Map}
@@ -9,7 +9,8 @@ use Rattle.vm_store.specs.Versions.{is_alternative_of}
 use Rattle.vm_store.specs.declared.versions.Version.{Version}
 use Rattle.vm_store.specs.Faults.{refusal_of}
 use Rattle.vm_tree.specs.Answers.{Lists}
-use Rattle.vm_store.specs.Listing.{records_of, records_in}
+use Rattle.vm_store.specs.Listing.{IsList, records_of, records_in}
+use Rattle.vm_store.specs.Sides.{ReadsOr}
 use Rattle.vm_store.specs.Resting.{Rests}
 use Rattle.vm_tree.specs.declared.root.TreeFault.{TreeFault}
 use Rattle.vm_tree.specs.declared.root.TreeFault.TheVariants as fault
@@ -35,3 +36,13 @@ list_refused fault.Device r P due same h = inl same
 list_refused (fault.Damaged b) r P due same h = absurd h
 list_refused fault.Deep r P due same h = absurd h
 list_refused fault.Memory r P due same h = inr (inl same)
+
+-- a list that was read, or refused for the device or for memory
+pub listed : {X A : Type 0} (r : Result (Vec X A) Refusal) (due : Result (List X) Refusal) (is : List X) → due ≡ Ok is → ReadsOr r (λ list. list.items ≡ is) (λ e. ⊥) → IsList r due
+listed (Ok list) due is same read = same ∙ ap Ok (sym read)
+listed (Err e) due is same read = by_case read
+  where
+    by_case : (e ≡ Device) ⊎ ((e ≡ Memory) ⊎ ⊥) → (e ≡ Device) ⊎ ((e ≡ Memory) ⊎ (due ≡ Err e))
+    by_case (inl device) = inl device
+    by_case (inr (inl memory)) = inr (inl memory)
+    by_case (inr (inr never)) = absurd never

@@ -1,5 +1,6 @@
 -- An opening: a sync, and reads that find a store or why there is none.
-use Rattle.std.proofs.Common.{◌≡◌, ◌≢◌, inl, inr, ⊎_elim, ℕ, ◌<◌, ◌≤◌, Bool, List, [], ◌∷◌, length, Result, Ok, Err, OnOk, refl, sym, ap, ◌∙◌, subst, arith}
+use Rattle.std.proofs.Common.{◌≡◌, ◌≢◌, inl, inr, ⊎_elim, ℕ, ◌<◌, ◌≤◌, Bool, List, [], ◌∷◌, ◌++◌, length, replicate, false, Result, Ok, Err, OnOk, refl, sym, ap, ◌∙◌, subst, arith}
+use Rattle.vm_types.specs.Map.{Map}
 use Rattle.vm_types.specs.State.{State, opened}
 use Rattle.vm_types.specs.declared.refusal.Refusal.{Refusal}
 use Rattle.vm_types.specs.declared.refusal.Refusal.TheVariants as refusal
@@ -8,13 +9,20 @@ use Rattle.vm_disk.specs.Disk.{Contents, block, Medium, IsClean, Syncs}
 use Rattle.vm_disk.specs.declared.disk.DeviceFault.{DeviceFault}
 use Rattle.vm_disk.specs.Moments.{Throughout, OnlyReads}
 use Rattle.vm_disk.proofs.MomentLemmas.{started, goes_on, same_medium}
-use Rattle.vm_alloc.specs.Held.{is_held, IsHeld}
+use Rattle.vm_alloc.specs.Held.{is_held, IsHeld, free_count}
 use Rattle.vm_alloc.specs.Marks.{is_marked, IsMarked}
 use Rattle.std.specs.List.{AllByRecursion}
 use Rattle.vm_block.specs.Slot.{SlotFits}
 use Rattle.vm_block.specs.Tree.{IsData}
 use Rattle.vm_block.specs.declared.slot.Entry.{Entry}
-use Rattle.vm_block.proofs.EachLemmas.{each_front, each_back}
+use Rattle.std.proofs.lemmas.List.{length-replicate}
+use Rattle.std.proofs.lemmas.List.Elements.{Contains-append_left}
+use Rattle.vm_block.proofs.EachLemmas.{each_front, each_back, each_join}
+use Rattle.vm_block.proofs.TreeLemmas.{tree_one}
+use Rattle.vm_tree.specs.Root.{IsRooted}
+use Rattle.vm_check.specs.Marking.{MarksMore}
+use Rattle.vm_store.proofs.MarkedLemmas.{free_exactly}
+use Rattle.vm_store.proofs.MarkingLemmas.{none_marked}
 use Rattle.vm_tree.specs.Answers.{Lists}
 use Rattle.vm_tree.specs.declared.root.Root.{Root}
 use Rattle.vm_tree.specs.declared.root.TreeFault.{TreeFault}
@@ -29,9 +37,9 @@ use Rattle.vm_store.specs.Sizes.{sizes}
 use Rattle.vm_store.specs.Versions.{numbers_of, slot_entries, versions_of}
 use Rattle.vm_store.specs.declared.versions.Version.{Version}
 use Rattle.vm_store.proofs.TopLemmas.{rooted_tree}
-use Rattle.vm_store.specs.Filed.{Filed, Standing, tree_of}
+use Rattle.vm_store.specs.Filed.{Filed, Standing, reach, tree_of}
 use Rattle.vm_store.specs.Shown.{Shows, ShowsNothing}
-use Rattle.vm_store.specs.Resting.{IsSafe, Rests}
+use Rattle.vm_store.specs.Resting.{IsSafe, Rests, spare_of}
 use Rattle.vm_store.specs.Refused.{IsStore, LacksMap, IsRefused, IsSynced, IsAtMostSynced}
 use Rattle.vm_store.proofs.StandingLemmas.{standing_in, standing_data}
 
@@ -223,3 +231,65 @@ pub rests_named : (m : Medium) (limit : ℕ) (slot_b : Bool) (bits : List Bool) 
     → Rests m limit slot_b bits vs vs s → Rests m limit slot_b bits committed working s
 rests_named m limit slot_b bits vs committed working s same same' rests =
     subst (λ (us : List Version). Rests m limit slot_b bits us working s) (sym same) (subst (λ (us : List Version). Rests m limit slot_b bits vs us s) (sym same') rests)
+
+-- ---- what is free after an opening
+
+-- under one root lie one map and one list of blocks
+rooted_one : (x : Contents) (limit : ℕ) (r : Root) (m n : Map) (bs ds : List ℕ) → IsRooted sizes x limit r m bs → IsRooted sizes x limit r n ds → bs ≡ ds
+rooted_one x limit r m n bs ds one other = (tree_one sizes x limit r.block m n bs ds (rooted_tree x limit r m bs one) (rooted_tree x limit r n ds other)).1
+
+-- standing versions reach just what the walk found under their roots
+roots_reach : (P : ℕ → Type 0) (x : Contents) (limit : ℕ) (es : List Entry) (rs : List Root) (bs : List ℕ) (fs : List Filed) → AreRoots sizes x limit (numbers_of es) rs bs → (s : Standing P x limit (versions_of es rs) fs)
+    → reach P x limit (versions_of es rs) fs s ≡ bs
+roots_reach P x limit [] rs bs [] are s = none_reached rs are
+  where
+    none_reached : (rs : List Root) → AreRoots sizes x limit [] rs bs → [] ≡ bs
+    none_reached [] are = sym are
+    none_reached (r ∷ rs) are = absurd are
+roots_reach P x limit [] rs bs (f ∷ fs) are s = absurd s
+roots_reach P x limit (e ∷ es) [] bs fs are s = absurd are
+roots_reach P x limit (e ∷ es) (r ∷ []) bs fs are s = absurd are.5
+roots_reach P x limit (e ∷ es) (r ∷ q ∷ rs) bs [] are s = absurd s
+roots_reach P x limit (e ∷ es) (r ∷ q ∷ rs) bs (f ∷ fs) are s =
+    let base = are.5 in
+    let current_same = rooted_one x limit r f.current are.0 s.0.current.stands_in are.1 s.0.current.rooted are.4 in
+    let base_same = rooted_one x limit q f.base base.0 s.0.base.stands_in base.1 s.0.base.rooted base.4 in
+    let rest = roots_reach P x limit es rs base.2 fs base.5 s.1 in
+    ap (λ ds. ds ++ (s.0.base.stands_in ++ reach P x limit (versions_of es rs) fs s.1)) current_same
+    ∙ ap (λ ds. are.1 ++ (ds ++ reach P x limit (versions_of es rs) fs s.1)) base_same
+    ∙ ap (λ ds. are.1 ++ (base.1 ++ ds)) rest
+    ∙ ap (λ ds. are.1 ++ ds) (sym base.6) ∙ sym are.6
+
+-- the same, for versions known by another name
+reached_named : (P : ℕ → Type 0) (x : Contents) (limit : ℕ) (es : List Entry) (rs : List Root) (bs : List ℕ) (vs : List Version) (fs : List Filed) → vs ≡ versions_of es rs → AreRoots sizes x limit (numbers_of es) rs bs
+    → (s : Standing P x limit vs fs) → reach P x limit vs fs s ≡ bs
+reached_named P x limit es rs bs vs fs same are =
+    subst (λ (us : List Version). (s : Standing P x limit us fs) → reach P x limit us fs s ≡ bs) (sym same) (roots_reach P x limit es rs bs fs are)
+
+-- just the spare blocks are free
+pub freed : (m : Medium) (limit : ℕ) (slot_b : Bool) (after : List Bool) (committed working : List Version) (es : List Entry) (rs : List Root) (marks : List Bool)
+    → committed ≡ versions_of es rs → working ≡ versions_of es rs → Found sizes m.contents limit (numbers_of es) rs marks
+    → length after ≡ limit → ((n : ℕ) → n < 34 → IsHeld after n) → ((n : ℕ) → 34 ≤ n → is_held after n ≡ is_marked marks n)
+    → (s : State) (rests : Rests m limit slot_b after committed working s) → free_count after ≡ spare_of rests
+freed m limit slot_b after committed working es rs marks old new found many system replaced s rests =
+    let first = reached_named (IsSafe after m) m.contents limit es rs found.blocks committed rests.old old found.are rests.safe in
+    let then = reached_named (IsHeld after) m.contents limit es rs found.blocks working rests.new new found.are rests.stands in
+    let all : MarksMore (found.blocks ++ found.blocks) (replicate limit false) marks = record {
+      grows = record { same_length = found.count ∙ sym (length-replicate {A = Bool} limit false); still = λ n is. absurd (none_marked limit n is) };
+      each = each_join (IsMarked marks) found.blocks found.blocks found.each found.each;
+      only = λ n is. inr (Contains-append_left found.blocks found.blocks n (found.only n is));
+    } in
+    free_exactly m limit slot_b after committed working s many rests marks
+    (subst (λ (ds : List ℕ). MarksMore (ds ++ reach (IsHeld after) m.contents limit working rests.new rests.stands) (replicate limit false) marks) (sym first)
+    (subst (λ (ds : List ℕ). MarksMore (found.blocks ++ ds) (replicate limit false) marks) (sym then) all)) after many system replaced
+
+pub found_as_named : (x : Contents) (limit : ℕ) (es first : List Entry) (numbers lent : List ℕ) (rs : List Root) (marks : List Bool) → lent ≡ numbers → numbers ≡ numbers_of first → first ≡ es
+    → Found sizes x limit lent rs marks → Found sizes x limit (numbers_of es) rs marks
+found_as_named x limit es first numbers lent rs marks same are is found = subst (λ ns. Found sizes x limit ns rs marks) (same ∙ are ∙ ap numbers_of is) found
+
+-- what is known of one medium is known of the same
+pub freed_on : (old mid : Medium) (limit : ℕ) (slot_b : Bool) (after : List Bool) (committed working : List Version) → mid ≡ old
+    → ((s : State) (rests : Rests old limit slot_b after committed working s) → free_count after ≡ spare_of rests)
+    → (s : State) (rests : Rests mid limit slot_b after committed working s) → free_count after ≡ spare_of rests
+freed_on old mid limit slot_b after committed working same free =
+    subst (λ (m : Medium). (s : State) (rests : Rests m limit slot_b after committed working s) → free_count after ≡ spare_of rests) (sym same) free

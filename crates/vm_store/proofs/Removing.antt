@@ -15,7 +15,7 @@ use Rattle.vm_disk.specs.Disk.{Medium}
 use Rattle.vm_disk.specs.Moments.{Spares, OnlyReads}
 use Rattle.vm_disk.proofs.MomentLemmas.{same_medium}
 use Rattle.vm_alloc.specs.Held.{IsHeld, HoldsMore}
-use Rattle.vm_store.specs.Versions.{is_alternative_of}
+use Rattle.vm_store.specs.Versions.{is_alternative_of, with_current}
 use Rattle.vm_block.specs.Slot as slot
 use Rattle.vm_block.specs.Slot.{SlotFits}
 use Rattle.vm_tree.specs.Answers.{Removes}
@@ -35,7 +35,7 @@ use Rattle.vm_store.specs.Versions.{slot_entries}
 use Rattle.vm_store.proofs.LedgerLemmas as ledger
 use Rattle.vm_store.proofs.LedgerLemmas.{alike_turned, fits_alike}
 use Rattle.vm_store.proofs.SlotLemmas.{slot_changed}
-use Rattle.vm_store.proofs.StandingLemmas.{standing_changed, with_current}
+use Rattle.vm_store.proofs.StandingLemmas.{standing_changed}
 use Rattle.vm_store.proofs.RestingLemmas.{found_entry, rests_on, stands_on}
 
 module _ (tree : Tree) (name : List ℕ) (key : Key) where
@@ -121,12 +121,12 @@ module _ (m : Medium) (limit : ℕ) (slot_b : Bool) (bits : List Bool) (committe
 
 -- ---- what is known between the look-up and the Remove
 
--- a test whether 16 blocks are spare, before reads and after them
-pub spare_after : (old new : disk.State) (limit : ℕ) (slot_b : Bool) (bits : List Bool) (committed working : List Version) (s : State) (b : Bool) → OnlyReads old new
-    → ((s : State) (holds : Rests new.now limit slot_b bits committed working s) → (IsTrue b → 16 ≤ spare_of holds) × (16 ≤ spare_of holds → IsTrue b))
-    → (holds : Rests old.now limit slot_b bits committed working s) → (IsTrue b → 16 ≤ spare_of holds) × (16 ≤ spare_of holds → IsTrue b)
-spare_after old new limit slot_b bits committed working s b reads test =
-    let T : Medium → Type 0 = λ m. (holds : Rests m limit slot_b bits committed working s) → (IsTrue b → 16 ≤ spare_of holds) × (16 ≤ spare_of holds → IsTrue b) in
+-- a test whether so many blocks are spare, before reads and after them
+pub spare_after : (old new : disk.State) (limit : ℕ) (slot_b : Bool) (bits : List Bool) (committed working : List Version) (s : State) (count : ℕ) (b : Bool) → OnlyReads old new
+    → ((s : State) (holds : Rests new.now limit slot_b bits committed working s) → (IsTrue b → count ≤ spare_of holds) × (count ≤ spare_of holds → IsTrue b))
+    → (holds : Rests old.now limit slot_b bits committed working s) → (IsTrue b → count ≤ spare_of holds) × (count ≤ spare_of holds → IsTrue b)
+spare_after old new limit slot_b bits committed working s count b reads test =
+    let T : Medium → Type 0 = λ m. (holds : Rests m limit slot_b bits committed working s) → (IsTrue b → count ≤ spare_of holds) × (count ≤ spare_of holds → IsTrue b) in
     subst T (same_medium old new reads) (test s)
 
 -- an entry found in the working list is found where the entries are the same

@@ -41,13 +41,13 @@ use Rattle.vm_store.specs.Shown.{Shows}
 use Rattle.vm_store.specs.Resting.{IsSafe, Rests}
 use Rattle.vm_store.specs.Answers.{value_in, value_of, LacksRoom, IsDue, IsAnswer}
 use Rattle.vm_store.specs.Roots.{current_root}
-use Rattle.vm_store.specs.Versions.{slot_entries, is_alternative_of}
+use Rattle.vm_store.specs.Versions.{slot_entries, is_alternative_of, with_current}
 use Rattle.vm_store.specs.declared.versions.Version.{Version}
 use Rattle.vm_store.proofs.FiledLemmas.{is_filed, refiled, recurrent, maps_of, filed_maps, grown_named, grown_changed}
 use Rattle.vm_store.proofs.LedgerLemmas as ledger
 use Rattle.vm_store.proofs.LedgerLemmas.{alike_turned, fits_alike}
 use Rattle.vm_store.proofs.SlotLemmas.{slot_changed}
-use Rattle.vm_store.proofs.StandingLemmas.{standing_in, standing_data, found_as, not_found, FoundAs, standing_changed, with_current}
+use Rattle.vm_store.proofs.StandingLemmas.{standing_in, standing_data, found_as, not_found, FoundAs, standing_changed}
 
 held_not_free : (bits : List Bool) (n : ℕ) → IsHeld bits n → is_free bits n ≡ false
 held_not_free bits n is = ap not is

@@ -12,7 +12,7 @@ use Rattle.vm_tree.specs.Root.{Grown}
 use Rattle.vm_tree.specs.declared.root.Root.{Root}
 use Rattle.vm_store.specs.Sizes.{sizes}
 use Rattle.vm_store.specs.Filed.{Filed, StandsAs, Standing, reach}
-use Rattle.vm_store.specs.Versions.{is_alternative_of}
+use Rattle.vm_store.specs.Versions.{is_alternative_of, with_current}
 use Rattle.vm_store.specs.declared.versions.Version.{Version}
 use Rattle.vm_store.proofs.TopLemmas.{grown_in, grown_data}
 use Rattle.vm_store.proofs.FiledLemmas.{is_filed, refiled}
@@ -113,10 +113,6 @@ not_found P x limit name (e' ∷ es) (f ∷ fs) s is =
     ] refl is
 not_found P x limit name [] (f ∷ fs) s is = absurd s
 not_found P x limit name (e' ∷ es) [] s is = absurd s
-
--- the version with another current root
-abbrev pub with_current : Root → Version → Version
-with_current root e = record e { current = root }
 
 -- the first version of a name has another root, under which its records lie, changed so
 pub standing_changed : (P : ℕ → Type 0) (x : Contents) (limit : ℕ) (name : List ℕ) (root : Root) (g : Map → Map) (es : List Version) (fs : List Filed) → Standing P x limit es fs

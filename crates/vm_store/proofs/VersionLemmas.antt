@@ -32,7 +32,7 @@ use Rattle.vm_block.specs.declared.slot.Entry.{Entry}
 use Rattle.vm_block.specs.declared.slot.Kind.TheVariants as kind
 use Rattle.vm_store.specs.declared.versions.Version.{Version}
 use Rattle.vm_store.specs.Answers.{IsDue, IsAnswer}
-use Rattle.vm_store.specs.Versions.{entry_of, slot_entries, is_alternative_of, is_checkpoint_under, is_checkpoint_of, is_child_of, is_apart, alternatives_among, checkpoints_among}
+use Rattle.vm_store.specs.Versions.{entry_of, slot_entries, is_alternative_of, is_checkpoint_under, is_checkpoint_of, is_child_of, is_apart, alternatives_among, checkpoints_among, with_tops}
 use Rattle.vm_store.specs.Listing.{checkpoints_of, checkpoints_in}
 use Rattle.vm_store.specs.Filed.{Filed, StandsAs, Standing, saved_of, bare, with_saved, grown, tree_of}
 use Rattle.vm_store.specs.Resting.{Rests}
@@ -42,17 +42,12 @@ use Rattle.vm_store.proofs.FoundLemmas.{any_none, any_same, change_first-same}
 use Rattle.vm_store.proofs.GrownLemmas.{is_filed_under, is_filed_child, filed_shape, grown_shape, MayBeAdded, InOrder, whole, there_grown, children_filed, count_grown, named_whole}
 use Rattle.vm_store.proofs.TakenLemmas.{is_filed_saved, is_filed_apart, unsaved, saved_found, grown_apart, grown_unsaved}
 use Rattle.vm_store.proofs.MovedLemmas.{agree_alternative, agree_under, agree_saved, agree_child, agree_apart, standing_length, standing_join, standing_any, standing_filter, standing_without, standing_first, standing_found, standing_none}
-use Rattle.vm_tree.specs.declared.root.Root.{Root}
 use Rattle.vm_store.proofs.EntryTests as entry
 use Rattle.vm_store.proofs.SlotLemmas.{slot-length, slot_more, slot_any, slot_filter, slot_without, slot_found, slot_none, slot_changed}
 use Rattle.vm_store.proofs.LedgerLemmas as ledger
 use Rattle.vm_store.proofs.LedgerLemmas.{alike_back, fits_alike}
 use Rattle.vm_store.proofs.LedgerMoves.{checkpoint_unbased, called_alternative, some_parts, alternative_follows, checkpoint_follows, top_unbased, fits_more, fits_without, fits_apart}
 use Rattle.vm_store.proofs.RestingLemmas.{shows_old, rests_on, any_version}
-
--- the version with other tops
-abbrev pub with_tops : Root → Root → Version → Version
-with_tops current base v = record v { current = current; base = base }
 
 -- ---- entries that a slot may have come in their order
 
@@ -155,11 +150,11 @@ quiet d limit slot_b bits committed working s rests command = started d (Leaves 
 
 module _ (m : Medium) (limit : ℕ) (slot_b : Bool) (bits : List Bool) (committed working : List Version) (s : State)
     (rests : Rests m limit slot_b bits committed working s) where
-  in_order : InOrder [] rests.new
+  pub in_order : InOrder [] rests.new
   in_order = ledger_in_order (IsHeld bits) m.contents limit working rests.new rests.stands rests.fits.ledger
 
   -- other entries, which stand in blocks that are held, without a device call
-  stepped : (command : Command) (changed : List Version) (new : List Filed) (tree : Tree) → is_commit command ≡ false → step s.working command ≡ done tree → SlotFits limit (slot_entries changed)
+  pub stepped : (command : Command) (changed : List Version) (new : List Filed) (tree : Tree) → is_commit command ≡ false → step s.working command ≡ done tree → SlotFits limit (slot_entries changed)
       → Standing (IsHeld bits) m.contents limit changed new → tree_of new ≡ tree → Rests m limit slot_b bits committed changed (next s command (Ok Done))
   stepped command changed new tree plain is fits stands gives =
       subst (λ (t : State). Rests m limit slot_b bits committed changed t) (sym (is_next command tree plain is))
@@ -189,7 +184,7 @@ module _ (m : Medium) (limit : ℕ) (slot_b : Bool) (bits : List Bool) (committe
         is = ap (λ (t : Tree). named t name) (sym rests.gives_new) ∙ named_whole name [] rests.new at.this in_order refl at.found;
       }
 
-  absent : (name : List ℕ) → find (is_alternative_of name) working ≡ None → named s.working name ≡ None
+  pub absent : (name : List ℕ) → find (is_alternative_of name) working ≡ None → named s.working name ≡ None
   absent name none =
       let is = standing_none (IsHeld bits) m.contents limit (is_alternative_of name) (is_filed name) (agree_alternative (IsHeld bits) m.contents limit name) working rests.new rests.stands none in
       none_of (named s.working name) (ap (λ (t : Tree). is_some (named t name)) (sym rests.gives_new) ∙ there_grown name [] rests.new ∙ any_none (is_filed name) rests.new is)
@@ -213,20 +208,20 @@ module _ (m : Medium) (limit : ℕ) (slot_b : Bool) (bits : List Bool) (committe
   room : length working < 511 → is_full s.working ≡ false
   room few = ap (λ n. nat_le 511 n) count ∙ grind (arith, nat_tests, few)
 
-  name_of : (name : List ℕ) (f : Filed) → find (is_filed name) rests.new ≡ Some f → f.name ≡ name
+  pub name_of : (name : List ℕ) (f : Filed) → find (is_filed name) rests.new ≡ Some f → f.name ≡ name
   name_of name f found = (bytes_eq-Decides f.name name).0 (last (is_alternative f.kind) (bytes_eq f.name name) (find_passes (is_filed name) rests.new f found))
     where
       last : (a b : Bool) → (a && b) ≡ true → b ≡ true
       last true b h = h
       last false b h = absurd (false≢true h)
 
-  fits_of : (test : Version → Bool) (asked : Entry → Bool) → ((v : Version) → asked (entry_of v) ≡ test v) → (e : Version) → find test working ≡ Some e → EntryFits (entry_of e)
+  pub fits_of : (test : Version → Bool) (asked : Entry → Bool) → ((v : Version) → asked (entry_of v) ≡ test v) → (e : Version) → find test working ≡ Some e → EntryFits (entry_of e)
   fits_of test asked same e found = each_found EntryFits asked (slot_entries working) (entry_of e) rests.fits.each (slot_found test asked same working e found)
 
   few_entries : length working < 511 → length (slot_entries working) < 511
   few_entries few = subst (λ n. n < 511) (sym (slot-length working)) few
 
-  entry_found : (name : List ℕ) (e : Version) → find (is_alternative_of name) working ≡ Some e → find (slot.is_alternative_of name) (slot_entries working) ≡ Some (entry_of e)
+  pub entry_found : (name : List ℕ) (e : Version) → find (is_alternative_of name) working ≡ Some e → find (slot.is_alternative_of name) (slot_entries working) ≡ Some (entry_of e)
   entry_found name e found = slot_found (is_alternative_of name) (slot.is_alternative_of name) (λ v. refl) working e found
 
   saved_entry : (alt name : List ℕ) (e : Version) → find (is_checkpoint_of alt name) working ≡ Some e → find (entry.is_checkpoint_of alt name) (slot_entries working) ≡ Some (entry_of e)

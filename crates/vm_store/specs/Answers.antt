@@ -1,32 +1,21 @@
 -- What a store answers.
 use Rattle.std.specs.Prelude.{◌≡◌, ◌⊎◌, ℕ, ◌*◌, ◌<◌, nat_lt, Bool, true, false, List, Option, Some, None, Result, Ok, Err}
 use Rattle.vm_types.specs.declared.answer.Answer.{Answer}
+use Rattle.vm_types.specs.declared.change.Change.{Change}
 use Rattle.vm_types.specs.declared.command.Command.{Command}
-use Rattle.vm_types.specs.declared.command.Command.TheVariants.{New, Drop, Put, Remove, Checkpoint, Uncheck, Back, Commit, Reclaim}
+use Rattle.vm_types.specs.declared.command.Side.{Side}
+use Rattle.vm_types.specs.declared.command.Command.TheVariants.{Put, Merge}
 use Rattle.vm_types.specs.declared.key.Key.{Key}
 use Rattle.vm_types.specs.declared.refusal.Refusal.{Refusal}
-use Rattle.vm_types.specs.declared.refusal.Refusal.TheVariants.{NoSuchAlternative, Full, Deep, Device}
-use Rattle.vm_types.specs.Map.{Map, get}
+use Rattle.vm_types.specs.declared.refusal.Refusal.TheVariants.{NoSuchAlternative, Full, Deep, Device, Memory}
+use Rattle.vm_types.specs.Map.{Map, get, delta}
 use Rattle.vm_types.specs.Places.{place}
-use Rattle.vm_types.specs.State.{State, edits}
+use Rattle.vm_types.specs.State.{State, tree_after, edits}
 use Rattle.vm_types.specs.Step.{Outcome, step}
 use Rattle.vm_types.specs.Tree.{Tree, Alternative, named, current_of}
 use Rattle.vm_disk.specs.Disk.{Contents}
 use Rattle.vm_block.specs.FullPath.{FullPath}
 use Rattle.vm_store.specs.Sizes.{sizes}
-
--- the commands that are carried out so far
-abbrev pub IsCarriedOut : Command → Type 0
-IsCarriedOut (New name parent) = Unit {0}
-IsCarriedOut (Drop alt) = Unit {0}
-IsCarriedOut (Put alt key value) = Unit {0}
-IsCarriedOut (Remove alt key) = Unit {0}
-IsCarriedOut (Checkpoint alt name) = Unit {0}
-IsCarriedOut (Uncheck alt name) = Unit {0}
-IsCarriedOut (Back alt name) = Unit {0}
-IsCarriedOut Commit = Unit {0}
-IsCarriedOut Reclaim = Unit {0}
-IsCarriedOut command = ⊥
 
 -- the key is absent from the map, and the tree under the root has no room for one more record where it belongs
 abbrev pub LacksRoom : Contents → ℕ → Map → Key → Type 0
@@ -43,10 +32,30 @@ IsDue (Err refusal) full deep result = result ≡ Err refusal
 IsDue (Ok accepted) true deep result = result ≡ Err Full
 IsDue (Ok accepted) false deep result = ((result ≡ Ok accepted.1) × (deep → ⊥)) ⊎ ((result ≡ Err Deep) × deep)
 
--- what is answered to a command where so many blocks are spare: what is due, or that the device failed
+-- what is answered to a command but a Merge, where so many blocks are spare: what is due, or that the device failed
 abbrev pub IsAnswer : State → ℕ → Type 0 → Command → Result Answer Refusal → Type 0
 IsAnswer s spare deep command result =
     (result ≡ Err Device) ⊎ IsDue (step s.working command) (nat_lt spare (16 * edits s.working command)) deep result
+
+-- the changes that a Merge makes in the records of the alternative
+abbrev pub merge_changes : Tree → List ℕ → List (Key × Side) → List Change
+merge_changes tree alt settled = delta (current_of tree alt) (current_of (tree_after tree (step tree (Merge alt settled))) alt)
+
+-- a Merge that the model accepts is answered so, unless too few blocks are spare, or some record that it adds finds no room
+abbrev pub IsMergeDue : Outcome → Bool → Type 0 → Result Answer Refusal → Type 0
+IsMergeDue (Err refusal) full deep result = result ≡ Err refusal
+IsMergeDue (Ok accepted) true deep result = result ≡ Err Full
+IsMergeDue (Ok accepted) false deep result = (result ≡ Ok accepted.1) ⊎ ((result ≡ Err Deep) × deep)
+
+-- what is answered to a Merge where so many blocks are spare: what is due, that the device failed, or that memory was wanting
+abbrev pub IsMergeAnswer : State → ℕ → Type 0 → List ℕ → List (Key × Side) → Result Answer Refusal → Type 0
+IsMergeAnswer s spare deep alt settled result =
+    (result ≡ Err Device) ⊎ ((result ≡ Err Memory) ⊎ IsMergeDue (step s.working (Merge alt settled)) (nat_lt spare (16 * edits s.working (Merge alt settled))) deep result)
+
+-- the commands that take memory
+abbrev pub IsMerge : Command → Type 0
+IsMerge (Merge alt settled) = Unit {0}
+IsMerge command = ⊥
 
 -- the value that an alternative has at a key, or that there is no such alternative
 abbrev pub value_of : Option Alternative → Key → Result (Option (List ℕ)) Refusal

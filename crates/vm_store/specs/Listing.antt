@@ -1,8 +1,10 @@
 -- What a query answers that lists things.
 use Rattle.std.specs.Prelude.{◌≡◌, ◌⊎◌, ℕ, List, Option, Some, None, Result, Ok, Err, Vec}
 use Rattle.vm_types.specs.declared.refusal.Refusal.{Refusal}
-use Rattle.vm_types.specs.declared.refusal.Refusal.TheVariants.{NoSuchAlternative, Device, Memory}
-use Rattle.vm_types.specs.Map.{Map}
+use Rattle.vm_types.specs.declared.refusal.Refusal.TheVariants.{NoSuchAlternative, IsTop, Device, Memory}
+use Rattle.vm_types.specs.declared.change.Change.{Change}
+use Rattle.vm_types.specs.declared.change.Conflict.{Conflict}
+use Rattle.vm_types.specs.Map.{Map, delta, conflicts}
 use Rattle.vm_types.specs.Shape.{saved_names}
 use Rattle.vm_types.specs.Tree.{Tree, Alternative, named}
 
@@ -13,6 +15,32 @@ records_of (Some a) = Ok a.current
 
 abbrev pub records_in : Tree → List ℕ → Result Map Refusal
 records_in tree alt = records_of (named tree alt)
+
+-- what changed in an alternative since its base, or that there is no such alternative
+abbrev pub changes_of : Option Alternative → Result (List Change) Refusal
+changes_of None = Err NoSuchAlternative
+changes_of (Some a) = Ok (delta a.base a.current)
+
+abbrev pub changes_in : Tree → List ℕ → Result (List Change) Refusal
+changes_in tree alt = changes_of (named tree alt)
+
+-- the conflicts of an alternative with this parent
+abbrev pub conflicts_with : Option Alternative → Alternative → Result (List Conflict) Refusal
+conflicts_with None a = Err NoSuchAlternative
+conflicts_with (Some p) a = Ok (conflicts a.base p.current a.current)
+
+-- the conflicts of an alternative with the parent of this name, if it has one
+abbrev pub conflicts_under : Tree → Option (List ℕ) → Alternative → Result (List Conflict) Refusal
+conflicts_under tree None a = Err IsTop
+conflicts_under tree (Some parent) a = conflicts_with (named tree parent) a
+
+-- the conflicts of an alternative with its parent, or why there are none to be asked for
+abbrev pub conflicts_of : Tree → Option Alternative → Result (List Conflict) Refusal
+conflicts_of tree None = Err NoSuchAlternative
+conflicts_of tree (Some a) = conflicts_under tree a.parent a
+
+abbrev pub conflicts_in : Tree → List ℕ → Result (List Conflict) Refusal
+conflicts_in tree alt = conflicts_of tree (named tree alt)
 
 -- the names of the checkpoints of an alternative, in order of creation, or that there is no such alternative
 abbrev pub checkpoints_of : Option Alternative → Result (List (List ℕ)) Refusal

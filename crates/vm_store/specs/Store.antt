@@ -1,8 +1,15 @@
 -- A store, and the state that it stands for.
-use Rattle.std.specs.Prelude.{ℕ, Bool, List, find}
+use Rattle.std.specs.Prelude.{ℕ, Bool, List, find, Result}
+use Rattle.vm_types.specs.declared.answer.Answer.{Answer}
+use Rattle.vm_types.specs.declared.command.Command.{Command}
+use Rattle.vm_types.specs.declared.command.Command.TheVariants.{Merge}
+use Rattle.vm_types.specs.declared.refusal.Refusal.{Refusal}
 use Rattle.vm_types.specs.State.{State}
+use Rattle.vm_types.specs.Tree.{current_of}
 use Rattle.vm_alloc.specs.Held.{free_count}
-use Rattle.vm_store.specs.Resting.{Rests}
+use Rattle.vm_store.specs.Answers.{IsAnswer, IsDeep, IsMergeAnswer, merge_changes}
+use Rattle.vm_store.specs.Changing.{MeetsFullPath}
+use Rattle.vm_store.specs.Resting.{Rests, spare_of}
 use Rattle.vm_store.specs.Roots.{current_root}
 use Rattle.vm_store.specs.Versions.{is_alternative_of}
 use Rattle.vm_store.specs.declared.store.Store.{Store}
@@ -37,3 +44,10 @@ module _ {D : Type 0} {members : _} where
   abbrev pub Holds : Store D members → State → Type 0
   Holds store s =
       Rests (members.state store.disk).now store.blocks store.slot_b store.held store.committed.items store.working.items s
+
+  -- what is answered to a command by a store that stands for the state, in terms of the store before and after
+  abbrev pub Answers : (old new : Store D members) (s : State) → Holds old s → Command → Result Answer Refusal → Type 0
+  Answers old new s holds (Merge alt settled) result =
+      IsMergeAnswer s (spare_of holds) (MeetsFullPath (members.state new.disk).now.contents new.blocks (current_of s.working alt) (merge_changes s.working alt settled)) alt settled result
+  Answers old new s holds command result =
+      IsAnswer s (spare_of holds) (IsDeep (members.state old.disk).now.contents (root_of old) s.working command) command result

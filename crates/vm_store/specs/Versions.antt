@@ -1,4 +1,5 @@
--- Alternatives and checkpoints in memory: what a slot says of them, which belong to an alternative, and what they are called.
+-- Alternatives and checkpoints in memory: what a slot says of them, which belong to an alternative, what they are called, and
+-- other roots of them.
 use Rattle.std.specs.Prelude.{ℕ, Bool, ◌&&◌, ◌||◌, not, List, [], ◌∷◌, map, filter, Option, Some}
 use Rattle.std.specs.Option.{option_eq}
 use Rattle.std.specs.Str.{bytes_eq}
@@ -54,3 +55,13 @@ alternatives_among vs = map (λ v. (v.name, v.owner)) (filter (λ v. is_alternat
 -- the names of an alternative's checkpoints
 abbrev pub checkpoints_among : List Version → List ℕ → List (List ℕ)
 checkpoints_among vs alt = map (λ v. v.name) (filter (is_checkpoint_under alt) vs)
+
+-- the version with another current root, with another base root, or with two others
+abbrev pub with_current : Root → Version → Version
+with_current root v = record v { current = root }
+
+abbrev pub with_base : Root → Version → Version
+with_base root v = record v { base = root }
+
+abbrev pub with_tops : Root → Root → Version → Version
+with_tops current base v = record v { current = current; base = base }

@@ -1,12 +1,15 @@
 //! The store: commands and queries over any disk of blocks.
 //!
-//! It stands on vm_catalog for the entries and their slots, on vm_tree and vm_check for the maps, and on
-//! vm_alloc for the blocks that are held. Its one promise: commands answer and change what the model says,
+//! It stands on vm_catalog for the entries and their slots, on vm_tree, vm_diff and vm_check for the maps,
+//! and on vm_alloc for the blocks that are held. Its one promise: commands answer and change what the model says,
 //! and a crash at any moment of them shows the model after a beginning of the commands that is empty
 //! or ends with a commit, and that holds every commit that was acknowledged.
 #![tactic(auto)]
 
+mod changing;
 mod faults;
+mod merging;
+mod sides;
 mod store;
 mod versions;
 

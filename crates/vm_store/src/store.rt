@@ -1,20 +1,23 @@
 //! A store, and its commands and queries.
-ghost use Rattle.std.specs.Prelude.{◌≡◌, ◌≢◌, ◌⊎◌, ◌↔◌, ◌<◌, ◌≤◌, ◌^◌, true, false, length, ℕ, vec_capacity, OnErr, OnOk, IfOk, IfErr, IsTrue};
+ghost use Rattle.std.specs.Prelude.{◌≡◌, ◌≢◌, ◌⊎◌, ◌↔◌, ◌<◌, ◌≤◌, ◌*◌, ◌^◌, true, false, length, ℕ, vec_capacity, OnErr, OnOk, IfOk, IfErr, IsTrue};
 ghost use Rattle.vm_types.specs.State.{State, next};
 ghost use Rattle.vm_types.specs.Kept.{LeftBy};
 ghost use Rattle.vm_disk.specs.Disk.{Goes, NoCalls};
 ghost use Rattle.vm_disk.specs.Moments.{Throughout, OnlyReads, Leaves};
-ghost use Rattle.vm_store.specs.Answers.{IsCarriedOut, IsDeep, IsAnswer, value_in};
+ghost use Rattle.vm_store.specs.Answers.{IsMerge, value_in};
 ghost use Rattle.vm_store.specs.Guarded.{IsGuarded};
 ghost use Rattle.vm_store.specs.Resting.{spare_of};
 ghost use Rattle.vm_store.specs.Shown.{Shows};
 
 mod alternatives;
 mod checkpoints;
+mod differences;
 mod formatting;
 mod listing;
+mod merging;
 mod opening;
 mod parts;
+mod posting;
 mod reclaiming;
 mod removing;
 mod running;
@@ -25,6 +28,7 @@ use crate::{FAN, LEAF, LEVELS};
 pub use formatting::format;
 pub use opening::open;
 pub use running::Stop;
+use std::alloc::Global;
 use vm_alloc::{Held, Marks};
 use vm_block::Entry;
 use vm_catalog::publish;
@@ -45,6 +49,7 @@ fn is_device(answer: &Result<Answer, Refusal>) -> bool
 /// A store on a disk: what is committed there, and what commands have made of it since.
 pub struct Store<D: Disk> {
     disk: D,
+    alloc: Global,
     blocks: u32,
     slot_b: bool,
     entries: Vec<Entry>,
@@ -65,13 +70,11 @@ pub struct Store<D: Disk> {
 }
 
 impl<D: Disk> Store<D> {
-    ghost use Rattle.vm_store.specs.Store.{disk_of, has_failed, entries_of, root_of, Holds, held_of, free_of};
+    ghost use Rattle.vm_store.specs.Store.{disk_of, has_failed, entries_of, root_of, Answers, Holds, held_of, free_of};
 
     /// Carries out one command. After an answer `Device` the store answers `Failed` to every call but
     /// `close`: close it, and open the disk again.
     pub fn apply(&mut self, command: &Command) -> Result<Answer, Refusal>
-        requires { IsCarriedOut command.now }
-
         // On any disk.
         ensures any { Goes (result ≡ Err Refusal.Device) (D.state (disk_of self.old)) (D.state (disk_of self.new)) }
         ensures failed { has_failed self.old ≡ false → (has_failed self.new ≡ true ↔ result ≡ Err Refusal.Device) }
@@ -79,12 +82,12 @@ impl<D: Disk> Store<D> {
         ensures no_calls { has_failed self.old ≡ true → (self.new ≡ self.old) }
         ensures only_then { has_failed self.old ≡ false → result ≢ Err Refusal.Failed }
         ensures same { OnErr result (result ≢ Err Refusal.Device → entries_of self.new ≡ entries_of self.old) }
-        ensures no_memory { result ≢ Err Refusal.Memory }
+        ensures memory { result ≡ Err Refusal.Memory → IsMerge command.now }
 
-        // The answer is the model's, or one that the device or want of blocks forces.
+        // The answer is the model's, or one that the device, or want of blocks or memory forces.
         ensures answer { (D.state (disk_of self.old)).honest ≡ true → has_failed self.old ≡ false
             → (s : State) (holds : Holds self.old s)
-            → IsAnswer s (spare_of holds) (IsDeep (D.state (disk_of self.old)).now.contents (root_of self.old) s.working command.now) command.now result }
+            → Answers self.old self.new s holds command.now result }
         ensures state { (D.state (disk_of self.old)).honest ≡ true → has_failed self.old ≡ false → result ≢ Err Refusal.Device
             → (s : State) → Holds self.old s → Holds self.new (next s command.now result) }
 
@@ -112,12 +115,12 @@ impl<D: Disk> Store<D> {
 
     // Carries out one command, and leaves it to `apply` to note that the device failed.
     fn carry_out(&mut self, command: &Command) -> Result<Answer, Refusal>
-        requires { IsCarriedOut command.now }
         ensures any { Goes (result ≡ Err Refusal.Device) (D.state (disk_of self.old)) (D.state (disk_of self.new)) }
-        ensures never { (result ≢ Err Refusal.Failed) × (result ≢ Err Refusal.Memory) }
+        ensures never { result ≢ Err Refusal.Failed }
+        ensures memory { result ≡ Err Refusal.Memory → IsMerge command.now }
         ensures same { OnErr result (entries_of self.new ≡ entries_of self.old) }
         ensures answer { (D.state (disk_of self.old)).honest ≡ true → (s : State) (holds : Holds self.old s)
-            → IsAnswer s (spare_of holds) (IsDeep (D.state (disk_of self.old)).now.contents (root_of self.old) s.working command.now) command.now result }
+            → Answers self.old self.new s holds command.now result }
         ensures state { (D.state (disk_of self.old)).honest ≡ true → result ≢ Err Refusal.Device → (s : State) → Holds self.old s → Holds self.new (next s command.now result) }
         ensures crash { (D.state (disk_of self.old)).honest ≡ true → (s : State) → Holds self.old s
             → Throughout (D.state (disk_of self.old)) (D.state (disk_of self.new)) (Leaves (LeftBy Shows s command.now)) }
@@ -133,9 +136,10 @@ impl<D: Disk> Store<D> {
             Command::Checkpoint { alt, name } => self.make_checkpoint(alt, name),
             Command::Uncheck { alt, name } => self.uncheck(alt, name),
             Command::Back { alt, name } => self.go_back(alt, name),
+            Command::Merge { alt, settled } => self.merge(alt, settled.as_slice()),
+            Command::Post { alt } => self.post(alt),
             Command::Commit => self.commit(),
             Command::Reclaim => self.reclaim(),
-            _ => unreachable!(),
         }
     }
 
@@ -164,24 +168,32 @@ impl<D: Disk> Store<D> {
         Ok(())
     }
 
-    // Whether so many blocks are spare. Where fewer are free, it marks what the entries reach.
-    fn has_spare(&mut self, count: u32) -> Result<bool, Refusal>
+    // Whether as many blocks are free as so many record changes may take.
+    fn has_free(&self, changes: usize) -> bool
+        ensures { IsTrue result ↔ (16 * changes ≤ free_of self.now) }
+    {
+        changes <= (self.held.free_count() / BLOCKS_A_CHANGE) as usize
+    }
+
+    // Whether as many blocks are spare as so many record changes may take. Where fewer are free, it marks
+    // what the entries reach.
+    fn has_spare(&mut self, changes: usize) -> Result<bool, Refusal>
         ensures any { Goes (result ≡ Err Refusal.Device) (D.state (disk_of self.old)) (D.state (disk_of self.new)) }
         ensures failed { has_failed self.new ≡ has_failed self.old }
         ensures never { (result ≢ Err Refusal.Failed) × (result ≢ Err Refusal.Memory) }
         ensures same { entries_of self.new ≡ entries_of self.old }
         ensures roots { root_of self.new ≡ root_of self.old }
-        ensures free { IfOk result (λ yes. IsTrue yes → count ≤ free_of self.new) }
+        ensures free { IfOk result (λ yes. IsTrue yes → 16 * changes ≤ free_of self.new) }
         ensures reads { (D.state (disk_of self.old)).honest ≡ true → OnlyReads (D.state (disk_of self.old)) (D.state (disk_of self.new)) }
         ensures only { (D.state (disk_of self.old)).honest ≡ true → (s : State) → Holds self.old s → IfErr result (λ refusal. refusal ≡ Refusal.Device) }
-        ensures spare { (D.state (disk_of self.old)).honest ≡ true → (s : State) (holds : Holds self.old s) → IfOk result (λ yes. IsTrue yes ↔ (count ≤ spare_of holds)) }
+        ensures spare { (D.state (disk_of self.old)).honest ≡ true → (s : State) (holds : Holds self.old s) → IfOk result (λ yes. IsTrue yes ↔ (16 * changes ≤ spare_of holds)) }
         ensures state { (D.state (disk_of self.old)).honest ≡ true → (s : State) → Holds self.old s → Holds self.new s }
     {
-        if self.held.free_count() >= count {
+        if self.has_free(changes) {
             return Ok(true);
         }
         match self.mark_all() {
-            Ok(()) => Ok(self.held.free_count() >= count),
+            Ok(()) => Ok(self.has_free(changes)),
             Err(refusal) => Err(refusal),
         }
     }
@@ -193,7 +205,7 @@ impl<D: Disk> Store<D> {
         ensures never { (result ≢ Err Refusal.Failed) × (result ≢ Err Refusal.Memory) }
         ensures same { OnErr result (entries_of self.new ≡ entries_of self.old) }
         ensures answer { (D.state (disk_of self.old)).honest ≡ true → (s : State) (holds : Holds self.old s)
-            → IsAnswer s (spare_of holds) (IsDeep (D.state (disk_of self.old)).now.contents (root_of self.old) s.working (Command.Put alt.now key value.now)) (Command.Put alt.now key value.now) result }
+            → Answers self.old self.new s holds (Command.Put alt.now key value.now) result }
         ensures state { (D.state (disk_of self.old)).honest ≡ true → (s : State) → Holds self.old s → Holds self.new (next s (Command.Put alt.now key value.now) result) }
         ensures crash { (D.state (disk_of self.old)).honest ≡ true → (s : State) → Holds self.old s
             → Throughout (D.state (disk_of self.old)) (D.state (disk_of self.new)) (Leaves (LeftBy Shows s (Command.Put alt.now key value.now))) }
@@ -203,7 +215,7 @@ impl<D: Disk> Store<D> {
         let Some(i) = position_of(&self.working, alt) else {
             return Err(Refusal::NoSuchAlternative);
         };
-        match self.has_spare(BLOCKS_A_CHANGE) {
+        match self.has_spare(1) {
             Ok(true) => {}
             Ok(false) => return Err(Refusal::Full),
             Err(refusal) => return Err(refusal),
@@ -277,6 +289,7 @@ impl<D: Disk> Store<D> {
     {
         let Store {
             disk,
+            alloc: _,
             blocks: _,
             slot_b: _,
             entries: _,

@@ -2,14 +2,15 @@
 //! made from versions of a slot and back.
 ghost use Rattle.std.specs.Prelude.{◌≡◌, ◌≢◌, ◌≤◌, ◌<◌, ◌*◌, ◌++◌, ◌∷◌, ◌+◌, ℕ, List, [], true, find, filter, map, length, None, vec_capacity, IfSome, IfNone, IfOk, IfErr, OnOk};
 ghost use Rattle.std.specs.List.{list_any};
-ghost use Rattle.vm_types.specs.Firsts.{IsFirst};
+ghost use Rattle.vm_types.specs.Firsts.{IsFirst, change_first};
 ghost use Rattle.vm_types.specs.Name.{IsName};
 ghost use Rattle.vm_disk.specs.Disk.{Goes};
 ghost use Rattle.vm_disk.specs.Moments.{OnlyReads};
 ghost use Rattle.vm_tree.specs.Answers.{OkOrDevice};
 ghost use Rattle.vm_check.specs.Marking.{IsClosed, MarksMore};
 ghost use Rattle.vm_store.specs.Marking.{AreReached};
-ghost use Rattle.vm_store.specs.Versions.{entry_of, numbers_of, slot_entries, versions_of, is_alternative_of, is_checkpoint_under, is_checkpoint_of, is_child_of, is_apart, alternatives_among, checkpoints_among};
+ghost use Rattle.vm_store.specs.Pairs.{IsPair, LacksPair};
+ghost use Rattle.vm_store.specs.Versions.{entry_of, numbers_of, slot_entries, versions_of, is_alternative_of, is_checkpoint_under, is_checkpoint_of, is_child_of, is_apart, alternatives_among, checkpoints_among, with_current, with_base};
 
 use std::alloc::Global;
 use vm_alloc::Marks;
@@ -111,7 +112,48 @@ pub fn checkpoint_position(versions: &[Version], alt: &Name, name: &Name) -> Opt
 pub fn has_children(versions: &[Version], alt: &Name) -> bool
     ensures { result ≡ list_any (is_child_of alt.now) versions.now }
 {
-    versions.iter().any(|e| is_child_of(alt, e))
+    versions.iter().any(|v| is_child_of(alt, v))
+}
+
+/// The alternative of this name, and its parent.
+///
+/// It answers `NoSuchAlternative` where one of them is not there, and `IsTop` where the alternative has no
+/// parent.
+pub fn pair_of(versions: &[Version], alt: &Name) -> Result<(Version, Version), Refusal>
+    ensures found { IfOk result (IsPair versions.now alt.now) }
+    ensures none { IfErr result (LacksPair versions.now alt.now) }
+{
+    let Some(i) = position_of(versions, alt) else {
+        return Err(Refusal::NoSuchAlternative);
+    };
+    let own = versions[i];
+    let Some(parent) = own.owner else {
+        return Err(Refusal::IsTop);
+    };
+    match position_of(versions, &parent) {
+        Some(j) => Ok((own, versions[j])),
+        None => Err(Refusal::NoSuchAlternative),
+    }
+}
+
+/// Gives the alternative of this name another current root, where it is there.
+pub fn set_current(versions: &mut [Version], alt: &Name, current: Root)
+    ensures items { versions.new ≡ change_first (is_alternative_of alt.now) (with_current current) versions.old }
+    ensures many { length versions.new ≡ length versions.old }
+{
+    if let Some(i) = position_of(versions, alt) {
+        versions[i].current = current;
+    }
+}
+
+/// Gives the alternative of this name another base root, where it is there.
+pub fn set_base(versions: &mut [Version], alt: &Name, base: Root)
+    ensures items { versions.new ≡ change_first (is_alternative_of alt.now) (with_base base) versions.old }
+    ensures many { length versions.new ≡ length versions.old }
+{
+    if let Some(i) = position_of(versions, alt) {
+        versions[i].base = base;
+    }
 }
 
 /// Adds a version at the end. There has to be room, so it takes no memory.
@@ -134,7 +176,7 @@ pub fn take_out(versions: &mut Vec<Version>, alt: &Name)
     ensures fewer { length versions.new.items ≤ length versions.old.items }
     ensures room { vec_capacity versions.old ≤ vec_capacity versions.new }
 {
-    versions.retain(|e| is_apart(alt, e));
+    versions.retain(|v| is_apart(alt, v));
 }
 
 /// The alternatives among the versions, each with its parent, in their order.

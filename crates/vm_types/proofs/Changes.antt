@@ -8,25 +8,11 @@ use Rattle.std.specs.FinMap.Entries.{by_order}
 use Rattle.std.proofs.lemmas.Bool.{and_parts, and_from}
 use Rattle.vm_types.specs.declared.key.Key.{Key}
 use Rattle.vm_types.specs.declared.change.Change.{Change}
-use Rattle.vm_types.specs.Map.{key_cmp, same_key, Map, IsMap, get, with_value, without, same_value, over, keys_of, change_at, delta}
+use Rattle.vm_types.specs.Map.{key_cmp, same_key, Map, IsMap, get, with_value, without, same_value, over, keys_of, change_at, delta, put_or_taken, with_change, with_changes}
 use Rattle.vm_types.proofs.Keys.{keys_total, same_key-Decides, get-with_value, get-without, IsMap-with_value, IsMap-without, same_maps, exact_keys, is_less}
 use Rattle.vm_types.proofs.Maps.{same_value-Decides, keys_of-any}
 
 -- ---- changes made
-
--- the map with this value at the key, or without the key
-abbrev pub put_or_taken : Map → Key → Option (List ℕ) → Map
-put_or_taken m key None = without m key
-put_or_taken m key (Some value) = with_value m key value
-
--- the map with a change made
-abbrev pub with_change : Map → Change → Map
-with_change m c = put_or_taken m c.key c.after
-
--- the map with changes made, one after another
-abbrev pub with_changes : Map → List Change → Map
-with_changes m [] = m
-with_changes m (c ∷ changes) = with_changes (with_change m c) changes
 
 swapped_tests : (a b : Bool) (o : Option (List ℕ)) → a ≡ b → cond (not a) o None ≡ cond b None o
 swapped_tests true true o h = refl

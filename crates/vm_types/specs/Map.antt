@@ -1,4 +1,4 @@
--- Maps from keys to values: what a record is, where two maps differ, and how three are merged.
+-- Maps from keys to values: what a record is, where two maps differ, how changes are made, and how three are merged.
 use Rattle.std.specs.Prelude.{ℕ, Bool, not, ◌&&◌, List, [], ◌∷◌, map, filter_map, Option, Some, None, is_none, option_map, if◌then◌else◌, IsTrue, bytes_eq}
 use Rattle.std.specs.Option.{option_eq}
 use Rattle.std.specs.declared.cmp.Ordering.{Ordering}
@@ -103,3 +103,17 @@ merge base parent mine settled = filter_map (λ key. option_map (λ value. (key,
 -- whether two maps are equal, record by record
 abbrev pub same_map : Map → Map → Bool
 same_map = pointwise (λ r s. same_key r.0 s.0 && bytes_eq r.1 s.1)
+
+-- the map with this value at the key, or without the key
+abbrev pub put_or_taken : Map → Key → Option (List ℕ) → Map
+put_or_taken m key None = without m key
+put_or_taken m key (Some value) = with_value m key value
+
+-- the map with a change made
+abbrev pub with_change : Map → Change → Map
+with_change m c = put_or_taken m c.key c.after
+
+-- the map with changes made, one after another
+abbrev pub with_changes : Map → List Change → Map
+with_changes m [] = m
+with_changes m (c ∷ changes) = with_changes (with_change m c) changes

@@ -17,7 +17,7 @@ pub const CHECKPOINTS: u32 = 3;
 /// How many keys are in use: more than one leaf has room for.
 pub const KEYS: u32 = 40;
 
-pub fn top() -> Name {
+pub(super) fn top() -> Name {
     let Some(name) = Name::new(b"top") else {
         unreachable!();
     };
@@ -25,7 +25,7 @@ pub fn top() -> Name {
 }
 
 /// The alternative of this number: `top`, and others that a session may or may not have.
-pub fn alternative(n: u32) -> Name {
+pub(super) fn alternative(n: u32) -> Name {
     let name = match n {
         1 => Name::new(b"ring"),
         2 => Name::new(b"spur"),
@@ -36,7 +36,7 @@ pub fn alternative(n: u32) -> Name {
 }
 
 /// The name of the checkpoint of this number.
-pub fn checkpoint(n: u32) -> Name {
+pub(super) fn checkpoint(n: u32) -> Name {
     let name = match n {
         1 => Name::new(b"noon"),
         2 => Name::new(b"dusk"),
@@ -46,7 +46,7 @@ pub fn checkpoint(n: u32) -> Name {
 }
 
 /// The key of this number: the first half of them is in one table, and the others in the next one.
-pub fn key(n: u32) -> Key {
+pub(super) fn key(n: u32) -> Key {
     let half = KEYS / 2;
     Key {
         table: if n < half { 1 } else { 2 },
@@ -54,14 +54,22 @@ pub fn key(n: u32) -> Key {
     }
 }
 
-/// Whether the store lists the records of the model in this alternative, or both have none of that name.
-fn lists<D: Disk>(
-    alloc: Global,
-    store: &mut Store<D>,
-    plain: &Plain,
-    alt: &Name,
+/// All alternatives that are in use.
+pub(super) fn alternatives() -> [Name; 4] {
+    [
+        alternative(0),
+        alternative(1),
+        alternative(2),
+        alternative(3),
+    ]
+}
+
+// Whether the store lists what the model does, or both refuse for the same reason.
+fn is_same<T: PartialEq + Drop>(
+    found: Result<Vec<T>, Refusal>,
+    expected: Result<Vec<T>, Refusal>,
 ) -> Result<bool, Wrong> {
-    match (store.list(alloc, alt), plain.list(alt)) {
+    match (found, expected) {
         (Err(Refusal::Device), _) => Err(Wrong::Refused(Refusal::Device)),
         (Ok(found), Ok(expected)) => Ok(found.as_slice() == expected.as_slice()),
         (Err(found), Err(expected)) => Ok(found == expected),
@@ -69,20 +77,11 @@ fn lists<D: Disk>(
     }
 }
 
-/// Whether the store finds the value of the model at this key.
+// Whether the store finds the value of the model at this key.
 fn gets<D: Disk>(store: &mut Store<D>, plain: &Plain, alt: &Name, key: Key) -> Result<bool, Wrong> {
     match store.get(alt, key) {
         Err(Refusal::Device) => Err(Wrong::Refused(Refusal::Device)),
         found => Ok(found == plain.get(alt, key)),
-    }
-}
-
-// Whether the store lists the checkpoints of the model, or both have no such alternative.
-fn checks<D: Disk>(alloc: Global, store: &Store<D>, plain: &Plain, alt: &Name) -> bool {
-    match (store.checkpoints(alloc, alt), plain.checkpoints(alt)) {
-        (Ok(found), Ok(expected)) => found.as_slice() == expected.as_slice(),
-        (Err(found), Err(expected)) => found == expected,
-        _ => false,
     }
 }
 
@@ -94,23 +93,36 @@ fn has_alternatives<D: Disk>(alloc: Global, store: &Store<D>, plain: &Plain) -> 
     }
 }
 
-/// Whether the store lists just the alternatives, checkpoints and records of the model, and finds the
-/// record of this key.
-pub fn agrees<D: Disk>(
+// Whether the store lists the checkpoints, records, changes and conflicts of the model in this
+// alternative, or both have none of that name.
+fn has_lists<D: Disk>(
     alloc: Global,
     store: &mut Store<D>,
     plain: &Plain,
+    alt: &Name,
+) -> Result<bool, Wrong> {
+    Ok(
+        is_same(store.checkpoints(alloc, alt), plain.checkpoints(alt))?
+            && is_same(store.list(alloc, alt), plain.list(alt))?
+            && is_same(store.changes(alloc, alt), plain.changes(alt))?
+            && is_same(store.conflicts(alloc, alt), plain.conflicts(alt))?,
+    )
+}
+
+/// Whether the store lists just the alternatives of the model, shows in these ones of them what the
+/// model does, and finds the record of this key.
+pub(super) fn agrees<D: Disk>(
+    alloc: Global,
+    store: &mut Store<D>,
+    plain: &Plain,
+    alternatives: &[Name],
     at: Key,
 ) -> Result<bool, Wrong> {
     if !has_alternatives(alloc, store, plain) {
         return Ok(false);
     }
-    for n in 0..ALTERNATIVES {
-        let alt = alternative(n);
-        if !checks(alloc, store, plain, &alt) {
-            return Ok(false);
-        }
-        if !lists(alloc, store, plain, &alt)? || !gets(store, plain, &alt, at)? {
+    for alt in alternatives {
+        if !has_lists(alloc, store, plain, alt)? || !gets(store, plain, alt, at)? {
             return Ok(false);
         }
     }
@@ -131,24 +143,26 @@ fn goes_back<D: Disk>(
         return Ok(false);
     }
     match answer {
-        Ok(_) => lists(alloc, store, &model.plain, &alt),
+        Ok(_) => has_lists(alloc, store, &model.plain, &alt),
         Err(_) => Ok(true),
     }
 }
 
-// Whether a store that was just opened has the records of the model in each alternative and each
-// checkpoint, and so many blocks free. It goes back to each checkpoint in turn.
+// Whether a store that was just opened shows what the model does in each alternative and each
+// checkpoint, and has so many blocks free. It goes back to each checkpoint in turn.
 fn agrees_anew<D: Disk>(
     alloc: Global,
     store: &mut Store<D>,
     opened: &mut Model,
 ) -> Result<bool, Wrong> {
-    if store.free() != Ok(opened.spare()?) || !agrees(alloc, store, &opened.plain, key(0))? {
+    if store.free() != Ok(opened.free())
+        || !agrees(alloc, store, &opened.plain, &alternatives(), key(0))?
+    {
         return Ok(false);
     }
-    for n in 0..ALTERNATIVES {
-        for m in 0..CHECKPOINTS {
-            if !goes_back(alloc, store, opened, alternative(n), checkpoint(m))? {
+    for alt in alternatives() {
+        for n in 0..CHECKPOINTS {
+            if !goes_back(alloc, store, opened, alt, checkpoint(n))? {
                 return Ok(false);
             }
         }
@@ -157,7 +171,7 @@ fn agrees_anew<D: Disk>(
 }
 
 /// Whether a disk shows what is committed in the model. The disk comes back.
-pub fn shows(
+pub(super) fn shows(
     alloc: Global,
     disk: RecordingDisk,
     model: &Model,

@@ -1,12 +1,15 @@
 //! Random choices, the same ones for the same seed.
 ghost use Rattle.std.specs.Prelude.{◌<◌};
-ghost use Rattle.vm_store.specs.Answers.{IsCarriedOut};
-ghost use Rattle.simulation.specs.Plain as plain;
 
 use super::cast::{ALTERNATIVES, CHECKPOINTS, KEYS, alternative, checkpoint, key, top};
+use crate::Plain;
 use rand_core::{Rng, SeedableRng};
 use rand_xoshiro::Xoshiro256PlusPlus;
-use vm_types::{Command, Key, Name, Value};
+use std::alloc::{AllocError, Global};
+use vm_types::{Command, Conflict, Key, Name, Settled, Side, Value};
+
+/// How many draws make another command than a Drop, Uncheck or Remove.
+const ADDITIONS: u32 = 31;
 
 /// Whether no command takes anything out, some do, or most of them.
 #[derive(Clone, Copy, PartialEq, Eq)]
@@ -22,22 +25,24 @@ pub struct Dice {
     keeps: bool,
     season: Season,
     next: u32,
+    merged: Option<Name>,
 }
 
 impl Dice {
-    /// With an odd seed, no command takes anything out.
-    pub fn new(seed: u64) -> Dice {
+    /// With an odd seed, no Drop, Uncheck or Remove comes.
+    pub(super) fn new(seed: u64) -> Dice {
         Dice {
             rng: Xoshiro256PlusPlus::seed_from_u64(seed),
             keeps: seed % 2 == 1,
             season: Season::Growth,
             next: 0,
+            merged: None,
         }
     }
 
     /// Begins a new season. It may be a sweep where `top` has more than one leaf: then most commands take
     /// out one key of `top` after another, so that whole leaves become empty.
-    pub fn turn(&mut self, many_leaves: bool) {
+    pub(super) fn turn(&mut self, many_leaves: bool) {
         self.season = match self.below(4) {
             _ if self.keeps => Season::Growth,
             0 => Season::Change,
@@ -48,7 +53,7 @@ impl Dice {
     }
 
     /// A number below the bound.
-    pub fn below(&mut self, bound: u32) -> u32
+    pub(super) fn below(&mut self, bound: u32) -> u32
         requires { 0 < bound }
         ensures { result < bound }
     {
@@ -56,7 +61,7 @@ impl Dice {
     }
 
     /// One time out of so many.
-    pub fn once_in(&mut self, times: u32) -> bool
+    pub(super) fn once_in(&mut self, times: u32) -> bool
         requires { 0 < times }
     {
         self.below(times) == 0
@@ -70,12 +75,26 @@ impl Dice {
         }
     }
 
+    // Mostly another alternative than `top`.
+    fn child(&mut self) -> Name {
+        if self.once_in(12) {
+            top()
+        } else {
+            alternative(1 + self.below(ALTERNATIVES - 1))
+        }
+    }
+
     fn checkpoint(&mut self) -> Name {
         checkpoint(self.below(CHECKPOINTS))
     }
 
-    pub fn key(&mut self) -> Key {
-        key(self.below(KEYS))
+    /// Any key, but every second time one of a few.
+    pub(super) fn key(&mut self) -> Key {
+        if self.once_in(2) {
+            key(5 * self.below(KEYS / 5))
+        } else {
+            key(self.below(KEYS))
+        }
     }
 
     // The key after the one that was drawn last in this way. The first follows the last.
@@ -97,46 +116,87 @@ impl Dice {
         Value::new(&bytes[..len]).unwrap_or_default()
     }
 
-    /// A command. A new kind of command is one more arm. Those that take something out are the last.
-    pub fn command(&mut self) -> Command
-        ensures store { IsCarriedOut result }
-        ensures plain { plain.IsCarriedOut result }
-    {
-        let kinds = match self.season {
-            Season::Growth => 28,
-            Season::Change => 38,
-            Season::Sweep => 200,
+    fn side(&mut self) -> Side {
+        if self.once_in(2) {
+            Side::Mine
+        } else {
+            Side::Theirs
+        }
+    }
+
+    // Settlements of these conflicts, in any order; or none, or such as do not fit: a key is settled
+    // twice, another key is settled too, or a conflict is left, also with another key in its place.
+    fn settled(&mut self, alloc: Global, conflicts: &[Conflict]) -> Result<Settled, AllocError> {
+        let mut sides = Vec::new(alloc);
+        for conflict in conflicts {
+            let at = if self.once_in(2) { 0 } else { sides.len() };
+            sides.insert(at, (conflict.key, self.side()))?;
+        }
+        let wrong = self.below(20);
+        if wrong == 0 {
+            sides.clear();
+        }
+        if wrong == 1 || wrong == 2 {
+            sides.pop();
+        }
+        if wrong == 2 || wrong == 3 {
+            sides.push((self.key(), self.side()))?;
+        }
+        if wrong == 4 {
+            let key = conflicts.first().map_or(key(0), |conflict| conflict.key);
+            sides.extend_from_slice(&[(key, Side::Mine), (key, Side::Theirs)])?;
+        }
+        Ok(Settled::from_vec(sides))
+    }
+
+    // A Merge, mostly with settlements that fit.
+    fn merge(&mut self, alloc: Global, plain: &Plain) -> Result<Command, AllocError> {
+        let alt = self.child();
+        self.merged = Some(alt);
+        let settled = match plain.conflicts(&alt) {
+            Ok(conflicts) => self.settled(alloc, &conflicts)?,
+            Err(_) => self.settled(alloc, &[])?,
         };
-        match self.below(kinds) {
-            0..=2 => Command::Commit,
-            3 => Command::Reclaim,
-            4..=6 => Command::New {
-                name: alternative(self.below(ALTERNATIVES)),
-                parent: alternative(self.below(ALTERNATIVES)),
-            },
-            7..=10 => Command::Checkpoint {
+        Ok(Command::Merge { alt, settled })
+    }
+
+    // A Drop, Uncheck or Remove. From 11 on, one key of `top` after another is taken out.
+    fn removal(&mut self, n: u32) -> Command {
+        match n {
+            0..=2 => Command::Drop { alt: self.child() },
+            3..=5 => Command::Uncheck {
                 alt: self.alt(),
                 name: self.checkpoint(),
             },
-            11 => Command::Back {
-                alt: self.alt(),
-                name: self.checkpoint(),
-            },
-            28..=31 => Command::Drop {
-                alt: alternative(self.below(ALTERNATIVES)),
-            },
-            32 => Command::Uncheck {
-                alt: self.alt(),
-                name: self.checkpoint(),
-            },
-            33..=37 => Command::Remove {
+            6..=10 => Command::Remove {
                 alt: self.alt(),
                 key: self.key(),
             },
-            38..=199 => Command::Remove {
+            _ => Command::Remove {
                 alt: top(),
                 key: self.next_key(),
             },
+        }
+    }
+
+    // Any other command but a Merge. From 15 on it is a Put.
+    fn addition(&mut self, n: u32) -> Command {
+        match n {
+            0..=2 => Command::Commit,
+            3 => Command::Reclaim,
+            4..=8 => Command::New {
+                name: self.child(),
+                parent: self.alt(),
+            },
+            9..=12 => Command::Checkpoint {
+                alt: self.alt(),
+                name: self.checkpoint(),
+            },
+            13 => Command::Back {
+                alt: self.alt(),
+                name: self.checkpoint(),
+            },
+            14 => Command::Post { alt: self.child() },
             _ => Command::Put {
                 alt: self.alt(),
                 key: self.key(),
@@ -145,8 +205,34 @@ impl Dice {
         }
     }
 
+    /// A command to a store that shows what the plain model does. Every second Merge is followed by a
+    /// Post at once.
+    pub(super) fn command(&mut self, alloc: Global, plain: &Plain) -> Result<Command, AllocError> {
+        let merged = self.merged;
+        self.merged = None;
+        if let Some(alt) = merged
+            && self.once_in(2)
+        {
+            return Ok(Command::Post { alt });
+        }
+        let (removals, merge_in) = match self.season {
+            Season::Growth => (0, 8),
+            Season::Change => (11, 8),
+            Season::Sweep => (173, 40),
+        };
+        if self.once_in(merge_in) {
+            return self.merge(alloc, plain);
+        }
+        let n = self.below(ADDITIONS + removals);
+        if n < ADDITIONS {
+            Ok(self.addition(n))
+        } else {
+            Ok(self.removal(n - ADDITIONS))
+        }
+    }
+
     /// The bytes of a block.
-    pub fn bytes(&mut self) -> [u8; 4096] {
+    pub(super) fn bytes(&mut self) -> [u8; 4096] {
         let mut bytes = [0; 4096];
         self.rng.fill_bytes(&mut bytes);
         bytes
@@ -154,7 +240,7 @@ impl Dice {
 
     /// What a crash may leave in a block that was not synced: the bytes at the last sync, those that
     /// were written last, a part of each, or any others.
-    pub fn left(&mut self, synced: &[u8; 4096], written: &[u8; 4096]) -> [u8; 4096] {
+    pub(super) fn left(&mut self, synced: &[u8; 4096], written: &[u8; 4096]) -> [u8; 4096] {
         match self.below(6) {
             0 => *synced,
             1 => *written,

@@ -1,13 +1,12 @@
 //! The plain model, and which commands a store refuses for want of room.
 ghost use Rattle.std.specs.Prelude.{◌<◌, length, IfSome};
-ghost use Rattle.simulation.specs.Plain.{IsCarriedOut};
 
 use super::cast::top;
 use super::trees::{EMPTY, Trees};
 use super::{Reply, Wrong};
-use crate::Plain;
+use crate::{Plain, comparing};
 use std::alloc::Global;
-use vm_types::{Command, Key, Name, Refusal};
+use vm_types::{Change, Command, Key, Name, Refusal};
 
 /// How many blocks come before the first one for data.
 const FIRST_DATA: u32 = 34;
@@ -30,6 +29,7 @@ pub struct Model {
     pub plain: Plain,
     alloc: Global,
     blocks: u32,
+    free: u32,
     trees: Trees,
     committed: Vec<Roots>,
     working: Vec<Roots>,
@@ -45,7 +45,7 @@ fn position(entries: &[Roots], alt: &Name, saved: Option<Name>) -> Option<usize>
 
 impl Model {
     /// The model of a new store of so many blocks.
-    pub fn new(alloc: Global, blocks: u32) -> Result<Model, Wrong> {
+    pub(super) fn new(alloc: Global, blocks: u32) -> Result<Model, Wrong> {
         let first = Roots {
             alt: top(),
             saved: None,
@@ -56,6 +56,7 @@ impl Model {
             plain: Plain::new(alloc)?,
             alloc,
             blocks,
+            free: blocks.saturating_sub(FIRST_DATA),
             trees: Trees::new(alloc)?,
             committed: Vec::from_elem(alloc, first, 1)?,
             working: Vec::from_elem(alloc, first, 1)?,
@@ -63,33 +64,58 @@ impl Model {
     }
 
     /// What the store is once it was closed and opened again.
-    pub fn reopened(&self) -> Result<Model, Wrong> {
-        Ok(Model {
+    pub(super) fn reopened(&self) -> Result<Model, Wrong> {
+        let mut opened = Model {
             plain: self.plain.reopened()?,
             alloc: self.alloc,
             blocks: self.blocks,
+            free: 0,
             trees: self.trees.copy()?,
             committed: Vec::from_slice(self.alloc, &self.committed)?,
             working: Vec::from_slice(self.alloc, &self.committed)?,
-        })
+        };
+        opened.free = opened.spare()?;
+        Ok(opened)
     }
 
     /// The answer that a store owes, where the device serves.
-    pub fn apply(&mut self, command: &Command) -> Result<Reply, Wrong>
-        requires { IsCarriedOut command.now }
-    {
-        if let Some(refusal) = self.lack_of_room(command)? {
-            return Ok(Err(refusal));
+    pub(super) fn apply(&mut self, command: &Command) -> Result<Reply, Wrong> {
+        match command {
+            Command::Merge { alt, .. } => self.merge(alt, command),
+            _ if self.changes_a_record(command) && !self.has_room(1)? => Ok(Err(Refusal::Full)),
+            _ => {
+                let reply = self.plain.apply(command);
+                if reply.is_ok() {
+                    self.follow(command)?;
+                }
+                Ok(reply)
+            }
         }
-        let reply = self.plain.apply(command);
-        if reply.is_ok() {
-            self.follow(command)?;
-        }
-        Ok(reply)
     }
 
-    /// How many blocks for data neither the committed maps nor the working ones lie in.
-    pub fn spare(&self) -> Result<u32, Wrong> {
+    /// How many blocks are free: those for data in which no map lay at the last marking, and that no
+    /// change has taken since.
+    pub(super) fn free(&self) -> u32 {
+        self.free
+    }
+
+    /// The parent of an alternative, if it has one.
+    pub(super) fn parent_of(&self, alt: &Name) -> Result<Option<Name>, Wrong> {
+        let alternatives = self.plain.alternatives()?;
+        let own = alternatives.iter().find(|labels| labels.0 == *alt);
+        Ok(own.and_then(|labels| labels.1))
+    }
+
+    /// How many levels of blocks the map of an alternative has above its leaves.
+    pub(super) fn level(&self, alt: &Name) -> u32 {
+        match position(&self.working, alt, None) {
+            Some(i) => self.trees.level(self.working[i].current),
+            None => 0,
+        }
+    }
+
+    // How many blocks for data neither the committed maps nor the working ones lie in.
+    fn spare(&self) -> Result<u32, Wrong> {
         let mut roots = Vec::new(self.alloc);
         for entries in [&self.committed, &self.working] {
             for entry in entries {
@@ -100,27 +126,47 @@ impl Model {
         Ok(data.saturating_sub(self.trees.count(&roots)?))
     }
 
-    /// How many levels of blocks the map of an alternative has above its leaves.
-    pub fn level(&self, alt: &Name) -> u32 {
-        match position(&self.working, alt, None) {
-            Some(i) => self.trees.level(self.working[i].current),
-            None => 0,
+    // Whether as many blocks are spare as so many record changes may take. Where fewer are free, the
+    // blocks that maps lie in are marked.
+    fn has_room(&mut self, changes: usize) -> Result<bool, Wrong> {
+        if !self.has_free(changes) {
+            self.free = self.spare()?;
         }
+        Ok(self.has_free(changes))
     }
 
-    fn lack_of_room(&self, command: &Command) -> Result<Option<Refusal>, Wrong> {
-        let changes = match command {
+    fn has_free(&self, changes: usize) -> bool {
+        changes <= (self.free / BLOCKS_A_CHANGE) as usize
+    }
+
+    // Whether this is a Put or a Remove that the plain model accepts.
+    fn changes_a_record(&self, command: &Command) -> bool {
+        match command {
             Command::Put { alt, key, .. } => self.plain.get(alt, *key).is_ok(),
             Command::Remove { alt, key } => matches!(self.plain.get(alt, *key), Ok(Some(_))),
             _ => false,
-        };
-        if changes && self.spare()? < BLOCKS_A_CHANGE {
-            return Ok(Some(Refusal::Full));
         }
-        Ok(None)
     }
 
-    // What an accepted command does to the blocks that maps lie in.
+    // The answer to a Merge. Its record changes are made one after another, by rising keys, where there
+    // is room for all.
+    fn merge(&mut self, alt: &Name, command: &Command) -> Result<Reply, Wrong> {
+        let mut merged = self.plain.copy()?;
+        let reply = merged.apply(command);
+        if reply.is_err() {
+            return Ok(reply);
+        }
+        let (before, after) = (self.plain.list(alt)?, merged.list(alt)?);
+        let changes = comparing::changes(self.alloc, &before, &after)?;
+        if !self.has_room(changes.len())? {
+            return Ok(Err(Refusal::Full));
+        }
+        self.plain = merged;
+        self.follow_merge(alt, &changes)?;
+        Ok(reply)
+    }
+
+    // What an accepted command but a Merge does to the blocks that maps lie in.
     fn follow(&mut self, command: &Command) -> Result<(), Wrong> {
         match command {
             Command::New { name, parent } => self.follow_new(name, parent)?,
@@ -134,11 +180,13 @@ impl Model {
                 }
             }
             Command::Back { alt, name } => self.follow_back(alt, name),
+            Command::Merge { .. } => {}
+            Command::Post { alt } => self.follow_post(alt)?,
             Command::Commit => {
                 self.committed.clear();
                 self.committed.extend_from_slice(&self.working)?;
             }
-            _ => {}
+            Command::Reclaim => self.free = self.spare()?,
         }
         Ok(())
     }
@@ -160,14 +208,54 @@ impl Model {
 
     fn follow_put(&mut self, alt: &Name, key: Key) -> Result<(), Wrong> {
         if let Some(i) = position(&self.working, alt, None) {
+            let blocks = self.trees.blocks();
             self.working[i].current = self.trees.put(self.working[i].current, key)?;
+            self.take_new(blocks);
         }
         Ok(())
     }
 
     fn follow_remove(&mut self, alt: &Name, key: Key) -> Result<(), Wrong> {
         if let Some(i) = position(&self.working, alt, None) {
+            let blocks = self.trees.blocks();
             self.working[i].current = self.trees.remove(self.working[i].current, key)?;
+            self.take_new(blocks);
+        }
+        Ok(())
+    }
+
+    // The blocks that were written since there were so many are not free any more.
+    fn take_new(&mut self, blocks: u32) {
+        let written = self.trees.blocks().saturating_sub(blocks);
+        self.free = self.free.saturating_sub(written);
+    }
+
+    // After the changes the base lies in the blocks of what the parent shows.
+    fn follow_merge(&mut self, alt: &Name, changes: &[Change]) -> Result<(), Wrong> {
+        for change in changes {
+            match change.after {
+                Some(_) => self.follow_put(alt, change.key)?,
+                None => self.follow_remove(alt, change.key)?,
+            }
+        }
+        let parent = self.parent_of(alt)?.unwrap_or(*alt);
+        let own = position(&self.working, alt, None);
+        let above = position(&self.working, &parent, None);
+        if let (Some(own), Some(above)) = (own, above) {
+            self.working[own].base = self.working[above].current;
+        }
+        Ok(())
+    }
+
+    // The parent and the base lie in the blocks of what the alternative shows.
+    fn follow_post(&mut self, alt: &Name) -> Result<(), Wrong> {
+        let parent = self.parent_of(alt)?.unwrap_or(*alt);
+        let own = position(&self.working, alt, None);
+        let above = position(&self.working, &parent, None);
+        if let (Some(own), Some(above)) = (own, above) {
+            let current = self.working[own].current;
+            self.working[above].current = current;
+            self.working[own].base = current;
         }
         Ok(())
     }

@@ -16,7 +16,7 @@ pub struct RecordingDisk {
 }
 
 /// What a crash leaves in each block that was not synced.
-#[derive(Clone, Copy, Debug)]
+#[derive(Clone, Copy, Debug, PartialEq, Eq)]
 pub enum Fill {
     Synced,
     Written,
@@ -25,7 +25,7 @@ pub enum Fill {
 
 impl RecordingDisk {
     /// A disk of so many blocks of zero bytes, all of it synced.
-    pub fn new(alloc: Global, blocks: u32) -> Result<RecordingDisk, AllocError> {
+    pub(super) fn new(alloc: Global, blocks: u32) -> Result<RecordingDisk, AllocError> {
         Ok(RecordingDisk {
             inner: MemDisk::new(alloc, blocks)?,
             written: Vec::from_elem(alloc, [0; 4096], blocks as usize)?,
@@ -35,12 +35,12 @@ impl RecordingDisk {
     }
 
     /// The number of the block that was written last, or else 0.
-    pub fn last(&self) -> u32 {
+    pub(super) fn last(&self) -> u32 {
         self.last
     }
 
     /// What such a crash leaves in a block that was not synced.
-    pub fn bytes_in(&self, n: u32, fill: Fill) -> [u8; 4096] {
+    pub(super) fn bytes_in(&self, n: u32, fill: Fill) -> [u8; 4096] {
         let at = n as usize;
         match fill {
             Fill::Synced if at < self.synced.len() => self.synced[at],
@@ -51,7 +51,7 @@ impl RecordingDisk {
     }
 
     /// The disk after a crash which leaves the same kind of bytes in each block that was not synced.
-    pub fn crash(self, alloc: Global, fill: Fill) -> Result<RecordingDisk, Wrong> {
+    pub(super) fn crash(self, alloc: Global, fill: Fill) -> Result<RecordingDisk, Wrong> {
         let mut left = Vec::new(alloc);
         for n in 0..self.inner.blocks() {
             if self.inner.is_dirty(n) {
@@ -63,7 +63,11 @@ impl RecordingDisk {
     }
 
     /// The disk after a crash which leaves anything in blocks that were not synced.
-    pub fn crash_at_random(self, alloc: Global, dice: &mut Dice) -> Result<RecordingDisk, Wrong> {
+    pub(super) fn crash_at_random(
+        self,
+        alloc: Global,
+        dice: &mut Dice,
+    ) -> Result<RecordingDisk, Wrong> {
         let mut left = Vec::new(alloc);
         for n in 0..self.inner.blocks() {
             if self.inner.is_dirty(n) {

@@ -1,15 +1,15 @@
 //! Random sessions: a store lives several times on one disk, and each life ends by closing or by a
 //! device that stops, and maybe by a crash.
-use super::cast::{agrees, shows, top};
+use super::cast::{agrees, alternatives, shows, top};
 use super::dice::Dice;
 use super::model::Model;
 use super::recording::RecordingDisk;
-use super::{BLOCKS, Reply, Wrong};
+use super::tally::{Case, Sight, Tally};
+use super::{BLOCKS, Wrong};
 use std::alloc::Global;
-use std::cmp::Ordering;
 use vm_disk::{Disk, FuseDisk};
 use vm_store::{Store, format, open};
-use vm_types::{Command, Refusal};
+use vm_types::{Command, Key, Name, Refusal};
 
 /// More device calls than a life makes.
 const NEVER: u32 = 1_000_000;
@@ -22,119 +22,113 @@ enum End {
     StoppedInCommit,
 }
 
-/// How often the cases that matter were met: refusals by their number, commands by their kind, and
-/// changes that gave a map a level more or took one from it.
-#[derive(Clone, Copy)]
-struct Tally {
-    refused: [u32; 22],
-    accepted: [u32; 9],
-    grown: u32,
-    shrunk: u32,
-    kept_old: u32,
-    kept_new: u32,
-}
-
-impl Tally {
-    fn count(&mut self, command: &Command, answer: &Reply) {
-        match answer {
-            Ok(_) => add_one(&mut self.accepted, kind(command)),
-            Err(refusal) => add_one(&mut self.refused, refusal.code() as usize),
+// What a command may change beside records.
+fn sight(model: &Model, command: &Command) -> Sight {
+    let level = match command {
+        Command::Put { alt, .. } | Command::Remove { alt, .. } | Command::Merge { alt, .. } => {
+            model.level(alt)
         }
-    }
-
-    fn count_levels(&mut self, before: u32, after: u32) {
-        match before.cmp(&after) {
-            Ordering::Less => self.grown = self.grown.saturating_add(1),
-            Ordering::Equal => {}
-            Ordering::Greater => self.shrunk = self.shrunk.saturating_add(1),
-        }
-    }
-}
-
-fn add_one(counts: &mut [u32], at: usize) {
-    if at < counts.len() {
-        counts[at] = counts[at].saturating_add(1);
-    }
-}
-
-fn kind(command: &Command) -> usize {
-    match command {
-        Command::New { .. } => 0,
-        Command::Drop { .. } => 1,
-        Command::Put { .. } => 2,
-        Command::Remove { .. } => 3,
-        Command::Checkpoint { .. } => 4,
-        Command::Uncheck { .. } => 5,
-        Command::Back { .. } => 6,
-        Command::Commit => 7,
-        _ => 8,
-    }
-}
-
-// The level of the map whose records a command changes, or else 0.
-fn changed_level(model: &Model, command: &Command) -> u32 {
-    match command {
-        Command::Put { alt, .. } | Command::Remove { alt, .. } => model.level(alt),
         _ => 0,
+    };
+    Sight {
+        level,
+        free: model.free(),
     }
 }
 
-/// Whether the store has no more blocks free than the model has spare, and just as many where it has
-/// looked for them.
-fn counts_blocks<D: Disk>(store: &Store<D>, model: &Model, looked: bool) -> Result<bool, Wrong> {
-    let spare = model.spare()?;
-    Ok(match store.free() {
-        Ok(free) if looked => free == spare,
-        Ok(free) => free <= spare,
-        Err(_) => false,
-    })
+// The alternatives that a command names, or that it changes.
+fn near(alloc: Global, model: &Model, command: &Command) -> Result<Vec<Name>, Wrong> {
+    let mut names = Vec::new(alloc);
+    match command {
+        Command::New { name, parent } => names.extend_from_slice(&[*name, *parent])?,
+        Command::Post { alt } => {
+            names.extend_from_slice(&[*alt])?;
+            if let Some(parent) = model.parent_of(alt)? {
+                names.extend_from_slice(&[parent])?;
+            }
+        }
+        Command::Drop { alt }
+        | Command::Put { alt, .. }
+        | Command::Remove { alt, .. }
+        | Command::Checkpoint { alt, .. }
+        | Command::Uncheck { alt, .. }
+        | Command::Back { alt, .. }
+        | Command::Merge { alt, .. } => names.extend_from_slice(&[*alt])?,
+        Command::Commit | Command::Reclaim => {}
+    }
+    Ok(names)
 }
 
-/// Carries out a command, and compares its answer and the count of blocks with the model's. Tells how
-/// the life ends, where the device stops in it.
+/// Carries out a command, and compares its answer and the count of free blocks with the model's. Tells
+/// how the life ends, where the device stops in it.
 fn play<D: Disk>(
     store: &mut Store<D>,
     model: &mut Model,
-    dice: &mut Dice,
     tally: &mut Tally,
+    command: &Command,
 ) -> Result<Option<End>, Wrong> {
-    let command = dice.command();
-    let answer = store.apply(&command);
+    let answer = store.apply(command);
     if answer == Err(Refusal::Device) {
         return Ok(match command {
             Command::Commit => Some(End::StoppedInCommit),
             _ => Some(End::Stopped),
         });
     }
-    let level = changed_level(model, &command);
-    let expected = model.apply(&command)?;
+    let before = sight(model, command);
+    let expected = model.apply(command)?;
     if answer != expected {
         return Err(Wrong::Answer(answer, expected));
     }
-    tally.count(&command, &answer);
-    tally.count_levels(level, changed_level(model, &command));
-    if !counts_blocks(store, model, matches!(command, Command::Reclaim))? {
+    tally.count(command, &answer, before, sight(model, command));
+    if store.free() != Ok(model.free()) {
         return Err(Wrong::Free);
     }
     Ok(None)
 }
 
-/// Compares the records of each alternative with the model's, and the value of one key.
+/// Compares what the store shows in these alternatives with the model, and the value of one key.
 fn compare<D: Disk>(
     alloc: Global,
     store: &mut Store<D>,
     model: &Model,
-    dice: &mut Dice,
+    alternatives: &[Name],
+    at: Key,
 ) -> Result<Option<End>, Wrong> {
-    match agrees(alloc, store, &model.plain, dice.key()) {
+    match agrees(alloc, store, &model.plain, alternatives, at) {
         Ok(true) => Ok(None),
-        Ok(false) => Err(Wrong::Record),
+        Ok(false) => Err(Wrong::Differs),
         Err(Wrong::Refused(Refusal::Device)) => Ok(Some(End::Stopped)),
         Err(wrong) => Err(wrong),
     }
 }
 
-/// Carries out commands on a store that was just opened. It compares all records too, where it looks.
+/// Carries out a command. Where the life looks, it compares what the store shows in the alternatives near
+/// it, and now and then in all.
+fn step<D: Disk>(
+    alloc: Global,
+    store: &mut Store<D>,
+    model: &mut Model,
+    dice: &mut Dice,
+    tally: &mut Tally,
+    looks: bool,
+) -> Result<Option<End>, Wrong> {
+    let command = dice.command(alloc, &model.plain)?;
+    if let Some(end) = play(store, model, tally, &command)? {
+        return Ok(Some(end));
+    }
+    if !looks {
+        return Ok(None);
+    }
+    if dice.once_in(8) {
+        compare(alloc, store, model, &alternatives(), dice.key())
+    } else {
+        let names = near(alloc, model, &command)?;
+        compare(alloc, store, model, &names, dice.key())
+    }
+}
+
+/// Carries out commands on a store that was just opened. At the end it compares all that the store
+/// shows.
 fn play_on<D: Disk>(
     alloc: Global,
     store: &mut Store<D>,
@@ -143,19 +137,17 @@ fn play_on<D: Disk>(
     tally: &mut Tally,
     looks: bool,
 ) -> Result<End, Wrong> {
-    if !counts_blocks(store, model, true)? {
+    if store.free() != Ok(model.free()) {
         return Err(Wrong::Free);
     }
     dice.turn(model.level(&top()) > 0);
-    for _ in 0..dice.below(80) {
-        if let Some(end) = play(store, model, dice, tally)? {
-            return Ok(end);
-        }
-        if looks && let Some(end) = compare(alloc, store, model, dice)? {
+    for _ in 0..dice.below(64) {
+        if let Some(end) = step(alloc, store, model, dice, tally, looks)? {
             return Ok(end);
         }
     }
-    Ok(End::Closed)
+    let end = compare(alloc, store, model, &alternatives(), dice.key())?;
+    Ok(end.unwrap_or(End::Closed))
 }
 
 /// One life of a store on the disk, on a device that may stop at any call.
@@ -167,16 +159,21 @@ fn live(
     tally: &mut Tally,
 ) -> Result<(RecordingDisk, End), Wrong> {
     let (passes, looks) = match dice.below(4) {
-        0 => (NEVER, true),
-        1 => (dice.below(400), true),
-        2 => (NEVER, false),
+        0 | 1 => (NEVER, true),
+        2 => (dice.below(400), true),
         _ => (dice.below(60), false),
     };
     match open(alloc, FuseDisk::stop(disk, passes, dice.bytes())) {
         Ok(mut store) => {
             let end = play_on(alloc, &mut store, model, dice, tally, looks);
-            let disk = store.close().into_inner();
-            Ok((disk, end?))
+            let fuse = store.close();
+            let stopped = fuse.blown();
+            let disk = fuse.into_inner();
+            match end? {
+                End::Closed if stopped => Err(Wrong::Hidden),
+                End::Stopped | End::StoppedInCommit if !stopped => Err(Wrong::Device),
+                end => Ok((disk, end)),
+            }
         }
         Err((fuse, Refusal::Device)) => Ok((fuse.into_inner(), End::Stopped)),
         Err((_, refusal)) => Err(Wrong::Refused(refusal)),
@@ -193,31 +190,44 @@ fn resolve(
     tally: &mut Tally,
 ) -> Result<Option<(RecordingDisk, Model)>, Wrong> {
     let old = model.reopened()?;
-    if end == End::StoppedInCommit {
-        let _answer = model.apply(&Command::Commit)?;
-    }
-    let new = model.reopened()?;
     let (disk, shows_old) = shows(alloc, disk, &old)?;
+    if end != End::StoppedInCommit {
+        return if shows_old {
+            Ok(Some((disk, old)))
+        } else {
+            Err(Wrong::Shown)
+        };
+    }
+    let _answer = model.apply(&Command::Commit)?;
+    let new = model.reopened()?;
     let (disk, shows_new) = shows(alloc, disk, &new)?;
-    match (shows_old, shows_new, end) {
-        (true, true, End::StoppedInCommit) => Ok(None),
-        (true, false, End::StoppedInCommit) => {
-            tally.kept_old = tally.kept_old.saturating_add(1);
+    match (shows_old, shows_new) {
+        (true, true) => Ok(None),
+        (true, false) => {
+            tally.meet(Case::KeptOld);
             Ok(Some((disk, old)))
         }
-        (false, true, _) => {
-            tally.kept_new = tally.kept_new.saturating_add(1);
+        (false, true) => {
+            tally.meet(Case::KeptNew);
             Ok(Some((disk, new)))
         }
-        (true, _, _) => Ok(Some((disk, old))),
-        (false, false, _) => Err(Wrong::Shown),
+        (false, false) => Err(Wrong::Shown),
+    }
+}
+
+// How many blocks a store has: the least, or room for a change more than one, or for many.
+fn size(seed: u64) -> u32 {
+    match seed % 6 {
+        0 | 1 => BLOCKS,
+        2 | 3 => 2 * BLOCKS,
+        _ => 8 * BLOCKS,
     }
 }
 
 /// Several lives of a store on one disk.
 fn session(alloc: Global, seed: u64, tally: &mut Tally) -> Result<(), Wrong> {
     let mut dice = Dice::new(seed);
-    let blocks = if seed % 4 < 2 { BLOCKS } else { 2 * BLOCKS };
+    let blocks = size(seed);
     let mut model = Model::new(alloc, blocks)?;
     let mut disk = format(RecordingDisk::new(alloc, blocks)?, blocks).map_err(
         |refused| Wrong::Refused(refused.1),
@@ -238,34 +248,13 @@ fn session(alloc: Global, seed: u64, tally: &mut Tally) -> Result<(), Wrong> {
 
 #[test]
 fn stores_answer_and_keep_what_the_model_does(rt: HostRuntime) {
-    let mut tally = Tally {
-        refused: [0; 22],
-        accepted: [0; 9],
-        grown: 0,
-        shrunk: 0,
-        kept_old: 0,
-        kept_new: 0,
-    };
-    for seed in 0..120 {
+    let mut tally = Tally::new();
+    for seed in 0..72 {
         assert_eq!(rt;
             session(rt.alloc(), seed, &mut tally),
             Ok(()),
             "seed {seed}"
         );
     }
-
-    // The seeds meet what they are for.
-    for (kind, count) in tally.accepted.iter().enumerate() {
-        assert!(rt;
-            *count > 20,
-            "{count} commands of kind {kind} were accepted"
-        );
-    }
-    for code in [1, 2, 3, 4, 5, 6, 7, 13] {
-        let count = tally.refused[code];
-        assert!(rt; count > 0, "{count} commands were refused with {code}");
-    }
-    for count in [tally.grown, tally.shrunk, tally.kept_old, tally.kept_new] {
-        assert!(rt; count > 0);
-    }
+    assert_eq!(rt; tally.too_low(), None);
 }

@@ -98,7 +98,7 @@ fn reach(reached: &mut [bool], node: usize) {
 
 impl Trees {
     /// No node but that of the empty map.
-    pub fn new(alloc: Global) -> Result<Trees, AllocError> {
+    pub(super) fn new(alloc: Global) -> Result<Trees, AllocError> {
         let mut nodes = Vec::new(alloc);
         nodes.push(Node {
             level: 0,
@@ -108,7 +108,7 @@ impl Trees {
     }
 
     /// The same once more.
-    pub fn copy(&self) -> Result<Trees, AllocError> {
+    pub(super) fn copy(&self) -> Result<Trees, AllocError> {
         let mut nodes = Vec::new(self.alloc);
         for node in &self.nodes {
             nodes.push(Node {
@@ -130,7 +130,7 @@ impl Trees {
     }
 
     /// How many levels of inner nodes the map under a root has.
-    pub fn level(&self, root: usize) -> u32 {
+    pub(super) fn level(&self, root: usize) -> u32 {
         self.nodes.get(root).map_or(0, |node| node.level)
     }
 
@@ -202,7 +202,7 @@ impl Trees {
 
     /// The root of the map with a key more. The nodes of the path are copied also where the key is
     /// there. Where the root is cut in two, a new root stands above both.
-    pub fn put(&mut self, root: usize, key: Key) -> Result<usize, AllocError> {
+    pub(super) fn put(&mut self, root: usize, key: Key) -> Result<usize, AllocError> {
         let level = self.level(root).saturating_add(1);
         let names = self.copy_path(root, key, Change::Put)?;
         let name = match names.as_slice() {
@@ -213,20 +213,35 @@ impl Trees {
     }
 
     /// The root of the map without a key. A node that would be empty is left out of the one above it,
-    /// and a root with one child gives way to the child, and so on down.
-    pub fn remove(&mut self, root: usize, key: Key) -> Result<usize, AllocError> {
+    /// and a root that would have one child is not made: the child takes its place, and so on down.
+    pub(super) fn remove(&mut self, root: usize, key: Key) -> Result<usize, AllocError> {
         let names = self.copy_path(root, key, Change::Remove)?;
         let mut root = names.first().map_or(EMPTY, |row| row.child);
+        if self.level(root) > 0 && self.rows(root).len() == 1 {
+            root = self.only_child(root);
+            self.nodes.pop();
+        }
         for _ in 0..self.level(root) {
-            if let [only] = self.rows(root) {
-                root = only.child;
-            }
+            root = self.only_child(root);
         }
         Ok(root)
     }
 
+    // The child of an inner node that has one, or else the node.
+    fn only_child(&self, node: usize) -> usize {
+        match self.rows(node) {
+            [only] if self.level(node) > 0 => only.child,
+            _ => node,
+        }
+    }
+
+    /// How many nodes there are, but for that of the empty map.
+    pub(super) fn blocks(&self) -> u32 {
+        u32::try_from(self.nodes.len().saturating_sub(1)).unwrap_or(u32::MAX)
+    }
+
     /// How many nodes are reached from these roots.
-    pub fn count(&self, roots: &[usize]) -> Result<u32, AllocError> {
+    pub(super) fn count(&self, roots: &[usize]) -> Result<u32, AllocError> {
         let mut reached = Vec::from_elem(self.alloc, false, self.nodes.len())?;
         for root in roots {
             reach(&mut reached, *root);

@@ -1,10 +1,13 @@
 //! A device that fails at one call, and how many device calls each call makes.
-use super::{DUCT, commit, duct_disk, expect, get, put};
+use super::commands::{DONE, FIRST, changes_of, conflicts_of, merge, new, post};
+use super::differences::{change, conflict};
+use super::settling::conflict_disk;
+use super::{DUCT, commit, duct_disk, expect, expect_list, fresh_store, get, get_in, open_on, put};
 use std::alloc::Global;
 use std::test::Fail;
 use vm_disk::{FuseDisk, MemDisk};
 use vm_store::{Store, format, open};
-use vm_types::{Answer, Refusal, Value};
+use vm_types::{Answer, Refusal, Side, Value};
 
 // More calls than any test makes.
 pub(super) const NEVER: u32 = 1000;
@@ -73,5 +76,95 @@ fn calls_of_get_and_put_at_a_leaf(rt: HostRuntime) -> Result<(), Fail> {
     assert_eq!(rt; put(&mut store, DUCT, b"pipe"), Ok(Answer::Done));
     let disk = store.close();
     assert_eq!(rt; disk.calls(), 13, "open and Put");
+    Ok(())
+}
+
+// Opening the store of the conflict makes seven device calls. The Merge reads the blocks of the base and the
+// parent, those of the base and the alternative, and the alternative's once more, and writes one.
+#[test]
+fn store_fails_after_a_failed_merge(rt: HostRuntime) -> Result<(), Fail> {
+    let theirs = [(FIRST, Side::Theirs)];
+    for passes in 7..13 {
+        let mut store = open_fused(rt.alloc(), conflict_disk(rt.alloc())?, passes)?;
+        let answers = [
+            (
+                merge(rt.alloc(), &mut store, b"a", &theirs),
+                Err(Refusal::Device),
+            ),
+            (
+                merge(rt.alloc(), &mut store, b"a", &[]),
+                Err(Refusal::Failed),
+            ),
+            (post(&mut store, b"a"), Err(Refusal::Failed)),
+        ];
+        let changes = changes_of(rt.alloc(), &mut store, b"a").err();
+        let conflicts = conflicts_of(rt.alloc(), &mut store, b"a").err();
+        let disk = store.close();
+        expect(&rt, &answers);
+        let refused = [changes, conflicts, Some(Refusal::Failed)];
+        assert!(rt;
+            refused == [Some(Refusal::Failed); 3],
+            "after {passes} calls"
+        );
+        assert_eq!(rt; disk.calls(), passes + 1);
+        let mut store = open_on(rt.alloc(), disk.into_inner())?;
+        let kept = (get_in(&mut store, b"a", FIRST), Ok(Value::new(b"y")));
+        let merged = merge(rt.alloc(), &mut store, b"a", &theirs);
+        let _disk = store.close();
+        expect(&rt, &[kept]);
+        assert_eq!(rt; merged, Ok(Answer::Merged(1)), "after {passes} calls");
+    }
+    Ok(())
+}
+
+// The parent has the records of the base in another block. Opening makes six device calls, and the Post
+// reads both blocks.
+#[test]
+fn store_fails_after_a_failed_post(rt: HostRuntime) -> Result<(), Fail> {
+    for passes in 6..8 {
+        let mut store = fresh_store(rt.alloc())?;
+        let made = [
+            (put(&mut store, FIRST, b"x"), DONE),
+            (new(&mut store, b"a", b"top"), DONE),
+            (put(&mut store, FIRST, b"x"), DONE),
+            (commit(&mut store), DONE),
+        ];
+        expect(&rt, &made);
+        let mut store = open_fused(rt.alloc(), store.close(), passes)?;
+        let answers = [
+            (post(&mut store, b"a"), Err(Refusal::Device)),
+            (post(&mut store, b"a"), Err(Refusal::Failed)),
+        ];
+        expect(&rt, &answers);
+        let disk = store.close();
+        assert_eq!(rt; disk.calls(), passes + 1);
+        let mut store = open_on(rt.alloc(), disk.into_inner())?;
+        assert_eq!(rt; post(&mut store, b"a"), DONE, "after {passes} calls");
+        let _disk = store.close();
+    }
+    Ok(())
+}
+
+// `changes` reads two blocks, and `conflicts` four.
+#[test]
+fn differences_go_on_after_a_failed_read(rt: HostRuntime) -> Result<(), Fail> {
+    for passes in 7..11 {
+        let mut store = open_fused(rt.alloc(), conflict_disk(rt.alloc())?, passes)?;
+        let refused = conflicts_of(rt.alloc(), &mut store, b"a").err();
+        let conflicts = conflicts_of(rt.alloc(), &mut store, b"a");
+        let disk = store.close();
+        assert_eq!(rt; refused, Some(Refusal::Device), "after {passes} calls");
+        expect_list(&rt, &conflicts, &[conflict(1, b"x", b"z", b"y")]);
+        assert_eq!(rt; disk.calls(), passes + 5);
+    }
+    for passes in 7..9 {
+        let mut store = open_fused(rt.alloc(), conflict_disk(rt.alloc())?, passes)?;
+        let refused = changes_of(rt.alloc(), &mut store, b"a").err();
+        let changes = changes_of(rt.alloc(), &mut store, b"a");
+        let disk = store.close();
+        assert_eq!(rt; refused, Some(Refusal::Device), "after {passes} calls");
+        expect_list(&rt, &changes, &[change(1, b"x", b"y")]);
+        assert_eq!(rt; disk.calls(), passes + 3);
+    }
     Ok(())
 }

@@ -1,6 +1,6 @@
 //! Blocks that no version needs.
+use super::commands::new;
 use super::removing::remove;
-use super::versions::new;
 use super::{DUCT, commit, duct_disk, expect, fresh_store, get, open_on, put};
 use std::alloc::Global;
 use std::test::Fail;
@@ -71,7 +71,7 @@ fn failed_store_has_no_count(rt: HostRuntime) -> Result<(), Fail> {
 }
 
 // The record of this number, with the value `v`, in a store that has the ones before it.
-pub fn put_record<D: Disk>(store: &mut Store<D>, number: u64) -> Result<Answer, Refusal> {
+pub(super) fn put_record<D: Disk>(store: &mut Store<D>, number: u64) -> Result<Answer, Refusal> {
     put(store, Key { table: 1, number }, b"v")
 }
 
@@ -128,7 +128,7 @@ fn leaf_is_split_and_takes_the_place_of_the_root_again(rt: HostRuntime) -> Resul
 }
 
 // A disk on which `top` has seventeen records, and `spur` under it the same map.
-pub fn split_disk(alloc: Global) -> Result<MemDisk, Refusal> {
+pub(super) fn split_disk(alloc: Global) -> Result<MemDisk, Refusal> {
     let mut store = fresh_store(alloc)?;
     let mut put = Ok(Answer::Done);
     for number in 1..18 {

@@ -17,14 +17,18 @@ const NEXT: Key = Key {
 };
 
 // Takes a record out of an alternative. A name that is none is answered `TooMany`.
-fn remove_from<D: Disk>(store: &mut Store<D>, alt: &[u8], key: Key) -> Result<Answer, Refusal> {
+pub(super) fn remove_from<D: Disk>(
+    store: &mut Store<D>,
+    alt: &[u8],
+    key: Key,
+) -> Result<Answer, Refusal> {
     let Some(alt) = Name::new(alt) else {
         return Err(Refusal::TooMany);
     };
     store.apply(&Command::Remove { alt, key })
 }
 
-pub fn remove<D: Disk>(store: &mut Store<D>, key: Key) -> Result<Answer, Refusal> {
+pub(super) fn remove<D: Disk>(store: &mut Store<D>, key: Key) -> Result<Answer, Refusal> {
     remove_from(store, b"top", key)
 }
 

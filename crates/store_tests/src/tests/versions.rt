@@ -1,4 +1,5 @@
 //! Alternatives and checkpoints, by hand.
+use super::commands::{DONE, FIRST, back, check, drop_alt, name, new, uncheck};
 use super::{
     DUCT, commit, duct_disk, expect, fresh_disk, fresh_store, get_in, open_on, put, put_in,
 };
@@ -6,50 +7,13 @@ use std::alloc::Global;
 use std::test::Fail;
 use vm_disk::{Disk, FuseDisk};
 use vm_store::{Store, open};
-use vm_types::{Answer, Command, Key, Name, Refusal, Value};
-
-const FIRST: Key = Key {
-    table: 1,
-    number: 1,
-};
-
-// A name. Bytes that are none are answered `Memory`.
-fn name(bytes: &[u8]) -> Result<Name, Refusal> {
-    Name::new(bytes).ok_or(Refusal::Memory)
-}
-
-pub fn new<D: Disk>(store: &mut Store<D>, alt: &[u8], parent: &[u8]) -> Result<Answer, Refusal> {
-    let (name, parent) = (name(alt)?, name(parent)?);
-    store.apply(&Command::New { name, parent })
-}
-
-fn drop_alt<D: Disk>(store: &mut Store<D>, alt: &[u8]) -> Result<Answer, Refusal> {
-    let alt = name(alt)?;
-    store.apply(&Command::Drop { alt })
-}
-
-fn check<D: Disk>(store: &mut Store<D>, alt: &[u8], saved: &[u8]) -> Result<Answer, Refusal> {
-    let (alt, name) = (name(alt)?, name(saved)?);
-    store.apply(&Command::Checkpoint { alt, name })
-}
-
-fn uncheck<D: Disk>(store: &mut Store<D>, alt: &[u8], saved: &[u8]) -> Result<Answer, Refusal> {
-    let (alt, name) = (name(alt)?, name(saved)?);
-    store.apply(&Command::Uncheck { alt, name })
-}
-
-fn back<D: Disk>(store: &mut Store<D>, alt: &[u8], saved: &[u8]) -> Result<Answer, Refusal> {
-    let (alt, name) = (name(alt)?, name(saved)?);
-    store.apply(&Command::Back { alt, name })
-}
+use vm_types::{Refusal, Value};
 
 // The letter `k` and three digits.
-fn numbered(n: u32) -> [u8; 4] {
+pub(super) fn numbered(n: u32) -> [u8; 4] {
     let digit = |place: u32| b'0' + (n / place % 10) as u8;
     [b'k', digit(100), digit(10), digit(1)]
 }
-
-const DONE: Result<Answer, Refusal> = Ok(Answer::Done);
 
 // Whether these are the names and parents of the alternatives.
 fn are_alternatives<D: Disk>(

@@ -159,6 +159,170 @@ fn answers_lines_of_designs(rt: HostRuntime) -> Result<(), Fail> {
     Ok(())
 }
 
+/// Lines of a conflict, which is settled by one's own value.
+const CONFLICT: &[u8] = b"\
+new a top\n\
+put top 7 1 duct\n\
+put a 7 1 cable%20A\n\
+merge a\n\
+conflicts a\n\
+merge a 7:1=mine\n\
+post a\n\
+get top 7 1\n\
+get top 7 x\n\
+alts\n\
+commit\n";
+
+const CONFLICT_ANSWERS: &[u8] = b"\
+ok\n\
+ok\n\
+ok\n\
+error 9 Unsettled 1\n\
+conflict 7 1 ~ duct cable%20A\n\
+end 1\n\
+ok 0\n\
+ok\n\
+value cable%20A\n\
+error 22 BadLine\n\
+alternative top ~\n\
+alternative a top\n\
+end 2\n\
+ok\n";
+
+#[test]
+fn settles_a_conflict(rt: HostRuntime) -> Result<(), Fail> {
+    answered(rt.alloc(), CONFLICT)?.expect(&rt, 0, CONFLICT_ANSWERS, b"");
+    Ok(())
+}
+
+/// Lines of changes since a base, and of a merge that takes the parent's value.
+const CHANGES: &[u8] = b"\
+put top 7 1 duct\n\
+put top 7 2 pipe\n\
+put top 7 3 wire\n\
+new a top\n\
+remove a 7 2\n\
+put a 7 1 cable\n\
+put a 6 9 -\n\
+changes a\n\
+conflicts a\n\
+put top 7 1 tube\n\
+conflicts a\n\
+post a\n\
+merge a 7:1=theirs 8:1=mine\n\
+merge a 7:1=theirs 007:01=mine\n\
+merge a 7:1=theirs\n\
+changes a\n\
+list a\n\
+post a\n\
+changes a\n\
+list top\n";
+
+const CHANGE_ANSWERS: &[u8] = b"\
+ok\n\
+ok\n\
+ok\n\
+ok\n\
+ok\n\
+ok\n\
+ok\n\
+change 6 9 ~ -\n\
+change 7 1 duct cable\n\
+change 7 2 pipe ~\n\
+end 3\n\
+end 0\n\
+ok\n\
+conflict 7 1 duct tube cable\n\
+end 1\n\
+error 8 NotMerged\n\
+error 10 NotInConflict 8:1\n\
+error 11 SettledTwice 7:1\n\
+ok 1\n\
+change 6 9 ~ -\n\
+change 7 2 pipe ~\n\
+end 2\n\
+record 6 9 -\n\
+record 7 1 tube\n\
+record 7 3 wire\n\
+end 3\n\
+ok\n\
+end 0\n\
+record 6 9 -\n\
+record 7 1 tube\n\
+record 7 3 wire\n\
+end 3\n";
+
+#[test]
+fn lists_changes_and_merges(rt: HostRuntime) -> Result<(), Fail> {
+    answered(rt.alloc(), CHANGES)?.expect(&rt, 0, CHANGE_ANSWERS, b"");
+    Ok(())
+}
+
+/// Lines of merges and posts that are refused.
+const REFUSED: &[u8] = b"\
+new a top\n\
+merge top\n\
+post top\n\
+conflicts top\n\
+merge nope\n\
+post nope\n\
+changes nope\n\
+conflicts nope\n\
+merge a 1:1=mine 1:1=mine\n\
+merge a 1:1=mine\n\
+merge a 1:1=Mine\n\
+merge a 1:1\n\
+merge a 1=mine\n\
+merge a 65536:1=mine\n\
+merge a 1:18446744073709551616=mine\n\
+merge a :1=mine\n\
+merge a 1:1=mine=mine\n\
+merge\n\
+Merge a\n\
+post\n\
+post a b\n\
+changes\n\
+changes a b\n\
+conflicts\n\
+conflicts a b\n\
+merge a\n\
+post a\n";
+
+const REFUSED_ANSWERS: &[u8] = b"\
+ok\n\
+error 6 IsTop\n\
+error 6 IsTop\n\
+error 6 IsTop\n\
+error 1 NoSuchAlternative\n\
+error 1 NoSuchAlternative\n\
+error 1 NoSuchAlternative\n\
+error 1 NoSuchAlternative\n\
+error 11 SettledTwice 1:1\n\
+error 10 NotInConflict 1:1\n\
+error 22 BadLine\n\
+error 22 BadLine\n\
+error 22 BadLine\n\
+error 22 BadLine\n\
+error 22 BadLine\n\
+error 22 BadLine\n\
+error 22 BadLine\n\
+error 22 BadLine\n\
+error 22 BadLine\n\
+error 22 BadLine\n\
+error 22 BadLine\n\
+error 22 BadLine\n\
+error 22 BadLine\n\
+error 22 BadLine\n\
+error 22 BadLine\n\
+ok 0\n\
+ok\n";
+
+#[test]
+fn refuses_merges_and_posts(rt: HostRuntime) -> Result<(), Fail> {
+    answered(rt.alloc(), REFUSED)?.expect(&rt, 0, REFUSED_ANSWERS, b"");
+    Ok(())
+}
+
 #[test]
 fn refuses_lines_with_too_few_or_too_many_words(rt: HostRuntime) -> Result<(), Fail> {
     for line in [

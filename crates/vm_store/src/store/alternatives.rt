@@ -5,8 +5,6 @@ ghost use Rattle.vm_types.specs.State.{State, next};
 ghost use Rattle.vm_types.specs.Kept.{LeftBy};
 ghost use Rattle.vm_disk.specs.Disk.{Goes};
 ghost use Rattle.vm_disk.specs.Moments.{Throughout, Leaves};
-ghost use Rattle.vm_store.specs.Answers.{IsDeep, IsAnswer};
-ghost use Rattle.vm_store.specs.Resting.{spare_of};
 ghost use Rattle.vm_store.specs.Shown.{Shows};
 
 use super::Store;
@@ -20,7 +18,7 @@ use vm_disk::Disk;
 use vm_types::{Answer, Command, Name, Refusal};
 
 impl<D: Disk> Store<D> {
-    ghost use Rattle.vm_store.specs.Store.{disk_of, has_failed, entries_of, root_of, Holds};
+    ghost use Rattle.vm_store.specs.Store.{disk_of, has_failed, entries_of, Answers, Holds};
 
     // Makes a new alternative, whose current and base records are the parent's current ones.
     pub(super) fn make_alternative(&mut self, name: &Name, parent: &Name) -> Result<Answer, Refusal>
@@ -30,7 +28,7 @@ impl<D: Disk> Store<D> {
         ensures never { (result ≢ Err Refusal.Failed) × (result ≢ Err Refusal.Memory) }
         ensures same { OnErr result (entries_of self.new ≡ entries_of self.old) }
         ensures answer { (D.state (disk_of self.old)).honest ≡ true → (s : State) (holds : Holds self.old s)
-            → IsAnswer s (spare_of holds) (IsDeep (D.state (disk_of self.old)).now.contents (root_of self.old) s.working (Command.New name.now parent.now)) (Command.New name.now parent.now) result }
+            → Answers self.old self.new s holds (Command.New name.now parent.now) result }
         ensures state { (D.state (disk_of self.old)).honest ≡ true → (s : State) → Holds self.old s → Holds self.new (next s (Command.New name.now parent.now) result) }
         ensures crash { (D.state (disk_of self.old)).honest ≡ true → (s : State) → Holds self.old s
             → Throughout (D.state (disk_of self.old)) (D.state (disk_of self.new)) (Leaves (LeftBy Shows s (Command.New name.now parent.now))) }
@@ -64,7 +62,7 @@ impl<D: Disk> Store<D> {
         ensures never { (result ≢ Err Refusal.Failed) × (result ≢ Err Refusal.Memory) }
         ensures same { OnErr result (entries_of self.new ≡ entries_of self.old) }
         ensures answer { (D.state (disk_of self.old)).honest ≡ true → (s : State) (holds : Holds self.old s)
-            → IsAnswer s (spare_of holds) (IsDeep (D.state (disk_of self.old)).now.contents (root_of self.old) s.working (Command.Drop alt.now)) (Command.Drop alt.now) result }
+            → Answers self.old self.new s holds (Command.Drop alt.now) result }
         ensures state { (D.state (disk_of self.old)).honest ≡ true → (s : State) → Holds self.old s → Holds self.new (next s (Command.Drop alt.now) result) }
         ensures crash { (D.state (disk_of self.old)).honest ≡ true → (s : State) → Holds self.old s
             → Throughout (D.state (disk_of self.old)) (D.state (disk_of self.new)) (Leaves (LeftBy Shows s (Command.Drop alt.now))) }

@@ -169,7 +169,7 @@ pub fn open<D: Disk>(alloc: Global, mut disk: D) -> Result<Store<D>, (D, Refusal
     ensures any { Goes (IsErrAnd result (λ e. e.1 ≡ Refusal.Device)) (D.state disk) (D.state (disk_in result)) }
     ensures well { IfOk result (λ store. has_failed store ≡ false) }
 
-    // The store stands for the tree that is shown, on a disk that is synced.
+    // The store stands for the tree that is shown, and just the spare blocks are free, on a disk that is synced.
     ensures opened { (D.state disk).honest ≡ true → IfOk result (OpensAs (D.state disk).now.contents) }
     ensures synced { (D.state disk).honest ≡ true → OnOk result (IsSynced (D.state disk).now (D.state (disk_in result)).now) }
 
@@ -193,6 +193,7 @@ pub fn open<D: Disk>(alloc: Global, mut disk: D) -> Result<Store<D>, (D, Refusal
             } = parts;
             Ok(Store {
                 disk,
+                alloc,
                 blocks,
                 slot_b,
                 entries,

@@ -5,12 +5,10 @@ ghost use Rattle.vm_types.specs.declared.command.Command.TheVariants.{Remove};
 ghost use Rattle.vm_types.specs.Kept.{LeftBy};
 ghost use Rattle.vm_disk.specs.Disk.{Goes};
 ghost use Rattle.vm_disk.specs.Moments.{Throughout, Leaves};
-ghost use Rattle.vm_store.specs.Answers.{IsDeep, IsAnswer};
 ghost use Rattle.vm_store.specs.Guarded.{IsGuarded};
-ghost use Rattle.vm_store.specs.Resting.{spare_of};
 ghost use Rattle.vm_store.specs.Shown.{Shows};
 
-use super::{BLOCKS_A_CHANGE, Store};
+use super::Store;
 use crate::faults::refusal_of;
 use crate::versions::position_of;
 use crate::{FAN, LEAF, LEVELS};
@@ -19,7 +17,7 @@ use vm_tree::{get, remove};
 use vm_types::{Answer, Key, Name, Refusal};
 
 impl<D: Disk> Store<D> {
-    ghost use Rattle.vm_store.specs.Store.{disk_of, has_failed, entries_of, root_of, Holds, held_of};
+    ghost use Rattle.vm_store.specs.Store.{disk_of, has_failed, entries_of, Answers, Holds, held_of};
 
     // Takes a record out of the alternative. The record is looked for first, so that no blocks are
     // marked for one that is absent.
@@ -29,7 +27,7 @@ impl<D: Disk> Store<D> {
         ensures never { (result ≢ Err Refusal.Failed) × (result ≢ Err Refusal.Memory) }
         ensures same { OnErr result (entries_of self.new ≡ entries_of self.old) }
         ensures answer { (D.state (disk_of self.old)).honest ≡ true → (s : State) (holds : Holds self.old s)
-            → IsAnswer s (spare_of holds) (IsDeep (D.state (disk_of self.old)).now.contents (root_of self.old) s.working (Remove alt.now key)) (Remove alt.now key) result }
+            → Answers self.old self.new s holds (Remove alt.now key) result }
         ensures state { (D.state (disk_of self.old)).honest ≡ true → (s : State) → Holds self.old s → Holds self.new (next s (Remove alt.now key) result) }
         ensures crash { (D.state (disk_of self.old)).honest ≡ true → (s : State) → Holds self.old s
             → Throughout (D.state (disk_of self.old)) (D.state (disk_of self.new)) (Leaves (LeftBy Shows s (Remove alt.now key))) }
@@ -45,7 +43,7 @@ impl<D: Disk> Store<D> {
             Ok(None) => return Err(Refusal::NoSuchRecord),
             Err(fault) => return Err(refusal_of(fault)),
         }
-        match self.has_spare(BLOCKS_A_CHANGE) {
+        match self.has_spare(1) {
             Ok(true) => {}
             Ok(false) => return Err(Refusal::Full),
             Err(refusal) => return Err(refusal),

@@ -6,7 +6,6 @@ ghost use Rattle.vm_types.specs.State.{State, after};
 ghost use Rattle.vm_types.specs.Tree.{named};
 ghost use Rattle.vm_disk.specs.Disk.{Goes, LeftAt, moment};
 ghost use Rattle.vm_disk.specs.Moments.{Throughout};
-ghost use Rattle.vm_store.specs.Answers.{IsCarriedOut};
 ghost use Rattle.vm_store.specs.Guarded.{IsGuarded};
 ghost use Rattle.vm_store.specs.Running.{MayAnswerAll, EndsWithDevice, NoneIsDevice};
 ghost use Rattle.vm_store.specs.Shown.{Shows};
@@ -37,8 +36,6 @@ impl<D: Disk> Store<D> {
         alloc: Global,
         commands: &[Command],
     ) -> (Vec<Result<Answer, Refusal>>, Option<Stop>)
-        requires { All IsCarriedOut commands.now }
-
         // On any disk.
         ensures any { Goes (result.1 ≡ Some Stop.Device) (D.state (disk_of self.old)) (D.state (disk_of self.new)) }
         ensures failed { has_failed self.old ≡ true → (result.1 ≡ Some Stop.Failed) × (result.0.items ≡ []) × (self.new ≡ self.old) }

@@ -1,4 +1,4 @@
-use Rattle.std.proofs.Common.{◌≡◌, is_some, true, refl, sym, ap, ◌∙◌, bytes_eq}
+use Rattle.std.proofs.Common.{is_some, refl, sym, ap, ◌∙◌}
 use Rattle.vm_types.specs.Tree.{Alternative, named, is_full}
 use Rattle.vm_types.proofs.Steps.{IsOutcome-refused, refuse_if-true, refuse_if-false}
 use Rattle.simulation.proofs.Stepping.{known_any}

@@ -1,4 +1,4 @@
-use Rattle.std.proofs.Common.{◌≡◌, Bool, sym, ap, ◌∙◌, arith}
+use Rattle.std.proofs.Common.{Bool, sym, ap, ◌∙◌, arith}
 use Rattle.std.specs.Prelude.{bytes_eq}
 use Rattle.vm_types.specs.Tree.{Alternative}
 use Rattle.vm_types.proofs.FirstsLemmas.{IsFirst-at}

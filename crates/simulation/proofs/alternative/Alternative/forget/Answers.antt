@@ -1,4 +1,4 @@
-use Rattle.std.proofs.Common.{◌≡◌, List, find, None, subst, sym, ap, ◌∙◌}
+use Rattle.std.proofs.Common.{◌≡◌, List, find, None, sym, ap, ◌∙◌}
 use Rattle.std.specs.Prelude.{bytes_eq, Bool}
 use Rattle.vm_types.specs.Tree.{Alternative, Saved}
 use Rattle.vm_types.proofs.FirstsLemmas.{without_first-none}

@@ -1,4 +1,4 @@
-use Rattle.std.proofs.Common.{◌≡◌, find, is_some, ap, sym, ◌∙◌}
+use Rattle.std.proofs.Common.{find, is_some, ap, ◌∙◌}
 use Rattle.std.specs.Prelude.{bytes_eq, Bool}
 use Rattle.vm_types.specs.Tree.{Alternative, Saved}
 use Rattle.simulation.proofs.Finding.{is_some-place}

@@ -2,54 +2,45 @@ use Rattle.std.proofs.Common.{sym, subst}
 use Rattle.vm_types.specs.declared.command.Command.{Command}
 use Rattle.vm_disk.specs.Moments.{Throughout}
 use Rattle.vm_disk.proofs.MomentLemmas.{started}
-use Rattle.vm_store.specs.Answers.{IsAnswer, IsDeep}
 use Rattle.vm_store.specs.Guarded.{IsGuarded}
-use Rattle.vm_store.specs.Resting.{spare_of}
-use Rattle.vm_store.specs.Store.{root_of}
+use Rattle.vm_store.specs.Store.{Answers}
 use Rattle.vm_store.proofs.GuardLemmas.{guarded_at_rest}
 use Rattle.vm_store.proofs.VersionLemmas.{answers_reclaim}
 use Rattle.vm_store.proofs.store.Store.carry_out.Goals as goal
 
 pub returns-in-Put-clause-answer : goal.returns-in-Put-clause-answer
 returns-in-Put-clause-answer g c honest s holds =
-    let x = (g.D.Disk.state c.args.self.now.disk).now.contents in
-    let answers = λ (command : Command). IsAnswer s (spare_of holds) (IsDeep x (root_of c.args.self.now) s.working command) command c.put.result in
+    let answers = λ (command : Command). Answers c.args.self.now c.put.new.self s holds command c.put.result in
     subst answers (sym c.in-Put.is) (c.put.ensures.answer honest s holds)
 
 pub returns-in-Remove-clause-answer : goal.returns-in-Remove-clause-answer
 returns-in-Remove-clause-answer g c honest s holds =
-    let x = (g.D.Disk.state c.args.self.now.disk).now.contents in
-    let answers = λ (command : Command). IsAnswer s (spare_of holds) (IsDeep x (root_of c.args.self.now) s.working command) command c.remove.result in
+    let answers = λ (command : Command). Answers c.args.self.now c.remove.new.self s holds command c.remove.result in
     subst answers (sym c.in-Remove.is) (c.remove.ensures.answer honest s holds)
 
 pub returns-in-New-clause-answer : goal.returns-in-New-clause-answer
 returns-in-New-clause-answer g c honest s holds =
-    let x = (g.D.Disk.state c.args.self.now.disk).now.contents in
-    let answers = λ (command : Command). IsAnswer s (spare_of holds) (IsDeep x (root_of c.args.self.now) s.working command) command c.make_alternative.result in
+    let answers = λ (command : Command). Answers c.args.self.now c.make_alternative.new.self s holds command c.make_alternative.result in
     subst answers (sym c.in-New.is) (c.make_alternative.ensures.answer honest s holds)
 
 pub returns-in-Drop-clause-answer : goal.returns-in-Drop-clause-answer
 returns-in-Drop-clause-answer g c honest s holds =
-    let x = (g.D.Disk.state c.args.self.now.disk).now.contents in
-    let answers = λ (command : Command). IsAnswer s (spare_of holds) (IsDeep x (root_of c.args.self.now) s.working command) command c.drop_alternative.result in
+    let answers = λ (command : Command). Answers c.args.self.now c.drop_alternative.new.self s holds command c.drop_alternative.result in
     subst answers (sym c.in-Drop.is) (c.drop_alternative.ensures.answer honest s holds)
 
 pub returns-in-Checkpoint-clause-answer : goal.returns-in-Checkpoint-clause-answer
 returns-in-Checkpoint-clause-answer g c honest s holds =
-    let x = (g.D.Disk.state c.args.self.now.disk).now.contents in
-    let answers = λ (command : Command). IsAnswer s (spare_of holds) (IsDeep x (root_of c.args.self.now) s.working command) command c.make_checkpoint.result in
+    let answers = λ (command : Command). Answers c.args.self.now c.make_checkpoint.new.self s holds command c.make_checkpoint.result in
     subst answers (sym c.in-Checkpoint.is) (c.make_checkpoint.ensures.answer honest s holds)
 
 pub returns-in-Uncheck-clause-answer : goal.returns-in-Uncheck-clause-answer
 returns-in-Uncheck-clause-answer g c honest s holds =
-    let x = (g.D.Disk.state c.args.self.now.disk).now.contents in
-    let answers = λ (command : Command). IsAnswer s (spare_of holds) (IsDeep x (root_of c.args.self.now) s.working command) command c.uncheck.result in
+    let answers = λ (command : Command). Answers c.args.self.now c.uncheck.new.self s holds command c.uncheck.result in
     subst answers (sym c.in-Uncheck.is) (c.uncheck.ensures.answer honest s holds)
 
 pub returns-in-Back-clause-answer : goal.returns-in-Back-clause-answer
 returns-in-Back-clause-answer g c honest s holds =
-    let x = (g.D.Disk.state c.args.self.now.disk).now.contents in
-    let answers = λ (command : Command). IsAnswer s (spare_of holds) (IsDeep x (root_of c.args.self.now) s.working command) command c.go_back.result in
+    let answers = λ (command : Command). Answers c.args.self.now c.go_back.new.self s holds command c.go_back.result in
     subst answers (sym c.in-Back.is) (c.go_back.ensures.answer honest s holds)
 
 pub returns-in-New-clause-guarded : goal.returns-in-New-clause-guarded
@@ -84,9 +75,13 @@ returns-in-Back-clause-guarded g c honest s holds =
 
 pub returns-in-Reclaim-clause-answer : goal.returns-in-Reclaim-clause-answer
 returns-in-Reclaim-clause-answer g c honest s holds =
-    let x = (g.D.Disk.state c.args.self.now.disk).now.contents in
-    let answers = λ (command : Command). IsAnswer s (spare_of holds) (IsDeep x (root_of c.args.self.now) s.working command) command c.reclaim.result in
-    subst answers (sym c.in-Reclaim.is) (answers_reclaim s (spare_of holds) c.reclaim.result c.reclaim.ensures.done (c.reclaim.ensures.only honest s holds))
+    let answers = λ (command : Command). Answers c.args.self.now c.reclaim.new.self s holds command c.reclaim.result in
+    subst answers (sym c.in-Reclaim.is) (answers_reclaim s _ c.reclaim.result c.reclaim.ensures.done (c.reclaim.ensures.only honest s holds))
 
 pub returns-in-Reclaim-clause-reclaimed : goal.returns-in-Reclaim-clause-reclaimed
 returns-in-Reclaim-clause-reclaimed g c honest is s holds = c.reclaim.ensures.exact honest s holds
+
+pub returns-in-Post-clause-answer : goal.returns-in-Post-clause-answer
+returns-in-Post-clause-answer g c honest s holds =
+    let answers = λ (command : Command). Answers c.args.self.now c.post.new.self s holds command c.post.result in
+    subst answers (sym c.in-Post.is) (c.post.ensures.answer honest s holds)

@@ -3,7 +3,7 @@ use Rattle.vm_types.specs.declared.command.Command.TheVariants.{Back}
 use Rattle.vm_store.specs.Versions.{is_alternative_of}
 use Rattle.vm_store.specs.Versions.{is_checkpoint_of}
 use Rattle.vm_store.specs.Resting.{spare_of}
-use Rattle.vm_store.proofs.VersionLemmas.{with_tops}
+use Rattle.vm_store.specs.Versions.{with_tops}
 use Rattle.vm_store.proofs.RestingLemmas.{rests_as, any_version}
 use Rattle.vm_store.proofs.VersionLemmas.{found_in, not_in, changed_in, answers_refused, answers_done, quiet, back_absent, back_none, back_step, back_rests}
 use Rattle.vm_store.proofs.store.Store.go_back.Goals as goal

@@ -30,7 +30,7 @@ returns-in_default-clause-guarded g c honest s rests = started _ _ (guarded_at_r
 pub returns-in-Ok-false-clause-answer : goal.returns-in-Ok-false-clause-answer
 returns-in-Ok-false-clause-answer g c honest s rests =
     let is = found_at c.args.alt.now _ _ c.in-Some.i any_version c.deref.ensures.value c.in-Some.ensures.found in
-    answers_full _ _ _ _ _ _ s rests c.args.alt.now c.args.key c.args.value.now _ is _ _ (full_for _ _ (c.in-Ok-false.ensures.spare honest s rests) c.in-Ok-false.field-0-test)
+    answers_full _ _ _ _ _ _ s rests c.args.alt.now c.args.key c.args.value.now _ is _ _ (full_for _ _ _ (c.in-Ok-false.ensures.spare honest s rests) c.in-Ok-false.field-0-test)
 
 pub returns-in-Ok-false-clause-crash : goal.returns-in-Ok-false-clause-crash
 returns-in-Ok-false-clause-crash g c honest s rests =
@@ -67,7 +67,7 @@ returns-in-Ok-clause-answer g c honest s rests =
     let found = found_entry _ _ _ _ _ _ s rests' c.args.alt.now e is in
     let current = found.stands.current in
     let put = c.in-Ok.ensures.put (c.has_spare.ensures.any.same_honesty ∙ honest) found.filed.current current.stands_in (rooted_of _ _ _ e.current _ _ mid.bits current.rooted) in
-    answers_done _ _ _ _ _ _ s rests c.args.alt.now c.args.key c.args.value.now _ is_old _ _ (room_for _ _ (c.in-Ok-true.ensures.spare honest s rests) c.in-Ok-true.field-0-test)
+    answers_done _ _ _ _ _ _ s rests c.args.alt.now c.args.key c.args.value.now _ is_old _ _ (room_for _ _ _ (c.in-Ok-true.ensures.spare honest s rests) c.in-Ok-true.field-0-test)
     (λ deep. put.1 (lacks_over _ e.current _ _ (deep_here _ _ _ _ _ _ s rests' c.args.alt.now c.args.key c.args.value.now e is (g.D.Disk.state mid.disk).now.contents
     (subst (λ (m : Medium). LacksRoom m.contents (root_of mid c.args.alt.now) (current_of s.working c.args.alt.now) c.args.key) (sym read)
     (subst (λ f. LacksRoom (g.D.Disk.state c.args.self.now.disk).now.contents (f c.args.alt.now) (current_of s.working c.args.alt.now) c.args.key) (sym c.has_spare.ensures.roots) deep)))))
@@ -112,7 +112,7 @@ returns-in-Err-put-clause-answer g c honest s rests =
     let found = found_entry _ _ _ _ _ _ s rests' c.args.alt.now e is in
     let current = found.stands.current in
     let put = c.in-Err-put.ensures.put (c.has_spare.ensures.any.same_honesty ∙ honest) found.filed.current current.stands_in (rooted_of _ _ _ e.current _ _ mid.bits current.rooted) in
-    answers_fault _ _ _ _ _ _ s rests c.args.alt.now c.args.key c.args.value.now _ is_old _ _ _ c.in-Err-put.fault c.refusal_of.result _ (room_for _ _ (c.in-Ok-true.ensures.spare honest s rests) c.in-Ok-true.field-0-test)
+    answers_fault _ _ _ _ _ _ s rests c.args.alt.now c.args.key c.args.value.now _ is_old _ _ _ c.in-Err-put.fault c.refusal_of.result _ (room_for _ _ _ (c.in-Ok-true.ensures.spare honest s rests) c.in-Ok-true.field-0-test)
     (λ here. subst (λ f. LacksRoom (g.D.Disk.state c.args.self.now.disk).now.contents (f c.args.alt.now) (current_of s.working c.args.alt.now) c.args.key) c.has_spare.ensures.roots
     (subst (λ (m : Medium). LacksRoom m.contents (root_of mid c.args.alt.now) (current_of s.working c.args.alt.now) c.args.key) read
     (here_deep _ _ _ _ _ _ s rests' c.args.alt.now c.args.key c.args.value.now e is (g.D.Disk.state mid.disk).now.contents (lacks_under _ e.current _ _ here))))

@@ -66,7 +66,7 @@ returns-in-Ok-false-clause-answer g c honest s rests =
     let is = found_at c.args.alt.now _ _ c.in-Some.i e c.deref.ensures.value c.in-Some.ensures.found ∙ ap Some (sym c.index.ensures) in
     let found = found_entry _ _ _ _ _ _ s rests c.args.alt.now e is in
     let there = value_found _ _ _ _ _ _ s rests c.args.alt.now e is c.args.key (Some c.in-Ok-Some.field-0-0) (sym c.in-Ok-Some.field-0-is ∙ c.in-Ok-Some.ensures.value honest sizes found.filed.current found.stands.current.stands_in found.stands.current.rooted) in
-    removes_full s c.args.alt.now c.args.key _ _ _ there (full_for _ _ (spare_after _ _ _ _ _ _ _ s _ (c.in-Ok-Some.ensures.reads honest) (c.in-Ok-false.ensures.spare (c.in-Ok-Some.ensures.any.same_honesty ∙ honest)) rests) c.in-Ok-false.field-0-test)
+    removes_full s c.args.alt.now c.args.key _ _ _ there (full_for _ _ _ (spare_after _ _ _ _ _ _ _ s _ _ (c.in-Ok-Some.ensures.reads honest) (c.in-Ok-false.ensures.spare (c.in-Ok-Some.ensures.any.same_honesty ∙ honest)) rests) c.in-Ok-false.field-0-test)
 
 pub returns-in-Ok-false-clause-state : goal.returns-in-Ok-false-clause-state
 returns-in-Ok-false-clause-state g c honest s rests =
@@ -110,7 +110,7 @@ returns-in-Ok-Some-remove-clause-answer g c honest s rests =
     let is = found_at c.args.alt.now _ _ c.in-Some.i e c.deref.ensures.value c.in-Some.ensures.found ∙ ap Some (sym c.index.ensures) in
     let found = found_entry _ _ _ _ _ _ s rests c.args.alt.now e is in
     let there = value_found _ _ _ _ _ _ s rests c.args.alt.now e is c.args.key (Some c.in-Ok-Some.field-0-0) (sym c.in-Ok-Some.field-0-is ∙ c.in-Ok-Some.ensures.value honest sizes found.filed.current found.stands.current.stands_in found.stands.current.rooted) in
-    removes_done s c.args.alt.now c.args.key _ _ _ there (room_for _ _ (spare_after _ _ _ _ _ _ _ s _ (c.in-Ok-Some.ensures.reads honest) (c.in-Ok-true.ensures.spare (c.in-Ok-Some.ensures.any.same_honesty ∙ honest)) rests) c.in-Ok-true.field-0-test) (λ deep. deep)
+    removes_done s c.args.alt.now c.args.key _ _ _ there (room_for _ _ _ (spare_after _ _ _ _ _ _ _ s _ _ (c.in-Ok-Some.ensures.reads honest) (c.in-Ok-true.ensures.spare (c.in-Ok-Some.ensures.any.same_honesty ∙ honest)) rests) c.in-Ok-true.field-0-test) (λ deep. deep)
 
 pub returns-in-Ok-Some-remove-clause-state : goal.returns-in-Ok-Some-remove-clause-state
 returns-in-Ok-Some-remove-clause-state g c honest s rests =

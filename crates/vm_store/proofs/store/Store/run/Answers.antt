@@ -1,13 +1,13 @@
-use Rattle.std.proofs.Common.{◌≡◌, ◌+◌, [], ◌∷◌, ◌++◌, length, take, Result, Err, ap, refl, sym, subst, ◌∙◌, arith}
+use Rattle.std.proofs.Common.{◌≡◌, ◌+◌, [], ◌∷◌, ◌++◌, length, Result, Err, ap, refl, sym, subst, ◌∙◌, arith}
 use Rattle.std.proofs.lemmas.Grind.{common_steps}
-use Rattle.vm_types.specs.State.{State, after}
+use Rattle.vm_types.specs.State.{State}
 use Rattle.vm_types.specs.declared.refusal.Refusal.TheVariants.{Device}
 use Rattle.vm_types.proofs.Runs.{after_more}
 use Rattle.vm_types.proofs.IsolationLemmas.{isolated}
 use Rattle.vm_types.specs.declared.answer.Answer.{Answer}
 use Rattle.vm_types.specs.declared.refusal.Refusal.{Refusal}
 use Rattle.vm_store.specs.Running.{EndsWithDevice}
-use Rattle.vm_store.specs.Store.{disk_of, root_of, Holds}
+use Rattle.vm_store.specs.Store.{disk_of, Holds}
 use Rattle.vm_store.proofs.GuardLemmas.{guarded_at_rest}
 use Rattle.vm_store.proofs.RunLemmas.{ran_none, ran_more, rests_show, guarded_none, guarded_more, may_answer, answered_more, none_more, take_one_more, no_failure}
 use Rattle.vm_store.proofs.store.Store.run.Goals as goal
@@ -31,7 +31,7 @@ loop-command-preserved g c =
           let ok : c.apply-answer.result ≡ Err Device → ⊥ = λ is. let yes = c.is_device-failed.ensures.1 is in cc (yes, c.if-failed.false) in
           subst (λ (t : State). Holds c.apply-answer.new.self t) (sym (after_more s _ _ c.command-item.result c.apply-answer.result (before.run honest s rests).last.same)) (e.state (before.honesty ∙ honest) before.sound ok _ (before.holds honest s rests));
       guarded = λ honest s rests. guarded_more old (g.D.Disk.state (disk_of c.loop-command.self)) (g.D.Disk.state (disk_of c.apply-answer.new.self)) c.apply-answer.new.self.held (before.guarded honest s rests) (e.guarded (before.honesty ∙ honest) before.sound _ (before.holds honest s rests));
-      told = λ honest s rests. answered_more s _ _ c.command-item.result c.apply-answer.result (before.told honest s rests) (may_answer (after s (take c.loop-command.command-index c.args.commands.now) c.loop-command.answers.items) _ (g.D.Disk.state (disk_of c.loop-command.self)).now.contents (root_of c.loop-command.self) c.command-item.result c.apply-answer.result (e.answer (before.honesty ∙ honest) before.sound _ (before.holds honest s rests)));
+      told = λ honest s rests. answered_more s _ _ c.command-item.result c.apply-answer.result (before.told honest s rests) (may_answer c.loop-command.self c.apply-answer.new.self _ (before.holds honest s rests) c.apply-answer.result c.command-item.result (e.answer (before.honesty ∙ honest) before.sound _ (before.holds honest s rests)));
     })
 
 pub loop-command-init : goal.loop-command-init
@@ -70,7 +70,7 @@ returns-then-failed-clause-answers g c honest sound s rests =
     let e = c.apply-answer.ensures in
     let count : length c.push.new.self.items ≡ c.loop-command.command-index + 1 = grind (arith, common_steps) in
     rw (count, take_one_more c.args.commands.now c.loop-command.command-index c.command-item.result c.loop-command-test.true c.command-item.is, c.in-Ok-push.ensures.items)
-    (answered_more s _ _ c.command-item.result c.apply-answer.result (before.told honest s rests) (may_answer (after s (take c.loop-command.command-index c.args.commands.now) c.loop-command.answers.items) _ (g.D.Disk.state (disk_of c.loop-command.self)).now.contents (root_of c.loop-command.self) c.command-item.result c.apply-answer.result (e.answer (before.honesty ∙ honest) before.sound _ (before.holds honest s rests))))
+    (answered_more s _ _ c.command-item.result c.apply-answer.result (before.told honest s rests) (may_answer c.loop-command.self c.apply-answer.new.self _ (before.holds honest s rests) c.apply-answer.result c.command-item.result (e.answer (before.honesty ∙ honest) before.sound _ (before.holds honest s rests))))
 
 pub returns-then-failed-clause-isolated : goal.returns-then-failed-clause-isolated
 returns-then-failed-clause-isolated g c honest s name apart = isolated name s _ _ apart

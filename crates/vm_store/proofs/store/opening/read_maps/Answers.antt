@@ -8,7 +8,7 @@ use Rattle.vm_store.specs.Filed.{tree_of}
 use Rattle.vm_store.specs.Resting.{Rests}
 use Rattle.vm_store.specs.Shown.{Shows}
 use Rattle.vm_store.proofs.AddedLemmas.{roots_count, versions_few}
-use Rattle.vm_store.proofs.OpeningLemmas.{found_here, found_alike, trees_here, rests_named, shows_found, rests_found, fault_refused}
+use Rattle.vm_store.proofs.OpeningLemmas.{freed, freed_on, found_as_named, found_here, found_alike, trees_here, rests_named, shows_found, rests_found, fault_refused}
 use Rattle.vm_store.proofs.store.opening.read_maps.Goals as goal
 
 pub versions_twice-requires-clause-roots : goal.versions_twice-requires-clause-roots
@@ -47,6 +47,9 @@ returns-in-Some-clause-holds g c honest clean store in_use slot =
       shown = subst (λ (n : Medium). Shows n.contents (tree_of found.filed)) (sym read) (shows_found m limit c.args.slot_b c.args.slot.entries.items clean store in_use slot inside (IsMarked c.in-Ok.marks) _ found.filed found.same found.stands);
       holds = subst (λ (n : Medium). Rests n limit c.args.slot_b c.replace.new.self c.in-Some.committed.items c.in-Some.working.items (opened (tree_of found.filed))) (sym read)
           (rests_named m limit c.args.slot_b c.replace.new.self _ c.in-Some.committed.items c.in-Some.working.items (opened (tree_of found.filed)) (are.0 ∙ alike) (are.1 ∙ alike) rests);
+      free = freed_on m _ limit c.args.slot_b c.replace.new.self c.in-Some.committed.items c.in-Some.working.items read
+          (freed m limit c.args.slot_b c.replace.new.self c.in-Some.committed.items c.in-Some.working.items c.args.slot.entries.items c.in-Ok.roots.items c.in-Ok.marks (are.0 ∙ alike) (are.1 ∙ alike)
+          (found_as_named _ _ _ _ _ _ _ _ c.deref-2.ensures.value c.in-Some-Ok.ensures c.deref.ensures.value (c.in-Ok.ensures.found honest)) (c.replace.ensures.count ∙ c.in-Some-Ok.ensures'.count) c.replace.ensures.system c.replace.ensures.marked);
     }
 
 pub returns-in-Err-clause-refused : goal.returns-in-Err-clause-refused

@@ -1,0 +1,33 @@
+//! The words of a line, and the pieces of a word.
+ghost use Rattle.std.specs.Prelude.{◌≡◌, ◌<◌, ◌∷◌, [], length, MatchOption};
+ghost use Rattle.vm_cli.specs.Pieces.{before_mark, behind_mark};
+ghost use Rattle.vm_cli.specs.Spaces.{words_of};
+
+/// The first word of a line, and what stands after it.
+pub fn first_word(line: &[u8]) -> Option<(&[u8], &[u8])>
+    ensures { MatchOption result (words_of line.now ≡ []) (λ p. words_of line.now ≡ p.0.now ∷ words_of p.1.now) }
+{
+    let mut rest = line;
+    while !rest.is_empty() {
+        let (piece, after) = first_piece(rest, b' ');
+        if !piece.is_empty() {
+            return Some((piece, after));
+        }
+        rest = after;
+    }
+    None
+}
+
+/// What stands before the first mark, and what stands behind it.
+pub fn first_piece(bytes: &[u8], mark: u8) -> (&[u8], &[u8])
+    ensures piece { result.0.now ≡ before_mark mark bytes.now }
+    ensures rest { result.1.now ≡ behind_mark mark bytes.now }
+    ensures shorter { 0 < length bytes.now → length result.1.now < length bytes.now }
+{
+    for (i, byte) in bytes.iter().enumerate() {
+        if *byte == mark {
+            return (&bytes[..i], &bytes[i + 1..]);
+        }
+    }
+    (bytes, &[])
+}

@@ -1,0 +1,172 @@
+-- Changes made one after another: full paths in contents that agree on a tree, and what one change more answers.
+use Rattle.std.proofs.Common.{◌≡◌, ◌≢◌, inl, inr, ℕ, zero, suc, ◌+◌, ◌<◌, Bool, List, [], ◌∷◌, ◌++◌, length, get_or, take, drop, Option, Some, None, Result, Ok, Err, refl, sym, ap, ◌∙◌, subst, arith, append_assoc}
+use Rattle.std.specs.Prelude.{slice_index}
+use Rattle.std.specs.List.{AllByRecursion}
+use Rattle.std.proofs.Math.Seq.{split_at}
+use Rattle.std.proofs.lemmas.List.{length-map, take_more}
+use Rattle.vm_types.specs.declared.change.Change.{Change}
+use Rattle.vm_types.specs.Map.{Map, get, with_value, put_or_taken, with_change, with_changes}
+use Rattle.vm_types.specs.Places.{place}
+use Rattle.vm_types.proofs.Changes.{with_changes-more}
+use Rattle.vm_types.proofs.Keys.{without_absent}
+use Rattle.vm_disk.specs.Disk.{Contents, Medium, block}
+use Rattle.vm_alloc.specs.Held.{IsHeld}
+use Rattle.vm_block.specs.FullPath.{FullBelow, FullPath, blocks_of}
+use Rattle.vm_block.specs.Leaf.{Record, IsLeaf}
+use Rattle.vm_block.specs.Node.{IsNode}
+use Rattle.vm_block.specs.Tree.{Children, Subtree}
+use Rattle.vm_block.specs.declared.node.Child.{Child}
+use Rattle.vm_block.proofs.EachLemmas.{each_front, each_back}
+use Rattle.vm_block.proofs.NodeLemmas.{node_one}
+use Rattle.vm_tree.specs.Answers.{LacksRoom, Puts}
+use Rattle.vm_tree.specs.Root.{IsRooted, Grown}
+use Rattle.vm_tree.specs.declared.root.Root.{Root}
+use Rattle.vm_tree.specs.declared.root.TreeFault.{TreeFault}
+use Rattle.vm_tree.specs.declared.root.TreeFault.TheVariants.{Device, Damaged, Deep, Memory}
+use Rattle.vm_tree.proofs.RootLemmas.{full_level}
+use Rattle.vm_store.specs.Changing.{Makes, MeetsFullPath}
+use Rattle.vm_store.specs.Sizes.{sizes}
+use Rattle.vm_store.proofs.TopLemmas.{grown_in, grown_of}
+
+-- ---- full paths in contents that agree on a tree
+
+-- what lies under the child at i, in blocks that have P
+record Under (P : ℕ → Type 0) (T : ℕ → List Record → List ℕ → Type 0) (b : ℕ) : Type 0 where
+  records : List Record
+  blocks : List ℕ
+  tree : T b records blocks
+  each : AllByRecursion P blocks
+
+under_child : (P : ℕ → Type 0) (T : ℕ → List Record → List ℕ → Type 0) (cs : List Child) (i : ℕ) (rs : List Record) (bs : List ℕ)
+    → i < length cs → Children T cs rs bs → AllByRecursion P bs → Under P T (slice_index (blocks_of cs) i)
+under_child P T [] i rs bs lt t all = absurd (omega arith)
+under_child P T (c ∷ cs) zero rs bs lt t all =
+    record { records = t.0; blocks = t.2; tree = t.4; each = each_front P t.2 t.3 (subst (AllByRecursion P) t.8 all) }
+under_child P T (c ∷ cs) (suc i) rs bs lt t all =
+    under_child P T cs i t.1 t.3 (omega arith) t.6 (each_back P t.2 t.3 (subst (AllByRecursion P) t.8 all))
+
+-- below a block of a tree a full path stays full
+full_in : (P : ℕ → Type 0) (x y : Contents) (limit p : ℕ) → ((n : ℕ) → P n → block y n ≡ block x n)
+    → (l b : ℕ) (rs : List Record) (bs : List ℕ) → Subtree sizes x limit l b rs bs → AllByRecursion P bs → FullBelow sizes x p l b → FullBelow sizes y p l b
+unfolding Subtree FullBelow
+full_in P x y limit p same zero b rs bs tree all full =
+    let here = (subst (AllByRecursion P) tree.3 all).0 in
+    (full.0, subst (λ (bytes : List ℕ). IsLeaf bytes full.0) (sym (same b here)) full.1, full.2)
+full_in P x y limit p same (suc l) b rs bs tree all full =
+    let whole = subst (AllByRecursion P) tree.6 all in
+    let children = (node_one (block x b) (suc l) (suc l) tree.1 full.0 tree.3 full.2).1 in
+    let below = subst (λ (cs : List Child). Children (Subtree sizes x limit l) cs rs tree.2) children tree.5 in
+    let within : full.1 < length full.0 = omega (arith, full.4.within, length-map full.0 (λ (c : Child). place c.low)) in
+    let child = under_child P (Subtree sizes x limit l) full.0 full.1 rs tree.2 within below whole.1 in (
+      full.0,
+      full.1,
+      subst (λ (bytes : List ℕ). IsNode bytes (suc l) full.0) (sym (same b whole.0)) full.2,
+      full.3,
+      full.4,
+      full_in P x y limit p same l (slice_index (blocks_of full.0) full.1) child.records child.blocks child.tree child.each full.5,
+    )
+
+-- and so does the path from a root
+full_path_in : (P : ℕ → Type 0) (x y : Contents) (limit p : ℕ) → ((n : ℕ) → P n → block y n ≡ block x n)
+    → (root : Root) (m : Map) (bs : List ℕ) → IsRooted sizes x limit root m bs → AllByRecursion P bs → 0 < root.block → FullPath sizes x p root.block → FullPath sizes y p root.block
+full_path_in P x y limit p same root m bs (inl bare) all some full = absurd (omega (arith, bare.none, some))
+full_path_in P x y limit p same root m bs (inr top) all some full =
+    let level = full_level sizes x limit p full.0 root.level root.block m bs full.2 top.subtree in
+    let tree = subst (λ l. Subtree sizes x limit l root.block m bs) (sym level) top.subtree in
+    (full.0, full.1, full_in P x y limit p same full.0 root.block m bs tree all full.2)
+
+-- ---- one change
+
+module _ (x y : Contents) (held now : List Bool) (limit : ℕ) (root : Root) (m : Map) (change : Change) where
+  -- where a record finds no room, the blocks of the tree keep their bytes, and it meets a full path
+  lacks_meets : (P : ℕ → Type 0) → ((n : ℕ) → P n → block y n ≡ block x n) → Grown sizes P x limit root m → change.after ≢ None → LacksRoom sizes x root m change.key
+      → MeetsFullPath y limit m (change ∷ [])
+  lacks_meets P same grown adds lacks =
+      let stays = grown_in P P x y limit same (λ n is. is) root m grown in
+      record {
+        earlier = [];
+        change = change;
+        later = [];
+        parts = refl;
+        adds = adds;
+        absent = lacks.absent;
+        root = root;
+        blocks = stays.stands_in;
+        tree = stays.rooted;
+        some = lacks.some;
+        full = full_path_in P x y limit (place change.key) same root m grown.stands_in grown.rooted grown.each lacks.some lacks.full;
+      }
+
+  -- a change to a value answers what a Put of it answers
+  pub put_makes : (value : List ℕ) (result : Result Root TreeFault) → change.after ≡ Some value → ((n : ℕ) → IsHeld held n → block y n ≡ block x n) → (grown : Grown sizes (IsHeld held) x limit root m)
+      → Puts result (LacksRoom sizes x root m change.key) (λ r. AllByRecursion (IsHeld held) grown.stands_in → Grown sizes (IsHeld now) y limit r (with_value m change.key value))
+      → Makes result (MeetsFullPath y limit m (change ∷ [])) (λ r. Grown sizes (IsHeld now) y limit r (with_change m change))
+  put_makes value (Ok r) is same grown put =
+      subst (λ (after : Option (List ℕ)). Grown sizes (IsHeld now) y limit r (put_or_taken m change.key after)) (sym is) (put.0 grown.each)
+  put_makes value (Err Device) is same grown put = tt
+  put_makes value (Err (Damaged b)) is same grown put = put
+  put_makes value (Err Deep) is same grown put = lacks_meets (IsHeld held) same grown (λ none. cc) put
+  put_makes value (Err Memory) is same grown put = put
+
+-- the old root has the map where the record to be taken out is absent
+pub absent_makes : (old new : Medium) (held now : List Bool) (limit : ℕ) (root : Root) (m : Map) (change : Change) → change.after ≡ None → new ≡ old → now ≡ held → get m change.key ≡ None
+    → Grown sizes (IsHeld held) old.contents limit root m → Grown sizes (IsHeld now) new.contents limit root (with_change m change)
+absent_makes old new held now limit root m change is same still absent grown =
+    subst (λ (after : Option (List ℕ)). Grown sizes (IsHeld now) new.contents limit root (put_or_taken m change.key after)) (sym is)
+    (subst (λ (n : Map). Grown sizes (IsHeld now) new.contents limit root n) (sym (without_absent m change.key absent))
+    (subst (λ (flags : List Bool). Grown sizes (IsHeld flags) new.contents limit root m) (sym still)
+    (subst (λ (medium : Medium). Grown sizes (IsHeld held) medium.contents limit root m) (sym same) grown)))
+
+-- a fault that is the device's is an answer
+pub device_makes : {T : Type 0} (fault : TreeFault) (deep : Type 0) (P : T → Type 0) → fault ≡ Device → Makes (Err fault) deep P
+device_makes Device deep P is = tt
+device_makes (Damaged b) deep P is = cc
+device_makes Deep deep P is = cc
+device_makes Memory deep P is = cc
+
+-- ---- one change more
+
+with_changes-append : (m : Map) (earlier later : List Change) → with_changes m (earlier ++ later) ≡ with_changes (with_changes m earlier) later
+with_changes-append m [] later = refl
+with_changes-append m (c ∷ earlier) later = with_changes-append (with_change m c) earlier later
+
+-- changes that were made before a full path was met, and others that come after it
+meets_among : (y : Contents) (limit : ℕ) (m : Map) (before changes after : List Change) → MeetsFullPath y limit (with_changes m before) changes → MeetsFullPath y limit m (before ++ (changes ++ after))
+meets_among y limit m before changes after meets =
+    let n : with_changes (with_changes m before) meets.earlier ≡ with_changes m (before ++ meets.earlier) = sym (with_changes-append m before meets.earlier) in
+    record {
+      earlier = before ++ meets.earlier;
+      change = meets.change;
+      later = meets.later ++ after;
+      parts = ap (λ cs. before ++ (cs ++ after)) meets.parts ∙ ap (λ cs. before ++ cs) (append_assoc meets.earlier (meets.change ∷ meets.later) after) ∙ sym (append_assoc before meets.earlier (meets.change ∷ (meets.later ++ after)));
+      adds = meets.adds;
+      absent = subst (λ (k : Map). get k meets.change.key ≡ None) n meets.absent;
+      root = meets.root;
+      blocks = meets.blocks;
+      tree = subst (λ (k : Map). IsRooted sizes y limit meets.root k meets.blocks) n meets.tree;
+      some = meets.some;
+      full = meets.full;
+    }
+
+module _ (m : Map) (changes : List Change) (i : ℕ) (change : Change) (lt : i < length changes) (is : change ≡ get_or changes i change) where
+  -- the change at i makes the first i changes i + 1
+  pub made_more : (Q : ℕ → Type 0) (y : Contents) (limit other : ℕ) (root : Root) → other ≡ limit → Grown sizes Q y other root (with_change (with_changes m (take i changes)) change)
+      → Grown sizes Q y limit root (with_changes m (take (i + 1) changes))
+  made_more Q y limit other root same grown =
+      let more : with_change (with_changes m (take i changes)) change ≡ with_changes m (take (i + 1) changes) =
+      ap (with_change (with_changes m (take i changes))) is ∙ sym (with_changes-more m (take i changes) (get_or changes i change)) ∙ ap (with_changes m) (sym (take_more changes i change lt)) in
+      subst (λ (k : Map). Grown sizes Q y limit root k) more (grown_of Q y other limit root _ same grown)
+
+  meets_later : (y : Contents) (limit : ℕ) → MeetsFullPath y limit (with_changes m (take i changes)) (change ∷ []) → MeetsFullPath y limit m changes
+  meets_later y limit meets =
+      let rest = drop (suc i) changes in
+      let parts : changes ≡ take i changes ++ change ∷ rest = split_at changes i change lt ∙ ap (λ c. take i changes ++ c ∷ rest) (sym is) in
+      subst (λ (cs : List Change). MeetsFullPath y limit m cs) (sym parts) (meets_among y limit m (take i changes) (change ∷ []) rest meets)
+
+  -- a fault in the change at i is the answer
+  pub fault_makes : (y : Contents) (limit other : ℕ) (fault : TreeFault) (P Q : Root → Type 0) → other ≡ limit → Makes (Err fault) (MeetsFullPath y other (with_changes m (take i changes)) (change ∷ [])) P
+      → Makes (Err fault) (MeetsFullPath y limit m changes) Q
+  fault_makes y limit other Device P Q same makes = tt
+  fault_makes y limit other (Damaged b) P Q same makes = makes
+  fault_makes y limit other Deep P Q same makes = meets_later y limit (subst (λ n. MeetsFullPath y n (with_changes m (take i changes)) (change ∷ [])) same makes)
+  fault_makes y limit other Memory P Q same makes = makes

@@ -1,0 +1,36 @@
+use Rattle.std.proofs.Common.{◌∙◌, arith, sym}
+use Rattle.std.proofs.lemmas.Result.{err_from_is_err_and}
+use Rattle.vm_alloc.proofs.HeldLemmas.{holds_more_then}
+use Rattle.vm_tree.proofs.Sparing.{spares_then}
+use Rattle.vm_store.proofs.ChangingLemmas.{made_more, fault_makes}
+use Rattle.vm_store.proofs.TopLemmas.{grown_of}
+use Rattle.vm_store.proofs.changing.make_changes.Goals as goal
+
+pub returns-in_err-root-clause-moments : goal.returns-in_err-root-clause-moments
+returns-in_err-root-clause-moments g c honest =
+    let so_far = c.loop-change.invariant in
+    spares_then _ _ _ _ _ so_far.still (so_far.moments honest) (c.make_change.ensures.moments (so_far.honesty ∙ honest))
+
+pub returns-in_err-root-clause-changed : goal.returns-in_err-root-clause-changed
+returns-in_err-root-clause-changed g c honest m grown =
+    let so_far = c.loop-change.invariant in
+    let p = err_from_is_err_and c.from_residual.result c.from_residual.ensures.1 in
+    let before = grown_of _ _ _ _ _ _ (sym so_far.still.same_length) (so_far.changed honest m grown) in
+    rw (p.1, p.2)
+    (fault_makes m _ _ c.change-item.result c.loop-change-test.true c.change-item.is _ _ _ _ _ _ so_far.still.same_length (c.in_err-root.ensures.changed (so_far.honesty ∙ honest) _ before))
+
+pub loop-change-preserved : goal.loop-change-preserved
+loop-change-preserved g c =
+    let so_far = c.loop-change.invariant in
+    let any = c.make_change.ensures.any in
+    record {
+      blocks = any.same_blocks ∙ so_far.blocks;
+      honesty = any.same_honesty ∙ so_far.honesty;
+      rising = omega (arith, any.rising, so_far.rising);
+      room = omega (arith, c.make_change.ensures.taken, so_far.room);
+      still = holds_more_then _ _ _ so_far.still c.make_change.ensures.still;
+      moments = λ honest. spares_then _ _ _ _ _ so_far.still (so_far.moments honest) (c.make_change.ensures.moments (so_far.honesty ∙ honest));
+      changed = λ honest m grown.
+          let before = grown_of _ _ _ _ _ _ (sym so_far.still.same_length) (so_far.changed honest m grown) in
+          made_more m _ _ c.change-item.result c.loop-change-test.true c.change-item.is _ _ _ _ _ so_far.still.same_length (c.in_ok-root.ensures.changed (so_far.honesty ∙ honest) _ before);
+    }

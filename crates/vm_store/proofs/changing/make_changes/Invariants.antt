@@ -1,0 +1,22 @@
+use Rattle.std.proofs.Common.{◌≡◌, ◌*◌, ◌+◌, ◌≤◌, true, length, take}
+use Rattle.vm_types.specs.Map.{Map, with_changes}
+use Rattle.vm_disk.specs.Moments.{Throughout, Spares}
+use Rattle.vm_alloc.specs.Held.{IsHeld, HoldsMore, free_count}
+use Rattle.vm_tree.specs.Free.{is_free}
+use Rattle.vm_tree.specs.Root.{Grown}
+use Rattle.vm_store.specs.Sizes.{sizes}
+use Rattle.vm_store.proofs.changing.make_changes.Given as goal
+
+abbrev pub invariant-loop-change : goal.invariant-loop-change
+invariant-loop-change g l =
+    let old = g.D.Disk.state l.fn.disk in
+    let now = g.D.Disk.state l.disk in record {
+      blocks : now.blocks ≡ old.blocks;
+      honesty : now.honest ≡ old.honest;
+      rising : old.failures ≤ now.failures;
+      room : 16 * length l.changes ≤ free_count l.held + 16 * l.change-index;
+      still : HoldsMore l.fn.held l.held;
+      moments : old.honest ≡ true → Throughout old now (Spares (is_free l.fn.held) old.now);
+      changed : old.honest ≡ true → (m : Map) → Grown sizes (IsHeld l.fn.held) old.now.contents (length l.fn.held) l.fn.root m
+          → Grown sizes (IsHeld l.held) now.now.contents (length l.fn.held) l.root (with_changes m (take l.change-index l.changes));
+    }

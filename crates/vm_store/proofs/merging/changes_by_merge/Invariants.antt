@@ -1,0 +1,8 @@
+use Rattle.std.proofs.Common.{◌≡◌, ◌++◌, drop}
+use Rattle.vm_store.specs.Merging.{taken}
+use Rattle.vm_store.proofs.MergingLemmas.{side_by_side}
+use Rattle.vm_store.proofs.merging.changes_by_merge.Given as goal
+
+-- the changes so far, with those that are ahead, are all
+abbrev pub invariant-loop-change : goal.invariant-loop-change
+invariant-loop-change l = side_by_side (taken l.settled) l.theirs l.mine ≡ l.changes.items ++ side_by_side (taken l.settled) (drop l.change-index l.theirs) l.ahead

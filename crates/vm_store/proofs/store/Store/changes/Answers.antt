@@ -1,0 +1,32 @@
+use Rattle.std.proofs.Common.{◌≡◌, find, None, Some, Ok, inr, ap, sym, ◌∙◌, subst}
+use Rattle.vm_store.specs.Listing.{changes_of}
+use Rattle.vm_store.specs.Sizes.{sizes}
+use Rattle.vm_store.specs.Versions.{is_alternative_of}
+use Rattle.vm_store.proofs.Listing.{list_refused}
+use Rattle.vm_store.proofs.RestingLemmas.{read_rests, found_at}
+use Rattle.vm_store.proofs.VersionLemmas.{absent, there}
+use Rattle.vm_store.proofs.store.Store.changes.Goals as goal
+
+pub returns-in_default-clause-value : goal.returns-in_default-clause-value
+returns-in_default-clause-value g c honest well s rests =
+    inr (inr (ap changes_of (absent _ _ _ _ _ _ s rests c.args.alt.now (subst (λ es. find (is_alternative_of c.args.alt.now) es ≡ None) c.deref.ensures.value c.in_default.ensures.none))))
+
+pub returns-in-Ok-clause-value : goal.returns-in-Ok-clause-value
+returns-in-Ok-clause-value g c honest well s rests =
+    let e = c.index.result.now in
+    let is = found_at c.args.alt.now _ _ c.in-Some.i e c.deref.ensures.value c.in-Some.ensures.found ∙ ap Some (sym c.index.ensures) in
+    let own = there _ _ _ _ _ _ s rests c.args.alt.now e is in
+    ap changes_of own.is ∙ ap Ok (sym (c.in-Ok.ensures.changes honest sizes _ _ _ _ own.stands.base.rooted own.stands.current.rooted))
+
+pub returns-in-Ok-clause-state : goal.returns-in-Ok-clause-state
+returns-in-Ok-clause-state g c honest s rests = read_rests _ _ _ _ _ _ _ s (c.in-Ok.ensures.reads honest) rests
+
+pub returns-in-Err-clause-value : goal.returns-in-Err-clause-value
+returns-in-Err-clause-value g c honest well s rests =
+    let e = c.index.result.now in
+    let is = found_at c.args.alt.now _ _ c.in-Some.i e c.deref.ensures.value c.in-Some.ensures.found ∙ ap Some (sym c.index.ensures) in
+    let own = there _ _ _ _ _ _ s rests c.args.alt.now e is in
+    list_refused c.in-Err.fault c.refusal_of.result _ _ c.refusal_of.ensures (c.in-Err.ensures.changes honest sizes _ _ _ _ own.stands.base.rooted own.stands.current.rooted)
+
+pub returns-in-Err-clause-state : goal.returns-in-Err-clause-state
+returns-in-Err-clause-state g c honest s rests = read_rests _ _ _ _ _ _ _ s (c.in-Err.ensures.reads honest) rests

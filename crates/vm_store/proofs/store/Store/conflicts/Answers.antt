@@ -1,0 +1,23 @@
+use Rattle.std.proofs.Common.{inr, subst}
+use Rattle.vm_store.specs.Pairs.{IsPair, LacksPair}
+use Rattle.vm_store.proofs.Listing.{listed}
+use Rattle.vm_store.proofs.PairLemmas.{conflicts_lacking, conflicts_there, own_there, parent_there}
+use Rattle.vm_store.proofs.RestingLemmas.{read_rests}
+use Rattle.vm_store.proofs.store.Store.conflicts.Goals as goal
+
+pub returns-in-Err-clause-value : goal.returns-in-Err-clause-value
+returns-in-Err-clause-value g c honest well s rests =
+    let lacks = subst (λ vs. LacksPair vs c.args.alt.now c.in-Err.refusal) c.deref.ensures.value c.in-Err.ensures.none in
+    inr (inr (conflicts_lacking _ _ _ _ _ _ s rests c.args.alt.now c.in-Err.refusal lacks))
+
+pub returns-clause-value : goal.returns-clause-value
+returns-clause-value g c honest well s rests =
+    let alt = c.args.alt.now in
+    let is = subst (λ vs. IsPair vs alt c.in-Ok.pair) c.deref.ensures.value c.in-Ok.ensures.found in
+    let own = own_there _ _ _ _ _ _ s rests alt c.in-Ok.pair is in
+    let parent = parent_there _ _ _ _ _ _ s rests alt c.in-Ok.pair is in
+    listed _ _ _ (conflicts_there _ _ _ _ _ _ s rests alt c.in-Ok.pair is)
+    (c.conflicts_of.ensures.conflicts honest _ _ _ _ _ _ own.stands.base.rooted parent.stands.current.rooted own.stands.current.rooted)
+
+pub returns-clause-state : goal.returns-clause-state
+returns-clause-state g c honest s rests = read_rests _ _ _ _ _ _ _ s (c.conflicts_of.ensures.reads honest) rests

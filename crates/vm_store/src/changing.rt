@@ -1,0 +1,77 @@
+//! Changes of records, made one after another in the tree under a root.
+ghost use Rattle.std.specs.Prelude.{◌≡◌, ◌≢◌, ◌+◌, ◌*◌, ◌≤◌, ◌∷◌, [], true, length};
+ghost use Rattle.vm_types.specs.Map.{Map, with_change, with_changes};
+ghost use Rattle.vm_disk.specs.Disk.{Goes};
+ghost use Rattle.vm_disk.specs.Moments.{Throughout, Spares};
+ghost use Rattle.vm_alloc.specs.Held.{IsHeld, HoldsMore, free_count};
+ghost use Rattle.vm_tree.specs.Free.{is_free};
+ghost use Rattle.vm_tree.specs.Root.{Grown};
+ghost use Rattle.vm_store.specs.Changing.{Makes, MeetsFullPath};
+ghost use Rattle.vm_store.specs.Sizes.{sizes};
+
+use crate::{FAN, LEAF, LEVELS};
+use vm_alloc::Held;
+use vm_disk::Disk;
+use vm_tree::{Root, TreeFault, put, remove};
+use vm_types::Change;
+
+/// Makes one change of a record in the tree under a root, and returns the new root.
+fn make_change<D: Disk>(
+    disk: &mut D,
+    held: &mut Held,
+    root: Root,
+    change: &Change,
+) -> Result<Root, TreeFault>
+    requires inside { length held.old ≤ (D.state disk.old).blocks }
+    requires room { 16 ≤ free_count held.old }
+    ensures any { Goes (result ≡ Err TreeFault.Device) (D.state disk.old) (D.state disk.new) }
+    ensures memory { result ≢ Err TreeFault.Memory }
+    ensures still { HoldsMore held.old held.new }
+    ensures taken { free_count held.old ≤ free_count held.new + 15 }
+    ensures moments { (D.state disk.old).honest ≡ true
+        → Throughout (D.state disk.old) (D.state disk.new) (Spares (is_free held.old) (D.state disk.old).now) }
+    ensures changed { (D.state disk.old).honest ≡ true → (m : Map)
+        → Grown sizes (IsHeld held.old) (D.state disk.old).now.contents (length held.old) root m
+        → Makes result (MeetsFullPath (D.state disk.new).now.contents (length held.old) m (change.now ∷ []))
+        (λ r. Grown sizes (IsHeld held.new) (D.state disk.new).now.contents (length held.old) r (with_change m change.now)) }
+{
+    match &change.after {
+        Some(value) => put::<D, LEAF, FAN, LEVELS>(disk, held, root, change.key, value),
+        None => match remove::<D, LEAF, FAN, LEVELS>(disk, held, root, change.key) {
+            Ok(Some(rest)) => Ok(rest),
+            Ok(None) => Ok(root),
+            Err(fault) => Err(fault),
+        },
+    }
+}
+
+/// Makes changes of records in the tree under a root, in their order. A change to no value takes the
+/// record out, where it is there. The caller owes 16 free blocks a change.
+pub fn make_changes<D: Disk>(
+    disk: &mut D,
+    held: &mut Held,
+    mut root: Root,
+    changes: &[Change],
+) -> Result<Root, TreeFault>
+    requires inside { length held.old ≤ (D.state disk.old).blocks }
+    requires room { 16 * length changes.now ≤ free_count held.old }
+    ensures any { Goes (result ≡ Err TreeFault.Device) (D.state disk.old) (D.state disk.new) }
+    ensures memory { result ≢ Err TreeFault.Memory }
+
+    // What is held stays held, and at no moment has a block that was held other bytes than before.
+    ensures still { HoldsMore held.old held.new }
+    ensures moments { (D.state disk.old).honest ≡ true
+        → Throughout (D.state disk.old) (D.state disk.new) (Spares (is_free held.old) (D.state disk.old).now) }
+
+    // On a tree in held blocks the answer is a root that has the map with the changes made, or Deep where one of
+    // them meets a full path, unless the device fails.
+    ensures changed { (D.state disk.old).honest ≡ true → (m : Map)
+        → Grown sizes (IsHeld held.old) (D.state disk.old).now.contents (length held.old) root m
+        → Makes result (MeetsFullPath (D.state disk.new).now.contents (length held.old) m changes.now)
+        (λ r. Grown sizes (IsHeld held.new) (D.state disk.new).now.contents (length held.old) r (with_changes m changes.now)) }
+{
+    for change in changes {
+        root = make_change(disk, held, root, change)?;
+    }
+    Ok(root)
+}

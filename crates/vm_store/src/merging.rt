@@ -1,0 +1,180 @@
+//! What a merge brings into an alternative: conflicts, the changes that it makes, and the refusals of
+//! settlements.
+ghost use Rattle.std.specs.Prelude.{◌≡◌, List, [], not, map, length, filter, is_none, find, IfOk, IfErr};
+ghost use Rattle.std.specs.List.{list_any};
+ghost use Rattle.std.specs.Option.{option_copied};
+ghost use Rattle.vm_types.specs.Map.{Map, IsMap, same_key, delta, conflicts, side_of, merge};
+ghost use Rattle.vm_types.specs.Step.{settled_refusal, first_repeated};
+ghost use Rattle.vm_store.specs.Merging.{from_key, first_at, clash, taken};
+
+use std::alloc::Global;
+use std::cmp::Ordering;
+use vm_types::{Change, Conflict, Key, Refusal, Side};
+
+/// The change at a key, if there is one, and the changes from the key on, of changes by rising keys.
+fn own_change(changes: &[Change], key: Key) -> (Option<&Change>, &[Change])
+    ensures change { option_copied result.0 ≡ first_at key (from_key key changes.now) }
+    ensures rest { result.1.now ≡ from_key key changes.now }
+{
+    for (i, change) in changes.iter().enumerate() {
+        match change.key.cmp(&key) {
+            Ordering::Less => {}
+            Ordering::Equal => return (Some(change), &changes[i..]),
+            Ordering::Greater => return (None, &changes[i..]),
+        }
+    }
+    (None, &[])
+}
+
+/// The conflict of a change of the parent with one's own change at its key, if they are in conflict.
+fn clash(theirs: &Change, own: Option<&Change>) -> Option<Conflict>
+    ensures { result ≡ clash theirs.now (option_copied own.entry) }
+{
+    match own {
+        Some(own) if own.after != theirs.after => Some(Conflict {
+            key: theirs.key,
+            base: theirs.before,
+            parent: theirs.after,
+            mine: own.after,
+        }),
+        _ => None,
+    }
+}
+
+/// The first side that the settlements give to a key.
+fn side_of(settled: &[(Key, Side)], key: Key) -> Option<Side>
+    ensures { result ≡ side_of settled.now key }
+{
+    for (other, side) in settled {
+        if key.cmp(other) == Ordering::Equal {
+            return Some(*side);
+        }
+    }
+    None
+}
+
+/// What the merge changes at the key of a change of the parent.
+fn taken(settled: &[(Key, Side)], theirs: &Change, own: Option<&Change>) -> Option<Change>
+    ensures { result ≡ taken settled.now theirs.now (option_copied own.entry) }
+{
+    let Some(own) = own else {
+        return Some(*theirs);
+    };
+    if own.after == theirs.after {
+        return None;
+    }
+    match side_of(settled, theirs.key) {
+        Some(Side::Theirs) => Some(Change {
+            key: theirs.key,
+            before: own.after,
+            after: theirs.after,
+        }),
+        Some(Side::Mine) | None => None,
+    }
+}
+
+/// The conflicts of two sides that went on from one base, by rising keys. `theirs` is what the parent
+/// changed of it, `mine` what the alternative did. It answers `Memory` where there is none for the list.
+pub fn conflicts_between(
+    alloc: Global,
+    theirs: &[Change],
+    mine: &[Change],
+) -> Result<Vec<Conflict>, Refusal>
+    ensures only { IfErr result (λ refusal. refusal ≡ Refusal.Memory) }
+    ensures list { (base parent own : Map) → IsMap base → IsMap parent → IsMap own → theirs.now ≡ delta base parent → mine.now ≡ delta base own
+        → IfOk result (λ list. list.items ≡ conflicts base parent own) }
+{
+    let mut conflicts = Vec::new(alloc);
+    let mut ahead = mine;
+    for change in theirs {
+        let (own, rest) = own_change(ahead, change.key);
+        ahead = rest;
+        if let Some(conflict) = clash(change, own) {
+            conflicts.push(conflict).map_err(|_| Refusal::Memory)?;
+        }
+    }
+    Ok(conflicts)
+}
+
+/// What a merge changes in the alternative, by rising keys. It answers `Memory` where there is none for
+/// the list.
+pub fn changes_by_merge(
+    alloc: Global,
+    theirs: &[Change],
+    mine: &[Change],
+    settled: &[(Key, Side)],
+) -> Result<Vec<Change>, Refusal>
+    ensures only { IfErr result (λ refusal. refusal ≡ Refusal.Memory) }
+    ensures list { (base parent own : Map) → IsMap base → IsMap parent → IsMap own → theirs.now ≡ delta base parent → mine.now ≡ delta base own
+        → IfOk result (λ list. list.items ≡ delta own (merge base parent own settled.now)) }
+{
+    let mut changes = Vec::new(alloc);
+    let mut ahead = mine;
+    for change in theirs {
+        let (own, rest) = own_change(ahead, change.key);
+        ahead = rest;
+        if let Some(change) = taken(settled, change, own) {
+            changes.push(change).map_err(|_| Refusal::Memory)?;
+        }
+    }
+    Ok(changes)
+}
+
+/// The first key that is settled twice.
+fn settled_twice(settled: &[(Key, Side)]) -> Option<Key>
+    ensures { result ≡ first_repeated [] (map (λ e. e.0) settled.now) }
+{
+    for (i, (key, _)) in settled.iter().enumerate() {
+        if side_of(&settled[..i], *key).is_some() {
+            return Some(*key);
+        }
+    }
+    None
+}
+
+/// Whether a key is in conflict.
+fn is_in_conflict(conflicts: &[Conflict], key: Key) -> bool
+    ensures { result ≡ list_any (same_key key) (map (λ c. c.key) conflicts.now) }
+{
+    conflicts
+        .iter()
+        .map(|conflict| conflict.key)
+        .any(|other| key.cmp(&other) == Ordering::Equal)
+}
+
+/// The first settlement's key that is in no conflict.
+fn not_in_conflict(settled: &[(Key, Side)], conflicts: &[Conflict]) -> Option<Key>
+    ensures { result ≡ find (λ key. not (list_any (same_key key) (map (λ c. c.key) conflicts.now))) (map (λ e. e.0) settled.now) }
+{
+    settled
+        .iter()
+        .map(|(key, _)| *key)
+        .find(|key| !is_in_conflict(conflicts, *key))
+}
+
+/// How many conflicts have no settlement.
+fn unsettled(settled: &[(Key, Side)], conflicts: &[Conflict]) -> usize
+    ensures { result ≡ length (filter (λ key. is_none (side_of settled.now key)) (map (λ c. c.key) conflicts.now)) }
+{
+    conflicts
+        .iter()
+        .map(|conflict| conflict.key)
+        .filter(|key| side_of(settled, *key).is_none())
+        .count()
+}
+
+/// Why these settlements are refused, where they are. `conflicts` is the list of all conflicts.
+pub fn settled_refusal(settled: &[(Key, Side)], conflicts: &[Conflict]) -> Option<Refusal>
+    ensures { result ≡ settled_refusal settled.now (map (λ c. c.key) conflicts.now) }
+{
+    if let Some(key) = settled_twice(settled) {
+        return Some(Refusal::SettledTwice(key));
+    }
+    if let Some(key) = not_in_conflict(settled, conflicts) {
+        return Some(Refusal::NotInConflict(key));
+    }
+    match unsettled(settled, conflicts) {
+        0 => None,
+        count => Some(Refusal::Unsettled(count as u64)),
+    }
+}

@@ -1,0 +1,106 @@
+//! What two sides made of the map from which both went on.
+ghost use Rattle.std.specs.Prelude.{◌≡◌, ◌≢◌, ℕ, ◌≤◌, true, List, Some, None, IfErr};
+ghost use Rattle.vm_types.specs.Map.{Map, delta, conflicts, merge};
+ghost use Rattle.vm_disk.specs.Disk.{Goes};
+ghost use Rattle.vm_disk.specs.Moments.{OnlyReads};
+ghost use Rattle.vm_tree.specs.Root.{IsRooted};
+ghost use Rattle.vm_store.specs.Sides.{ReadsOr, refusal_in};
+ghost use Rattle.vm_store.specs.Sizes.{sizes};
+
+use crate::faults::refusal_of;
+use crate::merging::{changes_by_merge, conflicts_between, settled_refusal};
+use std::alloc::Global;
+use vm_diff::changed;
+use vm_disk::Disk;
+use vm_tree::Root;
+use vm_types::{Change, Conflict, Key, Refusal, Side};
+
+/// The roots of a base, and of the two maps that came of it.
+#[derive(Clone, Copy, Debug)]
+pub struct ThreeRoots {
+    pub base: Root,
+    pub parent: Root,
+    pub own: Root,
+}
+
+/// What the parent changed of the base, and what the alternative did, by rising keys.
+#[derive(Debug, Drop)]
+struct Sides {
+    theirs: Vec<Change>,
+    mine: Vec<Change>,
+}
+
+/// Reads what both sides changed of their base.
+fn read_sides<D: Disk>(
+    alloc: Global,
+    disk: &mut D,
+    blocks: u32,
+    roots: ThreeRoots,
+) -> Result<Sides, Refusal>
+    requires { blocks ≤ (D.state disk.old).blocks }
+    ensures any { Goes (result ≡ Err Refusal.Device) (D.state disk.old) (D.state disk.new) }
+    ensures never { result ≢ Err Refusal.Failed }
+    ensures reads { (D.state disk.old).honest ≡ true → OnlyReads (D.state disk.old) (D.state disk.new) }
+    ensures sides { (D.state disk.old).honest ≡ true → (base parent own : Map) (bs ps os : List ℕ)
+        → IsRooted sizes (D.state disk.old).now.contents blocks roots.base base bs
+        → IsRooted sizes (D.state disk.old).now.contents blocks roots.parent parent ps
+        → IsRooted sizes (D.state disk.old).now.contents blocks roots.own own os
+        → ReadsOr result (λ s. (s.theirs.items ≡ delta base parent) × (s.mine.items ≡ delta base own)) (λ r. ⊥) }
+{
+    let theirs = match changed(alloc, disk, blocks, roots.base, roots.parent) {
+        Ok(changes) => changes,
+        Err(fault) => return Err(refusal_of(fault)),
+    };
+    match changed(alloc, disk, blocks, roots.base, roots.own) {
+        Ok(mine) => Ok(Sides { theirs, mine }),
+        Err(fault) => Err(refusal_of(fault)),
+    }
+}
+
+/// The keys in conflict between both sides, by rising keys, with the three values.
+pub fn conflicts_of<D: Disk>(
+    alloc: Global,
+    disk: &mut D,
+    blocks: u32,
+    roots: ThreeRoots,
+) -> Result<Vec<Conflict>, Refusal>
+    requires { blocks ≤ (D.state disk.old).blocks }
+    ensures any { Goes (result ≡ Err Refusal.Device) (D.state disk.old) (D.state disk.new) }
+    ensures never { result ≢ Err Refusal.Failed }
+    ensures reads { (D.state disk.old).honest ≡ true → OnlyReads (D.state disk.old) (D.state disk.new) }
+    ensures conflicts { (D.state disk.old).honest ≡ true → (base parent own : Map) (bs ps os : List ℕ)
+        → IsRooted sizes (D.state disk.old).now.contents blocks roots.base base bs
+        → IsRooted sizes (D.state disk.old).now.contents blocks roots.parent parent ps
+        → IsRooted sizes (D.state disk.old).now.contents blocks roots.own own os
+        → ReadsOr result (λ list. list.items ≡ conflicts base parent own) (λ r. ⊥) }
+{
+    let sides = read_sides(alloc, disk, blocks, roots)?;
+    conflicts_between(alloc, &sides.theirs, &sides.mine)
+}
+
+/// What a merge changes in the map of the alternative, by rising keys, or why its settlements are refused.
+pub fn changes_of_merge<D: Disk>(
+    alloc: Global,
+    disk: &mut D,
+    blocks: u32,
+    roots: ThreeRoots,
+    settled: &[(Key, Side)],
+) -> Result<Vec<Change>, Refusal>
+    requires { blocks ≤ (D.state disk.old).blocks }
+    ensures any { Goes (result ≡ Err Refusal.Device) (D.state disk.old) (D.state disk.new) }
+    ensures never { result ≢ Err Refusal.Failed }
+    ensures reads { (D.state disk.old).honest ≡ true → OnlyReads (D.state disk.old) (D.state disk.new) }
+    ensures changes { (D.state disk.old).honest ≡ true → (base parent own : Map) (bs ps os : List ℕ)
+        → IsRooted sizes (D.state disk.old).now.contents blocks roots.base base bs
+        → IsRooted sizes (D.state disk.old).now.contents blocks roots.parent parent ps
+        → IsRooted sizes (D.state disk.old).now.contents blocks roots.own own os
+        → ReadsOr result (λ list. (refusal_in base parent own settled.now ≡ None) × (list.items ≡ delta own (merge base parent own settled.now)))
+        (λ r. refusal_in base parent own settled.now ≡ Some r) }
+{
+    let sides = read_sides(alloc, disk, blocks, roots)?;
+    let conflicts = conflicts_between(alloc, &sides.theirs, &sides.mine)?;
+    match settled_refusal(settled, &conflicts) {
+        Some(refusal) => Err(refusal),
+        None => changes_by_merge(alloc, &sides.theirs, &sides.mine, settled),
+    }
+}

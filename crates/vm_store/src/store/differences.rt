@@ -1,0 +1,76 @@
+//! The queries for what an alternative changed since its base, and for its conflicts with its parent.
+ghost use Rattle.std.specs.Prelude.{◌≡◌, ◌≢◌, true, false};
+ghost use Rattle.vm_types.specs.State.{State};
+ghost use Rattle.vm_disk.specs.Disk.{Goes};
+ghost use Rattle.vm_disk.specs.Moments.{OnlyReads};
+ghost use Rattle.vm_store.specs.Listing.{IsList, changes_in, conflicts_in};
+
+use super::Store;
+use crate::faults::refusal_of;
+use crate::sides::{ThreeRoots, conflicts_of};
+use crate::versions::{Version, pair_of, position_of};
+use std::alloc::Global;
+use vm_diff::changed;
+use vm_disk::Disk;
+use vm_types::{Change, Conflict, Name, Refusal};
+
+impl<D: Disk> Store<D> {
+    ghost use Rattle.vm_store.specs.Store.{disk_of, has_failed, entries_of, Holds};
+
+    /// What changed in the working state of an alternative since its base, by rising keys.
+    pub fn changes(&mut self, alloc: Global, alt: &Name) -> Result<Vec<Change>, Refusal>
+        ensures any { Goes (result ≡ Err Refusal.Device) (D.state (disk_of self.old)) (D.state (disk_of self.new)) }
+        ensures failed { has_failed self.new ≡ has_failed self.old }
+        ensures refused { has_failed self.old ≡ true → result ≡ Err Refusal.Failed }
+        ensures no_calls { has_failed self.old ≡ true → self.new ≡ self.old }
+        ensures only_then { has_failed self.old ≡ false → result ≢ Err Refusal.Failed }
+        ensures same { entries_of self.new ≡ entries_of self.old }
+
+        ensures value { (D.state (disk_of self.old)).honest ≡ true → has_failed self.old ≡ false → (s : State) → Holds self.old s
+            → IsList result (changes_in s.working alt.now) }
+        ensures state { (D.state (disk_of self.old)).honest ≡ true → (s : State) → Holds self.old s → Holds self.new s }
+        ensures reads { (D.state (disk_of self.old)).honest ≡ true → OnlyReads (D.state (disk_of self.old)) (D.state (disk_of self.new)) }
+    {
+        if self.failed {
+            return Err(Refusal::Failed);
+        }
+        let Some(i) = position_of(&self.working, alt) else {
+            return Err(Refusal::NoSuchAlternative);
+        };
+        let Version { base, current, .. } = self.working[i];
+        match changed(alloc, &mut self.disk, self.blocks, base, current) {
+            Ok(changes) => Ok(changes),
+            Err(fault) => Err(refusal_of(fault)),
+        }
+    }
+
+    /// The keys at which the working states of an alternative and of its parent are in conflict, rising,
+    /// with the three values. It answers `IsTop` where the alternative has no parent.
+    pub fn conflicts(&mut self, alloc: Global, alt: &Name) -> Result<Vec<Conflict>, Refusal>
+        ensures any { Goes (result ≡ Err Refusal.Device) (D.state (disk_of self.old)) (D.state (disk_of self.new)) }
+        ensures failed { has_failed self.new ≡ has_failed self.old }
+        ensures refused { has_failed self.old ≡ true → result ≡ Err Refusal.Failed }
+        ensures no_calls { has_failed self.old ≡ true → self.new ≡ self.old }
+        ensures only_then { has_failed self.old ≡ false → result ≢ Err Refusal.Failed }
+        ensures same { entries_of self.new ≡ entries_of self.old }
+
+        ensures value { (D.state (disk_of self.old)).honest ≡ true → has_failed self.old ≡ false → (s : State) → Holds self.old s
+            → IsList result (conflicts_in s.working alt.now) }
+        ensures state { (D.state (disk_of self.old)).honest ≡ true → (s : State) → Holds self.old s → Holds self.new s }
+        ensures reads { (D.state (disk_of self.old)).honest ≡ true → OnlyReads (D.state (disk_of self.old)) (D.state (disk_of self.new)) }
+    {
+        if self.failed {
+            return Err(Refusal::Failed);
+        }
+        let (own, parent) = match pair_of(&self.working, alt) {
+            Ok(pair) => pair,
+            Err(refusal) => return Err(refusal),
+        };
+        let roots = ThreeRoots {
+            base: own.base,
+            parent: parent.current,
+            own: own.current,
+        };
+        conflicts_of(alloc, &mut self.disk, self.blocks, roots)
+    }
+}

@@ -1,0 +1,70 @@
+//! The command that brings into an alternative what its parent changed.
+ghost use Rattle.std.specs.Prelude.{◌≡◌, ◌≢◌, true, OnErr};
+ghost use Rattle.vm_types.specs.State.{State, next};
+ghost use Rattle.vm_types.specs.declared.command.Command.TheVariants.{Merge};
+ghost use Rattle.vm_types.specs.Kept.{LeftBy};
+ghost use Rattle.vm_disk.specs.Disk.{Goes};
+ghost use Rattle.vm_disk.specs.Moments.{Throughout, Leaves};
+ghost use Rattle.vm_store.specs.Guarded.{IsGuarded};
+ghost use Rattle.vm_store.specs.Shown.{Shows};
+
+use super::Store;
+use crate::changing::make_changes;
+use crate::faults::refusal_of;
+use crate::sides::{ThreeRoots, changes_of_merge};
+use crate::versions::{pair_of, set_base, set_current};
+use vm_disk::Disk;
+use vm_types::{Answer, Key, Name, Refusal, Side};
+
+impl<D: Disk> Store<D> {
+    ghost use Rattle.vm_store.specs.Store.{disk_of, has_failed, entries_of, Answers, Holds, held_of};
+
+    // Changes the alternative's records to those of the merge, and makes the parent's records its base. All
+    // that takes memory comes before a marking and before the first write.
+    pub(super) fn merge(&mut self, alt: &Name, settled: &[(Key, Side)]) -> Result<Answer, Refusal>
+        ensures any { Goes (result ≡ Err Refusal.Device) (D.state (disk_of self.old)) (D.state (disk_of self.new)) }
+        ensures failed { has_failed self.new ≡ has_failed self.old }
+        ensures never { result ≢ Err Refusal.Failed }
+        ensures same { OnErr result (entries_of self.new ≡ entries_of self.old) }
+        ensures answer { (D.state (disk_of self.old)).honest ≡ true → (s : State) (holds : Holds self.old s)
+            → Answers self.old self.new s holds (Merge alt.now settled.now) result }
+        ensures state { (D.state (disk_of self.old)).honest ≡ true → (s : State) → Holds self.old s → Holds self.new (next s (Merge alt.now settled.now) result) }
+        ensures crash { (D.state (disk_of self.old)).honest ≡ true → (s : State) → Holds self.old s
+            → Throughout (D.state (disk_of self.old)) (D.state (disk_of self.new)) (Leaves (LeftBy Shows s (Merge alt.now settled.now))) }
+        ensures guarded { (D.state (disk_of self.old)).honest ≡ true → (s : State) → Holds self.old s
+            → Throughout (D.state (disk_of self.old)) (D.state (disk_of self.new)) (IsGuarded (held_of self.new)) }
+    {
+        let (own, parent) = match pair_of(&self.working, alt) {
+            Ok(pair) => pair,
+            Err(refusal) => return Err(refusal),
+        };
+        let roots = ThreeRoots {
+            base: own.base,
+            parent: parent.current,
+            own: own.current,
+        };
+        let changes = match changes_of_merge(
+            self.alloc,
+            &mut self.disk,
+            self.blocks,
+            roots,
+            settled,
+        ) {
+            Ok(changes) => changes,
+            Err(refusal) => return Err(refusal),
+        };
+        match self.has_spare(changes.len()) {
+            Ok(true) => {}
+            Ok(false) => return Err(Refusal::Full),
+            Err(refusal) => return Err(refusal),
+        }
+        match make_changes(&mut self.disk, &mut self.held, roots.own, &changes) {
+            Ok(root) => {
+                set_current(&mut self.working, alt, root);
+                set_base(&mut self.working, alt, parent.current);
+                Ok(Answer::Merged(changes.len() as u32))
+            }
+            Err(fault) => Err(refusal_of(fault)),
+        }
+    }
+}

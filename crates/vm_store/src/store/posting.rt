@@ -1,0 +1,49 @@
+//! The command that makes an alternative's records those of its parent.
+ghost use Rattle.std.specs.Prelude.{◌≡◌, ◌≢◌, true, OnErr};
+ghost use Rattle.vm_types.specs.State.{State, next};
+ghost use Rattle.vm_types.specs.Kept.{LeftBy};
+ghost use Rattle.vm_disk.specs.Disk.{Goes};
+ghost use Rattle.vm_disk.specs.Moments.{Throughout, OnlyReads, Leaves};
+ghost use Rattle.vm_store.specs.Guarded.{IsGuarded};
+ghost use Rattle.vm_store.specs.Shown.{Shows};
+
+use super::Store;
+use crate::faults::refusal_of;
+use crate::versions::{pair_of, set_base, set_current};
+use vm_diff::same;
+use vm_disk::Disk;
+use vm_types::{Answer, Command, Name, Refusal};
+
+impl<D: Disk> Store<D> {
+    ghost use Rattle.vm_store.specs.Store.{disk_of, has_failed, entries_of, Answers, Holds, held_of};
+
+    // Gives the parent the alternative's records, which become the alternative's base, too. The parent must
+    // have no other records than that base.
+    pub(super) fn post(&mut self, alt: &Name) -> Result<Answer, Refusal>
+        ensures any { Goes (result ≡ Err Refusal.Device) (D.state (disk_of self.old)) (D.state (disk_of self.new)) }
+        ensures failed { has_failed self.new ≡ has_failed self.old }
+        ensures never { (result ≢ Err Refusal.Failed) × (result ≢ Err Refusal.Memory) }
+        ensures same { OnErr result (entries_of self.new ≡ entries_of self.old) }
+        ensures reads { (D.state (disk_of self.old)).honest ≡ true → OnlyReads (D.state (disk_of self.old)) (D.state (disk_of self.new)) }
+        ensures answer { (D.state (disk_of self.old)).honest ≡ true → (s : State) (holds : Holds self.old s)
+            → Answers self.old self.new s holds (Command.Post alt.now) result }
+        ensures state { (D.state (disk_of self.old)).honest ≡ true → (s : State) → Holds self.old s → Holds self.new (next s (Command.Post alt.now) result) }
+        ensures crash { (D.state (disk_of self.old)).honest ≡ true → (s : State) → Holds self.old s
+            → Throughout (D.state (disk_of self.old)) (D.state (disk_of self.new)) (Leaves (LeftBy Shows s (Command.Post alt.now))) }
+        ensures guarded { (D.state (disk_of self.old)).honest ≡ true → (s : State) → Holds self.old s
+            → Throughout (D.state (disk_of self.old)) (D.state (disk_of self.new)) (IsGuarded (held_of self.new)) }
+    {
+        let (own, parent) = match pair_of(&self.working, alt) {
+            Ok(pair) => pair,
+            Err(refusal) => return Err(refusal),
+        };
+        match same(&mut self.disk, self.blocks, own.base, parent.current) {
+            Ok(true) => {}
+            Ok(false) => return Err(Refusal::NotMerged),
+            Err(fault) => return Err(refusal_of(fault)),
+        }
+        set_current(&mut self.working, &parent.name, own.current);
+        set_base(&mut self.working, alt, own.current);
+        Ok(Answer::Done)
+    }
+}

@@ -1,0 +1,161 @@
+#!/bin/sh
+# Tries what the program altctl does where memory is wanting: it runs one session of lines again and again,
+# and refuses one allocation in each run, the first, the second and so on, until a run meets no refusal.
+#
+# Each line is answered as in a run without refusal, or with `error 16 Memory`. After that the store is as
+# before the line, and the same line gets its usual answer. In the end the file is the usual one, byte by byte.
+#
+# It needs a C compiler, and a program that is linked against glibc. Its verdict is its exit status.
+set -eu
+
+top=$(cd "$(dirname "$0")/.." && pwd)
+program=$top/crates/altctl/out/altctl
+room=$(mktemp -d)
+trap 'rm -rf "$room"' EXIT
+# The program may end before it reads a line.
+trap '' PIPE
+
+# Each line of the session, and the last line of its answer.
+cat >"$room/session" <<'END'
+new a top => ok
+put top 1 1 x => ok
+put a 1 1 y => ok
+put a 1 9 y => ok
+put top 1 2 x => ok
+put top 1 3 x => ok
+put top 1 4 x => ok
+put top 1 5 x => ok
+put top 1 6 x => ok
+checkpoint a before => ok
+changes a => end 2
+conflicts a => end 1
+merge a => error 9 Unsettled 1
+merge a 1:1=mine 1:1=theirs => error 11 SettledTwice 1:1
+merge a 1:1=mine 1:2=mine => error 10 NotInConflict 1:2
+merge a 1:1=theirs => ok 6
+list a => end 7
+changes a => end 1
+conflicts a => end 0
+commit => ok
+post a => ok
+list top => end 7
+back a before => ok
+list a => end 2
+checks a => end 1
+alts => end 2
+reclaim => ok
+free => free 219
+END
+
+fail() {
+    echo "refuse_allocations: $*" >&2
+    exit 1
+}
+
+# Starts the program on a copy of the empty store, and refuses it the allocation of this number: none, where
+# it is 0.
+start() {
+    cp "$room/empty" "$room/store"
+    rm -f "$room/refused"
+    timeout 60 env LD_PRELOAD="$room/refuse.so" REFUSE="$1" REFUSED="$room/refused" \
+        "$program" run "$room/store" <"$room/lines" >"$room/answers" 2>"$room/faults" &
+    pid=$!
+    exec 3>"$room/lines" 4<"$room/answers"
+}
+
+# Ends the input, and keeps the exit status of the program.
+finish() {
+    exec 3>&-
+    status=0
+    wait "$pid" || status=$?
+    exec 4<&-
+}
+
+# The answer to a line. A list goes on up to the line that ends it.
+ask() {
+    printf '%s\n' "$1" 2>/dev/null >&3 || return 1
+    while IFS= read -r said <&4; do
+        printf '%s\n' "$said"
+        case $said in
+            alternative\ * | change\ * | checkpoint\ * | conflict\ * | record\ *) ;;
+            *) return 0 ;;
+        esac
+    done
+    return 1
+}
+
+# All that can be seen of the store.
+state() {
+    for query in alts 'list top' 'list a' 'changes a' 'conflicts a' 'checks a' free; do
+        ask "$query" || return 1
+    done
+}
+
+# Runs the session without refusal, and keeps each answer and the state after it.
+run_usual() {
+    start 0
+    state >"$room/state.0" || fail 'the program ended before the first line'
+    count=0
+    while read -r pair; do
+        count=$((count + 1))
+        ask "${pair%% => *}" >"$room/answer.$count" || fail "no answer to $pair"
+        [ "$(tail -n 1 "$room/answer.$count")" = "${pair##* => }" ] ||
+            fail "$pair, but it is $(tail -n 1 "$room/answer.$count")"
+        state >"$room/state.$count" || fail "the program ended after $pair"
+    done <"$room/session"
+    finish
+    [ "$status" = 0 ] || fail "the status is $status without a refusal"
+    cp "$room/store" "$room/usual"
+}
+
+# Runs the session with one allocation refused, and keeps in `answered` how many lines got their usual answer.
+# The lines that are answered that memory is wanting are gathered.
+run_refused() {
+    start "$1"
+    answered=0
+    while read -r pair; do
+        line=${pair%% => *}
+        ask "$line" >"$room/answer" || break
+        if [ "$(cat "$room/answer")" = 'error 16 Memory' ]; then
+            echo "$line" >>"$room/wanting"
+            state >"$room/state" || fail "allocation $1: the program ended after $line"
+            cmp -s "$room/state" "$room/state.$answered" ||
+                fail "allocation $1: $line was refused and changed the store"
+            ask "$line" >"$room/answer" || fail "allocation $1: no answer to $line, said again"
+        fi
+        cmp -s "$room/answer" "$room/answer.$((answered + 1))" ||
+            fail "allocation $1: $line is answered $(cat "$room/answer")"
+        answered=$((answered + 1))
+    done <"$room/session"
+    finish
+}
+
+# Tests how a run with this allocation refused has ended: as usual, or before the first line with the file as
+# it was.
+check_end() {
+    case "$answered: $status $(cat "$room/faults")" in
+        "$count: 0 ") cmp -s "$room/store" "$room/usual" || fail "allocation $1: the file is another one" ;;
+        '0: 1 altctl: 16 Memory' | '0: 3 altctl: stopped')
+            cmp -s "$room/store" "$room/empty" || fail "allocation $1: the file was changed without a line"
+            ;;
+        *) fail "allocation $1: status $status after $answered answers: $(cat "$room/faults" "$room/answer")" ;;
+    esac
+}
+
+"$top/altctl" --help >/dev/null
+${CC:-cc} -O1 -shared -fPIC -o "$room/refuse.so" "$top/tools/refuse_allocations.c"
+mkfifo "$room/lines" "$room/answers"
+"$program" create "$room/empty" 256 >/dev/null
+run_usual
+
+number=0
+: >"$room/wanting"
+while
+    number=$((number + 1))
+    run_refused "$number"
+    check_end "$number"
+    [ -e "$room/refused" ]
+do :; done
+grep -q '^merge' "$room/wanting" || fail 'no merge was refused'
+echo "$((number - 1)) allocations were refused, each in a run of its own. How often each line was refused:"
+sort "$room/wanting" | uniq -c

@@ -1,0 +1,308 @@
+#!/bin/sh
+# Runs the program over real files, and compares each output and status with what stands here: `tools/session.sh
+# [ALTCTL]`. Where one differs, it says what was expected and what came, and ends with status 1.
+# It stands beside the gate: `rt ci` has such lines answered over memory, and this script over files.
+set -eu
+
+tools=$(cd "$(dirname "$0")" && pwd)
+altctl=${1:-$tools/../altctl}
+case $altctl in
+/*) ;;
+*/*) altctl=$PWD/$altctl ;;
+esac
+
+work=$(mktemp -d)
+trap 'rm -rf "$work"' EXIT
+trap 'exit 1' HUP INT TERM
+cd "$work"
+differences=0
+
+# Shows where the file that came differs from the one that was expected.
+compare() {
+    if ! cmp -s "$2" "$3"; then
+        echo "$1: expected (-) and came (+):"
+        diff -a -u "$2" "$3" | sed '1,3d; s/^/    /' | head -n 40
+        differences=$((differences + 1))
+    fi
+}
+
+# Starts the program with the words after the status, on the bytes in `lines`. Compares its status, its
+# output with `output`, and its standard error with `faults`, where that is there.
+program() {
+    name=$1
+    echo "$2" >status
+    shift 2
+    came=0
+    "$altctl" "$@" <lines >output.came 2>faults.came || came=$?
+    echo "$came" >status.came
+    compare "$name: status" status status.came
+    compare "$name: output" output output.came
+    [ ! -e faults ] || compare "$name: standard error" faults faults.came
+    rm -f faults
+}
+
+# Runs a store on the lines that stand after `> `. The others are the answers that are expected.
+session() {
+    cat >text
+    sed -n 's/^> \{0,1\}//p' text >lines
+    sed '/^>/d' text >output
+    : >faults
+    program "$1" 0 run "$2"
+}
+
+# Makes a store.
+create() {
+    : >lines
+    echo "created $2" >output
+    : >faults
+    program "create $1 $2" 0 create "$1" "$2"
+}
+
+# --- the lines of the README ---------------------------------------------------------------------
+
+create readme 64
+session 'the lines of the README' readme <<'END'
+> new a top
+ok
+> put a 7 1 duct
+ok
+> get a 7 1
+value duct
+> get a 7 2
+none
+> list a
+record 7 1 duct
+end 1
+> free
+free 29
+> checkpoint a before
+ok
+> checks a
+checkpoint before
+end 1
+> remove a 7 1
+ok
+> list a
+end 0
+> back a before
+ok
+> get a 7 1
+value duct
+> uncheck a before
+ok
+> checks a
+end 0
+> alts
+alternative top ~
+alternative a top
+end 2
+> drop a
+ok
+> commit
+ok
+> reclaim
+ok
+> free
+free 30
+> any other
+error 22 BadLine
+END
+
+create minutes 1024
+session 'two minutes' minutes <<'END'
+> put top 7 1 duct
+ok
+> commit
+ok
+> get top 7 1
+value duct
+> put top 7 2 pipe
+ok
+END
+session 'two minutes, opened again' minutes <<'END'
+> get top 7 1
+value duct
+> list top
+record 7 1 duct
+end 1
+END
+
+create merges 64
+session 'the lines of the README on merges' merges <<'END'
+> new a top
+ok
+> put a 7 1 duct
+ok
+> changes a
+change 7 1 ~ duct
+end 1
+> conflicts a
+end 0
+> put a 7 2 cable
+ok
+> put top 7 1 pipe
+ok
+> put top 7 2 hose
+ok
+> conflicts a
+conflict 7 1 ~ pipe duct
+conflict 7 2 ~ hose cable
+end 2
+> post a
+error 8 NotMerged
+> merge a 7:1=mine
+error 9 Unsettled 1
+> merge a 7:1=mine 7:2=theirs 7:1=mine
+error 11 SettledTwice 7:1
+> merge a 7:1=mine 7:3=mine
+error 10 NotInConflict 7:3
+> merge a 7:1=mine 7:2=ours
+error 22 BadLine
+> merge a 7:1=mine 7:2=theirs
+ok 1
+> changes a
+change 7 1 pipe duct
+end 1
+> post a
+ok
+> list top
+record 7 1 duct
+record 7 2 hose
+end 2
+> changes a
+end 0
+END
+
+# --- sessions on one store -----------------------------------------------------------------------
+
+create store 64
+session 'lines and values' store <<'END'
+> put top 1 1 -
+ok
+> get top 1 1
+value -
+> put top 1 2 %2d
+ok
+> get top 1 2
+value %2D
+> put top 1 3 %zz
+error 22 BadLine
+> put top 01 007 a
+ok
+> get top 1 7
+value a
+> # note
+>
+> merge top
+error 6 IsTop
+> PUT top 1 1 a
+error 22 BadLine
+> list top
+record 1 1 -
+record 1 2 %2D
+record 1 7 a
+end 3
+END
+
+session 'a conflict' store <<'END'
+> new a top
+ok
+> put top 7 1 duct
+ok
+> put a 7 1 cable%20A
+ok
+> merge a
+error 9 Unsettled 1
+> conflicts a
+conflict 7 1 ~ duct cable%20A
+end 1
+> merge a 7:1=mine
+ok 0
+> post a
+ok
+> get top 7 1
+value cable%20A
+> get top 7 x
+error 22 BadLine
+> alts
+alternative top ~
+alternative a top
+end 2
+> commit
+ok
+END
+
+session 'a conflict, opened again' store <<'END'
+> get top 7 1
+value cable%20A
+END
+
+# --- words and files -----------------------------------------------------------------------------
+
+create f 64
+cp f f.before
+: >lines
+: >output
+echo 'altctl: cannot create f' >faults
+program 'create over a file' 1 create f 64
+compare 'create over a file: the file' f.before f
+
+for size in 63 1048577 many; do
+    program "create with $size blocks" 2 create g "$size"
+    if [ -e g ]; then
+        echo "create with $size blocks: expected no file, and one came"
+        differences=$((differences + 1))
+        rm g
+    fi
+done
+program 'no words' 2
+
+echo 'altctl: cannot open g' >faults
+program 'run without a file' 1 run g
+
+head -c 262144 /dev/zero >h
+echo 'altctl: 19 NotAStore' >faults
+program 'run on zero blocks' 1 run h
+
+# --- bytes ---------------------------------------------------------------------------------------
+
+# The same bytes many times.
+repeat() {
+    head -c "$1" /dev/zero | tr '\0' "$2"
+}
+
+printf 'put top 1 1 a\r\nget top 1 1\r\n\r\n  get   top 1 1  \r\nget top 1 1\r \n' >lines
+printf 'ok\nvalue a\nvalue a\nerror 22 BadLine\n' >output
+: >faults
+program 'CR before LF' 0 run f
+
+printf 'put top 1 1 a\nget top 1 1' >lines
+printf 'ok\nvalue a\n' >output
+: >faults
+program 'no LF at the end' 0 run f
+
+{
+    repeat 1048577 ' '
+    printf '\nfree\n'
+    repeat 1048572 ' '
+    printf 'free\nfree\n'
+    repeat 1048577 '#'
+} >lines
+printf 'error 23 LongLine\nfree 30\nfree 30\nfree 30\nerror 23 LongLine\n' >output
+: >faults
+program 'lines of 1,048,577 bytes, and one of 1,048,576' 0 run f
+
+echo free >lines
+echo 3 >status
+echo 'altctl: stopped' >faults
+came=0
+"$altctl" run f <lines >/dev/full 2>faults.came || came=$?
+echo "$came" >status.came
+compare 'a full output: status' status status.came
+compare 'a full output: standard error' faults faults.came
+
+if [ "$differences" -gt 0 ]; then
+    echo "session: $differences differences"
+    exit 1
+fi
+echo 'session: all is as expected'
