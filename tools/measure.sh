@@ -29,6 +29,9 @@ records=$((1000000 / divisor))
 gets=$((100000 / divisor))
 small_blocks=$((65536 / divisor))
 puts=$((20000 / divisor))
+line_records=$((100000 / divisor))
+line_puts=$((10000 / divisor))
+merged=$((1000 / divisor))
 markings=1000
 
 tools=$(cd "$(dirname "$0")" && pwd)
@@ -77,13 +80,13 @@ stop() {
 # Has lines answered. The nanoseconds are then in `took`, and the bytes that the process read and
 # wrote beside lines and answers in `read_bytes` and `written_bytes`.
 answer() {
-    cat "$1" "$work/alts" >&3
-    until [ "$(tail -n 1 "$work/answers")" = 'end 1' ]; do
+    cat "$1" "$work/checks" >&3
+    until [ "$(tail -n 1 "$work/answers")" = 'end 0' ]; do
         kill -0 "$pid" 2>/dev/null || fail 'the program ended before its input did'
         sleep 0.02
     done
     took=$(($(changed "$work/answers") - begun))
-    read_bytes=$(($(count_of rchar) - was_read - $(cat "$1" "$work/alts" | wc -c)))
+    read_bytes=$(($(count_of rchar) - was_read - $(cat "$1" "$work/checks" | wc -c)))
     written_bytes=$(($(count_of wchar) - was_written - $(wc -c <"$work/answers")))
 }
 
@@ -110,7 +113,7 @@ peak() {
 
 # The answers are just these.
 answers_are() {
-    cat "$1" "$work/top" | cmp -s - "$work/answers" || fail "other answers than in $(basename "$1")"
+    cat "$1" "$work/none_checked" | cmp -s - "$work/answers" || fail "other answers than in $(basename "$1")"
 }
 
 # The number of spare blocks: what is free after a marking.
@@ -143,6 +146,22 @@ row() {
         BEGIN {
             printf "| %s | %s | %s | %s | %s | %d | %s | %.1f |\n", what, short(took), short(took / count),
                 reads, writes, syncs, short(beside), took / beside
+        }'
+}
+
+# A row of lines that were measured last: what they are, of how many, and the blocks of the store. Where there
+# are many, the nanoseconds `lines_took` of them went to lines and answers; for one the clock is too coarse.
+line_row() {
+    reads=$(((read_bytes + 2048) / 4096))
+    writes=$(((written_bytes + 2048) / 4096))
+    beside=$("$work/block_calls" "$work/plain.$3" "$3" "$reads" "$writes" 0)
+    awk -v what="$1" -v count="$2" -v took="$took" -v lines="$lines_took" -v beside="$beside" \
+        -v reads="$(grouped "$reads")" -v writes="$(grouped "$writes")" '
+        function part(time) { return sprintf("%.2f µs, %.0f %%", time / count / 1e3, 100 * time / took) }
+        BEGIN {
+            if (count == 1) lines = 0
+            printf "| %s | %.1f ms | %.2f µs | %s | %s | %s | %s | %s |\n", what, took / 1e6, took / count / 1e3,
+                reads, writes, count == 1 ? "" : part(lines), part(beside), part(took - lines - beside)
         }'
 }
 
@@ -272,11 +291,63 @@ measure_margins() {
     stop
 }
 
+# Has lines answered that are as those of a file, but name an alternative that isn't there: all their time goes
+# to lines and answers.
+measure_refused() {
+    sed 's/^\([a-z]*\) [a-z]*/\1 nowhere/' "$1" >"$work/refused"
+    sed 's/.*/error 1 NoSuchAlternative/' "$1" >"$work/refusals"
+    ask "$work/refused"
+    answers_are "$work/refusals"
+    lines_took=$took
+}
+
+# Lines on a store with records in four alternatives: gets of all, puts into one, a list, and a merge of what
+# the parent changed.
+measure_lines() {
+    "$altctl" create "$work/store" "$small_blocks" >/dev/null
+    start "$work/store" "$work/none"
+    numbers "$line_records" random >"$work/numbers"
+    put_numbers "$work/numbers" "$work/none"
+    printf 'new a top\nnew b top\nnew c top\ncommit\n' >"$work/news"
+    ask "$work/news"
+
+    awk '{ split("top a b c", alt, " "); printf "get %s 1 %d\n", alt[1 + NR % 4], $1 }' "$work/numbers" >"$work/gets"
+    value_lines <"$work/numbers" >"$work/values"
+    measure_refused "$work/gets"
+    ask "$work/gets"
+    answers_are "$work/values"
+    line_row "$(grouped "$line_records") gets" "$line_records" "$small_blocks"
+
+    head -n "$line_puts" "$work/numbers" | awk '{ printf "put a 2 %d %016d\n", $1, $1 }' >"$work/puts"
+    sed 's/.*/ok/' "$work/puts" >"$work/oks"
+    measure_refused "$work/puts"
+    ask "$work/puts"
+    answers_are "$work/oks"
+    line_row "$(grouped "$line_puts") puts" "$line_puts" "$small_blocks"
+
+    echo list top >"$work/list"
+    numbers "$line_records" rising | awk '{ printf "record 1 %d %016d\n", $1, $1 }' >"$work/records"
+    echo end "$line_records" >>"$work/records"
+    ask "$work/list"
+    answers_are "$work/records"
+    line_row "one list of $(grouped "$line_records") records" 1 "$small_blocks"
+
+    head -n "$merged" "$work/numbers" | awk '{ printf "put top 1 %d changed\n", $1 }' >"$work/changes"
+    ask "$work/changes"
+    echo merge b >"$work/merge"
+    echo ok "$merged" >"$work/merged"
+    ask "$work/merge"
+    answers_are "$work/merged"
+    line_row "one merge of $(grouped "$merged") changes" 1 "$small_blocks"
+    stop
+    rm "$work/store"
+}
+
 cc -O2 -o "$work/block_calls" "$tools/block_calls.c"
 mkfifo "$work/input"
 : >"$work/none"
-echo alts >"$work/alts"
-printf 'alternative top ~\nend 1\n' >"$work/top"
+echo checks top >"$work/checks"
+echo end 0 >"$work/none_checked"
 echo commit >"$work/commit"
 printf 'reclaim\nfree\n' >"$work/free"
 awk -v count="$markings" 'BEGIN { while (count-- > 0) print "reclaim" }' >"$work/reclaims"
@@ -288,3 +359,9 @@ measure_start
 measure_order rising
 measure_order random
 measure_margins
+rm -f "$work/store"
+
+echo
+echo "| $(grouped "$line_records") records in four alternatives | All | Each | Block reads | Block writes | Lines and answers | Plain loop | What is left |"
+echo '|---|---|---|---|---|---|---|---|'
+measure_lines

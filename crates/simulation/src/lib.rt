@@ -1,19 +1,9 @@
-//! Random sessions on the store over a memory disk and on a plain model of maps, compared after each
-//! command, with crashes at random moments.
+//! Random sessions on the store over a memory disk and on the plain model, compared after each
+//! command, with crashes at random moments, and scripts with a fault or a crash at each device call.
 //!
-//! It stands at the top, on the store, the disks and the words of both. Its one promise: the plain
-//! model answers and changes exactly what the definitions say, so what a session finds equal is what
-//! the definitions say.
+//! They stand at the top, on the store and the plain model, since a crate is proved once more with
+//! its tests. It has nothing else.
 #![tactic(auto)]
 
-mod alternative;
-mod comparing;
-mod map;
-mod plain;
-mod settling;
-#[tactic(auto, unfolding(vm_types::specs::Step::or_refuse, vm_types::specs::Step::refuse_if, vm_types::specs::Step::refuse_found))]
-mod steps;
 #[cfg(test)]
 mod tests;
-
-pub use plain::Plain;

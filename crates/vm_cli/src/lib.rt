@@ -29,6 +29,3 @@ pub use program::run_words;
 pub use talk::{ServeFault, serve};
 pub use task::Job;
 pub use words::job;
-
-#[cfg(test)]
-mod tests;

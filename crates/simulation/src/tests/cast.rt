@@ -2,7 +2,7 @@
 use super::Wrong;
 use super::model::Model;
 use super::recording::RecordingDisk;
-use crate::Plain;
+use plain_model::Plain;
 use std::alloc::Global;
 use vm_disk::Disk;
 use vm_store::{Store, open};

@@ -2,7 +2,7 @@
 ghost use Rattle.std.specs.Prelude.{◌<◌};
 
 use super::cast::{ALTERNATIVES, CHECKPOINTS, KEYS, alternative, checkpoint, key, top};
-use crate::Plain;
+use plain_model::Plain;
 use rand_core::{Rng, SeedableRng};
 use rand_xoshiro::Xoshiro256PlusPlus;
 use std::alloc::{AllocError, Global};

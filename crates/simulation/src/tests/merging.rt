@@ -1,7 +1,7 @@
 //! The plain model by itself: an alternative that is in conflict with its parent is merged and posted.
 use super::cast::{alternative, key, top};
 use super::{Reply, Wrong};
-use crate::Plain;
+use plain_model::Plain;
 use std::alloc::Global;
 use vm_types::{Answer, Change, Command, Conflict, Key, Name, Refusal, Settled, Side, Value};
 

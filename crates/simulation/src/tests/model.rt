@@ -4,7 +4,7 @@ ghost use Rattle.std.specs.Prelude.{◌<◌, length, IfSome};
 use super::cast::top;
 use super::trees::{EMPTY, Trees};
 use super::{Reply, Wrong};
-use crate::{Plain, comparing};
+use plain_model::Plain;
 use std::alloc::Global;
 use vm_types::{Change, Command, Key, Name, Refusal};
 
@@ -157,7 +157,7 @@ impl Model {
             return Ok(reply);
         }
         let (before, after) = (self.plain.list(alt)?, merged.list(alt)?);
-        let changes = comparing::changes(self.alloc, &before, &after)?;
+        let changes = plain_model::changes(self.alloc, &before, &after)?;
         if !self.has_room(changes.len())? {
             return Ok(Err(Refusal::Full));
         }

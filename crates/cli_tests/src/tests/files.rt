@@ -1,0 +1,66 @@
+//! Files that are made and opened, and what stays in them.
+use super::{CREATE, RUN, Shelf, ran};
+use std::test::Fail;
+use vm_cli::Place;
+use vm_disk::MemDisk;
+
+#[test]
+fn makes_a_file_once(rt: HostRuntime) -> Result<(), Fail> {
+    let mut shelf = Shelf::new(rt.alloc());
+    let made = ran(rt.alloc(), &mut shelf, CREATE.as_slice(), b"")?;
+    made.expect(&rt, 0, b"created 64\n", b"");
+    let again = ran(rt.alloc(), &mut shelf, CREATE.as_slice(), b"")?;
+    again.expect(&rt, 1, b"", b"altctl: cannot create f\n");
+    Ok(())
+}
+
+#[test]
+fn makes_no_file_out_of_range(rt: HostRuntime) -> Result<(), Fail> {
+    let mut shelf = Shelf::new(rt.alloc());
+    for blocks in ["63", "1048577", "x", "-64"] {
+        let words = ["altctl", "create", "g", blocks];
+        let refused = ran(rt.alloc(), &mut shelf, words.as_slice(), b"")?;
+        assert_eq!(rt; refused.status, 2);
+        assert!(rt; refused.output.is_empty() && !refused.faults.is_empty());
+        assert!(rt; !shelf.has("g"));
+    }
+    Ok(())
+}
+
+#[test]
+fn gives_help(rt: HostRuntime) -> Result<(), Fail> {
+    let mut shelf = Shelf::new(rt.alloc());
+    let help = ran(rt.alloc(), &mut shelf, ["altctl", "--help"].as_slice(), b"")?;
+    assert_eq!(rt; help.status, 0);
+    assert!(rt; help.faults.is_empty() && !help.output.is_empty());
+    Ok(())
+}
+
+#[test]
+fn opens_only_stores(rt: HostRuntime) -> Result<(), Fail> {
+    let mut shelf = Shelf::new(rt.alloc());
+    let absent = ran(rt.alloc(), &mut shelf, RUN.as_slice(), b"")?;
+    absent.expect(&rt, 1, b"", b"altctl: cannot open f\n");
+    shelf.give_back("f", MemDisk::new(rt.alloc(), 64)?);
+    let zeros = ran(rt.alloc(), &mut shelf, RUN.as_slice(), b"")?;
+    zeros.expect(&rt, 1, b"", b"altctl: 19 NotAStore\n");
+    assert!(rt; shelf.has("f"));
+    Ok(())
+}
+
+#[test]
+fn keeps_what_was_committed(rt: HostRuntime) -> Result<(), Fail> {
+    let mut shelf = Shelf::new(rt.alloc());
+    let _made = ran(rt.alloc(), &mut shelf, CREATE.as_slice(), b"")?;
+    let lines = b"put top 7 1 duct\ncommit\nput top 7 1 pipe\nput top 7 2 x\nget top 7 1\n";
+    let first = ran(rt.alloc(), &mut shelf, RUN.as_slice(), lines)?;
+    first.expect(&rt, 0, b"ok\nok\nok\nok\nvalue pipe\n", b"");
+    let second = ran(
+        rt.alloc(),
+        &mut shelf,
+        RUN.as_slice(),
+        b"get top 7 1\nget top 7 2\n",
+    )?;
+    second.expect(&rt, 0, b"value duct\nnone\n", b"");
+    Ok(())
+}

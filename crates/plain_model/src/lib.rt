@@ -1,0 +1,16 @@
+//! A plain model of the store: alternatives with their checkpoints, and whole maps in lists.
+//!
+//! It stands on the words of vm_types. Its one promise: it answers and changes exactly what the
+//! definitions say, so what the simulation finds equal in the store is what the definitions say.
+#![tactic(auto)]
+
+mod alternative;
+mod comparing;
+mod map;
+mod plain;
+mod settling;
+#[tactic(auto, unfolding(vm_types::specs::Step::or_refuse, vm_types::specs::Step::refuse_if, vm_types::specs::Step::refuse_found))]
+mod steps;
+
+pub use comparing::changes;
+pub use plain::Plain;

@@ -1,6 +1,0 @@
-use Rattle.std.proofs.Common.{◌≡◌, take}
-use Rattle.simulation.proofs.alternative.copy_tree.Given as goal
-
--- the alternatives so far are there
-abbrev pub invariant-loop-alternative : goal.invariant-loop-alternative
-invariant-loop-alternative l = l.copy.items ≡ take l.alternative-index l.tree

@@ -1,6 +1,0 @@
-use Rattle.std.proofs.Common.{inr, arith}
-use Rattle.std.proofs.lemmas.Grind.{common_steps}
-use Rattle.simulation.proofs.plain.Plain.changes.Goals as goal
-
-pub returns-in-None-clause-changes : goal.returns-in-None-clause-changes
-returns-in-None-clause-changes c = inr (inr (grind (arith, common_steps)))
