@@ -1,90 +1,173 @@
 -- What a store has done when a line is answered.
-use Rattle.std.proofs.Common.{◌≡◌, ℕ, Bool, true, false, List, [], Option, Some, None, Result, Ok, Err, inl, inr, refl, ap, sym, subst, ◌∙◌}
+use Rattle.std.proofs.Common.{◌≡◌, ◌≢◌, ◌⊎◌, ◌↔◌, inl, inr, ℕ, Bool, true, false, List, [], Option, Some, None, Result, Ok, Err, OnOk, refl, ap, sym, subst, ◌∙◌}
 use Rattle.vm_types.specs.declared.answer.Answer.{Answer}
 use Rattle.vm_types.specs.declared.command.Command.{Command}
+use Rattle.vm_types.specs.declared.command.Command.TheVariants.{Reclaim}
 use Rattle.vm_types.specs.declared.refusal.Refusal.{Refusal}
-use Rattle.vm_types.specs.State.{State}
-use Rattle.vm_store.specs.Store.{Holds, has_failed}
+use Rattle.vm_types.specs.declared.refusal.Refusal.TheVariants.{Device, Failed, Memory}
+use Rattle.vm_types.specs.State.{State, next}
+use Rattle.vm_disk.specs.Disk.{Goes}
+use Rattle.vm_disk.specs.Moments.{Throughout}
+use Rattle.vm_store.specs.Resting.{spare_of}
+use Rattle.vm_store.specs.Store.{Answers, Holds, free_of, has_failed}
 use Rattle.vm_store.specs.declared.store.Store.{Store}
-use Rattle.vm_types.specs.declared.refusal.Refusal.TheVariants.{Memory}
-use Rattle.vm_cli.specs.Fed.{Holds as HoldsLine, KindHolds, without_return}
-use Rattle.vm_cli.specs.Replies.{reply_text}
+use Rattle.vm_cli.specs.Feeding.{HandlesRequest, Replied, Replies}
+use Rattle.vm_cli.specs.Reading.{Holds as HoldsLine, KindHolds, without_return}
+use Rattle.vm_cli.specs.Replies.{ends_talk, reply_text}
 use Rattle.vm_cli.specs.Requests.{request_of}
 use Rattle.vm_cli.specs.Spaces.{words_of}
+use Rattle.vm_cli.specs.Talk.{AnsweredRequest, Done, Handled, HandlesLine, Meets, Passes, SaysFailed, answer_text, error_text}
 use Rattle.vm_cli.specs.declared.line.Kind.TheVariants.{Kept, Long}
 use Rattle.vm_cli.specs.declared.line.Line.{Line}
-use Rattle.vm_cli.specs.declared.reply.Reply.TheVariants as reply
-use Rattle.vm_cli.specs.Talk.{Answered, AnyNumber, Carried, Handled, Meets, Replied, Replies, Says}
 use Rattle.vm_cli.specs.declared.reply.Reply.{Reply}
+use Rattle.vm_cli.specs.declared.reply.Reply.TheVariants as reply
 use Rattle.vm_cli.specs.declared.request.Request.{Request}
 use Rattle.vm_cli.specs.declared.request.Request.TheVariants as request
 use Rattle.vm_cli.specs.declared.writing.WriteFault.{WriteFault}
 use Rattle.vm_cli.proofs.CarriedLemmas.{carries-nothing}
+use Rattle.vm_cli.proofs.PassLemmas.{failed_or, goes_any, never_both, passes_left, passes_none}
 
 -- a reply that is the whole answer
-pub replied_whole : (P : List ℕ → Type 0) (reply : Reply) (a : Option (List ℕ)) (rest : List ℕ) → rest ≡ [] → P (reply_text reply) → Replied P reply a a rest
+pub replied_whole : (P : List ℕ → Bool → Type 0) (reply : Reply) (a : Option (List ℕ)) (rest : List ℕ) → rest ≡ [] → P (reply_text reply) (ends_talk reply) → Replied P reply a a rest
 replied_whole P reply a rest none p = record { whole = []; says = p; carries = rw none (carries-nothing a []) }
 
 -- what is said of each answer
-pub replies_as : (P Q : List ℕ → Type 0) → ((text : List ℕ) → P text → Q text) → (r : Result Reply WriteFault) (a b : Option (List ℕ)) (rest : List ℕ) → Replies P r a b rest → Replies Q r a b rest
-replies_as P Q f (Ok reply) a b rest p = record { whole = p.whole; says = f _ p.says; carries = p.carries }
-replies_as P Q f (Err fault) a b rest p = record { whole = p.whole; says = f _ p.says; begins = p.begins }
+pub replies_as : (P Q : List ℕ → Bool → Type 0) → ((text : List ℕ) (ends : Bool) → P text ends → Q text ends) → (r : Result Reply WriteFault) (a b : Option (List ℕ)) (rest : List ℕ) → Replies P r a b rest
+    → Replies Q r a b rest
+replies_as P Q f (Ok reply) a b rest p = record { whole = p.whole; says = f _ _ p.says; carries = p.carries }
+replies_as P Q f (Err fault) a b rest p = record { whole = p.whole; ends = p.ends; says = f _ _ p.says; begins = p.begins }
 
--- a line that is no command
-pub quiet : {D : Type 0} {members : _} (store : Store D members) (s : State) (IsAnswer : Option (Command × Result Answer Refusal) → Type 0)
-    → has_failed store ≡ false → Holds store s → IsAnswer None → Handled store s IsAnswer
-quiet store s IsAnswer sound holds p = record {
-  done = None;
-  answers = p;
-  holds = λ still. holds;
-  device = λ failed. absurd (no (sym sound ∙ failed));
-}
-  where
-    no : false ≡ true → ⊥
-    no e = cc
+module _ {D : Type 0} {members : _} (store : Store D members) (s : State) (holds : has_failed store ≡ false → Holds store s) where
+  -- the store was asked nothing
+  pub unmoved : (ends : Bool) (IsAnswer : Done → Type 0) → IsAnswer None → Handled store store s ends IsAnswer
+  unmoved ends IsAnswer p = record {
+    done = None;
+    answers = p;
+    passes = passes_none store;
+    still = λ e. refl;
+    holds = holds;
+  }
 
--- a query
-pub query_handled : {D : Type 0} {members : _} (store : Store D members) (s : State) (asked query : Request) → has_failed store ≡ false → Holds store s → asked ≡ query
-    → ((text : List ℕ) → Says AnyNumber s query text → Meets AnyNumber s query text None)
-    → (r : Result Reply WriteFault) (a b : Option (List ℕ)) (rest : List ℕ) → Replies (Says AnyNumber s query) r a b rest
-    → Replies (λ text. Handled store s (Meets AnyNumber s asked text)) r a b rest
-query_handled store s asked query sound holds is none r a b rest p =
-    replies_as (Says AnyNumber s query) (λ text. Handled store s (Meets AnyNumber s asked text))
-    (λ text says. quiet store s (Meets AnyNumber s asked text) sound holds (rw is (none text says))) r a b rest p
+  -- a line without words
+  pub nothing_handled : HandlesRequest store store s request.Nothing [] false
+  nothing_handled = unmoved false (AnsweredRequest store store s request.Nothing [] false) (either (failed_or (has_failed store)))
+    where
+      either : (has_failed store ≡ false) ⊎ (has_failed store ≡ true) → AnsweredRequest store store s request.Nothing [] false None
+      either (inl sound) = inl (sound, sym sound, (refl, sound, refl))
+      either (inr failed) = inr (failed, refl, refl, (refl, refl))
 
--- a command
-pub command_handled : {D : Type 0} {members : _} (store : Store D members) (s : State) (asked : Request) (command : Command) (ends : Bool) (text : List ℕ)
-    → asked ≡ request.Command command → ends ≡ has_failed store → Carried store s command ends text → Handled store s (Meets AnyNumber s asked text)
-command_handled store s asked command ends text is same carried = record {
-  done = Some (command, carried.answer);
-  answers = rw is (refl, carried.may, carried.says);
-  holds = λ still. carried.holds (same ∙ still);
-  device = λ failed. (command, rw (carried.device (same ∙ failed)) refl);
-}
-
-module _ {D : Type 0} {members : _} (store : Store D members) (s : State) (line : Line) (part : List ℕ) where
-  -- a line that is too long
-  pub long_handled : has_failed store ≡ false → Holds store s → HoldsLine line part → line.kind ≡ Long → Handled store s (Answered AnyNumber s part (reply_text reply.LongLine))
-  long_handled sound holds h is =
-      let long : KindHolds Long line.bytes.items part = rw is at h.kind in
-      quiet store s (Answered AnyNumber s part (reply_text reply.LongLine)) sound holds (inr (inl (long, refl, refl)))
+  -- a line that asks for nothing that there is
+  pub bad_handled : HandlesRequest store store s request.Bad (reply_text reply.BadLine) false
+  bad_handled = unmoved false (AnsweredRequest store store s request.Bad (reply_text reply.BadLine) false) (either (failed_or (has_failed store)))
+    where
+      either : (has_failed store ≡ false) ⊎ (has_failed store ≡ true) → AnsweredRequest store store s request.Bad (reply_text reply.BadLine) false None
+      either (inl sound) = inl (sound, sym sound, (refl, sound, refl))
+      either (inr failed) = inr (failed, refl, refl, (refl, refl))
 
   -- a line for which there was no memory
-  pub memory_handled : has_failed store ≡ false → Holds store s → Handled store s (Answered AnyNumber s part (reply_text (reply.Refused Memory)))
-  memory_handled sound holds = quiet store s (Answered AnyNumber s part (reply_text (reply.Refused Memory))) sound holds (inl (refl, refl))
+  pub memory_handled : (part : List ℕ) → HandlesLine store store s part (reply_text (reply.Refused Memory)) false
+  memory_handled part = unmoved false _ (inl (refl, refl, refl, refl))
 
+  -- a line that is too long
+  pub long_handled : (line : Line) (part : List ℕ) → HoldsLine line part → line.kind ≡ Long → HandlesLine store store s part (reply_text reply.LongLine) false
+  long_handled line part h is =
+      let long : KindHolds Long line.bytes.items part = rw is at h.kind in
+      unmoved false _ (inr (inl (long, refl, refl, refl, refl)))
+
+module _ {D : Type 0} {members : _} (old new : Store D members) (s : State) where
   -- a line that asks for something
-  pub kept_handled : HoldsLine line part → line.kind ≡ Kept → (asked : Request) (bytes : List ℕ) → bytes ≡ without_return line.bytes.items → asked ≡ request_of (words_of bytes)
-      → (r : Result Reply WriteFault) (a b : Option (List ℕ)) (rest : List ℕ)
-      → Replies (λ text. Handled store s (Meets AnyNumber s asked text)) r a b rest → Replies (λ text. Handled store s (Answered AnyNumber s part text)) r a b rest
-  kept_handled h is asked bytes whose asks r a b rest p =
+  pub kept_handled : (line : Line) (part : List ℕ) → HoldsLine line part → line.kind ≡ Kept → (asked : Request) (bytes : List ℕ) → bytes ≡ without_return line.bytes.items → asked ≡ request_of (words_of bytes)
+      → (r : Result Reply WriteFault) (a b : Option (List ℕ)) (rest : List ℕ) → Replies (HandlesRequest old new s asked) r a b rest → Replies (HandlesLine old new s part) r a b rest
+  kept_handled line part h is asked bytes whose asks r a b rest p =
       let kept : KindHolds Kept line.bytes.items part = rw is at h.kind in
       let same : asked ≡ request_of (words_of (without_return part)) = asks ∙ ap (λ bs. request_of (words_of bs)) (whose ∙ ap without_return kept.0) in
-      replies_as (λ text. Handled store s (Meets AnyNumber s asked text)) (λ text. Handled store s (Answered AnyNumber s part text))
-      (λ text handled. record {
+      replies_as (HandlesRequest old new s asked) (HandlesLine old new s part)
+      (λ text ends handled. record {
         done = handled.done;
-        answers = inr (inr (kept.1, subst (λ q. Meets AnyNumber s q text handled.done) same handled.answers));
+        answers = inr (inr (kept.1, subst (λ q. AnsweredRequest old new s q text ends handled.done) same handled.answers));
+        passes = handled.passes;
+        still = handled.still;
         holds = handled.holds;
-        device = handled.device;
       })
       r a b rest p
+
+  -- what was asked for is this
+  pub asked_as : (asked query : Request) → asked ≡ query → (r : Result Reply WriteFault) (a b : Option (List ℕ)) (rest : List ℕ) → Replies (HandlesRequest old new s query) r a b rest
+      → Replies (HandlesRequest old new s asked) r a b rest
+  asked_as asked query is r a b rest p = subst (λ q. Replies (HandlesRequest old new s q) r a b rest) (sym is) p
+
+  -- a query, after which the store has failed where it had before, and is else as good
+  module _ (query : Request) (passes : Passes old new) (same : has_failed new ≡ has_failed old) (left : has_failed old ≡ true → new ≡ old) (holds : has_failed old ≡ false → Holds new s) where
+    pub asked : (text : List ℕ) (ends : Bool) → (has_failed old ≡ false → (ends ≡ false) × Meets old new s query text None) → (has_failed old ≡ true → SaysFailed query text ends)
+        → HandlesRequest old new s query text ends
+    asked text ends meets fails = record {
+      done = None;
+      answers = either (failed_or (has_failed old));
+      passes = passes;
+      still = λ e. same;
+      holds = λ sound. holds (sym same ∙ sound);
+    }
+      where
+        either : (has_failed old ≡ false) ⊎ (has_failed old ≡ true) → AnsweredRequest old new s query text ends None
+        either (inl sound) = let met = meets sound in inl (sound, met.0 ∙ sym sound ∙ sym same, met.1)
+        either (inr failed) = inr (failed, left failed, refl, fails failed)
+
+    -- it is answered
+    pub told : (text : List ℕ) → has_failed old ≡ false → Meets old new s query text None → HandlesRequest old new s query text false
+    told text sound meets = asked text false (λ fine. (refl, meets)) (λ failed. absurd (never_both _ sound failed))
+
+    -- it is refused
+    pub refusal_handled : (refusal : Refusal) (reply : Reply) → reply_text reply ≡ error_text refusal → (refusal ≢ Failed → ends_talk reply ≡ false) → (refusal ≡ Failed → ends_talk reply ≡ true)
+        → (has_failed old ≡ true → refusal ≡ Failed) → (has_failed old ≡ false → refusal ≢ Failed) → ((text : List ℕ) (ends : Bool) → text ≡ error_text Failed → ends ≡ true → SaysFailed query text ends)
+        → (has_failed old ≡ false → Meets old new s query (reply_text reply) None) → HandlesRequest old new s query (reply_text reply) (ends_talk reply)
+    refusal_handled refusal reply text goes_on ends refused only lift meets =
+        asked (reply_text reply) (ends_talk reply) (λ sound. (goes_on (only sound), meets sound))
+        (λ failed. lift (reply_text reply) (ends_talk reply) (text ∙ ap error_text (refused failed)) (ends (refused failed)))
+
+-- what `apply` promises of a command and its answer
+pub record Applied {D : Type 0} {members : _} (old new : Store D members) (s : State) (command : Command) (answer : Result Answer Refusal) : Type 0 where
+  pub any : Goes (answer ≡ Err Device) (members.state old.disk) (members.state new.disk)
+  pub failed : has_failed old ≡ false → (has_failed new ≡ true ↔ answer ≡ Err Device)
+  pub refused : has_failed old ≡ true → answer ≡ Err Failed
+  pub left : has_failed old ≡ true → new ≡ old
+  pub due : has_failed old ≡ false → (holds : Holds old s) → Answers old new s holds command answer
+  pub stands : has_failed old ≡ false → answer ≢ Err Device → Holds new (next s command answer)
+  pub since : has_failed old ≡ false → Throughout (members.state old.disk) (members.state new.disk) (λ m. Unit {0})
+  pub reclaimed : has_failed old ≡ false → command ≡ Reclaim → (holds : Holds old s) → OnOk answer (free_of new ≡ spare_of holds)
+
+-- a command
+module _ {D : Type 0} {members : _} (old new : Store D members) (s : State) (command : Command) (answer : Result Answer Refusal) (applied : Applied old new s command answer) where
+  pub obeyed : (text : List ℕ) (ends : Bool) → text ≡ answer_text answer → (has_failed old ≡ false → ends ≡ has_failed new) → (answer ≡ Err Failed → ends ≡ true)
+      → HandlesRequest old new s (request.Command command) text ends
+  obeyed text ends says last fails = either (failed_or (has_failed old))
+    where
+      either : (has_failed old ≡ false) ⊎ (has_failed old ≡ true) → HandlesRequest old new s (request.Command command) text ends
+      either (inl sound) = record {
+        done = Some (command, answer);
+        answers = inl (
+          sound,
+          last sound,
+          (
+            refl,
+            record {
+              answers = applied.due sound;
+              failing = applied.any.fault;
+              failed = applied.failed sound;
+              reclaimed = applied.reclaimed sound;
+            },
+            says,
+          ),
+        );
+        passes = record { goes = goes_any _ _ _ applied.any; since = applied.since sound };
+        still = λ e. sym (last sound) ∙ e ∙ sym sound;
+        holds = λ fine. applied.stands sound (λ device. never_both _ fine ((applied.failed sound).1 device));
+      }
+      either (inr failed) =
+          let same = applied.left failed in
+          record {
+            done = None;
+            answers = inr (failed, same, refl, (says ∙ ap answer_text (applied.refused failed), fails (applied.refused failed)));
+            passes = passes_left old new same;
+            still = λ e. ap (λ (t : Store D members). has_failed t) same;
+            holds = λ fine. absurd (never_both _ fine (ap (λ (t : Store D members). has_failed t) same ∙ failed));
+          }

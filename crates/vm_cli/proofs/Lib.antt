@@ -8,6 +8,7 @@ pub mod Names
 pub mod Known
 pub mod Written
 pub mod CarriedLemmas
+pub mod PassLemmas
 pub mod TalkLemmas
 pub mod HandledLemmas
 pub mod WritesLemmas

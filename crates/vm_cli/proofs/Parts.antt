@@ -1,6 +1,6 @@
 -- A line that grows by a byte.
 use Rattle.std.proofs.Common.{◌≡◌, ◌≢◌, ◌<◌, ◌≤◌, ◌+◌, ℕ, List, [], ◌∷◌, ◌++◌, false, length, refl, arith, length-append, subst, sym}
-use Rattle.vm_cli.specs.Fed.{Holds, KindHolds, is_nil}
+use Rattle.vm_cli.specs.Reading.{Holds, KindHolds, is_nil}
 use Rattle.vm_cli.specs.Lines.{IsPart}
 use Rattle.vm_cli.specs.declared.line.Kind.TheVariants.{Kept, Long, NoMemory}
 use Rattle.vm_cli.specs.declared.line.Line.{Line}

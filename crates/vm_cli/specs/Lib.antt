@@ -1,5 +1,5 @@
 pub mod Escapes
-pub mod Fed
+pub mod Reading
 pub mod Lines
 pub mod Listings
 pub mod Numbers
@@ -13,3 +13,4 @@ pub mod File
 pub mod Exits
 pub mod Carried
 pub mod Talk
+pub mod Feeding

@@ -25,7 +25,7 @@ pub struct Line {
 
 impl Line {
     ghost use Rattle.std.specs.Prelude.{◌≡◌, ◌≢◌, ℕ, List, ◌++◌, ◌∷◌, []};
-    ghost use Rattle.vm_cli.specs.Fed.{Holds, without_return};
+    ghost use Rattle.vm_cli.specs.Reading.{Holds, without_return};
 
     /// A line without bytes.
     pub fn new(alloc: Global) -> Line

@@ -1,11 +1,13 @@
 //! The talk: lines in, answers out.
-ghost use Rattle.std.specs.Prelude.{◌≡◌, ◌≢◌, ◌⊎◌, ◌+◌, ◌≤◌, ◌++◌, ◌∷◌, ℕ, List, [], length, true, false, flat_map, IfErr, IfOk, IfSome, OnErr, OnOk};
+ghost use Rattle.std.specs.Prelude.{◌≡◌, ◌≢◌, ◌⊎◌, ◌+◌, ◌≤◌, ◌++◌, ◌∷◌, ℕ, List, [], length, true, false, Err, flat_map, IfErr, IfOk, IfSome, OnErr, OnOk};
 ghost use Rattle.std.specs.Io.KnownBytes.{Appends};
 ghost use Rattle.vm_cli.specs.Carried.{Begins, Carries};
-ghost use Rattle.vm_cli.specs.Fed.{Holds as HoldsLine};
+ghost use Rattle.vm_cli.specs.Feeding.{Fed, HandlesRequest, Replies, Writes};
+ghost use Rattle.vm_cli.specs.Lines.{lines_of};
+ghost use Rattle.vm_cli.specs.Reading.{Holds as HoldsLine};
 ghost use Rattle.vm_cli.specs.Replies.{ends_talk, reply_text};
-ghost use Rattle.vm_cli.specs.Talk.{Answered, AnyNumber, Carried, Ended, Fed, Handled, Meets, Replies, Says, Serves, Writes, error_text};
-ghost use Rattle.vm_store.specs.Resting.{spare_of};
+ghost use Rattle.vm_cli.specs.Talk.{Failing, HandlesLine, Serves, ServesLines, answer_text, error_text};
+ghost use Rattle.vm_disk.specs.Disk.{Goes};
 ghost use Rattle.vm_store.specs.Store.{Holds, disk_of, has_failed};
 ghost use Rattle.vm_types.specs.State.{State};
 
@@ -47,13 +49,18 @@ pub fn serve<R: Read, W: Write, D: Disk>(
     writer: &mut W,
     store: &mut Store<D>,
 ) -> Result<(), ServeFault>
-    // On any disk the talk ends with Store only where the device failed in it, or had failed before.
+    // On any disk the talk ends with Store only where the device failed in it, or the store had failed before, and then
+    // leaves the store as it was.
+    ensures goes { Goes ⊥ (D.state (disk_of store.old)) (D.state (disk_of store.new)) }
     ensures ok { has_failed store.old ≡ false → OnOk result (has_failed store.new ≡ false) }
-    ensures err { has_failed store.old ≡ false → IfErr result (λ fault. fault ≡ ServeFault.Store → has_failed store.new ≡ true) }
+    ensures err { has_failed store.old ≡ false → IfErr result (λ fault. fault ≡ ServeFault.Store → (has_failed store.new ≡ true) × Failing store.old store.new) }
+    ensures left { has_failed store.old ≡ true → store.new ≡ store.old }
 
-    // The lines of the input are answered one after another, and the store stands for what their commands leave.
-    ensures answers { (D.state (disk_of store.old)).honest ≡ true → has_failed store.old ≡ false → (s : State) → Holds store.old s
-        → IfSome (R.remaining reader.old) (Serves store.new s result (W.contents writer.old) (W.contents writer.new)) }
+    // The lines of the input are answered one after another, each by the store that the line before left, and the store
+    // stands for what their commands leave. A store that had failed answers Failed to the first command or query, and the
+    // talk ends.
+    ensures answers { (D.state (disk_of store.old)).honest ≡ true → (s : State) → (has_failed store.old ≡ false → Holds store.old s)
+        → IfSome (R.remaining reader.old) (Serves store.old store.new s result (W.contents writer.old) (W.contents writer.new)) }
 {
     let mut line = Line::new(alloc);
     let mut chunk = [0; 8192];
@@ -83,15 +90,16 @@ fn feed<W: Write, D: Disk>(
     writer: &mut W,
     store: &mut Store<D>,
 ) -> Result<(), ServeFault>
-    ensures honest { (D.state (disk_of store.new)).honest ≡ (D.state (disk_of store.old)).honest }
+    ensures goes { Goes ⊥ (D.state (disk_of store.old)) (D.state (disk_of store.new)) }
     ensures ok { has_failed store.old ≡ false → OnOk result (has_failed store.new ≡ false) }
-    ensures err { has_failed store.old ≡ false → IfErr result (λ fault. (fault ≡ ServeFault.Write) ⊎ ((fault ≡ ServeFault.Store) × (has_failed store.new ≡ true))) }
-    ensures fed { (D.state (disk_of store.old)).honest ≡ true → has_failed store.old ≡ false → (s : State) → Holds store.old s
+    ensures err { has_failed store.old ≡ false → IfErr result (λ fault. (fault ≡ ServeFault.Write) ⊎ ((fault ≡ ServeFault.Store) × (has_failed store.new ≡ true) × Failing store.old store.new)) }
+    ensures left { has_failed store.old ≡ true → store.new ≡ store.old }
+    ensures fed { (D.state (disk_of store.old)).honest ≡ true → (s : State) → (has_failed store.old ≡ false → Holds store.old s)
         → (from : List ℕ) → HoldsLine line.old from
-        → OnOk result ((to : List ℕ) × HoldsLine line.new to × Fed store.new s bytes.now from to (W.contents writer.old) (W.contents writer.new)) }
-    ensures ended { (D.state (disk_of store.old)).honest ≡ true → has_failed store.old ≡ false → (s : State) → Holds store.old s
-        → (from : List ℕ) → HoldsLine line.old from
-        → OnErr result (Ended store.new s bytes.now from result (W.contents writer.old) (W.contents writer.new)) }
+        → OnOk result ((to : List ℕ) × HoldsLine line.new to × Fed store.old store.new s bytes.now from to (W.contents writer.old) (W.contents writer.new)) }
+    ensures ended { (D.state (disk_of store.old)).honest ≡ true → (s : State) → (has_failed store.old ≡ false → Holds store.old s)
+        → (from : List ℕ) → HoldsLine line.old from → (more : List ℕ)
+        → OnErr result (ServesLines store.old store.new s result (W.contents writer.old) (W.contents writer.new) (lines_of (from ++ (bytes.now ++ more)))) }
 {
     for byte in bytes {
         match feed_byte(alloc, *byte, line, writer, store) {
@@ -110,15 +118,16 @@ fn feed_byte<W: Write, D: Disk>(
     writer: &mut W,
     store: &mut Store<D>,
 ) -> Result<(), ServeFault>
-    ensures honest { (D.state (disk_of store.new)).honest ≡ (D.state (disk_of store.old)).honest }
+    ensures goes { Goes ⊥ (D.state (disk_of store.old)) (D.state (disk_of store.new)) }
     ensures ok { has_failed store.old ≡ false → OnOk result (has_failed store.new ≡ false) }
-    ensures err { has_failed store.old ≡ false → IfErr result (λ fault. (fault ≡ ServeFault.Write) ⊎ ((fault ≡ ServeFault.Store) × (has_failed store.new ≡ true))) }
-    ensures fed { (D.state (disk_of store.old)).honest ≡ true → has_failed store.old ≡ false → (s : State) → Holds store.old s
+    ensures err { has_failed store.old ≡ false → IfErr result (λ fault. (fault ≡ ServeFault.Write) ⊎ ((fault ≡ ServeFault.Store) × (has_failed store.new ≡ true) × Failing store.old store.new)) }
+    ensures left { has_failed store.old ≡ true → store.new ≡ store.old }
+    ensures fed { (D.state (disk_of store.old)).honest ≡ true → (s : State) → (has_failed store.old ≡ false → Holds store.old s)
         → (from : List ℕ) → HoldsLine line.old from
-        → OnOk result ((to : List ℕ) × HoldsLine line.new to × Fed store.new s (byte ∷ []) from to (W.contents writer.old) (W.contents writer.new)) }
-    ensures ended { (D.state (disk_of store.old)).honest ≡ true → has_failed store.old ≡ false → (s : State) → Holds store.old s
-        → (from : List ℕ) → HoldsLine line.old from
-        → OnErr result (Ended store.new s (byte ∷ []) from result (W.contents writer.old) (W.contents writer.new)) }
+        → OnOk result ((to : List ℕ) × HoldsLine line.new to × Fed store.old store.new s (byte ∷ []) from to (W.contents writer.old) (W.contents writer.new)) }
+    ensures ended { (D.state (disk_of store.old)).honest ≡ true → (s : State) → (has_failed store.old ≡ false → Holds store.old s)
+        → (from : List ℕ) → HoldsLine line.old from → (more : List ℕ)
+        → OnErr result (ServesLines store.old store.new s result (W.contents writer.old) (W.contents writer.new) (lines_of (from ++ ((byte ∷ []) ++ more)))) }
 {
     if byte != b'\n' {
         line.push(byte);
@@ -140,12 +149,13 @@ fn answer<W: Write, D: Disk>(
     writer: &mut W,
     store: &mut Store<D>,
 ) -> Result<(), ServeFault>
-    ensures honest { (D.state (disk_of store.new)).honest ≡ (D.state (disk_of store.old)).honest }
+    ensures goes { Goes ⊥ (D.state (disk_of store.old)) (D.state (disk_of store.new)) }
     ensures ok { has_failed store.old ≡ false → OnOk result (has_failed store.new ≡ false) }
-    ensures err { has_failed store.old ≡ false → IfErr result (λ fault. (fault ≡ ServeFault.Write) ⊎ ((fault ≡ ServeFault.Store) × (has_failed store.new ≡ true))) }
-    ensures answer { (D.state (disk_of store.old)).honest ≡ true → has_failed store.old ≡ false → (s : State) → Holds store.old s
+    ensures err { has_failed store.old ≡ false → IfErr result (λ fault. (fault ≡ ServeFault.Write) ⊎ ((fault ≡ ServeFault.Store) × (has_failed store.new ≡ true) × Failing store.old store.new)) }
+    ensures left { has_failed store.old ≡ true → store.new ≡ store.old }
+    ensures answer { (D.state (disk_of store.old)).honest ≡ true → (s : State) → (has_failed store.old ≡ false → Holds store.old s)
         → (part : List ℕ) → HoldsLine line.now part
-        → Writes (λ text. Handled store.new s (Answered AnyNumber s part text)) result (W.contents writer.old) (W.contents writer.new) }
+        → Writes (HandlesLine store.old store.new s part) result (W.contents writer.old) (W.contents writer.new) }
 {
     let mut text = Text::new();
     let Ok(reply) = reply_to(alloc, line, &mut text, writer, store) else {
@@ -182,11 +192,13 @@ fn reply_to<W: Write, D: Disk>(
 ) -> Result<Reply, WriteFault>
     requires { text.old ≡ [] }
     ensures room { OnOk result (length text.new + 1024 ≤ 4096) }
-    ensures honest { (D.state (disk_of store.new)).honest ≡ (D.state (disk_of store.old)).honest }
+    ensures goes { Goes ⊥ (D.state (disk_of store.old)) (D.state (disk_of store.new)) }
     ensures last { has_failed store.old ≡ false → IfOk result (λ reply. ends_talk reply ≡ has_failed store.new) }
-    ensures answer { (D.state (disk_of store.old)).honest ≡ true → has_failed store.old ≡ false → (s : State) → Holds store.old s
+    ensures failing { has_failed store.old ≡ false → has_failed store.new ≡ true → Failing store.old store.new }
+    ensures left { has_failed store.old ≡ true → store.new ≡ store.old }
+    ensures answer { (D.state (disk_of store.old)).honest ≡ true → (s : State) → (has_failed store.old ≡ false → Holds store.old s)
         → (part : List ℕ) → HoldsLine line.now part
-        → Replies (λ text. Handled store.new s (Answered AnyNumber s part text)) result (W.contents writer.old) (W.contents writer.new) text.new }
+        → Replies (HandlesLine store.old store.new s part) result (W.contents writer.old) (W.contents writer.new) text.new }
 {
     match line.kind {
         Kind::Long => Ok(Reply::LongLine),
@@ -208,10 +220,12 @@ fn reply_to_request<W: Write, D: Disk>(
 ) -> Result<Reply, WriteFault>
     requires { text.old ≡ [] }
     ensures room { OnOk result (length text.new + 1024 ≤ 4096) }
-    ensures honest { (D.state (disk_of store.new)).honest ≡ (D.state (disk_of store.old)).honest }
+    ensures goes { Goes ⊥ (D.state (disk_of store.old)) (D.state (disk_of store.new)) }
     ensures last { has_failed store.old ≡ false → IfOk result (λ reply. ends_talk reply ≡ has_failed store.new) }
-    ensures answer { (D.state (disk_of store.old)).honest ≡ true → has_failed store.old ≡ false → (s : State) → Holds store.old s
-        → Replies (λ text. Handled store.new s (Meets AnyNumber s request text)) result (W.contents writer.old) (W.contents writer.new) text.new }
+    ensures failing { has_failed store.old ≡ false → has_failed store.new ≡ true → Failing store.old store.new }
+    ensures left { has_failed store.old ≡ true → store.new ≡ store.old }
+    ensures answer { (D.state (disk_of store.old)).honest ≡ true → (s : State) → (has_failed store.old ≡ false → Holds store.old s)
+        → Replies (HandlesRequest store.old store.new s request) result (W.contents writer.old) (W.contents writer.new) text.new }
 {
     match request {
         Request::Nothing => Ok(Reply::Nothing),
@@ -229,38 +243,39 @@ fn reply_to_request<W: Write, D: Disk>(
 
 // Carries out a command. Where the device failed in it, the store carries out nothing more.
 fn carry_out<D: Disk>(command: &Command, store: &mut Store<D>) -> Reply
-    ensures honest { (D.state (disk_of store.new)).honest ≡ (D.state (disk_of store.old)).honest }
+    ensures goes { Goes ⊥ (D.state (disk_of store.old)) (D.state (disk_of store.new)) }
     ensures last { has_failed store.old ≡ false → ends_talk result ≡ has_failed store.new }
-    ensures answer { (D.state (disk_of store.old)).honest ≡ true → has_failed store.old ≡ false → (s : State) → Holds store.old s
-        → Carried store.new s command.now (ends_talk result) (reply_text result) }
+    ensures failing { has_failed store.old ≡ false → has_failed store.new ≡ true → Failing store.old store.new }
+    ensures left { has_failed store.old ≡ true → store.new ≡ store.old }
+    ensures answer { (D.state (disk_of store.old)).honest ≡ true → (s : State) → (has_failed store.old ≡ false → Holds store.old s)
+        → HandlesRequest store.old store.new s (Request.Command command.now) (reply_text result) (ends_talk result) }
 {
-    match store.apply(command) {
-        Ok(Answer::Done) => Reply::Done,
-        Ok(Answer::Merged(changes)) => Reply::Merged(changes),
-        Err(refusal) => refused_command(refusal),
-    }
+    answered(store.apply(command))
 }
 
-// What is answered to a command that is refused.
-fn refused_command(refusal: Refusal) -> Reply
-    ensures text { reply_text result ≡ error_text refusal }
-    ensures last { refusal ≢ Refusal.Device → refusal ≢ Refusal.Failed → ends_talk result ≡ false }
-    ensures device { refusal ≡ Refusal.Device → ends_talk result ≡ true }
-    ensures failed { refusal ≡ Refusal.Failed → ends_talk result ≡ true }
+// What is answered to a command.
+fn answered(answer: Result<Answer, Refusal>) -> Reply
+    ensures text { reply_text result ≡ answer_text answer }
+    ensures last { answer ≢ Err Refusal.Device → answer ≢ Err Refusal.Failed → ends_talk result ≡ false }
+    ensures device { answer ≡ Err Refusal.Device → ends_talk result ≡ true }
+    ensures failed { answer ≡ Err Refusal.Failed → ends_talk result ≡ true }
 {
-    match refusal {
-        Refusal::Device => Reply::Last(refusal),
-        _ => refused(refusal),
+    match answer {
+        Ok(Answer::Done) => Reply::Done,
+        Ok(Answer::Merged(changes)) => Reply::Merged(changes),
+        Err(Refusal::Device) => Reply::Last(Refusal::Device),
+        Err(refusal) => refused(refusal),
     }
 }
 
 // Answers a query for the value of a record.
 fn get<D: Disk>(alt: &Name, key: Key, store: &mut Store<D>) -> Reply
-    ensures honest { (D.state (disk_of store.new)).honest ≡ (D.state (disk_of store.old)).honest }
-    ensures last { has_failed store.old ≡ false → (ends_talk result ≡ false) × (has_failed store.new ≡ false) }
-    ensures state { (D.state (disk_of store.old)).honest ≡ true → (s : State) → Holds store.old s → Holds store.new s }
-    ensures answer { (D.state (disk_of store.old)).honest ≡ true → has_failed store.old ≡ false → (s : State) → Holds store.old s
-        → Says AnyNumber s (Request.Get alt.now key) (reply_text result) }
+    ensures goes { Goes ⊥ (D.state (disk_of store.old)) (D.state (disk_of store.new)) }
+    ensures failed { has_failed store.new ≡ has_failed store.old }
+    ensures last { has_failed store.old ≡ false → ends_talk result ≡ false }
+    ensures left { has_failed store.old ≡ true → store.new ≡ store.old }
+    ensures answer { (D.state (disk_of store.old)).honest ≡ true → (s : State) → (has_failed store.old ≡ false → Holds store.old s)
+        → HandlesRequest store.old store.new s (Request.Get alt.now key) (reply_text result) (ends_talk result) }
 {
     match store.get(alt, key) {
         Ok(value) => Reply::Found(value),
@@ -271,8 +286,8 @@ fn get<D: Disk>(alt: &Name, key: Key, store: &mut Store<D>) -> Reply
 // Answers a query for the number of free blocks.
 fn free<D: Disk>(store: &Store<D>) -> Reply
     ensures last { has_failed store.now ≡ false → ends_talk result ≡ false }
-    ensures answer { has_failed store.now ≡ false → (s : State) (holds : Holds store.now s)
-        → Says (λ n. n ≤ spare_of holds) s Request.Free (reply_text result) }
+    ensures answer { (s : State) → (has_failed store.now ≡ false → Holds store.now s)
+        → HandlesRequest store.now store.now s Request.Free (reply_text result) (ends_talk result) }
 {
     match store.free() {
         Ok(count) => Reply::Free(count),
@@ -302,12 +317,12 @@ fn list<W: Write, D: Disk>(
 ) -> Result<Reply, WriteFault>
     requires { text.old ≡ [] }
     ensures room { OnOk result (length text.new + 1024 ≤ 4096) }
-    ensures honest { (D.state (disk_of store.new)).honest ≡ (D.state (disk_of store.old)).honest }
+    ensures goes { Goes ⊥ (D.state (disk_of store.old)) (D.state (disk_of store.new)) }
     ensures failed { has_failed store.new ≡ has_failed store.old }
     ensures last { has_failed store.old ≡ false → IfOk result (λ reply. ends_talk reply ≡ false) }
-    ensures state { (D.state (disk_of store.old)).honest ≡ true → (s : State) → Holds store.old s → Holds store.new s }
-    ensures answer { (D.state (disk_of store.old)).honest ≡ true → has_failed store.old ≡ false → (s : State) → Holds store.old s
-        → Replies (Says AnyNumber s (Request.List alt.now)) result (W.contents writer.old) (W.contents writer.new) text.new }
+    ensures left { has_failed store.old ≡ true → store.new ≡ store.old }
+    ensures answer { (D.state (disk_of store.old)).honest ≡ true → (s : State) → (has_failed store.old ≡ false → Holds store.old s)
+        → Replies (HandlesRequest store.old store.new s (Request.List alt.now)) result (W.contents writer.old) (W.contents writer.new) text.new }
 {
     match store.list(alloc, alt) {
         Ok(records) => write_list(&records, text, writer),
@@ -325,8 +340,8 @@ fn alternatives<W: Write, D: Disk>(
     requires { text.old ≡ [] }
     ensures room { OnOk result (length text.new + 1024 ≤ 4096) }
     ensures last { has_failed store.now ≡ false → IfOk result (λ reply. ends_talk reply ≡ false) }
-    ensures answer { has_failed store.now ≡ false → (s : State) → Holds store.now s
-        → Replies (Says AnyNumber s Request.Alternatives) result (W.contents writer.old) (W.contents writer.new) text.new }
+    ensures answer { (s : State) → (has_failed store.now ≡ false → Holds store.now s)
+        → Replies (HandlesRequest store.now store.now s Request.Alternatives) result (W.contents writer.old) (W.contents writer.new) text.new }
 {
     match store.alternatives(alloc) {
         Ok(alternatives) => write_list(&alternatives, text, writer),
@@ -345,8 +360,8 @@ fn checkpoints<W: Write, D: Disk>(
     requires { text.old ≡ [] }
     ensures room { OnOk result (length text.new + 1024 ≤ 4096) }
     ensures last { has_failed store.now ≡ false → IfOk result (λ reply. ends_talk reply ≡ false) }
-    ensures answer { has_failed store.now ≡ false → (s : State) → Holds store.now s
-        → Replies (Says AnyNumber s (Request.Checkpoints alt.now)) result (W.contents writer.old) (W.contents writer.new) text.new }
+    ensures answer { (s : State) → (has_failed store.now ≡ false → Holds store.now s)
+        → Replies (HandlesRequest store.now store.now s (Request.Checkpoints alt.now)) result (W.contents writer.old) (W.contents writer.new) text.new }
 {
     match store.checkpoints(alloc, alt) {
         Ok(names) => write_list(&names, text, writer),
@@ -364,12 +379,12 @@ fn changes<W: Write, D: Disk>(
 ) -> Result<Reply, WriteFault>
     requires { text.old ≡ [] }
     ensures room { OnOk result (length text.new + 1024 ≤ 4096) }
-    ensures honest { (D.state (disk_of store.new)).honest ≡ (D.state (disk_of store.old)).honest }
+    ensures goes { Goes ⊥ (D.state (disk_of store.old)) (D.state (disk_of store.new)) }
     ensures failed { has_failed store.new ≡ has_failed store.old }
     ensures last { has_failed store.old ≡ false → IfOk result (λ reply. ends_talk reply ≡ false) }
-    ensures state { (D.state (disk_of store.old)).honest ≡ true → (s : State) → Holds store.old s → Holds store.new s }
-    ensures answer { (D.state (disk_of store.old)).honest ≡ true → has_failed store.old ≡ false → (s : State) → Holds store.old s
-        → Replies (Says AnyNumber s (Request.Changes alt.now)) result (W.contents writer.old) (W.contents writer.new) text.new }
+    ensures left { has_failed store.old ≡ true → store.new ≡ store.old }
+    ensures answer { (D.state (disk_of store.old)).honest ≡ true → (s : State) → (has_failed store.old ≡ false → Holds store.old s)
+        → Replies (HandlesRequest store.old store.new s (Request.Changes alt.now)) result (W.contents writer.old) (W.contents writer.new) text.new }
 {
     match store.changes(alloc, alt) {
         Ok(changes) => write_list(&changes, text, writer),
@@ -387,12 +402,12 @@ fn conflicts<W: Write, D: Disk>(
 ) -> Result<Reply, WriteFault>
     requires { text.old ≡ [] }
     ensures room { OnOk result (length text.new + 1024 ≤ 4096) }
-    ensures honest { (D.state (disk_of store.new)).honest ≡ (D.state (disk_of store.old)).honest }
+    ensures goes { Goes ⊥ (D.state (disk_of store.old)) (D.state (disk_of store.new)) }
     ensures failed { has_failed store.new ≡ has_failed store.old }
     ensures last { has_failed store.old ≡ false → IfOk result (λ reply. ends_talk reply ≡ false) }
-    ensures state { (D.state (disk_of store.old)).honest ≡ true → (s : State) → Holds store.old s → Holds store.new s }
-    ensures answer { (D.state (disk_of store.old)).honest ≡ true → has_failed store.old ≡ false → (s : State) → Holds store.old s
-        → Replies (Says AnyNumber s (Request.Conflicts alt.now)) result (W.contents writer.old) (W.contents writer.new) text.new }
+    ensures left { has_failed store.old ≡ true → store.new ≡ store.old }
+    ensures answer { (D.state (disk_of store.old)).honest ≡ true → (s : State) → (has_failed store.old ≡ false → Holds store.old s)
+        → Replies (HandlesRequest store.old store.new s (Request.Conflicts alt.now)) result (W.contents writer.old) (W.contents writer.new) text.new }
 {
     match store.conflicts(alloc, alt) {
         Ok(conflicts) => write_list(&conflicts, text, writer),

@@ -1,10 +1,11 @@
 //! An input and an output that fail.
 use super::{CREATE, Shelf};
+use std::alloc::Global;
 use std::io::{self, ErrorKind, Read, Write};
 use std::process::Abort;
 use std::test::Fail;
 use vm_cli::{ServeFault, run_words, serve};
-use vm_disk::MemDisk;
+use vm_disk::{FuseDisk, MemDisk};
 use vm_store::{Store, format, open};
 
 /// A reader that gives its bytes and then fails.
@@ -117,5 +118,89 @@ fn stops_where_a_text_cannot_be_written(rt: HostRuntime) -> Result<(), Fail> {
     assert_eq!(rt; status, 3);
     assert_eq!(rt; faults.as_slice(), b"altctl: stopped\n".as_slice());
     assert!(rt; shelf.has("f"));
+    Ok(())
+}
+
+/// A store of 64 blocks whose device fails once, at the first call after the four of its opening.
+fn store_that_will_fail<R: AllocGlobal + Abort>(rt: &R) -> Result<Store<FuseDisk<MemDisk>>, Fail> {
+    let disk = new_store(rt)?.close();
+    match open(rt.alloc(), FuseDisk::once(disk, 4, [9; 4096])) {
+        Ok(store) => Ok(store),
+        Err((_, refusal)) => panic!(rt; "{refusal}"),
+    }
+}
+
+/// Serves the lines: what they are answered, and whether the store ended the talk.
+fn served(alloc: Global, store: &mut Store<FuseDisk<MemDisk>>, lines: &[u8]) -> (Vec<u8>, bool) {
+    let mut input = lines;
+    let mut output = Vec::new(alloc);
+    let ended = serve(alloc, &mut input, &mut output, store);
+    (output, matches!(&ended, Err(ServeFault::Store)))
+}
+
+/// A command, or each query.
+const ASKED: [&[u8]; 9] = [
+    b"commit\n",
+    b"get top 1 1\n",
+    b"list top\n",
+    b"alts\n",
+    b"checks top\n",
+    b"changes top\n",
+    b"conflicts top\n",
+    b"free\n",
+    b"reclaim\n",
+];
+
+#[test]
+fn ends_where_the_device_fails(rt: HostRuntime) -> Result<(), Fail> {
+    let mut store = store_that_will_fail(&rt)?;
+    let lines = b"get top 1 1\nput top 1 1 a\nput top 1 1 b\nget top 1 1\n";
+    let (output, ended) = served(rt.alloc(), &mut store, lines);
+    assert_eq!(rt; output.as_slice(), b"none\nerror 15 Device\n".as_slice());
+    assert!(rt; ended);
+    let _disk = store.close();
+    Ok(())
+}
+
+#[test]
+fn answers_that_the_store_had_failed(rt: HostRuntime) -> Result<(), Fail> {
+    let mut store = store_that_will_fail(&rt)?;
+    let (_, ended) = served(rt.alloc(), &mut store, b"put top 1 1 a\n");
+    assert!(rt; ended);
+    for line in ASKED {
+        let (output, ended) = served(rt.alloc(), &mut store, line);
+        assert_eq!(rt; output.as_slice(), b"error 17 Failed\n".as_slice());
+        assert!(rt; ended);
+    }
+    let lines = b"\n# note\n\nget top 7 x\nget top 1 1\nput top 1 1 b\n";
+    let (output, ended) = served(rt.alloc(), &mut store, lines);
+    assert_eq!(rt;
+        output.as_slice(),
+        b"error 22 BadLine\nerror 17 Failed\n".as_slice()
+    );
+    assert!(rt; ended);
+    let _disk = store.close();
+    Ok(())
+}
+
+#[test]
+fn goes_on_over_lines_that_ask_a_failed_store_nothing(rt: HostRuntime) -> Result<(), Fail> {
+    let mut store = store_that_will_fail(&rt)?;
+    let (_, ended) = served(rt.alloc(), &mut store, b"put top 1 1 a\n");
+    assert!(rt; ended);
+    let mut lines = Vec::new(rt.alloc());
+    for _ in 0..1_048_577 {
+        lines.push(b'a')?;
+    }
+    lines.extend_from_slice(b"\n\nnonsense\n")?;
+    let mut input = lines.as_slice();
+    let mut output = Vec::new(rt.alloc());
+    let served = serve(rt.alloc(), &mut input, &mut output, &mut store);
+    assert!(rt; served.is_ok());
+    assert_eq!(rt;
+        output.as_slice(),
+        b"error 23 LongLine\nerror 22 BadLine\n".as_slice()
+    );
+    let _disk = store.close();
     Ok(())
 }

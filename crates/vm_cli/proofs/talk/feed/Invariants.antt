@@ -1,15 +1,17 @@
 use Rattle.std.proofs.Common.{◌≡◌, ℕ, List, true, false, take}
+use Rattle.vm_disk.specs.Disk.{Goes}
 use Rattle.vm_types.specs.State.{State}
 use Rattle.vm_store.specs.Store.{Holds, disk_of, has_failed}
-use Rattle.vm_cli.specs.Fed.{Holds as HoldsLine}
-use Rattle.vm_cli.specs.Talk.{Fed}
+use Rattle.vm_cli.specs.Feeding.{Fed}
+use Rattle.vm_cli.specs.Reading.{Holds as HoldsLine}
 use Rattle.vm_cli.proofs.talk.feed.Given as goal
 
 -- the bytes so far were fed
 abbrev pub invariant-loop-byte : goal.invariant-loop-byte
 invariant-loop-byte g l = record {
-  honest : (g.D.Disk.state (disk_of l.store)).honest ≡ (g.D.Disk.state (disk_of l.fn.store)).honest;
+  goes : Goes ⊥ (g.D.Disk.state (disk_of l.fn.store)) (g.D.Disk.state (disk_of l.store));
   sound : has_failed l.fn.store ≡ false → has_failed l.store ≡ false;
-  fed : (g.D.Disk.state (disk_of l.fn.store)).honest ≡ true → has_failed l.fn.store ≡ false → (s : State) → Holds l.fn.store s → (from : List ℕ) → HoldsLine l.fn.line from
-      → (to : List ℕ) × HoldsLine l.line to × Fed l.store s (take l.byte-index l.fn.bytes) from to (g.W.Write.contents l.fn.writer) (g.W.Write.contents l.writer);
+  left : has_failed l.fn.store ≡ true → l.store ≡ l.fn.store;
+  fed : (g.D.Disk.state (disk_of l.fn.store)).honest ≡ true → (s : State) → (has_failed l.fn.store ≡ false → Holds l.fn.store s) → (from : List ℕ) → HoldsLine l.fn.line from
+      → (to : List ℕ) × HoldsLine l.line to × Fed l.fn.store l.store s (take l.byte-index l.fn.bytes) from to (g.W.Write.contents l.fn.writer) (g.W.Write.contents l.writer);
 }

@@ -1,25 +1,25 @@
 use Rattle.vm_types.specs.declared.refusal.Refusal.TheVariants.{Memory}
-use Rattle.vm_cli.specs.Talk.{Answered, AnyNumber, Handled}
+use Rattle.vm_cli.specs.Talk.{HandlesLine}
 use Rattle.vm_cli.specs.declared.reply.Reply.TheVariants as reply
 use Rattle.vm_cli.proofs.HandledLemmas.{kept_handled, long_handled, memory_handled, replied_whole}
 use Rattle.vm_cli.proofs.talk.reply_to.Goals as goal
 
 pub returns-in-Long-clause-answer : goal.returns-in-Long-clause-answer
-returns-in-Long-clause-answer g c honest sound s holds part h =
-    replied_whole (λ text. Handled c.args.store.now s (Answered AnyNumber s part text)) reply.LongLine _ c.args.text.now c.requires
-    (long_handled c.args.store.now s c.args.line.now part sound holds h c.in-Long.is)
+returns-in-Long-clause-answer g c honest s holds part h =
+    let store = c.args.store.now in
+    replied_whole (HandlesLine store store s part) reply.LongLine _ c.args.text.now c.requires (long_handled store s holds c.args.line.now part h c.in-Long.is)
 
 pub returns-in-NoMemory-clause-answer : goal.returns-in-NoMemory-clause-answer
-returns-in-NoMemory-clause-answer g c honest sound s holds part h =
-    replied_whole (λ text. Handled c.args.store.now s (Answered AnyNumber s part text)) (reply.Refused Memory) _ c.args.text.now c.requires
-    (memory_handled c.args.store.now s c.args.line.now part sound holds)
+returns-in-NoMemory-clause-answer g c honest s holds part h =
+    let store = c.args.store.now in
+    replied_whole (HandlesLine store store s part) (reply.Refused Memory) _ c.args.text.now c.requires (memory_handled store s holds part)
 
 pub returns-in-Ok-clause-answer : goal.returns-in-Ok-clause-answer
-returns-in-Ok-clause-answer g c honest sound s holds part h =
-    kept_handled c.reply_to_request.new.store s c.args.line.now part h c.in-Kept.is c.in-Ok.request c.text.result.now c.text.ensures c.in-Ok.ensures.request
-    c.reply_to_request.result _ _ c.reply_to_request.new.text (c.reply_to_request.ensures.answer honest sound s holds)
+returns-in-Ok-clause-answer g c honest s holds part h =
+    kept_handled c.args.store.now c.reply_to_request.new.store s c.args.line.now part h c.in-Kept.is c.in-Ok.request c.text.result.now c.text.ensures c.in-Ok.ensures.request
+    c.reply_to_request.result _ _ c.reply_to_request.new.text (c.reply_to_request.ensures.answer honest s holds)
 
 pub returns-in-Err-clause-answer : goal.returns-in-Err-clause-answer
-returns-in-Err-clause-answer g c honest sound s holds part h =
-    replied_whole (λ text. Handled c.args.store.now s (Answered AnyNumber s part text)) (reply.Refused Memory) _ c.args.text.now c.requires
-    (memory_handled c.args.store.now s c.args.line.now part sound holds)
+returns-in-Err-clause-answer g c honest s holds part h =
+    let store = c.args.store.now in
+    replied_whole (HandlesLine store store s part) (reply.Refused Memory) _ c.args.text.now c.requires (memory_handled store s holds part)

@@ -1,18 +1,20 @@
 use Rattle.std.proofs.Common.{◌≡◌, ℕ, List, [], true, false}
 use Rattle.std.specs.Io.KnownBytes.{Consumes}
+use Rattle.vm_disk.specs.Disk.{Goes}
 use Rattle.vm_types.specs.State.{State}
 use Rattle.vm_store.specs.Store.{Holds, disk_of, has_failed}
-use Rattle.vm_cli.specs.Fed.{Holds as HoldsLine}
-use Rattle.vm_cli.specs.Talk.{Fed}
+use Rattle.vm_cli.specs.Feeding.{Fed}
+use Rattle.vm_cli.specs.Reading.{Holds as HoldsLine}
 use Rattle.vm_cli.proofs.talk.serve.Given as goal
 
 -- the bytes so far were read and fed
 abbrev pub invariant-loop : goal.invariant-loop
 invariant-loop g l = record {
-  honest : (g.D.Disk.state (disk_of l.store)).honest ≡ (g.D.Disk.state (disk_of l.fn.store)).honest;
+  goes : Goes ⊥ (g.D.Disk.state (disk_of l.fn.store)) (g.D.Disk.state (disk_of l.store));
   sound : has_failed l.fn.store ≡ false → has_failed l.store ≡ false;
+  left : has_failed l.fn.store ≡ true → l.store ≡ l.fn.store;
   bytes : List ℕ;
   read : Consumes (g.R.Read.remaining l.fn.reader) (g.R.Read.remaining l.reader) bytes;
-  fed : (g.D.Disk.state (disk_of l.fn.store)).honest ≡ true → has_failed l.fn.store ≡ false → (s : State) → Holds l.fn.store s
-      → (to : List ℕ) × HoldsLine l.line to × Fed l.store s bytes [] to (g.W.Write.contents l.fn.writer) (g.W.Write.contents l.writer);
+  fed : (g.D.Disk.state (disk_of l.fn.store)).honest ≡ true → (s : State) → (has_failed l.fn.store ≡ false → Holds l.fn.store s)
+      → (to : List ℕ) × HoldsLine l.line to × Fed l.fn.store l.store s bytes [] to (g.W.Write.contents l.fn.writer) (g.W.Write.contents l.writer);
 }

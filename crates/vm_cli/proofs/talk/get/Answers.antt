@@ -1,0 +1,43 @@
+use Rattle.std.proofs.Common.{Ok, Err, ap, refl, ◌∙◌}
+use Rattle.vm_store.specs.Answers.{value_in}
+use Rattle.vm_store.specs.Store.{has_failed}
+use Rattle.vm_cli.specs.Talk.{Failing}
+use Rattle.vm_cli.specs.declared.request.Request.TheVariants as request
+use Rattle.vm_cli.proofs.HandledLemmas.{refusal_handled, told}
+use Rattle.vm_cli.proofs.PassLemmas.{goes_any, passes_reads}
+use Rattle.vm_cli.proofs.TalkLemmas.{says_value, was_sound}
+use Rattle.vm_cli.proofs.talk.get.Goals as goal
+
+pub returns-in-Ok : goal.returns-in-Ok
+returns-in-Ok g c =
+    let old = c.args.store.now in
+    let new = c.get.new.self in
+    let said = c.in-Ok.ensures in
+    let sound = was_sound (has_failed old) c.in-Ok.value said.refused in
+    record {
+      goes = goes_any _ _ _ said.any;
+      failed = said.failed;
+      last = λ sound. refl;
+      left = said.no_calls;
+      answer = λ honest s holds.
+          told old new s (request.Get c.args.alt.now c.args.key) (passes_reads old new (goes_any _ _ _ said.any) (said.reads honest)) said.failed said.no_calls (λ sound. said.state honest s (holds sound))
+          _ sound (refl, said.failed ∙ sound, says_value (Failing old new) (value_in s.working c.args.alt.now c.args.key) (Ok c.in-Ok.value) _ said.any.fault refl (said.value honest sound s (holds sound)));
+    }
+
+pub returns-in-Err : goal.returns-in-Err
+returns-in-Err g c =
+    let old = c.args.store.now in
+    let new = c.get.new.self in
+    let said = c.in-Err.ensures in
+    let refusal = c.in-Err.refusal in
+    record {
+      goes = goes_any _ _ _ said.any;
+      failed = said.failed;
+      last = λ sound. c.refused.ensures.last (λ is. said.only_then sound (ap Err is));
+      left = said.no_calls;
+      answer = λ honest s holds.
+          refusal_handled old new s (request.Get c.args.alt.now c.args.key) (passes_reads old new (goes_any _ _ _ said.any) (said.reads honest)) said.failed said.no_calls (λ sound. said.state honest s (holds sound))
+          refusal c.refused.result c.refused.ensures.text c.refused.ensures.last c.refused.ensures.failed (λ failed. let e = said.refused failed in cc) (λ sound is. said.only_then sound (ap Err is))
+          (λ text ends is last. (is, last))
+          (λ sound. (refl, said.failed ∙ sound, says_value (Failing old new) (value_in s.working c.args.alt.now c.args.key) (Err refusal) _ said.any.fault c.refused.ensures.text (said.value honest sound s (holds sound))));
+    }

@@ -1,0 +1,53 @@
+-- How a talk goes on inside: answers that are written in part, and bytes that are fed to it.
+use Rattle.std.specs.Prelude.{◌≡◌, ℕ, Bool, true, false, List, ◌++◌, Option, Result, Ok, Err}
+use Rattle.std.specs.Io.KnownBytes.{Appends}
+use Rattle.vm_types.specs.State.{State}
+use Rattle.vm_store.specs.declared.store.Store.{Store}
+use Rattle.vm_cli.specs.Carried.{Begins, Carries}
+use Rattle.vm_cli.specs.Lines.{lines_of}
+use Rattle.vm_cli.specs.Replies.{ends_talk, reply_text}
+use Rattle.vm_cli.specs.Talk.{AnsweredRequest, Handled, HasTalked}
+use Rattle.vm_cli.specs.declared.reply.Reply.{Reply}
+use Rattle.vm_cli.specs.declared.request.Request.{Request}
+use Rattle.vm_cli.specs.declared.talk.ServeFault.{ServeFault}
+use Rattle.vm_cli.specs.declared.talk.ServeFault.TheVariants as fault
+use Rattle.vm_cli.specs.declared.writing.WriteFault.{WriteFault}
+
+-- a reply ends an answer, and of what stands before it the rest is still to be written; `IsAnswer` tells of a text, and of whether
+-- the talk ends with it, if it is the answer
+pub record Replied (IsAnswer : List ℕ → Bool → Type 0) (reply : Reply) (before after : Option (List ℕ)) (rest : List ℕ) : Type 0 where
+  pub whole : List ℕ
+  pub says : IsAnswer (whole ++ reply_text reply) (ends_talk reply)
+  pub carries : Carries before after rest whole
+
+-- the writer failed, after a beginning of an answer
+pub record Halted (IsAnswer : List ℕ → Bool → Type 0) (before after : Option (List ℕ)) : Type 0 where
+  pub whole : List ℕ
+  pub ends : Bool
+  pub says : IsAnswer whole ends
+  pub begins : Begins before after whole
+
+-- what a call that gives a reply did to the writer, which it may have failed
+abbrev pub Replies : (List ℕ → Bool → Type 0) → Result Reply WriteFault → Option (List ℕ) → Option (List ℕ) → List ℕ → Type 0
+Replies IsAnswer (Ok reply) before after rest = Replied IsAnswer reply before after rest
+Replies IsAnswer (Err fault) before after rest = Halted IsAnswer before after
+
+-- an answer was written whole, and the talk goes on or ends with it; or a beginning of it, where the writer failed
+abbrev pub Writes : {T : Type 0} → (List ℕ → Bool → Type 0) → Result T ServeFault → Option (List ℕ) → Option (List ℕ) → Type 0
+Writes IsAnswer (Ok t) before after = (text : List ℕ) × IsAnswer text false × Appends before after text
+Writes IsAnswer (Err fault.Read) before after = ⊥
+Writes IsAnswer (Err fault.Store) before after = (text : List ℕ) × IsAnswer text true × Appends before after text
+Writes IsAnswer (Err fault.Write) before after = (text : List ℕ) × (ends : Bool) × IsAnswer text ends × Begins before after text
+
+module _ {D : Type 0} {members : _} where
+  -- a request was answered so
+  abbrev pub HandlesRequest : Store D members → Store D members → State → Request → List ℕ → Bool → Type 0
+  HandlesRequest old new s request text ends = Handled old new s ends (AnsweredRequest old new s request text ends)
+
+  -- these bytes, after `from` of a line, were answered up to `to` of a line
+  pub record Fed (old new : Store D members) (s : State) (bytes from to : List ℕ) (before after : Option (List ℕ)) : Type 0 where
+    pub lines : List (List ℕ)
+    pub text : List ℕ
+    pub cut : (more : List ℕ) → lines_of (from ++ (bytes ++ more)) ≡ lines ++ lines_of (to ++ more)
+    pub talked : HasTalked old new s lines text
+    pub written : Appends before after text
