@@ -102,13 +102,14 @@ module _ {D : Type 0} {members : _} where
   abbrev pub Failing : Store D members → Store D members → Type 0
   Failing old new = (members.state old.disk).failures < (members.state new.disk).failures
 
-  -- the disk of the one store went over into that of the other: by device calls alone, and what it held before is past
+  -- what the device was asked for took the disk of the one store to that of the other, and what it held before is now past
   pub record Passes (old new : Store D members) : Type 0 where
     pub goes : Goes ⊥ (members.state old.disk) (members.state new.disk)
     pub since : Throughout (members.state old.disk) (members.state new.disk) (λ m. Unit {0})
 
-  -- a store that stood for the state carried out a command: its answer is the one that is due, among them 13 exactly where too
-  -- few blocks are spare, or 15, after which the store has failed, and that only where the device did
+  -- a store that stood for the state carried out a command. Its answer is the one that is due, where Full and Deep come on their
+  -- conditions and Memory to a Merge alone; or Device, where a device call failed, and then, and only then, the store has failed.
+  -- After a Reclaim just the spare blocks are free
   pub record Obeys (old new : Store D members) (s : State) (command : Command) (answer : Result Answer Refusal) : Type 0 where
     pub answers : (holds : Holds old s) → Answers old new s holds command answer
     pub failing : answer ≡ Err Device → Failing old new
@@ -187,8 +188,8 @@ module _ {D : Type 0} {members : _} where
     pub talked : HasTalked old mid s lines earlier
     pub handled : HandlesLine mid new (after s talked.commands talked.answers) line last ends
 
-  -- a talk over all these lines: at Ok each was answered; where the reader failed, the first ones; the store ended it by its answer
-  -- to one of them; and where the writer failed, only a beginning of the texts was written
+  -- a talk over all these lines. At Ok each was answered; at Read the first of them were; at Store the answer to one of them ended
+  -- the talk; and at Write the writer failed in the answer to one of them, and only a beginning of the texts was written
   abbrev pub ServesLines : {T : Type 0} → Store D members → Store D members → State → Result T ServeFault → Option (List ℕ) → Option (List ℕ) → List (List ℕ) → Type 0
   ServesLines old new s (Ok t) before after all = (text : List ℕ) × HasTalked old new s all text × Appends before after text
   ServesLines old new s (Err fault.Read) before after all =

@@ -41,16 +41,16 @@ pub enum ServeFault {
     Store,
 }
 
-/// Reads lines to the end of the input, and answers each, in their order. What a fault left
-/// unanswered was not carried out.
+/// Reads lines to the end of the input, and answers each, in their order. A fault ends the talk: no
+/// later line is carried out.
 pub fn serve<R: Read, W: Write, D: Disk>(
     alloc: Global,
     reader: &mut R,
     writer: &mut W,
     store: &mut Store<D>,
 ) -> Result<(), ServeFault>
-    // On any disk the talk ends with Store only where the device failed in it, or the store had failed before, and then
-    // leaves the store as it was.
+    // On any disk the talk ends with Store only where a device call failed in it, or the store had failed before; such a
+    // store is left as it was.
     ensures goes { Goes ⊥ (D.state (disk_of store.old)) (D.state (disk_of store.new)) }
     ensures ok { has_failed store.old ≡ false → OnOk result (has_failed store.new ≡ false) }
     ensures err { has_failed store.old ≡ false → IfErr result (λ fault. fault ≡ ServeFault.Store → (has_failed store.new ≡ true) × Failing store.old store.new) }

@@ -183,24 +183,28 @@ fn answers_that_the_store_had_failed(rt: HostRuntime) -> Result<(), Fail> {
     Ok(())
 }
 
-#[test]
-fn goes_on_over_lines_that_ask_a_failed_store_nothing(rt: HostRuntime) -> Result<(), Fail> {
-    let mut store = store_that_will_fail(&rt)?;
-    let (_, ended) = served(rt.alloc(), &mut store, b"put top 1 1 a\n");
-    assert!(rt; ended);
-    let mut lines = Vec::new(rt.alloc());
+/// A line that is too long, an empty one, and one that asks for nothing that there is.
+fn lines_without_a_request(alloc: Global) -> Result<Vec<u8>, Fail> {
+    let mut lines = Vec::new(alloc);
     for _ in 0..1_048_577 {
         lines.push(b'a')?;
     }
     lines.extend_from_slice(b"\n\nnonsense\n")?;
+    Ok(lines)
+}
+
+#[test]
+fn goes_on_over_lines_that_ask_a_failed_store_nothing(rt: HostRuntime) -> Result<(), Fail> {
+    let lines = lines_without_a_request(rt.alloc())?;
+    let mut store = store_that_will_fail(&rt)?;
+    let (_, ended) = served(rt.alloc(), &mut store, b"put top 1 1 a\n");
+    assert!(rt; ended);
     let mut input = lines.as_slice();
     let mut output = Vec::new(rt.alloc());
     let served = serve(rt.alloc(), &mut input, &mut output, &mut store);
     assert!(rt; served.is_ok());
-    assert_eq!(rt;
-        output.as_slice(),
-        b"error 23 LongLine\nerror 22 BadLine\n".as_slice()
-    );
+    let answers = b"error 23 LongLine\nerror 22 BadLine\n".as_slice();
+    assert_eq!(rt; output.as_slice(), answers);
     let _disk = store.close();
     Ok(())
 }
