@@ -3,8 +3,8 @@ ghost use Rattle.std.specs.Prelude.{◌≡◌, ◌≢◌, IfOk, OnOk, OnErr};
 ghost use Rattle.vm_types.specs.Shape.{shape};
 ghost use Rattle.vm_types.specs.State.{opened, next};
 ghost use Rattle.vm_types.specs.Tree.{fresh};
-ghost use Rattle.vm_store.specs.Answers.{value_in};
-ghost use Rattle.vm_store.specs.Listing.{IsList, records_in, checkpoints_in, changes_in, conflicts_in};
+ghost use Rattle.vm_types.specs.Queries.{value_in};
+ghost use Rattle.vm_types.specs.Queries.{IsList, records_in, checkpoints_in, changes_in, conflicts_in};
 ghost use Rattle.plain_model.specs.Plain.{IsAnswer};
 
 use crate::alternative::{self, Alternative};

@@ -12,8 +12,8 @@ use Rattle.vm_types.specs.Shape.{shape}
 use Rattle.vm_types.specs.State.{State, after, next}
 use Rattle.vm_disk.specs.Disk.{Goes}
 use Rattle.vm_disk.specs.Moments.{Throughout}
-use Rattle.vm_store.specs.Answers.{value_in}
-use Rattle.vm_store.specs.Listing.{changes_in, checkpoints_in, conflicts_in, records_in}
+use Rattle.vm_types.specs.Queries.{value_in}
+use Rattle.vm_types.specs.Queries.{changes_in, checkpoints_in, conflicts_in, records_in}
 use Rattle.vm_store.specs.Resting.{spare_of}
 use Rattle.vm_store.specs.Store.{Answers, Holds, free_of, has_failed}
 use Rattle.vm_store.specs.declared.store.Store.{Store}

@@ -9,7 +9,7 @@ use Rattle.vm_store.specs.Versions.{is_alternative_of}
 use Rattle.vm_store.specs.declared.versions.Version.{Version}
 use Rattle.vm_store.specs.Faults.{refusal_of}
 use Rattle.vm_tree.specs.Answers.{Lists}
-use Rattle.vm_store.specs.Listing.{IsList, records_of, records_in}
+use Rattle.vm_types.specs.Queries.{IsList, records_of, records_in}
 use Rattle.vm_store.specs.Sides.{ReadsOr}
 use Rattle.vm_store.specs.Resting.{Rests}
 use Rattle.vm_tree.specs.declared.root.TreeFault.{TreeFault}

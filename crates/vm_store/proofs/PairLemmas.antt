@@ -20,7 +20,7 @@ use Rattle.vm_disk.specs.Disk.{Medium}
 use Rattle.vm_alloc.specs.Held.{IsHeld}
 use Rattle.vm_block.specs.Slot as slot
 use Rattle.vm_block.specs.Slot.{SlotFits, is_alternative}
-use Rattle.vm_store.specs.Listing.{conflicts_with, conflicts_under, conflicts_of, conflicts_in}
+use Rattle.vm_types.specs.Queries.{conflicts_with, conflicts_under, conflicts_of, conflicts_in}
 use Rattle.vm_store.specs.Pairs.{IsPair, LacksPair}
 use Rattle.vm_store.specs.Resting.{Rests}
 use Rattle.vm_store.specs.Versions.{entry_of, slot_entries, is_alternative_of, with_current, with_base}

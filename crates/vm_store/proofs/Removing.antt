@@ -27,7 +27,8 @@ use Rattle.vm_tree.specs.Free.{is_free}
 use Rattle.vm_store.specs.Faults.{refusal_of}
 use Rattle.vm_store.specs.Sizes.{sizes}
 use Rattle.vm_store.specs.Resting.{Rests, spare_of}
-use Rattle.vm_store.specs.Answers.{value_in, value_of, IsDue, IsAnswer}
+use Rattle.vm_types.specs.Queries.{value_in, value_of}
+use Rattle.vm_store.specs.Answers.{IsDue, IsAnswer}
 use Rattle.vm_tree.specs.declared.root.TreeFault.{TreeFault}
 use Rattle.vm_tree.specs.declared.root.TreeFault.TheVariants as fault
 use Rattle.vm_store.proofs.FiledLemmas.{is_filed, refiled, recurrent, grown_changed}

@@ -39,7 +39,8 @@ use Rattle.vm_store.specs.Sizes.{sizes}
 use Rattle.vm_store.specs.Filed.{Filed, Standing, tree_of}
 use Rattle.vm_store.specs.Shown.{Shows}
 use Rattle.vm_store.specs.Resting.{IsSafe, Rests}
-use Rattle.vm_store.specs.Answers.{value_in, value_of, LacksRoom, IsDue, IsAnswer}
+use Rattle.vm_types.specs.Queries.{value_in, value_of}
+use Rattle.vm_store.specs.Answers.{LacksRoom, IsDue, IsAnswer}
 use Rattle.vm_store.specs.Roots.{current_root}
 use Rattle.vm_store.specs.Versions.{slot_entries, is_alternative_of, with_current}
 use Rattle.vm_store.specs.declared.versions.Version.{Version}

@@ -33,7 +33,7 @@ use Rattle.vm_block.specs.declared.slot.Kind.TheVariants as kind
 use Rattle.vm_store.specs.declared.versions.Version.{Version}
 use Rattle.vm_store.specs.Answers.{IsDue, IsAnswer}
 use Rattle.vm_store.specs.Versions.{entry_of, slot_entries, is_alternative_of, is_checkpoint_under, is_checkpoint_of, is_child_of, is_apart, alternatives_among, checkpoints_among, with_tops}
-use Rattle.vm_store.specs.Listing.{checkpoints_of, checkpoints_in}
+use Rattle.vm_types.specs.Queries.{checkpoints_of, checkpoints_in}
 use Rattle.vm_store.specs.Filed.{Filed, StandsAs, Standing, saved_of, bare, with_saved, grown, tree_of}
 use Rattle.vm_store.specs.Resting.{Rests}
 use Rattle.vm_store.specs.Shown.{Shows}

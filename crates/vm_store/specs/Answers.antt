@@ -56,11 +56,3 @@ IsMergeAnswer s spare deep alt settled result =
 abbrev pub IsMerge : Command → Type 0
 IsMerge (Merge alt settled) = Unit {0}
 IsMerge command = ⊥
-
--- the value that an alternative has at a key, or that there is no such alternative
-abbrev pub value_of : Option Alternative → Key → Result (Option (List ℕ)) Refusal
-value_of None key = Err NoSuchAlternative
-value_of (Some a) key = Ok (get a.current key)
-
-abbrev pub value_in : Tree → List ℕ → Key → Result (Option (List ℕ)) Refusal
-value_in tree alt key = value_of (named tree alt) key

@@ -4,7 +4,6 @@ pub mod Faults
 pub mod Filed
 pub mod Formatting
 pub mod Guarded
-pub mod Listing
 pub mod Marking
 pub mod Merging
 pub mod Opening

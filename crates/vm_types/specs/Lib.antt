@@ -9,6 +9,7 @@ pub mod Moments
 pub mod Name
 pub mod Outcomes
 pub mod Places
+pub mod Queries
 pub mod Shape
 pub mod State
 pub mod Step

@@ -4,7 +4,7 @@ ghost use Rattle.vm_types.specs.State.{State, next};
 ghost use Rattle.vm_types.specs.Kept.{LeftBy};
 ghost use Rattle.vm_disk.specs.Disk.{Goes};
 ghost use Rattle.vm_disk.specs.Moments.{Throughout, Leaves};
-ghost use Rattle.vm_store.specs.Listing.{checkpoints_in};
+ghost use Rattle.vm_types.specs.Queries.{checkpoints_in};
 ghost use Rattle.vm_store.specs.Shown.{Shows};
 
 use super::Store;

@@ -3,7 +3,7 @@ ghost use Rattle.std.specs.Prelude.{◌≡◌, ◌≢◌, true, false};
 ghost use Rattle.vm_types.specs.State.{State};
 ghost use Rattle.vm_disk.specs.Disk.{Goes};
 ghost use Rattle.vm_disk.specs.Moments.{OnlyReads};
-ghost use Rattle.vm_store.specs.Listing.{IsList, changes_in, conflicts_in};
+ghost use Rattle.vm_types.specs.Queries.{IsList, changes_in, conflicts_in};
 
 use super::Store;
 use crate::faults::refusal_of;

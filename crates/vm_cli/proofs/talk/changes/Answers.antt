@@ -1,5 +1,5 @@
 use Rattle.std.proofs.Common.{Err, ap, refl, ◌∙◌}
-use Rattle.vm_store.specs.Listing.{changes_in}
+use Rattle.vm_types.specs.Queries.{changes_in}
 use Rattle.vm_store.specs.Store.{has_failed}
 use Rattle.vm_cli.specs.Feeding.{HandlesRequest}
 use Rattle.vm_cli.specs.Listings.{change_text}

@@ -1,7 +1,7 @@
 use Rattle.std.proofs.Common.{sym, refl, ◌≡◌, ◌⊎◌, inl, inr}
 use Rattle.vm_types.specs.declared.refusal.Refusal.{Refusal}
 use Rattle.vm_types.specs.declared.refusal.Refusal.TheVariants.{Device, Failed, Memory, NoSuchAlternative}
-use Rattle.vm_store.specs.Listing.{checkpoints_in}
+use Rattle.vm_types.specs.Queries.{checkpoints_in}
 use Rattle.vm_store.specs.Store.{has_failed}
 use Rattle.vm_cli.specs.Feeding.{HandlesRequest}
 use Rattle.vm_cli.specs.Listings.{checkpoint_text}

@@ -1,5 +1,5 @@
 use Rattle.std.proofs.Common.{Ok, Err, ap, refl, ◌∙◌}
-use Rattle.vm_store.specs.Answers.{value_in}
+use Rattle.vm_types.specs.Queries.{value_in}
 use Rattle.vm_store.specs.Store.{has_failed}
 use Rattle.vm_cli.specs.Talk.{Failing}
 use Rattle.vm_cli.specs.declared.request.Request.TheVariants as request

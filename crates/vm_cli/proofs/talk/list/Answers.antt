@@ -1,6 +1,6 @@
 use Rattle.std.proofs.Common.{ℕ, List, Err, ap, refl, ◌∙◌}
 use Rattle.vm_types.specs.declared.key.Key.{Key}
-use Rattle.vm_store.specs.Listing.{records_in}
+use Rattle.vm_types.specs.Queries.{records_in}
 use Rattle.vm_store.specs.Store.{has_failed}
 use Rattle.vm_cli.specs.Feeding.{HandlesRequest}
 use Rattle.vm_cli.specs.Listings.{record_text}

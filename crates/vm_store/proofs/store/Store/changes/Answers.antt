@@ -1,5 +1,5 @@
 use Rattle.std.proofs.Common.{◌≡◌, find, None, Some, Ok, inr, ap, sym, ◌∙◌, subst}
-use Rattle.vm_store.specs.Listing.{changes_of}
+use Rattle.vm_types.specs.Queries.{changes_of}
 use Rattle.vm_store.specs.Sizes.{sizes}
 use Rattle.vm_store.specs.Versions.{is_alternative_of}
 use Rattle.vm_store.proofs.Listing.{list_refused}

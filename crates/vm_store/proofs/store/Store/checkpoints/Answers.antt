@@ -2,7 +2,7 @@ use Rattle.std.proofs.Common.{◌≡◌, List, Ok, inr, not, ap, sym, ◌∙◌}
 use Rattle.vm_store.specs.Versions.{is_alternative_of}
 use Rattle.vm_store.specs.declared.versions.Version.{Version}
 use Rattle.vm_store.specs.Versions.{checkpoints_among}
-use Rattle.vm_store.specs.Listing.{checkpoints_in}
+use Rattle.vm_types.specs.Queries.{checkpoints_in}
 use Rattle.vm_store.proofs.VersionLemmas.{some_in, none_in, checkpoints_listed, checkpoints_absent, if_ok_so}
 use Rattle.vm_store.proofs.store.Store.checkpoints.Goals as goal
 

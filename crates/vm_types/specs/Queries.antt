@@ -1,12 +1,21 @@
--- What a query answers that lists things.
+-- What the model's queries give.
 use Rattle.std.specs.Prelude.{◌≡◌, ◌⊎◌, ℕ, List, Option, Some, None, Result, Ok, Err, Vec}
 use Rattle.vm_types.specs.declared.refusal.Refusal.{Refusal}
 use Rattle.vm_types.specs.declared.refusal.Refusal.TheVariants.{NoSuchAlternative, IsTop, Device, Memory}
 use Rattle.vm_types.specs.declared.change.Change.{Change}
 use Rattle.vm_types.specs.declared.change.Conflict.{Conflict}
-use Rattle.vm_types.specs.Map.{Map, delta, conflicts}
+use Rattle.vm_types.specs.declared.key.Key.{Key}
+use Rattle.vm_types.specs.Map.{Map, get, delta, conflicts}
 use Rattle.vm_types.specs.Shape.{saved_names}
 use Rattle.vm_types.specs.Tree.{Tree, Alternative, named}
+
+-- the value that an alternative has at a key, or that there is no such alternative
+abbrev pub value_of : Option Alternative → Key → Result (Option (List ℕ)) Refusal
+value_of None key = Err NoSuchAlternative
+value_of (Some a) key = Ok (get a.current key)
+
+abbrev pub value_in : Tree → List ℕ → Key → Result (Option (List ℕ)) Refusal
+value_in tree alt key = value_of (named tree alt) key
 
 -- the records of an alternative, or that there is no such alternative
 abbrev pub records_of : Option Alternative → Result Map Refusal
