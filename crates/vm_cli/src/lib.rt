@@ -8,6 +8,7 @@
 
 mod escape;
 mod file;
+mod help;
 mod line;
 mod listing;
 mod number;

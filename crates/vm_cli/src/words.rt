@@ -3,8 +3,9 @@ ghost use Rattle.clap.specs.Words.{IsAmong, app_of, fault_of, kind_of, one_of, r
 ghost use Rattle.clap.specs.declared.builder.command.Command.TheViews.{out-Command};
 ghost use Rattle.std.specs.Prelude.{◌≡◌, ◌⊎◌, IfErr, IfOk, None, Some, false, map, ℕ, List, option_map, option_and_then, codes};
 ghost use Rattle.std.specs.String.{string_bytes};
-ghost use Rattle.vm_cli.specs.Words.{altctl, asked_by, asked_of, blocks_rule, create_app, file_rule, number_in, run_app, wanted_of};
+ghost use Rattle.vm_cli.specs.Words.{altctl, asked_by, asked_of, blocks_rule, create_app, file_rule, number_in, run_app, top_app, wanted_of};
 
+use crate::help;
 use crate::task::Job;
 use clap::error::ErrorKind;
 use clap::{Arg, ArgMatches, Command, Error, value_parser};
@@ -66,12 +67,22 @@ fn blocks_of(matches: &ArgMatches<'_>) -> Option<u32>
 fn command<'a>(alloc: Global) -> Result<Command<'a>, AllocError>
     ensures { IfOk result (λ c. app_of c ≡ altctl) }
 {
-    Command::new(alloc, "altctl")
-        .bin_name("altctl")?
-        .about("A version managed map store with alternatives")
-        .subcommand_required(true)
+    top(alloc)?
         .subcommand(create(alloc)?)?
         .subcommand(run(alloc)?)
+}
+
+fn top<'a>(alloc: Global) -> Result<Command<'a>, AllocError>
+    ensures { IfOk result (λ c. app_of c ≡ top_app) }
+{
+    Ok(
+        Command::new(alloc, "altctl")
+            .bin_name("altctl")?
+            .about("A version managed map store with alternatives")
+            .long_about(help::ALTCTL)
+            .after_long_help(help::ALTCTL_AFTER)
+            .subcommand_required(true),
+    )
 }
 
 fn create<'a>(alloc: Global) -> Result<Command<'a>, AllocError>
@@ -80,7 +91,9 @@ fn create<'a>(alloc: Global) -> Result<Command<'a>, AllocError>
 {
     Command::new(alloc, "create")
         .about("Makes a file with an empty store")
-        .arg(file(alloc))?
+        .long_about(help::CREATE)
+        .after_long_help(help::CREATE_AFTER)
+        .arg(file(alloc, help::CREATE_FILE))?
         .arg(blocks(alloc))
 }
 
@@ -90,14 +103,19 @@ fn run<'a>(alloc: Global) -> Result<Command<'a>, AllocError>
 {
     Command::new(alloc, "run")
         .about("Opens a store and answers the lines of the standard input")
-        .arg(file(alloc))
+        .long_about(help::RUN)
+        .after_long_help(help::RUN_AFTER)
+        .arg(file(alloc, help::RUN_FILE))
 }
 
-fn file<'a>(alloc: Global) -> Arg<'a>
+fn file<'a>(alloc: Global, about: &'a str) -> Arg<'a>
     ensures rule { rule_of result ≡ file_rule }
     ensures local { result.global ≡ false }
 {
-    Arg::new(alloc, "file").value_name("FILE").required(true)
+    Arg::new(alloc, "file")
+        .value_name("FILE")
+        .help(about)
+        .required(true)
 }
 
 fn blocks<'a>(alloc: Global) -> Arg<'a>
@@ -106,6 +124,7 @@ fn blocks<'a>(alloc: Global) -> Arg<'a>
 {
     Arg::new(alloc, "blocks")
         .value_name("BLOCKS")
+        .help(help::CREATE_BLOCKS)
         .required(true)
         .value_parser(value_parser!(u32).range(64..=1_048_576))
 }

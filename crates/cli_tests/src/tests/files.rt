@@ -28,15 +28,6 @@ fn makes_no_file_out_of_range(rt: HostRuntime) -> Result<(), Fail> {
 }
 
 #[test]
-fn gives_help(rt: HostRuntime) -> Result<(), Fail> {
-    let mut shelf = Shelf::new(rt.alloc());
-    let help = ran(rt.alloc(), &mut shelf, ["altctl", "--help"].as_slice(), b"")?;
-    assert_eq!(rt; help.status, 0);
-    assert!(rt; help.faults.is_empty() && !help.output.is_empty());
-    Ok(())
-}
-
-#[test]
 fn opens_only_stores(rt: HostRuntime) -> Result<(), Fail> {
     let mut shelf = Shelf::new(rt.alloc());
     let absent = ran(rt.alloc(), &mut shelf, RUN.as_slice(), b"")?;

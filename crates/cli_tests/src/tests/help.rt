@@ -1,0 +1,185 @@
+//! Help, the sessions that it shows, and words that are wrong.
+use super::{Shelf, ran};
+use std::process::Abort;
+use std::test::Fail;
+
+/// The session of the program's help, each line with its answer.
+const SHORT_SESSION: [(&str, &str); 6] = [
+    ("new a top", "ok"),
+    ("put a 7 1 duct", "ok"),
+    ("get a 7 1", "value duct"),
+    ("post a", "ok"),
+    ("get top 7 1", "value duct"),
+    ("commit", "ok"),
+];
+
+/// The session of the help of `run`.
+const LONG_SESSION: [(&str, &str); 9] = [
+    ("new a top", "ok"),
+    ("put top 7 1 duct", "ok"),
+    ("put a 7 1 cable%20A", "ok"),
+    ("merge a", "error 9 Unsettled 1"),
+    ("conflicts a", "conflict 7 1 ~ duct cable%20A\n  end 1"),
+    ("merge a 7:1=mine", "ok 0"),
+    ("post a", "ok"),
+    ("get top 7 1", "value cable%20A"),
+    ("commit", "ok"),
+];
+
+/// The text that is shown to one who asks for help, on the output alone and with status 0.
+fn shown<R: AllocGlobal + Abort>(rt: &R, words: &[&str]) -> Result<String, Fail> {
+    let mut shelf = Shelf::new(rt.alloc());
+    let help = ran(rt.alloc(), &mut shelf, words, b"")?;
+    assert_eq!(rt; help.status, 0);
+    assert!(rt; help.faults.is_empty());
+    Ok(String::from_utf8(help.output)?)
+}
+
+/// The session as help shows it: each line after `> `, its answer below it.
+fn session_text<R: AllocGlobal>(rt: &R, session: &[(&str, &str)]) -> Result<String, Fail> {
+    let mut text = String::new(rt.alloc());
+    for (line, answer) in session {
+        text.push_str("  > ")?;
+        text.push_str(line)?;
+        text.push_str("\n  ")?;
+        text.push_str(answer)?;
+        text.push_str("\n")?;
+    }
+    Ok(text)
+}
+
+/// What the lines of a session are answered, over a new store of 1,024 blocks.
+fn answered<R: AllocGlobal + Abort>(rt: &R, session: &[(&str, &str)]) -> Result<String, Fail> {
+    let mut shelf = Shelf::new(rt.alloc());
+    let create = ["altctl", "create", "map.alt", "1024"];
+    let made = ran(rt.alloc(), &mut shelf, create.as_slice(), b"")?;
+    made.expect(rt, 0, b"created 1024\n", b"");
+    let mut text = String::new(rt.alloc());
+    for (line, _) in session {
+        text.push_str(line)?;
+        text.push_str("\n")?;
+    }
+    let run = ["altctl", "run", "map.alt"];
+    let answers = ran(rt.alloc(), &mut shelf, run.as_slice(), text.as_bytes())?;
+    assert_eq!(rt; answers.status, 0);
+    Ok(String::from_utf8(answers.output)?)
+}
+
+/// The answers of a session alone, each on a line of its own.
+fn answers_of<R: AllocGlobal>(rt: &R, session: &[(&str, &str)]) -> Result<String, Fail> {
+    let mut text = String::new(rt.alloc());
+    for (_, answer) in session {
+        for line in answer.lines() {
+            text.push_str(line.trim())?;
+            text.push_str("\n")?;
+        }
+    }
+    Ok(text)
+}
+
+#[test]
+fn shows_what_the_program_is(rt: HostRuntime) -> Result<(), Fail> {
+    let text = shown(&rt, ["altctl", "--help"].as_slice())?;
+    for part in ["Usage: altctl <COMMAND>", "  create  ", "  run  "] {
+        assert!(rt; text.contains(part));
+    }
+    assert!(rt; text.contains("  $ altctl create map.alt 1024\n  created 1024\n"));
+    assert!(rt; text.contains("  $ altctl run map.alt\n  > new a top\n"));
+    assert!(rt; text.contains(session_text(&rt, SHORT_SESSION.as_slice())?.as_str()));
+    Ok(())
+}
+
+#[test]
+fn shows_how_to_choose_the_blocks(rt: HostRuntime) -> Result<(), Fail> {
+    let text = shown(&rt, ["altctl", "create", "--help"].as_slice())?;
+    for part in [
+        "Usage: altctl create <FILE> <BLOCKS>",
+        "64 to 1048576",
+        "4,096 bytes",
+        "docs/OPERATING.md",
+        "  $ altctl create map.alt 1024\n  created 1024\n",
+    ] {
+        assert!(rt; text.contains(part));
+    }
+    Ok(())
+}
+
+#[test]
+fn shows_all_lines(rt: HostRuntime) -> Result<(), Fail> {
+    let text = shown(&rt, ["altctl", "run", "--help"].as_slice())?;
+    assert!(rt; text.contains("Usage: altctl run <FILE>"));
+    for line in [
+        "new NAME PARENT",
+        "drop ALT",
+        "put ALT TABLE NUMBER VALUE",
+        "remove ALT TABLE NUMBER",
+        "checkpoint ALT NAME",
+        "uncheck ALT NAME",
+        "back ALT NAME",
+        "merge ALT SETTLEMENT ..",
+        "post ALT",
+        "commit",
+        "reclaim",
+        "get ALT TABLE NUMBER",
+        "list ALT",
+        "alts",
+        "free",
+        "checks ALT",
+        "changes ALT",
+        "conflicts ALT",
+    ] {
+        let mut row = String::from_str(rt.alloc(), "\n    ")?;
+        row.push_str(line)?;
+        row.push_str("  ")?;
+        assert!(rt; text.contains(row.as_str()));
+    }
+    assert!(rt; text.contains("  $ altctl run map.alt\n  > new a top\n"));
+    assert!(rt; text.contains(session_text(&rt, LONG_SESSION.as_slice())?.as_str()));
+    Ok(())
+}
+
+#[test]
+fn answers_as_help_shows(rt: HostRuntime) -> Result<(), Fail> {
+    for session in [SHORT_SESSION.as_slice(), LONG_SESSION.as_slice()] {
+        let answers = answered(&rt, session)?;
+        assert_eq!(rt; answers.as_str(), answers_of(&rt, session)?.as_str());
+    }
+    Ok(())
+}
+
+#[test]
+fn shows_help_in_eighty_columns(rt: HostRuntime) -> Result<(), Fail> {
+    for words in [
+        ["altctl", "help"].as_slice(),
+        ["altctl", "-h"].as_slice(),
+        ["altctl", "help", "create"].as_slice(),
+        ["altctl", "help", "run"].as_slice(),
+        ["altctl", "create", "--help"].as_slice(),
+        ["altctl", "run", "--help"].as_slice(),
+        ["altctl", "run", "-h"].as_slice(),
+    ] {
+        let text = shown(&rt, words)?;
+        assert!(rt; !text.is_empty() && text.lines().all(|line| line.len() <= 80));
+    }
+    Ok(())
+}
+
+#[test]
+fn refuses_wrong_words(rt: HostRuntime) -> Result<(), Fail> {
+    let mut shelf = Shelf::new(rt.alloc());
+    for words in [
+        ["altctl"].as_slice(),
+        ["altctl", "make", "f"].as_slice(),
+        ["altctl", "help", "make"].as_slice(),
+        ["altctl", "create", "f"].as_slice(),
+        ["altctl", "create", "f", "64", "64"].as_slice(),
+        ["altctl", "run"].as_slice(),
+        ["altctl", "run", "f", "g"].as_slice(),
+        ["altctl", "run", "--fast", "f"].as_slice(),
+    ] {
+        let refused = ran(rt.alloc(), &mut shelf, words, b"")?;
+        assert_eq!(rt; refused.status, 2);
+        assert!(rt; refused.output.is_empty() && !refused.faults.is_empty());
+    }
+    Ok(())
+}

@@ -1,0 +1,167 @@
+//! The texts of help. In a session, a line after `> ` is the input's, and those below it are the
+//! answer.
+
+/// What the program is.
+pub const ALTCTL: &str = "\
+A version managed map store with alternatives.
+
+One file holds one map database in many versions. Alternatives form a tree
+under top: each is changed record by record, checkpointed, merged with what its
+parent changed since, and posted to its parent. A commit makes all of it last.
+Versions share every block that they have in common.";
+
+/// How a store is made and used.
+pub const ALTCTL_AFTER: &str = "\
+A session, where each line after > is typed, and its answer stands below it:
+
+  $ altctl create map.alt 1024
+  created 1024
+  $ altctl run map.alt
+  > new a top
+  ok
+  > put a 7 1 duct
+  ok
+  > get a 7 1
+  value duct
+  > post a
+  ok
+  > get top 7 1
+  value duct
+  > commit
+  ok
+
+What was not committed is gone when the input ends. altctl create --help says
+how many blocks to take, altctl run --help lists all lines and answers.
+
+Status: 0 where all was done, though single lines may have been refused; 1 where
+the file could not be made or opened, or is refused; 2 where the words are
+wrong; 3 where the store failed, the input could not be read or an output could
+not be written.";
+
+/// What `create` does.
+pub const CREATE: &str = "\
+Makes a file with an empty store, and prints the number of its blocks.";
+
+/// The file that `create` makes.
+pub const CREATE_FILE: &str = "The file to make, which must not exist";
+
+/// The number of blocks that `create` takes.
+pub const CREATE_BLOCKS: &str = "How many blocks it has: 64 to 1048576";
+
+/// How many blocks to take.
+pub const CREATE_AFTER: &str = "\
+A block has 4,096 bytes: 64 blocks are 256 KiB, 524,288 are 2 GiB, and 1,048,576
+are 4 GiB. A store cannot grow, so choose with room to spare:
+
+  - 34 blocks are the store's own.
+  - A block holds at most 16 records, and 9 to 11 as they usually come: a
+    million records take 90,000 to 112,000 blocks.
+  - Versions share what they have in common: a changed record takes the blocks
+    of one path through its tree, from one to eight.
+  - Keep a tenth of the blocks spare. Where fewer than 16 are, each change is
+    refused: error 13 Full.
+
+docs/OPERATING.md says more.
+
+A session:
+
+  $ altctl create map.alt 1024
+  created 1024";
+
+/// What `run` does.
+pub const RUN: &str = "\
+Opens a store and answers the lines of the standard input, one after another,
+until it ends. What was not committed is gone then.";
+
+/// The file that `run` opens.
+pub const RUN_FILE: &str = "The file, as altctl create has made it";
+
+/// The lines that `run` answers.
+pub const RUN_AFTER: &str = "\
+Lines, by what they are about, each with what it does and its answer:
+
+  Records
+    put ALT TABLE NUMBER VALUE  gives a record a value: ok
+    remove ALT TABLE NUMBER     takes a record out: ok
+
+  Alternatives
+    new NAME PARENT             adds an alternative under a parent: ok
+    drop ALT                    takes an alternative out: ok
+
+  Checkpoints
+    checkpoint ALT NAME         names the present state: ok
+    back ALT NAME               goes back to a checkpoint: ok
+    uncheck ALT NAME            takes a checkpoint out: ok
+
+  Merging
+    merge ALT SETTLEMENT ..     brings in what changed in the parent:
+                                ok N, with the number of records changed
+    post ALT                    makes its state the parent's: ok
+
+  Store
+    commit                      makes all changes last: ok
+    reclaim                     frees each block that no version needs: ok
+    free                        the number of free blocks: free N
+
+  Queries
+    get ALT TABLE NUMBER        reads a record: value VALUE, or none
+    list ALT                    all records:
+                                record TABLE NUMBER VALUE for each
+    alts                        all alternatives:
+                                alternative NAME PARENT for each
+    checks ALT                  the checkpoints of an alternative:
+                                checkpoint NAME for each
+    changes ALT                 what changed since the base:
+                                change TABLE NUMBER BEFORE AFTER for each
+    conflicts ALT               what is in conflict with the parent:
+                                conflict TABLE NUMBER BASE PARENT MINE for each
+
+The last five end with a line end N, with the number of lines before it. In
+their lines ~ stands for no value or no parent.
+
+The first alternative is top. A name, ALT and PARENT too, has 1 to 32 ASCII
+letters, digits, _, - and . in it. TABLE is a number from 0 to 65535, NUMBER one
+from 0 to 18446744073709551615. A VALUE has up to 240 bytes; % and two
+hexadecimal digits are one byte, as in cable%20A, and - is the empty value. A
+merge has a SETTLEMENT for each record in conflict, TABLE:NUMBER=mine or
+TABLE:NUMBER=theirs. A line that is empty or begins with # has no answer.
+
+A line that is refused changes no record. Its answer is error, a number and a
+name:
+
+  Not there         1 NoSuchAlternative, 3 NoSuchCheckpoint, 5 NoSuchRecord
+  There already     2 AlternativeExists, 4 CheckpointExists
+  Not possible      6 IsTop, 7 HasChildren
+  Merge first       8 NotMerged
+  Settlements       9 Unsettled COUNT, 10 NotInConflict TABLE:NUMBER,
+                    11 SettledTwice TABLE:NUMBER
+  No room           12 TooMany, 13 Full, 14 Deep
+  Device, memory    15 Device, 16 Memory, 18 Damaged BLOCK
+  The line itself   22 BadLine, 23 LongLine
+
+Where 15 Device answers a change, the run ends: what was committed is there at
+the next one, and a commit that was answered so may be. docs/OPERATING.md says
+what helps in each case.
+
+A session, where each line after > is typed, and its answer stands below it:
+
+  $ altctl run map.alt
+  > new a top
+  ok
+  > put top 7 1 duct
+  ok
+  > put a 7 1 cable%20A
+  ok
+  > merge a
+  error 9 Unsettled 1
+  > conflicts a
+  conflict 7 1 ~ duct cable%20A
+  end 1
+  > merge a 7:1=mine
+  ok 0
+  > post a
+  ok
+  > get top 7 1
+  value cable%20A
+  > commit
+  ok";
