@@ -1,5 +1,9 @@
 pub mod Numbers
 pub mod Matches
+pub mod FaultFree
+pub mod Levels
+pub mod Entered
+pub mod Asked
 pub mod Parts
 pub mod Spaces
 pub mod Settlements

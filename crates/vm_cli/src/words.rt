@@ -1,5 +1,5 @@
 //! The words that the program is started with, read by `clap`.
-ghost use Rattle.clap.specs.Words.{IsAmong, app_of, fault_of, kind_of, one_of, rule_of, rows_of, found_of, first_of, subcommand_of, subcommand_rows_of};
+ghost use Rattle.clap.specs.Words.{FailsBy, app_of, fault_of, kind_of, one_of, rule_of, rows_of, found_of, first_of, subcommand_of, subcommand_rows_of};
 ghost use Rattle.clap.specs.declared.builder.command.Command.TheViews.{out-Command};
 ghost use Rattle.std.specs.Prelude.{◌≡◌, ◌⊎◌, IfErr, IfOk, None, Some, false, map, ℕ, List, option_map, option_and_then, codes};
 ghost use Rattle.std.specs.String.{string_bytes};
@@ -7,7 +7,6 @@ ghost use Rattle.vm_cli.specs.Words.{altctl, asked_by, asked_of, blocks_rule, cr
 
 use crate::help;
 use crate::task::Job;
-use clap::error::ErrorKind;
 use clap::{Arg, ArgMatches, Command, Error, value_parser};
 use std::alloc::{AllocError, Global};
 
@@ -22,14 +21,13 @@ pub const MOST_BLOCKS: u32 = 1_048_576;
 pub fn job<'a>(alloc: Global, words: &'a [String]) -> Result<Job<'a>, Error>
     ensures ok { IfOk result (λ j.
         asked_of (subcommand_of altctl (map string_bytes words.entry.now)) ≡ Some (wanted_of j)) }
-    ensures err { IfErr result (λ e. (kind_of e ≡ ErrorKind.OutOfMemory)
-        ⊎ (IsAmong (kind_of e) (fault_of altctl (map string_bytes words.entry.now))
-        ⊎ (asked_of (subcommand_of altctl (map string_bytes words.entry.now)) ≡ None))) }
+    // An Ok comes only where the parse has no fault, and an Err has the kind of its fault, or memory was wanting.
+    ensures faults { FailsBy (fault_of altctl (map string_bytes words.entry.now)) result }
 {
     let matches = command(alloc)?.try_get_matches_from(words)?;
     match asked(&matches) {
         Some(job) => Ok(job),
-        None => Err(command(alloc)?.error(ErrorKind::MissingSubcommand, "")?),
+        None => unreachable!(),
     }
 }
 
