@@ -18,3 +18,4 @@ pub mod HandledLemmas
 pub mod WritesLemmas
 pub mod FeedLemmas
 pub mod ServeLemmas
+pub mod ExitLemmas

@@ -1,5 +1,16 @@
--- The exit statuses.
-use Rattle.std.specs.Prelude.{ℕ}
+-- How the program ends, and what it has written then.
+use Rattle.std.specs.Fmt.{decimal}
+use Rattle.std.specs.Prelude.{◌≡◌, ◌⊎◌, ◌++◌, ℕ, List, [], ◌∷◌, Option, Some, codes}
+use Rattle.std.specs.Io.KnownBytes.{Appends}
+use Rattle.clap.specs.Words.{IsAmong, Text, fault_of, subcommand_of}
+use Rattle.clap.specs.declared.error.kind.ErrorKind.{ErrorKind}
+use Rattle.clap.specs.declared.error.kind.ErrorKind.TheVariants.{DisplayHelp, DisplayVersion}
+use Rattle.vm_types.specs.Texts.{refusal_text}
+use Rattle.vm_types.specs.declared.refusal.Refusal.{Refusal}
+use Rattle.vm_types.specs.declared.refusal.Refusal.TheVariants.{AlreadyAStore, BadSize, Device}
+use Rattle.vm_cli.specs.Carried.{Begins}
+use Rattle.vm_cli.specs.Words.{Wanted, altctl, asked_of}
+use Rattle.vm_cli.specs.Words.Wanted.{create, run}
 use Rattle.vm_cli.specs.declared.program.Exit.{Exit}
 use Rattle.vm_cli.specs.declared.program.Exit.TheVariants.{Done, Refused, WrongWords, Stopped}
 
@@ -9,3 +20,102 @@ status_of Done = 0
 status_of Refused = 1
 status_of WrongWords = 2
 status_of Stopped = 3
+
+-- ---- texts, each with the line feed (10) at its end
+
+-- a store was made
+abbrev pub created_text : ℕ → List ℕ
+created_text blocks = codes "created " ++ (decimal blocks ++ 10 ∷ [])
+
+-- a file could not be made or opened
+abbrev pub file_text : List ℕ → Text → List ℕ
+file_text what file = what ++ (file ++ 10 ∷ [])
+
+-- a disk is no store, or cannot become one
+abbrev pub refused_text : Refusal → List ℕ
+refused_text refusal = codes "altctl: " ++ (refusal_text refusal ++ 10 ∷ [])
+
+-- the program stopped
+abbrev pub stopped_text : List ℕ
+stopped_text = codes "altctl: stopped" ++ 10 ∷ []
+
+-- ---- which words ask for which text
+
+-- the words are no mistake, and ask for this job
+abbrev pub IsJob : List Text → Wanted → Type 0
+IsJob words job = (fault_of altctl words ≡ []) × (asked_of (subcommand_of altctl words) ≡ Some job)
+
+-- an error that is no mistake
+abbrev pub IsHelp : ErrorKind → Type 0
+IsHelp kind = (kind ≡ DisplayHelp) ⊎ (kind ≡ DisplayVersion)
+
+-- the words ask for help
+abbrev pub AskHelp : List Text → Type 0
+AskHelp words = (kind : ErrorKind) × IsHelp kind × IsAmong kind (fault_of altctl words)
+
+-- the words are a mistake
+abbrev pub AreWrong : List Text → Type 0
+AreWrong words = (kind : ErrorKind) × (¬ IsHelp kind) × IsAmong kind (fault_of altctl words)
+
+-- `format` may refuse so
+abbrev pub MayRefuse : Refusal → Type 0
+MayRefuse refusal = (refusal ≡ BadSize) ⊎ ((refusal ≡ AlreadyAStore) ⊎ (refusal ≡ Device))
+
+-- what is said where a job has no disk, or the disk is refused
+abbrev pub SaysRefused : Wanted → List ℕ → Type 0
+SaysRefused (create file blocks) text = (text ≡ file_text (codes "altctl: cannot create ") file) ⊎ ((refusal : Refusal) × MayRefuse refusal × (text ≡ refused_text refusal))
+SaysRefused (run file) text = (text ≡ file_text (codes "altctl: cannot open ") file) ⊎ ((refusal : Refusal) × (text ≡ refused_text refusal))
+
+-- a text for the output: help, or that a store was made
+abbrev pub IsNews : List Text → List ℕ → Type 0
+IsNews words text = AskHelp words ⊎ ((file : Text) × (blocks : ℕ) × IsJob words (create file blocks) × (text ≡ created_text blocks))
+
+-- a text for the faults: why a job was refused
+abbrev pub IsRefusal : List Text → List ℕ → Type 0
+IsRefusal words text = (job : Wanted) × IsJob words job × SaysRefused job text
+
+-- the words ask that lines are answered
+abbrev pub AskTalk : List Text → Type 0
+AskTalk words = (file : Text) × IsJob words (run file)
+
+-- ---- ends
+
+-- a text was meant for a writer, with this end: it was written whole, or begun where the program stopped
+abbrev pub Tells : Exit → Exit → Option (List ℕ) → Option (List ℕ) → List ℕ → Type 0
+Tells meant exit before after text = ((exit ≡ meant) × Appends before after text) ⊎ ((exit ≡ Stopped) × Begins before after text)
+
+module _ {W F : Type 0} (in_output : W → Option (List ℕ)) (in_faults : F → Option (List ℕ)) where
+  -- all was done: a text was written to the output, or lines were answered, and nothing was said to the faults
+  abbrev pub IsDone : List Text → W → W → F → F → Type 0
+  IsDone words output output' faults faults' = (faults' ≡ faults) × (((text : List ℕ) × IsNews words text × Appends (in_output output) (in_output output') text) ⊎ AskTalk words)
+
+  -- the file was refused: the faults say so, and nothing was written to the output
+  abbrev pub IsRefused : List Text → W → W → F → F → Type 0
+  IsRefused words output output' faults faults' = (output' ≡ output) × ((text : List ℕ) × IsRefusal words text × Appends (in_faults faults) (in_faults faults') text)
+
+  -- the words were wrong: the faults say so, and nothing was written to the output
+  abbrev pub IsWrong : List Text → W → W → F → F → Type 0
+  IsWrong words output output' faults faults' = (output' ≡ output) × AreWrong words × ((text : List ℕ) × Appends (in_faults faults) (in_faults faults') text)
+
+  -- the program stopped with the output: a text for it was begun, or lines were answered, or memory was wanting
+  abbrev pub StopsOutput : List Text → W → W → Type 0
+  StopsOutput words output output' = (output' ≡ output) ⊎ (((text : List ℕ) × IsNews words text × Begins (in_output output) (in_output output') text) ⊎ AskTalk words)
+
+  -- the program stopped with the faults: a text for them was begun
+  abbrev pub StopsFaults : List Text → F → F → Type 0
+  StopsFaults words faults faults' = (text : List ℕ) × (IsRefusal words text ⊎ AreWrong words) × Begins (in_faults faults) (in_faults faults') text
+
+  -- the program stopped, and hasn't said so yet
+  abbrev pub Stops : List Text → W → W → F → F → Type 0
+  Stops words output output' faults faults' = ((faults' ≡ faults) × StopsOutput words output output') ⊎ ((output' ≡ output) × StopsFaults words faults faults')
+
+  -- the program stopped, and said so
+  abbrev pub IsStopped : List Text → W → W → F → F → Type 0
+  IsStopped words output output' faults faults' = (said : F) × Stops words output output' faults said × Begins (in_faults said) (in_faults faults') stopped_text
+
+  -- the end, before it is said that the program stopped
+  abbrev pub Ends : Exit → List Text → W → W → F → F → Type 0
+  Ends Done words output output' faults faults' = IsDone words output output' faults faults'
+  Ends Refused words output output' faults faults' = IsRefused words output output' faults faults'
+  Ends WrongWords words output output' faults faults' = IsWrong words output output' faults faults'
+  Ends Stopped words output output' faults faults' = Stops words output output' faults faults'

@@ -1,5 +1,4 @@
 //! All that the program does.
-ghost use Rattle.std.specs.Prelude.{◌≤◌};
 
 use crate::place::Place;
 use crate::reply::push_refusal;
@@ -45,6 +44,14 @@ impl Exit {
     }
 }
 
+ghost use Rattle.std.specs.Prelude.{◌≡◌, ◌≤◌, ◌⊎◌, ◌++◌, ◌∷◌, ℕ, List, [], OnErr, OnOk, codes, map};
+ghost use Rattle.std.specs.Io.KnownBytes.{Appends};
+ghost use Rattle.std.specs.String.{string_bytes};
+ghost use Rattle.clap.specs.Words.{kind_of};
+ghost use Rattle.vm_cli.specs.Carried.{Begins};
+ghost use Rattle.vm_cli.specs.Exits.{Ends, IsDone, IsHelp, IsRefused, IsStopped, IsWrong, SaysRefused, Tells, created_text, file_text, refused_text};
+ghost use Rattle.vm_cli.specs.Words.Wanted.{create as create_wanted, run as run_wanted};
+
 /// Does what the words say, of which the first is the program's name, and gives the exit status.
 /// Each disk that the place gave is given back.
 pub fn run_words<P: Place, R: Read, W: Write, F: Write>(
@@ -55,17 +62,35 @@ pub fn run_words<P: Place, R: Read, W: Write, F: Write>(
     output: &mut W,
     faults: &mut F,
 ) -> u8
-    ensures { result ≤ 3 }
+    ensures status { result ≤ 3 }
+    ensures done { result ≡ 0 → IsDone W.contents F.contents (map string_bytes words.now) output.old output.new faults.old faults.new }
+    ensures refused { result ≡ 1 → IsRefused W.contents F.contents (map string_bytes words.now) output.old output.new faults.old faults.new }
+    ensures wrong { result ≡ 2 → IsWrong W.contents F.contents (map string_bytes words.now) output.old output.new faults.old faults.new }
+    ensures stopped { result ≡ 3 → IsStopped W.contents F.contents (map string_bytes words.now) output.old output.new faults.old faults.new }
 {
-    let exit = match job(alloc, words) {
-        Ok(Job::Create { file, blocks }) => create(file, blocks, place, output, faults),
-        Ok(Job::Run { file }) => run(alloc, file, place, input, output, faults),
-        Err(error) => explain(alloc, &error, output, faults),
-    };
+    let exit = carry_out(alloc, words, place, input, output, faults);
     if let Exit::Stopped = exit {
         let _ = say(faults, b"altctl: stopped\n");
     }
     exit.status()
+}
+
+// Does what the words say. That the program stopped is still to be said.
+fn carry_out<P: Place, R: Read, W: Write, F: Write>(
+    alloc: Global,
+    words: &[String],
+    place: &mut P,
+    input: &mut R,
+    output: &mut W,
+    faults: &mut F,
+) -> Exit
+    ensures { Ends W.contents F.contents result (map string_bytes words.now) output.old output.new faults.old faults.new }
+{
+    match job(alloc, words) {
+        Ok(Job::Create { file, blocks }) => create(file, blocks, place, output, faults),
+        Ok(Job::Run { file }) => run(alloc, file, place, input, output, faults),
+        Err(error) => explain(alloc, &error, output, faults),
+    }
 }
 
 // Makes a file with an empty store.
@@ -75,7 +100,11 @@ fn create<P: Place, W: Write, F: Write>(
     place: &mut P,
     output: &mut W,
     faults: &mut F,
-) -> Exit {
+) -> Exit
+    ensures { ((faults.new ≡ faults.old) × Tells Exit.Done result (W.contents output.old) (W.contents output.new) (created_text blocks))
+        ⊎ ((output.new ≡ output.old) × ((text : List ℕ) × SaysRefused (create_wanted file.now blocks) text
+        × Tells Exit.Refused result (F.contents faults.old) (F.contents faults.new) text)) }
+{
     let Some(disk) = place.create(file, blocks) else {
         return no_file(b"altctl: cannot create ", file, faults);
     };
@@ -99,7 +128,11 @@ fn run<P: Place, R: Read, W: Write, F: Write>(
     input: &mut R,
     output: &mut W,
     faults: &mut F,
-) -> Exit {
+) -> Exit
+    ensures { ((faults.new ≡ faults.old) × ((result ≡ Exit.Done) ⊎ (result ≡ Exit.Stopped)))
+        ⊎ ((output.new ≡ output.old) × ((text : List ℕ) × SaysRefused (run_wanted file.now) text
+        × Tells Exit.Refused result (F.contents faults.old) (F.contents faults.new) text)) }
+{
     let Some(disk) = place.find(file) else {
         return no_file(b"altctl: cannot open ", file, faults);
     };
@@ -120,7 +153,9 @@ fn run<P: Place, R: Read, W: Write, F: Write>(
 }
 
 // Says that a store was made.
-fn created<W: Write>(blocks: u32, output: &mut W) -> Exit {
+fn created<W: Write>(blocks: u32, output: &mut W) -> Exit
+    ensures { Tells Exit.Done result (W.contents output.old) (W.contents output.new) (created_text blocks) }
+{
     let mut text = Text::new();
     text.push_bytes(b"created ");
     text.push_number(u64::from(blocks));
@@ -129,15 +164,26 @@ fn created<W: Write>(blocks: u32, output: &mut W) -> Exit {
 }
 
 // Says that a file could not be made or opened.
-fn no_file<F: Write>(what: &[u8], file: &str, faults: &mut F) -> Exit {
-    if put_all(faults, what).is_err() || put_all(faults, file.as_bytes()).is_err() {
-        return Exit::Stopped;
-    }
-    unless_fault(say(faults, b"\n"), Exit::Refused)
+fn no_file<F: Write>(what: &[u8], file: &str, faults: &mut F) -> Exit
+    ensures { Tells Exit.Refused result (F.contents faults.old) (F.contents faults.new) (file_text what.now file.now) }
+{
+    unless_fault(say_with_file(what, file, faults), Exit::Refused)
+}
+
+// Writes a text and the name of a file as one line, and hands it on.
+fn say_with_file<W: Write>(what: &[u8], file: &str, writer: &mut W) -> Result<(), WriteFault>
+    ensures ok { OnOk result (Appends (W.contents writer.old) (W.contents writer.new) (file_text what.now file.now)) }
+    ensures err { OnErr result (Begins (W.contents writer.old) (W.contents writer.new) (file_text what.now file.now)) }
+{
+    put_all(writer, what)?;
+    put_all(writer, file.as_bytes())?;
+    say(writer, b"\n")
 }
 
 // Says why a disk is no store, or cannot become one.
-fn refused<F: Write>(refusal: &Refusal, faults: &mut F) -> Exit {
+fn refused<F: Write>(refusal: &Refusal, faults: &mut F) -> Exit
+    ensures { Tells Exit.Refused result (F.contents faults.old) (F.contents faults.new) (refused_text refusal.now) }
+{
     let mut text = Text::new();
     text.push_bytes(b"altctl: ");
     push_refusal(&mut text, refusal);
@@ -146,12 +192,13 @@ fn refused<F: Write>(refusal: &Refusal, faults: &mut F) -> Exit {
 }
 
 // Says what is wrong with the words, or gives the help that they ask for.
-fn explain<W: Write, F: Write>(
-    alloc: Global,
-    error: &Error,
-    output: &mut W,
-    faults: &mut F,
-) -> Exit {
+fn explain<W: Write, F: Write>(alloc: Global, error: &Error, output: &mut W, faults: &mut F) -> Exit
+    ensures memory { kind_of error.now ≡ ErrorKind.OutOfMemory → (result ≡ Exit.Stopped) × (output.new ≡ output.old) × (faults.new ≡ faults.old) }
+    ensures help { IsHelp (kind_of error.now) → (faults.new ≡ faults.old)
+        × ((text : List ℕ) × Tells Exit.Done result (W.contents output.old) (W.contents output.new) text) }
+    ensures wrong { (¬ IsHelp (kind_of error.now)) → (output.new ≡ output.old)
+        × ((text : List ℕ) × Tells Exit.WrongWords result (F.contents faults.old) (F.contents faults.new) text) }
+{
     if let ErrorKind::OutOfMemory = error.kind() {
         return Exit::Stopped;
     }
@@ -165,13 +212,19 @@ fn explain<W: Write, F: Write>(
 }
 
 // Writes a text, and hands it on.
-fn say<W: Write>(writer: &mut W, text: &[u8]) -> Result<(), WriteFault> {
+fn say<W: Write>(writer: &mut W, text: &[u8]) -> Result<(), WriteFault>
+    ensures ok { OnOk result (Appends (W.contents writer.old) (W.contents writer.new) text.now) }
+    ensures err { OnErr result (Begins (W.contents writer.old) (W.contents writer.new) text.now) }
+{
     put_all(writer, text)?;
     flush(writer)
 }
 
 // The end that was meant, unless its text could not be written.
-fn unless_fault(said: Result<(), WriteFault>, exit: Exit) -> Exit {
+fn unless_fault(said: Result<(), WriteFault>, exit: Exit) -> Exit
+    ensures ok { OnOk said (result ≡ exit) }
+    ensures err { OnErr said (result ≡ Exit.Stopped) }
+{
     match said {
         Ok(()) => exit,
         Err(_) => Exit::Stopped,
