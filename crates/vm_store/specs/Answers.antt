@@ -1,5 +1,5 @@
 -- What a store answers.
-use Rattle.std.specs.Prelude.{◌≡◌, ◌⊎◌, ℕ, ◌*◌, ◌<◌, nat_lt, Bool, true, false, List, Option, Some, None, Result, Ok, Err}
+use Rattle.std.specs.Prelude.{◌≡◌, ◌⊎◌, ℕ, ◌*◌, ◌<◌, nat_lt, Bool, true, false, List, None, Result, Ok, Err}
 use Rattle.vm_types.specs.declared.answer.Answer.{Answer}
 use Rattle.vm_types.specs.declared.change.Change.{Change}
 use Rattle.vm_types.specs.declared.command.Command.{Command}
@@ -7,12 +7,12 @@ use Rattle.vm_types.specs.declared.command.Side.{Side}
 use Rattle.vm_types.specs.declared.command.Command.TheVariants.{Put, Merge}
 use Rattle.vm_types.specs.declared.key.Key.{Key}
 use Rattle.vm_types.specs.declared.refusal.Refusal.{Refusal}
-use Rattle.vm_types.specs.declared.refusal.Refusal.TheVariants.{NoSuchAlternative, Full, Deep, Device, Memory}
+use Rattle.vm_types.specs.declared.refusal.Refusal.TheVariants.{Full, Deep, Device, Memory}
 use Rattle.vm_types.specs.Map.{Map, get, delta}
 use Rattle.vm_types.specs.Places.{place}
 use Rattle.vm_types.specs.State.{State, tree_after, edits}
 use Rattle.vm_types.specs.Step.{Outcome, step}
-use Rattle.vm_types.specs.Tree.{Tree, Alternative, named, current_of}
+use Rattle.vm_types.specs.Tree.{Tree, current_of}
 use Rattle.vm_disk.specs.Disk.{Contents}
 use Rattle.vm_block.specs.FullPath.{FullPath}
 use Rattle.vm_store.specs.Sizes.{sizes}
