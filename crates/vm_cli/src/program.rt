@@ -11,6 +11,7 @@ use clap::Error;
 use clap::error::ErrorKind;
 use std::alloc::Global;
 use std::io::{Read, Write};
+use vm_disk::Disk;
 use vm_store::{format, open};
 use vm_types::Refusal;
 
@@ -44,12 +45,16 @@ impl Exit {
     }
 }
 
-ghost use Rattle.std.specs.Prelude.{◌≡◌, ◌≤◌, ◌⊎◌, ◌++◌, ◌∷◌, ℕ, List, [], OnErr, OnOk, codes, map};
+ghost use Rattle.std.specs.Prelude.{◌≡◌, ◌≤◌, ◌⊎◌, ◌++◌, ◌∷◌, ℕ, List, [], true, OnErr, OnOk, codes, map};
 ghost use Rattle.std.specs.Io.KnownBytes.{Appends};
 ghost use Rattle.std.specs.String.{string_bytes};
 ghost use Rattle.clap.specs.Words.{kind_of};
 ghost use Rattle.vm_cli.specs.Carried.{Begins};
-ghost use Rattle.vm_cli.specs.Exits.{Ends, IsDone, IsHelp, IsRefused, IsStopped, IsWrong, SaysRefused, Tells, created_text, file_text, refused_text};
+ghost use Rattle.vm_types.specs.declared.refusal.Refusal.{Refusal as RefusalValue};
+ghost use Rattle.vm_store.specs.Formatting.{IsFormatted};
+ghost use Rattle.vm_store.specs.Refused.{IsRefused as IsRefusedDisk};
+ghost use Rattle.vm_cli.specs.Sessions.{HasServed};
+ghost use Rattle.vm_cli.specs.Exits.{Ends, IsDone, IsHelp, MayRefuse, IsRefused, IsStopped, IsWrong, SaysRefused, Tells, created_text, file_text, refused_text};
 ghost use Rattle.vm_cli.specs.Words.Wanted.{create as create_wanted, run as run_wanted};
 
 /// Does what the words say, of which the first is the program's name, and gives the exit status.
@@ -108,15 +113,28 @@ fn create<P: Place, W: Write, F: Write>(
     let Some(disk) = place.create(file, blocks) else {
         return no_file(b"altctl: cannot create ", file, faults);
     };
+    let (exit, disk) = make_store(disk, blocks, output, faults);
+    place.give_back(file, disk);
+    exit
+}
+
+// Makes an empty store on a disk, and says so.
+fn make_store<D: Disk, W: Write, F: Write>(
+    disk: D,
+    blocks: u32,
+    output: &mut W,
+    faults: &mut F,
+) -> (Exit, D)
+    // On an honest disk the new store is shown; a store that was there stands as it was.
+    ensures { ((faults.new ≡ faults.old) × ((D.state disk).honest ≡ true → IsFormatted blocks (D.state result.1).now)
+        × Tells Exit.Done result.0 (W.contents output.old) (W.contents output.new) (created_text blocks))
+        ⊎ ((output.new ≡ output.old) × ((refusal : RefusalValue) × MayRefuse refusal
+        × ((D.state disk).honest ≡ true → refusal ≡ Refusal.AlreadyAStore → (D.state result.1).now.contents ≡ (D.state disk).now.contents)
+        × Tells Exit.Refused result.0 (F.contents faults.old) (F.contents faults.new) (refused_text refusal))) }
+{
     match format(disk, blocks) {
-        Ok(disk) => {
-            place.give_back(file, disk);
-            created(blocks, output)
-        }
-        Err((disk, refusal)) => {
-            place.give_back(file, disk);
-            refused(&refusal, faults)
-        }
+        Ok(disk) => (created(blocks, output), disk),
+        Err((disk, refusal)) => (refused(&refusal, faults), disk),
     }
 }
 
@@ -136,19 +154,37 @@ fn run<P: Place, R: Read, W: Write, F: Write>(
     let Some(disk) = place.find(file) else {
         return no_file(b"altctl: cannot open ", file, faults);
     };
+    let (exit, disk) = answer_lines(alloc, disk, input, output, faults);
+    place.give_back(file, disk);
+    exit
+}
+
+// Opens the store on a disk, and answers the lines of the input.
+fn answer_lines<D: Disk, R: Read, W: Write, F: Write>(
+    alloc: Global,
+    disk: D,
+    input: &mut R,
+    output: &mut W,
+    faults: &mut F,
+) -> (Exit, D)
+    ensures ends { ((faults.new ≡ faults.old) × ((result.0 ≡ Exit.Done) ⊎ (result.0 ≡ Exit.Stopped)))
+        ⊎ ((output.new ≡ output.old) × ((refusal : RefusalValue) × Tells Exit.Refused result.0 (F.contents faults.old) (F.contents faults.new) (refused_text refusal))) }
+    // On an honest disk the lines are answered as `serve` promises, from what the disk shows; or it is said why it shows no store.
+    ensures served { (D.state disk).honest ≡ true
+        → HasServed D.Disk disk result.1 result.0 (R.remaining input.old) (W.contents output.old) (W.contents output.new)
+        ⊎ ((refusal : RefusalValue) × IsRefusedDisk (D.state disk).now.contents refusal
+        × Tells Exit.Refused result.0 (F.contents faults.old) (F.contents faults.new) (refused_text refusal)) }
+{
     match open(alloc, disk) {
         Ok(mut store) => {
             let served = serve(alloc, input, output, &mut store);
-            place.give_back(file, store.close());
+            let disk = store.close();
             match served {
-                Ok(()) => Exit::Done,
-                Err(_) => Exit::Stopped,
+                Ok(()) => (Exit::Done, disk),
+                Err(_) => (Exit::Stopped, disk),
             }
         }
-        Err((disk, refusal)) => {
-            place.give_back(file, disk);
-            refused(&refusal, faults)
-        }
+        Err((disk, refusal)) => (refused(&refusal, faults), disk),
     }
 }
 
