@@ -157,10 +157,11 @@ line_row() {
     beside=$("$work/block_calls" "$work/plain.$3" "$3" "$reads" "$writes" 0)
     awk -v what="$1" -v count="$2" -v took="$took" -v lines="$lines_took" -v beside="$beside" \
         -v reads="$(grouped "$reads")" -v writes="$(grouped "$writes")" '
-        function part(time) { return sprintf("%.2f µs, %.0f %%", time / count / 1e3, 100 * time / took) }
+        function short(time) { return time < 1e6 ? sprintf("%.2f µs", time / 1e3) : sprintf("%.1f ms", time / 1e6) }
+        function part(time) { return sprintf("%s, %.0f %%", short(time / count), 100 * time / took) }
         BEGIN {
             if (count == 1) lines = 0
-            printf "| %s | %.1f ms | %.2f µs | %s | %s | %s | %s | %s |\n", what, took / 1e6, took / count / 1e3,
+            printf "| %s | %s | %s | %s | %s | %s | %s | %s |\n", what, short(took), short(took / count),
                 reads, writes, count == 1 ? "" : part(lines), part(beside), part(took - lines - beside)
         }'
 }
