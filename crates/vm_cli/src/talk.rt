@@ -63,6 +63,7 @@ pub fn serve<R: Read, W: Write, D: Disk>(
         → IfSome (R.remaining reader.old) (Serves store.old store.new s result (W.contents writer.old) (W.contents writer.new)) }
 {
     let mut line = Line::new(alloc);
+    let mut text = Text::new();
     let mut chunk = [0; 8192];
     for _ in 0..u64::MAX {
         match reader.read(&mut chunk) {
@@ -70,9 +71,9 @@ pub fn serve<R: Read, W: Write, D: Disk>(
                 if line.is_empty {
                     return Ok(());
                 }
-                return answer(alloc, &line, writer, store);
+                return answer(alloc, &line, &mut text, writer, store);
             }
-            Ok(count) => match feed(alloc, &chunk[..count], &mut line, writer, store) {
+            Ok(count) => match feed(alloc, &chunk[..count], &mut line, &mut text, writer, store) {
                 Ok(()) => {}
                 Err(fault) => return Err(fault),
             },
@@ -87,6 +88,7 @@ fn feed<W: Write, D: Disk>(
     alloc: Global,
     bytes: &[u8],
     line: &mut Line,
+    text: &mut Text,
     writer: &mut W,
     store: &mut Store<D>,
 ) -> Result<(), ServeFault>
@@ -102,7 +104,7 @@ fn feed<W: Write, D: Disk>(
         → OnErr result (ServesLines store.old store.new s result (W.contents writer.old) (W.contents writer.new) (lines_of (from ++ (bytes.now ++ more)))) }
 {
     for byte in bytes {
-        match feed_byte(alloc, *byte, line, writer, store) {
+        match feed_byte(alloc, *byte, line, text, writer, store) {
             Ok(()) => {}
             Err(fault) => return Err(fault),
         }
@@ -115,6 +117,7 @@ fn feed_byte<W: Write, D: Disk>(
     alloc: Global,
     byte: u8,
     line: &mut Line,
+    text: &mut Text,
     writer: &mut W,
     store: &mut Store<D>,
 ) -> Result<(), ServeFault>
@@ -133,7 +136,7 @@ fn feed_byte<W: Write, D: Disk>(
         line.push(byte);
         return Ok(());
     }
-    match answer(alloc, line, writer, store) {
+    match answer(alloc, line, text, writer, store) {
         Ok(()) => {
             line.clear();
             Ok(())
@@ -142,10 +145,11 @@ fn feed_byte<W: Write, D: Disk>(
     }
 }
 
-// Carries out a line and writes its answer.
+// Carries out a line and writes its answer, composed in the text, of which nothing is kept.
 fn answer<W: Write, D: Disk>(
     alloc: Global,
     line: &Line,
+    text: &mut Text,
     writer: &mut W,
     store: &mut Store<D>,
 ) -> Result<(), ServeFault>
@@ -157,11 +161,11 @@ fn answer<W: Write, D: Disk>(
         → (part : List ℕ) → HoldsLine line.now part
         → Writes (HandlesLine store.old store.new s part) result (W.contents writer.old) (W.contents writer.new) }
 {
-    let mut text = Text::new();
-    let Ok(reply) = reply_to(alloc, line, &mut text, writer, store) else {
+    text.clear();
+    let Ok(reply) = reply_to(alloc, line, text, writer, store) else {
         return Err(ServeFault::Write);
     };
-    let Ok(()) = send(reply, &mut text, writer) else {
+    let Ok(()) = send(reply, text, writer) else {
         return Err(ServeFault::Write);
     };
     if reply.is_last() {
