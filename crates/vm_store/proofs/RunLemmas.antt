@@ -1,22 +1,14 @@
 -- A run so far: what it answered, and what a crash leaves at each moment of it.
-use Rattle.std.proofs.Common.{◌≡◌, ◌≢◌, ◌⊎◌, inl, inr, ℕ, ◌+◌, ◌*◌, ◌<◌, nat_lt, Bool, true, false, cond, List, [], ◌∷◌, ◌++◌, filter_map, length, take, get_or, Option, Some, None, Result, Ok, Err, refl, sym, ap, ◌∙◌, subst, arith}
-use Rattle.std.specs.List.{cons_option}
-use Rattle.std.proofs.lemmas.Bool.Decides.{nat_tests}
+use Rattle.std.proofs.Common.{◌≡◌, ◌≢◌, ◌↔◌, ℕ, ◌+◌, ◌<◌, Bool, true, false, List, [], ◌∷◌, ◌++◌, length, take, get_or, Result, Err, refl, sym, ap, ◌∙◌, subst, arith}
 use Rattle.std.proofs.lemmas.List.{take_more}
 use Rattle.vm_types.specs.declared.answer.Answer.{Answer}
 use Rattle.vm_types.specs.declared.command.Command.{Command}
 use Rattle.vm_types.specs.declared.command.Command.TheVariants.{New, Drop, Put, Remove, Checkpoint, Uncheck, Back, Merge, Post, Commit, Reclaim}
 use Rattle.vm_types.specs.declared.refusal.Refusal.{Refusal}
-use Rattle.vm_types.specs.declared.refusal.Refusal.TheVariants.{Full, Deep, Device, Memory}
+use Rattle.vm_types.specs.declared.refusal.Refusal.TheVariants.{Device}
 use Rattle.vm_types.specs.Kept.{LeftBy}
-use Rattle.vm_types.specs.State.{State, next, after, answer_of, edits}
-use Rattle.vm_types.specs.Step.{Outcome, step}
-use Rattle.vm_types.specs.Tree.{Tree, current_of}
-use Rattle.vm_types.specs.Map.{Map, get, same_value, keys_of, change_at, delta, with_changes}
-use Rattle.vm_types.specs.declared.key.Key.{Key}
-use Rattle.vm_types.specs.declared.change.Change.{Change}
-use Rattle.vm_types.specs.declared.command.Side.{Side}
-use Rattle.vm_types.proofs.Changes.{get-with_changes}
+use Rattle.vm_types.specs.State.{State, next, after}
+use Rattle.vm_types.specs.Tree.{current_of}
 use Rattle.vm_types.proofs.MomentsLemmas.{HasRun, HasRun-none, HasRun-more}
 use Rattle.vm_types.proofs.Runs.{after_more}
 use Rattle.vm_disk.specs.Disk as disk
@@ -24,14 +16,14 @@ use Rattle.vm_disk.specs.Disk.{Contents, Medium}
 use Rattle.vm_disk.specs.Moments.{Throughout, Leaves}
 use Rattle.vm_disk.proofs.MomentLemmas.{started, and_then, weaken, past_stays, moment_rises, leaves_only, spares_itself}
 use Rattle.vm_store.specs.declared.versions.Version.{Version}
-use Rattle.vm_store.specs.Answers.{IsDue, IsDeep, IsAnswer, IsMerge, IsMergeDue, IsMergeAnswer, merge_changes}
+use Rattle.vm_store.specs.Answers.{IsMergeAnswer, merge_changes}
 use Rattle.vm_store.specs.Changing.{MeetsFullPath}
-use Rattle.vm_store.specs.Store.{root_of, Answers, Holds}
+use Rattle.vm_store.specs.Store.{Answers, Holds, has_failed}
 use Rattle.vm_store.specs.declared.store.Store.{Store}
 use Rattle.vm_tree.specs.Free.{is_free}
 use Rattle.vm_store.specs.Guarded.{IsGuarded}
 use Rattle.vm_store.specs.Resting.{Rests, spare_of}
-use Rattle.vm_store.specs.Running.{Accepts, AddsRecord, MayAnswer, MayAnswerAll, NoneIsDevice}
+use Rattle.vm_store.specs.Running.{AnswersInTurn, CarriesOut, NoneIsDevice}
 use Rattle.vm_store.specs.Shown.{Shows}
 use Rattle.vm_store.proofs.RestingLemmas.{shows_old}
 
@@ -64,108 +56,8 @@ guarded_more old mid new bits so_far more =
 pub rests_show : (m : Medium) (limit : ℕ) (slot_b : Bool) (bits : List Bool) (committed working : List Version) (s : State) → Rests m limit slot_b bits committed working s → Leaves (λ x. Shows x s.committed) m
 rests_show m limit slot_b bits committed working s rests left may = shows_old m limit slot_b bits committed working s rests m (spares_itself (is_free bits) m) left may
 
--- blocks are wanting to a command that has record changes alone
-has_edits : (spare changes : ℕ) → nat_lt spare (16 * changes) ≡ true → 0 < changes
-has_edits spare changes full = let below : spare < 16 * changes = grind (arith, nat_tests) in omega (arith, below)
-
--- the keys of the first changes from one map to another
-split_at : (m n : Map) (keys : List Key) (earlier : List Change) (c : Change) (later : List Change) → filter_map (change_at m n) keys ≡ earlier ++ c ∷ later
-    → (before : List Key) × (earlier ≡ filter_map (change_at m n) before) × (c.after ≡ get n c.key)
-split_at m n [] [] c later is = cc
-split_at m n [] (e ∷ earlier) c later is = cc
-split_at m n (k ∷ keys) earlier c later is =
-    elim (same_value (get m k) (get n k)) as (λ t. same_value (get m k) (get n k) ≡ t
-    → cons_option (cond {A = Option Change} t None (Some (record { key = k; before = get m k; after = get n k }))) (filter_map (change_at m n) keys) ≡ earlier ++ c ∷ later
-    → (before : List Key) × (earlier ≡ filter_map (change_at m n) before) × (c.after ≡ get n c.key)) [
-      | true ↦ λ alike is. split_at m n keys earlier c later is
-      | false ↦ λ other is. elim earlier as (λ (es : List Change). record { key = k; before = get m k; after = get n k } ∷ filter_map (change_at m n) keys ≡ es ++ c ∷ later
-          → (before : List Key) × (es ≡ filter_map (change_at m n) before) × (c.after ≡ get n c.key)) [
-            | [] ↦ λ is. let same : record { key = k; before = get m k; after = get n k } ≡ c = cc in ([], refl, subst (λ (d : Change). d.after ≡ get n d.key) same refl)
-            | e ∷ (es → _) ↦ λ is.
-                let same : record { key = k; before = get m k; after = get n k } ≡ e = cc in
-                let rest : filter_map (change_at m n) keys ≡ es ++ c ∷ later = cc in
-                let found = split_at m n keys es c later rest in
-                let here : change_at m n k ≡ Some e = ap (λ t. cond {A = Option Change} t None (Some (record { key = k; before = get m k; after = get n k }))) other ∙ ap Some same in
-                (k ∷ found.0, ap (λ (cs : List Change). e ∷ cs) found.1 ∙ sym (ap (λ o. cons_option o (filter_map (change_at m n) found.0)) here), found.2)
-          ] is
-    ] refl is
-
-either_none : (b : Bool) (o p : Option (List ℕ)) → cond b o p ≡ None → (o ≡ None → ⊥) → p ≡ None
-either_none true o p is some = absurd (some is)
-either_none false o p is some = is
-
--- a record that meets a full path in the changes from one map to another is added
-met_added : (x : Contents) (limit : ℕ) (m n : Map) → MeetsFullPath x limit m (delta m n) → (key : Key) × (get m key ≡ None) × (get n key ≢ None)
-met_added x limit m n meets =
-    let found = split_at m n (keys_of m n) meets.earlier meets.change meets.later meets.parts in
-    let some : get n meets.change.key ≢ None = λ none. meets.adds (found.2 ∙ none) in
-    let then = sym (get-with_changes m n m found.0 (λ j. inl refl) meets.change.key) ∙ ap (λ (cs : List Change). get (with_changes m cs) meets.change.key) (sym found.1) ∙ meets.absent in
-    (meets.change.key, either_none _ _ _ then some, some)
-
--- and room to one that adds a record
-adds_record : (x : Contents) (root_of : List ℕ → ℕ) (tree : Tree) (command : Command) → IsDeep x root_of tree command → AddsRecord tree command
-adds_record x root_of tree (New name parent) deep = deep
-adds_record x root_of tree (Drop alt) deep = deep
-adds_record x root_of tree (Put alt key value) deep = deep.0
-adds_record x root_of tree (Remove alt key) deep = deep
-adds_record x root_of tree (Checkpoint alt name) deep = deep
-adds_record x root_of tree (Uncheck alt name) deep = deep
-adds_record x root_of tree (Back alt name) deep = deep
-adds_record x root_of tree (Merge alt settled) deep = absurd deep
-adds_record x root_of tree (Post alt) deep = deep
-adds_record x root_of tree Commit deep = deep
-adds_record x root_of tree Reclaim deep = deep
-
-module _ (s : State) (command : Command) (r : Result Answer Refusal) where
-  -- what blocks and trees may force
-  abbrev Forced : Outcome → Type 0
-  Forced o = Accepts o × (((r ≡ Err Full) × (0 < edits s.working command)) ⊎ ((r ≡ Err Deep) × AddsRecord s.working command))
-
-  abbrev May : Outcome → Type 0
-  May o = (r ≡ answer_of o) ⊎ ((r ≡ Err Device) ⊎ (((r ≡ Err Memory) × IsMerge command) ⊎ Forced o))
-
-  due_may : (o : Outcome) (full : Bool) (deep : Type 0) → (full ≡ true → 0 < edits s.working command) → (deep → AddsRecord s.working command) → IsDue o full deep r → May o
-  due_may (Err refusal) full deep is_full is_deep due = inl due
-  due_may (Ok accepted) true deep is_full is_deep due = inr (inr (inr (tt, inl (due, is_full refl))))
-  due_may (Ok accepted) false deep is_full is_deep (inl due) = inl due.0
-  due_may (Ok accepted) false deep is_full is_deep (inr due) = inr (inr (inr (tt, inr (due.0, is_deep due.1))))
-
-  merge_may : (o : Outcome) (full : Bool) (deep : Type 0) → (full ≡ true → 0 < edits s.working command) → (deep → AddsRecord s.working command) → IsMergeDue o full deep r → May o
-  merge_may (Err refusal) full deep is_full is_deep due = inl due
-  merge_may (Ok accepted) true deep is_full is_deep due = inr (inr (inr (tt, inl (due, is_full refl))))
-  merge_may (Ok accepted) false deep is_full is_deep (inl due) = inl due
-  merge_may (Ok accepted) false deep is_full is_deep (inr due) = inr (inr (inr (tt, inr (due.0, is_deep due.1))))
-
-  plain_may : (spare : ℕ) (x : Contents) (root_of : List ℕ → ℕ) → IsAnswer s spare (IsDeep x root_of s.working command) command r → MayAnswer s command r
-  plain_may spare x root_of (inl device) = inr (inl device)
-  plain_may spare x root_of (inr due) =
-      due_may (step s.working command) (nat_lt spare (16 * edits s.working command)) (IsDeep x root_of s.working command) (has_edits spare (edits s.working command)) (adds_record x root_of s.working command) due
-
-merged_may : (s : State) (alt : List ℕ) (settled : List (Key × Side)) (r : Result Answer Refusal) (spare : ℕ) (x : Contents) (limit : ℕ)
-    → IsMergeAnswer s spare (MeetsFullPath x limit (current_of s.working alt) (merge_changes s.working alt settled)) alt settled r → MayAnswer s (Merge alt settled) r
-merged_may s alt settled r spare x limit (inl device) = inr (inl device)
-merged_may s alt settled r spare x limit (inr (inl memory)) = inr (inr (inl (memory, tt)))
-merged_may s alt settled r spare x limit (inr (inr due)) =
-    merge_may s (Merge alt settled) r (step s.working (Merge alt settled)) (nat_lt spare (16 * edits s.working (Merge alt settled))) _ (has_edits spare (edits s.working (Merge alt settled))) (met_added x limit _ _) due
-
 -- one answer of a run
 module _ {D : Type 0} {members : _} (old new : Store D members) (s : State) (holds : Holds old s) (r : Result Answer Refusal) where
-  abbrev shown : Contents
-  shown = (members.state old.disk).now.contents
-
-  pub may_answer : (command : Command) → Answers old new s holds command r → MayAnswer s command r
-  may_answer (New name parent) answer = plain_may s (New name parent) r _ shown (root_of old) answer
-  may_answer (Drop alt) answer = plain_may s (Drop alt) r _ shown (root_of old) answer
-  may_answer (Put alt key value) answer = plain_may s (Put alt key value) r _ shown (root_of old) answer
-  may_answer (Remove alt key) answer = plain_may s (Remove alt key) r _ shown (root_of old) answer
-  may_answer (Checkpoint alt name) answer = plain_may s (Checkpoint alt name) r _ shown (root_of old) answer
-  may_answer (Uncheck alt name) answer = plain_may s (Uncheck alt name) r _ shown (root_of old) answer
-  may_answer (Back alt name) answer = plain_may s (Back alt name) r _ shown (root_of old) answer
-  may_answer (Merge alt settled) answer = merged_may s alt settled r _ _ _ answer
-  may_answer (Post alt) answer = plain_may s (Post alt) r _ shown (root_of old) answer
-  may_answer Commit answer = plain_may s Commit r _ shown (root_of old) answer
-  may_answer Reclaim answer = plain_may s Reclaim r _ shown (root_of old) answer
-
   -- what is answered is told by the disk of the store and its size
   pub answers_on : (other : Store D members) (command : Command) → members.state other.disk ≡ members.state new.disk → other.blocks ≡ new.blocks → Answers old new s holds command r → Answers old other s holds command r
   answers_on other (New name parent) same size answer = answer
@@ -182,13 +74,27 @@ module _ {D : Type 0} {members : _} (old new : Store D members) (s : State) (hol
   answers_on other Commit same size answer = answer
   answers_on other Reclaim same size answer = answer
 
--- and one more
-pub answered_more : (s : State) (commands : List Command) (answers : List (Result Answer Refusal)) (c : Command) (a : Result Answer Refusal) → MayAnswerAll s commands answers → MayAnswer (after s commands answers) c a
-    → MayAnswerAll s (commands ++ c ∷ []) (answers ++ a ∷ [])
-answered_more s [] [] c a so_far last = (last, tt)
-answered_more s [] (b ∷ answers) c a so_far last = absurd so_far
-answered_more s (d ∷ commands) [] c a so_far last = absurd so_far
-answered_more s (d ∷ commands) (b ∷ answers) c a so_far last = (so_far.0, answered_more (next s d b) commands answers c a so_far.1 last)
+module _ {D : Type 0} {members : _} where
+  -- what `apply` promises of one command
+  pub carried_out : (old new : Store D members) (s : State) (c : Command) (a : Result Answer Refusal) (bits : List Bool) → ((holds : Holds old s) → Answers old new s holds c a)
+      → disk.Goes (a ≡ Err Device) (members.state old.disk) (members.state new.disk) → Throughout (members.state old.disk) (members.state new.disk) (IsGuarded bits)
+      → (has_failed new ≡ true ↔ a ≡ Err Device) → (a ≢ Err Device → Holds new (next s c a)) → CarriesOut old new s c a
+  carried_out old new s c a bits answers goes guarded failed holds = record {
+    answers = answers;
+    goes = goes;
+    since = weaken (members.state old.disk) (members.state new.disk) (IsGuarded bits) (λ m. Unit {0}) (λ m is. tt) guarded;
+    failed = failed;
+    holds = holds;
+  }
+
+  -- and one command more
+  pub in_turn_more : (old mid new : Store D members) (s : State) (commands : List Command) (answers : List (Result Answer Refusal)) (c : Command) (a : Result Answer Refusal) → AnswersInTurn old mid s commands answers
+      → CarriesOut mid new (after s commands answers) c a → AnswersInTurn old new s (commands ++ c ∷ []) (answers ++ a ∷ [])
+  in_turn_more old mid new s [] [] c a so_far last = (new, subst (λ (t : Store D members). CarriesOut t new s c a) so_far last, refl)
+  in_turn_more old mid new s [] (b ∷ answers) c a so_far last = absurd so_far
+  in_turn_more old mid new s (d ∷ commands) [] c a so_far last = absurd so_far
+  in_turn_more old mid new s (d ∷ commands) (b ∷ answers) c a so_far last =
+      (so_far.0, so_far.1, in_turn_more so_far.0 mid new (next s d b) commands answers c a so_far.2 last)
 
 -- one more answer that is no failure of the device
 pub none_more : (answers : List (Result Answer Refusal)) (a : Result Answer Refusal) → NoneIsDevice answers → (a ≡ Err Device → ⊥) → NoneIsDevice (answers ++ a ∷ [])

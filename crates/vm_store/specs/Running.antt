@@ -1,44 +1,33 @@
 -- What a run of commands answers.
-use Rattle.std.specs.Prelude.{◌≡◌, ◌≢◌, ◌⊎◌, ◌<◌, List, [], ◌∷◌, ◌++◌, None, Result, Ok, Err}
+use Rattle.std.specs.Prelude.{◌≡◌, ◌≢◌, ◌↔◌, true, List, [], ◌∷◌, ◌++◌, Result, Err}
 use Rattle.vm_types.specs.declared.answer.Answer.{Answer}
 use Rattle.vm_types.specs.declared.command.Command.{Command}
-use Rattle.vm_types.specs.declared.command.Command.TheVariants.{Put, Merge}
-use Rattle.vm_types.specs.declared.key.Key.{Key}
 use Rattle.vm_types.specs.declared.refusal.Refusal.{Refusal}
-use Rattle.vm_types.specs.declared.refusal.Refusal.TheVariants.{Full, Deep, Device, Memory}
-use Rattle.vm_types.specs.Map.{get}
-use Rattle.vm_types.specs.State.{State, next, answer_of, tree_after, edits}
-use Rattle.vm_types.specs.Step.{Outcome, step}
-use Rattle.vm_types.specs.Tree.{Tree, current_of}
-use Rattle.vm_store.specs.Answers.{IsMerge}
+use Rattle.vm_types.specs.declared.refusal.Refusal.TheVariants.{Device}
+use Rattle.vm_types.specs.State.{State, next}
+use Rattle.vm_disk.specs.Disk.{Goes}
+use Rattle.vm_disk.specs.Moments.{Throughout}
+use Rattle.vm_store.specs.Store.{Answers, Holds, has_failed}
+use Rattle.vm_store.specs.declared.store.Store.{Store}
 
--- the model accepts
-abbrev pub Accepts : Outcome → Type 0
-Accepts (Ok accepted) = Unit {0}
-Accepts (Err refusal) = ⊥
+module _ {D : Type 0} {members : _} where
+  -- a store that stood for the state carried out a command. Its answer is the one that is due, where Full and Deep come on their
+  -- conditions and Memory to a Merge alone; or Device, where a device call failed, and then, and only then, the store has failed.
+  -- Else it stands for what the answer leaves
+  pub record CarriesOut (old new : Store D members) (s : State) (command : Command) (answer : Result Answer Refusal) : Type 0 where
+    pub answers : (holds : Holds old s) → Answers old new s holds command answer
+    pub goes : Goes (answer ≡ Err Device) (members.state old.disk) (members.state new.disk)
+    pub since : Throughout (members.state old.disk) (members.state new.disk) (λ m. Unit {0})
+    pub failed : has_failed new ≡ true ↔ answer ≡ Err Device
+    pub holds : answer ≢ Err Device → Holds new (next s command answer)
 
--- a Put of a key that the alternative hasn't, or a Merge that gives a value to such a one
-abbrev pub AddsRecord : Tree → Command → Type 0
-AddsRecord tree (Put alt key value) = get (current_of tree alt) key ≡ None
-AddsRecord tree (Merge alt settled) =
-    (key : Key) × (get (current_of tree alt) key ≡ None) × (get (current_of (tree_after tree (step tree (Merge alt settled))) alt) key ≢ None)
-AddsRecord tree command = ⊥
-
--- the answer of the model, or that the device failed, or, to a Merge, that memory was wanting; or, to a command that the model
--- accepts, that blocks are wanting, where it has record changes, or the tree's room, where it adds a record
-abbrev pub MayAnswer : State → Command → Result Answer Refusal → Type 0
-MayAnswer s command answer =
-    (answer ≡ answer_of (step s.working command))
-    ⊎ ((answer ≡ Err Device)
-    ⊎ (((answer ≡ Err Memory) × IsMerge command)
-    ⊎ (Accepts (step s.working command) × (((answer ≡ Err Full) × (0 < edits s.working command)) ⊎ ((answer ≡ Err Deep) × AddsRecord s.working command)))))
-
--- each command is answered so, in order
-abbrev pub MayAnswerAll : State → List Command → List (Result Answer Refusal) → Type 0
-MayAnswerAll s [] [] = Unit {0}
-MayAnswerAll s (command ∷ commands) (answer ∷ answers) = MayAnswer s command answer × MayAnswerAll (next s command answer) commands answers
-MayAnswerAll s [] (answer ∷ answers) = ⊥
-MayAnswerAll s (command ∷ commands) [] = ⊥
+  -- commands are carried out one after another: each by the store that the one before left, from the first store to the last
+  abbrev pub AnswersInTurn : Store D members → Store D members → State → List Command → List (Result Answer Refusal) → Type 0
+  AnswersInTurn old new s [] [] = new ≡ old
+  AnswersInTurn old new s (command ∷ commands) (answer ∷ answers) =
+      (mid : Store D members) × CarriesOut old mid s command answer × AnswersInTurn mid new (next s command answer) commands answers
+  AnswersInTurn old new s [] (answer ∷ answers) = ⊥
+  AnswersInTurn old new s (command ∷ commands) [] = ⊥
 
 -- no answer is that the device failed
 abbrev pub NoneIsDevice : List (Result Answer Refusal) → Type 0

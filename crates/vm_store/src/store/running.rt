@@ -7,7 +7,7 @@ ghost use Rattle.vm_types.specs.Tree.{named};
 ghost use Rattle.vm_disk.specs.Disk.{Goes, LeftAt, moment};
 ghost use Rattle.vm_disk.specs.Moments.{Throughout};
 ghost use Rattle.vm_store.specs.Guarded.{IsGuarded};
-ghost use Rattle.vm_store.specs.Running.{MayAnswerAll, EndsWithDevice, NoneIsDevice};
+ghost use Rattle.vm_store.specs.Running.{AnswersInTurn, EndsWithDevice, NoneIsDevice};
 ghost use Rattle.vm_store.specs.Shown.{Shows};
 
 use super::{Store, is_device};
@@ -45,9 +45,9 @@ impl<D: Disk> Store<D> {
         ensures no_device { result.1 ≢ Some Stop.Device → NoneIsDevice result.0.items }
         ensures whole { result.1 ≡ None → (length result.0.items ≡ length commands.now) × (has_failed self.new ≡ false) }
 
-        // Each command is answered in order, and the store stands for what these answers leave.
+        // Each command is answered in its turn, as `apply` promises of it, and the store stands for what these answers leave.
         ensures answers { (D.state (disk_of self.old)).honest ≡ true → has_failed self.old ≡ false → (s : State) → Holds self.old s
-            → MayAnswerAll s (take (length result.0.items) commands.now) result.0.items }
+            → AnswersInTurn self.old self.new s (take (length result.0.items) commands.now) result.0.items }
         ensures state { (D.state (disk_of self.old)).honest ≡ true → has_failed self.new ≡ false → (s : State) → Holds self.old s
             → Holds self.new (after s (take (length result.0.items) commands.now) result.0.items) }
 

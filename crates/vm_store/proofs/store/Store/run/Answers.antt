@@ -9,7 +9,7 @@ use Rattle.vm_types.specs.declared.refusal.Refusal.{Refusal}
 use Rattle.vm_store.specs.Running.{EndsWithDevice}
 use Rattle.vm_store.specs.Store.{disk_of, Holds}
 use Rattle.vm_store.proofs.GuardLemmas.{guarded_at_rest}
-use Rattle.vm_store.proofs.RunLemmas.{ran_none, ran_more, rests_show, guarded_none, guarded_more, may_answer, answered_more, none_more, take_one_more, no_failure}
+use Rattle.vm_store.proofs.RunLemmas.{ran_none, ran_more, rests_show, guarded_none, guarded_more, carried_out, in_turn_more, none_more, take_one_more, no_failure}
 use Rattle.vm_store.proofs.store.Store.run.Goals as goal
 
 pub loop-command-preserved : goal.loop-command-preserved
@@ -31,7 +31,7 @@ loop-command-preserved g c =
           let ok : c.apply-answer.result ≡ Err Device → ⊥ = λ is. let yes = c.is_device-failed.ensures.1 is in cc (yes, c.if-failed.false) in
           subst (λ (t : State). Holds c.apply-answer.new.self t) (sym (after_more s _ _ c.command-item.result c.apply-answer.result (before.run honest s rests).last.same)) (e.state (before.honesty ∙ honest) before.sound ok _ (before.holds honest s rests));
       guarded = λ honest s rests. guarded_more old (g.D.Disk.state (disk_of c.loop-command.self)) (g.D.Disk.state (disk_of c.apply-answer.new.self)) c.apply-answer.new.self.held (before.guarded honest s rests) (e.guarded (before.honesty ∙ honest) before.sound _ (before.holds honest s rests));
-      told = λ honest s rests. answered_more s _ _ c.command-item.result c.apply-answer.result (before.told honest s rests) (may_answer c.loop-command.self c.apply-answer.new.self _ (before.holds honest s rests) c.apply-answer.result c.command-item.result (e.answer (before.honesty ∙ honest) before.sound _ (before.holds honest s rests)));
+      told = λ honest s rests. in_turn_more c.args.self.now c.loop-command.self c.apply-answer.new.self s _ _ c.command-item.result c.apply-answer.result (before.told honest s rests) (carried_out c.loop-command.self c.apply-answer.new.self _ c.command-item.result c.apply-answer.result c.apply-answer.new.self.held (e.answer (before.honesty ∙ honest) before.sound _) e.any (e.guarded (before.honesty ∙ honest) before.sound _ (before.holds honest s rests)) (e.failed before.sound) (λ fine. e.state (before.honesty ∙ honest) before.sound fine _ (before.holds honest s rests)));
     })
 
 pub loop-command-init : goal.loop-command-init
@@ -48,7 +48,7 @@ loop-command-init g c =
       run = λ honest s rests. ran_none first s (rests_show _ _ _ _ _ _ s rests);
       holds = λ honest s rests. rests;
       guarded = λ honest s rests. guarded_none first (guarded_at_rest _ _ _ _ _ _ s rests);
-      told = λ honest s rests. tt;
+      told = λ honest s rests. refl;
     })
 
 pub returns-in_default-clause-kept : goal.returns-in_default-clause-kept
@@ -70,7 +70,7 @@ returns-then-failed-clause-answers g c honest sound s rests =
     let e = c.apply-answer.ensures in
     let count : length c.push.new.self.items ≡ c.loop-command.command-index + 1 = grind (arith, common_steps) in
     rw (count, take_one_more c.args.commands.now c.loop-command.command-index c.command-item.result c.loop-command-test.true c.command-item.is, c.in-Ok-push.ensures.items)
-    (answered_more s _ _ c.command-item.result c.apply-answer.result (before.told honest s rests) (may_answer c.loop-command.self c.apply-answer.new.self _ (before.holds honest s rests) c.apply-answer.result c.command-item.result (e.answer (before.honesty ∙ honest) before.sound _ (before.holds honest s rests))))
+    (in_turn_more c.args.self.now c.loop-command.self c.apply-answer.new.self s _ _ c.command-item.result c.apply-answer.result (before.told honest s rests) (carried_out c.loop-command.self c.apply-answer.new.self _ c.command-item.result c.apply-answer.result c.apply-answer.new.self.held (e.answer (before.honesty ∙ honest) before.sound _) e.any (e.guarded (before.honesty ∙ honest) before.sound _ (before.holds honest s rests)) (e.failed before.sound) (λ fine. e.state (before.honesty ∙ honest) before.sound fine _ (before.holds honest s rests))))
 
 pub returns-then-failed-clause-isolated : goal.returns-then-failed-clause-isolated
 returns-then-failed-clause-isolated g c honest s name apart = isolated name s _ _ apart

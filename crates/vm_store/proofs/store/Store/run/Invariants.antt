@@ -2,7 +2,7 @@ use Rattle.std.proofs.Common.{◌≡◌, ◌≤◌, Bool, true, false, List, len
 use Rattle.vm_types.specs.State.{State, after}
 use Rattle.vm_disk.specs.Moments.{Throughout}
 use Rattle.vm_store.specs.Guarded.{IsGuarded}
-use Rattle.vm_store.specs.Running.{MayAnswerAll, NoneIsDevice}
+use Rattle.vm_store.specs.Running.{AnswersInTurn, NoneIsDevice}
 use Rattle.vm_store.specs.Store.{disk_of, has_failed, Holds}
 use Rattle.vm_store.proofs.RunLemmas.{Ran}
 use Rattle.vm_store.proofs.store.Store.run.Given as goal
@@ -22,5 +22,5 @@ invariant-loop-command g l =
       run : old.honest ≡ true → (s : State) → Holds l.fn.self s → Ran old now s (take l.command-index l.commands) l.answers.items;
       holds : old.honest ≡ true → (s : State) → Holds l.fn.self s → Holds l.self (after s (take l.command-index l.commands) l.answers.items);
       guarded : old.honest ≡ true → (s : State) → Holds l.fn.self s → Throughout old now (λ m. (bits : List Bool) × IsGuarded bits m);
-      told : old.honest ≡ true → (s : State) → Holds l.fn.self s → MayAnswerAll s (take l.command-index l.commands) l.answers.items;
+      told : old.honest ≡ true → (s : State) → Holds l.fn.self s → AnswersInTurn l.fn.self l.self s (take l.command-index l.commands) l.answers.items;
     }
