@@ -1,0 +1,636 @@
+#!/usr/bin/env python3
+"""Runs random sessions of `altctl` over real files beside a model of its own, and compares all answers, and every byte of the file
+after each session; then it spoils bytes of the file, and compares what opening it is answered: `tools/compare.py [-n FILES] [-s SEED]
+[ALTCTL]`. The model is written from docs/MODEL.md and docs/FORMATS.md, and shares nothing with the store. It stands beside the gate."""
+import argparse
+import os
+import random
+import struct
+import subprocess
+import sys
+import tempfile
+
+BLOCK, FIRST = 4096, 34
+LETTERS = {*b"ABCDEFGHIJKLMNOPQRSTUVWXYZabcdefghijklmnopqrstuvwxyz0123456789_-."}
+NAMES = "NoSuchAlternative AlternativeExists NoSuchCheckpoint CheckpointExists NoSuchRecord IsTop HasChildren NotMerged Unsettled"
+NAMES = [None, *NAMES.split(), "NotInConflict", "SettledTwice", "TooMany", "Full", "Deep"]
+
+
+class Refused(Exception):
+    def __init__(self, code, detail=""):
+        self.text = f"error {code} {NAMES[code]}{detail}"
+
+
+class Alternative:
+    """An entry of the slot, with its owner: the parent, or the alternative of a checkpoint. Maps are numbers of roots."""
+
+    def __init__(self, tag, name, owner, current, base):
+        self.tag, self.name, self.owner, self.current, self.base = tag, name, owner, current, base
+
+    def copy(self):
+        return Alternative(self.tag, self.name, self.owner, self.current, self.base)
+
+    def encoded(self):
+        name, owner = self.name.encode(), self.owner.encode()
+        text = self.tag + bytes([len(name)]) + name.ljust(32, b"\0") + bytes([len(owner)]) + owner.ljust(32, b"\0")
+        return (text + struct.pack("<II", self.current, self.base)).ljust(128, b"\0")
+
+
+class Store:
+    """A file: blocks are bytes, and trees are decoded from them anew for each use."""
+
+    def __init__(self, blocks):
+        self.disk = [bytes(BLOCK)] * blocks
+        self.disk[2] = self.slot_blocks([Alternative(b"A", "top", "", 0, 0)])[0]
+        self.disk[0] = (b"ALTSTORE" + struct.pack("<II", 1, BLOCK)).ljust(BLOCK, b"\0")
+
+    # --- the slots
+
+    def slot_blocks(self, entries):
+        head = b"SLOT" + struct.pack("<III", 1, len(self.disk), len(entries))
+        text = head.ljust(128, b"\0") + b"".join(it.encoded() for it in entries)
+        text = text.ljust((len(entries) + 32) // 32 * BLOCK, b"\0")
+        return [text[at : at + BLOCK] for at in range(0, len(text), BLOCK)]
+
+    def open(self):
+        """What a session begins with."""
+        slot = 18 if self.disk[1][0] & 1 else 2
+        count = struct.unpack_from("<I", self.disk[slot], 12)[0]
+        text = b"".join(self.disk[slot : slot + 16])
+        self.working = []
+        for at in range(128, 128 * (count + 1), 128):
+            name = text[at + 2 : at + 2 + text[at + 1]].decode()
+            owner = text[at + 35 : at + 35 + text[at + 34]].decode()
+            self.working.append(Alternative(text[at : at + 1], name, owner, *struct.unpack_from("<II", text, at + 67)))
+        self.committed = [it.copy() for it in self.working]
+        self.held = self.reached(self.committed)
+
+    def commit(self):
+        slot = 2 if self.disk[1][0] & 1 else 18
+        for at, block in enumerate(self.slot_blocks(self.working)):
+            self.disk[slot + at] = block
+        self.disk[1] = bytes([1 if slot == 18 else 0]).ljust(BLOCK, b"\0")
+        self.committed = [it.copy() for it in self.working]
+
+    # --- trees
+
+    def decoded(self, block):
+        """The level of a block, and its records or children."""
+        text = self.disk[block]
+        level, count = struct.unpack_from("<II", text, 4)
+        if text[:4] == b"LEAF":
+            found = []
+            for at in range(16, 16 + 252 * count, 252):
+                table, number, size = struct.unpack_from("<HQH", text, at)
+                found.append(((table, number), text[at + 12 : at + 12 + size]))
+            return 0, found
+        assert text[:4] == b"NODE" and level > 0
+        words = [struct.unpack_from("<HQI", text, at) for at in range(16, 16 + 14 * count, 14)]
+        return level, [((table, number), child) for table, number, child in words]
+
+    def write(self, level, items):
+        """Writes items into the lowest block that isn't held, and gives their first key, and the block."""
+        block = next(it for it in range(FIRST, len(self.disk)) if it not in self.held)
+        self.held.add(block)
+        if level == 0:
+            body = b"".join(struct.pack("<HQH", *key, len(value)) + value.ljust(240, b"\0") for key, value in items)
+        else:
+            body = b"".join(struct.pack("<HQI", *key, child) for key, child in items)
+        head = (b"NODE" if level else b"LEAF") + struct.pack("<III", level, len(items), 0)
+        self.disk[block] = (head + body).ljust(BLOCK, b"\0")
+        return items[0][0], block
+
+    def write_split(self, level, items):
+        if len(items) <= (256 if level else 16):
+            return [self.write(level, items)]
+        half = (len(items) + 1) // 2
+        return [self.write(level, items[:half]), self.write(level, items[half:])]
+
+    def blocks_under(self, root, found):
+        if root and root not in found:
+            found.add(root)
+            level, items = self.decoded(root)
+            if level:
+                for _, child in items:
+                    self.blocks_under(child, found)
+        return found
+
+    def reached(self, entries):
+        found = set()
+        for it in entries:
+            self.blocks_under(it.current, found)
+            self.blocks_under(it.base, found)
+        return found
+
+    def records(self, root):
+        if not root:
+            return {}
+        level, items = self.decoded(root)
+        if level == 0:
+            return dict(items)
+        found = {}
+        for _, child in items:
+            found.update(self.records(child))
+        return found
+
+    @staticmethod
+    def chosen(items, key):
+        return max((at for at, it in enumerate(items) if it[0] <= key), default=0)
+
+    def put_below(self, block, key, value):
+        level, items = self.decoded(block)
+        if level == 0:
+            return 0, self.write_split(0, sorted({**dict(items), key: value}.items()))
+        at = self.chosen(items, key)
+        _, now = self.put_below(items[at][1], key, value)
+        return level, self.write_split(level, [*items[:at], *now, *items[at + 1 :]])
+
+    def put(self, root, key, value):
+        if not root:
+            return self.write(0, [(key, value)])[1]
+        level, now = self.put_below(root, key, value)
+        return now[0][1] if len(now) == 1 else self.write(level + 1, now)[1]
+
+    def remove_below(self, block, key):
+        """What stands for the block in the one above it: nothing, or a block that was written."""
+        level, items = self.decoded(block)
+        if level == 0:
+            rest = [it for it in items if it[0] != key]
+        else:
+            at = self.chosen(items, key)
+            rest = [*items[:at], *self.remove_below(items[at][1], key), *items[at + 1 :]]
+        return [self.write(level, rest)] if rest else []
+
+    def is_dropped(self, block, key):
+        """Whether nothing is left of the block without the key."""
+        level, items = self.decoded(block)
+        return len(items) == 1 and (level == 0 or self.is_dropped(items[0][1], key))
+
+    def remove(self, root, key):
+        level, items = self.decoded(root)
+        if level and len(items) == 2:
+            at = self.chosen(items, key)
+            if self.is_dropped(items[at][1], key):
+                rest = items[1 - at][1]
+                while True:
+                    level, items = self.decoded(rest)
+                    if level == 0 or len(items) > 1:
+                        return rest
+                    rest = items[0][1]
+        now = self.remove_below(root, key)
+        return now[0][1] if now else 0
+
+    # --- space
+
+    def free(self):
+        return len(self.disk) - FIRST - len(self.held)
+
+    def demand(self, changes):
+        if self.free() < 16 * changes:
+            self.held = self.reached(self.committed) | self.reached(self.working)
+            if self.free() < 16 * changes:
+                raise Refused(13)
+
+    # --- commands
+
+    def find(self, name):
+        for it in self.working:
+            if it.tag == b"A" and it.name == name:
+                return it
+        raise Refused(1)
+
+    def checkpoint_of(self, alt, name):
+        return next((it for it in self.working if it.tag == b"C" and (it.owner, it.name) == (alt, name)), None)
+
+    def sides(self, alt):
+        it = self.find(alt)
+        if alt == "top":
+            raise Refused(6)
+        parent = self.find(it.owner)
+        return it, parent, self.records(it.base), self.records(parent.current), self.records(it.current)
+
+    @staticmethod
+    def in_conflict(base, parent, own):
+        keys = sorted({*base, *parent, *own})
+        values = [(key, base.get(key), parent.get(key), own.get(key)) for key in keys]
+        return [it for it in values if it[1] != it[2] and it[1] != it[3] and it[2] != it[3]]
+
+    def merge(self, alt, settled):
+        it, parent, base, theirs, own = self.sides(alt)
+        conflicts = {key for key, *_ in self.in_conflict(base, theirs, own)}
+        keys = [key for key, _ in settled]
+        for at, key in enumerate(keys):
+            if key in keys[:at]:
+                raise Refused(11, f" {key[0]}:{key[1]}")
+        for key in keys:
+            if key not in conflicts:
+                raise Refused(10, f" {key[0]}:{key[1]}")
+        if conflicts - {*keys}:
+            raise Refused(9, f" {len(conflicts - {*keys})}")
+        sides, changes = dict(settled), []
+        for key in sorted({*base, *theirs}):
+            now = theirs.get(key)
+            if now != base.get(key) and now != own.get(key) and sides.get(key) != "mine":
+                changes.append((key, now))
+        if changes:
+            self.demand(len(changes))
+        for key, value in changes:
+            it.current = self.remove(it.current, key) if value is None else self.put(it.current, key, value)
+        it.base = parent.current
+        return f"ok {len(changes)}"
+
+    def apply(self, words):
+        """Carries out a command or a query, and gives its answer."""
+        verb, *rest = words
+        if verb == "new":
+            parent = self.find(rest[1])
+            if any(it.tag == b"A" and it.name == rest[0] for it in self.working):
+                raise Refused(2)
+            self.add(b"A", rest[0], rest[1], parent.current, parent.current)
+        elif verb == "drop":
+            it = self.find(rest[0])
+            if rest[0] == "top":
+                raise Refused(6)
+            if any(other.tag == b"A" and other.owner == rest[0] for other in self.working):
+                raise Refused(7)
+            self.working = [other for other in self.working if other is not it and (other.tag, other.owner) != (b"C", rest[0])]
+        elif verb == "put":
+            it = self.find(rest[0])
+            self.demand(1)
+            it.current = self.put(it.current, rest[1], rest[2])
+        elif verb == "remove":
+            it = self.find(rest[0])
+            if rest[1] not in self.records(it.current):
+                raise Refused(5)
+            self.demand(1)
+            it.current = self.remove(it.current, rest[1])
+        elif verb == "checkpoint":
+            it = self.find(rest[0])
+            if self.checkpoint_of(*rest):
+                raise Refused(4)
+            self.add(b"C", rest[1], rest[0], it.current, it.base)
+        elif verb in ("uncheck", "back"):
+            it = self.find(rest[0])
+            found = self.checkpoint_of(*rest)
+            if not found:
+                raise Refused(3)
+            if verb == "uncheck":
+                self.working.remove(found)
+            else:
+                it.current, it.base = found.current, found.base
+        elif verb == "merge":
+            return self.merge(rest[0], rest[1])
+        elif verb == "post":
+            it, parent, base, theirs, _ = self.sides(rest[0])
+            if base != theirs:
+                raise Refused(8)
+            parent.current = it.base = it.current
+        elif verb == "commit":
+            self.commit()
+        elif verb == "reclaim":
+            self.held = self.reached(self.committed) | self.reached(self.working)
+        else:
+            return self.asked(verb, rest)
+        return "ok"
+
+    def add(self, tag, name, owner, current, base):
+        if len(self.working) == 511:
+            raise Refused(12)
+        self.working.append(Alternative(tag, name, owner, current, base))
+
+    def asked(self, verb, rest):
+        if verb == "free":
+            return f"free {self.free()}"
+        if verb == "alts":
+            return listed(f"alternative {it.name} {it.owner or '~'}" for it in self.working if it.tag == b"A")
+        it = self.find(rest[0])
+        if verb == "get":
+            found = self.records(it.current).get(rest[1])
+            return "none" if found is None else f"value {spelled(found)}"
+        if verb == "list":
+            return listed(f"record {k[0]} {k[1]} {spelled(v)}" for k, v in sorted(self.records(it.current).items()))
+        if verb == "checks":
+            return listed(f"checkpoint {c.name}" for c in self.working if c.tag == b"C" and c.owner == rest[0])
+        if verb == "changes":
+            base, own = self.records(it.base), self.records(it.current)
+            keys = sorted(k for k in {*base, *own} if base.get(k) != own.get(k))
+            return listed(f"change {k[0]} {k[1]} {spelled(base.get(k))} {spelled(own.get(k))}" for k in keys)
+        assert verb == "conflicts"
+        found = self.in_conflict(*self.sides(rest[0])[2:])
+        return listed(f"conflict {k[0]} {k[1]} {spelled(b)} {spelled(p)} {spelled(o)}" for k, b, p, o in found)
+
+
+def listed(lines):
+    lines = list(lines)
+    return "\n".join([*lines, f"end {len(lines)}"])
+
+
+def spelled(value):
+    """How a value is written."""
+    if value is None:
+        return "~"
+    if value == b"-":
+        return "%2D"
+    return "".join(chr(b) if 0x21 <= b <= 0x7D and b != 0x25 else f"%{b:02X}" for b in value) or "-"
+
+
+# --- files that are opened
+
+
+class Damaged(Exception):
+    pass
+
+
+def name_in(text, size, least):
+    """A name of `least` to 32 bytes, in 32 bytes that are zero behind it. None where they are not so."""
+    if not least <= size <= 32 or any(text[size:]) or not {*text[:size]} <= LETTERS:
+        return None
+    return text[:size].decode()
+
+
+def slot_in(disk, slot):
+    """The number of blocks and the entries of a slot, where it is one."""
+    head = disk[slot][:128]
+    if head[:8] != b"SLOT\1\0\0\0" or any(head[16:]):
+        raise Damaged(slot)
+    blocks, count = struct.unpack_from("<II", head, 8)
+    if not 64 <= blocks <= 1 << 20 or not 1 <= count <= 511:
+        raise Damaged(slot)
+    text, entries = b"".join(disk[slot : slot + (count + 32) // 32]), []
+    for at in range(128, 128 * (count + 1), 128):
+        it, is_top = text[at : at + 128], at == 128
+        name, owner = name_in(it[2:34], it[1], 1), name_in(it[35:67], it[34], 0 if is_top else 1)
+        current, base = struct.unpack_from("<II", it, 67)
+        same = [e for e in entries if e.tag == it[:1] and e.name == name and (e.tag == b"A" or e.owner == owner)]
+        owned = is_top or any(e.tag == b"A" and e.name == owner for e in entries)
+        if it[:1] not in (b"A", b"C") or name is None or owner is None or any(it[75:]) or same or not owned:
+            raise Damaged(slot)
+        if is_top and (it[:1], name, owner) != (b"A", "top", "") or base and (is_top or it[:1] == b"C" and owner == "top"):
+            raise Damaged(slot)
+        entries.append(Alternative(it[:1], name, owner, current, base))
+    return blocks, entries
+
+
+class Walk:
+    """A walk through the trees under roots, each block once."""
+
+    def __init__(self, disk, blocks):
+        self.disk, self.blocks, self.met = disk, blocks, {}
+
+    def form(self, block):
+        """The level and the items of a block."""
+        text = self.disk[block]
+        level, count, zero = struct.unpack_from("<III", text, 4)
+        is_leaf = text[:4] == b"LEAF" and level == 0 and 1 <= count <= 16
+        is_node = text[:4] == b"NODE" and 1 <= level <= 7 and 1 <= count <= 256
+        size = 252 if is_leaf else 14
+        if not is_leaf and not is_node or zero or any(text[16 + size * count :]):
+            raise Damaged(block)
+        items = []
+        for at in range(16, 16 + size * count, size):
+            table, number, value = struct.unpack_from("<HQH" if is_leaf else "<HQI", text, at)
+            if is_leaf and (value > 240 or any(text[at + 12 + value : at + 252])) or items and items[-1][0] >= (table, number):
+                raise Damaged(block)
+            items.append(((table, number), value))
+        return level, items
+
+    def visit(self, block, expected):
+        """The lowest and the highest key under a block."""
+        if not FIRST <= block < self.blocks:
+            raise Damaged(block)
+        if block not in self.met:
+            level, items = self.form(block)
+            if expected not in (None, level):
+                raise Damaged(block)
+            self.met[block] = level, None
+            low, high = items[0][0], items[-1][0]
+            for at, (key, child) in enumerate(items if level else []):
+                least, high = self.visit(child, level - 1)
+                if least != key or at + 1 < len(items) and high >= items[at + 1][0]:
+                    raise Damaged(child)
+            self.met[block] = level, (low, high)
+        level, keys = self.met[block]
+        if expected not in (None, level):
+            raise Damaged(block)
+        return keys
+
+
+def refusal(disk):
+    """What opening a file of these blocks is answered, if it is refused."""
+    if len(disk) < 64 or disk[0] != Store(64).disk[0]:
+        return "19 NotAStore"
+    try:
+        blocks, entries = slot_in(disk, 18 if disk[1][0] & 1 else 2)
+        if blocks > len(disk):
+            return "21 BadSize"
+        walk = Walk(disk, blocks)
+        for it in entries:
+            for root in (it.current, it.base):
+                if root:
+                    walk.visit(root, None)
+    except Damaged as damaged:
+        return f"18 Damaged {damaged.args[0]}"
+    return None
+
+
+def spoiled(rng, disk):
+    """The blocks with some bytes changed where they count, or cut off."""
+    disk = list(disk)
+    if rng.random() < 0.05:
+        return disk[: rng.choice([20, 63, len(disk) - 1])]
+    used = [0, 1, 2, 2, 18, 18, *(it for it in range(FIRST, len(disk)) if any(disk[it]))]
+    for _ in range(rng.choice([1, 1, 2])):
+        block = rng.choice(used)
+        text = bytearray(disk[block])
+        at = rng.choice([rng.randrange(16), rng.randrange(128, 256), rng.randrange(300), rng.randrange(BLOCK)])
+        if block >= FIRST and rng.random() < 0.3:
+            text = bytearray(disk[rng.choice(used)])
+        elif text[:4] == b"NODE" and rng.random() < 0.6:
+            at = 16 + 14 * rng.randrange(struct.unpack_from("<I", text, 8)[0]) + rng.choice([2, 10, 10, 11])
+            text[at] = rng.choice([0, 1, 33, 34, 35, rng.randrange(256)])
+        elif block in (2, 18) and rng.random() < 0.4:
+            at = 128 * rng.randrange(1, 6) + rng.choice([0, 1, 2, 34, 35, 67, 67, 71, 71])
+            text[at] = rng.choice([0, 1, 0x41, 0x43, 34, 35, rng.randrange(256)])
+        else:
+            text[at] = rng.choice([0, 1, 255, text[at] ^ 1, rng.randrange(256)])
+        disk[block] = bytes(text)
+    return disk
+
+
+def opened(altctl, rng, file, disk):
+    """Opens spoiled files, and says what differs from the model."""
+    for _ in range(12):
+        blocks = spoiled(rng, disk)
+        with open(file, "wb") as it:
+            it.write(b"".join(blocks))
+        ran = subprocess.run([altctl, "run", file], input=b"alts\nlist top\nfree\n", stdout=subprocess.PIPE, stderr=subprocess.PIPE)
+        why, answers = refusal(blocks), ""
+        if why is None:
+            store = Store(64)
+            store.disk = blocks
+            store.open()
+            store.disk = blocks[: struct.unpack_from("<I", blocks[18 if blocks[1][0] & 1 else 2], 8)[0]]
+            answers = "".join(store.apply(words) + "\n" for words in (["alts"], ["list", "top"], ["free"]))
+        wanted = (1, b"", f"altctl: {why}\n".encode()) if why else (0, answers.encode(), b"")
+        if (ran.returncode, ran.stdout, ran.stderr) != wanted:
+            return f"a spoiled file, left as spoiled.alt, is answered {ran}, and not {wanted}"
+    return None
+
+
+# --- random sessions
+
+
+class Editor:
+    """Makes random lines, each with its meaning: None for no answer, a text for an answer that never changes, or words for the store."""
+
+    def __init__(self, rng, blocks):
+        self.rng, self.blocks = rng, blocks
+        self.names = ["top", "top", "a", "b", "c", "d-1", "e.f_G"]
+        self.marks = ["k", "l", "m" * 32]
+        self.width = rng.choice([3, 20, 60, 400, 3000])
+
+    def key(self):
+        if self.rng.random() < 0.02:
+            return self.rng.choice([(65535, 2**64 - 1), (0, 0), (256, 1), (255, 2**63)])
+        return self.rng.choice([1, 1, 1, 7]), self.rng.randrange(self.width)
+
+    def value(self):
+        size = self.rng.choice([0, 1, 1, 1, 2, 4, 4, 10, 240])
+        return bytes(self.rng.choice([45, 97, 98, self.rng.randrange(256)]) for _ in range(size))
+
+    def typed(self, value):
+        """One of the ways to write a value."""
+        if value == b"":
+            return "-"
+        if value == b"-":
+            return self.rng.choice(["%2d", "%2D"])
+        text = ""
+        for b in value:
+            plain = 0x21 <= b <= 0x7E and b != 0x25
+            text += chr(b) if plain and self.rng.random() < 0.9 else self.rng.choice([f"%{b:02x}", f"%{b:02X}"])
+        return text
+
+    def spaced(self, words):
+        """The words of a line, and an end of it."""
+        if self.rng.random() < 0.9:
+            return " ".join(words) + "\n"
+        gap = lambda least: " " * self.rng.randrange(least, 4)
+        return gap(0) + "".join(it + gap(1) for it in words[:-1]) + words[-1] + gap(0) + self.rng.choice(["\n", "\r\n"])
+
+    def odd(self):
+        bad = ["PUT top 1 1 a", "get top x 1", "get top 65536 1", "get top 1 18446744073709551616", "commit now", "put top 1 1", "put top 1 1 %z1"]
+        bad += ["put top 1 1 " + "x" * 241, "new a", "new a~ top", "new " + "n" * 33 + " top", "merge", "merge top 1:1=ours", "get\ttop 1 1", "free\r\r"]
+        if self.rng.random() < 0.3:
+            return self.rng.choice(["", "# note", "   ", "  #x"]) + "\n", None
+        return self.rng.choice(bad) + "\n", "error 22 BadLine"
+
+    def line(self, store):
+        draw, name = self.rng.random(), self.rng.choice(self.names)
+        if draw < 0.02:
+            return self.odd()
+        if draw < 0.45:
+            key, value = self.key(), self.value()
+            table = self.rng.choice([str(key[0]), str(key[0]).rjust(5, "0")])
+            return self.spaced(["put", name, table, str(key[1]), self.typed(value)]), ["put", name, key, value]
+        if draw < 0.62:
+            key = self.key()
+            verb = self.rng.choice(["remove", "remove", "get"])
+            return self.spaced([verb, name, str(key[0]), str(key[1])]), [verb, name, key]
+        if draw < 0.70:
+            words = ["new", self.rng.choice(self.names), name]
+        elif draw < 0.72:
+            words = ["drop", name]
+        elif draw < 0.79:
+            words = [self.rng.choice(["checkpoint", "uncheck", "back"]), name, self.rng.choice(self.marks)]
+        elif draw < 0.87:
+            return self.merged(store, name)
+        elif draw < 0.91:
+            words = ["post", name]
+        elif draw < 0.97:
+            words = [self.rng.choice(["commit", "commit", "reclaim", "free", "free", "alts"])]
+        else:
+            words = [self.rng.choice(["list", "changes", "conflicts", "checks"]), name]
+        return self.spaced(words), words
+
+    def merged(self, store, name):
+        """A merge that mostly settles what is in conflict."""
+        try:
+            found = [key for key, *_ in store.in_conflict(*store.sides(name)[2:])]
+        except Refused:
+            found = []
+        if self.rng.random() < 0.15 and found:
+            found.pop(self.rng.randrange(len(found)))
+        if self.rng.random() < 0.05:
+            found.append(self.rng.choice([*found, self.key()]))
+        if self.rng.random() < 0.3:
+            self.rng.shuffle(found)
+        settled = [(key, self.rng.choice(["mine", "theirs"])) for key in found]
+        return self.spaced(["merge", name, *[f"{k[0]}:{k[1]}={side}" for k, side in settled]]), ["merge", name, settled]
+
+
+def compared(altctl, rng, folder):
+    """Makes a file, runs some sessions over it, and says what differs from the model."""
+    file, blocks = os.path.join(folder, "map.alt"), rng.choice([64, 64, 66, 100, 200, 1000])
+    made = subprocess.run([altctl, "create", file, str(blocks)], stdout=subprocess.PIPE, stderr=subprocess.PIPE)
+    if (made.returncode, made.stdout) != (0, f"created {blocks}\n".encode()):
+        return f"create said {made}"
+    store, editor = Store(blocks), Editor(rng, blocks)
+    count = 0
+    for _ in range(rng.randrange(1, 5)):
+        store.open()
+        lines, answers = "", []
+        for _ in range(rng.choice([10, 100, 400])):
+            line, words = editor.line(store)
+            lines += line
+            if isinstance(words, list):
+                try:
+                    words = store.apply(words)
+                except Refused as refused:
+                    words = refused.text
+            if words is not None:
+                answers.append(words + "\n")
+            count += 1
+        ran = subprocess.run([altctl, "run", file], input=lines.encode("latin-1"), stdout=subprocess.PIPE, stderr=subprocess.PIPE)
+        if (ran.returncode, ran.stdout.decode(), ran.stderr) != (0, "".join(answers), b""):
+            return f"the answers differ: {difference(lines, answers, ran)}"
+        with open(file, "rb") as it:
+            found = it.read()
+        for at, block in enumerate(store.disk):
+            if found[at * BLOCK : (at + 1) * BLOCK] != block:
+                return f"block {at} differs after these lines:\n{lines}"
+        if len(found) != BLOCK * blocks:
+            return "the file has another length"
+    why = opened(altctl, rng, file, store.disk)
+    if why:
+        os.replace(file, "spoiled.alt")
+        return why
+    os.remove(file)
+    return count
+
+
+def difference(lines, answers, ran):
+    given, wanted = ran.stdout.decode().split("\n"), "".join(answers).split("\n")
+    at = next((i for i, (a, b) in enumerate(zip(given, wanted)) if a != b), min(len(given), len(wanted)))
+    return f"status {ran.returncode}, {ran.stderr!r}, at answer line {at + 1}: {given[at : at + 3]} and not {wanted[at : at + 3]}; lines:\n{lines}"
+
+
+def main():
+    words = argparse.ArgumentParser(description=__doc__)
+    words.add_argument("-n", type=int, default=200, help="so many files")
+    words.add_argument("-s", type=int, default=1, help="the first seed")
+    words.add_argument("altctl", nargs="?", default=os.path.join(os.path.dirname(os.path.abspath(__file__)), "..", "altctl"))
+    said = words.parse_args()
+    lines = 0
+    with tempfile.TemporaryDirectory() as folder:
+        for seed in range(said.s, said.s + said.n):
+            found = compared(said.altctl, random.Random(seed), folder)
+            if isinstance(found, str):
+                print(f"compare: seed {seed}: {found}", file=sys.stderr)
+                return 1
+            lines += found
+    print(f"{said.n} files, {lines} lines, {12 * said.n} spoiled files: all answers and all bytes are as the model has them")
+    return 0
+
+
+if __name__ == "__main__":
+    sys.exit(main())
