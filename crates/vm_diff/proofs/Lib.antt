@@ -3,3 +3,4 @@ pub mod OpenLemmas
 pub mod DeltaLemmas
 pub mod StepLemmas
 pub mod CompareLemmas
+pub mod MergingLemmas

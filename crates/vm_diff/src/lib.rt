@@ -1,13 +1,15 @@
-//! Where two maps in trees of blocks differ.
+//! Where two maps in trees of blocks differ, and what a merge makes of two such lists.
 //!
 //! It stands on `vm_tree`, `vm_block` and `vm_disk`. Its one promise: just the keys at which the
 //! maps differ, each once and in order, with both values. Two walks go through both trees by
-//! rising keys, and skip each subtree that both stand before.
+//! rising keys, and skip each subtree that both stand before. Of what two sides changed of one base,
+//! the lists are gone through together: they give the conflicts, and what a merge changes.
 #![tactic(auto)]
 
 mod comparing;
 mod cursor;
 mod front;
+mod merging;
 mod opening;
 mod reading;
 mod stepping;
@@ -15,3 +17,4 @@ mod stepping;
 mod tests;
 
 pub use comparing::{changed, same};
+pub use merging::{changes_by_merge, conflicts_between, settled_refusal};

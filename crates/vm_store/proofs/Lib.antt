@@ -12,7 +12,6 @@ pub mod Listing
 pub mod MarkedLemmas
 pub mod MarkingLemmas
 pub mod MergeSteps
-pub mod MergingLemmas
 pub mod MovedLemmas
 pub mod OpeningLemmas
 pub mod PairLemmas

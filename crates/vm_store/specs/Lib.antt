@@ -5,7 +5,6 @@ pub mod Filed
 pub mod Formatting
 pub mod Guarded
 pub mod Marking
-pub mod Merging
 pub mod Opening
 pub mod Pairs
 pub mod Refused

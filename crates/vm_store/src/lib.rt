@@ -8,7 +8,6 @@
 
 mod changing;
 mod faults;
-mod merging;
 mod sides;
 mod store;
 mod versions;

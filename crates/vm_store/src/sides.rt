@@ -8,9 +8,8 @@ ghost use Rattle.vm_store.specs.Sides.{ReadsOr, refusal_in};
 ghost use Rattle.vm_store.specs.Sizes.{sizes};
 
 use crate::faults::refusal_of;
-use crate::merging::{changes_by_merge, conflicts_between, settled_refusal};
 use std::alloc::Global;
-use vm_diff::changed;
+use vm_diff::{changed, changes_by_merge, conflicts_between, settled_refusal};
 use vm_disk::Disk;
 use vm_tree::Root;
 use vm_types::{Change, Conflict, Key, Refusal, Side};

@@ -1,8 +1,8 @@
 use Rattle.std.proofs.Common.{◌++◌, sym, ap, ◌∙◌, arith, append-nil}
 use Rattle.std.proofs.lemmas.List.{at_drop_all}
-use Rattle.vm_store.specs.Merging.{clash}
-use Rattle.vm_store.proofs.MergingLemmas.{side_by_side, conflicts-deltas}
-use Rattle.vm_store.proofs.merging.conflicts_between.Goals as goal
+use Rattle.vm_diff.specs.Merging.{clash}
+use Rattle.vm_diff.proofs.MergingLemmas.{side_by_side, conflicts-deltas}
+use Rattle.vm_diff.proofs.merging.conflicts_between.Goals as goal
 
 pub returns-clause-list : goal.returns-clause-list
 returns-clause-list c = λ base parent own f g h theirs mine.

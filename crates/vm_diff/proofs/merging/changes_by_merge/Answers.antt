@@ -1,8 +1,8 @@
 use Rattle.std.proofs.Common.{◌++◌, sym, ap, ◌∙◌, arith, append-nil}
 use Rattle.std.proofs.lemmas.List.{at_drop_all}
-use Rattle.vm_store.specs.Merging.{taken}
-use Rattle.vm_store.proofs.MergingLemmas.{side_by_side, merge-deltas}
-use Rattle.vm_store.proofs.merging.changes_by_merge.Goals as goal
+use Rattle.vm_diff.specs.Merging.{taken}
+use Rattle.vm_diff.proofs.MergingLemmas.{side_by_side, merge-deltas}
+use Rattle.vm_diff.proofs.merging.changes_by_merge.Goals as goal
 
 pub returns-clause-list : goal.returns-clause-list
 returns-clause-list c = λ base parent own f g h theirs mine.

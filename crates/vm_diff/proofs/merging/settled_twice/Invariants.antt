@@ -1,6 +1,6 @@
 use Rattle.std.proofs.Common.{◌≡◌, [], map, take, drop}
 use Rattle.vm_types.specs.Step.{first_repeated}
-use Rattle.vm_store.proofs.merging.settled_twice.Given as goal
+use Rattle.vm_diff.proofs.merging.settled_twice.Given as goal
 
 -- no key so far repeats an earlier one
 abbrev pub invariant-loop-i : goal.invariant-loop-i

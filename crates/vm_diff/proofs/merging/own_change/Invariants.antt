@@ -1,6 +1,6 @@
 use Rattle.std.proofs.Common.{◌≡◌, drop}
-use Rattle.vm_store.specs.Merging.{from_key}
-use Rattle.vm_store.proofs.merging.own_change.Given as goal
+use Rattle.vm_diff.specs.Merging.{from_key}
+use Rattle.vm_diff.proofs.merging.own_change.Given as goal
 
 -- each change so far is at a lower key
 abbrev pub invariant-loop-i : goal.invariant-loop-i

@@ -1,7 +1,7 @@
 use Rattle.std.proofs.Common.{◌≡◌, ◌++◌, drop}
-use Rattle.vm_store.specs.Merging.{clash}
-use Rattle.vm_store.proofs.MergingLemmas.{side_by_side}
-use Rattle.vm_store.proofs.merging.conflicts_between.Given as goal
+use Rattle.vm_diff.specs.Merging.{clash}
+use Rattle.vm_diff.proofs.MergingLemmas.{side_by_side}
+use Rattle.vm_diff.proofs.merging.conflicts_between.Given as goal
 
 -- the conflicts so far, with those that are ahead, are all
 abbrev pub invariant-loop-change : goal.invariant-loop-change

@@ -5,7 +5,7 @@ ghost use Rattle.std.specs.List.{list_any};
 ghost use Rattle.std.specs.Option.{option_copied};
 ghost use Rattle.vm_types.specs.Map.{Map, IsMap, same_key, delta, conflicts, side_of, merge};
 ghost use Rattle.vm_types.specs.Step.{settled_refusal, first_repeated};
-ghost use Rattle.vm_store.specs.Merging.{from_key, first_at, clash, taken};
+ghost use Rattle.vm_diff.specs.Merging.{from_key, first_at, clash, taken};
 
 use std::alloc::Global;
 use std::cmp::Ordering;

@@ -1,6 +1,6 @@
 use Rattle.std.proofs.Common.{is_some, sym, ap, ◌∙◌}
-use Rattle.vm_store.proofs.MergingLemmas.{first_repeated-here, first_repeated-later}
-use Rattle.vm_store.proofs.merging.settled_twice.Goals as goal
+use Rattle.vm_diff.proofs.MergingLemmas.{first_repeated-here, first_repeated-later}
+use Rattle.vm_diff.proofs.merging.settled_twice.Goals as goal
 
 pub returns-then-is_some : goal.returns-then-is_some
 returns-then-is_some c =

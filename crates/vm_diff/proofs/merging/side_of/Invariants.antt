@@ -1,6 +1,6 @@
 use Rattle.std.proofs.Common.{◌≡◌, drop}
 use Rattle.vm_types.specs.Map.{side_of}
-use Rattle.vm_store.proofs.merging.side_of.Given as goal
+use Rattle.vm_diff.proofs.merging.side_of.Given as goal
 
 -- the key is none of those so far
 abbrev pub invariant-loop-other : goal.invariant-loop-other

@@ -1,7 +1,7 @@
 use Rattle.std.proofs.Common.{◌≡◌, ◌++◌, drop}
-use Rattle.vm_store.specs.Merging.{taken}
-use Rattle.vm_store.proofs.MergingLemmas.{side_by_side}
-use Rattle.vm_store.proofs.merging.changes_by_merge.Given as goal
+use Rattle.vm_diff.specs.Merging.{taken}
+use Rattle.vm_diff.proofs.MergingLemmas.{side_by_side}
+use Rattle.vm_diff.proofs.merging.changes_by_merge.Given as goal
 
 -- the changes so far, with those that are ahead, are all
 abbrev pub invariant-loop-change : goal.invariant-loop-change
