@@ -4,3 +4,4 @@ pub mod DeltaLemmas
 pub mod StepLemmas
 pub mod CompareLemmas
 pub mod MergingLemmas
+pub mod SettledLemmas

@@ -20,11 +20,11 @@ use Rattle.vm_types.proofs.Maps.{same_value-Decides, keys_of-any, tabulated, get
 use Rattle.vm_types.proofs.Changes.{is_below, is_below-lower, is_below-head, IsMap-tail, get_below, change_of}
 use Rattle.vm_diff.specs.Merging.{from_key, first_at, clash, chosen, taken}
 
-or_true_left : (s t : Bool) → s ≡ true → (s || t) ≡ true
+pub or_true_left : (s t : Bool) → s ≡ true → (s || t) ≡ true
 or_true_left true t h = refl
 or_true_left false t h = cc
 
-or_true_right : (s t : Bool) → t ≡ true → (s || t) ≡ true
+pub or_true_right : (s t : Bool) → t ≡ true → (s || t) ≡ true
 or_true_right true t h = refl
 or_true_right false t h = h
 
@@ -35,7 +35,7 @@ not_any_below : (q : Key) (m : Map) → is_below q m ≡ true → list_any (same
 not_any_below q m h = sym (entries.is_some-find key_cmp q m) ∙ ap is_some (get_below q m h)
 
 -- a key that is below a map is below each of its keys
-above_all : (k q : Key) (m : Map) → is_below k m ≡ true → list_any (same_key q) (map (λ r. r.0) m) ≡ true → key_cmp k q ≡ Less
+pub above_all : (k q : Key) (m : Map) → is_below k m ≡ true → list_any (same_key q) (map (λ r. r.0) m) ≡ true → key_cmp k q ≡ Less
 above_all k q [] h any = cc
 above_all k q (r ∷ m) h any =
     let here = and_parts (is_lt (key_cmp k r.0)) (is_below k m) h in
@@ -61,7 +61,7 @@ abbrev pub at_key : Key → List Change → Option Change
 at_key key changes = first_at key (from_key key changes)
 
 -- a change has the key at which the maps differ
-key-change_at : (m n : Map) (k : Key) (c : Change) → change_at m n k ≡ Some c → c.key ≡ k
+pub key-change_at : (m n : Map) (k : Key) (c : Change) → change_at m n k ≡ Some c → c.key ≡ k
 key-change_at m n k c h =
     elim (same_value (get m k) (get n k)) as (λ t. cond {A = Option Change} t None (Some (record { key = k; before = get m k; after = get n k })) ≡ Some c → c.key ≡ k) [
       | true ↦ λ e. cc

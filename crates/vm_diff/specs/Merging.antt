@@ -18,6 +18,11 @@ abbrev pub first_at : Key → List Change → Option Change
 first_at key [] = None
 first_at key (c ∷ changes) = if same_key c.key key then Some c else None
 
+-- the settlements without the first ones that have lower keys
+abbrev pub settled_from : Key → List (Key × Side) → List (Key × Side)
+settled_from key [] = []
+settled_from key (e ∷ settled) = if is_lt (key_cmp e.0 key) then settled_from key settled else e ∷ settled
+
 -- the conflict of a change of the parent with one's own at its key, where both made different values
 abbrev pub clash : Change → Option Change → Option Conflict
 clash theirs None = None

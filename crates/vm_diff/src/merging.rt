@@ -1,11 +1,13 @@
 //! What a merge brings into an alternative: conflicts, the changes that it makes, and the refusals of
 //! settlements.
-ghost use Rattle.std.specs.Prelude.{◌≡◌, List, [], not, map, length, filter, is_none, find, IfOk, IfErr};
+ghost use Rattle.std.specs.Prelude.{◌≡◌, ◌↔◌, IsTrue, List, [], not, nat_lt, if◌then◌else◌, map, length, filter, Some, None, is_none, find, IfOk, IfErr};
 ghost use Rattle.std.specs.List.{list_any};
+ghost use Rattle.std.specs.List.Sorted.{IsStrictlySortedBy};
 ghost use Rattle.std.specs.Option.{option_copied};
-ghost use Rattle.vm_types.specs.Map.{Map, IsMap, same_key, delta, conflicts, side_of, merge};
+ghost use Rattle.vm_types.specs.declared.refusal.Refusal.TheVariants.{Unsettled};
+ghost use Rattle.vm_types.specs.Map.{Map, IsMap, key_cmp, same_key, delta, conflicts, side_of, merge};
 ghost use Rattle.vm_types.specs.Step.{settled_refusal, first_repeated};
-ghost use Rattle.vm_diff.specs.Merging.{from_key, first_at, clash, taken};
+ghost use Rattle.vm_diff.specs.Merging.{from_key, first_at, settled_from, clash, taken};
 
 use std::alloc::Global;
 use std::cmp::Ordering;
@@ -53,6 +55,18 @@ fn side_of(settled: &[(Key, Side)], key: Key) -> Option<Side>
     None
 }
 
+/// The settlements without the first ones that have lower keys.
+fn settled_from(settled: &[(Key, Side)], key: Key) -> &[(Key, Side)]
+    ensures { result.now ≡ settled_from key settled.now }
+{
+    for (i, (other, _)) in settled.iter().enumerate() {
+        if other.cmp(&key) != Ordering::Less {
+            return &settled[i..];
+        }
+    }
+    &[]
+}
+
 /// What the merge changes at the key of a change of the parent.
 fn taken(settled: &[(Key, Side)], theirs: &Change, own: Option<&Change>) -> Option<Change>
     ensures { result ≡ taken settled.now theirs.now (option_copied own.entry) }
@@ -97,7 +111,8 @@ pub fn conflicts_between(
 }
 
 /// What a merge changes in the alternative, by rising keys. It answers `Memory` where there is none for
-/// the list.
+/// the list. Where the settlements have rising keys, too, and settle each conflict, it goes through all
+/// three lists once.
 pub fn changes_by_merge(
     alloc: Global,
     theirs: &[Change],
@@ -110,10 +125,12 @@ pub fn changes_by_merge(
 {
     let mut changes = Vec::new(alloc);
     let mut ahead = mine;
+    let mut unused = settled;
     for change in theirs {
         let (own, rest) = own_change(ahead, change.key);
         ahead = rest;
-        if let Some(change) = taken(settled, change, own) {
+        unused = settled_from(unused, change.key);
+        if let Some(change) = taken(unused, change, own) {
             changes.push(change).map_err(|_| Refusal::Memory)?;
         }
     }
@@ -163,18 +180,76 @@ fn unsettled(settled: &[(Key, Side)], conflicts: &[Conflict]) -> usize
         .count()
 }
 
-/// Why these settlements are refused, where they are. `conflicts` is the list of all conflicts.
+/// The refusal where this many conflicts are left, if any is.
+fn unsettled_refusal(count: usize) -> Option<Refusal>
+    ensures { result ≡ (if nat_lt 0 count then Some (Unsettled count) else None) }
+{
+    match count {
+        0 => None,
+        count => Some(Refusal::Unsettled(count as u64)),
+    }
+}
+
+/// Whether the keys of settlements rise.
+fn settled_rise(settled: &[(Key, Side)]) -> bool
+    ensures { IsTrue result ↔ IsStrictlySortedBy key_cmp (map (λ e. e.0) settled.now) }
+{
+    settled.is_sorted_by(|one, next| one.0.cmp(&next.0).is_lt())
+}
+
+/// Whether the keys of conflicts rise.
+fn conflicts_rise(conflicts: &[Conflict]) -> bool
+    ensures { IsTrue result ↔ IsStrictlySortedBy key_cmp (map (λ c. c.key) conflicts.now) }
+{
+    conflicts.is_sorted_by(|one, next| one.key.cmp(&next.key).is_lt())
+}
+
+/// The first settlement's key that is in no conflict, where the keys of both lists rise: one pass.
+fn first_unmatched(settled: &[(Key, Side)], conflicts: &[Conflict]) -> Option<Key>
+    requires settled { IsStrictlySortedBy key_cmp (map (λ e. e.0) settled.now) }
+    requires conflicts { IsStrictlySortedBy key_cmp (map (λ c. c.key) conflicts.now) }
+    ensures { result ≡ find (λ key. not (list_any (same_key key) (map (λ c. c.key) conflicts.now))) (map (λ e. e.0) settled.now) }
+{
+    let mut ahead = settled;
+    for conflict in conflicts {
+        let Some(((key, _), rest)) = ahead.split_first() else {
+            return None;
+        };
+        match conflict.key.cmp(key) {
+            Ordering::Less => {}
+            Ordering::Equal => ahead = rest,
+            Ordering::Greater => return Some(*key),
+        }
+    }
+    ahead.first().map(|(key, _)| *key)
+}
+
+/// Why settlements are refused, where they are, and the keys of both lists rise. Then none is settled
+/// twice, and each settlement that is in a conflict settles one of its own.
+fn rising_refusal(settled: &[(Key, Side)], conflicts: &[Conflict]) -> Option<Refusal>
+    requires settled { IsStrictlySortedBy key_cmp (map (λ e. e.0) settled.now) }
+    requires conflicts { IsStrictlySortedBy key_cmp (map (λ c. c.key) conflicts.now) }
+    ensures { result ≡ settled_refusal settled.now (map (λ c. c.key) conflicts.now) }
+{
+    if let Some(key) = first_unmatched(settled, conflicts) {
+        return Some(Refusal::NotInConflict(key));
+    }
+    unsettled_refusal(conflicts.len() - settled.len())
+}
+
+/// Why these settlements are refused, where they are. `conflicts` is the list of all conflicts. Where the
+/// keys of both rise, it goes through them once; else each key is searched in the other list.
 pub fn settled_refusal(settled: &[(Key, Side)], conflicts: &[Conflict]) -> Option<Refusal>
     ensures { result ≡ settled_refusal settled.now (map (λ c. c.key) conflicts.now) }
 {
+    if settled_rise(settled) && conflicts_rise(conflicts) {
+        return rising_refusal(settled, conflicts);
+    }
     if let Some(key) = settled_twice(settled) {
         return Some(Refusal::SettledTwice(key));
     }
     if let Some(key) = not_in_conflict(settled, conflicts) {
         return Some(Refusal::NotInConflict(key));
     }
-    match unsettled(settled, conflicts) {
-        0 => None,
-        count => Some(Refusal::Unsettled(count as u64)),
-    }
+    unsettled_refusal(unsettled(settled, conflicts))
 }
