@@ -1,6 +1,10 @@
 pub mod CursorLemmas
 pub mod OpenLemmas
 pub mod DeltaLemmas
+pub mod SharedLemmas
+pub mod ApartLemmas
+pub mod StartLemmas
+pub mod PayLemmas
 pub mod StepLemmas
 pub mod CompareLemmas
 pub mod MergingLemmas

@@ -1,58 +1,39 @@
 -- What is left to differ after a step of two walks.
-use Rattle.std.proofs.Common.{◌≡◌, ℕ, ◌+◌, ◌^◌, ◌<◌, true, false, cond, List, [], ◌∷◌, ◌++◌, drop, bytes_eq, Option, Some, None, Result, Ok, Err, refl, sym, ap, ap₂, ◌∙◌, subst, arith}
+use Rattle.std.proofs.Common.{◌≡◌, ℕ, ◌+◌, ◌<◌, ◌≤◌, true, false, cond, List, ◌∷◌, ◌++◌, length, drop, bytes_eq, Option, Some, None, Result, Ok, Err, refl, sym, ap, ap₂, ◌∙◌, subst, arith}
 use Rattle.std.specs.List.{cons_option}
 use Rattle.std.specs.Prelude.{⊤}
 use Rattle.vm_types.specs.declared.key.Key.{Key}
 use Rattle.vm_types.specs.declared.change.Change.{Change}
 use Rattle.vm_types.specs.Map.{delta}
-use Rattle.vm_types.specs.Places.{place, RisesFrom, places}
+use Rattle.vm_types.specs.Places.{place}
 use Rattle.vm_types.proofs.Bridge.{exact_places}
 use Rattle.vm_types.proofs.Changes.{change_of}
 use Rattle.vm_disk.specs.Disk.{Contents}
 use Rattle.vm_block.specs.Leaf.{Record}
-use Rattle.vm_block.specs.Tree.{Sizes, Begins, Subtree}
+use Rattle.vm_block.specs.Tree.{Sizes, Subtree}
 use Rattle.vm_block.proofs.TreeLemmas.{subtree_one}
 use Rattle.vm_tree.specs.Answers.{OkOrDevice}
 use Rattle.vm_tree.specs.declared.root.Root.{Root}
 use Rattle.vm_tree.specs.declared.root.TreeFault.{TreeFault}
 use Rattle.vm_diff.specs.Walk.{Walk, IsAhead, Under}
-use Rattle.vm_diff.specs.Front.{first_of, front_of, place_of}
+use Rattle.vm_diff.specs.Front.{front_of, place_of, opened_at}
+use Rattle.vm_diff.specs.Shared.{unshared}
 use Rattle.vm_diff.specs.Differ.{AreRising, Differ, Passes}
 use Rattle.vm_diff.specs.Steps.{StepsBy, moved_by}
 use Rattle.vm_diff.specs.declared.front.Step.{Step}
 use Rattle.vm_diff.specs.declared.front.Front.TheVariants.{Pair, Top}
+use Rattle.vm_diff.proofs.ApartLemmas.{all_above, subtree_apart}
 use Rattle.vm_diff.proofs.OpenLemmas.{front_top, top_ahead, pair_passed}
+use Rattle.vm_diff.proofs.PayLemmas.{GoesFirst, lower_first, left_paid, right_paid}
+use Rattle.vm_diff.proofs.SharedLemmas.{skip_free}
+use Rattle.vm_diff.proofs.StartLemmas.{StartsAt, starts, above_start}
 use Rattle.vm_diff.proofs.DeltaLemmas.{rising_rest, rising_back, first_removed, first_added, first_both, shared_front}
 
--- the first of these records stands at p, or there is none, and p is the place of the end
-abbrev StartsAt : ℕ → List Record → Type 0
-StartsAt p [] = p ≡ 2 ^ 80
-StartsAt p (r ∷ rs) = place r.0 ≡ p
-
-module _ (sizes : Sizes) (x : Contents) (limit : ℕ) where
-  starts_later : (ts : List Root) (rs : List Record) (bs : List ℕ) → Under sizes x limit ts rs bs → StartsAt (place_of (first_of [] ts)) rs
-  starts_later [] rs bs u = subst (StartsAt (2 ^ 80)) (sym u.0) refl
-  starts_later (t ∷ ts) rs bs u = subst (StartsAt (place t.low)) (sym u.7) (begins u.0 u.5)
-    where
-      begins : (first : List Record) → Begins t.low first → StartsAt (place t.low) (first ++ u.1)
-      begins [] b = absurd b
-      begins (r ∷ first) b = ap place b
-
-  starts_parts : (ps : List Record) (ts : List Root) (later : List Record) (bs : List ℕ) → Under sizes x limit ts later bs → StartsAt (place_of (first_of ps ts)) (ps ++ later)
-  starts_parts [] ts later bs u = starts_later ts later bs u
-  starts_parts (p ∷ ps) ts later bs u = refl
-
-  -- what is ahead of a walk starts where the walk stands
-  starts : (walk : Walk) (rs : List Record) (bs : List ℕ) → IsAhead sizes x limit walk rs bs → StartsAt (place_of (front_of walk)) rs
-  starts walk rs bs ahead = subst (StartsAt (place_of (front_of walk))) (sym ahead.records) (starts_parts walk.pending walk.tops ahead.later bs ahead.under)
-
-  above_start : (p q : ℕ) (rs : List Record) → p < q → StartsAt q rs → AreRising rs → RisesFrom (p + 1) (places rs)
-  above_start p q [] lt s h = tt
-  above_start p q (r ∷ rs) lt s h = (omega (arith, s), h.rising.1)
-
+module _ (sizes : Sizes) (x : Contents) (limit reads most : ℕ) where
   -- the first walk has opened a subtree
-  pub left_moved : (one other now : Walk) (changes : List Change) (d : Differ sizes x limit one other changes) → Passes sizes x limit None now d.first → Differ sizes x limit now other changes
-  left_moved one other now changes d p = record {
+  pub left_moved : (one other now : Walk) (later : ℕ) (changes : List Change) (d : Differ sizes x limit one other reads most changes) → GoesFirst (front_of one) (front_of other) → later ≤ reads + length (opened_at (front_of one))
+      → Passes sizes x limit (front_of one) None now d.first d.first_blocks → Differ sizes x limit now other later most changes
+  left_moved one other now later changes d first few p = record {
     first = p.rest;
     second = d.second;
     first_blocks = p.rest_blocks;
@@ -62,11 +43,13 @@ module _ (sizes : Sizes) (x : Contents) (limit : ℕ) where
     first_rising = subst AreRising p.records d.first_rising;
     second_rising = d.second_rising;
     differences = d.differences ∙ ap (λ (m : List Record). delta m d.second) p.records;
+    paid = left_paid sizes x limit one other reads later most changes d first few p.rest_blocks p.blocks;
   }
 
   -- or the second
-  pub right_moved : (one other now : Walk) (changes : List Change) (d : Differ sizes x limit one other changes) → Passes sizes x limit None now d.second → Differ sizes x limit one now changes
-  right_moved one other now changes d p = record {
+  pub right_moved : (one other now : Walk) (later : ℕ) (changes : List Change) (d : Differ sizes x limit one other reads most changes) → GoesFirst (front_of other) (front_of one) → later ≤ reads + length (opened_at (front_of other))
+      → Passes sizes x limit (front_of other) None now d.second d.second_blocks → Differ sizes x limit one now later most changes
+  right_moved one other now later changes d first few p = record {
     first = d.first;
     second = p.rest;
     first_blocks = d.first_blocks;
@@ -76,15 +59,16 @@ module _ (sizes : Sizes) (x : Contents) (limit : ℕ) where
     first_rising = d.first_rising;
     second_rising = subst AreRising p.records d.second_rising;
     differences = d.differences ∙ ap (delta d.first) p.records;
+    paid = right_paid sizes x limit one other reads later most changes d first few p.rest_blocks p.blocks;
   }
 
   -- the first walk has gone past a record below all that is ahead of the second
-  pub left_found : (one other now : Walk) (changes : List Change) (r : Record) → place_of (front_of one) < place_of (front_of other) → (d : Differ sizes x limit one other changes) → Passes sizes x limit (Some r) now d.first
-      → (rest : List Change) × (changes ≡ record { key = r.0; before = Some r.1; after = None } ∷ rest) × Differ sizes x limit now other rest
-  left_found one other now changes r lt d p =
-      let start : place r.0 ≡ place_of (front_of one) = subst (StartsAt (place_of (front_of one))) p.records (starts one d.first d.first_blocks d.first_ahead) in
+  pub left_found : (one other now : Walk) (later : ℕ) (changes : List Change) (r : Record) → place_of (front_of one) < place_of (front_of other) → (d : Differ sizes x limit one other reads most changes) → later ≤ reads + length (opened_at (front_of one))
+      → Passes sizes x limit (front_of one) (Some r) now d.first d.first_blocks → (rest : List Change) × (changes ≡ record { key = r.0; before = Some r.1; after = None } ∷ rest) × Differ sizes x limit now other later most rest
+  left_found one other now later changes r lt d few p =
+      let start : place r.0 ≡ place_of (front_of one) = subst (StartsAt (place_of (front_of one))) p.records (starts sizes x limit one d.first d.first_blocks d.first_ahead) in
       let rising = subst AreRising p.records d.first_rising in
-      let above = above_start (place r.0) (place_of (front_of other)) d.second (omega (arith, start, lt)) (starts other d.second d.second_blocks d.second_ahead) d.second_rising in (
+      let above = above_start (place r.0) (place_of (front_of other)) d.second (omega (arith, start, lt)) (starts sizes x limit other d.second d.second_blocks d.second_ahead) d.second_rising in (
         delta p.rest d.second,
         d.differences ∙ ap (λ (m : List Record). delta m d.second) p.records ∙ first_removed r p.rest d.second rising d.second_rising above,
         record {
@@ -97,16 +81,17 @@ module _ (sizes : Sizes) (x : Contents) (limit : ℕ) where
           first_rising = rising_rest r p.rest rising;
           second_rising = d.second_rising;
           differences = refl;
+          paid = left_paid sizes x limit one other reads later most changes d (lower_first (front_of one) (front_of other) lt) few p.rest_blocks p.blocks;
         },
       )
 
   -- or the second one below all that is ahead of the first
-  pub right_found : (one other now : Walk) (changes : List Change) (r : Record) → place_of (front_of other) < place_of (front_of one) → (d : Differ sizes x limit one other changes) → Passes sizes x limit (Some r) now d.second
-      → (rest : List Change) × (changes ≡ record { key = r.0; before = None; after = Some r.1 } ∷ rest) × Differ sizes x limit one now rest
-  right_found one other now changes r lt d p =
-      let start : place r.0 ≡ place_of (front_of other) = subst (StartsAt (place_of (front_of other))) p.records (starts other d.second d.second_blocks d.second_ahead) in
+  pub right_found : (one other now : Walk) (later : ℕ) (changes : List Change) (r : Record) → place_of (front_of other) < place_of (front_of one) → (d : Differ sizes x limit one other reads most changes) → later ≤ reads + length (opened_at (front_of other))
+      → Passes sizes x limit (front_of other) (Some r) now d.second d.second_blocks → (rest : List Change) × (changes ≡ record { key = r.0; before = None; after = Some r.1 } ∷ rest) × Differ sizes x limit one now later most rest
+  right_found one other now later changes r lt d few p =
+      let start : place r.0 ≡ place_of (front_of other) = subst (StartsAt (place_of (front_of other))) p.records (starts sizes x limit other d.second d.second_blocks d.second_ahead) in
       let rising = subst AreRising p.records d.second_rising in
-      let above = above_start (place r.0) (place_of (front_of one)) d.first (omega (arith, start, lt)) (starts one d.first d.first_blocks d.first_ahead) d.first_rising in (
+      let above = above_start (place r.0) (place_of (front_of one)) d.first (omega (arith, start, lt)) (starts sizes x limit one d.first d.first_blocks d.first_ahead) d.first_rising in (
         delta d.first p.rest,
         d.differences ∙ ap (delta d.first) p.records ∙ first_added r d.first p.rest d.first_rising rising above,
         record {
@@ -119,6 +104,7 @@ module _ (sizes : Sizes) (x : Contents) (limit : ℕ) where
           first_rising = d.first_rising;
           second_rising = rising_rest r p.rest rising;
           differences = refl;
+          paid = right_paid sizes x limit one other reads later most changes d (lower_first (front_of other) (front_of one) lt) few p.rest_blocks p.blocks;
         },
       )
 
@@ -132,15 +118,18 @@ module _ (sizes : Sizes) (x : Contents) (limit : ℕ) where
   -- both walks have skipped one subtree
   pub both_skipped : (one other one_now other_now : Walk) (a b : Root) (changes : List Change) → front_of one ≡ Top a → front_of other ≡ Top b → a.block ≡ b.block
       → one_now ≡ record { pending = one.pending; tops = drop 1 one.tops } → other_now ≡ record { pending = other.pending; tops = drop 1 other.tops }
-      → Differ sizes x limit one other changes → Differ sizes x limit one_now other_now changes
+      → Differ sizes x limit one other reads most changes → Differ sizes x limit one_now other_now reads most changes
   both_skipped one other one_now other_now a b changes front_one front_other shared one_is other_is d =
       let s = top_ahead sizes x limit one a d.first d.first_blocks front_one d.first_ahead in
       let t = top_ahead sizes x limit other b d.second d.second_blocks front_other d.second_ahead in
       let there = subst (λ n. Subtree sizes x limit a.level n s.sub s.own) shared s.subtree in
-      let same : s.sub ≡ t.sub = (subtree_one sizes x limit a.level b.level b.block s.sub t.sub s.own t.own there t.subtree).0 in
-      let second : d.second ≡ s.sub ++ t.rest = t.records ∙ ap (λ (qs : List Record). qs ++ t.rest) (sym same) in
+      let same = subtree_one sizes x limit a.level b.level b.block s.sub t.sub s.own t.own there t.subtree in
+      let second : d.second ≡ s.sub ++ t.rest = t.records ∙ ap (λ (qs : List Record). qs ++ t.rest) (sym same.0) in
+      let second_blocks : d.second_blocks ≡ s.own ++ t.others = t.blocks ∙ ap (λ (ds : List ℕ). ds ++ t.others) (sym same.1) in
       let first_rising = subst AreRising s.records d.first_rising in
       let second_rising = subst AreRising second d.second_rising in
+      let left = subtree_apart sizes x limit (drop 1 one.tops) s.rest s.others s.after a.level a.block s.sub s.own s.subtree (all_above 0 s.sub s.rest first_rising.rising) in
+      let right = subtree_apart sizes x limit (drop 1 other.tops) t.rest t.others t.after a.level a.block s.sub s.own s.subtree (all_above 0 s.sub t.rest second_rising.rising) in
       record {
         first = s.rest;
         second = t.rest;
@@ -151,12 +140,13 @@ module _ (sizes : Sizes) (x : Contents) (limit : ℕ) where
         first_rising = rising_back s.sub s.rest first_rising;
         second_rising = rising_back s.sub t.rest second_rising;
         differences = d.differences ∙ ap₂ delta s.records second ∙ shared_front s.sub s.rest t.rest first_rising second_rising;
+        paid = omega (arith, d.paid, ap₂ unshared s.blocks second_blocks, skip_free s.own s.others t.others left right);
       }
 
   -- both walks have gone past a record of one key
   pub both_passed : (one other one_now other_now : Walk) (key low : Key) (v w : List ℕ) (changes : List Change) → front_of one ≡ Pair key v → front_of other ≡ Pair low w → place key ≡ place low
       → one_now ≡ record { pending = drop 1 one.pending; tops = one.tops } → other_now ≡ record { pending = drop 1 other.pending; tops = other.tops }
-      → Differ sizes x limit one other changes → (rest : List Change) × (changes ≡ cons_option (change_of key (Some v) (Some w)) rest) × Differ sizes x limit one_now other_now rest
+      → Differ sizes x limit one other reads most changes → (rest : List Change) × (changes ≡ cons_option (change_of key (Some v) (Some w)) rest) × Differ sizes x limit one_now other_now reads most rest
   both_passed one other one_now other_now key low v w changes front_one front_other level one_is other_is d =
       let p = pair_passed sizes x limit one one_now key v d.first d.first_blocks front_one one_is d.first_ahead in
       let q = pair_passed sizes x limit other other_now low w d.second d.second_blocks front_other other_is d.second_ahead in
@@ -177,34 +167,45 @@ module _ (sizes : Sizes) (x : Contents) (limit : ℕ) where
           first_rising = rising_rest (key, v) p.rest first_rising;
           second_rising = rising_rest (key, w) q.rest second_rising;
           differences = refl;
+          paid = omega (arith, d.paid, ap₂ unshared p.blocks q.blocks);
         },
       )
 
   -- a step that has opened a subtree ahead of the first walk
-  pub left_opened : (one other now : Walk) (changes : List Change) (opened : Result ⊤ TreeFault) (result : Result Step TreeFault) → result ≡ moved_by opened → (d : Differ sizes x limit one other changes)
-      → OkOrDevice opened (λ _. Passes sizes x limit None now d.first) → StepsBy result changes (Differ sizes x limit now other)
-  left_opened one other now changes (Ok y) result is d p = subst (λ (r : Result Step TreeFault). StepsBy r changes (Differ sizes x limit now other)) (sym is) (left_moved one other now changes d p)
-  left_opened one other now changes (Err e) result is d p = subst (λ (r : Result Step TreeFault). StepsBy r changes (Differ sizes x limit now other)) (sym is) p
+  pub left_opened : (one other now : Walk) (later : ℕ) (top : Root) (changes : List Change) (opened : Result ⊤ TreeFault) (result : Result Step TreeFault) → result ≡ moved_by opened → front_of one ≡ Top top → GoesFirst (Top top) (front_of other) → later ≤ reads + 1
+      → (d : Differ sizes x limit one other reads most changes) → OkOrDevice opened (λ _. Passes sizes x limit (Top top) None now d.first d.first_blocks) → StepsBy result changes (Differ sizes x limit now other later most)
+  left_opened one other now later top changes (Ok y) result is front first few d p =
+      subst (λ (r : Result Step TreeFault). StepsBy r changes (Differ sizes x limit now other later most)) (sym is)
+      (left_moved one other now later changes d
+      (subst (λ f. GoesFirst f (front_of other)) (sym front) first)
+      (subst (λ f. later ≤ reads + length (opened_at f)) (sym front) few)
+      (subst (λ f. Passes sizes x limit f None now d.first d.first_blocks) (sym front) p))
+  left_opened one other now later top changes (Err e) result is front first few d p = subst (λ (r : Result Step TreeFault). StepsBy r changes (Differ sizes x limit now other later most)) (sym is) p
 
   -- and ahead of the second
-  pub right_opened : (one other now : Walk) (changes : List Change) (opened : Result ⊤ TreeFault) (result : Result Step TreeFault) → result ≡ moved_by opened → (d : Differ sizes x limit one other changes)
-      → OkOrDevice opened (λ _. Passes sizes x limit None now d.second) → StepsBy result changes (Differ sizes x limit one now)
-  right_opened one other now changes (Ok y) result is d p = subst (λ (r : Result Step TreeFault). StepsBy r changes (Differ sizes x limit one now)) (sym is) (right_moved one other now changes d p)
-  right_opened one other now changes (Err e) result is d p = subst (λ (r : Result Step TreeFault). StepsBy r changes (Differ sizes x limit one now)) (sym is) p
+  pub right_opened : (one other now : Walk) (later : ℕ) (top : Root) (changes : List Change) (opened : Result ⊤ TreeFault) (result : Result Step TreeFault) → result ≡ moved_by opened → front_of other ≡ Top top → GoesFirst (Top top) (front_of one) → later ≤ reads + 1
+      → (d : Differ sizes x limit one other reads most changes) → OkOrDevice opened (λ _. Passes sizes x limit (Top top) None now d.second d.second_blocks) → StepsBy result changes (Differ sizes x limit one now later most)
+  right_opened one other now later top changes (Ok y) result is front first few d p =
+      subst (λ (r : Result Step TreeFault). StepsBy r changes (Differ sizes x limit one now later most)) (sym is)
+      (right_moved one other now later changes d
+      (subst (λ f. GoesFirst f (front_of one)) (sym front) first)
+      (subst (λ f. later ≤ reads + length (opened_at f)) (sym front) few)
+      (subst (λ f. Passes sizes x limit f None now d.second d.second_blocks) (sym front) p))
+  right_opened one other now later top changes (Err e) result is front first few d p = subst (λ (r : Result Step TreeFault). StepsBy r changes (Differ sizes x limit one now later most)) (sym is) p
 
   -- records of one key have no difference, where their values are equal
   pub both_same : (one other one_now other_now : Walk) (key : Key) (v w : List ℕ) (changes : List Change) → front_of one ≡ Pair key v → (low : Key) × (front_of other ≡ Pair low w) × (place key ≡ place low) → bytes_eq v w ≡ true
       → one_now ≡ record { pending = drop 1 one.pending; tops = one.tops } → other_now ≡ record { pending = drop 1 other.pending; tops = other.tops }
-      → Differ sizes x limit one other changes → Differ sizes x limit one_now other_now changes
+      → Differ sizes x limit one other reads most changes → Differ sizes x limit one_now other_now reads most changes
   both_same one other one_now other_now key v w changes front_one front_other equal one_is other_is d =
       let p = both_passed one other one_now other_now key front_other.0 v w changes front_one front_other.1 front_other.2 one_is other_is d in
       let same : changes ≡ p.0 = p.1 ∙ ap (λ t. cons_option (cond {A = Option Change} t None (Some (record { key = key; before = Some v; after = Some w }))) p.0) equal in
-      subst (Differ sizes x limit one_now other_now) (sym same) p.2
+      subst (Differ sizes x limit one_now other_now reads most) (sym same) p.2
 
   -- and one, where they are not
   pub both_differ : (one other one_now other_now : Walk) (key : Key) (v w : List ℕ) (changes : List Change) → front_of one ≡ Pair key v → (low : Key) × (front_of other ≡ Pair low w) × (place key ≡ place low) → bytes_eq v w ≡ false
       → one_now ≡ record { pending = drop 1 one.pending; tops = one.tops } → other_now ≡ record { pending = drop 1 other.pending; tops = other.tops }
-      → Differ sizes x limit one other changes → (rest : List Change) × (changes ≡ record { key = key; before = Some v; after = Some w } ∷ rest) × Differ sizes x limit one_now other_now rest
+      → Differ sizes x limit one other reads most changes → (rest : List Change) × (changes ≡ record { key = key; before = Some v; after = Some w } ∷ rest) × Differ sizes x limit one_now other_now reads most rest
   both_differ one other one_now other_now key v w changes front_one front_other other_value one_is other_is d =
       let p = both_passed one other one_now other_now key front_other.0 v w changes front_one front_other.1 front_other.2 one_is other_is d in
       (p.0, p.1 ∙ ap (λ t. cons_option (cond {A = Option Change} t None (Some (record { key = key; before = Some v; after = Some w }))) p.0) other_value, p.2)

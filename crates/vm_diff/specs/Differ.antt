@@ -1,20 +1,24 @@
 -- How what is ahead of two walks differs.
-use Rattle.std.specs.Prelude.{◌≡◌, ℕ, List, ◌++◌, Option, option_to_list}
+use Rattle.std.specs.Prelude.{◌≡◌, ℕ, ◌+◌, ◌≤◌, List, ◌++◌, Option, option_to_list}
 use Rattle.vm_types.specs.declared.change.Change.{Change}
 use Rattle.vm_types.specs.Map.{delta}
 use Rattle.vm_types.specs.Places.{FitKeys, RisesFrom, places}
 use Rattle.vm_disk.specs.Disk.{Contents}
 use Rattle.vm_block.specs.Leaf.{Record}
 use Rattle.vm_block.specs.Tree.{Sizes}
+use Rattle.vm_diff.specs.Front.{opened_at}
+use Rattle.vm_diff.specs.Shared.{unshared}
 use Rattle.vm_diff.specs.Walk.{Walk, IsAhead}
+use Rattle.vm_diff.specs.declared.front.Front.{Front}
 
 -- records with rising keys
 pub record AreRising (rs : List Record) : Type 0 where
   pub rising : RisesFrom 0 (places rs)
   pub fit : FitKeys rs
 
--- the records ahead of one walk and those ahead of the other have these differences
-pub record Differ (sizes : Sizes) (x : Contents) (limit : ℕ) (one other : Walk) (changes : List Change) : Type 0 where
+-- the records ahead of one walk and those ahead of the other have these differences; and after so many reads, with one more for
+-- each block that is ahead of one walk alone, there are at most so many
+pub record Differ (sizes : Sizes) (x : Contents) (limit : ℕ) (one other : Walk) (reads most : ℕ) (changes : List Change) : Type 0 where
   pub first : List Record
   pub second : List Record
   pub first_blocks : List ℕ
@@ -24,10 +28,13 @@ pub record Differ (sizes : Sizes) (x : Contents) (limit : ℕ) (one other : Walk
   pub first_rising : AreRising first
   pub second_rising : AreRising second
   pub differences : changes ≡ delta first second
+  pub paid : reads + unshared first_blocks second_blocks ≤ most
 
--- what is left of records ahead of a walk, where one may have been taken from the front
-pub record Passes (sizes : Sizes) (x : Contents) (limit : ℕ) (taken : Option Record) (walk : Walk) (rs : List Record) : Type 0 where
+-- what is left of records and blocks ahead of a walk that stood before this: a record may have been taken from the front, or a
+-- subtree opened
+pub record Passes (sizes : Sizes) (x : Contents) (limit : ℕ) (front : Front) (taken : Option Record) (walk : Walk) (rs : List Record) (bs : List ℕ) : Type 0 where
   pub rest : List Record
   pub rest_blocks : List ℕ
   pub ahead : IsAhead sizes x limit walk rest rest_blocks
   pub records : rs ≡ option_to_list taken ++ rest
+  pub blocks : bs ≡ opened_at front ++ rest_blocks

@@ -21,3 +21,9 @@ abbrev pub place_of : Front → ℕ
 place_of End = 2 ^ 80
 place_of (Pair key value) = place key
 place_of (Top top) = place top.low
+
+-- the block that is read there, if one is
+abbrev pub opened_at : Front → List ℕ
+opened_at End = []
+opened_at (Pair key value) = []
+opened_at (Top top) = top.block ∷ []

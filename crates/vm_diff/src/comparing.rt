@@ -1,11 +1,12 @@
 //! Where two maps differ.
-ghost use Rattle.std.specs.Prelude.{◌≡◌, ◌≢◌, ◌↔◌, ℕ, ◌≤◌, true, List, [], IsTrue};
+ghost use Rattle.std.specs.Prelude.{◌≡◌, ◌≢◌, ◌↔◌, ℕ, ◌+◌, ◌≤◌, true, List, [], IsTrue};
 ghost use Rattle.vm_types.specs.Map.{Map, delta};
 ghost use Rattle.vm_disk.specs.Disk.{Goes};
 ghost use Rattle.vm_disk.specs.Moments.{OnlyReads};
 ghost use Rattle.vm_block.specs.Tree.{Sizes};
 ghost use Rattle.vm_tree.specs.Answers.{Lists, OkOrDevice};
 ghost use Rattle.vm_tree.specs.Root.{IsRooted};
+ghost use Rattle.vm_diff.specs.Shared.{unshared};
 
 use crate::cursor::Cursor;
 use crate::front::Step;
@@ -34,6 +35,11 @@ pub fn changed<D: Disk>(
     ensures changes { (D.state disk.old).honest ≡ true → (sizes : Sizes) (m n : Map) (bs cs : List ℕ)
         → IsRooted sizes (D.state disk.old).now.contents blocks first m bs → IsRooted sizes (D.state disk.old).now.contents blocks second n cs
         → Lists result (λ changes. changes.items ≡ delta m n) }
+
+    // It makes no more reads than there are blocks that only one of the trees has, whatever it answers.
+    ensures bound { (D.state disk.old).honest ≡ true → (sizes : Sizes) (m n : Map) (bs cs : List ℕ)
+        → IsRooted sizes (D.state disk.old).now.contents blocks first m bs → IsRooted sizes (D.state disk.old).now.contents blocks second n cs
+        → (D.state disk.new).reads ≤ (D.state disk.old).reads + unshared bs cs }
 {
     let Some(mut one) = Cursor::new(first) else {
         return Err(TreeFault::Damaged(first.block));
@@ -73,6 +79,11 @@ pub fn same<D: Disk>(
     ensures equal { (D.state disk.old).honest ≡ true → (sizes : Sizes) (m n : Map) (bs cs : List ℕ)
         → IsRooted sizes (D.state disk.old).now.contents blocks first m bs → IsRooted sizes (D.state disk.old).now.contents blocks second n cs
         → OkOrDevice result (λ equal. IsTrue equal ↔ (delta m n ≡ [])) }
+
+    // It makes no more reads than there are blocks that only one of the trees has, whatever it answers.
+    ensures bound { (D.state disk.old).honest ≡ true → (sizes : Sizes) (m n : Map) (bs cs : List ℕ)
+        → IsRooted sizes (D.state disk.old).now.contents blocks first m bs → IsRooted sizes (D.state disk.old).now.contents blocks second n cs
+        → (D.state disk.new).reads ≤ (D.state disk.old).reads + unshared bs cs }
 {
     let Some(mut one) = Cursor::new(first) else {
         return Err(TreeFault::Damaged(first.block));

@@ -1,12 +1,12 @@
 //! Opening the subtree that a walk stands before.
-ghost use Rattle.std.specs.Prelude.{◌≡◌, ◌≢◌, ℕ, ◌≤◌, ◌<◌, true, List, None, OnOk};
+ghost use Rattle.std.specs.Prelude.{◌≡◌, ◌≢◌, ℕ, ◌+◌, ◌≤◌, ◌<◌, true, List, length, None, OnOk};
 ghost use Rattle.vm_disk.specs.Disk.{Goes};
 ghost use Rattle.vm_disk.specs.Moments.{OnlyReads};
 ghost use Rattle.vm_block.specs.Leaf.{Record};
 ghost use Rattle.vm_block.specs.Tree.{Sizes};
 ghost use Rattle.vm_tree.specs.Answers.{OkOrDevice};
 ghost use Rattle.vm_diff.specs.Walk.{IsAhead, size};
-ghost use Rattle.vm_diff.specs.Front.{front_of};
+ghost use Rattle.vm_diff.specs.Front.{front_of, opened_at};
 ghost use Rattle.vm_diff.specs.Differ.{Passes};
 
 use crate::cursor::Cursor;
@@ -28,11 +28,12 @@ pub(crate) fn open<D: Disk>(
     ensures any { Goes (result ≡ Err TreeFault.Device) (D.state disk.old) (D.state disk.new) }
     ensures deep { result ≢ Err TreeFault.Deep }
     ensures memory { result ≢ Err TreeFault.Memory }
+    ensures once { (D.state disk.new).reads ≤ (D.state disk.old).reads + 1 }
     ensures reads { (D.state disk.old).honest ≡ true → OnlyReads (D.state disk.old) (D.state disk.new) }
     ensures falls { OnOk result (size walk.new < size walk.old) }
     ensures opens { (D.state disk.old).honest ≡ true → (sizes : Sizes) (rs : List Record) (bs : List ℕ)
         → IsAhead sizes (D.state disk.old).now.contents blocks walk.old rs bs
-        → OkOrDevice result (λ _. Passes sizes (D.state disk.old).now.contents blocks None walk.new rs) }
+        → OkOrDevice result (λ _. Passes sizes (D.state disk.old).now.contents blocks (Front.Top top) None walk.new rs bs) }
 {
     if top.level == 0 {
         return match leaf_at(disk, blocks, top.block) {
@@ -62,11 +63,12 @@ pub(crate) fn pass<D: Disk>(
     ensures any { Goes (result ≡ Err TreeFault.Device) (D.state disk.old) (D.state disk.new) }
     ensures deep { result ≢ Err TreeFault.Deep }
     ensures memory { result ≢ Err TreeFault.Memory }
+    ensures once { (D.state disk.new).reads ≤ (D.state disk.old).reads + length (opened_at (front_of walk.old)) }
     ensures reads { (D.state disk.old).honest ≡ true → OnlyReads (D.state disk.old) (D.state disk.new) }
     ensures falls { front_of walk.old ≢ Front.End → OnOk result (size walk.new < size walk.old) }
     ensures passes { (D.state disk.old).honest ≡ true → (sizes : Sizes) (rs : List Record) (bs : List ℕ)
         → IsAhead sizes (D.state disk.old).now.contents blocks walk.old rs bs
-        → OkOrDevice result (λ taken. Passes sizes (D.state disk.old).now.contents blocks taken walk.new rs) }
+        → OkOrDevice result (λ taken. Passes sizes (D.state disk.old).now.contents blocks (front_of walk.old) taken walk.new rs bs) }
 {
     match walk.front() {
         Front::Pair(key, value) => {

@@ -1,5 +1,5 @@
 //! Blocks of a tree, read from a disk.
-ghost use Rattle.std.specs.Prelude.{◌≡◌, ◌≢◌, ◌↔◌, ℕ, ◌≤◌, true, List, length, IsTrue, IfOk};
+ghost use Rattle.std.specs.Prelude.{◌≡◌, ◌≢◌, ◌↔◌, ℕ, ◌+◌, ◌≤◌, true, List, length, IsTrue, IfOk};
 ghost use Rattle.vm_disk.specs.Disk.{Goes};
 ghost use Rattle.vm_disk.specs.Moments.{OnlyReads};
 ghost use Rattle.vm_block.specs.Leaf.{Record};
@@ -32,6 +32,7 @@ pub(crate) fn leaf_at<D: Disk>(
     ensures any { Goes (result ≡ Err TreeFault.Device) (D.state disk.old) (D.state disk.new) }
     ensures deep { result ≢ Err TreeFault.Deep }
     ensures memory { result ≢ Err TreeFault.Memory }
+    ensures once { (D.state disk.new).reads ≤ (D.state disk.old).reads + 1 }
     ensures few { IfOk result (λ records. length records.items ≤ 16) }
     ensures reads { (D.state disk.old).honest ≡ true → OnlyReads (D.state disk.old) (D.state disk.new) }
     ensures only { (D.state disk.old).honest ≡ true → (rs : List Record) → IsLeafAt (D.state disk.old).now.contents blocks block rs
@@ -61,6 +62,7 @@ pub(crate) fn node_at<D: Disk>(
     ensures any { Goes (result ≡ Err TreeFault.Device) (D.state disk.old) (D.state disk.new) }
     ensures deep { result ≢ Err TreeFault.Deep }
     ensures memory { result ≢ Err TreeFault.Memory }
+    ensures once { (D.state disk.new).reads ≤ (D.state disk.old).reads + 1 }
     ensures few { IfOk result (λ children. length children.items ≤ 256) }
     ensures reads { (D.state disk.old).honest ≡ true → OnlyReads (D.state disk.old) (D.state disk.new) }
     ensures only { (D.state disk.old).honest ≡ true → (cs : List Child) → IsNodeAt (D.state disk.old).now.contents blocks level block cs

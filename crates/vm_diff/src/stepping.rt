@@ -41,14 +41,18 @@ fn meet_tops<D: Disk>(
     requires blocks { blocks ≤ (D.state disk.old).blocks }
     requires first { front_of one.old ≡ Front.Top first }
     requires second { front_of other.old ≡ Front.Top second }
+    requires level { place first.low ≡ place second.low }
     ensures any { Goes (result ≡ Err TreeFault.Device) (D.state disk.old) (D.state disk.new) }
     ensures deep { result ≢ Err TreeFault.Deep }
     ensures memory { result ≢ Err TreeFault.Memory }
     ensures reads { (D.state disk.old).honest ≡ true → OnlyReads (D.state disk.old) (D.state disk.new) }
     ensures falls { Falls result (size one.old + size other.old) (size one.new + size other.new) }
-    ensures steps { (D.state disk.old).honest ≡ true → (sizes : Sizes) (changes : List Change)
-        → Differ sizes (D.state disk.old).now.contents blocks one.old other.old changes
-        → StepsBy result changes (Differ sizes (D.state disk.old).now.contents blocks one.new other.new) }
+    ensures bound { (D.state disk.old).honest ≡ true → (sizes : Sizes) (most : ℕ) (changes : List Change)
+        → Differ sizes (D.state disk.old).now.contents blocks one.old other.old (D.state disk.old).reads most changes
+        → (D.state disk.new).reads ≤ most }
+    ensures steps { (D.state disk.old).honest ≡ true → (sizes : Sizes) (most : ℕ) (changes : List Change)
+        → Differ sizes (D.state disk.old).now.contents blocks one.old other.old (D.state disk.old).reads most changes
+        → StepsBy result changes (Differ sizes (D.state disk.old).now.contents blocks one.new other.new (D.state disk.new).reads most) }
 {
     if first.block == second.block && first.level == second.level {
         one.skip();
@@ -67,8 +71,9 @@ fn meet_pairs(one: &mut Cursor, other: &mut Cursor, key: Key, before: Value, aft
     requires first { front_of one.old ≡ Front.Pair key before }
     requires second { (low : Key) × (front_of other.old ≡ Front.Pair low after) × (place key ≡ place low) }
     ensures falls { Falls (Ok result) (size one.old + size other.old) (size one.new + size other.new) }
-    ensures steps { (sizes : Sizes) (x : Contents) (limit : ℕ) (changes : List Change)
-        → Differ sizes x limit one.old other.old changes → StepsBy (Ok result) changes (Differ sizes x limit one.new other.new) }
+    ensures steps { (sizes : Sizes) (x : Contents) (limit reads most : ℕ) (changes : List Change)
+        → Differ sizes x limit one.old other.old reads most changes
+        → StepsBy (Ok result) changes (Differ sizes x limit one.new other.new reads most) }
 {
     one.take();
     other.take();
@@ -97,9 +102,12 @@ fn meet<D: Disk>(
     ensures memory { result ≢ Err TreeFault.Memory }
     ensures reads { (D.state disk.old).honest ≡ true → OnlyReads (D.state disk.old) (D.state disk.new) }
     ensures falls { Falls result (size one.old + size other.old) (size one.new + size other.new) }
-    ensures steps { (D.state disk.old).honest ≡ true → (sizes : Sizes) (changes : List Change)
-        → Differ sizes (D.state disk.old).now.contents blocks one.old other.old changes
-        → StepsBy result changes (Differ sizes (D.state disk.old).now.contents blocks one.new other.new) }
+    ensures bound { (D.state disk.old).honest ≡ true → (sizes : Sizes) (most : ℕ) (changes : List Change)
+        → Differ sizes (D.state disk.old).now.contents blocks one.old other.old (D.state disk.old).reads most changes
+        → (D.state disk.new).reads ≤ most }
+    ensures steps { (D.state disk.old).honest ≡ true → (sizes : Sizes) (most : ℕ) (changes : List Change)
+        → Differ sizes (D.state disk.old).now.contents blocks one.old other.old (D.state disk.old).reads most changes
+        → StepsBy result changes (Differ sizes (D.state disk.old).now.contents blocks one.new other.new (D.state disk.new).reads most) }
 {
     match one.front() {
         Front::Top(first) => match other.front() {
@@ -132,9 +140,12 @@ pub(crate) fn step<D: Disk>(
     ensures memory { result ≢ Err TreeFault.Memory }
     ensures reads { (D.state disk.old).honest ≡ true → OnlyReads (D.state disk.old) (D.state disk.new) }
     ensures falls { Falls result (size one.old + size other.old) (size one.new + size other.new) }
-    ensures steps { (D.state disk.old).honest ≡ true → (sizes : Sizes) (changes : List Change)
-        → Differ sizes (D.state disk.old).now.contents blocks one.old other.old changes
-        → StepsBy result changes (Differ sizes (D.state disk.old).now.contents blocks one.new other.new) }
+    ensures bound { (D.state disk.old).honest ≡ true → (sizes : Sizes) (most : ℕ) (changes : List Change)
+        → Differ sizes (D.state disk.old).now.contents blocks one.old other.old (D.state disk.old).reads most changes
+        → (D.state disk.new).reads ≤ most }
+    ensures steps { (D.state disk.old).honest ≡ true → (sizes : Sizes) (most : ℕ) (changes : List Change)
+        → Differ sizes (D.state disk.old).now.contents blocks one.old other.old (D.state disk.old).reads most changes
+        → StepsBy result changes (Differ sizes (D.state disk.old).now.contents blocks one.new other.new (D.state disk.new).reads most) }
 {
     let (here, there) = (one.front().place(), other.front().place());
     if here < there {

@@ -2,7 +2,7 @@ use Rattle.std.proofs.Common.{List, sym, subst}
 use Rattle.vm_types.specs.declared.change.Change.{Change}
 use Rattle.vm_types.specs.Map.{delta}
 use Rattle.vm_tree.proofs.ScanLemmas.{device_lists}
-use Rattle.vm_diff.proofs.CompareLemmas.{Compares, root_low, roots_differ, compares_more, compares_found, compares_reads, all_found, step_failed}
+use Rattle.vm_diff.proofs.CompareLemmas.{Compares, root_low, roots_differ, compares_more, compares_found, compares_reads, compares_bound, all_found, step_failed}
 use Rattle.vm_diff.proofs.comparing.changed.Goals as goal
 
 pub returns-in_default-clause-changes : goal.returns-in_default-clause-changes
@@ -21,9 +21,9 @@ returns-in-Err-clause-reads g c honest = compares_reads (g.D.Disk.state c.args.d
 
 pub returns-in-Ok-Done-clause-changes : goal.returns-in-Ok-Done-clause-changes
 returns-in-Ok-Done-clause-changes g c honest sizes m n bs cs first second =
-    let differ = roots_differ sizes (g.D.Disk.state c.args.disk.now).now.contents c.args.blocks c.args.first c.args.second c.in-Some.one c.in-Some-new.other m n bs cs
+    let differ = roots_differ sizes (g.D.Disk.state c.args.disk.now).now.contents c.args.blocks (g.D.Disk.state c.args.disk.now).reads c.args.first c.args.second c.in-Some.one c.in-Some-new.other m n bs cs
     c.in-Some.ensures.empty c.in-Some.ensures.some c.in-Some-new.ensures.empty c.in-Some-new.ensures.some first second in
-    all_found (g.D.Disk.state c.args.disk.now) (g.D.Disk.state c.steps.disk) c.args.blocks c.in-Some.one c.in-Some-new.other c.steps.one c.steps.other c.steps.changes.items c.steps.invariant c.step.new.one c.step.new.other c.in-Ok-Done.field-0 c.in-Ok-Done.field-0-is c.in-Ok-Done.ensures.steps honest sizes (delta m n) differ
+    all_found (g.D.Disk.state c.args.disk.now) (g.D.Disk.state c.steps.disk) c.args.blocks c.in-Some.one c.in-Some-new.other c.steps.one c.steps.other c.steps.changes.items c.steps.invariant c.step.new.one c.step.new.other (g.D.Disk.state c.step.new.disk).reads c.in-Ok-Done.field-0 c.in-Ok-Done.field-0-is c.in-Ok-Done.ensures.steps honest sizes _ (delta m n) differ
 
 pub steps-preserved-in-Ok-Moved : goal.steps-preserved-in-Ok-Moved
 steps-preserved-in-Ok-Moved g c =
@@ -40,6 +40,24 @@ returns-in-Err-extend_from_slice-clause-reads g c honest = compares_reads (g.D.D
 
 pub returns-in-Err-clause-changes : goal.returns-in-Err-clause-changes
 returns-in-Err-clause-changes g c honest sizes m n bs cs first second =
-    let differ = roots_differ sizes (g.D.Disk.state c.args.disk.now).now.contents c.args.blocks c.args.first c.args.second c.in-Some.one c.in-Some-new.other m n bs cs
+    let differ = roots_differ sizes (g.D.Disk.state c.args.disk.now).now.contents c.args.blocks (g.D.Disk.state c.args.disk.now).reads c.args.first c.args.second c.in-Some.one c.in-Some-new.other m n bs cs
     c.in-Some.ensures.empty c.in-Some.ensures.some c.in-Some-new.ensures.empty c.in-Some-new.ensures.some first second in
-    device_lists c.in-Err.fault _ (step_failed (g.D.Disk.state c.args.disk.now) (g.D.Disk.state c.steps.disk) c.args.blocks c.in-Some.one c.in-Some-new.other c.steps.one c.steps.other c.steps.changes.items c.steps.invariant c.step.new.one c.step.new.other c.in-Err.fault c.in-Err.ensures.steps honest sizes (delta m n) differ)
+    device_lists c.in-Err.fault _ (step_failed (g.D.Disk.state c.args.disk.now) (g.D.Disk.state c.steps.disk) c.args.blocks c.in-Some.one c.in-Some-new.other c.steps.one c.steps.other c.steps.changes.items c.steps.invariant c.step.new.one c.step.new.other (g.D.Disk.state c.step.new.disk).reads c.in-Err.fault c.in-Err.ensures.steps honest sizes _ (delta m n) differ)
+
+pub returns-in-Ok-Done-clause-bound : goal.returns-in-Ok-Done-clause-bound
+returns-in-Ok-Done-clause-bound g c honest sizes m n bs cs first second =
+    let differ = roots_differ sizes (g.D.Disk.state c.args.disk.now).now.contents c.args.blocks (g.D.Disk.state c.args.disk.now).reads c.args.first c.args.second c.in-Some.one c.in-Some-new.other m n bs cs
+    c.in-Some.ensures.empty c.in-Some.ensures.some c.in-Some-new.ensures.empty c.in-Some-new.ensures.some first second in
+    compares_bound (g.D.Disk.state c.args.disk.now) (g.D.Disk.state c.steps.disk) c.args.blocks c.in-Some.one c.in-Some-new.other c.steps.one c.steps.other c.steps.changes.items c.steps.invariant (g.D.Disk.state c.step.new.disk).reads c.in-Ok-Done.ensures.bound honest sizes _ (delta m n) differ
+
+pub returns-in-Err-clause-bound : goal.returns-in-Err-clause-bound
+returns-in-Err-clause-bound g c honest sizes m n bs cs first second =
+    let differ = roots_differ sizes (g.D.Disk.state c.args.disk.now).now.contents c.args.blocks (g.D.Disk.state c.args.disk.now).reads c.args.first c.args.second c.in-Some.one c.in-Some-new.other m n bs cs
+    c.in-Some.ensures.empty c.in-Some.ensures.some c.in-Some-new.ensures.empty c.in-Some-new.ensures.some first second in
+    compares_bound (g.D.Disk.state c.args.disk.now) (g.D.Disk.state c.steps.disk) c.args.blocks c.in-Some.one c.in-Some-new.other c.steps.one c.steps.other c.steps.changes.items c.steps.invariant (g.D.Disk.state c.step.new.disk).reads c.in-Err.ensures.bound honest sizes _ (delta m n) differ
+
+pub returns-in-Err-extend_from_slice-clause-bound : goal.returns-in-Err-extend_from_slice-clause-bound
+returns-in-Err-extend_from_slice-clause-bound g c honest sizes m n bs cs first second =
+    let differ = roots_differ sizes (g.D.Disk.state c.args.disk.now).now.contents c.args.blocks (g.D.Disk.state c.args.disk.now).reads c.args.first c.args.second c.in-Some.one c.in-Some-new.other m n bs cs
+    c.in-Some.ensures.empty c.in-Some.ensures.some c.in-Some-new.ensures.empty c.in-Some-new.ensures.some first second in
+    compares_bound (g.D.Disk.state c.args.disk.now) (g.D.Disk.state c.steps.disk) c.args.blocks c.in-Some.one c.in-Some-new.other c.steps.one c.steps.other c.steps.changes.items c.steps.invariant (g.D.Disk.state c.step.new.disk).reads c.in-Ok-Found.ensures.bound honest sizes _ (delta m n) differ

@@ -1,0 +1,44 @@
+-- Counting the blocks that only one of two trees has.
+use Rattle.std.proofs.Common.{◌≡◌, ◌≢◌, ℕ, ◌+◌, ◌≤◌, ◌||◌, cond, false, List, [], ◌∷◌, ◌++◌, refl, sym, ap, ◌∙◌, arith}
+use Rattle.std.specs.List.{AllByRecursion}
+use Rattle.std.proofs.lemmas.Bool.{ne_eqb}
+use Rattle.vm_diff.specs.Shared.{is_among, outside, unshared}
+
+-- none of the blocks is block b
+abbrev pub Lacks : ℕ → List ℕ → Type 0
+Lacks b cs = AllByRecursion (λ c. c ≢ b) cs
+
+-- none of these blocks is one of the others
+abbrev pub Apart : List ℕ → List ℕ → Type 0
+Apart own others = AllByRecursion (λ b. Lacks b others) own
+
+lacks_none : (b : ℕ) (cs : List ℕ) → Lacks b cs → is_among cs b ≡ false
+lacks_none b [] all = refl
+lacks_none b (c ∷ cs) all = ap (λ t. t || is_among cs b) (ne_eqb c b all.0) ∙ lacks_none b cs all.1
+
+-- a block more that is none of them
+outside_more : (b : ℕ) (bs cs : List ℕ) → Lacks b cs → outside (b ∷ bs) cs ≡ outside bs cs
+outside_more b bs [] all = refl
+outside_more b bs (c ∷ cs) all =
+    ap (λ t. cond (t || is_among bs c) 0 1 + outside (b ∷ bs) cs) (ne_eqb b c (λ e. all.0 (sym e)))
+    ∙ ap (λ n. cond (is_among bs c) 0 1 + n) (outside_more b bs cs all.1)
+
+-- blocks more that are none of them
+outside_past : (own bs cs : List ℕ) → Apart own bs → outside (own ++ cs) bs ≡ outside cs bs
+outside_past [] bs cs apart = refl
+outside_past (b ∷ own) bs cs apart = outside_more b (own ++ cs) bs apart.0 ∙ outside_past own bs cs apart.1
+
+outside_back : (others own bs : List ℕ) → outside others bs ≤ outside others (own ++ bs)
+outside_back others [] bs = omega arith
+outside_back others (b ∷ own) bs = omega (arith, outside_back others own bs)
+
+-- a block that the other tree lacks is one of those that are counted
+pub open_pays : (b : ℕ) (bs cs : List ℕ) → Lacks b cs → unshared (b ∷ bs) cs ≡ 1 + unshared bs cs
+open_pays b bs cs all =
+    let first : outside cs (b ∷ bs) ≡ 1 + outside cs bs = ap (λ t. cond t 0 1 + outside cs bs) (lacks_none b cs all) in
+    omega (arith, first, outside_more b bs cs all)
+
+-- without blocks that both have, no more are counted
+pub skip_free : (own bs cs : List ℕ) → Apart own bs → Apart own cs → unshared bs cs ≤ unshared (own ++ bs) (own ++ cs)
+skip_free own bs cs a b =
+    omega (arith, outside_back (own ++ cs) own bs, outside_past own bs cs a, outside_back (own ++ bs) own cs, outside_past own cs bs b)
