@@ -19,6 +19,7 @@ pub mod ReachLemmas
 pub mod Removing
 pub mod RestingLemmas
 pub mod RunLemmas
+pub mod SharedLemmas
 pub mod SidesLemmas
 pub mod SlotLemmas
 pub mod SpareLemmas

@@ -11,6 +11,7 @@ pub mod Refused
 pub mod Resting
 pub mod Roots
 pub mod Running
+pub mod Shared
 pub mod Shown
 pub mod Sides
 pub mod Sizes

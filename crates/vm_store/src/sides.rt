@@ -1,9 +1,10 @@
 //! What two sides made of the map from which both went on.
-ghost use Rattle.std.specs.Prelude.{◌≡◌, ◌≢◌, ℕ, ◌≤◌, true, List, Some, None, IfErr};
+ghost use Rattle.std.specs.Prelude.{◌≡◌, ◌≢◌, ℕ, ◌+◌, ◌≤◌, true, List, Some, None, IfErr};
 ghost use Rattle.vm_types.specs.Map.{Map, delta, conflicts, merge};
 ghost use Rattle.vm_disk.specs.Disk.{Goes};
 ghost use Rattle.vm_disk.specs.Moments.{OnlyReads};
 ghost use Rattle.vm_tree.specs.Root.{IsRooted};
+ghost use Rattle.vm_diff.specs.Shared.{unshared};
 ghost use Rattle.vm_store.specs.Sides.{ReadsOr, refusal_in};
 ghost use Rattle.vm_store.specs.Sizes.{sizes};
 
@@ -45,6 +46,11 @@ fn read_sides<D: Disk>(
         → IsRooted sizes (D.state disk.old).now.contents blocks roots.parent parent ps
         → IsRooted sizes (D.state disk.old).now.contents blocks roots.own own os
         → ReadsOr result (λ s. (s.theirs.items ≡ delta base parent) × (s.mine.items ≡ delta base own)) (λ r. ⊥) }
+    ensures bound { (D.state disk.old).honest ≡ true → (base parent own : Map) (bs ps os : List ℕ)
+        → IsRooted sizes (D.state disk.old).now.contents blocks roots.base base bs
+        → IsRooted sizes (D.state disk.old).now.contents blocks roots.parent parent ps
+        → IsRooted sizes (D.state disk.old).now.contents blocks roots.own own os
+        → (D.state disk.new).reads ≤ (D.state disk.old).reads + (unshared bs ps + unshared bs os) }
 {
     let theirs = match changed(alloc, disk, blocks, roots.base, roots.parent) {
         Ok(changes) => changes,
@@ -72,6 +78,11 @@ pub fn conflicts_of<D: Disk>(
         → IsRooted sizes (D.state disk.old).now.contents blocks roots.parent parent ps
         → IsRooted sizes (D.state disk.old).now.contents blocks roots.own own os
         → ReadsOr result (λ list. list.items ≡ conflicts base parent own) (λ r. ⊥) }
+    ensures bound { (D.state disk.old).honest ≡ true → (base parent own : Map) (bs ps os : List ℕ)
+        → IsRooted sizes (D.state disk.old).now.contents blocks roots.base base bs
+        → IsRooted sizes (D.state disk.old).now.contents blocks roots.parent parent ps
+        → IsRooted sizes (D.state disk.old).now.contents blocks roots.own own os
+        → (D.state disk.new).reads ≤ (D.state disk.old).reads + (unshared bs ps + unshared bs os) }
 {
     let sides = read_sides(alloc, disk, blocks, roots)?;
     conflicts_between(alloc, &sides.theirs, &sides.mine)

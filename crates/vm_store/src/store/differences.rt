@@ -1,5 +1,5 @@
 //! The queries for what an alternative changed since its base, and for its conflicts with its parent.
-ghost use Rattle.std.specs.Prelude.{◌≡◌, ◌≢◌, true, false};
+ghost use Rattle.std.specs.Prelude.{◌≡◌, ◌≢◌, ◌+◌, ◌≤◌, true, false};
 ghost use Rattle.vm_types.specs.State.{State};
 ghost use Rattle.vm_disk.specs.Disk.{Goes};
 ghost use Rattle.vm_disk.specs.Moments.{OnlyReads};
@@ -16,6 +16,7 @@ use vm_types::{Change, Conflict, Name, Refusal};
 
 impl<D: Disk> Store<D> {
     ghost use Rattle.vm_store.specs.Store.{disk_of, has_failed, entries_of, Holds};
+    ghost use Rattle.vm_store.specs.Shared.{unshared_of, unshared_with_parent};
 
     /// What changed in the working state of an alternative since its base, by rising keys.
     pub fn changes(&mut self, alloc: Global, alt: &Name) -> Result<Vec<Change>, Refusal>
@@ -30,6 +31,10 @@ impl<D: Disk> Store<D> {
             → IsList result (changes_in s.working alt.now) }
         ensures state { (D.state (disk_of self.old)).honest ≡ true → (s : State) → Holds self.old s → Holds self.new s }
         ensures reads { (D.state (disk_of self.old)).honest ≡ true → OnlyReads (D.state (disk_of self.old)) (D.state (disk_of self.new)) }
+
+        // It makes no more reads than there are blocks that only one of its base and its current tree has.
+        ensures bound { (D.state (disk_of self.old)).honest ≡ true → (s : State) (holds : Holds self.old s)
+            → (D.state (disk_of self.new)).reads ≤ (D.state (disk_of self.old)).reads + unshared_of holds alt.now }
     {
         if self.failed {
             return Err(Refusal::Failed);
@@ -58,6 +63,11 @@ impl<D: Disk> Store<D> {
             → IsList result (conflicts_in s.working alt.now) }
         ensures state { (D.state (disk_of self.old)).honest ≡ true → (s : State) → Holds self.old s → Holds self.new s }
         ensures reads { (D.state (disk_of self.old)).honest ≡ true → OnlyReads (D.state (disk_of self.old)) (D.state (disk_of self.new)) }
+
+        // It makes no more reads than there are blocks that only one of its base and its parent's current tree has, and such that only
+        // one of its base and its current tree has.
+        ensures bound { (D.state (disk_of self.old)).honest ≡ true → (s : State) (holds : Holds self.old s)
+            → (D.state (disk_of self.new)).reads ≤ (D.state (disk_of self.old)).reads + (unshared_with_parent holds alt.now + unshared_of holds alt.now) }
     {
         if self.failed {
             return Err(Refusal::Failed);

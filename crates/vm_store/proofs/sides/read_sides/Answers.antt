@@ -1,4 +1,4 @@
-use Rattle.std.proofs.Common.{◌∙◌}
+use Rattle.std.proofs.Common.{◌∙◌, arith}
 use Rattle.vm_disk.proofs.MomentLemmas.{reads_then}
 use Rattle.vm_store.specs.Sizes.{sizes}
 use Rattle.vm_store.proofs.Listing.{list_refused}
@@ -29,3 +29,25 @@ returns-in-Err-changed-clause-sides g c honest base parent own bs ps os first se
     list_refused c.in-Err-changed.fault c.refusal_of-in-Err-changed.result _ ⊥ c.refusal_of-in-Err-changed.ensures
     (c.in-Err-changed.ensures.changes (c.in-Ok.ensures.any.same_honesty ∙ honest) sizes base own bs os
     (rooted_after _ _ _ _ _ _ (c.in-Ok.ensures.reads honest) first) (rooted_after _ _ _ _ _ _ (c.in-Ok.ensures.reads honest) third))
+
+pub returns-in-Ok-changed-clause-bound : goal.returns-in-Ok-changed-clause-bound
+returns-in-Ok-changed-clause-bound g c honest base parent own bs ps os first second third =
+    omega (
+      arith,
+      c.in-Ok.ensures.bound honest sizes base parent bs ps first second,
+      c.in-Ok-changed.ensures.bound (c.in-Ok.ensures.any.same_honesty ∙ honest) sizes base own bs os
+          (rooted_after _ _ _ _ _ _ (c.in-Ok.ensures.reads honest) first) (rooted_after _ _ _ _ _ _ (c.in-Ok.ensures.reads honest) third),
+    )
+
+pub returns-in-Err-changed-clause-bound : goal.returns-in-Err-changed-clause-bound
+returns-in-Err-changed-clause-bound g c honest base parent own bs ps os first second third =
+    omega (
+      arith,
+      c.in-Ok.ensures.bound honest sizes base parent bs ps first second,
+      c.in-Err-changed.ensures.bound (c.in-Ok.ensures.any.same_honesty ∙ honest) sizes base own bs os
+          (rooted_after _ _ _ _ _ _ (c.in-Ok.ensures.reads honest) first) (rooted_after _ _ _ _ _ _ (c.in-Ok.ensures.reads honest) third),
+    )
+
+pub returns-in-Err-clause-bound : goal.returns-in-Err-clause-bound
+returns-in-Err-clause-bound g c honest base parent own bs ps os first second third =
+    omega (arith, c.in-Err.ensures.bound honest sizes base parent bs ps first second)

@@ -4,6 +4,7 @@ use Rattle.vm_store.specs.Sizes.{sizes}
 use Rattle.vm_store.specs.Versions.{is_alternative_of}
 use Rattle.vm_store.proofs.Listing.{list_refused}
 use Rattle.vm_store.proofs.RestingLemmas.{read_rests, found_at}
+use Rattle.vm_store.proofs.SharedLemmas.{base_rooted, current_rooted}
 use Rattle.vm_store.proofs.VersionLemmas.{absent, there}
 use Rattle.vm_store.proofs.store.Store.changes.Goals as goal
 
@@ -30,3 +31,19 @@ returns-in-Err-clause-value g c honest well s rests =
 
 pub returns-in-Err-clause-state : goal.returns-in-Err-clause-state
 returns-in-Err-clause-state g c honest s rests = read_rests _ _ _ _ _ _ _ s (c.in-Err.ensures.reads honest) rests
+
+pub returns-in-Ok-clause-bound : goal.returns-in-Ok-clause-bound
+returns-in-Ok-clause-bound g c honest s rests =
+    let e = c.index.result.now in
+    let is = found_at c.args.alt.now _ _ c.in-Some.i e c.deref.ensures.value c.in-Some.ensures.found ∙ ap Some (sym c.index.ensures) in
+    let base = base_rooted _ _ _ _ _ _ s rests c.args.alt.now e is in
+    let current = current_rooted _ _ _ _ _ _ s rests c.args.alt.now e is in
+    c.in-Ok.ensures.bound honest sizes base.0 current.0 _ _ base.1 current.1
+
+pub returns-in-Err-clause-bound : goal.returns-in-Err-clause-bound
+returns-in-Err-clause-bound g c honest s rests =
+    let e = c.index.result.now in
+    let is = found_at c.args.alt.now _ _ c.in-Some.i e c.deref.ensures.value c.in-Some.ensures.found ∙ ap Some (sym c.index.ensures) in
+    let base = base_rooted _ _ _ _ _ _ s rests c.args.alt.now e is in
+    let current = current_rooted _ _ _ _ _ _ s rests c.args.alt.now e is in
+    c.in-Err.ensures.bound honest sizes base.0 current.0 _ _ base.1 current.1

@@ -1,8 +1,9 @@
-use Rattle.std.proofs.Common.{inr, subst}
+use Rattle.std.proofs.Common.{inr, subst, arith}
 use Rattle.vm_store.specs.Pairs.{IsPair, LacksPair}
 use Rattle.vm_store.proofs.Listing.{listed}
 use Rattle.vm_store.proofs.PairLemmas.{conflicts_lacking, conflicts_there, own_there, parent_there}
 use Rattle.vm_store.proofs.RestingLemmas.{read_rests}
+use Rattle.vm_store.proofs.SharedLemmas.{base_rooted, current_rooted, pair_counts}
 use Rattle.vm_store.proofs.store.Store.conflicts.Goals as goal
 
 pub returns-in-Err-clause-value : goal.returns-in-Err-clause-value
@@ -21,3 +22,13 @@ returns-clause-value g c honest well s rests =
 
 pub returns-clause-state : goal.returns-clause-state
 returns-clause-state g c honest s rests = read_rests _ _ _ _ _ _ _ s (c.conflicts_of.ensures.reads honest) rests
+
+pub returns-clause-bound : goal.returns-clause-bound
+returns-clause-bound g c honest s rests =
+    let alt = c.args.alt.now in
+    let is = subst (λ vs. IsPair vs alt c.in-Ok.pair) c.deref.ensures.value c.in-Ok.ensures.found in
+    let base = base_rooted _ _ _ _ _ _ s rests alt c.in-Ok.pair.0 is.own in
+    let current = current_rooted _ _ _ _ _ _ s rests alt c.in-Ok.pair.0 is.own in
+    let parent = current_rooted _ _ _ _ _ _ s rests c.in-Ok.pair.1.name c.in-Ok.pair.1 is.parent in
+    let bound = c.conflicts_of.ensures.bound honest base.0 parent.0 current.0 _ _ _ base.1 parent.1 current.1 in
+    omega (arith, bound, pair_counts _ _ _ _ _ _ s rests alt c.in-Ok.pair is)
