@@ -33,8 +33,12 @@ not_above : (p : ℕ) (rs : List Record) → Heads p rs → Above p rs → ⊥
 not_above p [] heads above = absurd heads
 not_above p (r ∷ rs) heads above = omega (arith, heads, above.0)
 
+pub heads_join : (low : Key) (first rest : List Record) → Begins low first → Heads (place low) (first ++ rest)
+heads_join low [] rest begins = absurd begins
+heads_join low (r ∷ first) rest begins = ap place begins
+
 -- what comes after a part of rising records is above where they start
-heads_parts : (p : ℕ) (low : Key) (first rest : List Record) → Begins low first → Heads p (first ++ rest) → RisesFrom 0 (places (first ++ rest)) → Heads p first × Above p rest
+pub heads_parts : (p : ℕ) (low : Key) (first rest : List Record) → Begins low first → Heads p (first ++ rest) → RisesFrom 0 (places (first ++ rest)) → Heads p first × Above p rest
 heads_parts p low [] rest begins heads rises = absurd begins
 heads_parts p low (r ∷ first) rest begins heads rises =
     (heads, rises_above p (place r.0 + 1) rest (omega (arith, heads)) (rises_back (place r.0 + 1) first rest rises.1))
@@ -95,12 +99,6 @@ module _ (sizes : Sizes) (x : Contents) (limit : ℕ) where
   subtree_some zero b rs bs t = t.1.some
   subtree_some (suc l) b rs bs t = children_some (Subtree sizes x limit l) t.1 rs t.2 t.3.some t.5
 
-  -- the first of the blocks of a subtree is its top
-  pub subtree_first : (l b : ℕ) (rs : List Record) (bs : List ℕ) → Subtree sizes x limit l b rs bs → (under : List ℕ) × (bs ≡ b ∷ under)
-  unfolding Subtree
-  subtree_first zero b rs bs t = ([], t.3)
-  subtree_first (suc l) b rs bs t = (t.2, t.6)
-
   -- the same block is the top of subtrees of one level
   level_one : (l k b : ℕ) (rs qs : List Record) (bs ds : List ℕ) → Subtree sizes x limit l b rs bs → Subtree sizes x limit k b qs ds → l ≡ k
   unfolding Subtree
@@ -150,6 +148,11 @@ module _ (sizes : Sizes) (x : Contents) (limit : ℕ) where
           children_near (Subtree sizes x limit l) b p (far l) (λ d qs ds. near l d qs ds (omega (arith, low)) (λ same. absurd (omega (arith, same, low)))) t.1 rs t.2 t.5 heads rises,
         )
 
+    -- nor under itself
+    lacks_itself : (l : ℕ) (cs : List Child) (rs : List Record) (under : List ℕ) → l < k → Children (Subtree sizes x limit l) cs rs under → Heads p rs → RisesFrom 0 (places rs) → Lacks b under
+    lacks_itself l cs rs under low t heads rises =
+        children_near (Subtree sizes x limit l) b p (far l) (λ d qs ds. near l d qs ds (omega (arith, low)) (λ same. absurd (omega (arith, same, low)))) cs rs under t heads rises
+
     -- nor under tops whose records are above
     pub under_far : (ts : List Root) (rs : List Record) (bs : List ℕ) → Under sizes x limit ts rs bs → Above p rs → Lacks b bs
     under_far [] rs bs u above = subst (Lacks b) (sym u.1) tt
@@ -165,15 +168,19 @@ module _ (sizes : Sizes) (x : Contents) (limit : ℕ) where
     under_near t ts rs bs low other level u rises =
         let rising = subst (λ (qs : List Record). RisesFrom 0 (places qs)) u.7 rises in
         let heads = subst (λ q. Heads q u.0) (sym level) (heads_begin t.low u.0 u.5) in
-        let parts = heads_parts p t.low u.0 u.1 u.5 (heads_more u.0 heads) rising in
+        let parts = heads_parts p t.low u.0 u.1 u.5 (subst (λ q. Heads q (u.0 ++ u.1)) (sym level) (heads_join t.low u.0 u.1 u.5)) rising in
         subst (Lacks b) (sym u.8)
         (each_join (λ n. n ≢ b) u.2 u.3
         (near t.level t.block u.0 u.2 low other u.4 heads (rises_front 0 u.0 u.1 rising))
         (under_far ts u.1 u.3 u.6 parts.1))
-      where
-        heads_more : (first : List Record) → Heads p first → Heads p (first ++ u.1)
-        heads_more [] h = absurd h
-        heads_more (r ∷ first) h = h
+
+  -- the first of the blocks of a subtree is its top, which does not come again
+  pub subtree_once : (l b : ℕ) (rs : List Record) (bs : List ℕ) → Subtree sizes x limit l b rs bs → RisesFrom 0 (places rs) → (under : List ℕ) × (bs ≡ b ∷ under) × Lacks b under
+  unfolding Subtree
+  subtree_once zero b rs bs t rises = ([], t.3, tt)
+  subtree_once (suc l) b rs bs t rises =
+      let heads = heads_some rs (subtree_some (suc l) b rs bs t) in
+      (t.2, t.6, lacks_itself (suc l) b heads.0 (record { sub = rs; own = bs; subtree = t; heads = heads.1 }) l t.1 rs t.2 (omega arith) t.5 heads.1 rises)
 
   module _ (ts : List Root) (rest : List Record) (others : List ℕ) (after : Under sizes x limit ts rest others) where
     top_apart : (l c : ℕ) (rs : List Record) (bs : List ℕ) → Subtree sizes x limit l c rs bs → AllByRecursion (λ r. Above (place r.0) rest) rs → Lacks c others

@@ -1,22 +1,22 @@
 -- What opening a subtree costs: one read, of a block that is ahead of one walk alone, where the walk that stands lower goes first,
 -- and of two at the same key the one before the higher subtree.
-use Rattle.std.proofs.Common.{◌≡◌, ◌≢◌, ◌⊎◌, inl, inr, ℕ, ◌+◌, ◌<◌, ◌≤◌, List, [], ◌∷◌, ◌++◌, length, refl, sym, ap, ◌∙◌, subst, arith}
+use Rattle.std.proofs.Common.{◌≡◌, ◌≢◌, ◌⊎◌, inl, inr, ℕ, ◌+◌, ◌<◌, ◌≤◌, List, [], ◌∷◌, ◌++◌, length, drop, refl, sym, ap, ◌∙◌, subst, arith}
 use Rattle.vm_types.specs.declared.change.Change.{Change}
 use Rattle.vm_types.specs.declared.key.Key.{Key}
-use Rattle.vm_types.specs.Places.{place}
+use Rattle.vm_types.specs.Places.{place, RisesFrom, places}
 use Rattle.vm_disk.specs.Disk.{Contents}
 use Rattle.vm_block.specs.Leaf.{Record}
 use Rattle.vm_block.specs.Tree.{Sizes}
-use Rattle.vm_block.proofs.EachLemmas.{each_back}
+use Rattle.vm_block.proofs.EachLemmas.{each_back, each_join}
 use Rattle.vm_tree.specs.declared.root.Root.{Root}
-use Rattle.vm_tree.proofs.Rising.{rises_above}
+use Rattle.vm_tree.proofs.Rising.{rises_front, rises_above}
 use Rattle.vm_diff.specs.Walk.{Walk, IsAhead, Under}
 use Rattle.vm_diff.specs.Front.{first_of, front_of, place_of, opened_at}
 use Rattle.vm_diff.specs.Shared.{unshared}
 use Rattle.vm_diff.specs.Differ.{AreRising, Differ}
 use Rattle.vm_diff.specs.declared.front.Front.{Front}
 use Rattle.vm_diff.specs.declared.front.Front.TheVariants.{End, Pair, Top}
-use Rattle.vm_diff.proofs.ApartLemmas.{IsTopAt, top_at, subtree_first, under_far, under_near}
+use Rattle.vm_diff.proofs.ApartLemmas.{IsTopAt, heads_join, heads_parts, top_at, subtree_once, under_far, under_near}
 use Rattle.vm_diff.proofs.OpenLemmas.{top_ahead}
 use Rattle.vm_diff.proofs.SharedLemmas.{Lacks, open_pays}
 use Rattle.vm_diff.proofs.StartLemmas.{above_start, starts_parts}
@@ -67,44 +67,64 @@ module _ (sizes : Sizes) (x : Contents) (limit : ℕ) where
       under_far sizes x limit top.level top.block (place top.low) at ts later cs u
       (each_back (λ r. place top.low < place r.0) ps later (rises_above (place top.low) (place p.0 + 1) (ps ++ later) (omega (arith, level.0)) rising.rising.1))
 
-  module _ (walk other : Walk) (rs qs : List Record) (bs cs : List ℕ) (ahead : IsAhead sizes x limit walk rs bs) (there : IsAhead sizes x limit other qs cs) (rising : AreRising qs) where
+  module _ (walk other : Walk) (rs qs : List Record) (bs cs : List ℕ) (ahead : IsAhead sizes x limit walk rs bs) (there : IsAhead sizes x limit other qs cs) (own_rising : AreRising rs) (rising : AreRising qs) where
     opened_lacks : (top : Root) → front_of walk ≡ Top top → GoesFirst (Top top) (front_of other) → Lacks top.block cs
     opened_lacks top front first =
         let t = top_ahead sizes x limit walk top rs bs front ahead in
         lacks_later top (top_at sizes x limit top.level top.block top.low t.sub t.own t.subtree t.begins) other.pending other.tops there.later cs there.under (subst AreRising there.records rising) first
 
-    -- what is read is one of the blocks that are counted
+    -- nor does it come again ahead of the walk that opens it
+    pub record Opened (top : Root) : Type 0 where
+      pub left : List ℕ
+      pub blocks : bs ≡ top.block ∷ left
+      pub once : Lacks top.block left
+
+    opened_once : (top : Root) → front_of walk ≡ Top top → Opened top
+    opened_once top front =
+        let t = top_ahead sizes x limit walk top rs bs front ahead in
+        let p : ℕ = place top.low in
+        let rises = subst (λ (ps : List Record). RisesFrom 0 (places ps)) t.records own_rising.rising in
+        let own = subtree_once sizes x limit top.level top.block t.sub t.own t.subtree (rises_front 0 t.sub t.rest rises) in
+        let after = (heads_parts p top.low t.sub t.rest t.begins (heads_join top.low t.sub t.rest t.begins) rises).1 in
+        let at = top_at sizes x limit top.level top.block top.low t.sub t.own t.subtree t.begins in
+        record {
+          left = own.0 ++ t.others;
+          blocks = t.blocks ∙ ap (λ (ds : List ℕ). ds ++ t.others) own.1;
+          once = each_join (λ n. n ≢ top.block) own.0 t.others own.2 (under_far sizes x limit top.level top.block p at (drop 1 walk.tops) t.rest t.others t.after after);
+        }
+
+    -- so what is read is one of the blocks that are counted
     opened_pays : (front : Front) → front_of walk ≡ front → GoesFirst front (front_of other) → (rest : List ℕ) → bs ≡ opened_at front ++ rest → length (opened_at front) + unshared rest cs ≤ unshared bs cs
     opened_pays End is first rest same = omega (arith, ap (λ (ds : List ℕ). unshared ds cs) same)
     opened_pays (Pair key value) is first rest same = omega (arith, ap (λ (ds : List ℕ). unshared ds cs) same)
-    opened_pays (Top top) is first rest same = omega (arith, ap (λ (ds : List ℕ). unshared ds cs) same, open_pays top.block rest cs (opened_lacks top is first))
+    opened_pays (Top top) is first rest same =
+        let opened = opened_once top is in
+        let left : opened.left ≡ rest = ap (λ (ds : List ℕ). drop 1 ds) (sym opened.blocks ∙ same) in
+        omega (arith, ap (λ (ds : List ℕ). unshared ds cs) same, open_pays top.block rest cs (subst (Lacks top.block) left opened.once) (opened_lacks top is first))
 
     opened_counts : (front : Front) → front_of walk ≡ front → GoesFirst front (front_of other) → length (opened_at front) ≤ unshared bs cs
     opened_counts End is first = omega arith
     opened_counts (Pair key value) is first = omega arith
-    opened_counts (Top top) is first =
-        let t = top_ahead sizes x limit walk top rs bs is ahead in
-        let own = subtree_first sizes x limit top.level top.block t.sub t.own t.subtree in
-        omega (arith, opened_pays (Top top) is first (own.0 ++ t.others) (t.blocks ∙ ap (λ (ds : List ℕ). ds ++ t.others) own.1))
+    opened_counts (Top top) is first = let opened = opened_once top is in omega (arith, opened_pays (Top top) is first opened.left opened.blocks)
 
   module _ (one other : Walk) (reads now most : ℕ) (changes : List Change) (d : Differ sizes x limit one other reads most changes) where
     -- the first walk may go on: so many reads are paid for
     pub left_bound : GoesFirst (front_of one) (front_of other) → now ≤ reads + length (opened_at (front_of one)) → now ≤ most
     left_bound first few =
-        omega (arith, few, d.paid, opened_counts one other d.first d.second d.first_blocks d.second_blocks d.first_ahead d.second_ahead d.second_rising (front_of one) refl first)
+        omega (arith, few, d.paid, opened_counts one other d.first d.second d.first_blocks d.second_blocks d.first_ahead d.second_ahead d.first_rising d.second_rising (front_of one) refl first)
 
     pub left_paid : GoesFirst (front_of one) (front_of other) → now ≤ reads + length (opened_at (front_of one)) → (rest : List ℕ) → d.first_blocks ≡ opened_at (front_of one) ++ rest → now + unshared rest d.second_blocks ≤ most
     left_paid first few rest same =
-        omega (arith, few, d.paid, opened_pays one other d.first d.second d.first_blocks d.second_blocks d.first_ahead d.second_ahead d.second_rising (front_of one) refl first rest same)
+        omega (arith, few, d.paid, opened_pays one other d.first d.second d.first_blocks d.second_blocks d.first_ahead d.second_ahead d.first_rising d.second_rising (front_of one) refl first rest same)
 
     -- or the second
     pub right_bound : GoesFirst (front_of other) (front_of one) → now ≤ reads + length (opened_at (front_of other)) → now ≤ most
     right_bound first few =
-        omega (arith, few, d.paid, opened_counts other one d.second d.first d.second_blocks d.first_blocks d.second_ahead d.first_ahead d.first_rising (front_of other) refl first)
+        omega (arith, few, d.paid, opened_counts other one d.second d.first d.second_blocks d.first_blocks d.second_ahead d.first_ahead d.second_rising d.first_rising (front_of other) refl first)
 
     pub right_paid : GoesFirst (front_of other) (front_of one) → now ≤ reads + length (opened_at (front_of other)) → (rest : List ℕ) → d.second_blocks ≡ opened_at (front_of other) ++ rest → now + unshared d.first_blocks rest ≤ most
     right_paid first few rest same =
-        omega (arith, few, d.paid, opened_pays other one d.second d.first d.second_blocks d.first_blocks d.second_ahead d.first_ahead d.first_rising (front_of other) refl first rest same)
+        omega (arith, few, d.paid, opened_pays other one d.second d.first d.second_blocks d.first_blocks d.second_ahead d.first_ahead d.second_rising d.first_rising (front_of other) refl first rest same)
 
     -- one read is paid for, where a walk may open a subtree
     pub left_read : (top : Root) → front_of one ≡ Top top → GoesFirst (Top top) (front_of other) → now ≤ reads + 1 → now ≤ most

@@ -1,5 +1,5 @@
 -- Counting the blocks that only one of two trees has.
-use Rattle.std.proofs.Common.{◌≡◌, ◌≢◌, ℕ, ◌+◌, ◌≤◌, ◌||◌, cond, false, List, [], ◌∷◌, ◌++◌, refl, sym, ap, ◌∙◌, arith}
+use Rattle.std.proofs.Common.{◌≡◌, ◌≢◌, ℕ, ◌+◌, ◌≤◌, ◌||◌, cond, false, List, [], ◌∷◌, ◌++◌, refl, sym, ap, ap₂, ◌∙◌, arith}
 use Rattle.std.specs.List.{AllByRecursion}
 use Rattle.std.proofs.lemmas.Bool.{ne_eqb}
 use Rattle.vm_diff.specs.Shared.{is_among, outside, unshared}
@@ -20,8 +20,8 @@ lacks_none b (c ∷ cs) all = ap (λ t. t || is_among cs b) (ne_eqb c b all.0) �
 outside_more : (b : ℕ) (bs cs : List ℕ) → Lacks b cs → outside (b ∷ bs) cs ≡ outside bs cs
 outside_more b bs [] all = refl
 outside_more b bs (c ∷ cs) all =
-    ap (λ t. cond (t || is_among bs c) 0 1 + outside (b ∷ bs) cs) (ne_eqb b c (λ e. all.0 (sym e)))
-    ∙ ap (λ n. cond (is_among bs c) 0 1 + n) (outside_more b bs cs all.1)
+    ap (λ t. cond ((t || is_among bs c) || is_among cs c) 0 1 + outside (b ∷ bs) cs) (ne_eqb b c (λ e. all.0 (sym e)))
+    ∙ ap (λ n. cond (is_among bs c || is_among cs c) 0 1 + n) (outside_more b bs cs all.1)
 
 -- blocks more that are none of them
 outside_past : (own bs cs : List ℕ) → Apart own bs → outside (own ++ cs) bs ≡ outside cs bs
@@ -32,10 +32,10 @@ outside_back : (others own bs : List ℕ) → outside others bs ≤ outside othe
 outside_back others [] bs = omega arith
 outside_back others (b ∷ own) bs = omega (arith, outside_back others own bs)
 
--- a block that the other tree lacks is one of those that are counted
-pub open_pays : (b : ℕ) (bs cs : List ℕ) → Lacks b cs → unshared (b ∷ bs) cs ≡ 1 + unshared bs cs
-open_pays b bs cs all =
-    let first : outside cs (b ∷ bs) ≡ 1 + outside cs bs = ap (λ t. cond t 0 1 + outside cs bs) (lacks_none b cs all) in
+-- a block that the other tree lacks, and that does not come again, is one of those that are counted
+pub open_pays : (b : ℕ) (bs cs : List ℕ) → Lacks b bs → Lacks b cs → unshared (b ∷ bs) cs ≡ 1 + unshared bs cs
+open_pays b bs cs again all =
+    let first : outside cs (b ∷ bs) ≡ 1 + outside cs bs = ap₂ (λ s t. cond (s || t) 0 1 + outside cs bs) (lacks_none b cs all) (lacks_none b bs again) in
     omega (arith, first, outside_more b bs cs all)
 
 -- without blocks that both have, no more are counted
