@@ -49,9 +49,9 @@ impl Text {
         requires { length self.old + length bytes.now ≤ 4096 }
         ensures { self.new ≡ self.old ++ bytes.now }
     {
-        for byte in bytes {
-            self.push(*byte);
-        }
+        let end = self.len + bytes.len();
+        self.bytes[self.len..end].copy_from_slice(bytes);
+        self.len = end;
     }
 
     /// Takes a number, in decimal digits.
