@@ -7,3 +7,4 @@ pub mod RecordLemmas
 pub mod Rows
 pub mod SlotLemmas
 pub mod TreeLemmas
+pub mod WayLemmas

@@ -71,7 +71,8 @@ unfolding node_bytes
 node_parts bytes level cs node =
     parts_laid bytes (node_head level (length cs)) (flat_map child_bytes cs) 4096 16 (14 * length cs) node.spelled (length-node_head level (length cs)) (length-children cs node.fit)
 
-node_whole : (bytes : List ℕ) (level : ℕ) (cs : List Child) → IsNode bytes level cs → bytes ≡ node_head level (length cs) ++ (flat_map child_bytes cs ++ zeros (4096 - length (node_head level (length cs) ++ flat_map child_bytes cs)))
+-- its head, its children and its zero bytes
+pub node_whole : (bytes : List ℕ) (level : ℕ) (cs : List Child) → IsNode bytes level cs → bytes ≡ node_head level (length cs) ++ (flat_map child_bytes cs ++ zeros (4096 - length (node_head level (length cs) ++ flat_map child_bytes cs)))
 unfolding node_bytes
 node_whole bytes level cs node = node.spelled ∙ append_assoc (node_head level (length cs)) (flat_map child_bytes cs) (zeros (4096 - length (node_head level (length cs) ++ flat_map child_bytes cs)))
 

@@ -1,9 +1,11 @@
 -- Rows of pieces of one length, one behind the other.
-use Rattle.std.proofs.Common.{◌≡◌, ℕ, zero, suc, ◌+◌, ◌-◌, ◌*◌, ◌<◌, ◌≤◌, List, [], ◌∷◌, ◌++◌, length, take, drop, get_or, refl, sym, ap, ◌∙◌, arith, length-append, length-drop, append_assoc}
+use Rattle.std.proofs.Common.{◌≡◌, ℕ, zero, suc, ◌+◌, ◌-◌, ◌*◌, ◌<◌, ◌≤◌, List, [], ◌∷◌, ◌++◌, length, take, drop, get_or, refl, sym, ap, ◌∙◌, subst, arith, length-append, length-drop, length-take-le, take-append-drop, append_assoc}
 use Rattle.std.specs.List.{AllByRecursion, flat_map}
 use Rattle.std.proofs.lemmas.List.{take_at, drop_at, drop-drop, take_more, flat_map_more}
+use Rattle.std.proofs.lemmas.Grind.{flat_map-append}
 use Rattle.std.proofs.Math.Nat.{mul-le-mul_left}
 use Rattle.std.proofs.Math.Seq.{take-add}
+use Rattle.vm_block.proofs.EachLemmas.{each_front}
 use Rattle.vm_block.proofs.Pieces.{then_writes}
 use borrow.Rule.Slice.PartMut.{put_mid, mid_of}
 
@@ -65,6 +67,52 @@ module _ {X : Type 0} (spelled : X → List ℕ) (P : X → Type 0) (size : ℕ)
         fits = later.fits;
         spells = λ k is. ap (λ n. take k (drop n bytes)) place ∙ ap (take k) (sym (drop-drop (size * i) size bytes)) ∙ later.spells k (omega arith);
       }
+
+  -- the piece at a place is that of the element there
+  pub piece_at : (xs : List X) (i : ℕ) (d : X) (bytes rest : List ℕ) → AllByRecursion P xs → i < length xs → bytes ≡ flat_map spelled xs ++ rest → (take size (drop (size * i) bytes) ≡ spelled (get_or xs i d)) × P (get_or xs i d)
+  piece_at [] i d bytes rest all lt e = absurd (omega arith)
+  piece_at (x ∷ xs) zero d bytes rest all lt e =
+      let whole : bytes ≡ spelled x ++ (flat_map spelled xs ++ rest) = e ∙ append_assoc (spelled x) (flat_map spelled xs) rest in
+      let none : size * 0 ≡ 0 = omega arith in
+      (ap (λ n. take size (drop n bytes)) none ∙ ap (take size) whole ∙ take_at (spelled x) (flat_map spelled xs ++ rest) size (length-spelled x all.0), all.0)
+  piece_at (x ∷ xs) (suc i) d bytes rest all lt e =
+      let whole : bytes ≡ spelled x ++ (flat_map spelled xs ++ rest) = e ∙ append_assoc (spelled x) (flat_map spelled xs) rest in
+      let behind : drop size bytes ≡ flat_map spelled xs ++ rest = ap (drop size) whole ∙ drop_at (spelled x) (flat_map spelled xs ++ rest) size (length-spelled x all.0) in
+      let later = piece_at xs i d (drop size bytes) rest all.1 (omega arith) behind in
+      let place : size * suc i ≡ size + size * i = omega arith in
+      (ap (λ n. take size (drop n bytes)) place ∙ ap (take size) (sym (drop-drop (size * i) size bytes)) ∙ later.0, later.1)
+
+  -- rows behind a head, cut in two
+  pub rows_cut : (xs : List X) (i h : ℕ) (bytes head rest : List ℕ) → AllByRecursion P xs → i ≤ length xs → length head ≡ h → bytes ≡ head ++ (flat_map spelled xs ++ rest) → (take (h + size * i) bytes ≡ head ++ flat_map spelled (take i xs)) × (drop (h + size * i) bytes ≡ flat_map spelled (drop i xs) ++ rest)
+  rows_cut xs i h bytes head rest all le long e =
+      let front = flat_map spelled (take i xs) in
+      let back = flat_map spelled (drop i xs) in
+      let fit = each_front P (take i xs) (drop i xs) (subst (AllByRecursion P) (sym (take-append-drop i xs)) all) in
+      let both : flat_map spelled xs ≡ front ++ back = ap (flat_map spelled) (sym (take-append-drop i xs)) ∙ flat_map-append spelled (take i xs) (drop i xs) in
+      let whole : bytes ≡ (head ++ front) ++ (back ++ rest) = e ∙ ap (λ x. head ++ (x ++ rest)) both ∙ simp append_assoc in
+      let far : length (head ++ front) ≡ h + size * i = length-append head front ∙ ap (λ n. n + length front) long ∙ ap (λ n. h + n) (length-rows (take i xs) fit ∙ ap (λ n. size * n) (length-take-le i xs le)) in
+      (ap (take (h + size * i)) whole ∙ take_at (head ++ front) (back ++ rest) (h + size * i) far, ap (drop (h + size * i)) whole ∙ drop_at (head ++ front) (back ++ rest) (h + size * i) far)
+
+  -- one row written over the one at i
+  pub row_set : (xs : List X) (i h : ℕ) (y : X) (bytes head rest new : List ℕ) (k : ℕ) → AllByRecursion P xs → i < length xs → length head ≡ h → bytes ≡ head ++ (flat_map spelled xs ++ rest) → k ≡ length bytes - (h + size * i) → new ≡ spelled y ++ drop size (mid_of (h + size * i) k bytes)
+      → put_mid (h + size * i) k bytes new ≡ head ++ (flat_map spelled (take i xs ++ y ∷ drop (i + 1) xs) ++ rest)
+  row_set xs i h y bytes head rest new k all lt long e far wrote =
+      let n = h + size * i in
+      let m = h + size * (i + 1) in
+      let front = head ++ flat_map spelled (take i xs) in
+      let before : take n bytes ≡ front = (rows_cut xs i h bytes head rest all (omega arith) long e).0 in
+      let behind : drop m bytes ≡ flat_map spelled (drop (i + 1) xs) ++ rest = (rows_cut xs (i + 1) h bytes head rest all (omega arith) long e).1 in
+      let whole : bytes ≡ front ++ drop n bytes = sym (take-append-drop n bytes) ∙ ap (λ x. x ++ drop n bytes) before in
+      let fit = each_front P (take i xs) (drop i xs) (subst (AllByRecursion P) (sym (take-append-drop i xs)) all) in
+      let many : length front ≡ n = length-append head (flat_map spelled (take i xs)) ∙ ap (λ z. z + length (flat_map spelled (take i xs))) long ∙ ap (λ z. h + z) (length-rows (take i xs) fit ∙ ap (λ z. size * z) (length-take-le i xs (omega arith))) in
+      let step : m ≡ n + size = omega arith in
+      then_writes front (spelled y) bytes bytes new n k size m whole many far wrote step
+      ∙ ap (λ x. (front ++ spelled y) ++ x) behind
+      ∙ regroup head (flat_map spelled (take i xs)) (spelled y) (flat_map spelled (drop (i + 1) xs)) rest
+      ∙ ap (λ x. head ++ (x ++ rest)) (sym (flat_map-append spelled (take i xs) (y ∷ drop (i + 1) xs)))
+    where
+      regroup : (a b c d e : List ℕ) → ((a ++ b) ++ c) ++ (d ++ e) ≡ a ++ ((b ++ (c ++ d)) ++ e)
+      regroup a b c d e = simp append_assoc
 
   module _ (spelled_one : (x y : X) → P x → P y → spelled x ≡ spelled y → x ≡ y) where
     -- as many pieces of one spelling are the same

@@ -6,3 +6,4 @@ pub mod Padding
 pub mod Selector
 pub mod Slot
 pub mod Tree
+pub mod Way

@@ -12,7 +12,7 @@ use byteorder::{ByteOrder, LittleEndian};
 use vm_types::{Key, Value};
 
 /// The greatest number of records of a leaf.
-const MAX_RECORDS: u32 = 16;
+pub(crate) const MAX_RECORDS: u32 = 16;
 
 fn write_record(key: Key, value: &Value, out: &mut [u8])
     requires { 252 ≤ length out.old }
@@ -75,7 +75,7 @@ fn are_rising(records: &[(Key, Value)]) -> bool
     true
 }
 
-fn read_record(bytes: &[u8]) -> Option<(Key, Value)>
+pub(crate) fn read_record(bytes: &[u8]) -> Option<(Key, Value)>
     requires { length bytes.now ≡ 252 }
     ensures found { IfSome result (λ r. RecordFits r × (bytes.now ≡ record_bytes r)) }
     ensures only { (r : Record) → RecordFits r → bytes.now ≡ record_bytes r → result ≡ Some r }

@@ -16,6 +16,7 @@ mod slot;
 mod spelling;
 #[cfg(test)]
 mod tests;
+mod way;
 
 pub use header::{read_header, write_header};
 pub use laws::{one_form, one_tree, written_is_a_form};
@@ -26,3 +27,4 @@ pub use slot::{
     Entry, Kind, MAX_BLOCKS, MAX_ENTRIES, MIN_BLOCKS, SlotHead, read_entry, read_slot_head,
     write_entry, write_slot_head,
 };
+pub use way::{Way, find_child, find_record, lowest_key, set_child};

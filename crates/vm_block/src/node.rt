@@ -26,7 +26,7 @@ pub struct Node {
     pub children: ArrayVec<Child, 256>,
 }
 
-fn write_child(child: Child, out: &mut [u8])
+pub(crate) fn write_child(child: Child, out: &mut [u8])
     requires { 14 ≤ length out.old }
     ensures { out.new ≡ child_bytes child ++ drop 14 out.old }
 {
@@ -87,7 +87,7 @@ fn are_rising(children: &[Child]) -> bool
     true
 }
 
-fn read_child(bytes: &[u8]) -> Child
+pub(crate) fn read_child(bytes: &[u8]) -> Child
     requires { length bytes.now ≡ 14 }
     ensures fits { ChildFits result }
     ensures spelled { bytes.now ≡ child_bytes result }
@@ -113,7 +113,7 @@ fn read_children(bytes: &[u8], count: usize, children: &mut ArrayVec<Child, 256>
 }
 
 /// Whether an inner block may have this level and so many children.
-fn is_in_range(level: u32, count: u32) -> bool
+pub(crate) fn is_in_range(level: u32, count: u32) -> bool
     ensures { IsTrue result ↔ ((0 < level) × (level ≤ 7) × (0 < count) × (count ≤ 256)) }
 {
     (1..=7).contains(&level) && (1..=256).contains(&count)

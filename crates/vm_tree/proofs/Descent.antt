@@ -8,7 +8,9 @@ use Rattle.vm_block.specs.Leaf.{Record}
 use Rattle.vm_block.specs.Node.{IsNode, lows}
 use Rattle.vm_block.specs.FullPath.{IsChosen}
 use Rattle.vm_block.specs.Tree.{Sizes, IsData, Begins, Children, Subtree}
+use Rattle.vm_block.specs.Way.{Takes}
 use Rattle.vm_block.specs.declared.node.Child.{Child}
+use Rattle.vm_block.proofs.NodeLemmas.{node_one}
 use Rattle.vm_block.proofs.TreeLemmas.{LeafAt, leaf_opens, node_opens}
 use Rattle.vm_tree.specs.Answers.{OkOrDevice}
 use Rattle.vm_tree.specs.Reading.{IsLeafAt, IsNodeAt}
@@ -125,6 +127,16 @@ node_value sizes old mid limit level b p rs bs cs i d result still above tree ri
     let child = subst (λ (m : Medium). Subtree sizes m.contents limit (level - 1) (get_or cs i d).block s.sub s.own) (sym still) s.child in
     ok_map result (λ value. value ≡ value_at p s.sub) (λ value. value ≡ value_at p rs) (below s.sub s.own child at.way.rising)
     (λ value is. is ∙ sym (ap (value_at p) s.records ∙ value_between p s.before s.sub s.after at.way.below at.way.above))
+
+-- the same of a child that was found in the bytes of its parent
+pub way_value : (sizes : Sizes) (old mid : Medium) (limit level b p : ℕ) (rs : List Record) (bs : List ℕ) (cs : List Child) (i : ℕ) (c : Child) (result : Result (Option (List ℕ)) TreeFault)
+    → mid ≡ old → 0 < level → Subtree sizes old.contents limit level b rs bs → RisesFrom 0 (places rs) → IsNodeAt old.contents limit level b cs → Takes cs p i c
+    → ((sub : List Record) (own : List ℕ) → Subtree sizes mid.contents limit (level - 1) c.block sub own → RisesFrom 0 (places sub) → OkOrDevice result (λ value. value ≡ value_at p sub))
+    → OkOrDevice result (λ value. value ≡ value_at p rs)
+way_value sizes old mid limit level b p rs bs cs i c result still above tree rises at takes below =
+    node_value sizes old mid limit level b p rs bs cs i c result still above tree rises
+    (λ ds other few. (node_one (block old.contents b) level level cs ds at.node other.node).1) takes.chosen
+    (λ sub own under rising. below sub own (subst (λ (d : Child). Subtree sizes mid.contents limit (level - 1) d.block sub own) takes.child under) rising)
 
 -- what is read of a leaf of a tree
 pub leaf_read : (sizes : Sizes) (x : Contents) (limit level b : ℕ) (rs : List Record) (bs : List ℕ) → level ≡ 0 → Subtree sizes x limit level b rs bs → IsLeafAt x limit b rs × (length rs ≤ sizes.leaf)

@@ -1,7 +1,7 @@
 //! The value of a key.
 ghost use Rattle.std.specs.Prelude.{◌≡◌, ◌≢◌, ℕ, ◌≤◌, true, List};
 ghost use Rattle.vm_types.specs.Map.{Map, get};
-ghost use Rattle.vm_types.specs.Places.{RisesFrom, places, value_at};
+ghost use Rattle.vm_types.specs.Places.{KeyFits, RisesFrom, place, places, value_at};
 ghost use Rattle.vm_disk.specs.Disk.{Goes};
 ghost use Rattle.vm_disk.specs.Moments.{OnlyReads};
 ghost use Rattle.vm_block.specs.Leaf.{Record};
@@ -9,52 +9,42 @@ ghost use Rattle.vm_block.specs.Tree.{Sizes, Subtree};
 ghost use Rattle.vm_tree.specs.Answers.{OkOrDevice};
 ghost use Rattle.vm_tree.specs.Root.{IsRooted};
 
-use crate::reading::{choose, leaf_at, node_at};
+use crate::reading::{block_at, way_at};
 use crate::root::{Root, TreeFault};
+use vm_block::find_record;
 use vm_disk::Disk;
 use vm_types::{Key, Value};
 
-/// The value of the key at this place, among records.
-fn value_of(records: &[(Key, Value)], place: u128) -> Option<Value>
-    ensures { result ≡ value_at place records.now }
-{
-    for (key, value) in records {
-        if key.place() == place {
-            return Some(*value);
-        }
-    }
-    None
-}
-
-/// The value of the key at this place, under a block of this level.
+/// The value of the key under a block of this level. Each block is read into these bytes.
 fn get_below<D: Disk>(
     disk: &mut D,
     blocks: u32,
     level: u8,
     block: u32,
-    place: u128,
+    key: Key,
+    bytes: &mut [u8; 4096],
 ) -> Result<Option<Value>, TreeFault>
     requires { blocks ≤ (D.state disk.old).blocks }
     ensures any { Goes (result ≡ Err TreeFault.Device) (D.state disk.old) (D.state disk.new) }
     ensures deep { result ≢ Err TreeFault.Deep }
     ensures memory { result ≢ Err TreeFault.Memory }
+    ensures fits { KeyFits key }
     ensures reads { (D.state disk.old).honest ≡ true → OnlyReads (D.state disk.old) (D.state disk.new) }
     ensures value { (D.state disk.old).honest ≡ true → (sizes : Sizes) (rs : List Record) (bs : List ℕ)
         → Subtree sizes (D.state disk.old).now.contents blocks level block rs bs → RisesFrom 0 (places rs)
-        → OkOrDevice result (λ value. value ≡ value_at place rs) }
+        → OkOrDevice result (λ value. value ≡ value_at (place key) rs) }
 {
     if level == 0 {
-        return match leaf_at::<D, 16>(disk, blocks, block) {
-            Ok(records) => Ok(value_of(records.as_slice(), place)),
+        return match block_at(disk, blocks, block, bytes) {
+            Ok(()) => match find_record(bytes, key) {
+                Some(value) => Ok(value),
+                None => Err(TreeFault::Damaged(block)),
+            },
             Err(fault) => Err(fault),
         };
     }
-    match node_at::<D, 256>(disk, blocks, level, block) {
-        Ok(children) => {
-            let children = children.as_slice();
-            let i = choose(children, place);
-            get_below(disk, blocks, level - 1, children[i].block, place)
-        }
+    match way_at::<D, 256>(disk, blocks, level, block, key, bytes) {
+        Ok(way) => get_below(disk, blocks, level - 1, way.child.block, key, bytes),
         Err(fault) => Err(fault),
     }
 }
@@ -79,5 +69,6 @@ pub fn get<D: Disk>(
     if root.block == 0 {
         return Ok(None);
     }
-    get_below(disk, blocks, root.level, root.block, key.place())
+    let mut bytes = [0; 4096];
+    get_below(disk, blocks, root.level, root.block, key, &mut bytes)
 }

@@ -1,19 +1,21 @@
 //! Blocks of a tree, read from a disk, and the way down to a key.
 ghost use Rattle.std.specs.Prelude.{◌≡◌, ◌≢◌, ◌↔◌, ℕ, ◌<◌, ◌≤◌, true, List, length, IsTrue, IfOk};
+ghost use Rattle.vm_types.specs.Places.{place};
 ghost use Rattle.vm_disk.specs.Disk.{Goes};
 ghost use Rattle.vm_disk.specs.Moments.{OnlyReads};
 ghost use Rattle.vm_block.specs.Leaf.{Record};
-ghost use Rattle.vm_block.specs.Node.{lows};
+ghost use Rattle.vm_block.specs.Node.{IsNode, lows};
 ghost use Rattle.vm_block.specs.FullPath.{IsChosen};
 ghost use Rattle.vm_block.specs.Tree.{IsData};
+ghost use Rattle.vm_block.specs.Way.{Takes};
 ghost use Rattle.vm_block.specs.declared.node.Child.{Child};
 ghost use Rattle.vm_tree.specs.Answers.{OkOrDevice};
-ghost use Rattle.vm_tree.specs.Reading.{IsLeafAt, IsNodeAt};
+ghost use Rattle.vm_tree.specs.Reading.{IsBlockAt, IsLeafAt, IsNodeAt};
 
 use crate::root::TreeFault;
 use arrayvec::ArrayVec;
 use vm_alloc::FIRST_DATA;
-use vm_block::{Child, read_leaf, read_node};
+use vm_block::{Child, Way, find_child, read_leaf, read_node};
 use vm_disk::Disk;
 use vm_types::{Key, Value};
 
@@ -22,6 +24,60 @@ fn is_data(blocks: u32, block: u32) -> bool
     ensures { IsTrue result ↔ IsData blocks block }
 {
     (FIRST_DATA..blocks).contains(&block)
+}
+
+/// Reads a block for data into these bytes.
+pub(crate) fn block_at<D: Disk>(
+    disk: &mut D,
+    blocks: u32,
+    block: u32,
+    bytes: &mut [u8; 4096],
+) -> Result<(), TreeFault>
+    requires { blocks ≤ (D.state disk.old).blocks }
+    ensures any { Goes (result ≡ Err TreeFault.Device) (D.state disk.old) (D.state disk.new) }
+    ensures deep { result ≢ Err TreeFault.Deep }
+    ensures memory { result ≢ Err TreeFault.Memory }
+    ensures reads { (D.state disk.old).honest ≡ true → OnlyReads (D.state disk.old) (D.state disk.new) }
+    ensures found { (D.state disk.old).honest ≡ true → IfOk result (λ done. IsBlockAt (D.state disk.old).now.contents blocks block bytes.new) }
+    ensures only { (D.state disk.old).honest ≡ true → IsData blocks block
+        → OkOrDevice result (λ done. IsBlockAt (D.state disk.old).now.contents blocks block bytes.new) }
+{
+    if !is_data(blocks, block) {
+        return Err(TreeFault::Damaged(block));
+    }
+    match disk.read(block, bytes) {
+        Ok(()) => Ok(()),
+        Err(_) => Err(TreeFault::Device),
+    }
+}
+
+/// Reads an inner block of this level, with MOST children at most, into these bytes, and tells
+/// where a descent to the key goes in it.
+pub(crate) fn way_at<D: Disk, const MOST: usize>(
+    disk: &mut D,
+    blocks: u32,
+    level: u8,
+    block: u32,
+    key: Key,
+    bytes: &mut [u8; 4096],
+) -> Result<Way, TreeFault>
+    requires { blocks ≤ (D.state disk.old).blocks }
+    ensures any { Goes (result ≡ Err TreeFault.Device) (D.state disk.old) (D.state disk.new) }
+    ensures deep { result ≢ Err TreeFault.Deep }
+    ensures memory { result ≢ Err TreeFault.Memory }
+    ensures level { IfOk result (λ way. (way.level ≡ level) × (level ≤ 7)) }
+    ensures within { IfOk result (λ way. (way.index < way.count) × (way.count ≤ MOST) × (way.count ≤ 256)) }
+    ensures reads { (D.state disk.old).honest ≡ true → OnlyReads (D.state disk.old) (D.state disk.new) }
+    ensures only { (D.state disk.old).honest ≡ true → (cs : List Child) → IsNodeAt (D.state disk.old).now.contents blocks level block cs → length cs ≤ MOST
+        → OkOrDevice result (λ way. IsNode bytes.new level cs × (way.count ≡ length cs) × Takes cs (place key) way.index way.child) }
+{
+    match block_at(disk, blocks, block, bytes) {
+        Ok(()) => match find_child(bytes, key) {
+            Some(way) if way.level == level && way.count <= MOST => Ok(way),
+            _ => Err(TreeFault::Damaged(block)),
+        },
+        Err(fault) => Err(fault),
+    }
 }
 
 /// The records of a leaf, which are MOST at most.

@@ -1,6 +1,6 @@
 use Rattle.std.proofs.Common.{◌≡◌, ap, sym, ◌∙◌, inl, inr, arith}
 use Rattle.vm_types.specs.Map.{Map, get}
-use Rattle.vm_types.specs.Places.{KeyFits, FitKeys, value_at}
+use Rattle.vm_types.specs.Places.{KeyFits, FitKeys, place, value_at}
 use Rattle.vm_types.proofs.Bridge.{value_at-get}
 use Rattle.vm_block.specs.Leaf.{RecordFits}
 use Rattle.vm_block.proofs.EachLemmas.{each_so}
@@ -17,5 +17,5 @@ pub returns-clause-value : goal.returns-clause-value
 returns-clause-value g c honest sizes m bs (inl bare) = absurd (c.if-root-eq0.false bare.none)
 returns-clause-value g c honest sizes m bs (inr top) =
     let fit : FitKeys m = each_so RecordFits (λ r. KeyFits r.0) (λ r fits. fits.0) m (subtree_fit sizes _ _ _ _ m bs top.subtree) in
-    ok_map _ (λ value. value ≡ value_at c.place.result m) (λ value. value ≡ get m c.args.key) (c.get_below.ensures.value honest sizes m bs top.subtree top.rising)
-    (λ value is. is ∙ ap (λ p. value_at p m) c.place.ensures.place ∙ value_at-get c.args.key m c.place.ensures.fits fit)
+    ok_map _ (λ value. value ≡ value_at (place c.args.key) m) (λ value. value ≡ get m c.args.key) (c.get_below.ensures.value honest sizes m bs top.subtree top.rising)
+    (λ value is. is ∙ value_at-get c.args.key m c.get_below.ensures.fits fit)
