@@ -8,6 +8,7 @@ use Rattle.vm_disk.specs.Disk.{Contents, block}
 use Rattle.vm_block.specs.Leaf.{Record, RecordFits, leaf_bytes}
 use Rattle.vm_block.specs.Node.{ChildFits, IsNode, lows, node_bytes}
 use Rattle.vm_block.specs.Tree.{Sizes, IsData, Begins, Children, Subtree}
+use Rattle.vm_block.specs.Way.{Lowest}
 use Rattle.vm_block.specs.declared.node.Child.{Child}
 use Rattle.vm_block.proofs.EachLemmas.{each_front, each_back, each_join, each_so}
 use Rattle.vm_block.proofs.TreeLemmas.{subtree_in, leaf_closes, node_closes}
@@ -42,6 +43,24 @@ children_begin T (c ∷ cs) d rs bs some t = subst (Begins c.low) (sym t.7) (beg
 first_of_each : {X : Type 0} (P : X → Type 0) (xs : List X) (d : X) → 0 < length xs → AllByRecursion P xs → P (slice_index_or xs 0 d)
 first_of_each P [] d some all = absurd (omega arith)
 first_of_each P (x ∷ xs) d some all = all.0
+
+-- what was made can stand under an inner block
+pub node_is : (P : ℕ → Type 0) (sizes : Sizes) (x : Contents) (limit level : ℕ) (bytes : List ℕ) (cs : List Child) (rs : List Record) → bytes ≡ node_bytes level cs → 0 < level → level ≤ 7 → 0 < length cs → length cs ≤ 256
+    → RisesFrom 0 (places rs) → Made P sizes x limit (level - 1) cs rs → IsNode bytes level cs
+node_is P sizes x limit level bytes cs rs spelled above low some few rises made = record {
+  spelled = spelled;
+  above = above;
+  low = low;
+  some = some;
+  few = few;
+  fit = made.fit;
+  rising = lows_rise (Subtree sizes x limit (level - 1)) cs 0 rs made.blocks made.under rises;
+}
+
+-- the lowest key that was read is that of the first child
+pub lowest_low : (cs : List Child) (d : Child) (key : Key) → Lowest key cs → (slice_index_or cs 0 d).low ≡ key
+lowest_low [] d key lowest = absurd lowest
+lowest_low (c ∷ cs) d key lowest = lowest
 
 module _ (P Q : ℕ → Type 0) (sizes : Sizes) (x y : Contents) (limit : ℕ) where
   -- what was made stands in other contents that have the same bytes in its blocks

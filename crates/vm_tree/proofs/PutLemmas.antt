@@ -11,6 +11,7 @@ use Rattle.vm_block.specs.FullPath.{IsChosen}
 use Rattle.vm_block.specs.Tree.{Sizes, Children, Subtree}
 use Rattle.vm_block.specs.declared.node.Child.{Child}
 use Rattle.vm_block.proofs.EachLemmas.{each_front, each_back, each_so}
+use Rattle.vm_block.proofs.NodeLemmas.{node_one}
 use Rattle.vm_block.proofs.TreeLemmas.{subtree_in, LeafAt}
 use Rattle.vm_tree.specs.Answers.{OkOrDevice}
 use Rattle.vm_tree.specs.Making.{Made, PutsBelow, Splits, children_of, is_split}
@@ -49,6 +50,15 @@ fault_below (Damaged b) splits above P Q fault so = fault
 fault_below Deep splits above P Q fault so = so refl fault
 fault_below Memory splits above P Q fault so = fault
 
+-- a value was answered, or the device failed
+pub ok_if : {T : Type 0} (result : Result T TreeFault) (Q : T → Type 0) → OkOrDevice result Q → IfOk result Q
+ok_if (Ok x) Q h = h
+ok_if (Err e) Q h = tt
+
+-- an inner block has no other children
+pub only_one : (x : Contents) (limit level b most : ℕ) (cs : List Child) → IsNodeAt x limit level b cs → (ds : List Child) → IsNodeAt x limit level b ds → length ds ≤ most → cs ≡ ds
+only_one x limit level b most cs at ds other few = (node_one (block x b) level level cs ds at.node other.node).1
+
 if_ok_later : {T : Type 0} (result : Result T TreeFault) (H : Type 0) (M : T → Type 0) → (H → IfOk result M) → IfOk result (λ x. H → M x)
 if_ok_later (Ok x) H M made = made
 if_ok_later (Err e) H M made = tt
@@ -83,7 +93,7 @@ replaced_made P Q sizes x y limit level b p rs bs cs i d same so at all now subs
     (made_join Q sizes y limit (level - 1) now (drop (i + 1) cs) subs s.after made
     (record { blocks = s.right; under = children_in P below later moved (drop (i + 1) cs) s.after s.right back right; each = each_so P Q so s.right right; fit = each_back ChildFits (take (i + 1) cs) (drop (i + 1) cs) (fit (i + 1)) }))
 
-count_of : (copied : Copied) → (is_split copied ≡ true → length (children_of copied) ≡ 2) × (is_split copied ≡ false → length (children_of copied) ≡ 1)
+pub count_of : (copied : Copied) → (is_split copied ≡ true → length (children_of copied) ≡ 2) × (is_split copied ≡ false → length (children_of copied) ≡ 1)
 count_of (One c) = (λ e. absurd (false≢true e), λ e. refl)
 count_of (Two c d) = (λ e. refl, λ e. absurd (false≢true (sym e)))
 
@@ -98,6 +108,15 @@ module _ (sizes : Sizes) (old mid : Medium) (limit level b : ℕ) (r : Record) (
   abbrev pub Asked : Result Copied TreeFault → (ℕ → Type 0) → (List Child → List Record → Type 0) → Type 0
   Asked result P M = (sub : List Record) (own : List ℕ) → Subtree sizes mid.contents limit (level - 1) (get_or cs i d).block sub own → RisesFrom 0 (places sub)
       → PutsBelow result (Splits sizes mid.contents (place r.0) (level - 1) (get_or cs i d).block sub) (λ ds. AllByRecursion P own → M ds (with_record r sub))
+
+  -- what is answered of a child is asked where a descent takes that child
+  pub asked_of : (c : Child) (result : Result Copied TreeFault) (P : ℕ → Type 0) (M : List Child → List Record → Type 0) → get_or cs i d ≡ c
+      → ((sub : List Record) (own : List ℕ) → Subtree sizes mid.contents limit (level - 1) c.block sub own → RisesFrom 0 (places sub)
+      → PutsBelow result (Splits sizes mid.contents (place r.0) (level - 1) c.block sub) (λ ds. AllByRecursion P own → M ds (with_record r sub)))
+      → Asked result P M
+  asked_of c result P M is below =
+      subst (λ (e : Child). (sub : List Record) (own : List ℕ) → Subtree sizes mid.contents limit (level - 1) e.block sub own → RisesFrom 0 (places sub)
+      → PutsBelow result (Splits sizes mid.contents (place r.0) (level - 1) e.block sub) (λ ds. AllByRecursion P own → M ds (with_record r sub))) (sym is) below
 
   -- an inner block, with the chosen child written anew
   pub node_put : (P0 P1 P2 : ℕ → Type 0) (x2 x3 : Contents) (other : ℕ) (copied : Copied) (lent : List Child) (result : Result Copied TreeFault) (Q : Copied → Type 0)

@@ -1,5 +1,5 @@
 -- Blocks of a tree as they are written anew.
-use Rattle.std.specs.Prelude.{◌≡◌, ◌↔◌, ℕ, Bool, true, false, List, [], ◌∷◌, None, Result, Ok, Err}
+use Rattle.std.specs.Prelude.{◌≡◌, ◌↔◌, ℕ, Bool, true, false, ◌+◌, List, [], ◌∷◌, ◌++◌, take, drop, None, Result, Ok, Err}
 use Rattle.std.specs.List.{AllByRecursion}
 use Rattle.vm_types.specs.Places.{value_at}
 use Rattle.vm_disk.specs.Disk.{Contents}
@@ -24,6 +24,10 @@ pub record Made (P : ℕ → Type 0) (sizes : Sizes) (x : Contents) (limit l : �
 abbrev pub children_of : Copied → List Child
 children_of (One c) = c ∷ []
 children_of (Two c d) = c ∷ d ∷ []
+
+-- the children with the one at i replaced by what its block was written anew as
+abbrev pub with_copied : List Child → ℕ → Copied → List Child
+with_copied cs i copied = take i cs ++ (children_of copied ++ drop (i + 1) cs)
 
 -- it was split
 abbrev pub is_split : Copied → Bool

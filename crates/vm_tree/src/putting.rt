@@ -1,5 +1,5 @@
 //! A record more, or another value of a key.
-ghost use Rattle.std.specs.Prelude.{◌≡◌, ◌≢◌, ◌↔◌, ℕ, ◌+◌, ◌*◌, ◌<◌, ◌≤◌, ◌++◌, ◌∷◌, Bool, true, false, List, [], length, take, drop, IfOk, IfErr, MatchResult};
+ghost use Rattle.std.specs.Prelude.{◌≡◌, ◌≢◌, ◌↔◌, ℕ, ◌+◌, ◌-◌, ◌*◌, ◌<◌, ◌≤◌, ◌++◌, ◌∷◌, Bool, true, false, List, [], length, take, drop, IfOk, IfErr, MatchResult};
 ghost use Rattle.std.specs.List.{AllByRecursion};
 ghost use Rattle.vm_types.specs.Map.{Map, with_value};
 ghost use Rattle.vm_types.specs.Places.{KeyFits, RisesFrom, place, places, with_record};
@@ -7,19 +7,23 @@ ghost use Rattle.vm_disk.specs.Disk.{Goes};
 ghost use Rattle.vm_disk.specs.Moments.{Throughout, Spares};
 ghost use Rattle.vm_alloc.specs.Held.{IsHeld, HoldsMore, free_count};
 ghost use Rattle.vm_block.specs.Leaf.{Record, RecordFits};
+ghost use Rattle.vm_block.specs.Node.{IsNode};
 ghost use Rattle.vm_block.specs.Tree.{Sizes, Subtree};
+ghost use Rattle.vm_block.specs.declared.node.Child.{Child};
 ghost use Rattle.vm_tree.specs.Answers.{LacksRoom, OkOrDevice, Puts};
 ghost use Rattle.vm_tree.specs.Free.{is_free, IsTaken};
-ghost use Rattle.vm_tree.specs.Making.{Made, PutsBelow, Splits, children_of, is_split};
+ghost use Rattle.vm_tree.specs.Making.{Made, PutsBelow, Splits, children_of, is_split, with_copied};
 ghost use Rattle.vm_tree.specs.Root.{AreSizes, Grown, IsRooted, sizes_of};
 
-use crate::reading::{choose, leaf_at, node_at};
+use crate::reading::{leaf_at, way_at};
 use crate::root::{Root, TreeFault, root_at};
 use crate::splicing::{push_all, spliced};
-use crate::writing::{Copied, write_leaf_block, write_leaves, write_node_block, write_nodes};
+use crate::writing::{
+    Copied, write_leaf_block, write_leaves, write_node_block, write_node_bytes, write_nodes,
+};
 use arrayvec::ArrayVec;
 use vm_alloc::Held;
-use vm_block::Child;
+use vm_block::{Way, read_node, set_child};
 use vm_disk::Disk;
 use vm_types::{Key, Value};
 
@@ -62,15 +66,54 @@ fn with_record(records: &[(Key, Value)], key: Key, value: &Value) -> ArrayVec<(K
     changed
 }
 
-/// The children with the one at i replaced by what its block was written anew as.
-fn replaced(children: &[Child], i: usize, copied: Copied) -> ArrayVec<Child, 257>
-    requires few { length children.now ≤ 256 }
-    requires within { i < length children.now }
-    ensures { result.items ≡ take i children.now ++ (children_of copied ++ drop (i + 1) children.now) }
+/// Writes the inner block of these bytes anew, with the child that was taken replaced by what its
+/// block was written anew as.
+fn write_replaced<D: Disk, const FAN: usize>(
+    disk: &mut D,
+    held: &mut Held,
+    level: u8,
+    block: u32,
+    way: Way,
+    bytes: &mut [u8; 4096],
+    copied: Copied,
+) -> Result<Copied, TreeFault>
+    requires inside { length held.old ≤ (D.state disk.old).blocks }
+    requires least { 2 ≤ FAN }
+    requires most { FAN ≤ 256 }
+    requires within { way.index < way.count }
+    requires few { way.count ≤ FAN }
+    requires free { 2 ≤ free_count held.old }
+    ensures any { Goes (result ≡ Err TreeFault.Device) (D.state disk.old) (D.state disk.new) }
+    ensures deep { result ≢ Err TreeFault.Deep }
+    ensures memory { result ≢ Err TreeFault.Memory }
+    ensures device { IfOk result (λ done. AllByRecursion (λ child. IsTaken held.new child.block) (children_of done)) }
+    ensures split { IfOk result (λ done. is_split done ≡ true → (is_split copied ≡ true) × (FAN ≤ way.count)) }
+    ensures still { HoldsMore held.old held.new }
+    ensures one { way.count < FAN → free_count held.old ≤ free_count held.new + 1 }
+    ensures taken { free_count held.old ≤ free_count held.new + 2 }
+    ensures moments { (D.state disk.old).honest ≡ true
+        → Throughout (D.state disk.old) (D.state disk.new) (Spares (is_free held.old) (D.state disk.old).now) }
+    ensures fine { (cs : List Child) → IsNode bytes.old level cs → way.count ≡ length cs
+        → OkOrDevice result (λ done. (is_split done ≡ true) ↔ (FAN < length (with_copied cs way.index copied))) }
+    ensures made { (D.state disk.old).honest ≡ true → (sizes : Sizes) (cs : List Child) (rs : List Record) → IsNode bytes.old level cs → way.count ≡ length cs → FAN ≤ sizes.fan
+        → RisesFrom 0 (places rs) → Made (IsHeld held.old) sizes (D.state disk.old).now.contents (length held.old) (level - 1) (with_copied cs way.index copied) rs
+        → IfOk result (λ done. Made (IsHeld held.new) sizes (D.state disk.new).now.contents (length held.old) level (children_of done) rs) }
 {
     match copied {
-        Copied::One(child) => spliced(children, i, &[child]),
-        Copied::Two(left, right) => spliced(children, i, &[left, right]),
+        Copied::One(child) => {
+            set_child(bytes, way.index, child);
+            match write_node_bytes(disk, held, bytes) {
+                Ok(node) => Ok(Copied::One(node)),
+                Err(fault) => Err(fault),
+            }
+        }
+        Copied::Two(left, right) => match read_node(bytes) {
+            Some(node) if node.children.len() == way.count => {
+                let children = spliced(node.children.as_slice(), way.index, &[left, right]);
+                write_nodes::<D, FAN>(disk, held, level, children.as_slice())
+            }
+            _ => Err(TreeFault::Damaged(block)),
+        },
     }
 }
 
@@ -148,27 +191,17 @@ fn put_below<D: Disk, const LEAF: usize, const FAN: usize>(
         → PutsBelow result (Splits (sizes_of LEAF FAN levels) (D.state disk.old).now.contents (place key) level block rs)
         (λ cs. AllByRecursion (IsHeld held.old) bs → Made (IsHeld held.new) (sizes_of LEAF FAN levels) (D.state disk.new).now.contents (length held.old) level cs (with_record (key, value.now) rs)) }
 {
-    let place = key.place();
     if level == 0 {
         return put_in_leaf::<D, LEAF>(disk, held, block, room, key, value);
     }
-    match node_at::<D, FAN>(disk, held.blocks(), level, block) {
-        Ok(children) => {
-            let children = children.as_slice();
-            let i = choose(children, place);
-            let room = room || children.len() < FAN;
-            match put_below::<D, LEAF, FAN>(
-                disk,
-                held,
-                level - 1,
-                children[i].block,
-                room,
-                key,
-                value,
-            ) {
+    let mut bytes = [0; 4096];
+    match way_at::<D, FAN>(disk, held.blocks(), level, block, key, &mut bytes) {
+        Ok(way) => {
+            let room = room || way.count < FAN;
+            let child = way.child.block;
+            match put_below::<D, LEAF, FAN>(disk, held, level - 1, child, room, key, value) {
                 Ok(copied) => {
-                    let children = replaced(children, i, copied);
-                    write_nodes::<D, FAN>(disk, held, level, children.as_slice())
+                    write_replaced::<D, FAN>(disk, held, level, block, way, &mut bytes, copied)
                 }
                 Err(fault) => Err(fault),
             }
