@@ -36,6 +36,11 @@ unfolding leaf_bytes
 leaf_parts bytes rs leaf =
     parts_laid bytes (leaf_head (length rs)) (flat_map record_bytes rs) 4096 16 (252 * length rs) leaf.spelled (length-leaf_head (length rs)) (length-records rs leaf.fit)
 
+-- its head, its records and its zero bytes
+pub leaf_whole : (bytes : List ℕ) (rs : List Record) → IsLeaf bytes rs → bytes ≡ leaf_head (length rs) ++ (flat_map record_bytes rs ++ zeros (4096 - length (leaf_head (length rs) ++ flat_map record_bytes rs)))
+unfolding leaf_bytes
+leaf_whole bytes rs leaf = leaf.spelled ∙ append_assoc (leaf_head (length rs)) (flat_map record_bytes rs) (zeros (4096 - length (leaf_head (length rs) ++ flat_map record_bytes rs)))
+
 -- the count that a leaf has at byte 8
 pub leaf_counted : (bytes : List ℕ) (rs : List Record) (n k : ℕ) → IsLeaf bytes rs → length bytes ≤ 8 + k → n ≡ little_number 4 (take k (drop 8 bytes)) → n ≡ length rs
 unfolding leaf_bytes

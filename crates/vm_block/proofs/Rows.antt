@@ -1,11 +1,11 @@
 -- Rows of pieces of one length, one behind the other.
 use Rattle.std.proofs.Common.{◌≡◌, ℕ, zero, suc, ◌+◌, ◌-◌, ◌*◌, ◌<◌, ◌≤◌, List, [], ◌∷◌, ◌++◌, length, take, drop, get_or, refl, sym, ap, ◌∙◌, subst, arith, length-append, length-drop, length-take-le, take-append-drop, append_assoc}
 use Rattle.std.specs.List.{AllByRecursion, flat_map}
-use Rattle.std.proofs.lemmas.List.{take_at, drop_at, drop-drop, take_more, flat_map_more}
+use Rattle.std.proofs.lemmas.List.{take_at, drop_at, drop-drop, take-take, take-append-le, take_more, flat_map_more}
 use Rattle.std.proofs.lemmas.Grind.{flat_map-append}
 use Rattle.std.proofs.Math.Nat.{mul-le-mul_left}
-use Rattle.std.proofs.Math.Seq.{take-add}
-use Rattle.vm_block.proofs.EachLemmas.{each_front}
+use Rattle.std.proofs.Math.Seq.{paste, take-add}
+use Rattle.vm_block.proofs.EachLemmas.{each_front, each_back}
 use Rattle.vm_block.proofs.Pieces.{then_writes}
 use borrow.Rule.Slice.PartMut.{put_mid, mid_of}
 
@@ -113,6 +113,45 @@ module _ {X : Type 0} (spelled : X → List ℕ) (P : X → Type 0) (size : ℕ)
     where
       regroup : (a b c d e : List ℕ) → ((a ++ b) ++ c) ++ (d ++ e) ≡ a ++ ((b ++ (c ++ d)) ++ e)
       regroup a b c d e = simp append_assoc
+
+  -- the rows from i on moved one further, over bytes that are as long as one, and one row written in the place that they left
+  pub row_insert : (xs : List X) (i h : ℕ) (y : X) (bytes head gap rest new : List ℕ) (k m : ℕ) → AllByRecursion P xs → i ≤ length xs → length head ≡ h → length gap ≡ size → bytes ≡ head ++ (flat_map spelled xs ++ (gap ++ rest)) → m ≡ size * length (drop i xs)
+      → k ≡ length bytes - (h + size * i) → new ≡ spelled y ++ drop size (mid_of (h + size * i) k (paste bytes (h + size * (i + 1)) (drop (h + size * i) bytes) m))
+      → put_mid (h + size * i) k (paste bytes (h + size * (i + 1)) (drop (h + size * i) bytes) m) new ≡ head ++ (flat_map spelled (take i xs ++ y ∷ drop i xs) ++ rest)
+  row_insert xs i h y bytes head gap rest new k m all le long wide e many far wrote =
+      let n = h + size * i in
+      let t = h + size * (i + 1) in
+      let a = flat_map spelled (take i xs) in
+      let b = flat_map spelled (drop i xs) in
+      let front = head ++ a in
+      let cut = rows_cut xs i h bytes head (gap ++ rest) all le long e in
+      let split = subst (AllByRecursion P) (sym (take-append-drop i xs)) all in
+      let fronts : length front ≡ n = length-append head a ∙ ap (λ z. z + length a) long ∙ ap (λ z. h + z) (length-rows (take i xs) (each_front P (take i xs) (drop i xs) split) ∙ ap (λ z. size * z) (length-take-le i xs le)) in
+      let backs : length b ≡ m = length-rows (drop i xs) (each_back P (take i xs) (drop i xs) split) ∙ sym many in
+      let step : t ≡ n + size = omega arith in
+      let whole : bytes ≡ (front ++ (b ++ gap)) ++ rest = sym (take-append-drop n bytes) ∙ ap (λ x. x ++ drop n bytes) cut.0 ∙ ap (λ x. front ++ x) cut.1 ∙ regroup_four front b gap rest in
+      let reach : length (front ++ (b ++ gap)) ≡ t + m = omega (arith, length-append front (b ++ gap), length-append b gap, fronts, backs, step) in
+      let room : t ≤ length bytes = omega (arith, ap length whole, length-append (front ++ (b ++ gap)) rest, reach) in
+      let under : take m (drop n bytes) ≡ b = ap (take m) cut.1 ∙ take_at b (gap ++ rest) m backs in
+      let past : drop (t + m) bytes ≡ rest = ap (drop (t + m)) whole ∙ drop_at (front ++ (b ++ gap)) rest (t + m) reach in
+      let x = take t bytes in
+      let moved = paste bytes t (drop n bytes) m in
+      let is : moved ≡ x ++ (b ++ rest) = append_assoc x (take m (drop n bytes)) (drop (t + m) bytes) ∙ ap (λ z. x ++ (z ++ drop (t + m) bytes)) under ∙ ap (λ z. x ++ (b ++ z)) past in
+      let lx : length x ≡ t = length-take-le t bytes room in
+      let before : take n moved ≡ front = ap (take n) is ∙ take-append-le n x (b ++ rest) (omega (arith, lx, step)) ∙ take-take n t bytes (omega (arith, step)) ∙ cut.0 in
+      let behind : drop t moved ≡ b ++ rest = ap (drop t) is ∙ drop_at x (b ++ rest) t lx in
+      let same : length moved ≡ length bytes = omega (arith, ap length is, length-append x (b ++ rest), length-append b rest, ap length whole, length-append (front ++ (b ++ gap)) rest, reach, lx, backs) in
+      let parts : moved ≡ front ++ drop n moved = sym (take-append-drop n moved) ∙ ap (λ z. z ++ drop n moved) before in
+      then_writes front (spelled y) moved moved new n k size t parts fronts (far ∙ ap (λ z. z - n) (sym same)) wrote step
+      ∙ ap (λ z. (front ++ spelled y) ++ z) behind
+      ∙ regroup head a (spelled y) b rest
+      ∙ ap (λ z. head ++ (z ++ rest)) (sym (flat_map-append spelled (take i xs) (y ∷ drop i xs)))
+    where
+      regroup : (a b c d e : List ℕ) → ((a ++ b) ++ c) ++ (d ++ e) ≡ a ++ ((b ++ (c ++ d)) ++ e)
+      regroup a b c d e = simp append_assoc
+
+      regroup_four : (a b c d : List ℕ) → a ++ (b ++ (c ++ d)) ≡ (a ++ (b ++ c)) ++ d
+      regroup_four a b c d = simp append_assoc
 
   module _ (spelled_one : (x y : X) → P x → P y → spelled x ≡ spelled y → x ≡ y) where
     -- as many pieces of one spelling are the same

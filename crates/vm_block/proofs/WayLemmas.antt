@@ -1,23 +1,26 @@
 -- The way down to a key: the rows of a block, found by the keys with which they begin.
-use Rattle.std.proofs.Common.{◌≡◌, ℕ, zero, suc, ◌+◌, ◌-◌, ◌*◌, ◌<◌, ◌≤◌, cond, List, [], ◌∷◌, ◌++◌, length, take, drop, get_or, None, Some, refl, sym, ap, ◌∙◌, subst, arith, ⊎_elim, length-append, length-drop, length-take-le, take-append-drop, append_assoc}
+use Rattle.std.proofs.Common.{◌≡◌, ℕ, zero, suc, ◌+◌, ◌-◌, ◌*◌, ◌<◌, ◌≤◌, ◌==◌, cond, List, [], ◌∷◌, ◌++◌, length, take, drop, get_or, None, Some, refl, sym, ap, ap₂, ◌∙◌, subst, arith, ⊎_elim, length-append, length-drop, length-take-le, take-append-drop, append_assoc}
 use Rattle.std.specs.Prelude.{slice_index}
 use Rattle.std.specs.List.{AllByRecursion, flat_map}
-use Rattle.std.proofs.lemmas.Bool.{cases_order, eq-eqb, ne_eqb}
-use Rattle.std.proofs.lemmas.List.{drop-drop, take-take, length-map, get_or-map}
+use Rattle.std.proofs.lemmas.Bool.{cases_order, eq-eqb, ne_eqb, lt-ltb, le-ltb}
+use Rattle.std.proofs.lemmas.List.{drop_at, drop-drop, take-take, length-map, get_or-map}
 use Rattle.std.proofs.Math.Nat.{mul-le-mul_left}
+use Rattle.std.proofs.Math.Seq.{paste}
 use Rattle.vm_types.specs.declared.key.Key.{Key}
-use Rattle.vm_types.specs.Places.{KeyFits, RisesFrom, place, places, value_at}
+use Rattle.vm_types.specs.Places.{KeyFits, RisesFrom, place, places, value_at, with_record}
 use Rattle.vm_block.specs.declared.node.Child.{Child}
 use Rattle.vm_block.specs.FullPath.{IsChosen}
 use Rattle.vm_block.specs.Padding.{zeros, padded}
-use Rattle.vm_block.specs.Leaf.{Record, RecordFits, IsLeaf, key_bytes, record_bytes}
+use Rattle.vm_block.specs.Leaf.{Record, RecordFits, IsLeaf, key_bytes, record_bytes, leaf_head, leaf_bytes}
 use Rattle.vm_block.specs.Node.{ChildFits, IsNode, lows, child_bytes, node_head, node_bytes}
+use Rattle.vm_block.specs.Tree.{Begins}
 use Rattle.vm_block.specs.Way.{KeysStand, Lowest}
 use Rattle.vm_block.proofs.EachLemmas.{each_front, each_back, each_join}
-use Rattle.vm_block.proofs.LeafLemmas.{leaf_parts}
+use Rattle.vm_block.proofs.LeafLemmas.{length-leaf, length-leaf_head, length-records, leaf_parts, leaf_whole}
 use Rattle.vm_block.proofs.NodeLemmas.{length-child, length-children, length-node, length-node_head, child_one, node_parts, node_whole}
+use Rattle.vm_block.proofs.Pieces.{length-zeros, zeros_are, drop-zeros}
 use Rattle.vm_block.proofs.RecordLemmas.{key_one, length-record, record_key, record_one}
-use Rattle.vm_block.proofs.Rows.{piece_at, row_set}
+use Rattle.vm_block.proofs.Rows.{piece_at, row_set, row_insert}
 use borrow.Rule.Slice.PartMut.{put_mid, mid_of}
 
 -- a row lies within the rows
@@ -103,6 +106,67 @@ leaf_keys bytes rs leaf i key lt fits is =
     let same : key ≡ r.0 = same_key key r.0 fits piece.1.0 (sym is ∙ sym (take-take 10 252 (drop (16 + 252 * i) bytes) (omega arith)) ∙ ap (take 10) piece.0 ∙ record_key r) in
     get_or-map (λ (e : Record). place e.0) rs i d 0 within ∙ ap place (sym same)
 
+-- the record of a leaf that was chosen by its bytes, and the key that was read there
+pub leaf_choice : (bytes : List ℕ) (rs : List Record) (n i k p q : ℕ) (key : Key) → IsLeaf bytes rs → n ≡ length rs → p ≡ q → ((ps : List ℕ) → length ps ≡ n → KeysStand bytes 252 ps → IsChosen ps p i)
+    → KeyFits key → 10 ≤ k → take 10 (take k (drop (16 + 252 * i) bytes)) ≡ key_bytes key → IsChosen (places rs) q i × (slice_index (places rs) i ≡ place key)
+leaf_choice bytes rs n i k p q key leaf count same choose fits enough is =
+    let keys = leaf_keys bytes rs leaf in
+    let chosen = subst (λ z. IsChosen (places rs) z i) same (choose (places rs) (length-map rs (λ (r : Record). place r.0) ∙ sym count) keys) in
+    (chosen, keys i key chosen.within fits (sym (take-take 10 k (drop (16 + 252 * i) bytes) enough) ∙ is))
+
+-- the lowest key of a leaf stands behind its head
+pub begin_read : (bytes : List ℕ) (rs : List Record) (key : Key) (k : ℕ) → IsLeaf bytes rs → KeyFits key → 10 ≤ k → take 10 (take k (drop 16 bytes)) ≡ key_bytes key → Begins key rs
+begin_read bytes [] key k leaf fits enough is = absurd (omega (arith, leaf.some))
+begin_read bytes (r ∷ rs) key k leaf fits enough is =
+    let piece = leaf_piece bytes (r ∷ rs) 0 r leaf (omega arith) in
+    same_key r.0 key piece.1.0 fits (sym (record_key r) ∙ ap (take 10) (sym piece.0) ∙ take-take 10 252 (drop 16 bytes) (omega arith) ∙ sym (take-take 10 k (drop 16 bytes) enough) ∙ is)
+
+-- one record written over the one at i
+pub record_set : (old new : List ℕ) (rs : List Record) (i : ℕ) (r : Record) (k : ℕ) → IsLeaf old rs → i < length rs → RecordFits r → k ≡ 4096 - (16 + 252 * i) → new ≡ record_bytes r ++ drop 252 (mid_of (16 + 252 * i) k old)
+    → put_mid (16 + 252 * i) k old new ≡ leaf_bytes (take i rs ++ r ∷ drop (i + 1) rs)
+unfolding leaf_bytes
+record_set old new rs i r k leaf lt fits far wrote =
+    let now = take i rs ++ r ∷ drop (i + 1) rs in
+    let head = leaf_head (length rs) in
+    let cut = λ (n : ℕ). subst (AllByRecursion RecordFits) (sym (take-append-drop n rs)) leaf.fit in
+    let fit : AllByRecursion RecordFits now = each_join RecordFits (take i rs) (r ∷ drop (i + 1) rs) (each_front RecordFits (take i rs) (drop i rs) (cut i)) (fits, each_back RecordFits (take (i + 1) rs) (drop (i + 1) rs) (cut (i + 1))) in
+    let many : length now ≡ length rs = omega (arith, length-append (take i rs) (r ∷ drop (i + 1) rs), length-take-le i rs (omega arith), length-drop (i + 1) rs) in
+    let body = flat_map record_bytes now in
+    let long : length (head ++ flat_map record_bytes rs) ≡ length (head ++ body) =
+    omega (arith, length-append head (flat_map record_bytes rs), length-append head body, length-records rs leaf.fit, length-records now fit, many) in
+    row_set record_bytes RecordFits 252 length-record rs i 16 r old head (zeros (4096 - length (head ++ flat_map record_bytes rs))) new k leaf.fit lt (length-leaf_head (length rs)) (leaf_whole old rs leaf) (omega (arith, length-leaf old rs leaf)) wrote
+    ∙ sym (append_assoc head body (zeros (4096 - length (head ++ flat_map record_bytes rs))))
+    ∙ ap (λ n. (head ++ body) ++ zeros (4096 - n)) long
+    ∙ ap (λ n. padded 4096 (leaf_head n ++ body)) (sym many)
+
+-- one record put before those from i on
+pub record_insert : (old moved new last : List ℕ) (rs : List Record) (i : ℕ) (r : Record) (k m n : ℕ) → IsLeaf old rs → i ≤ length rs → length rs < 16 → RecordFits r
+    → moved ≡ paste old (16 + 252 * (i + 1)) (drop (16 + 252 * i) old) m → m ≡ 252 * (length rs - i) → k ≡ 4096 - (16 + 252 * i) → new ≡ record_bytes r ++ drop 252 (mid_of (16 + 252 * i) k moved)
+    → n ≡ length rs + 1 → last ≡ leaf_head n ++ drop 16 (put_mid (16 + 252 * i) k moved new) → last ≡ leaf_bytes (take i rs ++ r ∷ drop i rs)
+unfolding leaf_bytes
+record_insert old moved new last rs i r k m n leaf le few fits moving reach far wrote count is =
+    let now = take i rs ++ r ∷ drop i rs in
+    let head = leaf_head (length rs) in
+    let body = flat_map record_bytes now in
+    let z = 4096 - length (head ++ flat_map record_bytes rs) in
+    let gap = take 252 (zeros z) in
+    let rest = drop 252 (zeros z) in
+    let front : length (head ++ flat_map record_bytes rs) ≡ 16 + 252 * length rs = omega (arith, length-append head (flat_map record_bytes rs), length-leaf_head (length rs), length-records rs leaf.fit) in
+    let wide : length gap ≡ 252 = length-take-le 252 (zeros z) (omega (arith, front, length-zeros z)) in
+    let whole : old ≡ head ++ (flat_map record_bytes rs ++ (gap ++ rest)) = leaf_whole old rs leaf ∙ ap (λ x. head ++ (flat_map record_bytes rs ++ x)) (sym (take-append-drop 252 (zeros z))) in
+    let cut = subst (AllByRecursion RecordFits) (sym (take-append-drop i rs)) leaf.fit in
+    let fit : AllByRecursion RecordFits now = each_join RecordFits (take i rs) (r ∷ drop i rs) (each_front RecordFits (take i rs) (drop i rs) cut) (fits, each_back RecordFits (take i rs) (drop i rs) cut) in
+    let many : length now ≡ length rs + 1 = omega (arith, length-append (take i rs) (r ∷ drop i rs), length-take-le i rs le, length-drop i rs) in
+    let wrote_there : new ≡ record_bytes r ++ drop 252 (mid_of (16 + 252 * i) k (paste old (16 + 252 * (i + 1)) (drop (16 + 252 * i) old) m)) = wrote ∙ ap (λ x. record_bytes r ++ drop 252 (mid_of (16 + 252 * i) k x)) moving in
+    let rows = row_insert record_bytes RecordFits 252 length-record rs i 16 r old head gap rest new k m leaf.fit le (length-leaf_head (length rs)) wide whole (omega (arith, reach, length-drop i rs)) (omega (arith, far, length-leaf old rs leaf)) wrote_there in
+    let behind : drop 16 (put_mid (16 + 252 * i) k moved new) ≡ body ++ rest = ap (λ x. drop 16 (put_mid (16 + 252 * i) k x new)) moving ∙ ap (drop 16) rows ∙ drop_at head (body ++ rest) 16 (length-leaf_head (length rs)) in
+    let counted : n ≡ length now = omega (arith, count, many) in
+    let cleared : rest ≡ zeros (4096 - length (leaf_head (length now) ++ body)) = ap (drop 252) (sym (zeros_are z)) ∙ drop-zeros 252 z ∙ ap zeros (omega (arith, front, length-append (leaf_head (length now)) body, length-leaf_head (length now), length-records now fit, many)) in
+    is ∙ ap (λ x. leaf_head n ++ x) behind
+    ∙ ap (λ c. leaf_head c ++ (body ++ rest)) counted
+    ∙ ap (λ x. leaf_head (length now) ++ (body ++ x)) cleared
+    ∙ sym (append_assoc (leaf_head (length now)) body (zeros (4096 - length (leaf_head (length now) ++ body))))
+
 -- # What a descent finds in a leaf
 
 -- numbers that rise from one on are not below it
@@ -157,3 +221,61 @@ module _ (rs : List Record) (p i : ℕ) (rises : RisesFrom 0 (places rs)) (chose
       (λ (far : i + 1 < k). omega (arith, next, rises_order 0 (places rs) (i + 1) k far (omega (arith, lt, many)) rises, e)))
       (cases_order k (i + 1))))
       (cases_order k i))
+
+with_here : (low : ℕ) (rs : List Record) (r : Record) (i : ℕ) → RisesFrom low (places rs) → i < length rs → slice_index (places rs) i ≡ place r.0 → with_record r rs ≡ take i rs ++ r ∷ drop (suc i) rs
+with_here low [] r i rises lt e = absurd (omega arith)
+with_here low (x ∷ rs) r zero rises lt e =
+    ap₂ (λ s t. cond s (r ∷ x ∷ rs) (cond t (r ∷ rs) (x ∷ with_record r rs))) (le-ltb (place r.0) (place x.0) (omega (arith, e))) (eq-eqb (place r.0) (place x.0) (sym e))
+with_here low (x ∷ rs) r (suc i) rises lt e =
+    let above = least (place x.0 + 1) (places rs) i (omega (arith, lt, length-map rs (λ (q : Record). place q.0))) rises.1 in
+    ap₂ (λ s t. cond s (r ∷ x ∷ rs) (cond t (r ∷ rs) (x ∷ with_record r rs))) (le-ltb (place r.0) (place x.0) (omega (arith, above, e))) (ne_eqb (place r.0) (place x.0) (λ same. omega (arith, above, same, e)))
+    ∙ ap (λ (qs : List Record). x ∷ qs) (with_here (place x.0 + 1) rs r i rises.1 (omega arith) e)
+
+with_into : (rs : List Record) (r : Record) (j : ℕ) → j ≤ length rs → ((k : ℕ) → k < j → slice_index (places rs) k < place r.0) → (j < length rs → place r.0 < slice_index (places rs) j) → with_record r rs ≡ take j rs ++ r ∷ drop j rs
+with_into [] r zero le below above = refl
+with_into [] r (suc j) le below above = absurd (omega arith)
+with_into (x ∷ rs) r zero le below above =
+    ap (λ s. cond s (r ∷ x ∷ rs) (cond (place r.0 == place x.0) (r ∷ rs) (x ∷ with_record r rs))) (lt-ltb (place r.0) (place x.0) (above (omega arith)))
+with_into (x ∷ rs) r (suc j) le below above =
+    let first = below zero (omega arith) in
+    ap₂ (λ s t. cond s (r ∷ x ∷ rs) (cond t (r ∷ rs) (x ∷ with_record r rs))) (le-ltb (place r.0) (place x.0) (omega (arith, first))) (ne_eqb (place r.0) (place x.0) (λ same. omega (arith, first, same)))
+    ∙ ap (λ (qs : List Record). x ∷ qs) (with_into rs r j (omega arith) (λ k lt. below (suc k) (omega arith)) (λ lt. above (omega arith)))
+
+module _ (rs : List Record) (r : Record) (i : ℕ) (rises : RisesFrom 0 (places rs)) (chosen : IsChosen (places rs) (place r.0) i) where
+  count_places : length (places rs) ≡ length rs
+  count_places = length-map rs (λ (q : Record). place q.0)
+
+  -- the record that is chosen is replaced by one of its key
+  pub chosen_with : slice_index (places rs) i ≡ place r.0 → with_record r rs ≡ take i rs ++ r ∷ drop (i + 1) rs
+  chosen_with e =
+      let one : suc i ≡ i + 1 = omega arith in
+      with_here 0 rs r i rises (omega (arith, chosen.within, count_places)) e ∙ ap (λ n. take i rs ++ r ∷ drop n rs) one
+
+  -- one of a higher key goes behind it
+  pub chosen_behind : slice_index (places rs) i < place r.0 → with_record r rs ≡ take (i + 1) rs ++ r ∷ drop (i + 1) rs
+  chosen_behind low =
+      with_into rs r (i + 1) (omega (arith, chosen.within, count_places))
+      (λ k lt.
+      ⊎_elim
+      (λ (same : k ≡ i). omega (arith, low, ap (slice_index (places rs)) same))
+      (⊎_elim
+      (λ (before : k < i). omega (arith, low, rises_order 0 (places rs) k i before chosen.within rises))
+      (λ (behind : i < k). absurd (omega arith)))
+      (cases_order k i))
+      (λ lt. chosen.last (omega (arith, lt, count_places)))
+
+  -- and one of a lower key goes before it, which is the first
+  pub chosen_before : place r.0 < slice_index (places rs) i → with_record r rs ≡ take i rs ++ r ∷ drop i rs
+  chosen_before high =
+      with_into rs r i (omega (arith, chosen.within, count_places)) (λ k lt. absurd (omega (arith, high, chosen.reached (omega arith)))) (λ lt. high)
+
+  -- either makes one record more
+  pub chosen_more : (slice_index (places rs) i ≡ place r.0 → ⊥) → length (with_record r rs) ≡ length rs + 1
+  chosen_more apart =
+      let count = λ (j : ℕ) (le : j ≤ length rs) (is : with_record r rs ≡ take j rs ++ r ∷ drop j rs). let all : length (with_record r rs) ≡ length rs + 1 = omega (arith, ap length is, length-append (take j rs) (r ∷ drop j rs), length-take-le j rs le, length-drop j rs) in all in
+      ⊎_elim
+      (λ (same : slice_index (places rs) i ≡ place r.0). absurd (apart same))
+      (⊎_elim
+      (λ (low : slice_index (places rs) i < place r.0). count (i + 1) (omega (arith, chosen.within, count_places)) (chosen_behind low))
+      (λ (high : place r.0 < slice_index (places rs) i). count i (omega (arith, chosen.within, count_places)) (chosen_before high)))
+      (cases_order (slice_index (places rs) i) (place r.0))

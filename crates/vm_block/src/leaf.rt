@@ -14,7 +14,7 @@ use vm_types::{Key, Value};
 /// The greatest number of records of a leaf.
 pub(crate) const MAX_RECORDS: u32 = 16;
 
-fn write_record(key: Key, value: &Value, out: &mut [u8])
+pub(crate) fn write_record(key: Key, value: &Value, out: &mut [u8])
     requires { 252 ≤ length out.old }
     ensures { out.new ≡ record_bytes (key, value.now) ++ drop 252 out.old }
 {
@@ -32,7 +32,7 @@ fn write_records(records: &[(Key, Value)], out: &mut [u8])
     }
 }
 
-fn write_leaf_head(count: u32, out: &mut [u8])
+pub(crate) fn write_leaf_head(count: u32, out: &mut [u8])
     requires { 16 ≤ length out.old }
     ensures { out.new ≡ leaf_head count ++ drop 16 out.old }
 {

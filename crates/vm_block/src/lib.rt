@@ -3,9 +3,13 @@
 //!
 //! It stands on `vm_types` for keys, values and names, and on no disk. Its one promise: a block is
 //! read exactly where its bytes are the form, every zero byte included, and then as the one thing
-//! that it spells; and what is written is read again. No call takes memory.
+//! that it spells; and what is written is read again. A descent to a key, and a change of one child
+//! or record, go by the bytes alone: of a block that is of its form they say and make what reading,
+//! changing and writing it would; of other bytes they promise nothing but to end. No call takes
+//! memory.
 #![tactic(auto)]
 
+mod changing;
 mod header;
 mod keys;
 mod laws;
@@ -18,6 +22,7 @@ mod spelling;
 mod tests;
 mod way;
 
+pub use changing::{Placed, put_record, set_child};
 pub use header::{read_header, write_header};
 pub use laws::{one_form, one_tree, written_is_a_form};
 pub use leaf::{read_leaf, write_leaf};
@@ -27,4 +32,4 @@ pub use slot::{
     Entry, Kind, MAX_BLOCKS, MAX_ENTRIES, MIN_BLOCKS, SlotHead, read_entry, read_slot_head,
     write_entry, write_slot_head,
 };
-pub use way::{Way, find_child, find_record, lowest_key, set_child};
+pub use way::{Way, find_child, find_record, lowest_key};

@@ -1,9 +1,9 @@
 //! Blocks byte for byte, and bytes that are no form.
 use crate::spelling::is_framed;
 use crate::{
-    Child, Entry, Kind, SlotHead, read_entry, read_header, read_leaf, read_node, read_selector,
-    read_slot_head, write_entry, write_header, write_leaf, write_node, write_selector,
-    write_slot_head,
+    Child, Entry, Kind, Placed, SlotHead, find_child, find_record, lowest_key, put_record,
+    read_entry, read_header, read_leaf, read_node, read_selector, read_slot_head, set_child,
+    write_entry, write_header, write_leaf, write_node, write_selector, write_slot_head,
 };
 use std::process::Abort;
 use vm_types::{Key, Name, Value};
@@ -282,4 +282,82 @@ fn bytes_that_are_no_entry_are_refused(rt: HostRuntime) {
     assert!(rt; entry_refuses(&rt, 35, 0), "a byte that stands in no owner");
     assert!(rt; entry_refuses(&rt, 75, 1), "a byte behind the roots");
     assert!(rt; entry_refuses(&rt, 127, 1), "the last byte");
+}
+
+#[test]
+fn a_descent_goes_to_the_last_child_that_is_not_above(rt: HostRuntime) {
+    let children = [
+        Child {
+            low: key(1, 5),
+            block: 35,
+        },
+        Child {
+            low: key(2, 0),
+            block: 36,
+        },
+        Child {
+            low: key(2, 9),
+            block: 34,
+        },
+    ];
+    let mut block = [0; 4096];
+    write_node(3, &children, &mut block);
+    let Some(way) = find_child(&block, key(2, 8)) else {
+        panic!(rt; "an inner block");
+    };
+    assert_eq!(rt; way.level, 3);
+    assert_eq!(rt; way.count, 3);
+    assert_eq!(rt; way.index, 1);
+    assert!(rt; way.child == children[1]);
+    assert!(rt;
+        find_child(&block, key(0, 0)).is_some_and(|way| way.index == 0),
+        "below all"
+    );
+    assert!(rt;
+        find_child(&block, key(2, 9)).is_some_and(|way| way.index == 2),
+        "the last"
+    );
+    assert!(rt; lowest_key(&block) == key(1, 5));
+    block[8] = 0;
+    assert!(rt; find_child(&block, key(2, 8)).is_none(), "no child");
+}
+
+#[test]
+fn a_child_is_replaced_where_it_stands(rt: HostRuntime) {
+    let old = Child {
+        low: key(1, 5),
+        block: 35,
+    };
+    let new = Child {
+        low: key(1, 4),
+        block: 99,
+    };
+    let mut block = [0; 4096];
+    let mut written = [7; 4096];
+    write_node(1, &[old, old, old], &mut block);
+    write_node(1, &[old, new, old], &mut written);
+    set_child(&mut block, 1, new);
+    assert!(rt; block == written);
+}
+
+#[test]
+fn a_record_is_put_where_it_belongs(rt: HostRuntime) {
+    let mut block = [0; 4096];
+    write_leaf(&[(key(7, 5), value(&rt, b"duct"))], &mut block);
+    assert!(rt; put_record(&mut block, 3, key(7, 9), &value(&rt, b"pipe")) == Placed::Put);
+    assert!(rt; put_record(&mut block, 3, key(7, 1), &value(&rt, b"wall")) == Placed::Put);
+    assert!(rt; put_record(&mut block, 3, key(7, 7), &value(&rt, b"roof")) == Placed::Full);
+    assert!(rt; put_record(&mut block, 3, key(7, 5), &value(&rt, b"beam")) == Placed::Put);
+    let mut written = [7; 4096];
+    let records = [
+        (key(7, 1), value(&rt, b"wall")),
+        (key(7, 5), value(&rt, b"beam")),
+        (key(7, 9), value(&rt, b"pipe")),
+    ];
+    write_leaf(&records, &mut written);
+    assert!(rt; block == written);
+    assert!(rt; lowest_key(&block) == key(7, 1));
+    assert!(rt; find_record(&block, key(7, 9)) == Some(Some(value(&rt, b"pipe"))));
+    assert!(rt; find_record(&block, key(7, 8)) == Some(None));
+    assert!(rt; put_record(&mut block, 2, key(7, 5), &value(&rt, b"")) == Placed::NoLeaf);
 }

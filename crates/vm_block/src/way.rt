@@ -1,15 +1,16 @@
 //! The way down to a key in the bytes of blocks, which are not read whole for it.
-ghost use Rattle.std.specs.Prelude.{◌≡◌, ℕ, ◌+◌, ◌*◌, ◌<◌, ◌≤◌, ◌++◌, ◌∷◌, List, length, take, drop, IfSome, IsSomeAnd, slice_index_or};
+ghost use Rattle.std.specs.Prelude.{◌≡◌, ℕ, ◌+◌, ◌*◌, ◌<◌, ◌≤◌, List, length, IfSome, IsSomeAnd, slice_index_or};
 ghost use Rattle.vm_types.specs.Places.{KeyFits, place, value_at};
 ghost use Rattle.vm_block.specs.Leaf.{Record, IsLeaf};
-ghost use Rattle.vm_block.specs.Node.{ChildFits, IsNode, node_bytes};
+ghost use Rattle.vm_block.specs.Node.{ChildFits, IsNode};
 ghost use Rattle.vm_block.specs.FullPath.{IsChosen};
+ghost use Rattle.vm_block.specs.Tree.{Begins};
 ghost use Rattle.vm_block.specs.Way.{KeysStand, Lowest, Takes};
 ghost use Rattle.vm_block.specs.declared.node.Child.{Child};
 
 use crate::keys::read_key;
 use crate::leaf::{MAX_RECORDS, read_record};
-use crate::node::{Child, is_in_range, read_child, write_child};
+use crate::node::{Child, is_in_range, read_child};
 use byteorder::{ByteOrder, LittleEndian};
 use vm_types::{Key, Value};
 
@@ -27,7 +28,7 @@ pub struct Way {
 
 /// Which of so many rows of one size, that rise by the keys which they begin with, a descent to a
 /// place takes: the last whose key is not above it, or else the first.
-fn choose(bytes: &[u8; 4096], size: usize, count: usize, place: u128) -> usize
+pub(crate) fn choose(bytes: &[u8; 4096], size: usize, count: usize, place: u128) -> usize
     requires some { 0 < count }
     requires keyed { 10 ≤ size }
     requires room { 16 + size * count ≤ 4096 }
@@ -80,21 +81,13 @@ pub fn find_child(bytes: &[u8; 4096], key: Key) -> Option<Way>
     })
 }
 
-/// The lowest key of an inner block: that of its first child.
+/// The lowest key of an inner block, that of its first child, or of a leaf.
 pub fn lowest_key(bytes: &[u8; 4096]) -> Key
     ensures fits { KeyFits result }
-    ensures lowest { (level : ℕ) (cs : List Child) → IsNode bytes.now level cs → Lowest result cs }
+    ensures node { (level : ℕ) (cs : List Child) → IsNode bytes.now level cs → Lowest result cs }
+    ensures leaf { (rs : List Record) → IsLeaf bytes.now rs → Begins result rs }
 {
     read_key(&bytes[16..])
-}
-
-/// Puts the child in the place of the one at this index of an inner block.
-pub fn set_child(bytes: &mut [u8; 4096], index: usize, child: Child)
-    requires { index < 256 }
-    ensures { (level : ℕ) (cs : List Child) → IsNode bytes.old level cs → index < length cs
-        → bytes.new ≡ node_bytes level (take index cs ++ child ∷ drop (index + 1) cs) }
-{
-    write_child(child, &mut bytes[16 + 14 * index..]);
 }
 
 /// The value of the key in a leaf. None where no leaf has so many records, or the record that was

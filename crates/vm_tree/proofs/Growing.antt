@@ -44,6 +44,11 @@ first_of_each : {X : Type 0} (P : X → Type 0) (xs : List X) (d : X) → 0 < le
 first_of_each P [] d some all = absurd (omega arith)
 first_of_each P (x ∷ xs) d some all = all.0
 
+-- the lowest key that was read is that of the first record
+pub begins_low : (rs : List Record) (d : Record) (key : Key) → Begins key rs → (slice_index_or rs 0 d).0 ≡ key
+begins_low [] d key begins = absurd begins
+begins_low (r ∷ rs) d key begins = begins
+
 -- what was made can stand under an inner block
 pub node_is : (P : ℕ → Type 0) (sizes : Sizes) (x : Contents) (limit level : ℕ) (bytes : List ℕ) (cs : List Child) (rs : List Record) → bytes ≡ node_bytes level cs → 0 < level → level ≤ 7 → 0 < length cs → length cs ≤ 256
     → RisesFrom 0 (places rs) → Made P sizes x limit (level - 1) cs rs → IsNode bytes level cs

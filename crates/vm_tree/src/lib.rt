@@ -3,6 +3,7 @@
 //!
 //! It stands on `vm_disk`, `vm_alloc` and `vm_block`. Its one promise: the new root has the map
 //! changed at one key, and at no moment has a block that was held other bytes than before.
+//! `get` and `put` go down in the bytes of blocks, and decode only those that split.
 #![tactic(auto)]
 
 mod getting;

@@ -6,7 +6,7 @@ ghost use Rattle.vm_types.specs.Places.{KeyFits, RisesFrom, place, places, with_
 ghost use Rattle.vm_disk.specs.Disk.{Goes};
 ghost use Rattle.vm_disk.specs.Moments.{Throughout, Spares};
 ghost use Rattle.vm_alloc.specs.Held.{IsHeld, HoldsMore, free_count};
-ghost use Rattle.vm_block.specs.Leaf.{Record, RecordFits};
+ghost use Rattle.vm_block.specs.Leaf.{Record, RecordFits, IsLeaf};
 ghost use Rattle.vm_block.specs.Node.{IsNode};
 ghost use Rattle.vm_block.specs.Tree.{Sizes, Subtree};
 ghost use Rattle.vm_block.specs.declared.node.Child.{Child};
@@ -15,15 +15,15 @@ ghost use Rattle.vm_tree.specs.Free.{is_free, IsTaken};
 ghost use Rattle.vm_tree.specs.Making.{Made, PutsBelow, Splits, children_of, is_split, with_copied};
 ghost use Rattle.vm_tree.specs.Root.{AreSizes, Grown, IsRooted, sizes_of};
 
-use crate::reading::{leaf_at, way_at};
+use crate::reading::{block_at, way_at};
 use crate::root::{Root, TreeFault, root_at};
 use crate::splicing::{push_all, spliced};
 use crate::writing::{
-    Copied, write_leaf_block, write_leaves, write_node_block, write_node_bytes, write_nodes,
+    Copied, write_bytes, write_leaf_block, write_leaves, write_node_block, write_nodes,
 };
 use arrayvec::ArrayVec;
 use vm_alloc::Held;
-use vm_block::{Way, read_node, set_child};
+use vm_block::{Placed, Way, put_record, read_leaf, read_node, set_child};
 use vm_disk::Disk;
 use vm_types::{Key, Value};
 
@@ -102,7 +102,7 @@ fn write_replaced<D: Disk, const FAN: usize>(
     match copied {
         Copied::One(child) => {
             set_child(bytes, way.index, child);
-            match write_node_bytes(disk, held, bytes) {
+            match write_bytes(disk, held, bytes) {
                 Ok(node) => Ok(Copied::One(node)),
                 Err(fault) => Err(fault),
             }
@@ -114,6 +114,41 @@ fn write_replaced<D: Disk, const FAN: usize>(
             }
             _ => Err(TreeFault::Damaged(block)),
         },
+    }
+}
+
+/// Writes a full leaf of these bytes anew as two, with the record of the key.
+fn split_leaf<D: Disk, const LEAF: usize>(
+    disk: &mut D,
+    held: &mut Held,
+    block: u32,
+    bytes: &[u8; 4096],
+    key: Key,
+    value: &Value,
+) -> Result<Copied, TreeFault>
+    requires inside { length held.old ≤ (D.state disk.old).blocks }
+    requires least { 2 ≤ LEAF }
+    requires most { LEAF ≤ 16 }
+    requires free { 2 ≤ free_count held.old }
+    ensures any { Goes (result ≡ Err TreeFault.Device) (D.state disk.old) (D.state disk.new) }
+    ensures deep { result ≢ Err TreeFault.Deep }
+    ensures memory { result ≢ Err TreeFault.Memory }
+    ensures device { IfOk result (λ copied. AllByRecursion (λ child. IsTaken held.new child.block) (children_of copied)) }
+    ensures still { HoldsMore held.old held.new }
+    ensures taken { free_count held.old ≤ free_count held.new + 2 }
+    ensures moments { (D.state disk.old).honest ≡ true
+        → Throughout (D.state disk.old) (D.state disk.new) (Spares (is_free held.old) (D.state disk.old).now) }
+    ensures fine { (rs : List Record) → IsLeaf bytes.now rs → length rs ≤ LEAF
+        → OkOrDevice result (λ copied. (is_split copied ≡ true) ↔ (LEAF < length (with_record (key, value.now) rs))) }
+    ensures made { (D.state disk.old).honest ≡ true → (sizes : Sizes) (rs : List Record) → IsLeaf bytes.now rs → length rs ≤ LEAF → LEAF ≤ sizes.leaf
+        → IfOk result (λ copied. Made (IsHeld held.new) sizes (D.state disk.new).now.contents (length held.old) 0 (children_of copied) (with_record (key, value.now) rs)) }
+{
+    match read_leaf(bytes) {
+        Some(records) if records.len() <= LEAF => {
+            let records = with_record(records.as_slice(), key, value);
+            write_leaves::<D, LEAF>(disk, held, records.as_slice())
+        }
+        _ => Err(TreeFault::Damaged(block)),
     }
 }
 
@@ -145,14 +180,17 @@ fn put_in_leaf<D: Disk, const LEAF: usize>(
         → PutsBelow result (Splits (sizes_of LEAF fan levels) (D.state disk.old).now.contents (place key) 0 block rs)
         (λ cs. Made (IsHeld held.new) (sizes_of LEAF fan levels) (D.state disk.new).now.contents (length held.old) 0 cs (with_record (key, value.now) rs)) }
 {
-    match leaf_at::<D, LEAF>(disk, held.blocks(), block) {
-        Ok(records) => {
-            let records = with_record(records.as_slice(), key, value);
-            if records.len() > LEAF && !room {
-                return Err(TreeFault::Deep);
-            }
-            write_leaves::<D, LEAF>(disk, held, records.as_slice())
-        }
+    let mut bytes = [0; 4096];
+    match block_at(disk, held.blocks(), block, &mut bytes) {
+        Ok(()) => match put_record(&mut bytes, LEAF, key, value) {
+            Placed::Put => match write_bytes(disk, held, &bytes) {
+                Ok(leaf) => Ok(Copied::One(leaf)),
+                Err(fault) => Err(fault),
+            },
+            Placed::Full if !room => Err(TreeFault::Deep),
+            Placed::Full => split_leaf::<D, LEAF>(disk, held, block, &bytes, key, value),
+            Placed::NoLeaf => Err(TreeFault::Damaged(block)),
+        },
         Err(fault) => Err(fault),
     }
 }

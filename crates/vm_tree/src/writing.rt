@@ -5,7 +5,7 @@ ghost use Rattle.vm_types.specs.Places.{RisesFrom, places};
 ghost use Rattle.vm_disk.specs.Disk.{Goes, block};
 ghost use Rattle.vm_disk.specs.Moments.{Throughout, Spares};
 ghost use Rattle.vm_alloc.specs.Held.{IsHeld, HoldsMore, free_count};
-ghost use Rattle.vm_block.specs.Leaf.{Record, RecordFits};
+ghost use Rattle.vm_block.specs.Leaf.{Record, RecordFits, leaf_bytes};
 ghost use Rattle.vm_block.specs.Node.{node_bytes};
 ghost use Rattle.vm_block.specs.Tree.{Sizes};
 ghost use Rattle.vm_block.specs.declared.node.Child.{Child};
@@ -49,6 +49,35 @@ fn write_free<D: Disk>(disk: &mut D, held: &mut Held, bytes: &[u8; 4096]) -> Res
     }
 }
 
+/// Writes the leaf or the inner block of these bytes.
+pub(crate) fn write_bytes<D: Disk>(
+    disk: &mut D,
+    held: &mut Held,
+    bytes: &[u8; 4096],
+) -> Result<Child, TreeFault>
+    requires inside { length held.old ≤ (D.state disk.old).blocks }
+    requires room { 0 < free_count held.old }
+    ensures any { Goes (result ≡ Err TreeFault.Device) (D.state disk.old) (D.state disk.new) }
+    ensures device { OkOrDevice result (λ child. IsTaken held.new child.block) }
+    ensures still { HoldsMore held.old held.new }
+    ensures taken { free_count held.old ≤ free_count held.new + 1 }
+    ensures moments { (D.state disk.old).honest ≡ true
+        → Throughout (D.state disk.old) (D.state disk.new) (Spares (is_free held.old) (D.state disk.old).now) }
+    ensures leaf { (D.state disk.old).honest ≡ true → (sizes : Sizes) (rs : List Record) → bytes.now ≡ leaf_bytes rs
+        → 0 < length rs → length rs ≤ 16 → length rs ≤ sizes.leaf → RisesFrom 0 (places rs) → AllByRecursion RecordFits rs
+        → IfOk result (λ child. Made (IsHeld held.new) sizes (D.state disk.new).now.contents (length held.old) 0 (child ∷ []) rs) }
+    ensures node { (D.state disk.old).honest ≡ true → (sizes : Sizes) (level : ℕ) (cs : List Child) (rs : List Record) → bytes.now ≡ node_bytes level cs
+        → 0 < level → level ≤ 7 → 0 < length cs → length cs ≤ 256 → length cs ≤ sizes.fan
+        → RisesFrom 0 (places rs) → Made (IsHeld held.old) sizes (D.state disk.old).now.contents (length held.old) (level - 1) cs rs
+        → IfOk result (λ child. Made (IsHeld held.new) sizes (D.state disk.new).now.contents (length held.old) level (child ∷ []) rs) }
+{
+    let low = lowest_key(bytes);
+    match write_free(disk, held, bytes) {
+        Ok(block) => Ok(Child { low, block }),
+        Err(fault) => Err(fault),
+    }
+}
+
 /// Writes the leaf of these records.
 pub(crate) fn write_leaf_block<D: Disk>(
     disk: &mut D,
@@ -71,39 +100,7 @@ pub(crate) fn write_leaf_block<D: Disk>(
 {
     let mut bytes = [0; 4096];
     write_leaf(records, &mut bytes);
-    match write_free(disk, held, &bytes) {
-        Ok(block) => Ok(Child {
-            low: records[0].0,
-            block,
-        }),
-        Err(fault) => Err(fault),
-    }
-}
-
-/// Writes the inner block of these bytes.
-pub(crate) fn write_node_bytes<D: Disk>(
-    disk: &mut D,
-    held: &mut Held,
-    bytes: &[u8; 4096],
-) -> Result<Child, TreeFault>
-    requires inside { length held.old ≤ (D.state disk.old).blocks }
-    requires room { 0 < free_count held.old }
-    ensures any { Goes (result ≡ Err TreeFault.Device) (D.state disk.old) (D.state disk.new) }
-    ensures device { OkOrDevice result (λ child. IsTaken held.new child.block) }
-    ensures still { HoldsMore held.old held.new }
-    ensures taken { free_count held.old ≤ free_count held.new + 1 }
-    ensures moments { (D.state disk.old).honest ≡ true
-        → Throughout (D.state disk.old) (D.state disk.new) (Spares (is_free held.old) (D.state disk.old).now) }
-    ensures made { (D.state disk.old).honest ≡ true → (sizes : Sizes) (level : ℕ) (cs : List Child) (rs : List Record) → bytes.now ≡ node_bytes level cs
-        → 0 < level → level ≤ 7 → 0 < length cs → length cs ≤ 256 → length cs ≤ sizes.fan
-        → RisesFrom 0 (places rs) → Made (IsHeld held.old) sizes (D.state disk.old).now.contents (length held.old) (level - 1) cs rs
-        → IfOk result (λ child. Made (IsHeld held.new) sizes (D.state disk.new).now.contents (length held.old) level (child ∷ []) rs) }
-{
-    let low = lowest_key(bytes);
-    match write_free(disk, held, bytes) {
-        Ok(block) => Ok(Child { low, block }),
-        Err(fault) => Err(fault),
-    }
+    write_bytes(disk, held, &bytes)
 }
 
 /// Writes the inner block of this level and these children.
@@ -129,7 +126,7 @@ pub(crate) fn write_node_block<D: Disk>(
 {
     let mut bytes = [0; 4096];
     write_node(level, children, &mut bytes);
-    write_node_bytes(disk, held, &bytes)
+    write_bytes(disk, held, &bytes)
 }
 
 /// Writes one leaf or, where there are more than LEAF records, two: the left one gets the odd record.

@@ -1,6 +1,6 @@
 use Rattle.std.proofs.Common.{refl, arith}
 use Rattle.vm_block.proofs.WayLemmas.{child_set}
-use Rattle.vm_block.proofs.way.set_child.Goals as goal
+use Rattle.vm_block.proofs.changing.set_child.Goals as goal
 
 pub returns : goal.returns
 returns c level cs node lt =
