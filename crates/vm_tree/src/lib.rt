@@ -3,7 +3,8 @@
 //!
 //! It stands on `vm_disk`, `vm_alloc` and `vm_block`. Its one promise: the new root has the map
 //! changed at one key, and at no moment has a block that was held other bytes than before.
-//! `get` and `put` go down in the bytes of blocks, and decode only those that split.
+//! A descent goes by the bytes of inner blocks, and a change of one child is made in them; `get` and
+//! `put` decode a block only where it splits.
 #![tactic(auto)]
 
 mod getting;

@@ -4,8 +4,7 @@ ghost use Rattle.vm_types.specs.Places.{place};
 ghost use Rattle.vm_disk.specs.Disk.{Goes};
 ghost use Rattle.vm_disk.specs.Moments.{OnlyReads};
 ghost use Rattle.vm_block.specs.Leaf.{Record};
-ghost use Rattle.vm_block.specs.Node.{IsNode, lows};
-ghost use Rattle.vm_block.specs.FullPath.{IsChosen};
+ghost use Rattle.vm_block.specs.Node.{IsNode};
 ghost use Rattle.vm_block.specs.Tree.{IsData};
 ghost use Rattle.vm_block.specs.Way.{Takes};
 ghost use Rattle.vm_block.specs.declared.node.Child.{Child};
@@ -138,19 +137,4 @@ pub(crate) fn node_at<D: Disk, const MOST: usize>(
         },
         Err(_) => Err(TreeFault::Device),
     }
-}
-
-/// Which child a descent to a key at this place takes: the last whose lowest key is not above it,
-/// or else the first.
-pub(crate) fn choose(children: &[Child], place: u128) -> usize
-    requires { 0 < length children.now }
-    ensures chosen { IsChosen (lows children.now) place result }
-    ensures within { result < length children.now }
-{
-    for i in 1..children.len() {
-        if children[i].low.place() > place {
-            return i - 1;
-        }
-    }
-    children.len() - 1
 }

@@ -1,5 +1,5 @@
 //! A record less.
-ghost use Rattle.std.specs.Prelude.{◌≡◌, ◌≢◌, ◌↔◌, ℕ, ◌+◌, ◌-◌, ◌<◌, ◌≤◌, ◌++◌, ◌∷◌, Bool, true, false, List, [], None, Some, length, take, drop, IsTrue, IfOk, IfSome, IfNone};
+ghost use Rattle.std.specs.Prelude.{◌≡◌, ◌≢◌, ◌↔◌, ℕ, ◌+◌, ◌-◌, ◌<◌, ◌≤◌, ◌++◌, ◌∷◌, Bool, true, false, List, [], None, Some, length, take, drop, IsTrue, IfOk, IfSome, IfNone, IsSomeAnd};
 ghost use Rattle.std.specs.List.{AllByRecursion};
 ghost use Rattle.vm_types.specs.Map.{Map, get, without};
 ghost use Rattle.vm_types.specs.Places.{KeyFits, RisesFrom, place, places, value_at};
@@ -7,20 +7,22 @@ ghost use Rattle.vm_disk.specs.Disk.{Goes};
 ghost use Rattle.vm_disk.specs.Moments.{Throughout, OnlyReads, Spares};
 ghost use Rattle.vm_alloc.specs.Held.{IsHeld, HoldsMore, free_count};
 ghost use Rattle.vm_block.specs.Leaf.{Record};
+ghost use Rattle.vm_block.specs.Node.{IsNode};
 ghost use Rattle.vm_block.specs.Tree.{Children, Subtree};
+ghost use Rattle.vm_block.specs.declared.node.Child.{Child};
 ghost use Rattle.vm_tree.specs.Answers.{OkOrDevice, Removes};
 ghost use Rattle.vm_tree.specs.Free.{is_free, IsTaken};
 ghost use Rattle.vm_tree.specs.Making.{Made};
 ghost use Rattle.vm_tree.specs.Removing.{Narrows, RemovesBelow, Rests, child_of, level_of, without_place};
 ghost use Rattle.vm_tree.specs.Root.{AreSizes, Grown, IsRooted, sizes_of};
 
-use crate::reading::{choose, leaf_at, node_at};
+use crate::reading::{leaf_at, node_at, way_at};
 use crate::root::{Root, TreeFault, root_at};
 use crate::splicing::{push_all, spliced};
-use crate::writing::{write_leaf_block, write_node_block};
+use crate::writing::{write_bytes, write_leaf_block, write_node_block};
 use arrayvec::ArrayVec;
 use vm_alloc::Held;
-use vm_block::Child;
+use vm_block::{Child, Way, read_node, set_child};
 use vm_disk::Disk;
 use vm_types::{Key, Value};
 
@@ -69,6 +71,22 @@ fn without(records: &[(Key, Value)], i: usize) -> ArrayVec<(Key, Value), 16>
     push_all(&records[..i], &mut rest);
     push_all(&records[i + 1..], &mut rest);
     rest
+}
+
+/// The children of an inner block of these bytes without the one that was taken.
+fn without_child(bytes: &[u8; 4096], way: Way) -> Option<ArrayVec<Child, 257>>
+    requires within { way.index < way.count }
+    requires few { way.count ≤ 256 }
+    ensures count { IfSome result (λ rest. length rest.items ≤ way.count) }
+    ensures only { (level : ℕ) (cs : List Child) → IsNode bytes.now level cs → way.count ≡ length cs
+        → IsSomeAnd result (λ rest. rest.items ≡ take way.index cs ++ drop (way.index + 1) cs) }
+{
+    match read_node(bytes) {
+        Some(node) if node.children.len() == way.count => {
+            Some(spliced(node.children.as_slice(), way.index, &[]))
+        }
+        _ => None,
+    }
 }
 
 /// Takes the record of the key at this place out of a leaf.
@@ -187,7 +205,7 @@ fn write_rest<D: Disk, const FAN: usize>(
     }
 }
 
-/// Takes the record of the key at this place out of what lies under a block of this level. A root
+/// Takes the record of the key out of what lies under a block of this level. A root
 /// that would have one child is not written.
 fn remove_below<D: Disk, const LEAF: usize, const FAN: usize>(
     disk: &mut D,
@@ -195,7 +213,7 @@ fn remove_below<D: Disk, const LEAF: usize, const FAN: usize>(
     level: u8,
     block: u32,
     is_root: bool,
-    place: u128,
+    key: Key,
 ) -> Result<Left, TreeFault>
     requires inside { length held.old ≤ (D.state disk.old).blocks }
     requires leaf_most { LEAF ≤ 16 }
@@ -205,6 +223,7 @@ fn remove_below<D: Disk, const LEAF: usize, const FAN: usize>(
     ensures any { Goes (result ≡ Err TreeFault.Device) (D.state disk.old) (D.state disk.new) }
     ensures deep { result ≢ Err TreeFault.Deep }
     ensures memory { result ≢ Err TreeFault.Memory }
+    ensures fits { KeyFits key }
     ensures level { IfOk result (λ left. level_of left level ≤ level) }
     ensures same_level { is_root ≡ false → IfOk result (λ left. level_of left level ≡ level) }
     ensures still { HoldsMore held.old held.new }
@@ -215,36 +234,34 @@ fn remove_below<D: Disk, const LEAF: usize, const FAN: usize>(
         → Throughout (D.state disk.old) (D.state disk.new) (Spares (is_free held.old) (D.state disk.old).now) }
     ensures remove { (D.state disk.old).honest ≡ true → (levels : ℕ) (rs : List Record) (bs : List ℕ)
         → Subtree (sizes_of LEAF FAN levels) (D.state disk.old).now.contents (length held.old) level block rs bs → RisesFrom 0 (places rs) → AllByRecursion (IsHeld held.old) bs
-        → RemovesBelow result place rs
-        (λ root. Made (IsHeld held.new) (sizes_of LEAF FAN levels) (D.state disk.new).now.contents (length held.old) root.level (child_of root ∷ []) (without_place place rs)) }
+        → RemovesBelow result (place key) rs
+        (λ root. Made (IsHeld held.new) (sizes_of LEAF FAN levels) (D.state disk.new).now.contents (length held.old) root.level (child_of root ∷ []) (without_place (place key) rs)) }
 {
     if level == 0 {
-        return remove_from_leaf::<D, LEAF>(disk, held, block, place);
+        return remove_from_leaf::<D, LEAF>(disk, held, block, key.place());
     }
-    match node_at::<D, FAN>(disk, held.blocks(), level, block) {
-        Ok(children) => {
-            let children = children.as_slice();
-            let i = choose(children, place);
-            let alone = is_root && children.len() == 1;
-            match remove_below::<D, LEAF, FAN>(
-                disk,
-                held,
-                level - 1,
-                children[i].block,
-                alone,
-                place,
-            ) {
+    let mut bytes = [0; 4096];
+    match way_at::<D, FAN>(disk, held.blocks(), level, block, key, &mut bytes) {
+        Ok(way) => {
+            let alone = is_root && way.count == 1;
+            let child = way.child.block;
+            match remove_below::<D, LEAF, FAN>(disk, held, level - 1, child, alone, key) {
                 Ok(Left::Same) => Ok(Left::Same),
-                Ok(Left::Nothing) => {
-                    let rest = spliced(children, i, &[]);
-                    write_rest::<D, FAN>(disk, held, level, is_root, rest.as_slice())
-                }
+                Ok(Left::Nothing) => match without_child(&bytes, way) {
+                    Some(rest) => {
+                        write_rest::<D, FAN>(disk, held, level, is_root, rest.as_slice())
+                    }
+                    None => Err(TreeFault::Damaged(block)),
+                },
                 Ok(Left::Rest(root)) => {
                     if alone {
                         return Ok(Left::Rest(root));
                     }
-                    let rest = spliced(children, i, &[child_of(root)]);
-                    write_rest::<D, FAN>(disk, held, level, is_root, rest.as_slice())
+                    set_child(&mut bytes, way.index, child_of(root));
+                    match write_bytes(disk, held, &bytes) {
+                        Ok(node) => Ok(Left::Rest(root_at(node, level))),
+                        Err(fault) => Err(fault),
+                    }
                 }
                 Err(fault) => Err(fault),
             }
@@ -294,7 +311,7 @@ pub fn remove<D: Disk, const LEAF: usize, const FAN: usize, const LEVELS: usize>
     if usize::from(root.level) >= LEVELS {
         return Err(TreeFault::Damaged(root.block));
     }
-    match remove_below::<D, LEAF, FAN>(disk, held, root.level, root.block, true, key.place()) {
+    match remove_below::<D, LEAF, FAN>(disk, held, root.level, root.block, true, key) {
         Ok(Left::Same) => Ok(None),
         Ok(Left::Nothing) => Ok(Some(Root::default())),
         Ok(Left::Rest(root)) => Ok(Some(root)),

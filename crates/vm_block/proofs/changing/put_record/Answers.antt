@@ -1,9 +1,7 @@
-use Rattle.std.proofs.Common.{◌≡◌, ℕ, List, ◌+◌, ◌*◌, ◌<◌, length, ap, sym, ◌∙◌, refl, arith, length-append, length-drop, length-take-le}
-use Rattle.std.proofs.Common.{◌-◌, ◌++◌, ◌∷◌, take, drop}
+use Rattle.std.proofs.Common.{◌≡◌, ℕ, List, ◌+◌, ◌-◌, ◌*◌, ◌<◌, ◌++◌, ◌∷◌, length, take, drop, ap, sym, ◌∙◌, refl, arith, length-append, length-drop, length-take-le}
 use Rattle.std.specs.Prelude.{slice_index}
 use Rattle.vm_types.specs.Places.{place, places, with_record}
-use Rattle.vm_block.specs.Leaf.{Record, RecordFits}
-use Rattle.vm_block.specs.Leaf.{leaf_bytes}
+use Rattle.vm_block.specs.Leaf.{Record, RecordFits, leaf_bytes}
 use Rattle.vm_block.proofs.LeafLemmas.{leaf_counted}
 use Rattle.vm_block.proofs.WayLemmas.{leaf_choice, chosen_with, chosen_behind, chosen_before, chosen_more}
 use Rattle.vm_block.proofs.changing.put_record.Goals as goal

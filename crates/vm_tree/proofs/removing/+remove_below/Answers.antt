@@ -1,6 +1,6 @@
-use Rattle.std.proofs.Common.{◌≡◌, ◌≢◌, ◌∙◌, ℕ, ◌-◌, ◌≤◌, ◌<◌, None, Ok, List, [], ◌∷◌, length, ap, sym, subst, arith}
+use Rattle.std.proofs.Common.{◌≡◌, ◌≢◌, ◌∙◌, ℕ, ◌+◌, ◌-◌, ◌<◌, None, Ok, List, [], ◌∷◌, ◌++◌, length, get_or, take, drop, ap, sym, subst, refl, arith}
 use Rattle.std.proofs.lemmas.Bool.{false≢true, eqb-true}
-use Rattle.vm_types.specs.Places.{value_at}
+use Rattle.vm_types.specs.Places.{place, value_at}
 use Rattle.vm_disk.proofs.MomentLemmas.{after_reads, reads_keep, reads_then, spares_itself, same_medium}
 use Rattle.vm_block.specs.Leaf.{Record}
 use Rattle.vm_block.specs.Tree.{Subtree}
@@ -10,9 +10,11 @@ use Rattle.vm_tree.specs.Making.{Made}
 use Rattle.vm_tree.specs.Reading.{IsNodeAt}
 use Rattle.vm_tree.specs.Removing.{Rests, RemovesBelow, child_of, level_of, without_place}
 use Rattle.vm_tree.specs.declared.removing.Left.{Left}
+use Rattle.vm_tree.specs.declared.root.Root.{Root}
 use Rattle.vm_tree.specs.Root.{sizes_of}
 use Rattle.vm_tree.specs.declared.root.TreeFault.TheVariants.{Device}
 use Rattle.vm_tree.proofs.Descent.{node_read}
+use Rattle.vm_tree.proofs.PutLemmas.{only_one, replaced_length}
 use Rattle.vm_tree.proofs.RemoveLemmas.{rests_removes, made_none, none_there, fault_there, node_rest, only_there}
 use Rattle.vm_tree.proofs.Sparing.{spares_then, held_kept}
 use Rattle.vm_tree.proofs.removing.+remove_below.Goals as goal
@@ -27,18 +29,26 @@ returns-then-alone-clause-remove g t c honest levels rs bs tree rises all =
     let sizes = sizes_of g.row.LEAF g.row.FAN levels in
     let old = (g.D.Disk.state c.args.disk.now).now in
     let now = c.in-Ok.ensures.any.same_honesty ∙ honest in
-    let p = c.args.place in
-    let cs = c.as_slice-children.result.now in
-    let d : Child = record { low = record { table = 0; number = 0 }; block = 0 } in
+    let p = place c.args.key in
+    let limit = length c.args.held.now in
+    let l = c.args.level in
+    let b = c.args.block in
     let held = IsHeld c.args.held.now in
     let still = same_medium _ _ (c.in-Ok.ensures.reads honest) in
-    let only = λ (ds : List Child) (at : IsNodeAt old.contents (length c.args.held.now) c.args.level c.args.block ds) (few : length ds ≤ sizes.fan).
-    c.as_slice-children.ensures.value ∙ c.in-Ok.ensures.only honest ds (subst (λ n. IsNodeAt old.contents n c.args.level c.args.block ds) (sym c.blocks-2.ensures.count) at) few in
-    let above : 0 < c.args.level = omega (arith, c.if-level-eq0.false) in
-    let one : length cs ≡ 1 = elim c.if-is_root.branch [ then-is_root w ↦ eqb-true (length cs) 1 (sym w.alone-is ∙ c.if-alone.true) | else-is_root w ↦ absurd (false≢true (sym w.if-is_root.false ∙ sym w.alone-is ∙ c.if-alone.true)) ] in
-    let A : List Record → Type 0 = λ qs. (value_at p qs ≢ None) × Made (IsHeld c.remove_below.new.held) sizes (g.D.Disk.state c.remove_below.new.disk).now.contents (length c.args.held.now) c.in-Ok-Rest.root.level (child_of c.in-Ok-Rest.root ∷ []) (without_place p qs) in
-    only_there sizes old _ (length c.args.held.now) c.args.level c.args.block p rs bs cs c.choose-i.result d still above tree rises only c.choose-i.ensures.chosen held A one all
-    (λ sub own there rising kept. subst (λ (left : Left). RemovesBelow (Ok left) p sub (λ root. Made (IsHeld c.remove_below.new.held) sizes (g.D.Disk.state c.remove_below.new.disk).now.contents (length c.args.held.now) root.level (child_of root ∷ []) (without_place p sub))) c.in-Ok-Rest.field-0-is (c.in-Ok-Rest.ensures.remove now levels sub own there rising kept))
+    let above : 0 < l = omega (arith, c.if-level-eq0.false) in
+    let read = node_read sizes old.contents limit l b rs bs above tree in
+    let cs = read.0 in
+    let way = c.in-Ok.ensures.only honest cs (subst (λ n. IsNodeAt old.contents n l b cs) (sym c.blocks-2.ensures.count) read.1) read.2 in
+    let only = only_one old.contents limit l b sizes.fan cs read.1 in
+    let i = c.in-Ok.way.index in
+    let d = c.in-Ok.way.child in
+    let chosen = way.2.chosen in
+    let down = λ (sub : List Record) (own : List ℕ) (there : Subtree sizes (g.D.Disk.state c.way_at.new.disk).now.contents limit (l - 1) (get_or cs i d).block sub own). subst (λ (e : Child). Subtree sizes (g.D.Disk.state c.way_at.new.disk).now.contents limit (l - 1) e.block sub own) way.2.child there in
+    let single : c.in-Ok.way.count ≡ 1 = elim c.if-is_root.branch [ then-is_root w ↦ eqb-true c.in-Ok.way.count 1 (sym w.alone-is ∙ c.if-alone.true) | else-is_root w ↦ absurd (false≢true (sym w.if-is_root.false ∙ sym w.alone-is ∙ c.if-alone.true)) ] in
+    let one : length cs ≡ 1 = sym way.1 ∙ single in
+    let A : List Record → Type 0 = λ qs. (value_at p qs ≢ None) × Made (IsHeld c.remove_below.new.held) sizes (g.D.Disk.state c.remove_below.new.disk).now.contents limit c.in-Ok-Rest.root.level (child_of c.in-Ok-Rest.root ∷ []) (without_place p qs) in
+    only_there sizes old _ limit l b p rs bs cs i d still above tree rises only chosen held A one all
+    (λ sub own there rising kept. subst (λ (left : Left). RemovesBelow (Ok left) p sub (λ root. Made (IsHeld c.remove_below.new.held) sizes (g.D.Disk.state c.remove_below.new.disk).now.contents limit root.level (child_of root ∷ []) (without_place p sub))) c.in-Ok-Rest.field-0-is (c.in-Ok-Rest.ensures.remove now levels sub own (down sub own there) rising kept))
 
 pub returns-in-Ok-Same-clause-reads : goal.returns-in-Ok-Same-clause-reads
 returns-in-Ok-Same-clause-reads g t c honest same =
@@ -53,79 +63,128 @@ returns-in-Ok-Same-clause-remove g t c honest levels rs bs tree rises all =
     let sizes = sizes_of g.row.LEAF g.row.FAN levels in
     let old = (g.D.Disk.state c.args.disk.now).now in
     let now = c.in-Ok.ensures.any.same_honesty ∙ honest in
-    let p = c.args.place in
-    let cs = c.as_slice-children.result.now in
-    let d : Child = record { low = record { table = 0; number = 0 }; block = 0 } in
+    let p = place c.args.key in
+    let limit = length c.args.held.now in
+    let l = c.args.level in
+    let b = c.args.block in
     let held = IsHeld c.args.held.now in
     let still = same_medium _ _ (c.in-Ok.ensures.reads honest) in
-    let only = λ (ds : List Child) (at : IsNodeAt old.contents (length c.args.held.now) c.args.level c.args.block ds) (few : length ds ≤ sizes.fan).
-    c.as_slice-children.ensures.value ∙ c.in-Ok.ensures.only honest ds (subst (λ n. IsNodeAt old.contents n c.args.level c.args.block ds) (sym c.blocks-2.ensures.count) at) few in
-    let above : 0 < c.args.level = omega (arith, c.if-level-eq0.false) in
-    none_there sizes old _ (length c.args.held.now) c.args.level c.args.block p rs bs cs c.choose-i.result d still above tree rises only c.choose-i.ensures.chosen held all
-    (λ sub own there rising kept. subst (λ (left : Left). RemovesBelow (Ok left) p sub (λ root. Made (IsHeld c.remove_below.new.held) sizes (g.D.Disk.state c.remove_below.new.disk).now.contents (length c.args.held.now) root.level (child_of root ∷ []) (without_place p sub))) c.in-Ok-Same.field-0-is (c.in-Ok-Same.ensures.remove now levels sub own there rising kept))
+    let above : 0 < l = omega (arith, c.if-level-eq0.false) in
+    let read = node_read sizes old.contents limit l b rs bs above tree in
+    let cs = read.0 in
+    let way = c.in-Ok.ensures.only honest cs (subst (λ n. IsNodeAt old.contents n l b cs) (sym c.blocks-2.ensures.count) read.1) read.2 in
+    let only = only_one old.contents limit l b sizes.fan cs read.1 in
+    let i = c.in-Ok.way.index in
+    let d = c.in-Ok.way.child in
+    let chosen = way.2.chosen in
+    let down = λ (sub : List Record) (own : List ℕ) (there : Subtree sizes (g.D.Disk.state c.way_at.new.disk).now.contents limit (l - 1) (get_or cs i d).block sub own). subst (λ (e : Child). Subtree sizes (g.D.Disk.state c.way_at.new.disk).now.contents limit (l - 1) e.block sub own) way.2.child there in
+    none_there sizes old _ limit l b p rs bs cs i d still above tree rises only chosen held all
+    (λ sub own there rising kept. subst (λ (left : Left). RemovesBelow (Ok left) p sub (λ root. Made (IsHeld c.remove_below.new.held) sizes (g.D.Disk.state c.remove_below.new.disk).now.contents limit root.level (child_of root ∷ []) (without_place p sub))) c.in-Ok-Same.field-0-is (c.in-Ok-Same.ensures.remove now levels sub own (down sub own there) rising kept))
 
-pub returns-in-Ok-Nothing-clause-moments : goal.returns-in-Ok-Nothing-clause-moments
-returns-in-Ok-Nothing-clause-moments g t c honest =
+pub returns-in-Some-clause-moments : goal.returns-in-Some-clause-moments
+returns-in-Some-clause-moments g t c honest =
     let now = c.in-Ok.ensures.any.same_honesty ∙ honest in
     let then = c.in-Ok-Nothing.ensures.any.same_honesty ∙ now in
     after_reads _ _ _ _ (c.in-Ok.ensures.reads honest) (spares_then _ _ _ _ _ c.in-Ok-Nothing.ensures.still (c.in-Ok-Nothing.ensures.moments now) (c.write_rest.ensures.moments then))
 
-pub returns-in-Ok-Nothing-clause-remove : goal.returns-in-Ok-Nothing-clause-remove
-returns-in-Ok-Nothing-clause-remove g t c honest levels rs bs tree rises all =
+pub returns-in-Some-clause-remove : goal.returns-in-Some-clause-remove
+returns-in-Some-clause-remove g t c honest levels rs bs tree rises all =
     let sizes = sizes_of g.row.LEAF g.row.FAN levels in
     let old = (g.D.Disk.state c.args.disk.now).now in
     let now = c.in-Ok.ensures.any.same_honesty ∙ honest in
-    let p = c.args.place in
-    let cs = c.as_slice-children.result.now in
-    let d : Child = record { low = record { table = 0; number = 0 }; block = 0 } in
+    let p = place c.args.key in
+    let limit = length c.args.held.now in
+    let l = c.args.level in
+    let b = c.args.block in
     let held = IsHeld c.args.held.now in
     let still = same_medium _ _ (c.in-Ok.ensures.reads honest) in
-    let only = λ (ds : List Child) (at : IsNodeAt old.contents (length c.args.held.now) c.args.level c.args.block ds) (few : length ds ≤ sizes.fan).
-    c.as_slice-children.ensures.value ∙ c.in-Ok.ensures.only honest ds (subst (λ n. IsNodeAt old.contents n c.args.level c.args.block ds) (sym c.blocks-2.ensures.count) at) few in
-    let above : 0 < c.args.level = omega (arith, c.if-level-eq0.false) in
+    let above : 0 < l = omega (arith, c.if-level-eq0.false) in
+    let read = node_read sizes old.contents limit l b rs bs above tree in
+    let cs = read.0 in
+    let way = c.in-Ok.ensures.only honest cs (subst (λ n. IsNodeAt old.contents n l b cs) (sym c.blocks-2.ensures.count) read.1) read.2 in
+    let only = only_one old.contents limit l b sizes.fan cs read.1 in
+    let i = c.in-Ok.way.index in
+    let d = c.in-Ok.way.child in
+    let chosen = way.2.chosen in
+    let down = λ (sub : List Record) (own : List ℕ) (there : Subtree sizes (g.D.Disk.state c.way_at.new.disk).now.contents limit (l - 1) (get_or cs i d).block sub own). subst (λ (e : Child). Subtree sizes (g.D.Disk.state c.way_at.new.disk).now.contents limit (l - 1) e.block sub own) way.2.child there in
     let after = (g.D.Disk.state c.remove_below.new.disk).now.contents in
-    let rest = node_rest sizes old _ (length c.args.held.now) c.args.level c.args.block p rs bs cs c.choose-i.result d still above tree rises only c.choose-i.ensures.chosen held (IsHeld c.remove_below.new.held) after (length c.remove_below.new.held) [] c.as_slice.result.now all
+    let lent = c.as_slice.ensures.value ∙ c.in-Some.ensures.only l cs way.0 way.1 in
+    let rest = node_rest sizes old _ limit l b p rs bs cs i d still above tree rises only chosen held (IsHeld c.remove_below.new.held) after (length c.remove_below.new.held) [] c.as_slice.result.now all
     (held_kept c.args.held.now _ _ (c.in-Ok-Nothing.ensures.moments now)) c.in-Ok-Nothing.ensures.still.still c.in-Ok-Nothing.ensures.still.same_length
-    (c.as_slice.ensures.value ∙ c.spliced-rest.ensures)
+    lent
     (λ sub own there rising kept.
-    let got = subst (λ (left : Left). RemovesBelow (Ok left) p sub (λ root. Made (IsHeld c.remove_below.new.held) sizes (g.D.Disk.state c.remove_below.new.disk).now.contents (length c.args.held.now) root.level (child_of root ∷ []) (without_place p sub))) c.in-Ok-Nothing.field-0-is (c.in-Ok-Nothing.ensures.remove now levels sub own there rising kept) in
-    (got.0, made_none (IsHeld c.remove_below.new.held) sizes after (length c.args.held.now) (c.args.level - 1) (without_place p sub) got.1)) in
+    let got = subst (λ (left : Left). RemovesBelow (Ok left) p sub (λ root. Made (IsHeld c.remove_below.new.held) sizes (g.D.Disk.state c.remove_below.new.disk).now.contents limit root.level (child_of root ∷ []) (without_place p sub))) c.in-Ok-Nothing.field-0-is (c.in-Ok-Nothing.ensures.remove now levels sub own (down sub own there) rising kept) in
+    (got.0, made_none (IsHeld c.remove_below.new.held) sizes after limit (l - 1) (without_place p sub) got.1)) in
     let moved = λ (z : ℕ). Rests c.write_rest.result (without_place p rs) (λ root. Made (IsHeld c.write_rest.new.held) sizes (g.D.Disk.state c.write_rest.new.disk).now.contents z root.level (child_of root ∷ []) (without_place p rs)) in
-    rests_removes c.write_rest.result p rs (λ root. Made (IsHeld c.write_rest.new.held) sizes (g.D.Disk.state c.write_rest.new.disk).now.contents (length c.args.held.now) root.level (child_of root ∷ []) (without_place p rs)) rest.0
+    rests_removes c.write_rest.result p rs (λ root. Made (IsHeld c.write_rest.new.held) sizes (g.D.Disk.state c.write_rest.new.disk).now.contents limit root.level (child_of root ∷ []) (without_place p rs)) rest.0
     (subst moved c.in-Ok-Nothing.ensures.still.same_length (c.write_rest.ensures.rest (c.in-Ok-Nothing.ensures.any.same_honesty ∙ now) g.row.LEAF levels (without_place p rs) rest.1 rest.2))
 
-pub returns-else-alone-clause-moments : goal.returns-else-alone-clause-moments
-returns-else-alone-clause-moments g t c honest =
+pub returns-in-None-clause-moments : goal.returns-in-None-clause-moments
+returns-in-None-clause-moments g t c honest =
+    after_reads _ _ _ _ (c.in-Ok.ensures.reads honest) (c.in-Ok-Nothing.ensures.moments (c.in-Ok.ensures.any.same_honesty ∙ honest))
+
+pub returns-in-None-clause-remove : goal.returns-in-None-clause-remove
+returns-in-None-clause-remove g t c honest levels rs bs tree rises all =
+    let sizes = sizes_of g.row.LEAF g.row.FAN levels in
+    let old = (g.D.Disk.state c.args.disk.now).now in
+    let limit = length c.args.held.now in
+    let l = c.args.level in
+    let b = c.args.block in
+    let above : 0 < l = omega (arith, c.if-level-eq0.false) in
+    let read = node_read sizes old.contents limit l b rs bs above tree in
+    let cs = read.0 in
+    let way = c.in-Ok.ensures.only honest cs (subst (λ n. IsNodeAt old.contents n l b cs) (sym c.blocks-2.ensures.count) read.1) read.2 in
+    absurd (c.in-None.ensures.only l cs way.0 way.1)
+
+pub returns-in-Ok-write_bytes-clause-moments : goal.returns-in-Ok-write_bytes-clause-moments
+returns-in-Ok-write_bytes-clause-moments g t c honest =
     let now = c.in-Ok.ensures.any.same_honesty ∙ honest in
     let then = c.in-Ok-Rest.ensures.any.same_honesty ∙ now in
-    after_reads _ _ _ _ (c.in-Ok.ensures.reads honest) (spares_then _ _ _ _ _ c.in-Ok-Rest.ensures.still (c.in-Ok-Rest.ensures.moments now) (c.write_rest-in-Ok-Rest.ensures.moments then))
+    after_reads _ _ _ _ (c.in-Ok.ensures.reads honest) (spares_then _ _ _ _ _ c.in-Ok-Rest.ensures.still (c.in-Ok-Rest.ensures.moments now) (c.write_bytes.ensures.moments then))
 
-pub returns-else-alone-clause-remove : goal.returns-else-alone-clause-remove
-returns-else-alone-clause-remove g t c honest levels rs bs tree rises all =
+pub returns-in-Err-write_bytes-clause-moments : goal.returns-in-Err-write_bytes-clause-moments
+returns-in-Err-write_bytes-clause-moments g t c honest =
+    let now = c.in-Ok.ensures.any.same_honesty ∙ honest in
+    let then = c.in-Ok-Rest.ensures.any.same_honesty ∙ now in
+    after_reads _ _ _ _ (c.in-Ok.ensures.reads honest) (spares_then _ _ _ _ _ c.in-Ok-Rest.ensures.still (c.in-Ok-Rest.ensures.moments now) (c.write_bytes.ensures.moments then))
+
+pub returns-in-Ok-write_bytes-clause-remove : goal.returns-in-Ok-write_bytes-clause-remove
+returns-in-Ok-write_bytes-clause-remove g t c honest levels rs bs tree rises all =
     let sizes = sizes_of g.row.LEAF g.row.FAN levels in
     let old = (g.D.Disk.state c.args.disk.now).now in
     let now = c.in-Ok.ensures.any.same_honesty ∙ honest in
-    let p = c.args.place in
-    let cs = c.as_slice-children.result.now in
-    let d : Child = record { low = record { table = 0; number = 0 }; block = 0 } in
+    let p = place c.args.key in
+    let limit = length c.args.held.now in
+    let l = c.args.level in
+    let b = c.args.block in
     let held = IsHeld c.args.held.now in
     let still = same_medium _ _ (c.in-Ok.ensures.reads honest) in
-    let only = λ (ds : List Child) (at : IsNodeAt old.contents (length c.args.held.now) c.args.level c.args.block ds) (few : length ds ≤ sizes.fan).
-    c.as_slice-children.ensures.value ∙ c.in-Ok.ensures.only honest ds (subst (λ n. IsNodeAt old.contents n c.args.level c.args.block ds) (sym c.blocks-2.ensures.count) at) few in
-    let above : 0 < c.args.level = omega (arith, c.if-level-eq0.false) in
+    let above : 0 < l = omega (arith, c.if-level-eq0.false) in
+    let read = node_read sizes old.contents limit l b rs bs above tree in
+    let cs = read.0 in
+    let way = c.in-Ok.ensures.only honest cs (subst (λ n. IsNodeAt old.contents n l b cs) (sym c.blocks-2.ensures.count) read.1) read.2 in
+    let only = only_one old.contents limit l b sizes.fan cs read.1 in
+    let i = c.in-Ok.way.index in
+    let d = c.in-Ok.way.child in
+    let chosen = way.2.chosen in
+    let down = λ (sub : List Record) (own : List ℕ) (there : Subtree sizes (g.D.Disk.state c.way_at.new.disk).now.contents limit (l - 1) (get_or cs i d).block sub own). subst (λ (e : Child). Subtree sizes (g.D.Disk.state c.way_at.new.disk).now.contents limit (l - 1) e.block sub own) way.2.child there in
     let after = (g.D.Disk.state c.remove_below.new.disk).now.contents in
     let root = c.in-Ok-Rest.root in
-    let level : root.level ≡ c.args.level - 1 = ap (λ (left : Left). level_of left (c.args.level - 1)) (sym c.in-Ok-Rest.field-0-is) ∙ c.in-Ok-Rest.ensures.same_level c.if-alone.false in
-    let rest = node_rest sizes old _ (length c.args.held.now) c.args.level c.args.block p rs bs cs c.choose-i.result d still above tree rises only c.choose-i.ensures.chosen held (IsHeld c.remove_below.new.held) after (length c.remove_below.new.held) (c.child_of.result ∷ []) c.as_slice-in-Ok-Rest.result.now all
+    let new = c.child_of.result in
+    let level : root.level ≡ l - 1 = ap (λ (left : Left). level_of left (l - 1)) (sym c.in-Ok-Rest.field-0-is) ∙ c.in-Ok-Rest.ensures.same_level c.if-alone.false in
+    let lent = take i cs ++ new ∷ drop (i + 1) cs in
+    let rest = node_rest sizes old _ limit l b p rs bs cs i d still above tree rises only chosen held (IsHeld c.remove_below.new.held) after (length c.remove_below.new.held) (new ∷ []) lent all
     (held_kept c.args.held.now _ _ (c.in-Ok-Rest.ensures.moments now)) c.in-Ok-Rest.ensures.still.still c.in-Ok-Rest.ensures.still.same_length
-    (c.as_slice-in-Ok-Rest.ensures.value ∙ c.spliced-rest-in-Ok-Rest.ensures)
+    refl
     (λ sub own there rising kept.
-    let got = subst (λ (left : Left). RemovesBelow (Ok left) p sub (λ root. Made (IsHeld c.remove_below.new.held) sizes (g.D.Disk.state c.remove_below.new.disk).now.contents (length c.args.held.now) root.level (child_of root ∷ []) (without_place p sub))) c.in-Ok-Rest.field-0-is (c.in-Ok-Rest.ensures.remove now levels sub own there rising kept) in
-    let M : ℕ → Child → Type 0 = λ l child. Made (IsHeld c.remove_below.new.held) sizes after (length c.args.held.now) l (child ∷ []) (without_place p sub) in
-    (got.0, subst (λ l. M l c.child_of.result) level (subst (M root.level) (sym c.child_of.ensures) got.1))) in
-    let moved = λ (z : ℕ). Rests c.write_rest-in-Ok-Rest.result (without_place p rs) (λ root. Made (IsHeld c.write_rest-in-Ok-Rest.new.held) sizes (g.D.Disk.state c.write_rest-in-Ok-Rest.new.disk).now.contents z root.level (child_of root ∷ []) (without_place p rs)) in
-    rests_removes c.write_rest-in-Ok-Rest.result p rs (λ root. Made (IsHeld c.write_rest-in-Ok-Rest.new.held) sizes (g.D.Disk.state c.write_rest-in-Ok-Rest.new.disk).now.contents (length c.args.held.now) root.level (child_of root ∷ []) (without_place p rs)) rest.0
-    (subst moved c.in-Ok-Rest.ensures.still.same_length (c.write_rest-in-Ok-Rest.ensures.rest (c.in-Ok-Rest.ensures.any.same_honesty ∙ now) g.row.LEAF levels (without_place p rs) rest.1 rest.2))
+    let got = subst (λ (left : Left). RemovesBelow (Ok left) p sub (λ root. Made (IsHeld c.remove_below.new.held) sizes (g.D.Disk.state c.remove_below.new.disk).now.contents limit root.level (child_of root ∷ []) (without_place p sub))) c.in-Ok-Rest.field-0-is (c.in-Ok-Rest.ensures.remove now levels sub own (down sub own there) rising kept) in
+    let M : ℕ → Child → Type 0 = λ n child. Made (IsHeld c.remove_below.new.held) sizes after limit n (child ∷ []) (without_place p sub) in
+    (got.0, subst (λ n. M n new) level (subst (M root.level) (sym c.child_of.ensures) got.1))) in
+    let within : i < length cs = omega (arith, c.in-Ok.ensures.within.0, way.1) in
+    let many = replaced_length cs (new ∷ []) i within in
+    let made = c.in-Ok-write_bytes.ensures.node (c.in-Ok-Rest.ensures.any.same_honesty ∙ now) sizes l lent (without_place p rs) (c.set_child.ensures l cs way.0 within) above c.requires.low (omega (arith, many, within)) (omega (arith, many, read.1.node.few)) (omega (arith, many, read.2)) rest.1 rest.2 in
+    let moved = subst (λ z. Made (IsHeld c.write_bytes.new.held) sizes (g.D.Disk.state c.write_bytes.new.disk).now.contents z l (c.in-Ok-write_bytes.node ∷ []) (without_place p rs)) c.in-Ok-Rest.ensures.still.same_length made in
+    (rest.0, subst (λ (r : Root). Made (IsHeld c.write_bytes.new.held) sizes (g.D.Disk.state c.write_bytes.new.disk).now.contents limit r.level (child_of r ∷ []) (without_place p rs)) (sym c.root_at.ensures) moved)
 
 pub returns-in-Err-remove_below-clause-moments : goal.returns-in-Err-remove_below-clause-moments
 returns-in-Err-remove_below-clause-moments g t c honest =
@@ -136,16 +195,23 @@ returns-in-Err-remove_below-clause-remove g t c honest levels rs bs tree rises a
     let sizes = sizes_of g.row.LEAF g.row.FAN levels in
     let old = (g.D.Disk.state c.args.disk.now).now in
     let now = c.in-Ok.ensures.any.same_honesty ∙ honest in
-    let p = c.args.place in
-    let cs = c.as_slice-children.result.now in
-    let d : Child = record { low = record { table = 0; number = 0 }; block = 0 } in
+    let p = place c.args.key in
+    let limit = length c.args.held.now in
+    let l = c.args.level in
+    let b = c.args.block in
     let held = IsHeld c.args.held.now in
     let still = same_medium _ _ (c.in-Ok.ensures.reads honest) in
-    let only = λ (ds : List Child) (at : IsNodeAt old.contents (length c.args.held.now) c.args.level c.args.block ds) (few : length ds ≤ sizes.fan).
-    c.as_slice-children.ensures.value ∙ c.in-Ok.ensures.only honest ds (subst (λ n. IsNodeAt old.contents n c.args.level c.args.block ds) (sym c.blocks-2.ensures.count) at) few in
-    let above : 0 < c.args.level = omega (arith, c.if-level-eq0.false) in
-    fault_there sizes old _ (length c.args.held.now) c.args.level c.args.block p rs bs cs c.choose-i.result d still above tree rises only c.choose-i.ensures.chosen held (c.in-Err-remove_below.fault ≡ Device) all
-    (λ sub own there rising kept. c.in-Err-remove_below.ensures.remove now levels sub own there rising kept)
+    let above : 0 < l = omega (arith, c.if-level-eq0.false) in
+    let read = node_read sizes old.contents limit l b rs bs above tree in
+    let cs = read.0 in
+    let way = c.in-Ok.ensures.only honest cs (subst (λ n. IsNodeAt old.contents n l b cs) (sym c.blocks-2.ensures.count) read.1) read.2 in
+    let only = only_one old.contents limit l b sizes.fan cs read.1 in
+    let i = c.in-Ok.way.index in
+    let d = c.in-Ok.way.child in
+    let chosen = way.2.chosen in
+    let down = λ (sub : List Record) (own : List ℕ) (there : Subtree sizes (g.D.Disk.state c.way_at.new.disk).now.contents limit (l - 1) (get_or cs i d).block sub own). subst (λ (e : Child). Subtree sizes (g.D.Disk.state c.way_at.new.disk).now.contents limit (l - 1) e.block sub own) way.2.child there in
+    fault_there sizes old _ limit l b p rs bs cs i d still above tree rises only chosen held (c.in-Err-remove_below.fault ≡ Device) all
+    (λ sub own there rising kept. c.in-Err-remove_below.ensures.remove now levels sub own (down sub own there) rising kept)
 
 pub returns-in-Err-clause-moments : goal.returns-in-Err-clause-moments
 returns-in-Err-clause-moments g t c honest = reads_keep _ _ _ (c.in-Err.ensures.reads honest) (spares_itself _ _)

@@ -1,5 +1,6 @@
-use Rattle.std.proofs.Common.{◌∙◌, ◌≤◌, Ok, [], ◌∷◌, length, ap, sym, subst}
+use Rattle.std.proofs.Common.{◌∙◌, ◌≤◌, Ok, [], ◌∷◌, length, ap, sym, subst, refl, ◌≡◌}
 use Rattle.vm_types.specs.Map.{Map, get}
+use Rattle.vm_types.specs.Places.{place}
 use Rattle.vm_alloc.specs.Held.{IsHeld}
 use Rattle.vm_tree.specs.Making.{Made}
 use Rattle.vm_tree.specs.Removing.{RemovesBelow, child_of, level_of, without_place}
@@ -19,9 +20,9 @@ returns-in-Ok-Same-clause-remove g c honest m grown =
     let limit = length c.args.held.now in
     let bs = grown.stands_in in
     let top = rooted_top sizes x limit c.args.root m bs grown.rooted c.if-root-eq0.false in
-    let p = c.place.result in
-    let is = c.place.ensures.place in
-    let fits = c.place.ensures.fits in
+    let p = place c.args.key in
+    let is : p ≡ place c.args.key = refl in
+    let fits = c.remove_below.ensures.fits in
     let got = subst (λ (left : Left). RemovesBelow (Ok left) p m (λ root. Made (IsHeld c.remove_below.new.held) sizes (g.D.Disk.state c.remove_below.new.disk).now.contents limit root.level (child_of root ∷ []) (without_place p m))) c.in-Ok-Same.field-0-is
     (c.in-Ok-Same.ensures.remove honest g.row.LEVELS m bs top.subtree top.rising grown.each) in
     sym (value_there sizes x limit c.args.root m bs c.args.key p is fits top) ∙ got
@@ -33,9 +34,9 @@ returns-in-Ok-Nothing-clause-remove g c honest m grown =
     let limit = length c.args.held.now in
     let bs = grown.stands_in in
     let top = rooted_top sizes x limit c.args.root m bs grown.rooted c.if-root-eq0.false in
-    let p = c.place.result in
-    let is = c.place.ensures.place in
-    let fits = c.place.ensures.fits in
+    let p = place c.args.key in
+    let is : p ≡ place c.args.key = refl in
+    let fits = c.remove_below.ensures.fits in
     let y = (g.D.Disk.state c.remove_below.new.disk).now.contents in
     let held = IsHeld c.remove_below.new.held in
     let got = subst (λ (left : Left). RemovesBelow (Ok left) p m (λ root. Made (IsHeld c.remove_below.new.held) sizes (g.D.Disk.state c.remove_below.new.disk).now.contents limit root.level (child_of root ∷ []) (without_place p m))) c.in-Ok-Nothing.field-0-is
@@ -49,9 +50,9 @@ returns-in-Ok-Rest-clause-remove g c honest m grown =
     let limit = length c.args.held.now in
     let bs = grown.stands_in in
     let top = rooted_top sizes x limit c.args.root m bs grown.rooted c.if-root-eq0.false in
-    let p = c.place.result in
-    let is = c.place.ensures.place in
-    let fits = c.place.ensures.fits in
+    let p = place c.args.key in
+    let is : p ≡ place c.args.key = refl in
+    let fits = c.remove_below.ensures.fits in
     let y = (g.D.Disk.state c.remove_below.new.disk).now.contents in
     let held = IsHeld c.remove_below.new.held in
     let got = subst (λ (left : Left). RemovesBelow (Ok left) p m (λ root. Made (IsHeld c.remove_below.new.held) sizes (g.D.Disk.state c.remove_below.new.disk).now.contents limit root.level (child_of root ∷ []) (without_place p m))) c.in-Ok-Rest.field-0-is
@@ -66,7 +67,7 @@ returns-in-Err-clause-remove g c honest m grown =
     let limit = length c.args.held.now in
     let bs = grown.stands_in in
     let top = rooted_top sizes x limit c.args.root m bs grown.rooted c.if-root-eq0.false in
-    let p = c.place.result in
-    let is = c.place.ensures.place in
-    let fits = c.place.ensures.fits in
+    let p = place c.args.key in
+    let is : p ≡ place c.args.key = refl in
+    let fits = c.remove_below.ensures.fits in
     c.in-Err.ensures.remove honest g.row.LEVELS m bs top.subtree top.rising grown.each
