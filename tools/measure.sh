@@ -162,7 +162,7 @@ line_row() {
         BEGIN {
             if (count == 1) lines = 0
             printf "| %s | %s | %s | %s | %s | %s | %s | %s |\n", what, short(took), short(took / count),
-                reads, writes, count == 1 ? "" : part(lines), part(beside), part(took - lines - beside)
+                reads, writes, count == 1 ? "" : part(lines), part(took - lines), short(beside / count)
         }'
 }
 
@@ -363,6 +363,6 @@ measure_margins
 rm -f "$work/store"
 
 echo
-echo "| $(grouped "$line_records") records in four alternatives | All | Each | Block reads | Block writes | Lines and answers | Plain loop | What is left |"
+echo "| $(grouped "$line_records") records in four alternatives | All | Each | Block reads | Block writes | Lines and answers | The store and its blocks | Plain loop |"
 echo '|---|---|---|---|---|---|---|---|'
 measure_lines
