@@ -1,7 +1,7 @@
 #!/usr/bin/env python3
 """Runs random sessions of `altctl` over real files beside a model of its own, and compares all answers, and every byte of the file
 after each session; then it spoils bytes of the file, and compares what opening it is answered: `tools/compare.py [-n FILES] [-s SEED]
-[ALTCTL]`. The model is written from docs/MODEL.md and docs/FORMATS.md, and shares nothing with the store. It stands beside the gate."""
+[ALTCTL]`. The model goes by docs/MODEL.md and docs/FORMATS.md, and shares nothing with the store. It stands beside the gate."""
 import argparse
 import os
 import random
@@ -483,8 +483,8 @@ def opened(altctl, rng, file, disk):
 class Editor:
     """Makes random lines, each with its meaning: None for no answer, a text for an answer that never changes, or words for the store."""
 
-    def __init__(self, rng, blocks):
-        self.rng, self.blocks = rng, blocks
+    def __init__(self, rng):
+        self.rng = rng
         self.names = ["top", "top", "a", "b", "c", "d-1", "e.f_G"]
         self.marks = ["k", "l", "m" * 32]
         self.width = rng.choice([3, 20, 60, 400, 3000])
@@ -574,7 +574,7 @@ def compared(altctl, rng, folder):
     made = subprocess.run([altctl, "create", file, str(blocks)], stdout=subprocess.PIPE, stderr=subprocess.PIPE)
     if (made.returncode, made.stdout) != (0, f"created {blocks}\n".encode()):
         return f"create said {made}"
-    store, editor = Store(blocks), Editor(rng, blocks)
+    store, editor = Store(blocks), Editor(rng)
     count = 0
     for _ in range(rng.randrange(1, 5)):
         store.open()
