@@ -95,14 +95,14 @@ fn read_first<D: Disk>(
     requires none { entries.old.items ≡ [] }
     requires room { MAX_ENTRIES ≤ vec_capacity entries.old }
     ensures any { Goes (result ≡ Err LoadFault.Device) (D.state disk.old) (D.state disk.new) }
-    ensures reads { (D.state disk.old).honest ≡ true
+    ensures reads { (D.state disk.new).honest ≡ true
         → OnlyReads (D.state disk.old) (D.state disk.new) }
     ensures room { vec_capacity entries.new ≡ vec_capacity entries.old }
     ensures fits { IfOk result (λ head. FitsSoFar head.blocks head.entries 1 entries.new.items) }
-    ensures found { (D.state disk.old).honest ≡ true
+    ensures found { (D.state disk.new).honest ≡ true
         → IfOk result (λ head. Begins (blocks_from (D.state disk.old).now.contents (slot_at slot_b) 1)
         head.blocks head.entries entries.new.items) }
-    ensures only { (D.state disk.old).honest ≡ true → (limit : ℕ) (es : List Entry)
+    ensures only { (D.state disk.new).honest ≡ true → (limit : ℕ) (es : List Entry)
         → SlotAt (D.state disk.old).now.contents slot_b limit es → result ≢ Err LoadFault.Damaged }
 {
     let mut block = [0; 4096];
@@ -129,14 +129,14 @@ fn read_others<D: Disk>(
         → Begins (blocks_from (D.state disk.old).now.contents (slot_at slot_b) 1)
         head.blocks head.entries entries.old.items }
     ensures any { Goes (result ≡ Err LoadFault.Device) (D.state disk.old) (D.state disk.new) }
-    ensures reads { (D.state disk.old).honest ≡ true
+    ensures reads { (D.state disk.new).honest ≡ true
         → OnlyReads (D.state disk.old) (D.state disk.new) }
     ensures room { vec_capacity entries.new ≡ vec_capacity entries.old }
     ensures fits { OnOk result (FitsSoFar head.blocks head.entries (used_blocks head.entries) entries.new.items) }
-    ensures found { (D.state disk.old).honest ≡ true
+    ensures found { (D.state disk.new).honest ≡ true
         → OnOk result (Begins (blocks_from (D.state disk.old).now.contents (slot_at slot_b) (used_blocks head.entries))
         head.blocks head.entries entries.new.items) }
-    ensures only { (D.state disk.old).honest ≡ true → (limit : ℕ) (es : List Entry)
+    ensures only { (D.state disk.new).honest ≡ true → (limit : ℕ) (es : List Entry)
         → SlotAt (D.state disk.old).now.contents slot_b limit es → result ≢ Err LoadFault.Damaged }
 {
     let first = first_block(slot_b);
@@ -158,7 +158,7 @@ fn read_others<D: Disk>(
 pub fn load<D: Disk>(alloc: Global, disk: &mut D, slot_b: bool) -> Result<Slot, LoadFault>
     requires { 34 ≤ (D.state disk.old).blocks }
     ensures any { Goes (result ≡ Err LoadFault.Device) (D.state disk.old) (D.state disk.new) }
-    ensures reads { (D.state disk.old).honest ≡ true
+    ensures reads { (D.state disk.new).honest ≡ true
         → OnlyReads (D.state disk.old) (D.state disk.new) }
 
     // On any disk what is loaded are entries that a slot may have, with room for as many as it can.
@@ -166,9 +166,9 @@ pub fn load<D: Disk>(alloc: Global, disk: &mut D, slot_b: bool) -> Result<Slot, 
     ensures reserved { IfOk result (λ slot. MAX_ENTRIES ≤ vec_capacity slot.entries) }
 
     // On an honest disk they are exactly those of the slot.
-    ensures found { (D.state disk.old).honest ≡ true
+    ensures found { (D.state disk.new).honest ≡ true
         → IfOk result (λ slot. SlotAt (D.state disk.old).now.contents slot_b slot.blocks slot.entries.items) }
-    ensures only { (D.state disk.old).honest ≡ true → (limit : ℕ) (es : List Entry)
+    ensures only { (D.state disk.new).honest ≡ true → (limit : ℕ) (es : List Entry)
         → SlotAt (D.state disk.old).now.contents slot_b limit es → Loads result limit es }
 {
     let Ok(mut entries) = Vec::with_capacity(alloc, MAX_ENTRIES) else {

@@ -13,9 +13,9 @@ use vm_disk::{DeviceFault, Disk};
 pub fn slot_in_use<D: Disk>(disk: &mut D) -> Result<Option<bool>, DeviceFault>
     requires { 2 ≤ (D.state disk.old).blocks }
     ensures any { Goes (IsErr result) (D.state disk.old) (D.state disk.new) }
-    ensures reads { (D.state disk.old).honest ≡ true
+    ensures reads { (D.state disk.new).honest ≡ true
         → OnlyReads (D.state disk.old) (D.state disk.new) }
-    ensures found { (D.state disk.old).honest ≡ true
+    ensures found { (D.state disk.new).honest ≡ true
         → IfOk result (Selects (D.state disk.old).now.contents) }
 {
     let mut block = [0; 4096];
@@ -31,7 +31,7 @@ pub fn slot_in_use<D: Disk>(disk: &mut D) -> Result<Option<bool>, DeviceFault>
 pub fn select_slot<D: Disk>(disk: &mut D, slot_b: bool) -> Result<(), DeviceFault>
     requires { 2 ≤ (D.state disk.old).blocks }
     ensures any { Counts 0 result (D.state disk.old) (D.state disk.new) }
-    ensures honest { (D.state disk.old).honest ≡ true
+    ensures honest { (D.state disk.new).honest ≡ true
         → Writes 1 (selector_bytes slot_b) result (D.state disk.old) (D.state disk.new) }
 {
     let mut selector = [0; 4096];

@@ -70,10 +70,10 @@ pub fn write_slot<D: Disk>(
     requires few { length entries.now ≤ MAX_ENTRIES }
     requires room { 34 ≤ (D.state disk.old).blocks }
     ensures any { Goes (IsErr result) (D.state disk.old) (D.state disk.new) }
-    ensures written { (D.state disk.old).honest ≡ true
+    ensures written { (D.state disk.new).honest ≡ true
         → OnOk result (blocks_from (D.state disk.new).now.contents (slot_at slot_b) (used_blocks (length entries.now))
         ≡ slot_blocks blocks entries.now) }
-    ensures moments { (D.state disk.old).honest ≡ true
+    ensures moments { (D.state disk.new).honest ≡ true
         → Throughout (D.state disk.old) (D.state disk.new)
         (Spares (region (slot_at slot_b) (used_blocks (length entries.now))) (D.state disk.old).now) }
 {
@@ -103,18 +103,18 @@ pub fn publish<D: Disk>(
     ensures any { Goes (IsErr result) (D.state disk.old) (D.state disk.new) }
 
     // At Ok the new entries alone are named, no block is dirty, and the data blocks are as they were.
-    ensures done { (D.state disk.old).honest ≡ true → (limit : ℕ) (es : List Entry)
+    ensures done { (D.state disk.new).honest ≡ true → (limit : ℕ) (es : List Entry)
         → AtRest in_use (D.state disk.old).now limit es → SlotFits blocks entries.now
         → OnOk result (IsPublished (not in_use) (D.state disk.old).now (D.state disk.new).now blocks entries.now) }
 
     // At each moment what the selector may name is whole and clean, and nothing writes it.
-    ensures moments { (D.state disk.old).honest ≡ true → (limit : ℕ) (es : List Entry)
+    ensures moments { (D.state disk.new).honest ≡ true → (limit : ℕ) (es : List Entry)
         → AtRest in_use (D.state disk.old).now limit es → SlotFits blocks entries.now
         → Throughout (D.state disk.old) (D.state disk.new)
         (IsSafelyPublishing in_use (D.state disk.old).now limit es blocks entries.now) }
 
     // So a crash at any moment leaves the old entries or the new, with their data blocks.
-    ensures any_moment { (D.state disk.old).honest ≡ true → (limit : ℕ) (es : List Entry)
+    ensures any_moment { (D.state disk.new).honest ≡ true → (limit : ℕ) (es : List Entry)
         → AtRest in_use (D.state disk.old).now limit es → SlotFits blocks entries.now
         → Throughout (D.state disk.old) (D.state disk.new)
         (Leaves (PublishLeaves (D.state disk.old).now limit es blocks entries.now)) }

@@ -8,7 +8,7 @@ pub goes_nowhere : (fails : Type 0) (old new : State) → NoCalls old new → (f
 goes_nowhere fails old new same fine =
     let R : State → Type 0 = λ s. Goes fails old s in subst R (sym same) record {
       same_blocks = refl;
-      same_honesty = refl;
+      earlier = λ honest. honest;
       rising = omega arith;
       fault = λ failed. absurd (fine failed);
     }
@@ -22,7 +22,7 @@ pub goes_call : {T : Type 0} (reads : ℕ) (result : Result T DeviceFault) (befo
 goes_call reads result before fails old mid new so_far counts cause =
     record {
       same_blocks = counts.same_blocks ∙ so_far.same_blocks;
-      same_honesty = counts.same_honesty ∙ so_far.same_honesty;
+      earlier = λ honest. so_far.earlier (counts.earlier honest);
       rising = omega (arith, so_far.rising, counts.rising);
       fault = λ failed. let rose = counted result mid.failures new.failures counts.fault (cause failed) in omega (arith, so_far.rising, rose);
     }
@@ -32,7 +32,7 @@ pub goes_then : (before more fails : Type 0) (old mid new : State) → Goes befo
 goes_then before more fails old mid new so_far next cause =
     record {
       same_blocks = next.same_blocks ∙ so_far.same_blocks;
-      same_honesty = next.same_honesty ∙ so_far.same_honesty;
+      earlier = λ honest. so_far.earlier (next.earlier honest);
       rising = omega (arith, so_far.rising, next.rising);
       fault = λ failed. let rose = next.fault (cause failed) in omega (arith, so_far.rising, rose);
     }
@@ -42,7 +42,7 @@ pub goes_at : (fails less : Type 0) (old new : State) → Goes fails old new →
 goes_at fails less old new goes cause =
     record {
       same_blocks = goes.same_blocks;
-      same_honesty = goes.same_honesty;
+      earlier = goes.earlier;
       rising = goes.rising;
       fault = λ failed. goes.fault (cause failed);
     }

@@ -19,7 +19,7 @@ pub record Medium : Type 0 where
 -- what is known of a disk
 pub record State : Type 0 where
   pub blocks : ℕ
-  -- it keeps the rules of an honest disk
+  -- it has kept the rules of a disk in every call so far
   pub honest : Bool
   -- how many reads were asked of it
   pub reads : ℕ
@@ -51,10 +51,11 @@ LeftPast (m ∷ earlier) t left = ((t ≡ length earlier) × MayLeave m left) �
 abbrev pub LeftAt : State → ℕ → Contents → Type 0
 LeftAt s t left = LeftPast (s.now ∷ s.past) t left
 
--- what each device call does, on any disk: it keeps the blocks and the honesty, counts its reads, and a fault is a failure that is counted
+-- what each device call does, on any disk: it keeps the blocks, a disk that is honest after it was so before, it counts its reads, and a
+-- fault is a failure that is counted
 pub record Counts {T : Type 0} (reads : ℕ) (result : Result T DeviceFault) (old new : State) : Type 0 where
   pub same_blocks : new.blocks ≡ old.blocks
-  pub same_honesty : new.honest ≡ old.honest
+  pub earlier : new.honest ≡ true → old.honest ≡ true
   pub read : new.reads ≡ old.reads + reads
   pub rising : old.failures ≤ new.failures
   pub fault : OnErr result (old.failures < new.failures)
@@ -62,7 +63,7 @@ pub record Counts {T : Type 0} (reads : ℕ) (result : Result T DeviceFault) (ol
 -- what any number of device calls does, on any disk, where `fails` says that the device failed in one of them
 pub record Goes (fails : Type 0) (old new : State) : Type 0 where
   pub same_blocks : new.blocks ≡ old.blocks
-  pub same_honesty : new.honest ≡ old.honest
+  pub earlier : new.honest ≡ true → old.honest ≡ true
   pub rising : old.failures ≤ new.failures
   pub fault : fails → old.failures < new.failures
 
@@ -74,13 +75,13 @@ NoCalls old new = new ≡ old
 pub record Elapses (old new : State) : Type 0 where
   pub step : (new.past ≡ old.now ∷ old.past) ⊎ ((new.past ≡ old.past) × (new.now ≡ old.now))
 
--- what a read does, on an honest disk
+-- what a read does, on a disk that is honest after it
 pub record Reads {T : Type 0} (n : ℕ) (bytes : List ℕ) (result : Result T DeviceFault) (old new : State) : Type 0 where
   pub bytes_are : OnOk result (bytes ≡ block old.now.contents n)
   pub same : new.now ≡ old.now
   pub time : Elapses old new
 
--- what a write does, on an honest disk: where it fails, the block holds any bytes
+-- what a write does, on a disk that is honest after it: where it fails, the block holds any bytes
 pub record Writes {T : Type 0} (n : ℕ) (bytes : List ℕ) (result : Result T DeviceFault) (old new : State) : Type 0 where
   pub written : OnOk result (block new.now.contents n ≡ bytes)
   pub dirty : new.now.dirty n ≡ true
@@ -89,7 +90,7 @@ pub record Writes {T : Type 0} (n : ℕ) (bytes : List ℕ) (result : Result T D
   pub others_dirty : (k : ℕ) → k ≢ n → new.now.dirty k ≡ old.now.dirty k
   pub time : Elapses old new
 
--- what a sync does, on an honest disk: where it fails, nothing changes
+-- what a sync does, on a disk that is honest after it: where it fails, nothing changes
 pub record Syncs {T : Type 0} (result : Result T DeviceFault) (old new : State) : Type 0 where
   pub synced : OnOk result (IsClean new.now)
   pub failed : OnErr result (new.now ≡ old.now)

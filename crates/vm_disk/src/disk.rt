@@ -21,20 +21,20 @@ pub trait Disk {
     fn read(&mut self, n: u32, into: &mut [u8; 4096]) -> Result<(), DeviceFault>
         requires { n < (state self.old).blocks }
         ensures any { Counts 1 result (state self.old) (state self.new) }
-        ensures honest { (state self.old).honest ≡ true
+        ensures honest { (state self.new).honest ≡ true
             → Reads n into.new result (state self.old) (state self.new) };
 
     /// Writes block n. Until the next sync that succeeds, a crash may leave any bytes there.
     fn write(&mut self, n: u32, from: &[u8; 4096]) -> Result<(), DeviceFault>
         requires { n < (state self.old).blocks }
         ensures any { Counts 0 result (state self.old) (state self.new) }
-        ensures honest { (state self.old).honest ≡ true
+        ensures honest { (state self.new).honest ≡ true
             → Writes n from.now result (state self.old) (state self.new) };
 
     /// Makes each write so far last.
     fn sync(&mut self) -> Result<(), DeviceFault>
         ensures any { Counts 0 result (state self.old) (state self.new) }
-        ensures honest { (state self.old).honest ≡ true
+        ensures honest { (state self.new).honest ≡ true
             → Syncs result (state self.old) (state self.new) };
 
     /// An honest disk holds each of its blocks.

@@ -130,7 +130,7 @@ impl<D: Disk> Disk for FuseDisk<D> {
     fn read(&mut self, n: u32, into: &mut [u8; 4096]) -> Result<(), DeviceFault>
         requires { n < (fuse_state D.state self.old).blocks }
         ensures any { Counts 1 result (fuse_state D.state self.old) (fuse_state D.state self.new) }
-        ensures honest { (fuse_state D.state self.old).honest ≡ true
+        ensures honest { (fuse_state D.state self.new).honest ≡ true
             → Reads n into.new result (fuse_state D.state self.old) (fuse_state D.state self.new) }
 
         ensures burns { Burns self.old self.new }
@@ -149,7 +149,7 @@ impl<D: Disk> Disk for FuseDisk<D> {
     fn write(&mut self, n: u32, from: &[u8; 4096]) -> Result<(), DeviceFault>
         requires { n < (fuse_state D.state self.old).blocks }
         ensures any { Counts 0 result (fuse_state D.state self.old) (fuse_state D.state self.new) }
-        ensures honest { (fuse_state D.state self.old).honest ≡ true
+        ensures honest { (fuse_state D.state self.new).honest ≡ true
             → Writes n from.now result (fuse_state D.state self.old) (fuse_state D.state self.new) }
 
         ensures burns { Burns self.old self.new }
@@ -159,7 +159,7 @@ impl<D: Disk> Disk for FuseDisk<D> {
 
         // Where the write of those bytes fails below too, the block holds any bytes.
         ensures torn { fails_next self.old ≡ true
-            → (D.state (inner_of self.old)).honest ≡ true
+            → (D.state (inner_of self.new)).honest ≡ true
             → (D.state (inner_of self.new)).failures ≡ (D.state (inner_of self.old)).failures
             → block (D.state (inner_of self.new)).now.contents n ≡ torn_of self.old }
     {
@@ -172,7 +172,7 @@ impl<D: Disk> Disk for FuseDisk<D> {
 
     fn sync(&mut self) -> Result<(), DeviceFault>
         ensures any { Counts 0 result (fuse_state D.state self.old) (fuse_state D.state self.new) }
-        ensures honest { (fuse_state D.state self.old).honest ≡ true
+        ensures honest { (fuse_state D.state self.new).honest ≡ true
             → Syncs result (fuse_state D.state self.old) (fuse_state D.state self.new) }
 
         ensures burns { Burns self.old self.new }

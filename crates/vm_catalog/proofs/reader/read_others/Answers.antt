@@ -10,12 +10,12 @@ use Rattle.vm_catalog.proofs.reader.read_others.Goals as goal
 pub returns-in_default-clause-reads : goal.returns-in_default-clause-reads
 returns-in_default-clause-reads g c honest =
     let so_far = c.loop-index.invariant in
-    reads_then _ _ _ (so_far.reads honest) (read_once _ _ _ _ _ (c.read.ensures.honest (so_far.honesty ∙ honest)))
+    reads_then _ _ _ (so_far.reads (c.read.ensures.any.earlier honest)) (read_once _ _ _ _ _ (c.read.ensures.honest honest))
 
 pub returns-then-not-read_entries-clause-reads : goal.returns-then-not-read_entries-clause-reads
 returns-then-not-read_entries-clause-reads g c honest =
     let so_far = c.loop-index.invariant in
-    reads_then _ _ _ (so_far.reads honest) (read_once _ _ _ _ _ (c.read.ensures.honest (so_far.honesty ∙ honest)))
+    reads_then _ _ _ (so_far.reads (c.read.ensures.any.earlier honest)) (read_once _ _ _ _ _ (c.read.ensures.honest honest))
 
 pub returns-then-not-read_entries-clause-only : goal.returns-then-not-read_entries-clause-only
 returns-then-not-read_entries-clause-only g c honest limit es slot damaged =
@@ -23,8 +23,8 @@ returns-then-not-read_entries-clause-only g c honest limit es slot damaged =
     let old = g.D.Disk.state c.args.disk.now in
     let place : c.first_block-first.result + c.loop-index.index ≡ slot_at c.args.slot_b + c.loop-index.index = ap (λ (n : ℕ). n + c.loop-index.index) c.first_block-first.ensures in
     let bytes : c.read.new.into ≡ block old.now.contents (slot_at c.args.slot_b + c.loop-index.index) =
-    (c.in-Ok.ensures.honest (so_far.honesty ∙ honest)).bytes_are ∙ ap (λ (m : Medium). block m.contents (c.first_block-first.result + c.loop-index.index)) (same_medium _ _ (so_far.reads honest)) ∙ ap (block old.now.contents) place in
-    let each = other_is old.now.contents c.args.slot_b limit es c.args.head.blocks c.args.head.entries c.loop-index.index c.min-count.result c.read.new.into _ slot so_far.fits (so_far.found honest) c.loop-index.auto.index (omega (arith, c.used_blocks-index-end.ensures)) (omega (arith, c.min-count.ensures, c.len.ensures, c.loop-index.entries.ok.0)) bytes in
+    (c.in-Ok.ensures.honest honest).bytes_are ∙ ap (λ (m : Medium). block m.contents (c.first_block-first.result + c.loop-index.index)) (same_medium _ _ (so_far.reads (c.in-Ok.ensures.any.earlier honest))) ∙ ap (block old.now.contents) place in
+    let each = other_is old.now.contents c.args.slot_b limit es c.args.head.blocks c.args.head.entries c.loop-index.index c.min-count.result c.read.new.into _ slot so_far.fits (so_far.found (c.in-Ok.ensures.any.earlier honest)) c.loop-index.auto.index (omega (arith, c.used_blocks-index-end.ensures)) (omega (arith, c.min-count.ensures, c.len.ensures, c.loop-index.entries.ok.0)) bytes in
     absurd (false≢true (sym c.if-not-read_entries.true ∙ c.read_entries.ensures.only each))
 
 pub loop-index-preserved : goal.loop-index-preserved
@@ -36,13 +36,13 @@ loop-index-preserved g c =
     let inside : c.loop-index.index < used_blocks c.args.head.entries = omega (arith, c.used_blocks-index-end.ensures) in
     record {
       blocks = any.same_blocks ∙ so_far.blocks;
-      honesty = any.same_honesty ∙ so_far.honesty;
+      earlier = λ honest. so_far.earlier (any.earlier honest);
       rising = omega arith;
-      reads = λ honest. reads_then _ _ _ (so_far.reads honest) (read_once _ _ _ _ _ (c.read.ensures.honest (so_far.honesty ∙ honest)));
+      reads = λ honest. reads_then _ _ _ (so_far.reads (c.in-Ok.ensures.any.earlier honest)) (read_once _ _ _ _ _ (c.read.ensures.honest honest));
       room = c.if-not-read_entries.ensures.room ∙ so_far.room;
       fits = other_fits c.read.new.into _ _ c.loop-index.index c.min-count.result _ _ so_far.fits inside c.if-not-read_entries.ensures.found (omega (arith, c.min-count.ensures, c.len.ensures, c.loop-index.entries.ok.0));
       found = λ honest.
           let bytes : c.read.new.into ≡ block old.now.contents (slot_at c.args.slot_b + c.loop-index.index) =
-          (c.in-Ok.ensures.honest (so_far.honesty ∙ honest)).bytes_are ∙ ap (λ (m : Medium). block m.contents (c.first_block-first.result + c.loop-index.index)) (same_medium _ _ (so_far.reads honest)) ∙ ap (block old.now.contents) place in
-          other_begins old.now.contents (slot_at c.args.slot_b) _ _ c.loop-index.index c.min-count.result c.read.new.into _ _ so_far.fits inside (so_far.found honest) bytes c.read.array_long c.if-not-read_entries.ensures.found;
+          (c.in-Ok.ensures.honest honest).bytes_are ∙ ap (λ (m : Medium). block m.contents (c.first_block-first.result + c.loop-index.index)) (same_medium _ _ (so_far.reads (c.in-Ok.ensures.any.earlier honest))) ∙ ap (block old.now.contents) place in
+          other_begins old.now.contents (slot_at c.args.slot_b) _ _ c.loop-index.index c.min-count.result c.read.new.into _ _ so_far.fits inside (so_far.found (c.in-Ok.ensures.any.earlier honest)) bytes c.read.array_long c.if-not-read_entries.ensures.found;
     }

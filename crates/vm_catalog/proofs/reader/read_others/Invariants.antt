@@ -10,10 +10,10 @@ invariant-loop-index g l =
     let old = g.D.Disk.state l.initial.disk in
     let now = g.D.Disk.state l.disk in record {
       blocks : now.blocks ≡ old.blocks;
-      honesty : now.honest ≡ old.honest;
+      earlier : now.honest ≡ true → old.honest ≡ true;
       rising : old.failures ≤ now.failures;
-      reads : old.honest ≡ true → OnlyReads old now;
+      reads : now.honest ≡ true → OnlyReads old now;
       room : vec_capacity l.entries ≡ vec_capacity l.fn.entries;
       fits : FitsSoFar l.head.blocks l.head.entries l.index l.entries.items;
-      found : old.honest ≡ true → Begins (blocks_from old.now.contents (slot_at l.slot_b) l.index) l.head.blocks l.head.entries l.entries.items;
+      found : now.honest ≡ true → Begins (blocks_from old.now.contents (slot_at l.slot_b) l.index) l.head.blocks l.head.entries l.entries.items;
     }

@@ -10,8 +10,8 @@ returns-then-is_none-clause-reads g c honest = read_once _ _ _ _ _ (c.read.ensur
 
 pub returns-in_err-read-2-clause-reads : goal.returns-in_err-read-2-clause-reads
 returns-in_err-read-2-clause-reads g c honest =
-    reads_then _ _ _ (read_once _ _ _ _ _ (c.read.ensures.honest honest)) (read_once _ _ _ _ _ (c.read-2.ensures.honest (c.read.ensures.any.same_honesty ∙ honest)))
+    reads_then _ _ _ (read_once _ _ _ _ _ (c.read.ensures.honest (c.read-2.ensures.any.earlier honest))) (read_once _ _ _ _ _ (c.read-2.ensures.honest honest))
 
 pub returns-clause-reads : goal.returns-clause-reads
 returns-clause-reads g c honest =
-    reads_then _ _ _ (read_once _ _ _ _ _ (c.read.ensures.honest honest)) (read_once _ _ _ _ _ (c.read-2.ensures.honest (c.read.ensures.any.same_honesty ∙ honest)))
+    reads_then _ _ _ (read_once _ _ _ _ _ (c.read.ensures.honest (c.read-2.ensures.any.earlier honest))) (read_once _ _ _ _ _ (c.read-2.ensures.honest honest))

@@ -18,8 +18,8 @@ pub returns-in_err-sync-clause-moments : goal.returns-in_err-sync-clause-moments
 returns-in_err-sync-clause-moments g c honest limit es rest fits =
     let old = g.D.Disk.state c.args.disk.now in
     let before = before_selector c.args.in_use old.now limit es c.args.blocks c.args.entries.now rest fits in
-    let writes = c.write_slot.ensures.moments honest in
-    let sync = c.sync.ensures.honest (c.write_slot.ensures.any.same_honesty ∙ honest) in
+    let writes = c.write_slot.ensures.moments (c.sync.ensures.any.earlier honest) in
+    let sync = c.sync.ensures.honest honest in
     let spares = sync_spares _ _ _ _ _ sync (at_end _ _ _ writes) in
     goes_on _ _ _ _ (weaken _ _ _ _ before writes) sync.time (before _ spares)
 
@@ -32,12 +32,12 @@ pub returns-in_err-select_slot-clause-moments : goal.returns-in_err-select_slot-
 returns-in_err-select_slot-clause-moments g c honest limit es rest fits =
     let old = g.D.Disk.state c.args.disk.now in
     let before = before_selector c.args.in_use old.now limit es c.args.blocks c.args.entries.now rest fits in
-    let writes = c.write_slot.ensures.moments honest in
-    let sync = c.sync.ensures.honest (c.write_slot.ensures.any.same_honesty ∙ honest) in
-    let synced = c.in_ok-sync.ensures.honest (c.write_slot.ensures.any.same_honesty ∙ honest) in
+    let writes = c.write_slot.ensures.moments (c.sync.ensures.any.earlier (c.select_slot.ensures.any.earlier honest)) in
+    let sync = c.sync.ensures.honest (c.select_slot.ensures.any.earlier honest) in
+    let synced = c.in_ok-sync.ensures.honest (c.select_slot.ensures.any.earlier honest) in
     let spares = sync_spares _ _ _ _ _ sync (at_end _ _ _ writes) in
-    let ready = ready_by c.args.in_use old.now limit es c.args.blocks c.args.entries.now rest fits _ _ spares synced.synced sync.same (c.in_ok-write_slot.ensures.written honest) in
-    let turn = c.select_slot.ensures.honest (c.sync.ensures.any.same_honesty ∙ c.write_slot.ensures.any.same_honesty ∙ honest) in
+    let ready = ready_by c.args.in_use old.now limit es c.args.blocks c.args.entries.now rest fits _ _ spares synced.synced sync.same (c.in_ok-write_slot.ensures.written (c.sync.ensures.any.earlier (c.select_slot.ensures.any.earlier honest))) in
+    let turn = c.select_slot.ensures.honest honest in
     goes_on _ _ _ _ (goes_on _ _ _ _ (weaken _ _ _ _ before writes) sync.time (before _ spares)) turn.time
     (at_selector c.args.in_use old.now limit es c.args.blocks c.args.entries.now rest fits _ _ ready turn.dirty turn.count turn.others turn.others_dirty)
 
@@ -50,15 +50,15 @@ pub returns-clause-moments : goal.returns-clause-moments
 returns-clause-moments g c honest limit es rest fits =
     let old = g.D.Disk.state c.args.disk.now in
     let before = before_selector c.args.in_use old.now limit es c.args.blocks c.args.entries.now rest fits in
-    let writes = c.write_slot.ensures.moments honest in
-    let sync = c.sync.ensures.honest (c.write_slot.ensures.any.same_honesty ∙ honest) in
-    let synced = c.in_ok-sync.ensures.honest (c.write_slot.ensures.any.same_honesty ∙ honest) in
+    let writes = c.write_slot.ensures.moments (c.sync.ensures.any.earlier (c.select_slot.ensures.any.earlier (c.sync-2.ensures.any.earlier honest))) in
+    let sync = c.sync.ensures.honest (c.select_slot.ensures.any.earlier (c.sync-2.ensures.any.earlier honest)) in
+    let synced = c.in_ok-sync.ensures.honest (c.select_slot.ensures.any.earlier (c.sync-2.ensures.any.earlier honest)) in
     let spares = sync_spares _ _ _ _ _ sync (at_end _ _ _ writes) in
-    let ready = ready_by c.args.in_use old.now limit es c.args.blocks c.args.entries.now rest fits _ _ spares synced.synced sync.same (c.in_ok-write_slot.ensures.written honest) in
-    let turn = c.select_slot.ensures.honest (c.sync.ensures.any.same_honesty ∙ c.write_slot.ensures.any.same_honesty ∙ honest) in
-    let turned = c.in_ok-select_slot.ensures.honest (c.sync.ensures.any.same_honesty ∙ c.write_slot.ensures.any.same_honesty ∙ honest) in
+    let ready = ready_by c.args.in_use old.now limit es c.args.blocks c.args.entries.now rest fits _ _ spares synced.synced sync.same (c.in_ok-write_slot.ensures.written (c.sync.ensures.any.earlier (c.select_slot.ensures.any.earlier (c.sync-2.ensures.any.earlier honest)))) in
+    let turn = c.select_slot.ensures.honest (c.sync-2.ensures.any.earlier honest) in
+    let turned = c.in_ok-select_slot.ensures.honest (c.sync-2.ensures.any.earlier honest) in
     let safe = at_selector c.args.in_use old.now limit es c.args.blocks c.args.entries.now rest fits _ _ ready turn.dirty turn.count turn.others turn.others_dirty in
-    let last = c.sync-2.ensures.honest (c.select_slot.ensures.any.same_honesty ∙ c.sync.ensures.any.same_honesty ∙ c.write_slot.ensures.any.same_honesty ∙ honest) in
+    let last = c.sync-2.ensures.honest honest in
     goes_on _ _ _ _ (goes_on _ _ _ _ (goes_on _ _ _ _ (weaken _ _ _ _ before writes) sync.time (before _ spares)) turn.time safe) last.time
     (ends_safely c.args.in_use old.now limit es c.args.blocks c.args.entries.now rest fits _ _ _ _ (record { is_ready = ready; chosen = turned.written; count = turn.count; others = turn.others }) safe last)
 
@@ -69,12 +69,12 @@ returns-clause-any_moment g c honest limit es rest fits =
 pub returns-clause-done : goal.returns-clause-done
 returns-clause-done g c honest limit es rest fits =
     let old = g.D.Disk.state c.args.disk.now in
-    let writes = c.write_slot.ensures.moments honest in
-    let sync = c.sync.ensures.honest (c.write_slot.ensures.any.same_honesty ∙ honest) in
-    let synced = c.in_ok-sync.ensures.honest (c.write_slot.ensures.any.same_honesty ∙ honest) in
+    let writes = c.write_slot.ensures.moments (c.sync.ensures.any.earlier (c.select_slot.ensures.any.earlier (c.sync-2.ensures.any.earlier honest))) in
+    let sync = c.sync.ensures.honest (c.select_slot.ensures.any.earlier (c.sync-2.ensures.any.earlier honest)) in
+    let synced = c.in_ok-sync.ensures.honest (c.select_slot.ensures.any.earlier (c.sync-2.ensures.any.earlier honest)) in
     let spares = sync_spares _ _ _ _ _ sync (at_end _ _ _ writes) in
-    let ready = ready_by c.args.in_use old.now limit es c.args.blocks c.args.entries.now rest fits _ _ spares synced.synced sync.same (c.in_ok-write_slot.ensures.written honest) in
-    let turn = c.select_slot.ensures.honest (c.sync.ensures.any.same_honesty ∙ c.write_slot.ensures.any.same_honesty ∙ honest) in
-    let turned = c.in_ok-select_slot.ensures.honest (c.sync.ensures.any.same_honesty ∙ c.write_slot.ensures.any.same_honesty ∙ honest) in
-    let last = c.sync-2.ensures.honest (c.select_slot.ensures.any.same_honesty ∙ c.sync.ensures.any.same_honesty ∙ c.write_slot.ensures.any.same_honesty ∙ honest) in
+    let ready = ready_by c.args.in_use old.now limit es c.args.blocks c.args.entries.now rest fits _ _ spares synced.synced sync.same (c.in_ok-write_slot.ensures.written (c.sync.ensures.any.earlier (c.select_slot.ensures.any.earlier (c.sync-2.ensures.any.earlier honest)))) in
+    let turn = c.select_slot.ensures.honest (c.sync-2.ensures.any.earlier honest) in
+    let turned = c.in_ok-select_slot.ensures.honest (c.sync-2.ensures.any.earlier honest) in
+    let last = c.sync-2.ensures.honest honest in
     ends_published c.args.in_use old.now limit es c.args.blocks c.args.entries.now rest fits _ _ _ _ (record { is_ready = ready; chosen = turned.written; count = turn.count; others = turn.others }) last

@@ -11,8 +11,8 @@ invariant-loop-index g l =
     let old = g.D.Disk.state l.initial.disk in
     let now = g.D.Disk.state l.disk in record {
       blocks : now.blocks ≡ old.blocks;
-      honesty : now.honest ≡ old.honest;
+      earlier : now.honest ≡ true → old.honest ≡ true;
       rising : old.failures ≤ now.failures;
-      written : old.honest ≡ true → blocks_from now.now.contents (slot_at l.slot_b) l.index ≡ take l.index (slot_blocks l.blocks l.entries);
-      moments : old.honest ≡ true → Throughout old now (Spares (region (slot_at l.slot_b) (used_blocks (length l.entries))) old.now);
+      written : now.honest ≡ true → blocks_from now.now.contents (slot_at l.slot_b) l.index ≡ take l.index (slot_blocks l.blocks l.entries);
+      moments : now.honest ≡ true → Throughout old now (Spares (region (slot_at l.slot_b) (used_blocks (length l.entries))) old.now);
     }
