@@ -18,12 +18,12 @@ use Rattle.vm_tree.proofs.Splitting.{split_at, cut_at}
 -- the records under the first i children were added, by reads alone
 pub record Scans (old new : State) (limit level : ℕ) (cs : List Child) (i : ℕ) (before now : List Record) : Type 0 where
   pub goes : Goes ⊥ old new
-  pub reads : old.honest ≡ true → OnlyReads old new
-  pub added : old.honest ≡ true → (sizes : Sizes) (front : List Record) (left : List ℕ) → Children (Subtree sizes old.now.contents limit (level - 1)) (take i cs) front left → now ≡ before ++ front
+  pub reads : new.honest ≡ true → OnlyReads old new
+  pub added : new.honest ≡ true → (sizes : Sizes) (front : List Record) (left : List ℕ) → Children (Subtree sizes old.now.contents limit (level - 1)) (take i cs) front left → now ≡ before ++ front
 
 pub scans_none : (s : State) (limit level : ℕ) (cs : List Child) (before : List Record) → Scans s s limit level cs 0 before before
 scans_none s limit level cs before = record {
-  goes = record { same_blocks = refl; same_honesty = refl; rising = omega arith; fault = λ failed. absurd failed };
+  goes = record { same_blocks = refl; earlier = λ honest. honest; rising = omega arith; fault = λ failed. absurd failed };
   reads = λ honest. started s (λ m. m ≡ s.now) refl;
   added = λ honest sizes front left t. sym (append-nil before) ∙ ap (λ (rs : List Record). before ++ rs) (sym t.0);
 }
@@ -41,24 +41,24 @@ last_child T cs i d front left lt t =
     (cut.before, last.0, cut.left, last.2, first, last.4, cut.records ∙ ap (λ (rs : List Record). cut.before ++ rs) (last.7 ∙ ap (λ (rs : List Record). last.0 ++ rs) last.6.0 ∙ append-nil last.0))
 
 pub scans_more : (fails : Type 0) (old mid new : State) (limit level : ℕ) (cs : List Child) (i : ℕ) (d : Child) (before now more : List Record) → i < length cs → Scans old mid limit level cs i before now
-    → Goes fails mid new → (mid.honest ≡ true → OnlyReads mid new)
-    → (mid.honest ≡ true → (sizes : Sizes) (rs : List Record) (bs : List ℕ) → Subtree sizes mid.now.contents limit (level - 1) (get_or cs i d).block rs bs → more ≡ now ++ rs)
+    → Goes fails mid new → (new.honest ≡ true → OnlyReads mid new)
+    → (new.honest ≡ true → (sizes : Sizes) (rs : List Record) (bs : List ℕ) → Subtree sizes mid.now.contents limit (level - 1) (get_or cs i d).block rs bs → more ≡ now ++ rs)
     → Scans old new limit level cs (i + 1) before more
 scans_more fails old mid new limit level cs i d before now more lt so_far goes reads added = record {
   goes = goes_then ⊥ fails ⊥ old mid new so_far.goes goes (λ failed. absurd failed);
-  reads = λ honest. reads_then old mid new (so_far.reads honest) (reads (so_far.goes.same_honesty ∙ honest));
+  reads = λ honest. reads_then old mid new (so_far.reads (goes.earlier honest)) (reads honest);
   added = λ honest sizes front left t.
       let last = last_child (Subtree sizes old.now.contents limit (level - 1)) cs i d front left lt t in
-      let still = same_medium old mid (so_far.reads honest) in
+      let still = same_medium old mid (so_far.reads (goes.earlier honest)) in
       let child = subst (λ (m : Medium). Subtree sizes m.contents limit (level - 1) (get_or cs i d).block last.1 last.3) (sym still) last.5 in
-      added (so_far.goes.same_honesty ∙ honest) sizes last.1 last.3 child
-      ∙ ap (λ (rs : List Record). rs ++ last.1) (so_far.added honest sizes last.0 last.2 last.4)
+      added honest sizes last.1 last.3 child
+      ∙ ap (λ (rs : List Record). rs ++ last.1) (so_far.added (goes.earlier honest) sizes last.0 last.2 last.4)
       ∙ append_assoc before last.0 last.1
       ∙ ap (λ (rs : List Record). before ++ rs) (sym last.6);
 }
 
 -- all of them
-pub scans_all : (sizes : Sizes) (x : Contents) (old new : State) (limit level b : ℕ) (cs : List Child) (i : ℕ) (before now rs : List Record) (bs : List ℕ) → length cs ≤ i → 0 < level → old.honest ≡ true → old.now.contents ≡ x
+pub scans_all : (sizes : Sizes) (x : Contents) (old new : State) (limit level b : ℕ) (cs : List Child) (i : ℕ) (before now rs : List Record) (bs : List ℕ) → length cs ≤ i → 0 < level → new.honest ≡ true → old.now.contents ≡ x
     → Subtree sizes x limit level b rs bs → ((ds : List Child) → IsNodeAt x limit level b ds → cs ≡ ds) → Scans old new limit level cs i before now → now ≡ before ++ rs
 scans_all sizes x old new limit level b cs i before now rs bs all above honest same tree only scans =
     let at = node_under sizes x limit level b rs bs cs above tree only in
@@ -80,12 +80,12 @@ device_lists Deep P is = cc
 device_lists Memory P is = tt
 
 -- what lies under the child that fails
-pub child_fails : (sizes : Sizes) (x : Contents) (old mid : State) (limit level b : ℕ) (cs : List Child) (i : ℕ) (d : Child) (before now rs : List Record) (bs : List ℕ) (e : TreeFault) (P : List Record → Unit {0} → Type 0) (Q : Unit {0} → Type 0)
-    → i < length cs → 0 < level → old.honest ≡ true → old.now.contents ≡ x → Subtree sizes x limit level b rs bs → ((ds : List Child) → IsNodeAt x limit level b ds → cs ≡ ds) → Scans old mid limit level cs i before now
-    → (mid.honest ≡ true → (qs : List Record) (ds : List ℕ) → Subtree sizes mid.now.contents limit (level - 1) (get_or cs i d).block qs ds → Lists (Err e) (P qs)) → Lists (Err e) Q
-child_fails sizes x old mid limit level b cs i d before now rs bs e P Q lt above honest same tree only scans child =
+pub child_fails : (sizes : Sizes) (x : Contents) (old mid new : State) (limit level b : ℕ) (cs : List Child) (i : ℕ) (d : Child) (before now rs : List Record) (bs : List ℕ) (e : TreeFault) (P : List Record → Unit {0} → Type 0) (Q : Unit {0} → Type 0)
+    → i < length cs → 0 < level → new.honest ≡ true → (new.honest ≡ true → mid.honest ≡ true) → old.now.contents ≡ x → Subtree sizes x limit level b rs bs → ((ds : List Child) → IsNodeAt x limit level b ds → cs ≡ ds) → Scans old mid limit level cs i before now
+    → (new.honest ≡ true → (qs : List Record) (ds : List ℕ) → Subtree sizes mid.now.contents limit (level - 1) (get_or cs i d).block qs ds → Lists (Err e) (P qs)) → Lists (Err e) Q
+child_fails sizes x old mid new limit level b cs i d before now rs bs e P Q lt above honest back same tree only scans child =
     let at = node_under sizes x limit level b rs bs cs above tree only in
     let s = split_at (Subtree sizes x limit (level - 1)) cs i d rs at.0 lt at.1 in
-    let still : mid.now.contents ≡ x = ap (λ (m : Medium). m.contents) (same_medium old mid (scans.reads honest)) ∙ same in
+    let still : mid.now.contents ≡ x = ap (λ (m : Medium). m.contents) (same_medium old mid (scans.reads (back honest))) ∙ same in
     let there = subst (λ (y : Contents). Subtree sizes y limit (level - 1) (get_or cs i d).block s.sub s.own) (sym still) s.child in
-    fault_lists e (P s.sub) Q (child (scans.goes.same_honesty ∙ honest) s.sub s.own there)
+    fault_lists e (P s.sub) Q (child honest s.sub s.own there)

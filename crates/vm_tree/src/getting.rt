@@ -29,8 +29,8 @@ fn get_below<D: Disk>(
     ensures deep { result ≢ Err TreeFault.Deep }
     ensures memory { result ≢ Err TreeFault.Memory }
     ensures fits { KeyFits key }
-    ensures reads { (D.state disk.old).honest ≡ true → OnlyReads (D.state disk.old) (D.state disk.new) }
-    ensures value { (D.state disk.old).honest ≡ true → (sizes : Sizes) (rs : List Record) (bs : List ℕ)
+    ensures reads { (D.state disk.new).honest ≡ true → OnlyReads (D.state disk.old) (D.state disk.new) }
+    ensures value { (D.state disk.new).honest ≡ true → (sizes : Sizes) (rs : List Record) (bs : List ℕ)
         → Subtree sizes (D.state disk.old).now.contents blocks level block rs bs → RisesFrom 0 (places rs)
         → OkOrDevice result (λ value. value ≡ value_at (place key) rs) }
 {
@@ -60,10 +60,10 @@ pub fn get<D: Disk>(
     ensures any { Goes (result ≡ Err TreeFault.Device) (D.state disk.old) (D.state disk.new) }
     ensures deep { result ≢ Err TreeFault.Deep }
     ensures memory { result ≢ Err TreeFault.Memory }
-    ensures reads { (D.state disk.old).honest ≡ true → OnlyReads (D.state disk.old) (D.state disk.new) }
+    ensures reads { (D.state disk.new).honest ≡ true → OnlyReads (D.state disk.old) (D.state disk.new) }
 
     // On a tree it is the value of its map, whatever the sizes of its blocks, unless the device fails.
-    ensures value { (D.state disk.old).honest ≡ true → (sizes : Sizes) (m : Map) (bs : List ℕ)
+    ensures value { (D.state disk.new).honest ≡ true → (sizes : Sizes) (m : Map) (bs : List ℕ)
         → IsRooted sizes (D.state disk.old).now.contents blocks root m bs → OkOrDevice result (λ value. value ≡ get m key) }
 {
     if root.block == 0 {

@@ -91,11 +91,11 @@ fn write_replaced<D: Disk, const FAN: usize>(
     ensures still { HoldsMore held.old held.new }
     ensures one { way.count < FAN → free_count held.old ≤ free_count held.new + 1 }
     ensures taken { free_count held.old ≤ free_count held.new + 2 }
-    ensures moments { (D.state disk.old).honest ≡ true
+    ensures moments { (D.state disk.new).honest ≡ true
         → Throughout (D.state disk.old) (D.state disk.new) (Spares (is_free held.old) (D.state disk.old).now) }
     ensures fine { (cs : List Child) → IsNode bytes.old level cs → way.count ≡ length cs
         → OkOrDevice result (λ done. (is_split done ≡ true) ↔ (FAN < length (with_copied cs way.index copied))) }
-    ensures made { (D.state disk.old).honest ≡ true → (sizes : Sizes) (cs : List Child) (rs : List Record) → IsNode bytes.old level cs → way.count ≡ length cs → FAN ≤ sizes.fan
+    ensures made { (D.state disk.new).honest ≡ true → (sizes : Sizes) (cs : List Child) (rs : List Record) → IsNode bytes.old level cs → way.count ≡ length cs → FAN ≤ sizes.fan
         → RisesFrom 0 (places rs) → Made (IsHeld held.old) sizes (D.state disk.old).now.contents (length held.old) (level - 1) (with_copied cs way.index copied) rs
         → IfOk result (λ done. Made (IsHeld held.new) sizes (D.state disk.new).now.contents (length held.old) level (children_of done) rs) }
 {
@@ -136,11 +136,11 @@ fn split_leaf<D: Disk, const LEAF: usize>(
     ensures device { IfOk result (λ copied. AllByRecursion (λ child. IsTaken held.new child.block) (children_of copied)) }
     ensures still { HoldsMore held.old held.new }
     ensures taken { free_count held.old ≤ free_count held.new + 2 }
-    ensures moments { (D.state disk.old).honest ≡ true
+    ensures moments { (D.state disk.new).honest ≡ true
         → Throughout (D.state disk.old) (D.state disk.new) (Spares (is_free held.old) (D.state disk.old).now) }
     ensures fine { (rs : List Record) → IsLeaf bytes.now rs → length rs ≤ LEAF
         → OkOrDevice result (λ copied. (is_split copied ≡ true) ↔ (LEAF < length (with_record (key, value.now) rs))) }
-    ensures made { (D.state disk.old).honest ≡ true → (sizes : Sizes) (rs : List Record) → IsLeaf bytes.now rs → length rs ≤ LEAF → LEAF ≤ sizes.leaf
+    ensures made { (D.state disk.new).honest ≡ true → (sizes : Sizes) (rs : List Record) → IsLeaf bytes.now rs → length rs ≤ LEAF → LEAF ≤ sizes.leaf
         → IfOk result (λ copied. Made (IsHeld held.new) sizes (D.state disk.new).now.contents (length held.old) 0 (children_of copied) (with_record (key, value.now) rs)) }
 {
     match read_leaf(bytes) {
@@ -173,9 +173,9 @@ fn put_in_leaf<D: Disk, const LEAF: usize>(
     ensures still { HoldsMore held.old held.new }
     ensures one { room ≡ false → free_count held.old ≤ free_count held.new + 1 }
     ensures taken { free_count held.old ≤ free_count held.new + 2 }
-    ensures moments { (D.state disk.old).honest ≡ true
+    ensures moments { (D.state disk.new).honest ≡ true
         → Throughout (D.state disk.old) (D.state disk.new) (Spares (is_free held.old) (D.state disk.old).now) }
-    ensures put { (D.state disk.old).honest ≡ true → (fan levels : ℕ) (rs : List Record) (bs : List ℕ)
+    ensures put { (D.state disk.new).honest ≡ true → (fan levels : ℕ) (rs : List Record) (bs : List ℕ)
         → Subtree (sizes_of LEAF fan levels) (D.state disk.old).now.contents (length held.old) 0 block rs bs → RisesFrom 0 (places rs)
         → PutsBelow result (Splits (sizes_of LEAF fan levels) (D.state disk.old).now.contents (place key) 0 block rs)
         (λ cs. Made (IsHeld held.new) (sizes_of LEAF fan levels) (D.state disk.new).now.contents (length held.old) 0 cs (with_record (key, value.now) rs)) }
@@ -222,9 +222,9 @@ fn put_below<D: Disk, const LEAF: usize, const FAN: usize>(
     ensures still { HoldsMore held.old held.new }
     ensures one { room ≡ false → free_count held.old ≤ free_count held.new + (2 * level + 1) }
     ensures taken { free_count held.old ≤ free_count held.new + (2 * level + 2) }
-    ensures moments { (D.state disk.old).honest ≡ true
+    ensures moments { (D.state disk.new).honest ≡ true
         → Throughout (D.state disk.old) (D.state disk.new) (Spares (is_free held.old) (D.state disk.old).now) }
-    ensures put { (D.state disk.old).honest ≡ true → (levels : ℕ) (rs : List Record) (bs : List ℕ)
+    ensures put { (D.state disk.new).honest ≡ true → (levels : ℕ) (rs : List Record) (bs : List ℕ)
         → Subtree (sizes_of LEAF FAN levels) (D.state disk.old).now.contents (length held.old) level block rs bs → RisesFrom 0 (places rs)
         → PutsBelow result (Splits (sizes_of LEAF FAN levels) (D.state disk.old).now.contents (place key) level block rs)
         (λ cs. AllByRecursion (IsHeld held.old) bs → Made (IsHeld held.new) (sizes_of LEAF FAN levels) (D.state disk.new).now.contents (length held.old) level cs (with_record (key, value.now) rs)) }
@@ -261,9 +261,9 @@ fn put_first<D: Disk>(
     ensures device { OkOrDevice result (λ r. IsTaken held.new r.block × (r.level ≡ 0)) }
     ensures still { HoldsMore held.old held.new }
     ensures taken { free_count held.old ≤ free_count held.new + 1 }
-    ensures moments { (D.state disk.old).honest ≡ true
+    ensures moments { (D.state disk.new).honest ≡ true
         → Throughout (D.state disk.old) (D.state disk.new) (Spares (is_free held.old) (D.state disk.old).now) }
-    ensures put { (D.state disk.old).honest ≡ true → (sizes : Sizes) → 0 < sizes.leaf → 0 < sizes.levels
+    ensures put { (D.state disk.new).honest ≡ true → (sizes : Sizes) → 0 < sizes.leaf → 0 < sizes.levels
         → IfOk result (λ r. Grown sizes (IsHeld held.new) (D.state disk.new).now.contents (length held.old) r ((key, value.now) ∷ [])) }
 {
     let record = with_record(&[], key, value);
@@ -297,12 +297,12 @@ pub fn put<D: Disk, const LEAF: usize, const FAN: usize, const LEVELS: usize>(
     ensures deep { result ≡ Err TreeFault.Deep → held.new ≡ held.old }
 
     // At no moment has a block that was held other bytes than before.
-    ensures moments { (D.state disk.old).honest ≡ true
+    ensures moments { (D.state disk.new).honest ≡ true
         → Throughout (D.state disk.old) (D.state disk.new) (Spares (is_free held.old) (D.state disk.old).now) }
 
     // On a tree the answer is a root, or Deep just where there is no room, unless the device fails; and where the
     // blocks of the tree are held, the root has the map with the value.
-    ensures put { (D.state disk.old).honest ≡ true → (m : Map) (bs : List ℕ)
+    ensures put { (D.state disk.new).honest ≡ true → (m : Map) (bs : List ℕ)
         → IsRooted (sizes_of LEAF FAN LEVELS) (D.state disk.old).now.contents (length held.old) root m bs
         → Puts result (LacksRoom (sizes_of LEAF FAN LEVELS) (D.state disk.old).now.contents root m key)
         (λ r. AllByRecursion (IsHeld held.old) bs → Grown (sizes_of LEAF FAN LEVELS) (IsHeld held.new) (D.state disk.new).now.contents (length held.old) r (with_value m key value.now)) }

@@ -36,9 +36,9 @@ pub(crate) fn block_at<D: Disk>(
     ensures any { Goes (result ≡ Err TreeFault.Device) (D.state disk.old) (D.state disk.new) }
     ensures deep { result ≢ Err TreeFault.Deep }
     ensures memory { result ≢ Err TreeFault.Memory }
-    ensures reads { (D.state disk.old).honest ≡ true → OnlyReads (D.state disk.old) (D.state disk.new) }
-    ensures found { (D.state disk.old).honest ≡ true → IfOk result (λ done. IsBlockAt (D.state disk.old).now.contents blocks block bytes.new) }
-    ensures only { (D.state disk.old).honest ≡ true → IsData blocks block
+    ensures reads { (D.state disk.new).honest ≡ true → OnlyReads (D.state disk.old) (D.state disk.new) }
+    ensures found { (D.state disk.new).honest ≡ true → IfOk result (λ done. IsBlockAt (D.state disk.old).now.contents blocks block bytes.new) }
+    ensures only { (D.state disk.new).honest ≡ true → IsData blocks block
         → OkOrDevice result (λ done. IsBlockAt (D.state disk.old).now.contents blocks block bytes.new) }
 {
     if !is_data(blocks, block) {
@@ -66,8 +66,8 @@ pub(crate) fn way_at<D: Disk, const MOST: usize>(
     ensures memory { result ≢ Err TreeFault.Memory }
     ensures level { IfOk result (λ way. (way.level ≡ level) × (level ≤ 7)) }
     ensures within { IfOk result (λ way. (way.index < way.count) × (way.count ≤ MOST) × (way.count ≤ 256)) }
-    ensures reads { (D.state disk.old).honest ≡ true → OnlyReads (D.state disk.old) (D.state disk.new) }
-    ensures only { (D.state disk.old).honest ≡ true → (cs : List Child) → IsNodeAt (D.state disk.old).now.contents blocks level block cs → length cs ≤ MOST
+    ensures reads { (D.state disk.new).honest ≡ true → OnlyReads (D.state disk.old) (D.state disk.new) }
+    ensures only { (D.state disk.new).honest ≡ true → (cs : List Child) → IsNodeAt (D.state disk.old).now.contents blocks level block cs → length cs ≤ MOST
         → OkOrDevice result (λ way. IsNode bytes.new level cs × (way.count ≡ length cs) × Takes cs (place key) way.index way.child) }
 {
     match block_at(disk, blocks, block, bytes) {
@@ -90,9 +90,9 @@ pub(crate) fn leaf_at<D: Disk, const MOST: usize>(
     ensures deep { result ≢ Err TreeFault.Deep }
     ensures memory { result ≢ Err TreeFault.Memory }
     ensures count { IfOk result (λ records. (0 < length records.items) × (length records.items ≤ MOST)) }
-    ensures reads { (D.state disk.old).honest ≡ true → OnlyReads (D.state disk.old) (D.state disk.new) }
-    ensures found { (D.state disk.old).honest ≡ true → IfOk result (λ records. IsLeafAt (D.state disk.old).now.contents blocks block records.items) }
-    ensures only { (D.state disk.old).honest ≡ true → (rs : List Record) → IsLeafAt (D.state disk.old).now.contents blocks block rs → length rs ≤ MOST
+    ensures reads { (D.state disk.new).honest ≡ true → OnlyReads (D.state disk.old) (D.state disk.new) }
+    ensures found { (D.state disk.new).honest ≡ true → IfOk result (λ records. IsLeafAt (D.state disk.old).now.contents blocks block records.items) }
+    ensures only { (D.state disk.new).honest ≡ true → (rs : List Record) → IsLeafAt (D.state disk.old).now.contents blocks block rs → length rs ≤ MOST
         → OkOrDevice result (λ records. records.items ≡ rs) }
 {
     if !is_data(blocks, block) {
@@ -121,9 +121,9 @@ pub(crate) fn node_at<D: Disk, const MOST: usize>(
     ensures memory { result ≢ Err TreeFault.Memory }
     ensures count { IfOk result (λ children. (0 < length children.items) × (length children.items ≤ MOST)) }
     ensures low { IfOk result (λ children. level ≤ 7) }
-    ensures reads { (D.state disk.old).honest ≡ true → OnlyReads (D.state disk.old) (D.state disk.new) }
-    ensures found { (D.state disk.old).honest ≡ true → IfOk result (λ children. IsNodeAt (D.state disk.old).now.contents blocks level block children.items) }
-    ensures only { (D.state disk.old).honest ≡ true → (cs : List Child) → IsNodeAt (D.state disk.old).now.contents blocks level block cs → length cs ≤ MOST
+    ensures reads { (D.state disk.new).honest ≡ true → OnlyReads (D.state disk.old) (D.state disk.new) }
+    ensures found { (D.state disk.new).honest ≡ true → IfOk result (λ children. IsNodeAt (D.state disk.old).now.contents blocks level block children.items) }
+    ensures only { (D.state disk.new).honest ≡ true → (cs : List Child) → IsNodeAt (D.state disk.old).now.contents blocks level block cs → length cs ≤ MOST
         → OkOrDevice result (λ children. children.items ≡ cs) }
 {
     if !is_data(blocks, block) {

@@ -106,10 +106,10 @@ fn remove_from_leaf<D: Disk, const LEAF: usize>(
     ensures still { HoldsMore held.old held.new }
     ensures taken { free_count held.old ≤ free_count held.new + 1 }
     ensures same { result ≡ Ok Left.Same → held.new ≡ held.old }
-    ensures reads { (D.state disk.old).honest ≡ true → result ≡ Ok Left.Same → OnlyReads (D.state disk.old) (D.state disk.new) }
-    ensures moments { (D.state disk.old).honest ≡ true
+    ensures reads { (D.state disk.new).honest ≡ true → result ≡ Ok Left.Same → OnlyReads (D.state disk.old) (D.state disk.new) }
+    ensures moments { (D.state disk.new).honest ≡ true
         → Throughout (D.state disk.old) (D.state disk.new) (Spares (is_free held.old) (D.state disk.old).now) }
-    ensures remove { (D.state disk.old).honest ≡ true → (fan levels : ℕ) (rs : List Record) (bs : List ℕ)
+    ensures remove { (D.state disk.new).honest ≡ true → (fan levels : ℕ) (rs : List Record) (bs : List ℕ)
         → Subtree (sizes_of LEAF fan levels) (D.state disk.old).now.contents (length held.old) 0 block rs bs → RisesFrom 0 (places rs)
         → RemovesBelow result place rs
         (λ root. Made (IsHeld held.new) (sizes_of LEAF fan levels) (D.state disk.new).now.contents (length held.old) root.level (child_of root ∷ []) (without_place place rs)) }
@@ -144,8 +144,8 @@ fn narrowed<D: Disk, const FAN: usize>(
     ensures deep { result ≢ Err TreeFault.Deep }
     ensures memory { result ≢ Err TreeFault.Memory }
     ensures level { IfOk result (λ root. root.level ≤ level) }
-    ensures reads { (D.state disk.old).honest ≡ true → OnlyReads (D.state disk.old) (D.state disk.new) }
-    ensures narrow { (D.state disk.old).honest ≡ true → (leaf levels : ℕ) (rs : List Record) (bs : List ℕ)
+    ensures reads { (D.state disk.new).honest ≡ true → OnlyReads (D.state disk.old) (D.state disk.new) }
+    ensures narrow { (D.state disk.new).honest ≡ true → (leaf levels : ℕ) (rs : List Record) (bs : List ℕ)
         → Children (Subtree (sizes_of leaf FAN levels) (D.state disk.old).now.contents blocks level) (top ∷ []) rs bs
         → OkOrDevice result (λ root. Narrows (sizes_of leaf FAN levels) (D.state disk.old).now.contents blocks top root rs bs) }
 {
@@ -184,9 +184,9 @@ fn write_rest<D: Disk, const FAN: usize>(
     ensures same_level { is_root ≡ false → IfOk result (λ left. level_of left level ≡ level) }
     ensures still { HoldsMore held.old held.new }
     ensures taken { free_count held.old ≤ free_count held.new + 1 }
-    ensures moments { (D.state disk.old).honest ≡ true
+    ensures moments { (D.state disk.new).honest ≡ true
         → Throughout (D.state disk.old) (D.state disk.new) (Spares (is_free held.old) (D.state disk.old).now) }
-    ensures rest { (D.state disk.old).honest ≡ true → (leaf levels : ℕ) (rs : List Record) → RisesFrom 0 (places rs)
+    ensures rest { (D.state disk.new).honest ≡ true → (leaf levels : ℕ) (rs : List Record) → RisesFrom 0 (places rs)
         → Made (IsHeld held.old) (sizes_of leaf FAN levels) (D.state disk.old).now.contents (length held.old) (level - 1) children.now rs
         → Rests result rs (λ root. Made (IsHeld held.new) (sizes_of leaf FAN levels) (D.state disk.new).now.contents (length held.old) root.level (child_of root ∷ []) rs) }
 {
@@ -229,10 +229,10 @@ fn remove_below<D: Disk, const LEAF: usize, const FAN: usize>(
     ensures still { HoldsMore held.old held.new }
     ensures taken { free_count held.old ≤ free_count held.new + (level + 1) }
     ensures same { result ≡ Ok Left.Same → held.new ≡ held.old }
-    ensures reads { (D.state disk.old).honest ≡ true → result ≡ Ok Left.Same → OnlyReads (D.state disk.old) (D.state disk.new) }
-    ensures moments { (D.state disk.old).honest ≡ true
+    ensures reads { (D.state disk.new).honest ≡ true → result ≡ Ok Left.Same → OnlyReads (D.state disk.old) (D.state disk.new) }
+    ensures moments { (D.state disk.new).honest ≡ true
         → Throughout (D.state disk.old) (D.state disk.new) (Spares (is_free held.old) (D.state disk.old).now) }
-    ensures remove { (D.state disk.old).honest ≡ true → (levels : ℕ) (rs : List Record) (bs : List ℕ)
+    ensures remove { (D.state disk.new).honest ≡ true → (levels : ℕ) (rs : List Record) (bs : List ℕ)
         → Subtree (sizes_of LEAF FAN levels) (D.state disk.old).now.contents (length held.old) level block rs bs → RisesFrom 0 (places rs) → AllByRecursion (IsHeld held.old) bs
         → RemovesBelow result (place key) rs
         (λ root. Made (IsHeld held.new) (sizes_of LEAF FAN levels) (D.state disk.new).now.contents (length held.old) root.level (child_of root ∷ []) (without_place (place key) rs)) }
@@ -292,15 +292,15 @@ pub fn remove<D: Disk, const LEAF: usize, const FAN: usize, const LEVELS: usize>
 
     // Where the answer is None, nothing was written or taken.
     ensures kept { result ≡ Ok None → held.new ≡ held.old }
-    ensures reads { (D.state disk.old).honest ≡ true → result ≡ Ok None → OnlyReads (D.state disk.old) (D.state disk.new) }
+    ensures reads { (D.state disk.new).honest ≡ true → result ≡ Ok None → OnlyReads (D.state disk.old) (D.state disk.new) }
 
     // At no moment has a block that was held other bytes than before.
-    ensures moments { (D.state disk.old).honest ≡ true
+    ensures moments { (D.state disk.new).honest ≡ true
         → Throughout (D.state disk.old) (D.state disk.new) (Spares (is_free held.old) (D.state disk.old).now) }
 
     // On a tree in held blocks the answer is None just where the key is absent, and else a root that has the map
     // without the key, unless the device fails.
-    ensures remove { (D.state disk.old).honest ≡ true → (m : Map)
+    ensures remove { (D.state disk.new).honest ≡ true → (m : Map)
         → Grown (sizes_of LEAF FAN LEVELS) (IsHeld held.old) (D.state disk.old).now.contents (length held.old) root m
         → Removes result (get m key ≡ None)
         (λ r. Grown (sizes_of LEAF FAN LEVELS) (IsHeld held.new) (D.state disk.new).now.contents (length held.old) r (without m key)) }

@@ -24,8 +24,8 @@ fn scan_leaf<D: Disk>(
     requires { blocks ≤ (D.state disk.old).blocks }
     ensures any { Goes (result ≡ Err TreeFault.Device) (D.state disk.old) (D.state disk.new) }
     ensures deep { result ≢ Err TreeFault.Deep }
-    ensures reads { (D.state disk.old).honest ≡ true → OnlyReads (D.state disk.old) (D.state disk.new) }
-    ensures added { (D.state disk.old).honest ≡ true → (sizes : Sizes) (rs : List Record) (bs : List ℕ)
+    ensures reads { (D.state disk.new).honest ≡ true → OnlyReads (D.state disk.old) (D.state disk.new) }
+    ensures added { (D.state disk.new).honest ≡ true → (sizes : Sizes) (rs : List Record) (bs : List ℕ)
         → Subtree sizes (D.state disk.old).now.contents blocks 0 block rs bs → Lists result (λ _. into.new.items ≡ into.old.items ++ rs) }
 {
     match leaf_at::<D, 16>(disk, blocks, block) {
@@ -48,8 +48,8 @@ fn scan_below<D: Disk>(
     requires { blocks ≤ (D.state disk.old).blocks }
     ensures any { Goes (result ≡ Err TreeFault.Device) (D.state disk.old) (D.state disk.new) }
     ensures deep { result ≢ Err TreeFault.Deep }
-    ensures reads { (D.state disk.old).honest ≡ true → OnlyReads (D.state disk.old) (D.state disk.new) }
-    ensures added { (D.state disk.old).honest ≡ true → (sizes : Sizes) (rs : List Record) (bs : List ℕ)
+    ensures reads { (D.state disk.new).honest ≡ true → OnlyReads (D.state disk.old) (D.state disk.new) }
+    ensures added { (D.state disk.new).honest ≡ true → (sizes : Sizes) (rs : List Record) (bs : List ℕ)
         → Subtree sizes (D.state disk.old).now.contents blocks level block rs bs → Lists result (λ _. into.new.items ≡ into.old.items ++ rs) }
 {
     if level == 0 {
@@ -79,10 +79,10 @@ pub fn scan<D: Disk>(
     requires { blocks ≤ (D.state disk.old).blocks }
     ensures any { Goes (result ≡ Err TreeFault.Device) (D.state disk.old) (D.state disk.new) }
     ensures deep { result ≢ Err TreeFault.Deep }
-    ensures reads { (D.state disk.old).honest ≡ true → OnlyReads (D.state disk.old) (D.state disk.new) }
+    ensures reads { (D.state disk.new).honest ≡ true → OnlyReads (D.state disk.old) (D.state disk.new) }
 
     // On a tree it is the whole map, whatever the sizes of its blocks, unless the device fails or no memory is found.
-    ensures records { (D.state disk.old).honest ≡ true → (sizes : Sizes) (m : Map) (bs : List ℕ)
+    ensures records { (D.state disk.new).honest ≡ true → (sizes : Sizes) (m : Map) (bs : List ℕ)
         → IsRooted sizes (D.state disk.old).now.contents blocks root m bs → Lists result (λ records. records.items ≡ m) }
 {
     let mut records = Vec::new(alloc);

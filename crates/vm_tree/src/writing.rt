@@ -34,9 +34,9 @@ fn write_free<D: Disk>(disk: &mut D, held: &mut Held, bytes: &[u8; 4096]) -> Res
     ensures device { OkOrDevice result (IsTaken held.new) }
     ensures still { HoldsMore held.old held.new }
     ensures taken { free_count held.old ≤ free_count held.new + 1 }
-    ensures moments { (D.state disk.old).honest ≡ true
+    ensures moments { (D.state disk.new).honest ≡ true
         → Throughout (D.state disk.old) (D.state disk.new) (Spares (is_free held.old) (D.state disk.old).now) }
-    ensures written { (D.state disk.old).honest ≡ true → IfOk result (λ n. block (D.state disk.new).now.contents n ≡ bytes.now) }
+    ensures written { (D.state disk.new).honest ≡ true → IfOk result (λ n. block (D.state disk.new).now.contents n ≡ bytes.now) }
 {
     let free = held.free_count();
     prove!(free > 0);
@@ -61,12 +61,12 @@ pub(crate) fn write_bytes<D: Disk>(
     ensures device { OkOrDevice result (λ child. IsTaken held.new child.block) }
     ensures still { HoldsMore held.old held.new }
     ensures taken { free_count held.old ≤ free_count held.new + 1 }
-    ensures moments { (D.state disk.old).honest ≡ true
+    ensures moments { (D.state disk.new).honest ≡ true
         → Throughout (D.state disk.old) (D.state disk.new) (Spares (is_free held.old) (D.state disk.old).now) }
-    ensures leaf { (D.state disk.old).honest ≡ true → (sizes : Sizes) (rs : List Record) → bytes.now ≡ leaf_bytes rs
+    ensures leaf { (D.state disk.new).honest ≡ true → (sizes : Sizes) (rs : List Record) → bytes.now ≡ leaf_bytes rs
         → 0 < length rs → length rs ≤ 16 → length rs ≤ sizes.leaf → RisesFrom 0 (places rs) → AllByRecursion RecordFits rs
         → IfOk result (λ child. Made (IsHeld held.new) sizes (D.state disk.new).now.contents (length held.old) 0 (child ∷ []) rs) }
-    ensures node { (D.state disk.old).honest ≡ true → (sizes : Sizes) (level : ℕ) (cs : List Child) (rs : List Record) → bytes.now ≡ node_bytes level cs
+    ensures node { (D.state disk.new).honest ≡ true → (sizes : Sizes) (level : ℕ) (cs : List Child) (rs : List Record) → bytes.now ≡ node_bytes level cs
         → 0 < level → level ≤ 7 → 0 < length cs → length cs ≤ 256 → length cs ≤ sizes.fan
         → RisesFrom 0 (places rs) → Made (IsHeld held.old) sizes (D.state disk.old).now.contents (length held.old) (level - 1) cs rs
         → IfOk result (λ child. Made (IsHeld held.new) sizes (D.state disk.new).now.contents (length held.old) level (child ∷ []) rs) }
@@ -92,9 +92,9 @@ pub(crate) fn write_leaf_block<D: Disk>(
     ensures device { OkOrDevice result (λ child. IsTaken held.new child.block) }
     ensures still { HoldsMore held.old held.new }
     ensures taken { free_count held.old ≤ free_count held.new + 1 }
-    ensures moments { (D.state disk.old).honest ≡ true
+    ensures moments { (D.state disk.new).honest ≡ true
         → Throughout (D.state disk.old) (D.state disk.new) (Spares (is_free held.old) (D.state disk.old).now) }
-    ensures made { (D.state disk.old).honest ≡ true → (sizes : Sizes) → length records.now ≤ sizes.leaf
+    ensures made { (D.state disk.new).honest ≡ true → (sizes : Sizes) → length records.now ≤ sizes.leaf
         → RisesFrom 0 (places records.now) → AllByRecursion RecordFits records.now
         → IfOk result (λ child. Made (IsHeld held.new) sizes (D.state disk.new).now.contents (length held.old) 0 (child ∷ []) records.now) }
 {
@@ -118,9 +118,9 @@ pub(crate) fn write_node_block<D: Disk>(
     ensures device { OkOrDevice result (λ child. IsTaken held.new child.block) }
     ensures still { HoldsMore held.old held.new }
     ensures taken { free_count held.old ≤ free_count held.new + 1 }
-    ensures moments { (D.state disk.old).honest ≡ true
+    ensures moments { (D.state disk.new).honest ≡ true
         → Throughout (D.state disk.old) (D.state disk.new) (Spares (is_free held.old) (D.state disk.old).now) }
-    ensures made { (D.state disk.old).honest ≡ true → (sizes : Sizes) (rs : List Record) → 0 < level → level ≤ 7 → length children.now ≤ sizes.fan
+    ensures made { (D.state disk.new).honest ≡ true → (sizes : Sizes) (rs : List Record) → 0 < level → level ≤ 7 → length children.now ≤ sizes.fan
         → RisesFrom 0 (places rs) → Made (IsHeld held.old) sizes (D.state disk.old).now.contents (length held.old) (level - 1) children.now rs
         → IfOk result (λ child. Made (IsHeld held.new) sizes (D.state disk.new).now.contents (length held.old) level (child ∷ []) rs) }
 {
@@ -147,9 +147,9 @@ pub(crate) fn write_leaves<D: Disk, const LEAF: usize>(
     ensures still { HoldsMore held.old held.new }
     ensures one { length records.now ≤ LEAF → free_count held.old ≤ free_count held.new + 1 }
     ensures taken { free_count held.old ≤ free_count held.new + 2 }
-    ensures moments { (D.state disk.old).honest ≡ true
+    ensures moments { (D.state disk.new).honest ≡ true
         → Throughout (D.state disk.old) (D.state disk.new) (Spares (is_free held.old) (D.state disk.old).now) }
-    ensures made { (D.state disk.old).honest ≡ true → (sizes : Sizes) → LEAF ≤ sizes.leaf
+    ensures made { (D.state disk.new).honest ≡ true → (sizes : Sizes) → LEAF ≤ sizes.leaf
         → RisesFrom 0 (places records.now) → AllByRecursion RecordFits records.now
         → IfOk result (λ copied. Made (IsHeld held.new) sizes (D.state disk.new).now.contents (length held.old) 0 (children_of copied) records.now) }
 {
@@ -189,9 +189,9 @@ pub(crate) fn write_nodes<D: Disk, const FAN: usize>(
     ensures still { HoldsMore held.old held.new }
     ensures one { length children.now ≤ FAN → free_count held.old ≤ free_count held.new + 1 }
     ensures taken { free_count held.old ≤ free_count held.new + 2 }
-    ensures moments { (D.state disk.old).honest ≡ true
+    ensures moments { (D.state disk.new).honest ≡ true
         → Throughout (D.state disk.old) (D.state disk.new) (Spares (is_free held.old) (D.state disk.old).now) }
-    ensures made { (D.state disk.old).honest ≡ true → (sizes : Sizes) (rs : List Record) → 0 < level → level ≤ 7 → FAN ≤ sizes.fan
+    ensures made { (D.state disk.new).honest ≡ true → (sizes : Sizes) (rs : List Record) → 0 < level → level ≤ 7 → FAN ≤ sizes.fan
         → RisesFrom 0 (places rs) → Made (IsHeld held.old) sizes (D.state disk.old).now.contents (length held.old) (level - 1) children.now rs
         → IfOk result (λ copied. Made (IsHeld held.new) sizes (D.state disk.new).now.contents (length held.old) level (children_of copied) rs) }
 {

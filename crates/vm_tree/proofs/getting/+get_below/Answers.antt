@@ -6,15 +6,15 @@ use Rattle.vm_tree.proofs.getting.+get_below.Goals as goal
 
 pub returns-in-Ok-way_at-clause-reads : goal.returns-in-Ok-way_at-clause-reads
 returns-in-Ok-way_at-clause-reads g t c honest =
-    reads_then _ _ _ (c.in-Ok-way_at.ensures.reads honest) (c.get_below.ensures.reads (c.in-Ok-way_at.ensures.any.same_honesty ∙ honest))
+    reads_then _ _ _ (c.in-Ok-way_at.ensures.reads (c.get_below.ensures.any.earlier honest)) (c.get_below.ensures.reads honest)
 
 pub returns-in-Ok-way_at-clause-value : goal.returns-in-Ok-way_at-clause-value
 returns-in-Ok-way_at-clause-value g t c honest sizes rs bs tree rises =
     let at = node_read sizes _ _ _ _ rs bs (omega (arith, c.if-level-eq0.false)) tree in
-    let way = c.in-Ok-way_at.ensures.only honest at.0 at.1 at.1.node.few in
+    let way = c.in-Ok-way_at.ensures.only (c.get_below.ensures.any.earlier honest) at.0 at.1 at.1.node.few in
     way_value sizes (g.D.Disk.state c.args.disk.now).now _ _ c.args.level _ _ rs bs at.0 _ _ c.get_below.result
-    (same_medium _ _ (c.in-Ok-way_at.ensures.reads honest)) (omega (arith, c.if-level-eq0.false)) tree rises at.1 way.2
-    (c.get_below.ensures.value (c.in-Ok-way_at.ensures.any.same_honesty ∙ honest) sizes)
+    (same_medium _ _ (c.in-Ok-way_at.ensures.reads (c.get_below.ensures.any.earlier honest))) (omega (arith, c.if-level-eq0.false)) tree rises at.1 way.2
+    (c.get_below.ensures.value honest sizes)
 
 pub returns-in-Some-clause-value : goal.returns-in-Some-clause-value
 returns-in-Some-clause-value g t c honest sizes rs bs tree rises =

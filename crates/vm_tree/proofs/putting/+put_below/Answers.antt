@@ -16,22 +16,18 @@ use Rattle.vm_tree.proofs.putting.+put_below.Goals.{then-room, else-room}
 
 pub returns-in-Ok-put_below-clause-moments : goal.returns-in-Ok-put_below-clause-moments
 returns-in-Ok-put_below-clause-moments g t c honest =
-    let now = c.in-Ok.ensures.any.same_honesty ∙ honest in
-    let then = c.in-Ok-put_below.ensures.any.same_honesty ∙ now in
-    after_reads _ _ _ _ (c.in-Ok.ensures.reads honest) (spares_then _ _ _ _ _ c.in-Ok-put_below.ensures.still (c.in-Ok-put_below.ensures.moments now) (c.write_replaced.ensures.moments then))
+    after_reads _ _ _ _ (c.in-Ok.ensures.reads (c.in-Ok-put_below.ensures.any.earlier (c.write_replaced.ensures.any.earlier honest))) (spares_then _ _ _ _ _ c.in-Ok-put_below.ensures.still (c.in-Ok-put_below.ensures.moments (c.write_replaced.ensures.any.earlier honest)) (c.write_replaced.ensures.moments honest))
 
 pub returns-in-Ok-put_below-clause-put : goal.returns-in-Ok-put_below-clause-put
 returns-in-Ok-put_below-clause-put g t c honest levels rs bs tree rises =
     let sizes = sizes_of g.row.LEAF g.row.FAN levels in
     let r : Record = (c.args.key, c.args.value.now) in
     let old = (g.D.Disk.state c.args.disk.now).now in
-    let now = c.in-Ok.ensures.any.same_honesty ∙ honest in
-    let then = c.in-Ok-put_below.ensures.any.same_honesty ∙ now in
-    let still = same_medium _ _ (c.in-Ok.ensures.reads honest) in
+    let still = same_medium _ _ (c.in-Ok.ensures.reads (c.in-Ok-put_below.ensures.any.earlier (c.write_replaced.ensures.any.earlier honest))) in
     let above : 0 < c.args.level = omega (arith, c.if-level-eq0.false) in
     let read = node_read sizes old.contents (length c.args.held.now) c.args.level c.args.block rs bs above tree in
     let cs = read.0 in
-    let way = c.in-Ok.ensures.only honest cs (subst (λ n. IsNodeAt old.contents n c.args.level c.args.block cs) (sym c.blocks-2.ensures.count) read.1) read.2 in
+    let way = c.in-Ok.ensures.only (c.in-Ok-put_below.ensures.any.earlier (c.write_replaced.ensures.any.earlier honest)) cs (subst (λ n. IsNodeAt old.contents n c.args.level c.args.block cs) (sym c.blocks-2.ensures.count) read.1) read.2 in
     let only = only_one old.contents (length c.args.held.now) c.args.level c.args.block sizes.fan cs read.1 in
     let i = c.in-Ok.way.index in
     let d = c.in-Ok.way.child in
@@ -41,26 +37,25 @@ returns-in-Ok-put_below-clause-put g t c honest levels rs bs tree rises =
     (IsHeld c.args.held.now) (IsHeld c.put_below.new.held) (IsHeld c.write_replaced.new.held) (g.D.Disk.state c.put_below.new.disk).now.contents (g.D.Disk.state c.write_replaced.new.disk).now.contents
     (length c.put_below.new.held) c.in-Ok-put_below.copied lent c.write_replaced.result _
     c.in-Ok-put_below.ensures.still.same_length
-    (asked_of sizes old _ (length c.args.held.now) c.args.level c.args.block r rs bs cs i d still above tree rises only way.2.chosen d (Ok c.in-Ok-put_below.copied) (IsHeld c.args.held.now) (Made (IsHeld c.put_below.new.held) sizes (g.D.Disk.state c.put_below.new.disk).now.contents (length c.args.held.now) (c.args.level - 1)) way.2.child (c.in-Ok-put_below.ensures.put now levels))
-    (held_kept c.args.held.now _ _ (c.in-Ok-put_below.ensures.moments now)) c.in-Ok-put_below.ensures.still.still
+    (asked_of sizes old _ (length c.args.held.now) c.args.level c.args.block r rs bs cs i d still above tree rises only way.2.chosen d (Ok c.in-Ok-put_below.copied) (IsHeld c.args.held.now) (Made (IsHeld c.put_below.new.held) sizes (g.D.Disk.state c.put_below.new.disk).now.contents (length c.args.held.now) (c.args.level - 1)) way.2.child (c.in-Ok-put_below.ensures.put (c.write_replaced.ensures.any.earlier honest) levels))
+    (held_kept c.args.held.now _ _ (c.in-Ok-put_below.ensures.moments (c.write_replaced.ensures.any.earlier honest))) c.in-Ok-put_below.ensures.still.still
     refl fine (ok_if c.write_replaced.result _ fine)
-    (λ qs rising made. c.write_replaced.ensures.made then sizes cs qs way.0 way.1 (omega arith) rising made)
+    (λ qs rising made. c.write_replaced.ensures.made honest sizes cs qs way.0 way.1 (omega arith) rising made)
 
 pub returns-in-Err-put_below-clause-moments : goal.returns-in-Err-put_below-clause-moments
 returns-in-Err-put_below-clause-moments g t c honest =
-    after_reads _ _ _ _ (c.in-Ok.ensures.reads honest) (c.in-Err-put_below.ensures.moments (c.in-Ok.ensures.any.same_honesty ∙ honest))
+    after_reads _ _ _ _ (c.in-Ok.ensures.reads (c.in-Err-put_below.ensures.any.earlier honest)) (c.in-Err-put_below.ensures.moments honest)
 
 pub returns-in-Err-put_below-clause-put : goal.returns-in-Err-put_below-clause-put
 returns-in-Err-put_below-clause-put g t c honest levels rs bs tree rises =
     let sizes = sizes_of g.row.LEAF g.row.FAN levels in
     let r : Record = (c.args.key, c.args.value.now) in
     let old = (g.D.Disk.state c.args.disk.now).now in
-    let now = c.in-Ok.ensures.any.same_honesty ∙ honest in
-    let still = same_medium _ _ (c.in-Ok.ensures.reads honest) in
+    let still = same_medium _ _ (c.in-Ok.ensures.reads (c.in-Err-put_below.ensures.any.earlier honest)) in
     let above : 0 < c.args.level = omega (arith, c.if-level-eq0.false) in
     let read = node_read sizes old.contents (length c.args.held.now) c.args.level c.args.block rs bs above tree in
     let cs = read.0 in
-    let way = c.in-Ok.ensures.only honest cs (subst (λ n. IsNodeAt old.contents n c.args.level c.args.block cs) (sym c.blocks-2.ensures.count) read.1) read.2 in
+    let way = c.in-Ok.ensures.only (c.in-Err-put_below.ensures.any.earlier honest) cs (subst (λ n. IsNodeAt old.contents n c.args.level c.args.block cs) (sym c.blocks-2.ensures.count) read.1) read.2 in
     let only = only_one old.contents (length c.args.held.now) c.args.level c.args.block sizes.fan cs read.1 in
     let i = c.in-Ok.way.index in
     let d = c.in-Ok.way.child in
@@ -72,7 +67,7 @@ returns-in-Err-put_below-clause-put g t c honest levels rs bs tree rises =
     all in
     node_fault sizes old _ (length c.args.held.now) c.args.level c.args.block r rs bs cs i d still above tree rises only way.2.chosen
     (IsHeld c.args.held.now) made _ c.in-Err-put_below.fault
-    (asked_of sizes old _ (length c.args.held.now) c.args.level c.args.block r rs bs cs i d still above tree rises only way.2.chosen d (Err c.in-Err-put_below.fault) (IsHeld c.args.held.now) made way.2.child (c.in-Err-put_below.ensures.put now levels)) full
+    (asked_of sizes old _ (length c.args.held.now) c.args.level c.args.block r rs bs cs i d still above tree rises only way.2.chosen d (Err c.in-Err-put_below.fault) (IsHeld c.args.held.now) made way.2.child (c.in-Err-put_below.ensures.put honest levels)) full
 
 pub returns-in-Err-clause-moments : goal.returns-in-Err-clause-moments
 returns-in-Err-clause-moments g t c honest = reads_keep _ _ _ (c.in-Err.ensures.reads honest) (spares_itself _ _)

@@ -36,7 +36,7 @@ returns-in-Ok-One-clause-put g c honest m bs (inr top) =
 
 pub returns-in-Ok-clause-moments : goal.returns-in-Ok-clause-moments
 returns-in-Ok-clause-moments g c honest =
-    spares_then _ _ _ _ _ c.in-Ok-Two.ensures.still (c.in-Ok-Two.ensures.moments honest) (c.write_node_block.ensures.moments (c.in-Ok-Two.ensures.any.same_honesty ∙ honest))
+    spares_then _ _ _ _ _ c.in-Ok-Two.ensures.still (c.in-Ok-Two.ensures.moments (c.write_node_block.ensures.any.earlier honest)) (c.write_node_block.ensures.moments honest)
 
 pub returns-in-Ok-clause-put : goal.returns-in-Ok-clause-put
 returns-in-Ok-clause-put g c honest m bs (inl bare) = absurd (c.if-root-eq0.false bare.none)
@@ -50,13 +50,13 @@ returns-in-Ok-clause-put g c honest m bs (inr top) =
     let few : level + 1 ≤ 7 = omega (arith, room (ap is_split c.in-Ok-Two.field-0-is), c.requires.sizes.levels_most) in
     let done = root_two sizes _ (length c.args.held.now) c.args.root m bs c.args.key c.put_below.ensures.fits top (IsHeld c.put_below.new.held) held (g.D.Disk.state c.put_below.new.disk).now.contents after (length c.put_below.new.held)
     c.args.value.now c.in-Ok-Two.field-0 c.in-Ok-Two.left c.in-Ok-Two.right c.in-Ok.top (AllByRecursion (IsHeld c.args.held.now) bs)
-    c.in-Ok-Two.field-0-is c.in-Ok-Two.ensures.still.same_length room (c.in-Ok-Two.ensures.put honest g.row.LEVELS m bs top.subtree top.rising)
-    (λ rs rising made. c.in-Ok.ensures.made (c.in-Ok-Two.ensures.any.same_honesty ∙ honest) sizes rs (omega arith) few c.requires.sizes.fan_least rising made) in
+    c.in-Ok-Two.field-0-is c.in-Ok-Two.ensures.still.same_length room (c.in-Ok-Two.ensures.put (c.in-Ok.ensures.any.earlier honest) g.row.LEVELS m bs top.subtree top.rising)
+    (λ rs rising made. c.in-Ok.ensures.made honest sizes rs (omega arith) few c.requires.sizes.fan_least rising made) in
     (λ all. subst (λ (r : Root). Grown sizes held after (length c.args.held.now) r (with_value m c.args.key c.args.value.now)) (sym c.root_at-in-Ok.ensures) (done.0 all), done.1)
 
 pub returns-in-Err-write_node_block-clause-moments : goal.returns-in-Err-write_node_block-clause-moments
 returns-in-Err-write_node_block-clause-moments g c honest =
-    spares_then _ _ _ _ _ c.in-Ok-Two.ensures.still (c.in-Ok-Two.ensures.moments honest) (c.write_node_block.ensures.moments (c.in-Ok-Two.ensures.any.same_honesty ∙ honest))
+    spares_then _ _ _ _ _ c.in-Ok-Two.ensures.still (c.in-Ok-Two.ensures.moments (c.write_node_block.ensures.any.earlier honest)) (c.write_node_block.ensures.moments honest)
 
 pub returns-in-Err-clause-put : goal.returns-in-Err-clause-put
 returns-in-Err-clause-put g c honest m bs (inl bare) = absurd (c.if-root-eq0.false bare.none)

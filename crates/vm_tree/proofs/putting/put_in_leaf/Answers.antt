@@ -15,7 +15,7 @@ use Rattle.vm_tree.proofs.putting.put_in_leaf.Goals as goal
 
 pub returns-in-Ok-write_bytes-clause-moments : goal.returns-in-Ok-write_bytes-clause-moments
 returns-in-Ok-write_bytes-clause-moments g c honest =
-    after_reads _ _ _ _ (c.in-Ok.ensures.reads honest) (c.write_bytes.ensures.moments (c.in-Ok.ensures.any.same_honesty ∙ honest))
+    after_reads _ _ _ _ (c.in-Ok.ensures.reads (c.write_bytes.ensures.any.earlier honest)) (c.write_bytes.ensures.moments honest)
 
 pub returns-in-Ok-write_bytes-clause-put : goal.returns-in-Ok-write_bytes-clause-put
 returns-in-Ok-write_bytes-clause-put g c honest fan levels rs bs tree rises =
@@ -24,16 +24,16 @@ returns-in-Ok-write_bytes-clause-put g c honest fan levels rs bs tree rises =
     let x = (g.D.Disk.state c.args.disk.now).now.contents in
     let limit = length c.args.held.now in
     let at = leaf_opens sizes x limit 0 c.args.block rs bs refl tree in
-    let bytes = c.in-Ok.ensures.only honest (subst (λ n. IsData n c.args.block) (sym c.blocks-2.ensures.count) at.place) in
+    let bytes = c.in-Ok.ensures.only (c.in-Ok-write_bytes.ensures.any.earlier honest) (subst (λ n. IsData n c.args.block) (sym c.blocks-2.ensures.count) at.place) in
     let leaf = subst (λ (b : List ℕ). IsLeaf b rs) (sym bytes.bytes_are) at.leaf in
     let put = c.in-Put.ensures.only rs leaf at.few in
-    let made = c.in-Ok-write_bytes.ensures.leaf (c.in-Ok.ensures.any.same_honesty ∙ honest) sizes (with_record r rs) put.0 (with_some r rs) (omega (arith, put.1, c.requires.most)) put.1
+    let made = c.in-Ok-write_bytes.ensures.leaf honest sizes (with_record r rs) put.0 (with_some r rs) (omega (arith, put.1, c.requires.most)) put.1
     (with_rises r 0 rs (omega arith) rises) (with_fits r rs c.put_record.ensures.fits leaf.fit) in
     (made, (λ is. absurd (false≢true is), λ splits. let over = splits_leaf sizes x limit c.args.block r rs bs at splits in absurd (omega (arith, over, put.1))))
 
 pub returns-in-Err-write_bytes-clause-moments : goal.returns-in-Err-write_bytes-clause-moments
 returns-in-Err-write_bytes-clause-moments g c honest =
-    after_reads _ _ _ _ (c.in-Ok.ensures.reads honest) (c.write_bytes.ensures.moments (c.in-Ok.ensures.any.same_honesty ∙ honest))
+    after_reads _ _ _ _ (c.in-Ok.ensures.reads (c.write_bytes.ensures.any.earlier honest)) (c.write_bytes.ensures.moments honest)
 
 pub returns-in-Full-clause-moments : goal.returns-in-Full-clause-moments
 returns-in-Full-clause-moments g c honest = reads_keep _ _ _ (c.in-Ok.ensures.reads honest) (spares_itself _ _)
@@ -51,7 +51,7 @@ returns-in-Full-clause-put g c honest fan levels rs bs tree rises =
 
 pub returns-in-Full-2-clause-moments : goal.returns-in-Full-2-clause-moments
 returns-in-Full-2-clause-moments g c honest =
-    after_reads _ _ _ _ (c.in-Ok.ensures.reads honest) (c.split_leaf.ensures.moments (c.in-Ok.ensures.any.same_honesty ∙ honest))
+    after_reads _ _ _ _ (c.in-Ok.ensures.reads (c.split_leaf.ensures.any.earlier honest)) (c.split_leaf.ensures.moments honest)
 
 pub returns-in-Full-2-clause-put : goal.returns-in-Full-2-clause-put
 returns-in-Full-2-clause-put g c honest fan levels rs bs tree rises =
@@ -60,13 +60,13 @@ returns-in-Full-2-clause-put g c honest fan levels rs bs tree rises =
     let x = (g.D.Disk.state c.args.disk.now).now.contents in
     let limit = length c.args.held.now in
     let at = leaf_opens sizes x limit 0 c.args.block rs bs refl tree in
-    let bytes = c.in-Ok.ensures.only honest (subst (λ n. IsData n c.args.block) (sym c.blocks-2.ensures.count) at.place) in
+    let bytes = c.in-Ok.ensures.only (c.split_leaf.ensures.any.earlier honest) (subst (λ n. IsData n c.args.block) (sym c.blocks-2.ensures.count) at.place) in
     let leaf = subst (λ (b : List ℕ). IsLeaf b rs) (sym bytes.bytes_are) at.leaf in
     let still = subst (λ (b : List ℕ). IsLeaf b rs) (sym (c.in-Full-2.ensures.only rs leaf at.few).0) leaf in
     let fine = c.split_leaf.ensures.fine rs still at.few in
     leaf_put sizes x limit c.args.block r rs bs (with_record r rs) c.split_leaf.result _
     (Made (IsHeld c.split_leaf.new.held) sizes (g.D.Disk.state c.split_leaf.new.disk).now.contents limit 0)
-    at rises refl fine (ok_if c.split_leaf.result _ fine) (c.split_leaf.ensures.made (c.in-Ok.ensures.any.same_honesty ∙ honest) sizes rs still at.few (omega arith))
+    at rises refl fine (ok_if c.split_leaf.result _ fine) (c.split_leaf.ensures.made honest sizes rs still at.few (omega arith))
 
 pub returns-in-NoLeaf-clause-moments : goal.returns-in-NoLeaf-clause-moments
 returns-in-NoLeaf-clause-moments g c honest = reads_keep _ _ _ (c.in-Ok.ensures.reads honest) (spares_itself _ _)

@@ -12,14 +12,14 @@ returns-then-level-eq0-clause-narrow g t c honest leaf levels rs bs under =
 
 pub returns-in-Ok-clause-reads : goal.returns-in-Ok-clause-reads
 returns-in-Ok-clause-reads g t c honest =
-    reads_then _ _ _ (c.in-Ok.ensures.reads honest) (c.narrowed.ensures.reads (c.in-Ok.ensures.any.same_honesty ∙ honest))
+    reads_then _ _ _ (c.in-Ok.ensures.reads (c.narrowed.ensures.any.earlier honest)) (c.narrowed.ensures.reads honest)
 
 pub returns-in-Ok-clause-narrow : goal.returns-in-Ok-clause-narrow
 returns-in-Ok-clause-narrow g t c honest leaf levels rs bs under =
     narrows_down (sizes_of leaf g.row.FAN levels) (g.D.Disk.state c.args.disk.now).now _ _ c.args.level c.args.top c.as_slice.result.now (record { low = record { table = 0; number = 0 }; block = 0 }) rs bs c.narrowed.result
-    (same_medium _ _ (c.in-Ok.ensures.reads honest)) (omega (arith, c.if-level-eq0.false)) (omega (arith, ap length c.as_slice.ensures.value, c.len.ensures.value, c.if-len-eq1.true)) under
-    (λ ds at few. c.as_slice.ensures.value ∙ c.in-Ok.ensures.only honest ds at few)
-    (λ below there. c.narrowed.ensures.narrow (c.in-Ok.ensures.any.same_honesty ∙ honest) leaf levels rs below there)
+    (same_medium _ _ (c.in-Ok.ensures.reads (c.narrowed.ensures.any.earlier honest))) (omega (arith, c.if-level-eq0.false)) (omega (arith, ap length c.as_slice.ensures.value, c.len.ensures.value, c.if-len-eq1.true)) under
+    (λ ds at few. c.as_slice.ensures.value ∙ c.in-Ok.ensures.only (c.narrowed.ensures.any.earlier honest) ds at few)
+    (λ below there. c.narrowed.ensures.narrow honest leaf levels rs below there)
 
 pub returns-in-Ok-2-clause-narrow : goal.returns-in-Ok-2-clause-narrow
 returns-in-Ok-2-clause-narrow g t c honest leaf levels rs bs under =

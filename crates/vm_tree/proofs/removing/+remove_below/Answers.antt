@@ -22,23 +22,22 @@ use Rattle.vm_tree.proofs.removing.+remove_below.Goals.{then-is_root, else-is_ro
 
 pub returns-then-alone-clause-moments : goal.returns-then-alone-clause-moments
 returns-then-alone-clause-moments g t c honest =
-    after_reads _ _ _ _ (c.in-Ok.ensures.reads honest) (c.in-Ok-Rest.ensures.moments (c.in-Ok.ensures.any.same_honesty ∙ honest))
+    after_reads _ _ _ _ (c.in-Ok.ensures.reads (c.in-Ok-Rest.ensures.any.earlier honest)) (c.in-Ok-Rest.ensures.moments honest)
 
 pub returns-then-alone-clause-remove : goal.returns-then-alone-clause-remove
 returns-then-alone-clause-remove g t c honest levels rs bs tree rises all =
     let sizes = sizes_of g.row.LEAF g.row.FAN levels in
     let old = (g.D.Disk.state c.args.disk.now).now in
-    let now = c.in-Ok.ensures.any.same_honesty ∙ honest in
     let p = place c.args.key in
     let limit = length c.args.held.now in
     let l = c.args.level in
     let b = c.args.block in
     let held = IsHeld c.args.held.now in
-    let still = same_medium _ _ (c.in-Ok.ensures.reads honest) in
+    let still = same_medium _ _ (c.in-Ok.ensures.reads (c.in-Ok-Rest.ensures.any.earlier honest)) in
     let above : 0 < l = omega (arith, c.if-level-eq0.false) in
     let read = node_read sizes old.contents limit l b rs bs above tree in
     let cs = read.0 in
-    let way = c.in-Ok.ensures.only honest cs (subst (λ n. IsNodeAt old.contents n l b cs) (sym c.blocks-2.ensures.count) read.1) read.2 in
+    let way = c.in-Ok.ensures.only (c.in-Ok-Rest.ensures.any.earlier honest) cs (subst (λ n. IsNodeAt old.contents n l b cs) (sym c.blocks-2.ensures.count) read.1) read.2 in
     let only = only_one old.contents limit l b sizes.fan cs read.1 in
     let i = c.in-Ok.way.index in
     let d = c.in-Ok.way.child in
@@ -48,60 +47,56 @@ returns-then-alone-clause-remove g t c honest levels rs bs tree rises all =
     let one : length cs ≡ 1 = sym way.1 ∙ single in
     let A : List Record → Type 0 = λ qs. (value_at p qs ≢ None) × Made (IsHeld c.remove_below.new.held) sizes (g.D.Disk.state c.remove_below.new.disk).now.contents limit c.in-Ok-Rest.root.level (child_of c.in-Ok-Rest.root ∷ []) (without_place p qs) in
     only_there sizes old _ limit l b p rs bs cs i d still above tree rises only chosen held A one all
-    (λ sub own there rising kept. subst (λ (left : Left). RemovesBelow (Ok left) p sub (λ root. Made (IsHeld c.remove_below.new.held) sizes (g.D.Disk.state c.remove_below.new.disk).now.contents limit root.level (child_of root ∷ []) (without_place p sub))) c.in-Ok-Rest.field-0-is (c.in-Ok-Rest.ensures.remove now levels sub own (down sub own there) rising kept))
+    (λ sub own there rising kept. subst (λ (left : Left). RemovesBelow (Ok left) p sub (λ root. Made (IsHeld c.remove_below.new.held) sizes (g.D.Disk.state c.remove_below.new.disk).now.contents limit root.level (child_of root ∷ []) (without_place p sub))) c.in-Ok-Rest.field-0-is (c.in-Ok-Rest.ensures.remove honest levels sub own (down sub own there) rising kept))
 
 pub returns-in-Ok-Same-clause-reads : goal.returns-in-Ok-Same-clause-reads
 returns-in-Ok-Same-clause-reads g t c honest same =
-    reads_then _ _ _ (c.in-Ok.ensures.reads honest) (c.in-Ok-Same.ensures.reads (c.in-Ok.ensures.any.same_honesty ∙ honest) (ap Ok c.in-Ok-Same.field-0-is))
+    reads_then _ _ _ (c.in-Ok.ensures.reads (c.in-Ok-Same.ensures.any.earlier honest)) (c.in-Ok-Same.ensures.reads honest (ap Ok c.in-Ok-Same.field-0-is))
 
 pub returns-in-Ok-Same-clause-moments : goal.returns-in-Ok-Same-clause-moments
 returns-in-Ok-Same-clause-moments g t c honest =
-    after_reads _ _ _ _ (c.in-Ok.ensures.reads honest) (c.in-Ok-Same.ensures.moments (c.in-Ok.ensures.any.same_honesty ∙ honest))
+    after_reads _ _ _ _ (c.in-Ok.ensures.reads (c.in-Ok-Same.ensures.any.earlier honest)) (c.in-Ok-Same.ensures.moments honest)
 
 pub returns-in-Ok-Same-clause-remove : goal.returns-in-Ok-Same-clause-remove
 returns-in-Ok-Same-clause-remove g t c honest levels rs bs tree rises all =
     let sizes = sizes_of g.row.LEAF g.row.FAN levels in
     let old = (g.D.Disk.state c.args.disk.now).now in
-    let now = c.in-Ok.ensures.any.same_honesty ∙ honest in
     let p = place c.args.key in
     let limit = length c.args.held.now in
     let l = c.args.level in
     let b = c.args.block in
     let held = IsHeld c.args.held.now in
-    let still = same_medium _ _ (c.in-Ok.ensures.reads honest) in
+    let still = same_medium _ _ (c.in-Ok.ensures.reads (c.in-Ok-Same.ensures.any.earlier honest)) in
     let above : 0 < l = omega (arith, c.if-level-eq0.false) in
     let read = node_read sizes old.contents limit l b rs bs above tree in
     let cs = read.0 in
-    let way = c.in-Ok.ensures.only honest cs (subst (λ n. IsNodeAt old.contents n l b cs) (sym c.blocks-2.ensures.count) read.1) read.2 in
+    let way = c.in-Ok.ensures.only (c.in-Ok-Same.ensures.any.earlier honest) cs (subst (λ n. IsNodeAt old.contents n l b cs) (sym c.blocks-2.ensures.count) read.1) read.2 in
     let only = only_one old.contents limit l b sizes.fan cs read.1 in
     let i = c.in-Ok.way.index in
     let d = c.in-Ok.way.child in
     let chosen = way.2.chosen in
     let down = λ (sub : List Record) (own : List ℕ) (there : Subtree sizes (g.D.Disk.state c.way_at.new.disk).now.contents limit (l - 1) (get_or cs i d).block sub own). subst (λ (e : Child). Subtree sizes (g.D.Disk.state c.way_at.new.disk).now.contents limit (l - 1) e.block sub own) way.2.child there in
     none_there sizes old _ limit l b p rs bs cs i d still above tree rises only chosen held all
-    (λ sub own there rising kept. subst (λ (left : Left). RemovesBelow (Ok left) p sub (λ root. Made (IsHeld c.remove_below.new.held) sizes (g.D.Disk.state c.remove_below.new.disk).now.contents limit root.level (child_of root ∷ []) (without_place p sub))) c.in-Ok-Same.field-0-is (c.in-Ok-Same.ensures.remove now levels sub own (down sub own there) rising kept))
+    (λ sub own there rising kept. subst (λ (left : Left). RemovesBelow (Ok left) p sub (λ root. Made (IsHeld c.remove_below.new.held) sizes (g.D.Disk.state c.remove_below.new.disk).now.contents limit root.level (child_of root ∷ []) (without_place p sub))) c.in-Ok-Same.field-0-is (c.in-Ok-Same.ensures.remove honest levels sub own (down sub own there) rising kept))
 
 pub returns-in-Some-clause-moments : goal.returns-in-Some-clause-moments
 returns-in-Some-clause-moments g t c honest =
-    let now = c.in-Ok.ensures.any.same_honesty ∙ honest in
-    let then = c.in-Ok-Nothing.ensures.any.same_honesty ∙ now in
-    after_reads _ _ _ _ (c.in-Ok.ensures.reads honest) (spares_then _ _ _ _ _ c.in-Ok-Nothing.ensures.still (c.in-Ok-Nothing.ensures.moments now) (c.write_rest.ensures.moments then))
+    after_reads _ _ _ _ (c.in-Ok.ensures.reads (c.in-Ok-Nothing.ensures.any.earlier (c.write_rest.ensures.any.earlier honest))) (spares_then _ _ _ _ _ c.in-Ok-Nothing.ensures.still (c.in-Ok-Nothing.ensures.moments (c.write_rest.ensures.any.earlier honest)) (c.write_rest.ensures.moments honest))
 
 pub returns-in-Some-clause-remove : goal.returns-in-Some-clause-remove
 returns-in-Some-clause-remove g t c honest levels rs bs tree rises all =
     let sizes = sizes_of g.row.LEAF g.row.FAN levels in
     let old = (g.D.Disk.state c.args.disk.now).now in
-    let now = c.in-Ok.ensures.any.same_honesty ∙ honest in
     let p = place c.args.key in
     let limit = length c.args.held.now in
     let l = c.args.level in
     let b = c.args.block in
     let held = IsHeld c.args.held.now in
-    let still = same_medium _ _ (c.in-Ok.ensures.reads honest) in
+    let still = same_medium _ _ (c.in-Ok.ensures.reads (c.in-Ok-Nothing.ensures.any.earlier (c.write_rest.ensures.any.earlier honest))) in
     let above : 0 < l = omega (arith, c.if-level-eq0.false) in
     let read = node_read sizes old.contents limit l b rs bs above tree in
     let cs = read.0 in
-    let way = c.in-Ok.ensures.only honest cs (subst (λ n. IsNodeAt old.contents n l b cs) (sym c.blocks-2.ensures.count) read.1) read.2 in
+    let way = c.in-Ok.ensures.only (c.in-Ok-Nothing.ensures.any.earlier (c.write_rest.ensures.any.earlier honest)) cs (subst (λ n. IsNodeAt old.contents n l b cs) (sym c.blocks-2.ensures.count) read.1) read.2 in
     let only = only_one old.contents limit l b sizes.fan cs read.1 in
     let i = c.in-Ok.way.index in
     let d = c.in-Ok.way.child in
@@ -110,18 +105,18 @@ returns-in-Some-clause-remove g t c honest levels rs bs tree rises all =
     let after = (g.D.Disk.state c.remove_below.new.disk).now.contents in
     let lent = c.as_slice.ensures.value ∙ c.in-Some.ensures.only l cs way.0 way.1 in
     let rest = node_rest sizes old _ limit l b p rs bs cs i d still above tree rises only chosen held (IsHeld c.remove_below.new.held) after (length c.remove_below.new.held) [] c.as_slice.result.now all
-    (held_kept c.args.held.now _ _ (c.in-Ok-Nothing.ensures.moments now)) c.in-Ok-Nothing.ensures.still.still c.in-Ok-Nothing.ensures.still.same_length
+    (held_kept c.args.held.now _ _ (c.in-Ok-Nothing.ensures.moments (c.write_rest.ensures.any.earlier honest))) c.in-Ok-Nothing.ensures.still.still c.in-Ok-Nothing.ensures.still.same_length
     lent
     (λ sub own there rising kept.
-    let got = subst (λ (left : Left). RemovesBelow (Ok left) p sub (λ root. Made (IsHeld c.remove_below.new.held) sizes (g.D.Disk.state c.remove_below.new.disk).now.contents limit root.level (child_of root ∷ []) (without_place p sub))) c.in-Ok-Nothing.field-0-is (c.in-Ok-Nothing.ensures.remove now levels sub own (down sub own there) rising kept) in
+    let got = subst (λ (left : Left). RemovesBelow (Ok left) p sub (λ root. Made (IsHeld c.remove_below.new.held) sizes (g.D.Disk.state c.remove_below.new.disk).now.contents limit root.level (child_of root ∷ []) (without_place p sub))) c.in-Ok-Nothing.field-0-is (c.in-Ok-Nothing.ensures.remove (c.write_rest.ensures.any.earlier honest) levels sub own (down sub own there) rising kept) in
     (got.0, made_none (IsHeld c.remove_below.new.held) sizes after limit (l - 1) (without_place p sub) got.1)) in
     let moved = λ (z : ℕ). Rests c.write_rest.result (without_place p rs) (λ root. Made (IsHeld c.write_rest.new.held) sizes (g.D.Disk.state c.write_rest.new.disk).now.contents z root.level (child_of root ∷ []) (without_place p rs)) in
     rests_removes c.write_rest.result p rs (λ root. Made (IsHeld c.write_rest.new.held) sizes (g.D.Disk.state c.write_rest.new.disk).now.contents limit root.level (child_of root ∷ []) (without_place p rs)) rest.0
-    (subst moved c.in-Ok-Nothing.ensures.still.same_length (c.write_rest.ensures.rest (c.in-Ok-Nothing.ensures.any.same_honesty ∙ now) g.row.LEAF levels (without_place p rs) rest.1 rest.2))
+    (subst moved c.in-Ok-Nothing.ensures.still.same_length (c.write_rest.ensures.rest honest g.row.LEAF levels (without_place p rs) rest.1 rest.2))
 
 pub returns-in-None-clause-moments : goal.returns-in-None-clause-moments
 returns-in-None-clause-moments g t c honest =
-    after_reads _ _ _ _ (c.in-Ok.ensures.reads honest) (c.in-Ok-Nothing.ensures.moments (c.in-Ok.ensures.any.same_honesty ∙ honest))
+    after_reads _ _ _ _ (c.in-Ok.ensures.reads (c.in-Ok-Nothing.ensures.any.earlier honest)) (c.in-Ok-Nothing.ensures.moments honest)
 
 pub returns-in-None-clause-remove : goal.returns-in-None-clause-remove
 returns-in-None-clause-remove g t c honest levels rs bs tree rises all =
@@ -133,36 +128,31 @@ returns-in-None-clause-remove g t c honest levels rs bs tree rises all =
     let above : 0 < l = omega (arith, c.if-level-eq0.false) in
     let read = node_read sizes old.contents limit l b rs bs above tree in
     let cs = read.0 in
-    let way = c.in-Ok.ensures.only honest cs (subst (λ n. IsNodeAt old.contents n l b cs) (sym c.blocks-2.ensures.count) read.1) read.2 in
+    let way = c.in-Ok.ensures.only (c.in-Ok-Nothing.ensures.any.earlier honest) cs (subst (λ n. IsNodeAt old.contents n l b cs) (sym c.blocks-2.ensures.count) read.1) read.2 in
     absurd (c.in-None.ensures.only l cs way.0 way.1)
 
 pub returns-in-Ok-write_bytes-clause-moments : goal.returns-in-Ok-write_bytes-clause-moments
 returns-in-Ok-write_bytes-clause-moments g t c honest =
-    let now = c.in-Ok.ensures.any.same_honesty ∙ honest in
-    let then = c.in-Ok-Rest.ensures.any.same_honesty ∙ now in
-    after_reads _ _ _ _ (c.in-Ok.ensures.reads honest) (spares_then _ _ _ _ _ c.in-Ok-Rest.ensures.still (c.in-Ok-Rest.ensures.moments now) (c.write_bytes.ensures.moments then))
+    after_reads _ _ _ _ (c.in-Ok.ensures.reads (c.in-Ok-Rest.ensures.any.earlier (c.write_bytes.ensures.any.earlier honest))) (spares_then _ _ _ _ _ c.in-Ok-Rest.ensures.still (c.in-Ok-Rest.ensures.moments (c.write_bytes.ensures.any.earlier honest)) (c.write_bytes.ensures.moments honest))
 
 pub returns-in-Err-write_bytes-clause-moments : goal.returns-in-Err-write_bytes-clause-moments
 returns-in-Err-write_bytes-clause-moments g t c honest =
-    let now = c.in-Ok.ensures.any.same_honesty ∙ honest in
-    let then = c.in-Ok-Rest.ensures.any.same_honesty ∙ now in
-    after_reads _ _ _ _ (c.in-Ok.ensures.reads honest) (spares_then _ _ _ _ _ c.in-Ok-Rest.ensures.still (c.in-Ok-Rest.ensures.moments now) (c.write_bytes.ensures.moments then))
+    after_reads _ _ _ _ (c.in-Ok.ensures.reads (c.in-Ok-Rest.ensures.any.earlier (c.write_bytes.ensures.any.earlier honest))) (spares_then _ _ _ _ _ c.in-Ok-Rest.ensures.still (c.in-Ok-Rest.ensures.moments (c.write_bytes.ensures.any.earlier honest)) (c.write_bytes.ensures.moments honest))
 
 pub returns-in-Ok-write_bytes-clause-remove : goal.returns-in-Ok-write_bytes-clause-remove
 returns-in-Ok-write_bytes-clause-remove g t c honest levels rs bs tree rises all =
     let sizes = sizes_of g.row.LEAF g.row.FAN levels in
     let old = (g.D.Disk.state c.args.disk.now).now in
-    let now = c.in-Ok.ensures.any.same_honesty ∙ honest in
     let p = place c.args.key in
     let limit = length c.args.held.now in
     let l = c.args.level in
     let b = c.args.block in
     let held = IsHeld c.args.held.now in
-    let still = same_medium _ _ (c.in-Ok.ensures.reads honest) in
+    let still = same_medium _ _ (c.in-Ok.ensures.reads (c.in-Ok-Rest.ensures.any.earlier (c.in-Ok-write_bytes.ensures.any.earlier honest))) in
     let above : 0 < l = omega (arith, c.if-level-eq0.false) in
     let read = node_read sizes old.contents limit l b rs bs above tree in
     let cs = read.0 in
-    let way = c.in-Ok.ensures.only honest cs (subst (λ n. IsNodeAt old.contents n l b cs) (sym c.blocks-2.ensures.count) read.1) read.2 in
+    let way = c.in-Ok.ensures.only (c.in-Ok-Rest.ensures.any.earlier (c.in-Ok-write_bytes.ensures.any.earlier honest)) cs (subst (λ n. IsNodeAt old.contents n l b cs) (sym c.blocks-2.ensures.count) read.1) read.2 in
     let only = only_one old.contents limit l b sizes.fan cs read.1 in
     let i = c.in-Ok.way.index in
     let d = c.in-Ok.way.child in
@@ -174,44 +164,43 @@ returns-in-Ok-write_bytes-clause-remove g t c honest levels rs bs tree rises all
     let level : root.level ≡ l - 1 = ap (λ (left : Left). level_of left (l - 1)) (sym c.in-Ok-Rest.field-0-is) ∙ c.in-Ok-Rest.ensures.same_level c.if-alone.false in
     let lent = take i cs ++ new ∷ drop (i + 1) cs in
     let rest = node_rest sizes old _ limit l b p rs bs cs i d still above tree rises only chosen held (IsHeld c.remove_below.new.held) after (length c.remove_below.new.held) (new ∷ []) lent all
-    (held_kept c.args.held.now _ _ (c.in-Ok-Rest.ensures.moments now)) c.in-Ok-Rest.ensures.still.still c.in-Ok-Rest.ensures.still.same_length
+    (held_kept c.args.held.now _ _ (c.in-Ok-Rest.ensures.moments (c.in-Ok-write_bytes.ensures.any.earlier honest))) c.in-Ok-Rest.ensures.still.still c.in-Ok-Rest.ensures.still.same_length
     refl
     (λ sub own there rising kept.
-    let got = subst (λ (left : Left). RemovesBelow (Ok left) p sub (λ root. Made (IsHeld c.remove_below.new.held) sizes (g.D.Disk.state c.remove_below.new.disk).now.contents limit root.level (child_of root ∷ []) (without_place p sub))) c.in-Ok-Rest.field-0-is (c.in-Ok-Rest.ensures.remove now levels sub own (down sub own there) rising kept) in
+    let got = subst (λ (left : Left). RemovesBelow (Ok left) p sub (λ root. Made (IsHeld c.remove_below.new.held) sizes (g.D.Disk.state c.remove_below.new.disk).now.contents limit root.level (child_of root ∷ []) (without_place p sub))) c.in-Ok-Rest.field-0-is (c.in-Ok-Rest.ensures.remove (c.in-Ok-write_bytes.ensures.any.earlier honest) levels sub own (down sub own there) rising kept) in
     let M : ℕ → Child → Type 0 = λ n child. Made (IsHeld c.remove_below.new.held) sizes after limit n (child ∷ []) (without_place p sub) in
     (got.0, subst (λ n. M n new) level (subst (M root.level) (sym c.child_of.ensures) got.1))) in
     let within : i < length cs = omega (arith, c.in-Ok.ensures.within.0, way.1) in
     let many = replaced_length cs (new ∷ []) i within in
-    let made = c.in-Ok-write_bytes.ensures.node (c.in-Ok-Rest.ensures.any.same_honesty ∙ now) sizes l lent (without_place p rs) (c.set_child.ensures l cs way.0 within) above c.requires.low (omega (arith, many, within)) (omega (arith, many, read.1.node.few)) (omega (arith, many, read.2)) rest.1 rest.2 in
+    let made = c.in-Ok-write_bytes.ensures.node honest sizes l lent (without_place p rs) (c.set_child.ensures l cs way.0 within) above c.requires.low (omega (arith, many, within)) (omega (arith, many, read.1.node.few)) (omega (arith, many, read.2)) rest.1 rest.2 in
     let moved = subst (λ z. Made (IsHeld c.write_bytes.new.held) sizes (g.D.Disk.state c.write_bytes.new.disk).now.contents z l (c.in-Ok-write_bytes.node ∷ []) (without_place p rs)) c.in-Ok-Rest.ensures.still.same_length made in
     (rest.0, subst (λ (r : Root). Made (IsHeld c.write_bytes.new.held) sizes (g.D.Disk.state c.write_bytes.new.disk).now.contents limit r.level (child_of r ∷ []) (without_place p rs)) (sym c.root_at.ensures) moved)
 
 pub returns-in-Err-remove_below-clause-moments : goal.returns-in-Err-remove_below-clause-moments
 returns-in-Err-remove_below-clause-moments g t c honest =
-    after_reads _ _ _ _ (c.in-Ok.ensures.reads honest) (c.in-Err-remove_below.ensures.moments (c.in-Ok.ensures.any.same_honesty ∙ honest))
+    after_reads _ _ _ _ (c.in-Ok.ensures.reads (c.in-Err-remove_below.ensures.any.earlier honest)) (c.in-Err-remove_below.ensures.moments honest)
 
 pub returns-in-Err-remove_below-clause-remove : goal.returns-in-Err-remove_below-clause-remove
 returns-in-Err-remove_below-clause-remove g t c honest levels rs bs tree rises all =
     let sizes = sizes_of g.row.LEAF g.row.FAN levels in
     let old = (g.D.Disk.state c.args.disk.now).now in
-    let now = c.in-Ok.ensures.any.same_honesty ∙ honest in
     let p = place c.args.key in
     let limit = length c.args.held.now in
     let l = c.args.level in
     let b = c.args.block in
     let held = IsHeld c.args.held.now in
-    let still = same_medium _ _ (c.in-Ok.ensures.reads honest) in
+    let still = same_medium _ _ (c.in-Ok.ensures.reads (c.in-Err-remove_below.ensures.any.earlier honest)) in
     let above : 0 < l = omega (arith, c.if-level-eq0.false) in
     let read = node_read sizes old.contents limit l b rs bs above tree in
     let cs = read.0 in
-    let way = c.in-Ok.ensures.only honest cs (subst (λ n. IsNodeAt old.contents n l b cs) (sym c.blocks-2.ensures.count) read.1) read.2 in
+    let way = c.in-Ok.ensures.only (c.in-Err-remove_below.ensures.any.earlier honest) cs (subst (λ n. IsNodeAt old.contents n l b cs) (sym c.blocks-2.ensures.count) read.1) read.2 in
     let only = only_one old.contents limit l b sizes.fan cs read.1 in
     let i = c.in-Ok.way.index in
     let d = c.in-Ok.way.child in
     let chosen = way.2.chosen in
     let down = λ (sub : List Record) (own : List ℕ) (there : Subtree sizes (g.D.Disk.state c.way_at.new.disk).now.contents limit (l - 1) (get_or cs i d).block sub own). subst (λ (e : Child). Subtree sizes (g.D.Disk.state c.way_at.new.disk).now.contents limit (l - 1) e.block sub own) way.2.child there in
     fault_there sizes old _ limit l b p rs bs cs i d still above tree rises only chosen held (c.in-Err-remove_below.fault ≡ Device) all
-    (λ sub own there rising kept. c.in-Err-remove_below.ensures.remove now levels sub own (down sub own there) rising kept)
+    (λ sub own there rising kept. c.in-Err-remove_below.ensures.remove honest levels sub own (down sub own there) rising kept)
 
 pub returns-in-Err-clause-moments : goal.returns-in-Err-clause-moments
 returns-in-Err-clause-moments g t c honest = reads_keep _ _ _ (c.in-Err.ensures.reads honest) (spares_itself _ _)

@@ -38,28 +38,28 @@ returns-then-records-eq1-clause-remove g c honest fan levels rs bs tree rises =
 
 pub returns-in-Ok-write_leaf_block-clause-moments : goal.returns-in-Ok-write_leaf_block-clause-moments
 returns-in-Ok-write_leaf_block-clause-moments g c honest =
-    after_reads _ _ _ _ (c.in-Ok.ensures.reads honest) (c.write_leaf_block.ensures.moments (c.in-Ok.ensures.any.same_honesty ∙ honest))
+    after_reads _ _ _ _ (c.in-Ok.ensures.reads (c.write_leaf_block.ensures.any.earlier honest)) (c.write_leaf_block.ensures.moments honest)
 
 pub returns-in-Ok-write_leaf_block-clause-remove : goal.returns-in-Ok-write_leaf_block-clause-remove
 returns-in-Ok-write_leaf_block-clause-remove g c honest fan levels rs bs tree rises =
     let sizes = sizes_of g.row.LEAF fan levels in
     let there = subst (λ n. Subtree sizes (g.D.Disk.state c.args.disk.now).now.contents n 0 c.args.block rs bs) (sym c.blocks-2.ensures.count) tree in
     let lent = c.as_slice-records.result.now in
-    let at = opens_leaf sizes _ _ _ _ rs bs lent refl there (λ qs at few. c.as_slice-records.ensures.value ∙ c.in-Ok.ensures.only honest qs at few) in
+    let at = opens_leaf sizes _ _ _ _ rs bs lent refl there (λ qs at few. c.as_slice-records.ensures.value ∙ c.in-Ok.ensures.only (c.in-Ok-write_leaf_block.ensures.any.earlier honest) qs at few) in
     let found = c.in-Some.ensures.found in
     let p = c.args.place in
     let is : c.as_slice.result.now ≡ without_place p rs = c.as_slice.ensures.value ∙ c.without.ensures ∙ sym found.1 ∙ ap (λ (qs : List Record). without_place p qs) at.0 in
     let rising = subst (λ (qs : List Record). RisesFrom 0 (places qs)) (sym is) (without_rises p 0 rs rises) in
     let fitting = subst (AllByRecursion RecordFits) (sym is) (without_each RecordFits p rs (subtree_fit sizes _ _ _ _ rs bs tree)) in
     let few : length c.as_slice.result.now ≤ g.row.LEAF = omega (arith, ap length c.as_slice.ensures.value, ap length c.without.ensures, length-append (take c.in-Some.i lent) (drop (c.in-Some.i + 1) lent), length-take-le c.in-Some.i lent (omega (arith, c.in-Some.ensures.within)), length-drop (c.in-Some.i + 1) lent, c.in-Some.ensures.within, ap length c.as_slice-records.ensures.value, c.in-Ok.ensures.count.1) in
-    let made = c.in-Ok-write_leaf_block.ensures.made (c.in-Ok.ensures.any.same_honesty ∙ honest) sizes few rising fitting in
+    let made = c.in-Ok-write_leaf_block.ensures.made honest sizes few rising fitting in
     let y = (g.D.Disk.state c.write_leaf_block.new.disk).now.contents in
     let M : List Record → Root → Type 0 = λ qs r. Made (IsHeld c.write_leaf_block.new.held) sizes y (length c.args.held.now) r.level (child_of r ∷ []) qs in
     (λ none. found.0 (ap (λ (qs : List Record). value_at p qs) at.0 ∙ none), subst (λ (qs : List Record). M qs c.root_at.result) is (subst (M c.as_slice.result.now) (sym c.root_at.ensures) made))
 
 pub returns-in-Err-write_leaf_block-clause-moments : goal.returns-in-Err-write_leaf_block-clause-moments
 returns-in-Err-write_leaf_block-clause-moments g c honest =
-    after_reads _ _ _ _ (c.in-Ok.ensures.reads honest) (c.write_leaf_block.ensures.moments (c.in-Ok.ensures.any.same_honesty ∙ honest))
+    after_reads _ _ _ _ (c.in-Ok.ensures.reads (c.write_leaf_block.ensures.any.earlier honest)) (c.write_leaf_block.ensures.moments honest)
 
 pub returns-in-Err-clause-moments : goal.returns-in-Err-clause-moments
 returns-in-Err-clause-moments g c honest = reads_keep _ _ _ (c.in-Err.ensures.reads honest) (spares_itself _ _)

@@ -11,8 +11,8 @@ use Rattle.vm_tree.proofs.writing.write_leaves.Goals as goal
 
 pub returns-in-Ok-write_leaf_block-2-clause-moments : goal.returns-in-Ok-write_leaf_block-2-clause-moments
 returns-in-Ok-write_leaf_block-2-clause-moments g c honest =
-    spares_then _ _ _ _ _ c.in-Ok-write_leaf_block.ensures.still (c.in-Ok-write_leaf_block.ensures.moments honest)
-    (c.write_leaf_block-in-Ok-write_leaf_block.ensures.moments (c.in-Ok-write_leaf_block.ensures.any.same_honesty ∙ honest))
+    spares_then _ _ _ _ _ c.in-Ok-write_leaf_block.ensures.still (c.in-Ok-write_leaf_block.ensures.moments (c.write_leaf_block-in-Ok-write_leaf_block.ensures.any.earlier honest))
+    (c.write_leaf_block-in-Ok-write_leaf_block.ensures.moments honest)
 
 pub returns-in-Ok-write_leaf_block-2-clause-made : goal.returns-in-Ok-write_leaf_block-2-clause-made
 returns-in-Ok-write_leaf_block-2-clause-made g c honest sizes leaf rises fit =
@@ -24,16 +24,15 @@ returns-in-Ok-write_leaf_block-2-clause-made g c honest sizes leaf rises fit =
     let F : List Record → Type 0 = AllByRecursion RecordFits in
     let rising = subst R (sym whole) rises in
     let fitting = subst F (sym whole) fit in
-    let later = c.in-Ok-write_leaf_block.ensures.any.same_honesty ∙ honest in
-    let left = c.in-Ok-write_leaf_block.ensures.made honest sizes (omega (arith, length-take half rs, leaf, c.div_ceil-half.ensures, c.requires.few, c.requires.least))
+    let left = c.in-Ok-write_leaf_block.ensures.made (c.write_leaf_block-in-Ok-write_leaf_block.ensures.any.earlier honest) sizes (omega (arith, length-take half rs, leaf, c.div_ceil-half.ensures, c.requires.few, c.requires.least))
     (rises_front 0 (take half rs) (drop half rs) rising) (each_front RecordFits (take half rs) (drop half rs) fitting) in
-    let right = c.in-Ok-write_leaf_block-2.ensures.made later sizes (omega (arith, ap length rest, length-drop half rs, leaf, c.div_ceil-half.ensures, c.requires.few, c.requires.least))
+    let right = c.in-Ok-write_leaf_block-2.ensures.made honest sizes (omega (arith, ap length rest, length-drop half rs, leaf, c.div_ceil-half.ensures, c.requires.few, c.requires.least))
     (subst R (sym rest) (rises_back 0 (take half rs) (drop half rs) rising)) (subst F (sym rest) (each_back RecordFits (take half rs) (drop half rs) fitting)) in
     let after = c.write_leaf_block-in-Ok-write_leaf_block in
-    both_made _ _ sizes _ _ _ _ 0 (held_kept _ _ _ (after.ensures.moments later)) after.ensures.still.still c.in-Ok-write_leaf_block.ensures.still.same_length
+    both_made _ _ sizes _ _ _ _ 0 (held_kept _ _ _ (after.ensures.moments honest)) after.ensures.still.still c.in-Ok-write_leaf_block.ensures.still.same_length
     _ _ _ _ rs (sym whole ∙ ap (λ (z : List Record). take half rs ++ z) (sym rest)) left right
 
 pub returns-in-Err-write_leaf_block-2-clause-moments : goal.returns-in-Err-write_leaf_block-2-clause-moments
 returns-in-Err-write_leaf_block-2-clause-moments g c honest =
-    spares_then _ _ _ _ _ c.in-Ok-write_leaf_block.ensures.still (c.in-Ok-write_leaf_block.ensures.moments honest)
-    (c.write_leaf_block-in-Ok-write_leaf_block.ensures.moments (c.in-Ok-write_leaf_block.ensures.any.same_honesty ∙ honest))
+    spares_then _ _ _ _ _ c.in-Ok-write_leaf_block.ensures.still (c.in-Ok-write_leaf_block.ensures.moments (c.write_leaf_block-in-Ok-write_leaf_block.ensures.any.earlier honest))
+    (c.write_leaf_block-in-Ok-write_leaf_block.ensures.moments honest)
