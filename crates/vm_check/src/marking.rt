@@ -28,8 +28,8 @@ fn mark_below<D: Disk>(
     ensures memory { result ≢ Err TreeFault.Memory }
     ensures once { (D.state disk.new).reads + free_count marks.new ≤ (D.state disk.old).reads + free_count marks.old }
     ensures growing { HoldsMore marks.old marks.new }
-    ensures reads { (D.state disk.old).honest ≡ true → OnlyReads (D.state disk.old) (D.state disk.new) }
-    ensures marked { (D.state disk.old).honest ≡ true → (sizes : Sizes) (rs : List Record) (bs : List ℕ)
+    ensures reads { (D.state disk.new).honest ≡ true → OnlyReads (D.state disk.old) (D.state disk.new) }
+    ensures marked { (D.state disk.new).honest ≡ true → (sizes : Sizes) (rs : List Record) (bs : List ℕ)
         → Subtree sizes (D.state disk.old).now.contents blocks level block rs bs → ClosedTo (D.state disk.old).now.contents level marks.old
         → OkOrDevice result (λ _. MarksMore bs marks.old marks.new) }
 {
@@ -71,8 +71,8 @@ fn mark_root<D: Disk>(
     ensures memory { result ≢ Err TreeFault.Memory }
     ensures once { (D.state disk.new).reads + free_count marks.new ≤ (D.state disk.old).reads + free_count marks.old }
     ensures growing { HoldsMore marks.old marks.new }
-    ensures reads { (D.state disk.old).honest ≡ true → OnlyReads (D.state disk.old) (D.state disk.new) }
-    ensures marked { (D.state disk.old).honest ≡ true → (sizes : Sizes) (bs : List ℕ)
+    ensures reads { (D.state disk.new).honest ≡ true → OnlyReads (D.state disk.old) (D.state disk.new) }
+    ensures marked { (D.state disk.new).honest ≡ true → (sizes : Sizes) (bs : List ℕ)
         → IsUnder sizes (D.state disk.old).now.contents blocks root bs → IsClosed (D.state disk.old).now.contents marks.old
         → OkOrDevice result (λ _. MarksMore bs marks.old marks.new) }
 {
@@ -93,16 +93,16 @@ pub fn mark<D: Disk>(disk: &mut D, roots: &[Root], marks: &mut Marks) -> Result<
     ensures deep { result ≢ Err TreeFault.Deep }
     ensures memory { result ≢ Err TreeFault.Memory }
     ensures growing { HoldsMore marks.old marks.new }
-    ensures reads { (D.state disk.old).honest ≡ true → OnlyReads (D.state disk.old) (D.state disk.new) }
+    ensures reads { (D.state disk.new).honest ≡ true → OnlyReads (D.state disk.old) (D.state disk.new) }
 
     // For each block that it reads it marks one that was not marked.
     ensures once { (D.state disk.new).reads + free_count marks.new ≤ (D.state disk.old).reads + free_count marks.old }
 
     // On trees, whatever the sizes of their blocks, the marks grow by exactly the blocks under the roots.
-    ensures marked { (D.state disk.old).honest ≡ true → (sizes : Sizes) (bs : List ℕ)
+    ensures marked { (D.state disk.new).honest ≡ true → (sizes : Sizes) (bs : List ℕ)
         → AreUnder sizes (D.state disk.old).now.contents (length marks.old) roots.now bs → IsClosed (D.state disk.old).now.contents marks.old
         → OkOrDevice result (λ _. MarksMore bs marks.old marks.new) }
-    ensures closed { (D.state disk.old).honest ≡ true → (sizes : Sizes) (bs : List ℕ)
+    ensures closed { (D.state disk.new).honest ≡ true → (sizes : Sizes) (bs : List ℕ)
         → AreUnder sizes (D.state disk.old).now.contents (length marks.old) roots.now bs → IsClosed (D.state disk.old).now.contents marks.old
         → OnOk result (IsClosed (D.state disk.old).now.contents marks.new) }
 {

@@ -37,12 +37,12 @@ pub(crate) fn read_form<D: Disk>(disk: &mut D, block: u32) -> Result<Form, TreeF
     ensures deep { result ≢ Err TreeFault.Deep }
     ensures memory { result ≢ Err TreeFault.Memory }
     ensures once { (D.state disk.new).reads ≡ (D.state disk.old).reads + 1 }
-    ensures reads { (D.state disk.old).honest ≡ true → OnlyReads (D.state disk.old) (D.state disk.new) }
+    ensures reads { (D.state disk.new).honest ≡ true → OnlyReads (D.state disk.old) (D.state disk.new) }
     ensures some { IfOk result IsFilled }
-    ensures found { (D.state disk.old).honest ≡ true → IfOk result (λ form. IsForm (bytes_at (D.state disk.old).now.contents block) form) }
-    ensures leaf { (D.state disk.old).honest ≡ true → (rs : List Record) → IsLeaf (bytes_at (D.state disk.old).now.contents block) rs
+    ensures found { (D.state disk.new).honest ≡ true → IfOk result (λ form. IsForm (bytes_at (D.state disk.old).now.contents block) form) }
+    ensures leaf { (D.state disk.new).honest ≡ true → (rs : List Record) → IsLeaf (bytes_at (D.state disk.old).now.contents block) rs
         → OkOrDevice result (λ form. IsLeafOf rs form) }
-    ensures node { (D.state disk.old).honest ≡ true → (level : ℕ) (cs : List Child) → IsNode (bytes_at (D.state disk.old).now.contents block) level cs
+    ensures node { (D.state disk.new).honest ≡ true → (level : ℕ) (cs : List Child) → IsNode (bytes_at (D.state disk.old).now.contents block) level cs
         → OkOrDevice result (λ form. IsNodeOf level cs form) }
 {
     let mut bytes = [0; 4096];
@@ -69,8 +69,8 @@ pub(crate) fn children_at<D: Disk>(
     ensures deep { result ≢ Err TreeFault.Deep }
     ensures memory { result ≢ Err TreeFault.Memory }
     ensures once { (D.state disk.new).reads ≡ (D.state disk.old).reads + 1 }
-    ensures reads { (D.state disk.old).honest ≡ true → OnlyReads (D.state disk.old) (D.state disk.new) }
-    ensures only { (D.state disk.old).honest ≡ true → (cs : List Child) → IsNode (bytes_at (D.state disk.old).now.contents block) level cs
+    ensures reads { (D.state disk.new).honest ≡ true → OnlyReads (D.state disk.old) (D.state disk.new) }
+    ensures only { (D.state disk.new).honest ≡ true → (cs : List Child) → IsNode (bytes_at (D.state disk.old).now.contents block) level cs
         → OkOrDevice result (λ children. children.items ≡ cs) }
 {
     let mut bytes = [0; 4096];

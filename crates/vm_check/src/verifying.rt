@@ -50,10 +50,10 @@ fn visit<D: Disk, const LEAF: usize, const FAN: usize>(
     ensures memory { result ≢ Err TreeFault.Memory }
     ensures once { (D.state disk.new).reads + free_count marks.new ≤ (D.state disk.old).reads + free_count marks.old }
     ensures growing { HoldsMore marks.old marks.new }
-    ensures reads { (D.state disk.old).honest ≡ true → OnlyReads (D.state disk.old) (D.state disk.new) }
-    ensures found { (D.state disk.old).honest ≡ true → (levels : ℕ) → Known (sizes_of LEAF FAN levels) (D.state disk.old).now.contents blocks most marks.old spans.old
+    ensures reads { (D.state disk.new).honest ≡ true → OnlyReads (D.state disk.old) (D.state disk.new) }
+    ensures found { (D.state disk.new).honest ≡ true → (levels : ℕ) → Known (sizes_of LEAF FAN levels) (D.state disk.old).now.contents blocks most marks.old spans.old
         → IfOk result (λ span. Visited (sizes_of LEAF FAN levels) (D.state disk.old).now.contents blocks least most block span marks.old spans.old marks.new spans.new) }
-    ensures only { (D.state disk.old).honest ≡ true → (levels l : ℕ) (rs : List Record) (bs : List ℕ) → Known (sizes_of LEAF FAN levels) (D.state disk.old).now.contents blocks most marks.old spans.old
+    ensures only { (D.state disk.new).honest ≡ true → (levels l : ℕ) (rs : List Record) (bs : List ℕ) → Known (sizes_of LEAF FAN levels) (D.state disk.old).now.contents blocks most marks.old spans.old
         → least ≤ l → l ≤ most → Subtree (sizes_of LEAF FAN levels) (D.state disk.old).now.contents blocks l block rs bs → RisesFrom 0 (places rs)
         → OkOrDevice result (λ _. Unit {0}) }
 {
@@ -132,10 +132,10 @@ fn visit_children<D: Disk, const LEAF: usize, const FAN: usize>(
     ensures memory { result ≢ Err TreeFault.Memory }
     ensures once { (D.state disk.new).reads + free_count marks.new ≤ (D.state disk.old).reads + free_count marks.old }
     ensures growing { HoldsMore marks.old marks.new }
-    ensures reads { (D.state disk.old).honest ≡ true → OnlyReads (D.state disk.old) (D.state disk.new) }
-    ensures found { (D.state disk.old).honest ≡ true → (levels : ℕ) → Known (sizes_of LEAF FAN levels) (D.state disk.old).now.contents blocks level marks.old spans.old
+    ensures reads { (D.state disk.new).honest ≡ true → OnlyReads (D.state disk.old) (D.state disk.new) }
+    ensures found { (D.state disk.new).honest ≡ true → (levels : ℕ) → Known (sizes_of LEAF FAN levels) (D.state disk.old).now.contents blocks level marks.old spans.old
         → IfOk result (λ high. VisitedAll (sizes_of LEAF FAN levels) (D.state disk.old).now.contents blocks level children.now high marks.old spans.old marks.new spans.new) }
-    ensures only { (D.state disk.old).honest ≡ true → (levels : ℕ) (rs : List Record) (bs : List ℕ) → Known (sizes_of LEAF FAN levels) (D.state disk.old).now.contents blocks level marks.old spans.old
+    ensures only { (D.state disk.new).honest ≡ true → (levels : ℕ) (rs : List Record) (bs : List ℕ) → Known (sizes_of LEAF FAN levels) (D.state disk.old).now.contents blocks level marks.old spans.old
         → Children (Subtree (sizes_of LEAF FAN levels) (D.state disk.old).now.contents blocks level) children.now rs bs → RisesFrom 0 (places rs)
         → OkOrDevice result (λ _. Unit {0}) }
 {
@@ -181,7 +181,7 @@ pub fn verify<D: Disk, const LEAF: usize, const FAN: usize, const LEVELS: usize>
     requires inside { blocks ≤ (D.state disk.old).blocks }
     ensures any { Goes (result ≡ Err TreeFault.Device) (D.state disk.old) (D.state disk.new) }
     ensures deep { result ≢ Err TreeFault.Deep }
-    ensures reads { (D.state disk.old).honest ≡ true → OnlyReads (D.state disk.old) (D.state disk.new) }
+    ensures reads { (D.state disk.new).honest ≡ true → OnlyReads (D.state disk.old) (D.state disk.new) }
 
     // On any disk there is a flag for each block, and a root for each number.
     ensures count { IfOk result (λ found. length found.1 ≡ blocks) }
@@ -194,9 +194,9 @@ pub fn verify<D: Disk, const LEAF: usize, const FAN: usize, const LEVELS: usize>
     ensures paid { IfOk result (λ found. (D.state disk.new).reads + free_count found.1 ≤ (D.state disk.old).reads + blocks) }
 
     // It is Ok exactly where each number has a tree, unless the device fails or no memory is found.
-    ensures found { (D.state disk.old).honest ≡ true
+    ensures found { (D.state disk.new).honest ≡ true
         → IfOk result (λ found. Found (sizes_of LEAF FAN LEVELS) (D.state disk.old).now.contents blocks numbers.now found.0.items found.1) }
-    ensures only { (D.state disk.old).honest ≡ true → HaveTrees (sizes_of LEAF FAN LEVELS) (D.state disk.old).now.contents blocks numbers.now
+    ensures only { (D.state disk.new).honest ≡ true → HaveTrees (sizes_of LEAF FAN LEVELS) (D.state disk.old).now.contents blocks numbers.now
         → Lists result (λ _. Unit {0}) }
 {
     let (Ok(mut marks), Ok(mut spans)) = (
@@ -237,10 +237,10 @@ fn visit_root<D: Disk, const LEAF: usize, const FAN: usize, const LEVELS: usize>
     ensures once { (D.state disk.new).reads + free_count marks.new ≤ (D.state disk.old).reads + free_count marks.old }
     ensures count { length marks.new ≡ blocks }
     ensures named { IfOk result (λ root. root.block ≡ number) }
-    ensures reads { (D.state disk.old).honest ≡ true → OnlyReads (D.state disk.old) (D.state disk.new) }
-    ensures found { (D.state disk.old).honest ≡ true → Known (sizes_of LEAF FAN LEVELS) (D.state disk.old).now.contents blocks (LEVELS - 1) marks.old spans.old
+    ensures reads { (D.state disk.new).honest ≡ true → OnlyReads (D.state disk.old) (D.state disk.new) }
+    ensures found { (D.state disk.new).honest ≡ true → Known (sizes_of LEAF FAN LEVELS) (D.state disk.old).now.contents blocks (LEVELS - 1) marks.old spans.old
         → IfOk result (λ root. RootVisited (sizes_of LEAF FAN LEVELS) (D.state disk.old).now.contents blocks number root marks.old spans.old marks.new spans.new) }
-    ensures only { (D.state disk.old).honest ≡ true → Known (sizes_of LEAF FAN LEVELS) (D.state disk.old).now.contents blocks (LEVELS - 1) marks.old spans.old
+    ensures only { (D.state disk.new).honest ≡ true → Known (sizes_of LEAF FAN LEVELS) (D.state disk.old).now.contents blocks (LEVELS - 1) marks.old spans.old
         → (m : Map) (bs : List ℕ) → IsTree (sizes_of LEAF FAN LEVELS) (D.state disk.old).now.contents blocks number m bs → OkOrDevice result (λ _. Unit {0}) }
 {
     if number == 0 {

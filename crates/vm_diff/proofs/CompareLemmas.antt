@@ -50,21 +50,21 @@ module _ (sizes : Sizes) (x : Contents) (limit : ℕ) (root : Root) (m : Map) (b
 -- so many differences were found on the way from two walks to two others, by reads alone
 pub record Compares (old new : State) (limit : ℕ) (one_first other_first one other : Walk) (found : List Change) : Type 0 where
   pub goes : Goes ⊥ old new
-  pub reads : old.honest ≡ true → OnlyReads old new
-  pub left : old.honest ≡ true → (sizes : Sizes) (most : ℕ) (changes : List Change) → Differ sizes old.now.contents limit one_first other_first old.reads most changes
+  pub reads : new.honest ≡ true → OnlyReads old new
+  pub left : new.honest ≡ true → (sizes : Sizes) (most : ℕ) (changes : List Change) → Differ sizes old.now.contents limit one_first other_first old.reads most changes
       → (rest : List Change) × (changes ≡ found ++ rest) × Differ sizes old.now.contents limit one other new.reads most rest
 
 pub compares_none : (s : State) (limit : ℕ) (one other : Walk) → Compares s s limit one other one other []
 compares_none s limit one other = record {
-  goes = record { same_blocks = refl; same_honesty = refl; rising = omega arith; fault = λ failed. absurd failed };
+  goes = record { same_blocks = refl; earlier = λ honest. honest; rising = omega arith; fault = λ failed. absurd failed };
   reads = λ honest. started s (λ m. m ≡ s.now) refl;
   left = λ honest sizes most changes d. (changes, refl, d);
 }
 
-module _ (old mid : State) (limit : ℕ) (one_first other_first one other : Walk) (found : List Change) (so_far : Compares old mid limit one_first other_first one other found) where
+module _ (old mid new : State) (back : new.honest ≡ true → mid.honest ≡ true) (limit : ℕ) (one_first other_first one other : Walk) (found : List Change) (so_far : Compares old mid limit one_first other_first one other found) where
   -- what holds of one step on trees
   abbrev pub Stepped : (Sizes → ℕ → List Change → Type 0) → Type 0
-  Stepped P = mid.honest ≡ true → (sizes : Sizes) (most : ℕ) (changes : List Change) → Differ sizes mid.now.contents limit one other mid.reads most changes → P sizes most changes
+  Stepped P = new.honest ≡ true → (sizes : Sizes) (most : ℕ) (changes : List Change) → Differ sizes mid.now.contents limit one other mid.reads most changes → P sizes most changes
 
   -- what one step does on trees, after which so many reads were made
   abbrev pub Steps : Result Step TreeFault → Walk → Walk → ℕ → Type 0
@@ -72,54 +72,54 @@ module _ (old mid : State) (limit : ℕ) (one_first other_first one other : Walk
 
   -- what the next step answers
   next_step : (result : Result Step TreeFault) (one_now other_now : Walk) (reads : ℕ) → Steps result one_now other_now reads
-      → old.honest ≡ true → (sizes : Sizes) (most : ℕ) (changes : List Change) → Differ sizes old.now.contents limit one_first other_first old.reads most changes
+      → new.honest ≡ true → (sizes : Sizes) (most : ℕ) (changes : List Change) → Differ sizes old.now.contents limit one_first other_first old.reads most changes
       → (rest : List Change) × (changes ≡ found ++ rest) × StepsBy result rest (Differ sizes old.now.contents limit one_now other_now reads most)
   next_step result one_now other_now reads steps honest sizes most changes d =
-      let l = so_far.left honest sizes most changes d in
-      let still = same_medium old mid (so_far.reads honest) in
+      let l = so_far.left (back honest) sizes most changes d in
+      let still = same_medium old mid (so_far.reads (back honest)) in
       let R : Medium → Type 0 = λ m. Differ sizes m.contents limit one other mid.reads most l.0 → StepsBy result l.0 (Differ sizes m.contents limit one_now other_now reads most) in
-      (l.0, l.1, subst R still (steps (so_far.goes.same_honesty ∙ honest) sizes most l.0) l.2)
+      (l.0, l.1, subst R still (steps honest sizes most l.0) l.2)
 
   -- no more is read than is counted
-  pub compares_bound : (now : ℕ) → Stepped (λ sizes most changes. now ≤ most) → old.honest ≡ true → (sizes : Sizes) (most : ℕ) (changes : List Change) → Differ sizes old.now.contents limit one_first other_first old.reads most changes → now ≤ most
+  pub compares_bound : (now : ℕ) → Stepped (λ sizes most changes. now ≤ most) → new.honest ≡ true → (sizes : Sizes) (most : ℕ) (changes : List Change) → Differ sizes old.now.contents limit one_first other_first old.reads most changes → now ≤ most
   compares_bound now bound honest sizes most changes d =
-      let l = so_far.left honest sizes most changes d in
+      let l = so_far.left (back honest) sizes most changes d in
       let R : Medium → Type 0 = λ m. Differ sizes m.contents limit one other mid.reads most l.0 → now ≤ most in
-      subst R (same_medium old mid (so_far.reads honest)) (bound (so_far.goes.same_honesty ∙ honest) sizes most l.0) l.2
+      subst R (same_medium old mid (so_far.reads (back honest))) (bound honest sizes most l.0) l.2
 
   step_is : (step is_step : Step) (one_now other_now : Walk) (reads : ℕ) → step ≡ is_step → Steps (Ok step) one_now other_now reads → Steps (Ok is_step) one_now other_now reads
   step_is step is_step one_now other_now reads is steps = subst (λ (s : Step). Steps (Ok s) one_now other_now reads) is steps
 
-  pub compares_more : (fails : Type 0) (new : State) (one_now other_now : Walk) (step : Step) → step ≡ Moved → Goes fails mid new → (mid.honest ≡ true → OnlyReads mid new) → Steps (Ok step) one_now other_now new.reads
+  pub compares_more : (fails : Type 0) (one_now other_now : Walk) (step : Step) → step ≡ Moved → Goes fails mid new → (new.honest ≡ true → OnlyReads mid new) → Steps (Ok step) one_now other_now new.reads
       → Compares old new limit one_first other_first one_now other_now found
-  compares_more fails new one_now other_now step is goes reads steps = record {
+  compares_more fails one_now other_now step is goes reads steps = record {
     goes = goes_then ⊥ fails ⊥ old mid new so_far.goes goes (λ failed. absurd failed);
-    reads = λ honest. reads_then old mid new (so_far.reads honest) (reads (so_far.goes.same_honesty ∙ honest));
+    reads = λ honest. reads_then old mid new (so_far.reads (back honest)) (reads honest);
     left = next_step (Ok Moved) one_now other_now new.reads (step_is step Moved one_now other_now new.reads is steps);
   }
 
-  pub compares_found : (fails : Type 0) (new : State) (one_now other_now : Walk) (step : Step) (change : Change) → step ≡ Found change → Goes fails mid new → (mid.honest ≡ true → OnlyReads mid new) → Steps (Ok step) one_now other_now new.reads
+  pub compares_found : (fails : Type 0) (one_now other_now : Walk) (step : Step) (change : Change) → step ≡ Found change → Goes fails mid new → (new.honest ≡ true → OnlyReads mid new) → Steps (Ok step) one_now other_now new.reads
       → Compares old new limit one_first other_first one_now other_now (found ++ change ∷ [])
-  compares_found fails new one_now other_now step change is goes reads steps = record {
+  compares_found fails one_now other_now step change is goes reads steps = record {
     goes = goes_then ⊥ fails ⊥ old mid new so_far.goes goes (λ failed. absurd failed);
-    reads = λ honest. reads_then old mid new (so_far.reads honest) (reads (so_far.goes.same_honesty ∙ honest));
+    reads = λ honest. reads_then old mid new (so_far.reads (back honest)) (reads honest);
     left = λ honest sizes most changes d.
         let n = next_step (Ok (Found change)) one_now other_now new.reads (step_is step (Found change) one_now other_now new.reads is steps) honest sizes most changes d in
         (n.2.0, n.1 ∙ ap (λ (cs : List Change). found ++ cs) n.2.1 ∙ sym (append_assoc found (change ∷ []) n.2.0), n.2.2);
   }
 
-  pub compares_reads : (new : State) → (mid.honest ≡ true → OnlyReads mid new) → old.honest ≡ true → OnlyReads old new
-  compares_reads new reads honest = reads_then old mid new (so_far.reads honest) (reads (so_far.goes.same_honesty ∙ honest))
+  pub compares_reads : (new.honest ≡ true → OnlyReads mid new) → new.honest ≡ true → OnlyReads old new
+  compares_reads reads honest = reads_then old mid new (so_far.reads (back honest)) (reads honest)
 
   module _ (one_now other_now : Walk) (now : ℕ) where
     -- at the end all differences were found
-    pub all_found : (step : Step) → step ≡ Done → Steps (Ok step) one_now other_now now → old.honest ≡ true → (sizes : Sizes) (most : ℕ) (changes : List Change) → Differ sizes old.now.contents limit one_first other_first old.reads most changes → found ≡ changes
+    pub all_found : (step : Step) → step ≡ Done → Steps (Ok step) one_now other_now now → new.honest ≡ true → (sizes : Sizes) (most : ℕ) (changes : List Change) → Differ sizes old.now.contents limit one_first other_first old.reads most changes → found ≡ changes
     all_found step is steps honest sizes most changes d =
         let n = next_step (Ok Done) one_now other_now now (step_is step Done one_now other_now now is steps) honest sizes most changes d in
         sym (n.1 ∙ ap (λ (cs : List Change). found ++ cs) n.2 ∙ append-nil found)
 
     -- where one more is found, there are some
-    pub some_found : (step : Step) (change : Change) → step ≡ Found change → Steps (Ok step) one_now other_now now → old.honest ≡ true → (sizes : Sizes) (most : ℕ) (changes : List Change) → Differ sizes old.now.contents limit one_first other_first old.reads most changes
+    pub some_found : (step : Step) (change : Change) → step ≡ Found change → Steps (Ok step) one_now other_now now → new.honest ≡ true → (sizes : Sizes) (most : ℕ) (changes : List Change) → Differ sizes old.now.contents limit one_first other_first old.reads most changes
         → changes ≡ [] → ⊥
     some_found step change is steps honest sizes most changes d none =
         let n = next_step (Ok (Found change)) one_now other_now now (step_is step (Found change) one_now other_now now is steps) honest sizes most changes d in
@@ -127,7 +127,7 @@ module _ (old mid : State) (limit : ℕ) (one_first other_first one other : Walk
         omega (arith, ap (λ (cs : List Change). length cs) (sym none ∙ split), length-append found (change ∷ n.2.0))
 
     -- a fault on trees is that the device failed
-    pub step_failed : (e : TreeFault) → Steps (Err e) one_now other_now now → old.honest ≡ true → (sizes : Sizes) (most : ℕ) (changes : List Change) → Differ sizes old.now.contents limit one_first other_first old.reads most changes → e ≡ Device
+    pub step_failed : (e : TreeFault) → Steps (Err e) one_now other_now now → new.honest ≡ true → (sizes : Sizes) (most : ℕ) (changes : List Change) → Differ sizes old.now.contents limit one_first other_first old.reads most changes → e ≡ Device
     step_failed e steps honest sizes most changes d = (next_step (Err e) one_now other_now now steps honest sizes most changes d).2
 
 -- two walks from roots differ as their maps do, and each block that one tree alone has may be read once

@@ -28,16 +28,16 @@ pub fn changed<D: Disk>(
     requires { blocks ≤ (D.state disk.old).blocks }
     ensures any { Goes (result ≡ Err TreeFault.Device) (D.state disk.old) (D.state disk.new) }
     ensures deep { result ≢ Err TreeFault.Deep }
-    ensures reads { (D.state disk.old).honest ≡ true → OnlyReads (D.state disk.old) (D.state disk.new) }
+    ensures reads { (D.state disk.new).honest ≡ true → OnlyReads (D.state disk.old) (D.state disk.new) }
 
     // On trees it is just the differences of their maps, whatever the sizes of their blocks, unless
     // the device fails or no memory is found.
-    ensures changes { (D.state disk.old).honest ≡ true → (sizes : Sizes) (m n : Map) (bs cs : List ℕ)
+    ensures changes { (D.state disk.new).honest ≡ true → (sizes : Sizes) (m n : Map) (bs cs : List ℕ)
         → IsRooted sizes (D.state disk.old).now.contents blocks first m bs → IsRooted sizes (D.state disk.old).now.contents blocks second n cs
         → Lists result (λ changes. changes.items ≡ delta m n) }
 
     // It makes no more reads than there are blocks that only one of the trees has, whatever it answers.
-    ensures bound { (D.state disk.old).honest ≡ true → (sizes : Sizes) (m n : Map) (bs cs : List ℕ)
+    ensures bound { (D.state disk.new).honest ≡ true → (sizes : Sizes) (m n : Map) (bs cs : List ℕ)
         → IsRooted sizes (D.state disk.old).now.contents blocks first m bs → IsRooted sizes (D.state disk.old).now.contents blocks second n cs
         → (D.state disk.new).reads ≤ (D.state disk.old).reads + unshared bs cs }
 {
@@ -72,16 +72,16 @@ pub fn same<D: Disk>(
     ensures any { Goes (result ≡ Err TreeFault.Device) (D.state disk.old) (D.state disk.new) }
     ensures deep { result ≢ Err TreeFault.Deep }
     ensures memory { result ≢ Err TreeFault.Memory }
-    ensures reads { (D.state disk.old).honest ≡ true → OnlyReads (D.state disk.old) (D.state disk.new) }
+    ensures reads { (D.state disk.new).honest ≡ true → OnlyReads (D.state disk.old) (D.state disk.new) }
 
     // On trees it tells whether their maps differ nowhere, whatever the sizes of their blocks, unless
     // the device fails.
-    ensures equal { (D.state disk.old).honest ≡ true → (sizes : Sizes) (m n : Map) (bs cs : List ℕ)
+    ensures equal { (D.state disk.new).honest ≡ true → (sizes : Sizes) (m n : Map) (bs cs : List ℕ)
         → IsRooted sizes (D.state disk.old).now.contents blocks first m bs → IsRooted sizes (D.state disk.old).now.contents blocks second n cs
         → OkOrDevice result (λ equal. IsTrue equal ↔ (delta m n ≡ [])) }
 
     // It makes no more reads than there are blocks that only one of the trees has, whatever it answers.
-    ensures bound { (D.state disk.old).honest ≡ true → (sizes : Sizes) (m n : Map) (bs cs : List ℕ)
+    ensures bound { (D.state disk.new).honest ≡ true → (sizes : Sizes) (m n : Map) (bs cs : List ℕ)
         → IsRooted sizes (D.state disk.old).now.contents blocks first m bs → IsRooted sizes (D.state disk.old).now.contents blocks second n cs
         → (D.state disk.new).reads ≤ (D.state disk.old).reads + unshared bs cs }
 {

@@ -29,9 +29,9 @@ pub(crate) fn open<D: Disk>(
     ensures deep { result ≢ Err TreeFault.Deep }
     ensures memory { result ≢ Err TreeFault.Memory }
     ensures once { (D.state disk.new).reads ≤ (D.state disk.old).reads + 1 }
-    ensures reads { (D.state disk.old).honest ≡ true → OnlyReads (D.state disk.old) (D.state disk.new) }
+    ensures reads { (D.state disk.new).honest ≡ true → OnlyReads (D.state disk.old) (D.state disk.new) }
     ensures falls { OnOk result (size walk.new < size walk.old) }
-    ensures opens { (D.state disk.old).honest ≡ true → (sizes : Sizes) (rs : List Record) (bs : List ℕ)
+    ensures opens { (D.state disk.new).honest ≡ true → (sizes : Sizes) (rs : List Record) (bs : List ℕ)
         → IsAhead sizes (D.state disk.old).now.contents blocks walk.old rs bs
         → OkOrDevice result (λ _. Passes sizes (D.state disk.old).now.contents blocks (Front.Top top) None walk.new rs bs) }
 {
@@ -64,9 +64,9 @@ pub(crate) fn pass<D: Disk>(
     ensures deep { result ≢ Err TreeFault.Deep }
     ensures memory { result ≢ Err TreeFault.Memory }
     ensures once { (D.state disk.new).reads ≤ (D.state disk.old).reads + length (opened_at (front_of walk.old)) }
-    ensures reads { (D.state disk.old).honest ≡ true → OnlyReads (D.state disk.old) (D.state disk.new) }
+    ensures reads { (D.state disk.new).honest ≡ true → OnlyReads (D.state disk.old) (D.state disk.new) }
     ensures falls { front_of walk.old ≢ Front.End → OnOk result (size walk.new < size walk.old) }
-    ensures passes { (D.state disk.old).honest ≡ true → (sizes : Sizes) (rs : List Record) (bs : List ℕ)
+    ensures passes { (D.state disk.new).honest ≡ true → (sizes : Sizes) (rs : List Record) (bs : List ℕ)
         → IsAhead sizes (D.state disk.old).now.contents blocks walk.old rs bs
         → OkOrDevice result (λ taken. Passes sizes (D.state disk.old).now.contents blocks (front_of walk.old) taken walk.new rs bs) }
 {

@@ -34,8 +34,8 @@ pub(crate) fn leaf_at<D: Disk>(
     ensures memory { result ≢ Err TreeFault.Memory }
     ensures once { (D.state disk.new).reads ≤ (D.state disk.old).reads + 1 }
     ensures few { IfOk result (λ records. length records.items ≤ 16) }
-    ensures reads { (D.state disk.old).honest ≡ true → OnlyReads (D.state disk.old) (D.state disk.new) }
-    ensures only { (D.state disk.old).honest ≡ true → (rs : List Record) → IsLeafAt (D.state disk.old).now.contents blocks block rs
+    ensures reads { (D.state disk.new).honest ≡ true → OnlyReads (D.state disk.old) (D.state disk.new) }
+    ensures only { (D.state disk.new).honest ≡ true → (rs : List Record) → IsLeafAt (D.state disk.old).now.contents blocks block rs
         → OkOrDevice result (λ records. records.items ≡ rs) }
 {
     if !is_data(blocks, block) {
@@ -64,8 +64,8 @@ pub(crate) fn node_at<D: Disk>(
     ensures memory { result ≢ Err TreeFault.Memory }
     ensures once { (D.state disk.new).reads ≤ (D.state disk.old).reads + 1 }
     ensures few { IfOk result (λ children. length children.items ≤ 256) }
-    ensures reads { (D.state disk.old).honest ≡ true → OnlyReads (D.state disk.old) (D.state disk.new) }
-    ensures only { (D.state disk.old).honest ≡ true → (cs : List Child) → IsNodeAt (D.state disk.old).now.contents blocks level block cs
+    ensures reads { (D.state disk.new).honest ≡ true → OnlyReads (D.state disk.old) (D.state disk.new) }
+    ensures only { (D.state disk.new).honest ≡ true → (cs : List Child) → IsNodeAt (D.state disk.old).now.contents blocks level block cs
         → OkOrDevice result (λ children. children.items ≡ cs) }
 {
     if !is_data(blocks, block) {

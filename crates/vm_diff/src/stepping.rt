@@ -45,12 +45,12 @@ fn meet_tops<D: Disk>(
     ensures any { Goes (result ≡ Err TreeFault.Device) (D.state disk.old) (D.state disk.new) }
     ensures deep { result ≢ Err TreeFault.Deep }
     ensures memory { result ≢ Err TreeFault.Memory }
-    ensures reads { (D.state disk.old).honest ≡ true → OnlyReads (D.state disk.old) (D.state disk.new) }
+    ensures reads { (D.state disk.new).honest ≡ true → OnlyReads (D.state disk.old) (D.state disk.new) }
     ensures falls { Falls result (size one.old + size other.old) (size one.new + size other.new) }
-    ensures bound { (D.state disk.old).honest ≡ true → (sizes : Sizes) (most : ℕ) (changes : List Change)
+    ensures bound { (D.state disk.new).honest ≡ true → (sizes : Sizes) (most : ℕ) (changes : List Change)
         → Differ sizes (D.state disk.old).now.contents blocks one.old other.old (D.state disk.old).reads most changes
         → (D.state disk.new).reads ≤ most }
-    ensures steps { (D.state disk.old).honest ≡ true → (sizes : Sizes) (most : ℕ) (changes : List Change)
+    ensures steps { (D.state disk.new).honest ≡ true → (sizes : Sizes) (most : ℕ) (changes : List Change)
         → Differ sizes (D.state disk.old).now.contents blocks one.old other.old (D.state disk.old).reads most changes
         → StepsBy result changes (Differ sizes (D.state disk.old).now.contents blocks one.new other.new (D.state disk.new).reads most) }
 {
@@ -100,12 +100,12 @@ fn meet<D: Disk>(
     ensures any { Goes (result ≡ Err TreeFault.Device) (D.state disk.old) (D.state disk.new) }
     ensures deep { result ≢ Err TreeFault.Deep }
     ensures memory { result ≢ Err TreeFault.Memory }
-    ensures reads { (D.state disk.old).honest ≡ true → OnlyReads (D.state disk.old) (D.state disk.new) }
+    ensures reads { (D.state disk.new).honest ≡ true → OnlyReads (D.state disk.old) (D.state disk.new) }
     ensures falls { Falls result (size one.old + size other.old) (size one.new + size other.new) }
-    ensures bound { (D.state disk.old).honest ≡ true → (sizes : Sizes) (most : ℕ) (changes : List Change)
+    ensures bound { (D.state disk.new).honest ≡ true → (sizes : Sizes) (most : ℕ) (changes : List Change)
         → Differ sizes (D.state disk.old).now.contents blocks one.old other.old (D.state disk.old).reads most changes
         → (D.state disk.new).reads ≤ most }
-    ensures steps { (D.state disk.old).honest ≡ true → (sizes : Sizes) (most : ℕ) (changes : List Change)
+    ensures steps { (D.state disk.new).honest ≡ true → (sizes : Sizes) (most : ℕ) (changes : List Change)
         → Differ sizes (D.state disk.old).now.contents blocks one.old other.old (D.state disk.old).reads most changes
         → StepsBy result changes (Differ sizes (D.state disk.old).now.contents blocks one.new other.new (D.state disk.new).reads most) }
 {
@@ -138,12 +138,12 @@ pub(crate) fn step<D: Disk>(
     ensures any { Goes (result ≡ Err TreeFault.Device) (D.state disk.old) (D.state disk.new) }
     ensures deep { result ≢ Err TreeFault.Deep }
     ensures memory { result ≢ Err TreeFault.Memory }
-    ensures reads { (D.state disk.old).honest ≡ true → OnlyReads (D.state disk.old) (D.state disk.new) }
+    ensures reads { (D.state disk.new).honest ≡ true → OnlyReads (D.state disk.old) (D.state disk.new) }
     ensures falls { Falls result (size one.old + size other.old) (size one.new + size other.new) }
-    ensures bound { (D.state disk.old).honest ≡ true → (sizes : Sizes) (most : ℕ) (changes : List Change)
+    ensures bound { (D.state disk.new).honest ≡ true → (sizes : Sizes) (most : ℕ) (changes : List Change)
         → Differ sizes (D.state disk.old).now.contents blocks one.old other.old (D.state disk.old).reads most changes
         → (D.state disk.new).reads ≤ most }
-    ensures steps { (D.state disk.old).honest ≡ true → (sizes : Sizes) (most : ℕ) (changes : List Change)
+    ensures steps { (D.state disk.new).honest ≡ true → (sizes : Sizes) (most : ℕ) (changes : List Change)
         → Differ sizes (D.state disk.old).now.contents blocks one.old other.old (D.state disk.old).reads most changes
         → StepsBy result changes (Differ sizes (D.state disk.old).now.contents blocks one.new other.new (D.state disk.new).reads most) }
 {

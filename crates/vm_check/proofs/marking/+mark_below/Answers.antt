@@ -29,7 +29,8 @@ loop-child-init g t c =
     let grows = subst (HoldsMore c.args.marks.now) (sym c.set.ensures) (taken_holds_more c.args.marks.now c.args.block) in
     record {
       blocks = any.same_blocks;
-      honesty = any.same_honesty;
+      earlier = any.earlier;
+      since = λ honest. honest;
       rising = any.rising;
       many = grows.same_length ∙ c.requires.bits;
       once = rw c.set.ensures (omega (arith, c.children_at.ensures.once, less));
@@ -42,9 +43,9 @@ pub returns-in-Err-mark_below-clause-marked : goal.returns-in-Err-mark_below-cla
 returns-in-Err-mark_below-clause-marked g t c honest sizes rs bs tree closed =
     let so_far = c.loop-child.invariant in
     let inside = subtree_top sizes _ _ _ _ rs bs tree in
-    let start = node_start sizes _ _ _ _ rs bs _ (omega (arith, c.if-level-eq0.false)) tree (λ ds node. c.as_slice-child-items.ensures.value ∙ c.in-Ok.ensures.only honest ds node) in
-    node_fault sizes _ _ _ _ _ _ bs _ _ _ _ _ _ (same_medium _ _ (so_far.reads honest)) (omega (arith, inside.1, c.requires.bits)) c.set.ensures (omega (arith, c.if-level-eq0.false))
-    c.loop-child-test.true start closed (so_far.marked honest sizes) (λ qs ds. c.in-Err-mark_below.ensures.marked (so_far.honesty ∙ honest) sizes qs ds)
+    let start = node_start sizes _ _ _ _ rs bs _ (omega (arith, c.if-level-eq0.false)) tree (λ ds node. c.as_slice-child-items.ensures.value ∙ c.in-Ok.ensures.only (so_far.since (c.in-Err-mark_below.ensures.any.earlier honest)) ds node) in
+    node_fault sizes _ _ _ _ _ _ bs _ _ _ _ _ _ (same_medium _ _ (so_far.reads (c.in-Err-mark_below.ensures.any.earlier honest))) (omega (arith, inside.1, c.requires.bits)) c.set.ensures (omega (arith, c.if-level-eq0.false))
+    c.loop-child-test.true start closed (so_far.marked (c.in-Err-mark_below.ensures.any.earlier honest) sizes) (λ qs ds. c.in-Err-mark_below.ensures.marked honest sizes qs ds)
 
 pub loop-child-preserved : goal.loop-child-preserved
 loop-child-preserved g t c =
@@ -53,20 +54,21 @@ loop-child-preserved g t c =
     let grows = c.mark_below.ensures.growing in
     record {
       blocks = any.same_blocks ∙ so_far.blocks;
-      honesty = any.same_honesty ∙ so_far.honesty;
+      earlier = λ honest. so_far.earlier (any.earlier honest);
+      since = λ honest. so_far.since (any.earlier honest);
       rising = omega (arith, any.rising, so_far.rising);
       many = grows.same_length ∙ so_far.many;
       once = omega (arith, c.mark_below.ensures.once, so_far.once);
       growing = holds_more_then _ _ _ so_far.growing grows;
-      reads = λ honest. reads_then _ _ _ (so_far.reads honest) (c.mark_below.ensures.reads (so_far.honesty ∙ honest));
-      marked = λ honest sizes. child_more sizes _ _ _ _ _ _ _ _ _ _ (same_medium _ _ (so_far.reads honest)) c.loop-child-test.true (so_far.marked honest sizes)
-          (λ rs ds. c.in-Ok-mark_below.ensures.marked (so_far.honesty ∙ honest) sizes rs ds);
+      reads = λ honest. reads_then _ _ _ (so_far.reads (c.in-Ok-mark_below.ensures.any.earlier honest)) (c.mark_below.ensures.reads honest);
+      marked = λ honest sizes. child_more sizes _ _ _ _ _ _ _ _ _ _ (same_medium _ _ (so_far.reads (c.in-Ok-mark_below.ensures.any.earlier honest))) c.loop-child-test.true (so_far.marked (c.in-Ok-mark_below.ensures.any.earlier honest) sizes)
+          (λ rs ds. c.in-Ok-mark_below.ensures.marked honest sizes rs ds);
     }
 
 pub returns-after-loop-child-clause-marked : goal.returns-after-loop-child-clause-marked
 returns-after-loop-child-clause-marked g t c honest sizes rs bs tree closed =
     let inside = subtree_top sizes _ _ _ _ rs bs tree in
-    let start = node_start sizes _ _ _ _ rs bs _ (omega (arith, c.if-level-eq0.false)) tree (λ ds node. c.as_slice-child-items.ensures.value ∙ c.in-Ok.ensures.only honest ds node) in
+    let start = node_start sizes _ _ _ _ rs bs _ (omega (arith, c.if-level-eq0.false)) tree (λ ds node. c.as_slice-child-items.ensures.value ∙ c.in-Ok.ensures.only (c.loop-child.invariant.since honest) ds node) in
     node_marked sizes _ _ _ _ _ bs _ _ _ _ (omega (arith, inside.1, c.requires.bits)) c.set.ensures (omega (arith, c.if-level-eq0.false)) c.loop-child-test.false start closed
     (c.loop-child.invariant.marked honest sizes)
 
@@ -78,4 +80,4 @@ returns-in-Err-clause-marked g t c honest sizes rs bs tree closed =
 pub returns-in-Err-mark_below-clause-reads : goal.returns-in-Err-mark_below-clause-reads
 returns-in-Err-mark_below-clause-reads g t c honest =
     let so_far = c.loop-child.invariant in
-    reads_then _ _ _ (so_far.reads honest) (c.mark_below.ensures.reads (so_far.honesty ∙ honest))
+    reads_then _ _ _ (so_far.reads (c.mark_below.ensures.any.earlier honest)) (c.mark_below.ensures.reads honest)

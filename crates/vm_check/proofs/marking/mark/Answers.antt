@@ -9,7 +9,7 @@ use Rattle.vm_check.proofs.marking.mark.Goals as goal
 pub loop-root-init : goal.loop-root-init
 loop-root-init g c = record {
   blocks = refl;
-  honesty = refl;
+  earlier = λ honest. honest;
   rising = omega arith;
   many = sym c.blocks-blocks.ensures.count;
   once = omega arith;
@@ -21,13 +21,13 @@ loop-root-init g c = record {
 pub returns-in-Err-clause-reads : goal.returns-in-Err-clause-reads
 returns-in-Err-clause-reads g c honest =
     let so_far = c.loop-root.invariant in
-    reads_then _ _ _ (so_far.reads honest) (c.mark_root.ensures.reads (so_far.honesty ∙ honest))
+    reads_then _ _ _ (so_far.reads (c.mark_root.ensures.any.earlier honest)) (c.mark_root.ensures.reads honest)
 
 pub returns-in-Err-clause-marked : goal.returns-in-Err-clause-marked
 returns-in-Err-clause-marked g c honest sizes bs under closed =
     let so_far = c.loop-root.invariant in
-    root_fault sizes _ _ _ _ _ _ _ _ _ (same_medium _ _ (so_far.reads honest)) c.loop-root-test.true (so_far.marked honest sizes)
-    (λ ds. c.in-Err.ensures.marked (so_far.honesty ∙ honest) sizes ds) bs (in_blocks _ _ _ _ _ _ c.blocks-blocks.ensures.count under) closed
+    root_fault sizes _ _ _ _ _ _ _ _ _ (same_medium _ _ (so_far.reads (c.in-Err.ensures.any.earlier honest))) c.loop-root-test.true (so_far.marked (c.in-Err.ensures.any.earlier honest) sizes)
+    (λ ds. c.in-Err.ensures.marked honest sizes ds) bs (in_blocks _ _ _ _ _ _ c.blocks-blocks.ensures.count under) closed
 
 pub loop-root-preserved : goal.loop-root-preserved
 loop-root-preserved g c =
@@ -36,14 +36,14 @@ loop-root-preserved g c =
     let grows = c.mark_root.ensures.growing in
     record {
       blocks = any.same_blocks ∙ so_far.blocks;
-      honesty = any.same_honesty ∙ so_far.honesty;
+      earlier = λ honest. so_far.earlier (any.earlier honest);
       rising = omega (arith, any.rising, so_far.rising);
       many = grows.same_length ∙ so_far.many;
       once = omega (arith, c.mark_root.ensures.once, so_far.once);
       growing = holds_more_then _ _ _ so_far.growing grows;
-      reads = λ honest. reads_then _ _ _ (so_far.reads honest) (c.mark_root.ensures.reads (so_far.honesty ∙ honest));
-      marked = λ honest sizes. root_more sizes _ _ _ _ _ _ _ _ _ (same_medium _ _ (so_far.reads honest)) c.loop-root-test.true (so_far.marked honest sizes)
-          (λ ds. c.in-Ok.ensures.marked (so_far.honesty ∙ honest) sizes ds);
+      reads = λ honest. reads_then _ _ _ (so_far.reads (c.in-Ok.ensures.any.earlier honest)) (c.mark_root.ensures.reads honest);
+      marked = λ honest sizes. root_more sizes _ _ _ _ _ _ _ _ _ (same_medium _ _ (so_far.reads (c.in-Ok.ensures.any.earlier honest))) c.loop-root-test.true (so_far.marked (c.in-Ok.ensures.any.earlier honest) sizes)
+          (λ ds. c.in-Ok.ensures.marked honest sizes ds);
     }
 
 pub returns-clause-marked : goal.returns-clause-marked

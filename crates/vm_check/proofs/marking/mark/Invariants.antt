@@ -10,11 +10,11 @@ invariant-loop-root g l =
     let old = g.D.Disk.state l.fn.disk in
     let now = g.D.Disk.state l.disk in record {
       blocks : now.blocks ≡ old.blocks;
-      honesty : now.honest ≡ old.honest;
+      earlier : now.honest ≡ true → old.honest ≡ true;
       rising : old.failures ≤ now.failures;
       many : length l.marks ≡ l.blocks;
       once : now.reads + free_count l.marks ≤ old.reads + free_count l.fn.marks;
       growing : HoldsMore l.fn.marks l.marks;
-      reads : old.honest ≡ true → OnlyReads old now;
-      marked : old.honest ≡ true → (sizes : Sizes) → RootsSoFar sizes l.blocks old.now.contents l.roots l.root-index l.fn.marks l.marks;
+      reads : now.honest ≡ true → OnlyReads old now;
+      marked : now.honest ≡ true → (sizes : Sizes) → RootsSoFar sizes l.blocks old.now.contents l.roots l.root-index l.fn.marks l.marks;
     }

@@ -61,18 +61,18 @@ visit-returns-else-len-clause-found g t c honest levels known =
 
 pub visit-returns-in-Ok-clause-reads : goal.visit-returns-in-Ok-clause-reads
 visit-returns-in-Ok-clause-reads g t c honest =
-    reads_then _ _ _ (c.read_form.ensures.reads honest) (c.visit_children.ensures.reads (c.read_form.ensures.any.same_honesty ∙ honest))
+    reads_then _ _ _ (c.read_form.ensures.reads (c.visit_children.ensures.any.earlier honest)) (c.visit_children.ensures.reads honest)
 
 pub visit-returns-in-Err-visit_children-clause-reads : goal.visit-returns-in-Err-visit_children-clause-reads
 visit-returns-in-Err-visit_children-clause-reads g t c honest =
-    reads_then _ _ _ (c.read_form.ensures.reads honest) (c.visit_children.ensures.reads (c.read_form.ensures.any.same_honesty ∙ honest))
+    reads_then _ _ _ (c.read_form.ensures.reads (c.visit_children.ensures.any.earlier honest)) (c.visit_children.ensures.reads honest)
 
 pub visit-returns-in-Ok-clause-found : goal.visit-returns-in-Ok-clause-found
 visit-returns-in-Ok-clause-found g t c honest levels known =
     let inside = c.is_data.ensures.0 c.if-not-is_data.false in
-    let node = rw c.in-Ok-Node.field-0-is at c.in-Ok-Node.ensures.found honest in
+    let node = rw c.in-Ok-Node.field-0-is at c.in-Ok-Node.ensures.found (c.in-Ok.ensures.any.earlier honest) in
     let first = record (span_at c.args.spans.now c.args.block) { level = c.in-Ok-Node.node.level } in
-    node_exit _ _ _ _ _ _ _ c.as_slice-children.result.now _ first _ _ _ _ _ _ (same_medium _ _ (c.read_form.ensures.reads honest))
+    node_exit _ _ _ _ _ _ _ c.as_slice-children.result.now _ first _ _ _ _ _ _ (same_medium _ _ (c.read_form.ensures.reads (c.in-Ok.ensures.any.earlier honest)))
     (record {
       is = c.set.ensures;
       inside = omega (arith, inside.1, c.requires.bits);
@@ -84,14 +84,14 @@ visit-returns-in-Ok-clause-found g t c honest levels known =
       at_least = c.if-level-least.false;
       at_most = c.if-level-most.false;
     })
-    (c.visit_children.auto.spans ∙ length-set c.args.spans.now c.args.block first) refl refl (λ here. c.in-Ok.ensures.found (c.read_form.ensures.any.same_honesty ∙ honest) levels here) known
+    (c.visit_children.auto.spans ∙ length-set c.args.spans.now c.args.block first) refl refl (λ here. c.in-Ok.ensures.found honest levels here) known
 
 pub visit-returns-in-Err-visit_children-clause-only : goal.visit-returns-in-Err-visit_children-clause-only
 visit-returns-in-Err-visit_children-clause-only g t c honest levels l rs bs known least most tree rises =
     let inside = c.is_data.ensures.0 c.if-not-is_data.false in
-    let node = rw c.in-Ok-Node.field-0-is at c.in-Ok-Node.ensures.found honest in
+    let node = rw c.in-Ok-Node.field-0-is at c.in-Ok-Node.ensures.found (c.in-Err-visit_children.ensures.any.earlier honest) in
     let first = record (span_at c.args.spans.now c.args.block) { level = c.in-Ok-Node.node.level } in
-    node_fault _ _ _ _ _ _ _ l c.as_slice-children.result.now first _ _ _ rs bs _ (same_medium _ _ (c.read_form.ensures.reads honest))
+    node_fault _ _ _ _ _ _ _ l c.as_slice-children.result.now first _ _ _ rs bs _ (same_medium _ _ (c.read_form.ensures.reads (c.in-Err-visit_children.ensures.any.earlier honest)))
     (record {
       is = c.set.ensures;
       inside = omega (arith, inside.1, c.requires.bits);
@@ -103,7 +103,7 @@ visit-returns-in-Err-visit_children-clause-only g t c honest levels l rs bs know
       at_least = c.if-level-least.false;
       at_most = c.if-level-most.false;
     })
-    known tree (λ ds here under. c.in-Err-visit_children.ensures.only (c.read_form.ensures.any.same_honesty ∙ honest) levels rs ds here under rises)
+    known tree (λ ds here under. c.in-Err-visit_children.ensures.only honest levels rs ds here under rises)
 
 pub visit-returns-in-Err-clause-only : goal.visit-returns-in-Err-clause-only
 visit-returns-in-Err-clause-only g t c honest levels l rs bs known least most tree rises =
@@ -111,23 +111,23 @@ visit-returns-in-Err-clause-only g t c honest levels l rs bs known least most tr
 
 pub visit_children-returns-in-Err-clause-reads : goal.visit_children-returns-in-Err-clause-reads
 visit_children-returns-in-Err-clause-reads g t c honest =
-    let so_far = c.loop-i.invariant in reads_then _ _ _ (so_far.reads honest) (c.visit.ensures.reads (so_far.same_honesty ∙ honest))
+    let so_far = c.loop-i.invariant in reads_then _ _ _ (so_far.reads (c.visit.ensures.any.earlier honest)) (c.visit.ensures.reads honest)
 
 pub visit_children-returns-then-ne-clause-reads : goal.visit_children-returns-then-ne-clause-reads
 visit_children-returns-then-ne-clause-reads g t c honest =
-    let so_far = c.loop-i.invariant in reads_then _ _ _ (so_far.reads honest) (c.visit.ensures.reads (so_far.same_honesty ∙ honest))
+    let so_far = c.loop-i.invariant in reads_then _ _ _ (so_far.reads (c.visit.ensures.any.earlier honest)) (c.visit.ensures.reads honest)
 
 pub visit_children-returns-in-Err-clause-only : goal.visit_children-returns-in-Err-clause-only
 visit_children-returns-in-Err-clause-only g t c honest levels rs bs known under rises =
     let so_far = c.loop-i.invariant in
-    child_fault _ _ _ _ _ _ _ _ rs bs _ _ _ _ _ _ (same_medium _ _ (so_far.reads honest)) c.loop-i-test.true (so_far.found honest levels known) under rises
-    (λ qs ds here sub up. c.in-Err.ensures.only (so_far.same_honesty ∙ honest) levels _ qs ds here (omega arith) (omega arith) sub up)
+    child_fault _ _ _ _ _ _ _ _ rs bs _ _ _ _ _ _ (same_medium _ _ (so_far.reads (c.in-Err.ensures.any.earlier honest))) c.loop-i-test.true (so_far.found (c.in-Err.ensures.any.earlier honest) levels known) under rises
+    (λ qs ds here sub up. c.in-Err.ensures.only honest levels _ qs ds here (omega arith) (omega arith) sub up)
 
 pub visit_children-returns-then-ne-clause-only : goal.visit_children-returns-then-ne-clause-only
 visit_children-returns-then-ne-clause-only g t c honest levels rs bs known under rises =
     let so_far = c.loop-i.invariant in
-    let fits = child_fits _ _ _ _ _ _ _ _ rs bs _ _ _ _ _ _ _ _ (same_medium _ _ (so_far.reads honest)) c.loop-i-test.true (so_far.found honest levels known) under rises
-    (λ here. c.in-Ok.ensures.found (so_far.same_honesty ∙ honest) levels here) in
+    let fits = child_fits _ _ _ _ _ _ _ _ rs bs _ _ _ _ _ _ _ _ (same_medium _ _ (so_far.reads (c.in-Ok.ensures.any.earlier honest))) c.loop-i-test.true (so_far.found (c.in-Ok.ensures.any.earlier honest) levels known) under rises
+    (λ here. c.in-Ok.ensures.found honest levels here) in
     elim c.then-ne.branch [
       | visit_children-then-ne-via-then-ne w ↦ absurd (keys_differ _ _ _ c.ne.ensures w.if-ne.true fits.low)
       | visit_children-then-ne-via-else-ne+then-not-is_below_next w ↦ absurd (false≢true (sym w.if-not-is_below_next.true ∙ w.is_below_next.ensures.1 fits.below))
@@ -140,13 +140,13 @@ visit_children-loop-i-preserved g t c =
     let grows = c.visit.ensures.growing in
     record {
       same_blocks = any.same_blocks ∙ so_far.same_blocks;
-      same_honesty = any.same_honesty ∙ so_far.same_honesty;
+      earlier = λ honest. so_far.earlier (any.earlier honest);
       rising = omega (arith, any.rising, so_far.rising);
       many = grows.same_length ∙ so_far.many;
       once = omega (arith, c.visit.ensures.once, so_far.once);
       growing = holds_more_then _ _ _ so_far.growing grows;
-      reads = λ honest. reads_then _ _ _ (so_far.reads honest) (c.visit.ensures.reads (so_far.same_honesty ∙ honest));
-      found = λ honest levels known. child_step _ _ _ _ _ _ _ _ _ _ _ _ _ _ _ _ (same_medium _ _ (so_far.reads honest)) c.loop-i-test.true (keys_same _ _ _ c.ne.ensures c.if-ne.false) so_far.below (so_far.found honest levels known)
-          (λ here. c.in-Ok.ensures.found (so_far.same_honesty ∙ honest) levels here);
+      reads = λ honest. reads_then _ _ _ (so_far.reads (c.in-Ok.ensures.any.earlier honest)) (c.visit.ensures.reads honest);
+      found = λ honest levels known. child_step _ _ _ _ _ _ _ _ _ _ _ _ _ _ _ _ (same_medium _ _ (so_far.reads (c.in-Ok.ensures.any.earlier honest))) c.loop-i-test.true (keys_same _ _ _ c.ne.ensures c.if-ne.false) so_far.below (so_far.found (c.in-Ok.ensures.any.earlier honest) levels known)
+          (λ here. c.in-Ok.ensures.found honest levels here);
       below = λ some more. c.is_below_next.ensures.0 c.if-not-is_below_next.false more;
     }

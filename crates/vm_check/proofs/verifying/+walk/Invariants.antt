@@ -20,13 +20,13 @@ invariant-visit_children-loop-i g l =
     let old = g.D.Disk.state l.fn.disk in
     let now = g.D.Disk.state l.disk in record {
       same_blocks : now.blocks ≡ old.blocks;
-      same_honesty : now.honest ≡ old.honest;
+      earlier : now.honest ≡ true → old.honest ≡ true;
       rising : old.failures ≤ now.failures;
       many : length l.marks ≡ l.blocks;
       once : now.reads + free_count l.marks ≤ old.reads + free_count l.fn.marks;
       growing : HoldsMore l.fn.marks l.marks;
-      reads : old.honest ≡ true → OnlyReads old now;
-      found : old.honest ≡ true → (levels : ℕ) → Known (sizes_of g.row.LEAF g.row.FAN levels) old.now.contents l.blocks l.level l.fn.marks l.initial.spans
+      reads : now.honest ≡ true → OnlyReads old now;
+      found : now.honest ≡ true → (levels : ℕ) → Known (sizes_of g.row.LEAF g.row.FAN levels) old.now.contents l.blocks l.level l.fn.marks l.initial.spans
           → VisitedAll (sizes_of g.row.LEAF g.row.FAN levels) old.now.contents l.blocks l.level (take l.i l.children) l.high l.fn.marks l.initial.spans l.marks l.spans;
       below : 0 < l.i → l.i < length l.children → place l.high < slice_index_or (lows l.children) l.i 0;
     }

@@ -12,12 +12,12 @@ invariant-loop-number g l =
     let old = g.D.Disk.state l.fn.disk in
     let now = g.D.Disk.state l.disk in record {
       same_blocks : now.blocks ≡ old.blocks;
-      same_honesty : now.honest ≡ old.honest;
+      earlier : now.honest ≡ true → old.honest ≡ true;
       rising : old.failures ≤ now.failures;
       many : length l.marks ≡ l.blocks;
       room : length l.spans ≡ l.blocks;
       once : now.reads + free_count l.marks ≤ old.reads + l.blocks;
       named : map (λ (r : Root). r.block) l.roots.items ≡ take l.number-index l.numbers;
-      reads : old.honest ≡ true → OnlyReads old now;
-      found : old.honest ≡ true → FoundSoFar (sizes_of g.row.LEAF g.row.FAN g.row.LEVELS) old.now.contents l.blocks (take l.number-index l.numbers) l.roots.items l.marks l.spans;
+      reads : now.honest ≡ true → OnlyReads old now;
+      found : now.honest ≡ true → FoundSoFar (sizes_of g.row.LEAF g.row.FAN g.row.LEVELS) old.now.contents l.blocks (take l.number-index l.numbers) l.roots.items l.marks l.spans;
     }
