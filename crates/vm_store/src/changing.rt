@@ -28,9 +28,9 @@ fn make_change<D: Disk>(
     ensures memory { result ≢ Err TreeFault.Memory }
     ensures still { HoldsMore held.old held.new }
     ensures taken { free_count held.old ≤ free_count held.new + 15 }
-    ensures moments { (D.state disk.old).honest ≡ true
+    ensures moments { (D.state disk.new).honest ≡ true
         → Throughout (D.state disk.old) (D.state disk.new) (Spares (is_free held.old) (D.state disk.old).now) }
-    ensures changed { (D.state disk.old).honest ≡ true → (m : Map)
+    ensures changed { (D.state disk.new).honest ≡ true → (m : Map)
         → Grown sizes (IsHeld held.old) (D.state disk.old).now.contents (length held.old) root m
         → Makes result (MeetsFullPath (D.state disk.new).now.contents (length held.old) m (change.now ∷ []))
         (λ r. Grown sizes (IsHeld held.new) (D.state disk.new).now.contents (length held.old) r (with_change m change.now)) }
@@ -60,12 +60,12 @@ pub fn make_changes<D: Disk>(
 
     // What is held stays held, and at no moment has a block that was held other bytes than before.
     ensures still { HoldsMore held.old held.new }
-    ensures moments { (D.state disk.old).honest ≡ true
+    ensures moments { (D.state disk.new).honest ≡ true
         → Throughout (D.state disk.old) (D.state disk.new) (Spares (is_free held.old) (D.state disk.old).now) }
 
     // On a tree in held blocks the answer is a root that has the map with the changes made, or Deep where one of
     // them meets a full path, unless the device fails.
-    ensures changed { (D.state disk.old).honest ≡ true → (m : Map)
+    ensures changed { (D.state disk.new).honest ≡ true → (m : Map)
         → Grown sizes (IsHeld held.old) (D.state disk.old).now.contents (length held.old) root m
         → Makes result (MeetsFullPath (D.state disk.new).now.contents (length held.old) m changes.now)
         (λ r. Grown sizes (IsHeld held.new) (D.state disk.new).now.contents (length held.old) r (with_changes m changes.now)) }

@@ -40,13 +40,13 @@ fn read_sides<D: Disk>(
     requires { blocks ≤ (D.state disk.old).blocks }
     ensures any { Goes (result ≡ Err Refusal.Device) (D.state disk.old) (D.state disk.new) }
     ensures never { result ≢ Err Refusal.Failed }
-    ensures reads { (D.state disk.old).honest ≡ true → OnlyReads (D.state disk.old) (D.state disk.new) }
-    ensures sides { (D.state disk.old).honest ≡ true → (base parent own : Map) (bs ps os : List ℕ)
+    ensures reads { (D.state disk.new).honest ≡ true → OnlyReads (D.state disk.old) (D.state disk.new) }
+    ensures sides { (D.state disk.new).honest ≡ true → (base parent own : Map) (bs ps os : List ℕ)
         → IsRooted sizes (D.state disk.old).now.contents blocks roots.base base bs
         → IsRooted sizes (D.state disk.old).now.contents blocks roots.parent parent ps
         → IsRooted sizes (D.state disk.old).now.contents blocks roots.own own os
         → ReadsOr result (λ s. (s.theirs.items ≡ delta base parent) × (s.mine.items ≡ delta base own)) (λ r. ⊥) }
-    ensures bound { (D.state disk.old).honest ≡ true → (base parent own : Map) (bs ps os : List ℕ)
+    ensures bound { (D.state disk.new).honest ≡ true → (base parent own : Map) (bs ps os : List ℕ)
         → IsRooted sizes (D.state disk.old).now.contents blocks roots.base base bs
         → IsRooted sizes (D.state disk.old).now.contents blocks roots.parent parent ps
         → IsRooted sizes (D.state disk.old).now.contents blocks roots.own own os
@@ -72,13 +72,13 @@ pub fn conflicts_of<D: Disk>(
     requires { blocks ≤ (D.state disk.old).blocks }
     ensures any { Goes (result ≡ Err Refusal.Device) (D.state disk.old) (D.state disk.new) }
     ensures never { result ≢ Err Refusal.Failed }
-    ensures reads { (D.state disk.old).honest ≡ true → OnlyReads (D.state disk.old) (D.state disk.new) }
-    ensures conflicts { (D.state disk.old).honest ≡ true → (base parent own : Map) (bs ps os : List ℕ)
+    ensures reads { (D.state disk.new).honest ≡ true → OnlyReads (D.state disk.old) (D.state disk.new) }
+    ensures conflicts { (D.state disk.new).honest ≡ true → (base parent own : Map) (bs ps os : List ℕ)
         → IsRooted sizes (D.state disk.old).now.contents blocks roots.base base bs
         → IsRooted sizes (D.state disk.old).now.contents blocks roots.parent parent ps
         → IsRooted sizes (D.state disk.old).now.contents blocks roots.own own os
         → ReadsOr result (λ list. list.items ≡ conflicts base parent own) (λ r. ⊥) }
-    ensures bound { (D.state disk.old).honest ≡ true → (base parent own : Map) (bs ps os : List ℕ)
+    ensures bound { (D.state disk.new).honest ≡ true → (base parent own : Map) (bs ps os : List ℕ)
         → IsRooted sizes (D.state disk.old).now.contents blocks roots.base base bs
         → IsRooted sizes (D.state disk.old).now.contents blocks roots.parent parent ps
         → IsRooted sizes (D.state disk.old).now.contents blocks roots.own own os
@@ -99,8 +99,8 @@ pub fn changes_of_merge<D: Disk>(
     requires { blocks ≤ (D.state disk.old).blocks }
     ensures any { Goes (result ≡ Err Refusal.Device) (D.state disk.old) (D.state disk.new) }
     ensures never { result ≢ Err Refusal.Failed }
-    ensures reads { (D.state disk.old).honest ≡ true → OnlyReads (D.state disk.old) (D.state disk.new) }
-    ensures changes { (D.state disk.old).honest ≡ true → (base parent own : Map) (bs ps os : List ℕ)
+    ensures reads { (D.state disk.new).honest ≡ true → OnlyReads (D.state disk.old) (D.state disk.new) }
+    ensures changes { (D.state disk.new).honest ≡ true → (base parent own : Map) (bs ps os : List ℕ)
         → IsRooted sizes (D.state disk.old).now.contents blocks roots.base base bs
         → IsRooted sizes (D.state disk.old).now.contents blocks roots.parent parent ps
         → IsRooted sizes (D.state disk.old).now.contents blocks roots.own own os

@@ -86,24 +86,24 @@ impl<D: Disk> Store<D> {
         ensures memory { result ≡ Err Refusal.Memory → IsMerge command.now }
 
         // The answer is the model's, or one that the device, or want of blocks or memory forces.
-        ensures answer { (D.state (disk_of self.old)).honest ≡ true → has_failed self.old ≡ false
+        ensures answer { (D.state (disk_of self.new)).honest ≡ true → has_failed self.old ≡ false
             → (s : State) (holds : Holds self.old s)
             → Answers self.old self.new s holds command.now result }
-        ensures state { (D.state (disk_of self.old)).honest ≡ true → has_failed self.old ≡ false → result ≢ Err Refusal.Device
+        ensures state { (D.state (disk_of self.new)).honest ≡ true → has_failed self.old ≡ false → result ≢ Err Refusal.Device
             → (s : State) → Holds self.old s → Holds self.new (next s command.now result) }
 
         // A crash at any moment leaves what was committed, or what the command commits.
-        ensures crash { (D.state (disk_of self.old)).honest ≡ true → has_failed self.old ≡ false
+        ensures crash { (D.state (disk_of self.new)).honest ≡ true → has_failed self.old ≡ false
             → (s : State) → Holds self.old s
             → Throughout (D.state (disk_of self.old)) (D.state (disk_of self.new)) (Leaves (LeftBy Shows s command.now)) }
 
         // For at each moment the slots that it may leave in use are whole, clean and held.
-        ensures guarded { (D.state (disk_of self.old)).honest ≡ true → has_failed self.old ≡ false
+        ensures guarded { (D.state (disk_of self.new)).honest ≡ true → has_failed self.old ≡ false
             → (s : State) → Holds self.old s
             → Throughout (D.state (disk_of self.old)) (D.state (disk_of self.new)) (IsGuarded (held_of self.new)) }
 
         // After a Reclaim just the spare blocks are free.
-        ensures reclaimed { (D.state (disk_of self.old)).honest ≡ true → has_failed self.old ≡ false → command.now ≡ Command.Reclaim
+        ensures reclaimed { (D.state (disk_of self.new)).honest ≡ true → has_failed self.old ≡ false → command.now ≡ Command.Reclaim
             → (s : State) (holds : Holds self.old s) → OnOk result (free_of self.new ≡ spare_of holds) }
     {
         if self.failed {
@@ -120,14 +120,14 @@ impl<D: Disk> Store<D> {
         ensures never { result ≢ Err Refusal.Failed }
         ensures memory { result ≡ Err Refusal.Memory → IsMerge command.now }
         ensures same { OnErr result (entries_of self.new ≡ entries_of self.old) }
-        ensures answer { (D.state (disk_of self.old)).honest ≡ true → (s : State) (holds : Holds self.old s)
+        ensures answer { (D.state (disk_of self.new)).honest ≡ true → (s : State) (holds : Holds self.old s)
             → Answers self.old self.new s holds command.now result }
-        ensures state { (D.state (disk_of self.old)).honest ≡ true → result ≢ Err Refusal.Device → (s : State) → Holds self.old s → Holds self.new (next s command.now result) }
-        ensures crash { (D.state (disk_of self.old)).honest ≡ true → (s : State) → Holds self.old s
+        ensures state { (D.state (disk_of self.new)).honest ≡ true → result ≢ Err Refusal.Device → (s : State) → Holds self.old s → Holds self.new (next s command.now result) }
+        ensures crash { (D.state (disk_of self.new)).honest ≡ true → (s : State) → Holds self.old s
             → Throughout (D.state (disk_of self.old)) (D.state (disk_of self.new)) (Leaves (LeftBy Shows s command.now)) }
-        ensures guarded { (D.state (disk_of self.old)).honest ≡ true → (s : State) → Holds self.old s
+        ensures guarded { (D.state (disk_of self.new)).honest ≡ true → (s : State) → Holds self.old s
             → Throughout (D.state (disk_of self.old)) (D.state (disk_of self.new)) (IsGuarded (held_of self.new)) }
-        ensures reclaimed { (D.state (disk_of self.old)).honest ≡ true → command.now ≡ Command.Reclaim → (s : State) (holds : Holds self.old s) → OnOk result (free_of self.new ≡ spare_of holds) }
+        ensures reclaimed { (D.state (disk_of self.new)).honest ≡ true → command.now ≡ Command.Reclaim → (s : State) (holds : Holds self.old s) → OnOk result (free_of self.new ≡ spare_of holds) }
     {
         match command {
             Command::Put { alt, key, value } => self.put(alt, *key, value),
@@ -151,10 +151,10 @@ impl<D: Disk> Store<D> {
         ensures never { (result ≢ Err Refusal.Failed) × (result ≢ Err Refusal.Memory) }
         ensures same { entries_of self.new ≡ entries_of self.old }
         ensures roots { root_of self.new ≡ root_of self.old }
-        ensures reads { (D.state (disk_of self.old)).honest ≡ true → OnlyReads (D.state (disk_of self.old)) (D.state (disk_of self.new)) }
-        ensures only { (D.state (disk_of self.old)).honest ≡ true → (s : State) → Holds self.old s → IfErr result (λ refusal. refusal ≡ Refusal.Device) }
-        ensures exact { (D.state (disk_of self.old)).honest ≡ true → (s : State) (holds : Holds self.old s) → OnOk result (free_of self.new ≡ spare_of holds) }
-        ensures state { (D.state (disk_of self.old)).honest ≡ true → (s : State) → Holds self.old s → Holds self.new s }
+        ensures reads { (D.state (disk_of self.new)).honest ≡ true → OnlyReads (D.state (disk_of self.old)) (D.state (disk_of self.new)) }
+        ensures only { (D.state (disk_of self.new)).honest ≡ true → (s : State) → Holds self.old s → IfErr result (λ refusal. refusal ≡ Refusal.Device) }
+        ensures exact { (D.state (disk_of self.new)).honest ≡ true → (s : State) (holds : Holds self.old s) → OnOk result (free_of self.new ≡ spare_of holds) }
+        ensures state { (D.state (disk_of self.new)).honest ≡ true → (s : State) → Holds self.old s → Holds self.new s }
     {
         self.marks.clear();
         match mark_versions(&mut self.disk, &self.committed, &mut self.marks) {
@@ -185,10 +185,10 @@ impl<D: Disk> Store<D> {
         ensures same { entries_of self.new ≡ entries_of self.old }
         ensures roots { root_of self.new ≡ root_of self.old }
         ensures free { IfOk result (λ yes. IsTrue yes → 16 * changes ≤ free_of self.new) }
-        ensures reads { (D.state (disk_of self.old)).honest ≡ true → OnlyReads (D.state (disk_of self.old)) (D.state (disk_of self.new)) }
-        ensures only { (D.state (disk_of self.old)).honest ≡ true → (s : State) → Holds self.old s → IfErr result (λ refusal. refusal ≡ Refusal.Device) }
-        ensures spare { (D.state (disk_of self.old)).honest ≡ true → (s : State) (holds : Holds self.old s) → IfOk result (λ yes. IsTrue yes ↔ (16 * changes ≤ spare_of holds)) }
-        ensures state { (D.state (disk_of self.old)).honest ≡ true → (s : State) → Holds self.old s → Holds self.new s }
+        ensures reads { (D.state (disk_of self.new)).honest ≡ true → OnlyReads (D.state (disk_of self.old)) (D.state (disk_of self.new)) }
+        ensures only { (D.state (disk_of self.new)).honest ≡ true → (s : State) → Holds self.old s → IfErr result (λ refusal. refusal ≡ Refusal.Device) }
+        ensures spare { (D.state (disk_of self.new)).honest ≡ true → (s : State) (holds : Holds self.old s) → IfOk result (λ yes. IsTrue yes ↔ (16 * changes ≤ spare_of holds)) }
+        ensures state { (D.state (disk_of self.new)).honest ≡ true → (s : State) → Holds self.old s → Holds self.new s }
     {
         if self.has_free(changes) {
             return Ok(true);
@@ -205,12 +205,12 @@ impl<D: Disk> Store<D> {
         ensures failed { has_failed self.new ≡ has_failed self.old }
         ensures never { (result ≢ Err Refusal.Failed) × (result ≢ Err Refusal.Memory) }
         ensures same { OnErr result (entries_of self.new ≡ entries_of self.old) }
-        ensures answer { (D.state (disk_of self.old)).honest ≡ true → (s : State) (holds : Holds self.old s)
+        ensures answer { (D.state (disk_of self.new)).honest ≡ true → (s : State) (holds : Holds self.old s)
             → Answers self.old self.new s holds (Command.Put alt.now key value.now) result }
-        ensures state { (D.state (disk_of self.old)).honest ≡ true → (s : State) → Holds self.old s → Holds self.new (next s (Command.Put alt.now key value.now) result) }
-        ensures crash { (D.state (disk_of self.old)).honest ≡ true → (s : State) → Holds self.old s
+        ensures state { (D.state (disk_of self.new)).honest ≡ true → (s : State) → Holds self.old s → Holds self.new (next s (Command.Put alt.now key value.now) result) }
+        ensures crash { (D.state (disk_of self.new)).honest ≡ true → (s : State) → Holds self.old s
             → Throughout (D.state (disk_of self.old)) (D.state (disk_of self.new)) (Leaves (LeftBy Shows s (Command.Put alt.now key value.now))) }
-        ensures guarded { (D.state (disk_of self.old)).honest ≡ true → (s : State) → Holds self.old s
+        ensures guarded { (D.state (disk_of self.new)).honest ≡ true → (s : State) → Holds self.old s
             → Throughout (D.state (disk_of self.old)) (D.state (disk_of self.new)) (IsGuarded (held_of self.new)) }
     {
         let Some(i) = position_of(&self.working, alt) else {
@@ -237,10 +237,10 @@ impl<D: Disk> Store<D> {
         ensures failed { has_failed self.new ≡ has_failed self.old }
         ensures result { (result ≡ Ok Answer.Done) ⊎ (result ≡ Err Refusal.Device) }
         ensures same { OnErr result (entries_of self.new ≡ entries_of self.old) }
-        ensures state { (D.state (disk_of self.old)).honest ≡ true → (s : State) → Holds self.old s → OnOk result (Holds self.new (next s Command.Commit result)) }
-        ensures crash { (D.state (disk_of self.old)).honest ≡ true → (s : State) → Holds self.old s
+        ensures state { (D.state (disk_of self.new)).honest ≡ true → (s : State) → Holds self.old s → OnOk result (Holds self.new (next s Command.Commit result)) }
+        ensures crash { (D.state (disk_of self.new)).honest ≡ true → (s : State) → Holds self.old s
             → Throughout (D.state (disk_of self.old)) (D.state (disk_of self.new)) (Leaves (LeftBy Shows s Command.Commit)) }
-        ensures guarded { (D.state (disk_of self.old)).honest ≡ true → (s : State) → Holds self.old s
+        ensures guarded { (D.state (disk_of self.new)).honest ≡ true → (s : State) → Holds self.old s
             → Throughout (D.state (disk_of self.old)) (D.state (disk_of self.new)) (IsGuarded (held_of self.new)) }
     {
         write_entries(&mut self.entries, &self.working);
@@ -264,10 +264,10 @@ impl<D: Disk> Store<D> {
         ensures same { entries_of self.new ≡ entries_of self.old }
         ensures no_memory { result ≢ Err Refusal.Memory }
 
-        ensures value { (D.state (disk_of self.old)).honest ≡ true → has_failed self.old ≡ false → (s : State) → Holds self.old s
+        ensures value { (D.state (disk_of self.new)).honest ≡ true → has_failed self.old ≡ false → (s : State) → Holds self.old s
             → (result ≡ Err Refusal.Device) ⊎ (result ≡ value_in s.working alt.now key) }
-        ensures state { (D.state (disk_of self.old)).honest ≡ true → (s : State) → Holds self.old s → Holds self.new s }
-        ensures reads { (D.state (disk_of self.old)).honest ≡ true → OnlyReads (D.state (disk_of self.old)) (D.state (disk_of self.new)) }
+        ensures state { (D.state (disk_of self.new)).honest ≡ true → (s : State) → Holds self.old s → Holds self.new s }
+        ensures reads { (D.state (disk_of self.new)).honest ≡ true → OnlyReads (D.state (disk_of self.old)) (D.state (disk_of self.new)) }
     {
         if self.failed {
             return Err(Refusal::Failed);

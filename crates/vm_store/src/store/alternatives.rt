@@ -27,10 +27,10 @@ impl<D: Disk> Store<D> {
         ensures failed { has_failed self.new ≡ has_failed self.old }
         ensures never { (result ≢ Err Refusal.Failed) × (result ≢ Err Refusal.Memory) }
         ensures same { OnErr result (entries_of self.new ≡ entries_of self.old) }
-        ensures answer { (D.state (disk_of self.old)).honest ≡ true → (s : State) (holds : Holds self.old s)
+        ensures answer { (D.state (disk_of self.new)).honest ≡ true → (s : State) (holds : Holds self.old s)
             → Answers self.old self.new s holds (Command.New name.now parent.now) result }
-        ensures state { (D.state (disk_of self.old)).honest ≡ true → (s : State) → Holds self.old s → Holds self.new (next s (Command.New name.now parent.now) result) }
-        ensures crash { (D.state (disk_of self.old)).honest ≡ true → (s : State) → Holds self.old s
+        ensures state { (D.state (disk_of self.new)).honest ≡ true → (s : State) → Holds self.old s → Holds self.new (next s (Command.New name.now parent.now) result) }
+        ensures crash { (D.state (disk_of self.new)).honest ≡ true → (s : State) → Holds self.old s
             → Throughout (D.state (disk_of self.old)) (D.state (disk_of self.new)) (Leaves (LeftBy Shows s (Command.New name.now parent.now))) }
     {
         let Some(i) = position_of(&self.working, parent) else {
@@ -61,10 +61,10 @@ impl<D: Disk> Store<D> {
         ensures failed { has_failed self.new ≡ has_failed self.old }
         ensures never { (result ≢ Err Refusal.Failed) × (result ≢ Err Refusal.Memory) }
         ensures same { OnErr result (entries_of self.new ≡ entries_of self.old) }
-        ensures answer { (D.state (disk_of self.old)).honest ≡ true → (s : State) (holds : Holds self.old s)
+        ensures answer { (D.state (disk_of self.new)).honest ≡ true → (s : State) (holds : Holds self.old s)
             → Answers self.old self.new s holds (Command.Drop alt.now) result }
-        ensures state { (D.state (disk_of self.old)).honest ≡ true → (s : State) → Holds self.old s → Holds self.new (next s (Command.Drop alt.now) result) }
-        ensures crash { (D.state (disk_of self.old)).honest ≡ true → (s : State) → Holds self.old s
+        ensures state { (D.state (disk_of self.new)).honest ≡ true → (s : State) → Holds self.old s → Holds self.new (next s (Command.Drop alt.now) result) }
+        ensures crash { (D.state (disk_of self.new)).honest ≡ true → (s : State) → Holds self.old s
             → Throughout (D.state (disk_of self.old)) (D.state (disk_of self.new)) (Leaves (LeftBy Shows s (Command.Drop alt.now))) }
     {
         let Some(i) = position_of(&self.working, alt) else {

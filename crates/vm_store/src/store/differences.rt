@@ -27,13 +27,13 @@ impl<D: Disk> Store<D> {
         ensures only_then { has_failed self.old ≡ false → result ≢ Err Refusal.Failed }
         ensures same { entries_of self.new ≡ entries_of self.old }
 
-        ensures value { (D.state (disk_of self.old)).honest ≡ true → has_failed self.old ≡ false → (s : State) → Holds self.old s
+        ensures value { (D.state (disk_of self.new)).honest ≡ true → has_failed self.old ≡ false → (s : State) → Holds self.old s
             → IsList result (changes_in s.working alt.now) }
-        ensures state { (D.state (disk_of self.old)).honest ≡ true → (s : State) → Holds self.old s → Holds self.new s }
-        ensures reads { (D.state (disk_of self.old)).honest ≡ true → OnlyReads (D.state (disk_of self.old)) (D.state (disk_of self.new)) }
+        ensures state { (D.state (disk_of self.new)).honest ≡ true → (s : State) → Holds self.old s → Holds self.new s }
+        ensures reads { (D.state (disk_of self.new)).honest ≡ true → OnlyReads (D.state (disk_of self.old)) (D.state (disk_of self.new)) }
 
         // It makes no more reads than there are blocks that only one of its base and its current tree has.
-        ensures bound { (D.state (disk_of self.old)).honest ≡ true → (s : State) (holds : Holds self.old s)
+        ensures bound { (D.state (disk_of self.new)).honest ≡ true → (s : State) (holds : Holds self.old s)
             → (D.state (disk_of self.new)).reads ≤ (D.state (disk_of self.old)).reads + unshared_of holds alt.now }
     {
         if self.failed {
@@ -59,14 +59,14 @@ impl<D: Disk> Store<D> {
         ensures only_then { has_failed self.old ≡ false → result ≢ Err Refusal.Failed }
         ensures same { entries_of self.new ≡ entries_of self.old }
 
-        ensures value { (D.state (disk_of self.old)).honest ≡ true → has_failed self.old ≡ false → (s : State) → Holds self.old s
+        ensures value { (D.state (disk_of self.new)).honest ≡ true → has_failed self.old ≡ false → (s : State) → Holds self.old s
             → IsList result (conflicts_in s.working alt.now) }
-        ensures state { (D.state (disk_of self.old)).honest ≡ true → (s : State) → Holds self.old s → Holds self.new s }
-        ensures reads { (D.state (disk_of self.old)).honest ≡ true → OnlyReads (D.state (disk_of self.old)) (D.state (disk_of self.new)) }
+        ensures state { (D.state (disk_of self.new)).honest ≡ true → (s : State) → Holds self.old s → Holds self.new s }
+        ensures reads { (D.state (disk_of self.new)).honest ≡ true → OnlyReads (D.state (disk_of self.old)) (D.state (disk_of self.new)) }
 
         // It makes no more reads than there are blocks that only one of its base and its parent's current tree has, and such that only
         // one of its base and its current tree has.
-        ensures bound { (D.state (disk_of self.old)).honest ≡ true → (s : State) (holds : Holds self.old s)
+        ensures bound { (D.state (disk_of self.new)).honest ≡ true → (s : State) (holds : Holds self.old s)
             → (D.state (disk_of self.new)).reads ≤ (D.state (disk_of self.old)).reads + (unshared_with_parent holds alt.now + unshared_of holds alt.now) }
     {
         if self.failed {

@@ -25,10 +25,10 @@ impl<D: Disk> Store<D> {
         ensures only_then { has_failed self.old ≡ false → result ≢ Err Refusal.Failed }
         ensures same { entries_of self.new ≡ entries_of self.old }
 
-        ensures value { (D.state (disk_of self.old)).honest ≡ true → has_failed self.old ≡ false → (s : State) → Holds self.old s
+        ensures value { (D.state (disk_of self.new)).honest ≡ true → has_failed self.old ≡ false → (s : State) → Holds self.old s
             → IsList result (records_in s.working alt.now) }
-        ensures state { (D.state (disk_of self.old)).honest ≡ true → (s : State) → Holds self.old s → Holds self.new s }
-        ensures reads { (D.state (disk_of self.old)).honest ≡ true → OnlyReads (D.state (disk_of self.old)) (D.state (disk_of self.new)) }
+        ensures state { (D.state (disk_of self.new)).honest ≡ true → (s : State) → Holds self.old s → Holds self.new s }
+        ensures reads { (D.state (disk_of self.new)).honest ≡ true → OnlyReads (D.state (disk_of self.old)) (D.state (disk_of self.new)) }
     {
         if self.failed {
             return Err(Refusal::Failed);

@@ -26,12 +26,12 @@ impl<D: Disk> Store<D> {
         ensures failed { has_failed self.new ≡ has_failed self.old }
         ensures never { result ≢ Err Refusal.Failed }
         ensures same { OnErr result (entries_of self.new ≡ entries_of self.old) }
-        ensures answer { (D.state (disk_of self.old)).honest ≡ true → (s : State) (holds : Holds self.old s)
+        ensures answer { (D.state (disk_of self.new)).honest ≡ true → (s : State) (holds : Holds self.old s)
             → Answers self.old self.new s holds (Merge alt.now settled.now) result }
-        ensures state { (D.state (disk_of self.old)).honest ≡ true → (s : State) → Holds self.old s → Holds self.new (next s (Merge alt.now settled.now) result) }
-        ensures crash { (D.state (disk_of self.old)).honest ≡ true → (s : State) → Holds self.old s
+        ensures state { (D.state (disk_of self.new)).honest ≡ true → (s : State) → Holds self.old s → Holds self.new (next s (Merge alt.now settled.now) result) }
+        ensures crash { (D.state (disk_of self.new)).honest ≡ true → (s : State) → Holds self.old s
             → Throughout (D.state (disk_of self.old)) (D.state (disk_of self.new)) (Leaves (LeftBy Shows s (Merge alt.now settled.now))) }
-        ensures guarded { (D.state (disk_of self.old)).honest ≡ true → (s : State) → Holds self.old s
+        ensures guarded { (D.state (disk_of self.new)).honest ≡ true → (s : State) → Holds self.old s
             → Throughout (D.state (disk_of self.old)) (D.state (disk_of self.new)) (IsGuarded (held_of self.new)) }
     {
         let (own, parent) = match pair_of(&self.working, alt) {

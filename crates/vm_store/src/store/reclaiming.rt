@@ -35,12 +35,12 @@ impl<D: Disk> Store<D> {
         ensures never { (result ≢ Err Refusal.Failed) × (result ≢ Err Refusal.Memory) }
         ensures same { entries_of self.new ≡ entries_of self.old }
         ensures done { IfOk result (λ answer. answer ≡ Answer.Done) }
-        ensures only { (D.state (disk_of self.old)).honest ≡ true → (s : State) → Holds self.old s → IfErr result (λ refusal. refusal ≡ Refusal.Device) }
-        ensures exact { (D.state (disk_of self.old)).honest ≡ true → (s : State) (holds : Holds self.old s) → OnOk result (free_of self.new ≡ spare_of holds) }
-        ensures state { (D.state (disk_of self.old)).honest ≡ true → (s : State) → Holds self.old s → Holds self.new s }
-        ensures crash { (D.state (disk_of self.old)).honest ≡ true → (s : State) → Holds self.old s
+        ensures only { (D.state (disk_of self.new)).honest ≡ true → (s : State) → Holds self.old s → IfErr result (λ refusal. refusal ≡ Refusal.Device) }
+        ensures exact { (D.state (disk_of self.new)).honest ≡ true → (s : State) (holds : Holds self.old s) → OnOk result (free_of self.new ≡ spare_of holds) }
+        ensures state { (D.state (disk_of self.new)).honest ≡ true → (s : State) → Holds self.old s → Holds self.new s }
+        ensures crash { (D.state (disk_of self.new)).honest ≡ true → (s : State) → Holds self.old s
             → Throughout (D.state (disk_of self.old)) (D.state (disk_of self.new)) (Leaves (LeftBy Shows s Command.Reclaim)) }
-        ensures guarded { (D.state (disk_of self.old)).honest ≡ true → (s : State) → Holds self.old s
+        ensures guarded { (D.state (disk_of self.new)).honest ≡ true → (s : State) → Holds self.old s
             → Throughout (D.state (disk_of self.old)) (D.state (disk_of self.new)) (IsGuarded (held_of self.new)) }
     {
         match self.mark_all() {

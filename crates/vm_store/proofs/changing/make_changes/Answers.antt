@@ -9,15 +9,15 @@ use Rattle.vm_store.proofs.changing.make_changes.Goals as goal
 pub returns-in_err-root-clause-moments : goal.returns-in_err-root-clause-moments
 returns-in_err-root-clause-moments g c honest =
     let so_far = c.loop-change.invariant in
-    spares_then _ _ _ _ _ so_far.still (so_far.moments honest) (c.make_change.ensures.moments (so_far.honesty ∙ honest))
+    spares_then _ _ _ _ _ so_far.still (so_far.moments (c.make_change.ensures.any.earlier honest)) (c.make_change.ensures.moments honest)
 
 pub returns-in_err-root-clause-changed : goal.returns-in_err-root-clause-changed
 returns-in_err-root-clause-changed g c honest m grown =
     let so_far = c.loop-change.invariant in
     let p = err_from_is_err_and c.from_residual.result c.from_residual.ensures.1 in
-    let before = grown_of _ _ _ _ _ _ (sym so_far.still.same_length) (so_far.changed honest m grown) in
+    let before = grown_of _ _ _ _ _ _ (sym so_far.still.same_length) (so_far.changed (c.in_err-root.ensures.any.earlier honest) m grown) in
     rw (p.1, p.2)
-    (fault_makes m _ _ c.change-item.result c.loop-change-test.true c.change-item.is _ _ _ _ _ _ so_far.still.same_length (c.in_err-root.ensures.changed (so_far.honesty ∙ honest) _ before))
+    (fault_makes m _ _ c.change-item.result c.loop-change-test.true c.change-item.is _ _ _ _ _ _ so_far.still.same_length (c.in_err-root.ensures.changed honest _ before))
 
 pub loop-change-preserved : goal.loop-change-preserved
 loop-change-preserved g c =
@@ -25,12 +25,12 @@ loop-change-preserved g c =
     let any = c.make_change.ensures.any in
     record {
       blocks = any.same_blocks ∙ so_far.blocks;
-      honesty = any.same_honesty ∙ so_far.honesty;
+      earlier = λ honest. so_far.earlier (any.earlier honest);
       rising = omega (arith, any.rising, so_far.rising);
       room = omega (arith, c.make_change.ensures.taken, so_far.room);
       still = holds_more_then _ _ _ so_far.still c.make_change.ensures.still;
-      moments = λ honest. spares_then _ _ _ _ _ so_far.still (so_far.moments honest) (c.make_change.ensures.moments (so_far.honesty ∙ honest));
+      moments = λ honest. spares_then _ _ _ _ _ so_far.still (so_far.moments (c.in_ok-root.ensures.any.earlier honest)) (c.make_change.ensures.moments honest);
       changed = λ honest m grown.
-          let before = grown_of _ _ _ _ _ _ (sym so_far.still.same_length) (so_far.changed honest m grown) in
-          made_more m _ _ c.change-item.result c.loop-change-test.true c.change-item.is _ _ _ _ _ so_far.still.same_length (c.in_ok-root.ensures.changed (so_far.honesty ∙ honest) _ before);
+          let before = grown_of _ _ _ _ _ _ (sym so_far.still.same_length) (so_far.changed (c.in_ok-root.ensures.any.earlier honest) m grown) in
+          made_more m _ _ c.change-item.result c.loop-change-test.true c.change-item.is _ _ _ _ _ so_far.still.same_length (c.in_ok-root.ensures.changed honest _ before);
     }

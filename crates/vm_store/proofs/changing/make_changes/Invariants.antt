@@ -12,11 +12,11 @@ invariant-loop-change g l =
     let old = g.D.Disk.state l.fn.disk in
     let now = g.D.Disk.state l.disk in record {
       blocks : now.blocks ≡ old.blocks;
-      honesty : now.honest ≡ old.honest;
+      earlier : now.honest ≡ true → old.honest ≡ true;
       rising : old.failures ≤ now.failures;
       room : 16 * length l.changes ≤ free_count l.held + 16 * l.change-index;
       still : HoldsMore l.fn.held l.held;
-      moments : old.honest ≡ true → Throughout old now (Spares (is_free l.fn.held) old.now);
-      changed : old.honest ≡ true → (m : Map) → Grown sizes (IsHeld l.fn.held) old.now.contents (length l.fn.held) l.fn.root m
+      moments : now.honest ≡ true → Throughout old now (Spares (is_free l.fn.held) old.now);
+      changed : now.honest ≡ true → (m : Map) → Grown sizes (IsHeld l.fn.held) old.now.contents (length l.fn.held) l.fn.root m
           → Grown sizes (IsHeld l.held) now.now.contents (length l.fn.held) l.root (with_changes m (take l.change-index l.changes));
     }

@@ -7,13 +7,13 @@ use Rattle.vm_store.proofs.versions.mark_versions.Goals as goal
 pub returns-in-Err-clause-reads : goal.returns-in-Err-clause-reads
 returns-in-Err-clause-reads g c honest =
     let so_far = c.loop-version.invariant in
-    reads_then _ _ _ (so_far.reads honest) (c.mark.ensures.reads (so_far.honesty ∙ honest))
+    reads_then _ _ _ (so_far.reads (c.mark.ensures.any.earlier honest)) (c.mark.ensures.reads honest)
 
 pub returns-in-Err-clause-marked : goal.returns-in-Err-clause-marked
 returns-in-Err-clause-marked g c honest bs joined closed =
     let so_far = c.loop-version.invariant in
-    reached_fault _ _ _ _ c.version-item.result c.loop-version-test.true c.version-item.is _ _ _ (so_far.marked honest)
-    (fault_both _ _ _ _ c.version-item.result _ _ (same_medium _ _ (so_far.reads honest)) so_far.many (λ ds. c.in-Err.ensures.marked (so_far.honesty ∙ honest) sizes ds)) bs joined closed
+    reached_fault _ _ _ _ c.version-item.result c.loop-version-test.true c.version-item.is _ _ _ (so_far.marked (c.in-Err.ensures.any.earlier honest))
+    (fault_both _ _ _ _ c.version-item.result _ _ (same_medium _ _ (so_far.reads (c.in-Err.ensures.any.earlier honest))) so_far.many (λ ds. c.in-Err.ensures.marked honest sizes ds)) bs joined closed
 
 pub loop-version-preserved : goal.loop-version-preserved
 loop-version-preserved g c =
@@ -21,13 +21,13 @@ loop-version-preserved g c =
     let any = c.mark.ensures.any in
     record {
       blocks = any.same_blocks ∙ so_far.blocks;
-      honesty = any.same_honesty ∙ so_far.honesty;
+      earlier = λ honest. so_far.earlier (any.earlier honest);
       rising = omega (arith, any.rising, so_far.rising);
       many = c.mark.ensures.growing.same_length ∙ so_far.many;
-      reads = λ honest. reads_then _ _ _ (so_far.reads honest) (c.mark.ensures.reads (so_far.honesty ∙ honest));
-      marked = λ honest. reached_more _ _ _ _ c.version-item.result c.loop-version-test.true c.version-item.is _ _ _ (so_far.marked honest)
-          (marks_both _ _ _ _ c.version-item.result _ _ (same_medium _ _ (so_far.reads honest)) so_far.many
-          (λ ds. c.in-Ok.ensures.marked (so_far.honesty ∙ honest) sizes ds) (λ ds. c.in-Ok.ensures.closed (so_far.honesty ∙ honest) sizes ds));
+      reads = λ honest. reads_then _ _ _ (so_far.reads (c.in-Ok.ensures.any.earlier honest)) (c.mark.ensures.reads honest);
+      marked = λ honest. reached_more _ _ _ _ c.version-item.result c.loop-version-test.true c.version-item.is _ _ _ (so_far.marked (c.in-Ok.ensures.any.earlier honest))
+          (marks_both _ _ _ _ c.version-item.result _ _ (same_medium _ _ (so_far.reads (c.in-Ok.ensures.any.earlier honest))) so_far.many
+          (λ ds. c.in-Ok.ensures.marked honest sizes ds) (λ ds. c.in-Ok.ensures.closed honest sizes ds));
     }
 
 pub returns-clause-marked : goal.returns-clause-marked

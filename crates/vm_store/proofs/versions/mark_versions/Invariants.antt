@@ -8,9 +8,9 @@ invariant-loop-version g l =
     let old = g.D.Disk.state l.fn.disk in
     let now = g.D.Disk.state l.disk in record {
       blocks : now.blocks ≡ old.blocks;
-      honesty : now.honest ≡ old.honest;
+      earlier : now.honest ≡ true → old.honest ≡ true;
       rising : old.failures ≤ now.failures;
       many : length l.marks ≡ length l.fn.marks;
-      reads : old.honest ≡ true → OnlyReads old now;
-      marked : old.honest ≡ true → ReachedSoFar old.now.contents (length l.fn.marks) l.versions l.version-index l.fn.marks l.marks;
+      reads : now.honest ≡ true → OnlyReads old now;
+      marked : now.honest ≡ true → ReachedSoFar old.now.contents (length l.fn.marks) l.versions l.version-index l.fn.marks l.marks;
     }

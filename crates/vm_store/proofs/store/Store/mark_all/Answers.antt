@@ -16,50 +16,47 @@ returns-in-Err-clause-state g c honest s holds = read_rests _ _ _ _ _ _ _ s (c.m
 
 pub returns-in-Err-mark_versions-clause-reads : goal.returns-in-Err-mark_versions-clause-reads
 returns-in-Err-mark_versions-clause-reads g c honest =
-    reads_then _ _ _ (c.mark_versions.ensures.reads honest) (c.mark_versions-2.ensures.reads (c.mark_versions.ensures.any.same_honesty ∙ honest))
+    reads_then _ _ _ (c.mark_versions.ensures.reads (c.mark_versions-2.ensures.any.earlier honest)) (c.mark_versions-2.ensures.reads honest)
 
 pub returns-in-Err-mark_versions-clause-only : goal.returns-in-Err-mark_versions-clause-only
 returns-in-Err-mark_versions-clause-only g c honest s holds =
     let self = c.args.self.now in
-    let honest' = c.mark_versions.ensures.any.same_honesty ∙ honest in
-    let read = same_medium _ _ (c.mark_versions.ensures.reads honest) in
+    let read = same_medium _ _ (c.mark_versions.ensures.reads (c.in-Err-mark_versions.ensures.any.earlier honest)) in
     let reach = first_reach _ _ _ _ _ _ s holds self.marks c.clear.new.self self.mark_bits c.clear.ensures _ c.deref.ensures.value in
     let clear = first_closed _ _ _ _ _ _ s holds self.marks c.clear.new.self self.mark_bits c.clear.ensures _ c.deref.ensures.value in
     let then = second_reach _ _ _ _ _ _ s holds self.marks c.clear.new.self self.mark_bits c.clear.ensures _ c.deref.ensures.value c.mark_versions.new.marks _ read c.mark_versions.ensures.many _ c.deref-2.ensures.value in
-    let closed = second_closed _ _ _ _ _ _ s holds self.marks c.clear.new.self self.mark_bits c.clear.ensures _ c.deref.ensures.value c.mark_versions.new.marks _ read c.mark_versions.ensures.many _ c.deref-2.ensures.value (c.in-Ok.ensures.closed honest _ reach clear) in
-    c.refusal_of-in-Err-mark_versions.ensures ∙ ap refusal_of (c.in-Err-mark_versions.ensures.marked honest' _ then closed)
+    let closed = second_closed _ _ _ _ _ _ s holds self.marks c.clear.new.self self.mark_bits c.clear.ensures _ c.deref.ensures.value c.mark_versions.new.marks _ read c.mark_versions.ensures.many _ c.deref-2.ensures.value (c.in-Ok.ensures.closed (c.in-Err-mark_versions.ensures.any.earlier honest) _ reach clear) in
+    c.refusal_of-in-Err-mark_versions.ensures ∙ ap refusal_of (c.in-Err-mark_versions.ensures.marked honest _ then closed)
 
 pub returns-in-Err-mark_versions-clause-state : goal.returns-in-Err-mark_versions-clause-state
 returns-in-Err-mark_versions-clause-state g c honest s holds =
-    read_rests _ _ _ _ _ _ _ s (reads_then _ _ _ (c.mark_versions.ensures.reads honest) (c.mark_versions-2.ensures.reads (c.mark_versions.ensures.any.same_honesty ∙ honest))) holds
+    read_rests _ _ _ _ _ _ _ s (reads_then _ _ _ (c.mark_versions.ensures.reads (c.mark_versions-2.ensures.any.earlier honest)) (c.mark_versions-2.ensures.reads honest)) holds
 
 pub returns-clause-reads : goal.returns-clause-reads
 returns-clause-reads g c honest =
-    reads_then _ _ _ (c.mark_versions.ensures.reads honest) (c.mark_versions-2.ensures.reads (c.mark_versions.ensures.any.same_honesty ∙ honest))
+    reads_then _ _ _ (c.mark_versions.ensures.reads (c.mark_versions-2.ensures.any.earlier honest)) (c.mark_versions-2.ensures.reads honest)
 
 pub returns-clause-exact : goal.returns-clause-exact
 returns-clause-exact g c honest s holds =
     let self = c.args.self.now in
-    let honest' = c.mark_versions.ensures.any.same_honesty ∙ honest in
-    let read = same_medium _ _ (c.mark_versions.ensures.reads honest) in
+    let read = same_medium _ _ (c.mark_versions.ensures.reads (c.in-Ok-mark_versions.ensures.any.earlier honest)) in
     let reach = first_reach _ _ _ _ _ _ s holds self.marks c.clear.new.self self.mark_bits c.clear.ensures _ c.deref.ensures.value in
     let clear = first_closed _ _ _ _ _ _ s holds self.marks c.clear.new.self self.mark_bits c.clear.ensures _ c.deref.ensures.value in
     let then = second_reach _ _ _ _ _ _ s holds self.marks c.clear.new.self self.mark_bits c.clear.ensures _ c.deref.ensures.value c.mark_versions.new.marks _ read c.mark_versions.ensures.many _ c.deref-2.ensures.value in
-    let closed = second_closed _ _ _ _ _ _ s holds self.marks c.clear.new.self self.mark_bits c.clear.ensures _ c.deref.ensures.value c.mark_versions.new.marks _ read c.mark_versions.ensures.many _ c.deref-2.ensures.value (c.in-Ok.ensures.closed honest _ reach clear) in
+    let closed = second_closed _ _ _ _ _ _ s holds self.marks c.clear.new.self self.mark_bits c.clear.ensures _ c.deref.ensures.value c.mark_versions.new.marks _ read c.mark_versions.ensures.many _ c.deref-2.ensures.value (c.in-Ok.ensures.closed (c.in-Ok-mark_versions.ensures.any.earlier honest) _ reach clear) in
     let marked = both_marked _ _ _ _ _ _ s holds self.marks c.clear.new.self self.mark_bits c.clear.ensures _ c.deref.ensures.value c.mark_versions.new.marks _ read c.mark_versions.ensures.many _ c.deref-2.ensures.value
-    c.mark_versions-2.new.marks (c.in-Ok.ensures.marked honest _ reach clear) (c.in-Ok-mark_versions.ensures.marked honest' _ then closed) in
+    c.mark_versions-2.new.marks (c.in-Ok.ensures.marked (c.in-Ok-mark_versions.ensures.any.earlier honest) _ reach clear) (c.in-Ok-mark_versions.ensures.marked honest _ then closed) in
     free_exactly _ _ _ _ _ _ s self.bits holds c.mark_versions-2.new.marks marked c.replace.new.self (c.replace.ensures.count ∙ self.bits) c.replace.ensures.system c.replace.ensures.marked
 
 pub returns-clause-state : goal.returns-clause-state
 returns-clause-state g c honest s holds =
     let self = c.args.self.now in
-    let honest' = c.mark_versions.ensures.any.same_honesty ∙ honest in
-    let read = same_medium _ _ (c.mark_versions.ensures.reads honest) in
+    let read = same_medium _ _ (c.mark_versions.ensures.reads (c.mark_versions-2.ensures.any.earlier honest)) in
     let reach = first_reach _ _ _ _ _ _ s holds self.marks c.clear.new.self self.mark_bits c.clear.ensures _ c.deref.ensures.value in
     let clear = first_closed _ _ _ _ _ _ s holds self.marks c.clear.new.self self.mark_bits c.clear.ensures _ c.deref.ensures.value in
     let then = second_reach _ _ _ _ _ _ s holds self.marks c.clear.new.self self.mark_bits c.clear.ensures _ c.deref.ensures.value c.mark_versions.new.marks _ read c.mark_versions.ensures.many _ c.deref-2.ensures.value in
-    let closed = second_closed _ _ _ _ _ _ s holds self.marks c.clear.new.self self.mark_bits c.clear.ensures _ c.deref.ensures.value c.mark_versions.new.marks _ read c.mark_versions.ensures.many _ c.deref-2.ensures.value (c.in-Ok.ensures.closed honest _ reach clear) in
+    let closed = second_closed _ _ _ _ _ _ s holds self.marks c.clear.new.self self.mark_bits c.clear.ensures _ c.deref.ensures.value c.mark_versions.new.marks _ read c.mark_versions.ensures.many _ c.deref-2.ensures.value (c.in-Ok.ensures.closed (c.mark_versions-2.ensures.any.earlier honest) _ reach clear) in
     let marked = both_marked _ _ _ _ _ _ s holds self.marks c.clear.new.self self.mark_bits c.clear.ensures _ c.deref.ensures.value c.mark_versions.new.marks _ read c.mark_versions.ensures.many _ c.deref-2.ensures.value
-    c.mark_versions-2.new.marks (c.in-Ok.ensures.marked honest _ reach clear) (c.in-Ok-mark_versions.ensures.marked honest' _ then closed) in
-    read_rests _ _ _ _ _ _ _ s (reads_then _ _ _ (c.mark_versions.ensures.reads honest) (c.mark_versions-2.ensures.reads honest'))
+    c.mark_versions-2.new.marks (c.in-Ok.ensures.marked (c.mark_versions-2.ensures.any.earlier honest) _ reach clear) (c.in-Ok-mark_versions.ensures.marked honest _ then closed) in
+    read_rests _ _ _ _ _ _ _ s (reads_then _ _ _ (c.mark_versions.ensures.reads (c.mark_versions-2.ensures.any.earlier honest)) (c.mark_versions-2.ensures.reads honest))
     (rests_marked _ _ _ _ _ _ s self.bits holds c.mark_versions-2.new.marks marked c.replace.new.self (c.replace.ensures.count ∙ self.bits) c.replace.ensures.system c.replace.ensures.marked)

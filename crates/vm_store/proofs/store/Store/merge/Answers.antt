@@ -64,51 +64,47 @@ returns-in-Ok-false-clause-answer g c honest s rests =
     let is = subst (λ vs. IsPair vs alt c.in-Ok.pair) c.deref.ensures.value c.in-Ok.ensures.found in
     let own = own_there _ _ _ _ _ _ s rests alt c.in-Ok.pair is in
     let parent = parent_there _ _ _ _ _ _ s rests alt c.in-Ok.pair is in
-    let plan = c.in-Ok-changes_of_merge.ensures.changes honest _ _ _ _ _ _ own.stands.base.rooted parent.stands.current.rooted own.stands.current.rooted in
+    let plan = c.in-Ok-changes_of_merge.ensures.changes (c.in-Ok-false.ensures.any.earlier honest) _ _ _ _ _ _ own.stands.base.rooted parent.stands.current.rooted own.stands.current.rooted in
     let count = c.len.ensures ∙ c.in-Ok-changes_of_merge.changes.ok.0 ∙ ap (λ (cs : List Change). length cs) plan.1 in
     let many = merge_edits _ _ _ _ _ _ s rests alt c.in-Ok.pair is settled plan.0 ∙ sym count in
     merges_full s _ _ alt settled _ (merge_step _ _ _ _ _ _ s rests alt c.in-Ok.pair is settled plan.0) c.len.result many
-    (full_for _ _ _ (spare_after _ _ _ _ _ _ _ s _ _ (c.in-Ok-changes_of_merge.ensures.reads honest) (c.in-Ok-false.ensures.spare (c.in-Ok-changes_of_merge.ensures.any.same_honesty ∙ honest)) rests) c.in-Ok-false.field-0-test)
+    (full_for _ _ _ (spare_after _ _ _ _ _ _ _ s _ _ (c.in-Ok-changes_of_merge.ensures.reads (c.in-Ok-false.ensures.any.earlier honest)) (c.in-Ok-false.ensures.spare honest) rests) c.in-Ok-false.field-0-test)
 
 pub returns-in-Ok-false-clause-state : goal.returns-in-Ok-false-clause-state
 returns-in-Ok-false-clause-state g c honest s rests =
-    let then = c.in-Ok-changes_of_merge.ensures.any.same_honesty ∙ honest in
-    let rests' = c.has_spare.ensures.state then s (read_rests _ _ _ _ _ _ _ s (c.in-Ok-changes_of_merge.ensures.reads honest) rests) in
+    let rests' = c.has_spare.ensures.state honest s (read_rests _ _ _ _ _ _ _ s (c.in-Ok-changes_of_merge.ensures.reads (c.has_spare.ensures.any.earlier honest)) rests) in
     rests'
 
 pub returns-in-Ok-false-clause-crash : goal.returns-in-Ok-false-clause-crash
 returns-in-Ok-false-clause-crash g c honest s rests =
-    let reads = reads_then _ _ _ (c.in-Ok-changes_of_merge.ensures.reads honest) (c.has_spare.ensures.reads (c.in-Ok-changes_of_merge.ensures.any.same_honesty ∙ honest)) in
+    let reads = reads_then _ _ _ (c.in-Ok-changes_of_merge.ensures.reads (c.has_spare.ensures.any.earlier honest)) (c.has_spare.ensures.reads honest) in
     reads_keep _ _ (Leaves (LeftBy Shows s (Merge c.args.alt.now c.args.settled.now))) reads (λ left may. inl (shows_old _ _ _ _ _ _ s rests _ (spares_itself _ _) left may))
 
 pub returns-in-Ok-false-clause-guarded : goal.returns-in-Ok-false-clause-guarded
 returns-in-Ok-false-clause-guarded g c honest s rests =
-    let then = c.in-Ok-changes_of_merge.ensures.any.same_honesty ∙ honest in
-    let rests' = c.has_spare.ensures.state then s (read_rests _ _ _ _ _ _ _ s (c.in-Ok-changes_of_merge.ensures.reads honest) rests) in
-    let reads = reads_then _ _ _ (c.in-Ok-changes_of_merge.ensures.reads honest) (c.has_spare.ensures.reads (c.in-Ok-changes_of_merge.ensures.any.same_honesty ∙ honest)) in
+    let rests' = c.has_spare.ensures.state honest s (read_rests _ _ _ _ _ _ _ s (c.in-Ok-changes_of_merge.ensures.reads (c.has_spare.ensures.any.earlier honest)) rests) in
+    let reads = reads_then _ _ _ (c.in-Ok-changes_of_merge.ensures.reads (c.has_spare.ensures.any.earlier honest)) (c.has_spare.ensures.reads honest) in
     let Q = IsGuarded c.has_spare.new.self.held in
     reads_keep _ _ Q reads (subst Q (same_medium _ _ reads) (guarded_at_rest _ _ _ _ _ _ s rests'))
 
 pub returns-in-Err-has_spare-clause-answer : goal.returns-in-Err-has_spare-clause-answer
 returns-in-Err-has_spare-clause-answer g c honest s rests =
-    inl (ap Err (c.in-Err-has_spare.ensures.only (c.in-Ok-changes_of_merge.ensures.any.same_honesty ∙ honest) s (read_rests _ _ _ _ _ _ _ s (c.in-Ok-changes_of_merge.ensures.reads honest) rests)))
+    inl (ap Err (c.in-Err-has_spare.ensures.only honest s (read_rests _ _ _ _ _ _ _ s (c.in-Ok-changes_of_merge.ensures.reads (c.in-Err-has_spare.ensures.any.earlier honest)) rests)))
 
 pub returns-in-Err-has_spare-clause-state : goal.returns-in-Err-has_spare-clause-state
 returns-in-Err-has_spare-clause-state g c honest s rests =
-    let then = c.in-Ok-changes_of_merge.ensures.any.same_honesty ∙ honest in
-    let rests' = c.has_spare.ensures.state then s (read_rests _ _ _ _ _ _ _ s (c.in-Ok-changes_of_merge.ensures.reads honest) rests) in
+    let rests' = c.has_spare.ensures.state honest s (read_rests _ _ _ _ _ _ _ s (c.in-Ok-changes_of_merge.ensures.reads (c.has_spare.ensures.any.earlier honest)) rests) in
     rests'
 
 pub returns-in-Err-has_spare-clause-crash : goal.returns-in-Err-has_spare-clause-crash
 returns-in-Err-has_spare-clause-crash g c honest s rests =
-    let reads = reads_then _ _ _ (c.in-Ok-changes_of_merge.ensures.reads honest) (c.has_spare.ensures.reads (c.in-Ok-changes_of_merge.ensures.any.same_honesty ∙ honest)) in
+    let reads = reads_then _ _ _ (c.in-Ok-changes_of_merge.ensures.reads (c.has_spare.ensures.any.earlier honest)) (c.has_spare.ensures.reads honest) in
     reads_keep _ _ (Leaves (LeftBy Shows s (Merge c.args.alt.now c.args.settled.now))) reads (λ left may. inl (shows_old _ _ _ _ _ _ s rests _ (spares_itself _ _) left may))
 
 pub returns-in-Err-has_spare-clause-guarded : goal.returns-in-Err-has_spare-clause-guarded
 returns-in-Err-has_spare-clause-guarded g c honest s rests =
-    let then = c.in-Ok-changes_of_merge.ensures.any.same_honesty ∙ honest in
-    let rests' = c.has_spare.ensures.state then s (read_rests _ _ _ _ _ _ _ s (c.in-Ok-changes_of_merge.ensures.reads honest) rests) in
-    let reads = reads_then _ _ _ (c.in-Ok-changes_of_merge.ensures.reads honest) (c.has_spare.ensures.reads (c.in-Ok-changes_of_merge.ensures.any.same_honesty ∙ honest)) in
+    let rests' = c.has_spare.ensures.state honest s (read_rests _ _ _ _ _ _ _ s (c.in-Ok-changes_of_merge.ensures.reads (c.has_spare.ensures.any.earlier honest)) rests) in
+    let reads = reads_then _ _ _ (c.in-Ok-changes_of_merge.ensures.reads (c.has_spare.ensures.any.earlier honest)) (c.has_spare.ensures.reads honest) in
     let Q = IsGuarded c.has_spare.new.self.held in
     reads_keep _ _ Q reads (subst Q (same_medium _ _ reads) (guarded_at_rest _ _ _ _ _ _ s rests'))
 
@@ -119,11 +115,10 @@ returns-in-Ok-make_changes-clause-answer g c honest s rests =
     let is = subst (λ vs. IsPair vs alt c.in-Ok.pair) c.deref.ensures.value c.in-Ok.ensures.found in
     let own = own_there _ _ _ _ _ _ s rests alt c.in-Ok.pair is in
     let parent = parent_there _ _ _ _ _ _ s rests alt c.in-Ok.pair is in
-    let plan = c.in-Ok-changes_of_merge.ensures.changes honest _ _ _ _ _ _ own.stands.base.rooted parent.stands.current.rooted own.stands.current.rooted in
+    let plan = c.in-Ok-changes_of_merge.ensures.changes (c.in-Ok-true.ensures.any.earlier (c.in-Ok-make_changes.ensures.any.earlier honest)) _ _ _ _ _ _ own.stands.base.rooted parent.stands.current.rooted own.stands.current.rooted in
     let count = c.len.ensures ∙ c.in-Ok-changes_of_merge.changes.ok.0 ∙ ap (λ (cs : List Change). length cs) plan.1 in
     let many = merge_edits _ _ _ _ _ _ s rests alt c.in-Ok.pair is settled plan.0 ∙ sym count in
-    let then = c.in-Ok-changes_of_merge.ensures.any.same_honesty ∙ honest in
-    let room = room_for _ _ _ (spare_after _ _ _ _ _ _ _ s _ _ (c.in-Ok-changes_of_merge.ensures.reads honest) (c.in-Ok-true.ensures.spare then) rests) c.in-Ok-true.field-0-test in
+    let room = room_for _ _ _ (spare_after _ _ _ _ _ _ _ s _ _ (c.in-Ok-changes_of_merge.ensures.reads (c.in-Ok-true.ensures.any.earlier (c.in-Ok-make_changes.ensures.any.earlier honest))) (c.in-Ok-true.ensures.spare (c.in-Ok-make_changes.ensures.any.earlier honest)) rests) c.in-Ok-true.field-0-test in
     let same = c.len-in-Ok-make_changes.ensures ∙ c.in-Ok-changes_of_merge.changes.ok.0 ∙ ap (λ (cs : List Change). length cs) plan.1 in
     rw (same) (merges_done s _ _ alt settled _ (merge_step _ _ _ _ _ _ s rests alt c.in-Ok.pair is settled plan.0) c.len.result many room)
 
@@ -134,15 +129,13 @@ returns-in-Ok-make_changes-clause-state g c honest s rests =
     let is = subst (λ vs. IsPair vs alt c.in-Ok.pair) c.deref.ensures.value c.in-Ok.ensures.found in
     let own = own_there _ _ _ _ _ _ s rests alt c.in-Ok.pair is in
     let parent = parent_there _ _ _ _ _ _ s rests alt c.in-Ok.pair is in
-    let plan = c.in-Ok-changes_of_merge.ensures.changes honest _ _ _ _ _ _ own.stands.base.rooted parent.stands.current.rooted own.stands.current.rooted in
-    let then = c.in-Ok-changes_of_merge.ensures.any.same_honesty ∙ honest in
-    let rests' = c.has_spare.ensures.state then s (read_rests _ _ _ _ _ _ _ s (c.in-Ok-changes_of_merge.ensures.reads honest) rests) in
+    let plan = c.in-Ok-changes_of_merge.ensures.changes (c.has_spare.ensures.any.earlier (c.in-Ok-make_changes.ensures.any.earlier honest)) _ _ _ _ _ _ own.stands.base.rooted parent.stands.current.rooted own.stands.current.rooted in
+    let rests' = c.has_spare.ensures.state (c.in-Ok-make_changes.ensures.any.earlier honest) s (read_rests _ _ _ _ _ _ _ s (c.in-Ok-changes_of_merge.ensures.reads (c.has_spare.ensures.any.earlier (c.in-Ok-make_changes.ensures.any.earlier honest))) rests) in
     let mid = c.has_spare.new.self in
-    let honest' = c.has_spare.ensures.any.same_honesty ∙ then in
     let is' = subst (λ p. IsPair p.1 alt c.in-Ok.pair) (sym c.has_spare.ensures.same) is in
     let plan' = planned _ _ _ _ _ _ s rests _ _ _ _ _ _ rests' alt c.in-Ok.pair is is' settled _ plan in
     let own' = own_there _ _ _ _ _ _ s rests' alt c.in-Ok.pair is' in
-    let made = c.in-Ok-make_changes.ensures.changed honest' _ (grown_of _ _ _ _ c.in-Ok.pair.0.current _ (sym mid.bits) own'.stands.current) in
+    let made = c.in-Ok-make_changes.ensures.changed honest _ (grown_of _ _ _ _ c.in-Ok.pair.0.current _ (sym mid.bits) own'.stands.current) in
     let grown = made_of _ _ _ _ _ _ s rests' alt c.in-Ok.pair is' settled _ _ _ c.in-Ok-make_changes.root _ (c.deref-2.ensures.value ∙ plan'.1) (grown_of _ _ _ _ c.in-Ok-make_changes.root _ mid.bits made) in
     let first = c.set_current.new.versions in
     let second = c.set_base.new.versions in
@@ -152,50 +145,40 @@ returns-in-Ok-make_changes-clause-state g c honest s rests =
     let two = c.set_base.ensures.items ∙ ap (change_first (is_alternative_of alt) (with_base c.in-Ok.pair.1.current)) (c.deref_mut-in-Ok-make_changes.ensures.value ∙ turned ∙ one) in
     rests_as _ _ _ _ _ _ _ _ (sym (both ∙ two))
     (merge_rests _ _ _ _ _ _ s rests' alt c.in-Ok.pair is' settled plan'.0 _ c.make_changes.new.held c.in-Ok-make_changes.root (grown_small _ _ _ _ _ mid.most grown)
-    (at_end _ _ _ (c.in-Ok-make_changes.ensures.moments honest')) c.in-Ok-make_changes.ensures.still grown)
+    (at_end _ _ _ (c.in-Ok-make_changes.ensures.moments honest)) c.in-Ok-make_changes.ensures.still grown)
 
 pub returns-in-Ok-make_changes-clause-crash : goal.returns-in-Ok-make_changes-clause-crash
 returns-in-Ok-make_changes-clause-crash g c honest s rests =
-    let then = c.in-Ok-changes_of_merge.ensures.any.same_honesty ∙ honest in
-    let rests' = c.has_spare.ensures.state then s (read_rests _ _ _ _ _ _ _ s (c.in-Ok-changes_of_merge.ensures.reads honest) rests) in
-    let reads = reads_then _ _ _ (c.in-Ok-changes_of_merge.ensures.reads honest) (c.has_spare.ensures.reads (c.in-Ok-changes_of_merge.ensures.any.same_honesty ∙ honest)) in
-    let honest' = c.has_spare.ensures.any.same_honesty ∙ then in
+    let rests' = c.has_spare.ensures.state (c.in-Ok-make_changes.ensures.any.earlier honest) s (read_rests _ _ _ _ _ _ _ s (c.in-Ok-changes_of_merge.ensures.reads (c.has_spare.ensures.any.earlier (c.in-Ok-make_changes.ensures.any.earlier honest))) rests) in
+    let reads = reads_then _ _ _ (c.in-Ok-changes_of_merge.ensures.reads (c.has_spare.ensures.any.earlier (c.in-Ok-make_changes.ensures.any.earlier honest))) (c.has_spare.ensures.reads (c.in-Ok-make_changes.ensures.any.earlier honest)) in
     let Q = Leaves (LeftBy Shows s (Merge c.args.alt.now c.args.settled.now)) in
-    reads_first _ _ _ Q reads (weaken _ _ _ Q (λ m spares left may. inl (shows_old _ _ _ _ _ _ s rests' m spares left may)) (c.in-Ok-make_changes.ensures.moments honest'))
+    reads_first _ _ _ Q reads (weaken _ _ _ Q (λ m spares left may. inl (shows_old _ _ _ _ _ _ s rests' m spares left may)) (c.in-Ok-make_changes.ensures.moments honest))
 
 pub returns-in-Ok-make_changes-clause-guarded : goal.returns-in-Ok-make_changes-clause-guarded
 returns-in-Ok-make_changes-clause-guarded g c honest s rests =
-    let then = c.in-Ok-changes_of_merge.ensures.any.same_honesty ∙ honest in
-    let rests' = c.has_spare.ensures.state then s (read_rests _ _ _ _ _ _ _ s (c.in-Ok-changes_of_merge.ensures.reads honest) rests) in
-    let reads = reads_then _ _ _ (c.in-Ok-changes_of_merge.ensures.reads honest) (c.has_spare.ensures.reads (c.in-Ok-changes_of_merge.ensures.any.same_honesty ∙ honest)) in
-    let honest' = c.has_spare.ensures.any.same_honesty ∙ then in
+    let rests' = c.has_spare.ensures.state (c.in-Ok-make_changes.ensures.any.earlier honest) s (read_rests _ _ _ _ _ _ _ s (c.in-Ok-changes_of_merge.ensures.reads (c.has_spare.ensures.any.earlier (c.in-Ok-make_changes.ensures.any.earlier honest))) rests) in
+    let reads = reads_then _ _ _ (c.in-Ok-changes_of_merge.ensures.reads (c.has_spare.ensures.any.earlier (c.in-Ok-make_changes.ensures.any.earlier honest))) (c.has_spare.ensures.reads (c.in-Ok-make_changes.ensures.any.earlier honest)) in
     let Q = IsGuarded c.make_changes.new.held in
-    reads_first _ _ _ Q reads (weaken _ _ _ Q (λ m spares. guarded_on _ _ _ _ _ _ s rests' m _ spares c.in-Ok-make_changes.ensures.still) (c.in-Ok-make_changes.ensures.moments honest'))
+    reads_first _ _ _ Q reads (weaken _ _ _ Q (λ m spares. guarded_on _ _ _ _ _ _ s rests' m _ spares c.in-Ok-make_changes.ensures.still) (c.in-Ok-make_changes.ensures.moments honest))
 
 pub returns-clause-crash : goal.returns-clause-crash
 returns-clause-crash g c honest s rests =
-    let then = c.in-Ok-changes_of_merge.ensures.any.same_honesty ∙ honest in
-    let rests' = c.has_spare.ensures.state then s (read_rests _ _ _ _ _ _ _ s (c.in-Ok-changes_of_merge.ensures.reads honest) rests) in
-    let reads = reads_then _ _ _ (c.in-Ok-changes_of_merge.ensures.reads honest) (c.has_spare.ensures.reads (c.in-Ok-changes_of_merge.ensures.any.same_honesty ∙ honest)) in
-    let honest' = c.has_spare.ensures.any.same_honesty ∙ then in
+    let rests' = c.has_spare.ensures.state (c.in-Err-make_changes.ensures.any.earlier honest) s (read_rests _ _ _ _ _ _ _ s (c.in-Ok-changes_of_merge.ensures.reads (c.has_spare.ensures.any.earlier (c.in-Err-make_changes.ensures.any.earlier honest))) rests) in
+    let reads = reads_then _ _ _ (c.in-Ok-changes_of_merge.ensures.reads (c.has_spare.ensures.any.earlier (c.in-Err-make_changes.ensures.any.earlier honest))) (c.has_spare.ensures.reads (c.in-Err-make_changes.ensures.any.earlier honest)) in
     let Q = Leaves (LeftBy Shows s (Merge c.args.alt.now c.args.settled.now)) in
-    reads_first _ _ _ Q reads (weaken _ _ _ Q (λ m spares left may. inl (shows_old _ _ _ _ _ _ s rests' m spares left may)) (c.in-Err-make_changes.ensures.moments honest'))
+    reads_first _ _ _ Q reads (weaken _ _ _ Q (λ m spares left may. inl (shows_old _ _ _ _ _ _ s rests' m spares left may)) (c.in-Err-make_changes.ensures.moments honest))
 
 pub returns-clause-guarded : goal.returns-clause-guarded
 returns-clause-guarded g c honest s rests =
-    let then = c.in-Ok-changes_of_merge.ensures.any.same_honesty ∙ honest in
-    let rests' = c.has_spare.ensures.state then s (read_rests _ _ _ _ _ _ _ s (c.in-Ok-changes_of_merge.ensures.reads honest) rests) in
-    let reads = reads_then _ _ _ (c.in-Ok-changes_of_merge.ensures.reads honest) (c.has_spare.ensures.reads (c.in-Ok-changes_of_merge.ensures.any.same_honesty ∙ honest)) in
-    let honest' = c.has_spare.ensures.any.same_honesty ∙ then in
+    let rests' = c.has_spare.ensures.state (c.in-Err-make_changes.ensures.any.earlier honest) s (read_rests _ _ _ _ _ _ _ s (c.in-Ok-changes_of_merge.ensures.reads (c.has_spare.ensures.any.earlier (c.in-Err-make_changes.ensures.any.earlier honest))) rests) in
+    let reads = reads_then _ _ _ (c.in-Ok-changes_of_merge.ensures.reads (c.has_spare.ensures.any.earlier (c.in-Err-make_changes.ensures.any.earlier honest))) (c.has_spare.ensures.reads (c.in-Err-make_changes.ensures.any.earlier honest)) in
     let Q = IsGuarded c.make_changes.new.held in
-    reads_first _ _ _ Q reads (weaken _ _ _ Q (λ m spares. guarded_on _ _ _ _ _ _ s rests' m _ spares c.in-Err-make_changes.ensures.still) (c.in-Err-make_changes.ensures.moments honest'))
+    reads_first _ _ _ Q reads (weaken _ _ _ Q (λ m spares. guarded_on _ _ _ _ _ _ s rests' m _ spares c.in-Err-make_changes.ensures.still) (c.in-Err-make_changes.ensures.moments honest))
 
 pub returns-clause-state : goal.returns-clause-state
 returns-clause-state g c honest s rests =
-    let then = c.in-Ok-changes_of_merge.ensures.any.same_honesty ∙ honest in
-    let rests' = c.has_spare.ensures.state then s (read_rests _ _ _ _ _ _ _ s (c.in-Ok-changes_of_merge.ensures.reads honest) rests) in
-    let honest' = c.has_spare.ensures.any.same_honesty ∙ then in
-    rests_more _ _ _ _ _ _ s rests' _ _ (at_end _ _ _ (c.in-Err-make_changes.ensures.moments honest')) c.in-Err-make_changes.ensures.still
+    let rests' = c.has_spare.ensures.state (c.in-Err-make_changes.ensures.any.earlier honest) s (read_rests _ _ _ _ _ _ _ s (c.in-Ok-changes_of_merge.ensures.reads (c.has_spare.ensures.any.earlier (c.in-Err-make_changes.ensures.any.earlier honest))) rests) in
+    rests_more _ _ _ _ _ _ s rests' _ _ (at_end _ _ _ (c.in-Err-make_changes.ensures.moments honest)) c.in-Err-make_changes.ensures.still
 
 pub returns-clause-answer : goal.returns-clause-answer
 returns-clause-answer g c honest s rests =
@@ -204,18 +187,16 @@ returns-clause-answer g c honest s rests =
     let is = subst (λ vs. IsPair vs alt c.in-Ok.pair) c.deref.ensures.value c.in-Ok.ensures.found in
     let own = own_there _ _ _ _ _ _ s rests alt c.in-Ok.pair is in
     let parent = parent_there _ _ _ _ _ _ s rests alt c.in-Ok.pair is in
-    let plan = c.in-Ok-changes_of_merge.ensures.changes honest _ _ _ _ _ _ own.stands.base.rooted parent.stands.current.rooted own.stands.current.rooted in
+    let plan = c.in-Ok-changes_of_merge.ensures.changes (c.has_spare.ensures.any.earlier (c.in-Err-make_changes.ensures.any.earlier honest)) _ _ _ _ _ _ own.stands.base.rooted parent.stands.current.rooted own.stands.current.rooted in
     let count = c.len.ensures ∙ c.in-Ok-changes_of_merge.changes.ok.0 ∙ ap (λ (cs : List Change). length cs) plan.1 in
     let many = merge_edits _ _ _ _ _ _ s rests alt c.in-Ok.pair is settled plan.0 ∙ sym count in
-    let then = c.in-Ok-changes_of_merge.ensures.any.same_honesty ∙ honest in
-    let rests' = c.has_spare.ensures.state then s (read_rests _ _ _ _ _ _ _ s (c.in-Ok-changes_of_merge.ensures.reads honest) rests) in
+    let rests' = c.has_spare.ensures.state (c.in-Err-make_changes.ensures.any.earlier honest) s (read_rests _ _ _ _ _ _ _ s (c.in-Ok-changes_of_merge.ensures.reads (c.has_spare.ensures.any.earlier (c.in-Err-make_changes.ensures.any.earlier honest))) rests) in
     let mid = c.has_spare.new.self in
-    let honest' = c.has_spare.ensures.any.same_honesty ∙ then in
     let is' = subst (λ p. IsPair p.1 alt c.in-Ok.pair) (sym c.has_spare.ensures.same) is in
     let plan' = planned _ _ _ _ _ _ s rests _ _ _ _ _ _ rests' alt c.in-Ok.pair is is' settled _ plan in
     let own' = own_there _ _ _ _ _ _ s rests' alt c.in-Ok.pair is' in
-    let room = room_for _ _ _ (spare_after _ _ _ _ _ _ _ s _ _ (c.in-Ok-changes_of_merge.ensures.reads honest) (c.in-Ok-true.ensures.spare then) rests) c.in-Ok-true.field-0-test in
-    let made = c.in-Err-make_changes.ensures.changed honest' _ (grown_of _ _ _ _ c.in-Ok.pair.0.current _ (sym mid.bits) own'.stands.current) in
+    let room = room_for _ _ _ (spare_after _ _ _ _ _ _ _ s _ _ (c.in-Ok-changes_of_merge.ensures.reads (c.has_spare.ensures.any.earlier (c.in-Err-make_changes.ensures.any.earlier honest))) (c.in-Ok-true.ensures.spare (c.in-Err-make_changes.ensures.any.earlier honest)) rests) c.in-Ok-true.field-0-test in
+    let made = c.in-Err-make_changes.ensures.changed honest _ (grown_of _ _ _ _ c.in-Ok.pair.0.current _ (sym mid.bits) own'.stands.current) in
     by_either _ _ _ (fault_of_changes c.in-Err-make_changes.fault _ _ made)
     (λ device. inl (ap Err (c.refusal_of.ensures ∙ ap refusal_of device)))
     (λ deep. rw (c.refusal_of.ensures ∙ ap refusal_of deep.0) (merges_deep s _ _ alt settled _ (merge_step _ _ _ _ _ _ s rests alt c.in-Ok.pair is settled plan.0) c.len.result many room

@@ -6,22 +6,20 @@ use Rattle.vm_store.proofs.store.formatting.lay_out.Goals as goal
 pub returns-in_default-select_slot-clause-moments : goal.returns-in_default-select_slot-clause-moments
 returns-in_default-select_slot-clause-moments g c honest clean none =
     let old = (g.D.Disk.state c.args.disk.now).now in
-    let written = weaken _ _ _ (KeepsFirst old) (λ m spares. first_spared old m clean spares) (c.write_slot.ensures.moments honest) in
-    let select = c.select_slot.ensures.honest (c.write_slot.ensures.any.same_honesty ∙ honest) in
+    let written = weaken _ _ _ (KeepsFirst old) (λ m spares. first_spared old m clean spares) (c.write_slot.ensures.moments (c.select_slot.ensures.any.earlier honest)) in
+    let select = c.select_slot.ensures.honest honest in
     weaken _ _ _ _ (λ m keeps. no_header old m none keeps) (goes_on _ _ _ (KeepsFirst old) written select.time (first_kept _ _ old _ _ (at_end _ _ _ written) select))
 
 pub returns-clause-moments : goal.returns-clause-moments
 returns-clause-moments g c honest clean none =
     let old = (g.D.Disk.state c.args.disk.now).now in
-    let written = weaken _ _ _ (KeepsFirst old) (λ m spares. first_spared old m clean spares) (c.write_slot.ensures.moments honest) in
-    let honest1 = c.write_slot.ensures.any.same_honesty ∙ honest in
-    let select = c.select_slot.ensures.honest honest1 in
+    let written = weaken _ _ _ (KeepsFirst old) (λ m spares. first_spared old m clean spares) (c.write_slot.ensures.moments (c.select_slot.ensures.any.earlier (c.sync.ensures.any.earlier honest))) in
+    let select = c.select_slot.ensures.honest (c.sync.ensures.any.earlier honest) in
     let chosen = goes_on _ _ _ (KeepsFirst old) written select.time (first_kept _ _ old _ _ (at_end _ _ _ written) select) in
-    let sync = c.sync.ensures.honest (c.select_slot.ensures.any.same_honesty ∙ honest1) in
+    let sync = c.sync.ensures.honest honest in
     weaken _ _ _ _ (λ m keeps. no_header old m none keeps) (goes_on _ _ _ (KeepsFirst old) chosen sync.time (first_synced _ old _ _ (at_end _ _ _ chosen) sync))
 
 pub returns-clause-laid : goal.returns-clause-laid
 returns-clause-laid g c honest =
-    let honest1 = c.write_slot.ensures.any.same_honesty ∙ honest in
-    laid_now c.args.blocks _ _ _ _ _ _ _ (ap (λ e. e ∷ []) c.fresh_entry.ensures) (fresh_fits c.args.blocks c.requires.least c.requires.most top_is_name) (c.in-Ok.ensures.written honest) c.in-Ok-select_slot.is (c.select_slot.ensures.honest honest1)
-    (c.sync.ensures.honest (c.select_slot.ensures.any.same_honesty ∙ honest1))
+    laid_now c.args.blocks _ _ _ _ _ _ _ (ap (λ e. e ∷ []) c.fresh_entry.ensures) (fresh_fits c.args.blocks c.requires.least c.requires.most top_is_name) (c.in-Ok.ensures.written (c.select_slot.ensures.any.earlier (c.sync.ensures.any.earlier honest))) c.in-Ok-select_slot.is (c.select_slot.ensures.honest (c.sync.ensures.any.earlier honest))
+    (c.sync.ensures.honest honest)

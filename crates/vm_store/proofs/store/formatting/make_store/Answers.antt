@@ -13,31 +13,28 @@ returns-in-Err-clause-moments g c honest = weaken _ _ _ _ (not_yet _) (c.in-Err.
 pub returns-in_default-clause-moments : goal.returns-in_default-clause-moments
 returns-in_default-clause-moments g c honest =
     let old = (g.D.Disk.state c.args.disk.now).now in
-    let honest1 = c.has_header.ensures.any.same_honesty ∙ honest in
-    let synced = c.in-Ok-false.ensures.synced honest in
-    let none = not_true _ c.in-Ok-false.field-0-test (c.in-Ok-false.ensures.header honest) in
-    let looked = weaken _ _ _ (IsFormatting old) (not_yet old) (c.has_header.ensures.moments honest) in
-    let laid = weaken _ _ _ (IsFormatting old) (λ m leaves. formatting old m none leaves) (c.lay_out.ensures.moments honest1 synced.clean (none_synced _ _ synced none)) in
+    let synced = c.in-Ok-false.ensures.synced (c.lay_out.ensures.any.earlier honest) in
+    let none = not_true _ c.in-Ok-false.field-0-test (c.in-Ok-false.ensures.header (c.lay_out.ensures.any.earlier honest)) in
+    let looked = weaken _ _ _ (IsFormatting old) (not_yet old) (c.has_header.ensures.moments (c.lay_out.ensures.any.earlier honest)) in
+    let laid = weaken _ _ _ (IsFormatting old) (λ m leaves. formatting old m none leaves) (c.lay_out.ensures.moments honest synced.clean (none_synced _ _ synced none)) in
     and_then _ _ _ (IsFormatting old) looked laid
 
 pub returns-in-Ok-put_header-clause-moments : goal.returns-in-Ok-put_header-clause-moments
 returns-in-Ok-put_header-clause-moments g c honest =
     let old = (g.D.Disk.state c.args.disk.now).now in
-    let honest1 = c.has_header.ensures.any.same_honesty ∙ honest in
-    let synced = c.in-Ok-false.ensures.synced honest in
-    let none = not_true _ c.in-Ok-false.field-0-test (c.in-Ok-false.ensures.header honest) in
-    let looked = weaken _ _ _ (IsFormatting old) (not_yet old) (c.has_header.ensures.moments honest) in
-    let laid = weaken _ _ _ (IsFormatting old) (λ m leaves. formatting old m none leaves) (c.lay_out.ensures.moments honest1 synced.clean (none_synced _ _ synced none)) in
-    let headed = weaken _ _ _ (IsFormatting old) (λ m leaves. formatting old m none leaves) (c.put_header.ensures.moments (c.lay_out.ensures.any.same_honesty ∙ honest1) c.args.blocks (c.in-Ok.ensures.laid honest1)) in
+    let synced = c.in-Ok-false.ensures.synced (c.lay_out.ensures.any.earlier (c.put_header.ensures.any.earlier honest)) in
+    let none = not_true _ c.in-Ok-false.field-0-test (c.in-Ok-false.ensures.header (c.lay_out.ensures.any.earlier (c.put_header.ensures.any.earlier honest))) in
+    let looked = weaken _ _ _ (IsFormatting old) (not_yet old) (c.has_header.ensures.moments (c.lay_out.ensures.any.earlier (c.put_header.ensures.any.earlier honest))) in
+    let laid = weaken _ _ _ (IsFormatting old) (λ m leaves. formatting old m none leaves) (c.lay_out.ensures.moments (c.put_header.ensures.any.earlier honest) synced.clean (none_synced _ _ synced none)) in
+    let headed = weaken _ _ _ (IsFormatting old) (λ m leaves. formatting old m none leaves) (c.put_header.ensures.moments honest c.args.blocks (c.in-Ok.ensures.laid (c.put_header.ensures.any.earlier honest))) in
     and_then _ _ _ (IsFormatting old) (and_then _ _ _ (IsFormatting old) looked laid) headed
 
 pub returns-in-Err-put_header-clause-moments : goal.returns-in-Err-put_header-clause-moments
 returns-in-Err-put_header-clause-moments g c honest =
     let old = (g.D.Disk.state c.args.disk.now).now in
-    let honest1 = c.has_header.ensures.any.same_honesty ∙ honest in
-    let synced = c.in-Ok-false.ensures.synced honest in
-    let none = not_true _ c.in-Ok-false.field-0-test (c.in-Ok-false.ensures.header honest) in
-    let looked = weaken _ _ _ (IsFormatting old) (not_yet old) (c.has_header.ensures.moments honest) in
-    let laid = weaken _ _ _ (IsFormatting old) (λ m leaves. formatting old m none leaves) (c.lay_out.ensures.moments honest1 synced.clean (none_synced _ _ synced none)) in
-    let headed = weaken _ _ _ (IsFormatting old) (λ m leaves. formatting old m none leaves) (c.put_header.ensures.moments (c.lay_out.ensures.any.same_honesty ∙ honest1) c.args.blocks (c.in-Ok.ensures.laid honest1)) in
+    let synced = c.in-Ok-false.ensures.synced (c.lay_out.ensures.any.earlier (c.put_header.ensures.any.earlier honest)) in
+    let none = not_true _ c.in-Ok-false.field-0-test (c.in-Ok-false.ensures.header (c.lay_out.ensures.any.earlier (c.put_header.ensures.any.earlier honest))) in
+    let looked = weaken _ _ _ (IsFormatting old) (not_yet old) (c.has_header.ensures.moments (c.lay_out.ensures.any.earlier (c.put_header.ensures.any.earlier honest))) in
+    let laid = weaken _ _ _ (IsFormatting old) (λ m leaves. formatting old m none leaves) (c.lay_out.ensures.moments (c.put_header.ensures.any.earlier honest) synced.clean (none_synced _ _ synced none)) in
+    let headed = weaken _ _ _ (IsFormatting old) (λ m leaves. formatting old m none leaves) (c.put_header.ensures.moments honest c.args.blocks (c.in-Ok.ensures.laid (c.put_header.ensures.any.earlier honest))) in
     and_then _ _ _ (IsFormatting old) (and_then _ _ _ (IsFormatting old) looked laid) headed

@@ -11,20 +11,20 @@ returns-then-blocks-lt-LEAST_BLOCKS-clause-moments g c honest = settles _ _ _ (c
 
 pub returns-in-Ok-Some-clause-moments : goal.returns-in-Ok-Some-clause-moments
 returns-in-Ok-Some-clause-moments g c honest =
-    then_reads _ _ _ _ (settles _ _ _ (c.sync.ensures.honest honest)) (c.slot_in_use.ensures.reads (c.sync.ensures.any.same_honesty ∙ honest))
+    then_reads _ _ _ _ (settles _ _ _ (c.sync.ensures.honest (c.slot_in_use.ensures.any.earlier honest))) (c.slot_in_use.ensures.reads honest)
 
 pub returns-in-Ok-Some-clause-synced : goal.returns-in-Ok-Some-clause-synced
 returns-in-Ok-Some-clause-synced g c honest other =
-    settled_then _ _ _ (settled _ _ _ _ c.in-Ok.is (c.sync.ensures.honest honest)) (c.slot_in_use.ensures.reads (c.sync.ensures.any.same_honesty ∙ honest))
+    settled_then _ _ _ (settled _ _ _ _ c.in-Ok.is (c.sync.ensures.honest (c.slot_in_use.ensures.any.earlier honest))) (c.slot_in_use.ensures.reads honest)
 
 pub returns-in-Ok-None-clause-moments : goal.returns-in-Ok-None-clause-moments
 returns-in-Ok-None-clause-moments g c honest =
-    then_reads _ _ _ _ (settles _ _ _ (c.sync.ensures.honest honest)) (c.slot_in_use.ensures.reads (c.sync.ensures.any.same_honesty ∙ honest))
+    then_reads _ _ _ _ (settles _ _ _ (c.sync.ensures.honest (c.slot_in_use.ensures.any.earlier honest))) (c.slot_in_use.ensures.reads honest)
 
 pub returns-in-Ok-None-clause-synced : goal.returns-in-Ok-None-clause-synced
 returns-in-Ok-None-clause-synced g c honest other =
-    settled_then _ _ _ (settled _ _ _ _ c.in-Ok.is (c.sync.ensures.honest honest)) (c.slot_in_use.ensures.reads (c.sync.ensures.any.same_honesty ∙ honest))
+    settled_then _ _ _ (settled _ _ _ _ c.in-Ok.is (c.sync.ensures.honest (c.slot_in_use.ensures.any.earlier honest))) (c.slot_in_use.ensures.reads honest)
 
 pub returns-in-Err-clause-moments : goal.returns-in-Err-clause-moments
 returns-in-Err-clause-moments g c honest =
-    then_reads _ _ _ _ (settles _ _ _ (c.sync.ensures.honest honest)) (c.slot_in_use.ensures.reads (c.sync.ensures.any.same_honesty ∙ honest))
+    then_reads _ _ _ _ (settles _ _ _ (c.sync.ensures.honest (c.slot_in_use.ensures.any.earlier honest))) (c.slot_in_use.ensures.reads honest)
