@@ -5,7 +5,7 @@ ghost use Rattle.vm_types.specs.Kept.{LeftBy};
 ghost use Rattle.vm_disk.specs.Disk.{Goes, NoCalls};
 ghost use Rattle.vm_disk.specs.Moments.{Throughout, OnlyReads, Leaves};
 ghost use Rattle.vm_types.specs.Queries.{value_in};
-ghost use Rattle.vm_store.specs.Answers.{IsEarly, IsMerge};
+ghost use Rattle.vm_store.specs.Answers.{ChangesEntriesAlone, IsEarly, IsMerge};
 ghost use Rattle.vm_store.specs.Guarded.{IsGuarded};
 ghost use Rattle.vm_store.specs.Resting.{spare_of};
 ghost use Rattle.vm_store.specs.Shown.{Shows};
@@ -86,6 +86,9 @@ impl<D: Disk> Store<D> {
         ensures unchanged { IfErr result (λ refusal. IsEarly refusal → IsSameButDisk self.old self.new) }
         ensures memory { result ≡ Err Refusal.Memory → IsMerge command.now }
 
+        // For these commands no device call is made, and no block is taken.
+        ensures blocks { ChangesEntriesAlone command.now → (disk_of self.new ≡ disk_of self.old) × (held_of self.new ≡ held_of self.old) }
+
         // The answer is the model's, or one that the device, or want of blocks or memory forces.
         ensures answer { (D.state (disk_of self.old)).honest ≡ true → has_failed self.old ≡ false
             → (s : State) (holds : Holds self.old s)
@@ -120,6 +123,7 @@ impl<D: Disk> Store<D> {
         ensures any { Goes (result ≡ Err Refusal.Device) (D.state (disk_of self.old)) (D.state (disk_of self.new)) }
         ensures never { result ≢ Err Refusal.Failed }
         ensures memory { result ≡ Err Refusal.Memory → IsMerge command.now }
+        ensures blocks { ChangesEntriesAlone command.now → (disk_of self.new ≡ disk_of self.old) × (held_of self.new ≡ held_of self.old) }
         ensures same { OnErr result (entries_of self.new ≡ entries_of self.old) }
         ensures unchanged { IfErr result (λ refusal. IsEarly refusal → IsSameButDisk self.old self.new) }
         ensures answer { (D.state (disk_of self.old)).honest ≡ true → (s : State) (holds : Holds self.old s)

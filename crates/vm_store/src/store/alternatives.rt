@@ -19,12 +19,13 @@ use vm_disk::Disk;
 use vm_types::{Answer, Command, Name, Refusal};
 
 impl<D: Disk> Store<D> {
-    ghost use Rattle.vm_store.specs.Store.{disk_of, has_failed, entries_of, Answers, Holds, IsSameButDisk};
+    ghost use Rattle.vm_store.specs.Store.{disk_of, has_failed, entries_of, Answers, Holds, IsSameButDisk, held_of};
 
     // Makes a new alternative, whose current and base records are the parent's current ones.
     pub(super) fn make_alternative(&mut self, name: &Name, parent: &Name) -> Result<Answer, Refusal>
         ensures any { Goes (result ≡ Err Refusal.Device) (D.state (disk_of self.old)) (D.state (disk_of self.new)) }
         ensures disk { disk_of self.new ≡ disk_of self.old }
+        ensures held { held_of self.new ≡ held_of self.old }
         ensures failed { has_failed self.new ≡ has_failed self.old }
         ensures never { (result ≢ Err Refusal.Failed) × (result ≢ Err Refusal.Memory) }
         ensures same { OnErr result (entries_of self.new ≡ entries_of self.old) }
@@ -60,6 +61,7 @@ impl<D: Disk> Store<D> {
     pub(super) fn drop_alternative(&mut self, alt: &Name) -> Result<Answer, Refusal>
         ensures any { Goes (result ≡ Err Refusal.Device) (D.state (disk_of self.old)) (D.state (disk_of self.new)) }
         ensures disk { disk_of self.new ≡ disk_of self.old }
+        ensures held { held_of self.new ≡ held_of self.old }
         ensures failed { has_failed self.new ≡ has_failed self.old }
         ensures never { (result ≢ Err Refusal.Failed) × (result ≢ Err Refusal.Memory) }
         ensures same { OnErr result (entries_of self.new ≡ entries_of self.old) }
