@@ -20,6 +20,7 @@ pub mod Removing
 pub mod RestingLemmas
 pub mod RunLemmas
 pub mod SharedLemmas
+pub mod ShownLemmas
 pub mod SidesLemmas
 pub mod SlotLemmas
 pub mod SpareLemmas

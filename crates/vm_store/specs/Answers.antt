@@ -4,10 +4,10 @@ use Rattle.vm_types.specs.declared.answer.Answer.{Answer}
 use Rattle.vm_types.specs.declared.change.Change.{Change}
 use Rattle.vm_types.specs.declared.command.Command.{Command}
 use Rattle.vm_types.specs.declared.command.Side.{Side}
-use Rattle.vm_types.specs.declared.command.Command.TheVariants.{Put, Merge}
+use Rattle.vm_types.specs.declared.command.Command.TheVariants.{New, Drop, Put, Checkpoint, Uncheck, Back, Merge}
 use Rattle.vm_types.specs.declared.key.Key.{Key}
 use Rattle.vm_types.specs.declared.refusal.Refusal.{Refusal}
-use Rattle.vm_types.specs.declared.refusal.Refusal.TheVariants.{Full, Deep, Device, Memory}
+use Rattle.vm_types.specs.declared.refusal.Refusal.TheVariants.{Full, Deep, Device, Memory, Damaged}
 use Rattle.vm_types.specs.Map.{Map, get, delta}
 use Rattle.vm_types.specs.Places.{place}
 use Rattle.vm_types.specs.State.{State, tree_after, edits}
@@ -51,6 +51,23 @@ IsMergeDue (Ok accepted) false deep result = (result ≡ Ok accepted.1) ⊎ ((re
 abbrev pub IsMergeAnswer : State → ℕ → Type 0 → List ℕ → List (Key × Side) → Result Answer Refusal → Type 0
 IsMergeAnswer s spare deep alt settled result =
     (result ≡ Err Device) ⊎ ((result ≡ Err Memory) ⊎ IsMergeDue (step s.working (Merge alt settled)) (nat_lt spare (16 * edits s.working (Merge alt settled))) deep result)
+
+-- a refusal that comes before blocks are marked, taken or written: each one but Full, Deep, Device and Damaged
+abbrev pub IsEarly : Refusal → Type 0
+IsEarly Full = ⊥
+IsEarly Deep = ⊥
+IsEarly Device = ⊥
+IsEarly (Damaged block) = ⊥
+IsEarly refusal = Unit {0}
+
+-- the commands that make, drop or go back to alternatives and checkpoints: they change entries alone
+abbrev pub ChangesEntriesAlone : Command → Type 0
+ChangesEntriesAlone (New name parent) = Unit {0}
+ChangesEntriesAlone (Drop alt) = Unit {0}
+ChangesEntriesAlone (Checkpoint alt name) = Unit {0}
+ChangesEntriesAlone (Uncheck alt name) = Unit {0}
+ChangesEntriesAlone (Back alt name) = Unit {0}
+ChangesEntriesAlone command = ⊥
 
 -- the commands that take memory
 abbrev pub IsMerge : Command → Type 0

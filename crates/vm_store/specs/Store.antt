@@ -1,5 +1,5 @@
 -- A store, and the state that it stands for.
-use Rattle.std.specs.Prelude.{ℕ, Bool, List, find, Result}
+use Rattle.std.specs.Prelude.{◌≡◌, ℕ, Bool, List, find, Result}
 use Rattle.vm_types.specs.declared.answer.Answer.{Answer}
 use Rattle.vm_types.specs.declared.command.Command.{Command}
 use Rattle.vm_types.specs.declared.command.Command.TheVariants.{Merge}
@@ -31,6 +31,18 @@ module _ {D : Type 0} {members : _} where
   -- the block of the root of the working records of an alternative
   abbrev pub root_of : Store D members → List ℕ → ℕ
   root_of store alt = current_root (find (is_alternative_of alt) store.working.items)
+
+  -- the store is as before: its size, entries, held blocks and marks, and whether it has failed; of its disk nothing is said
+  pub record IsSameButDisk (old new : Store D members) : Type 0 where
+    pub alloc : new.alloc ≡ old.alloc
+    pub blocks : new.blocks ≡ old.blocks
+    pub slot_b : new.slot_b ≡ old.slot_b
+    pub entries : new.entries ≡ old.entries
+    pub committed : new.committed ≡ old.committed
+    pub working : new.working ≡ old.working
+    pub held : new.held ≡ old.held
+    pub marks : new.marks ≡ old.marks
+    pub failed : new.failed ≡ old.failed
 
   -- which blocks are held
   abbrev pub held_of : Store D members → List Bool

@@ -8,10 +8,12 @@
 
 mod changing;
 mod faults;
+mod laws;
 mod sides;
 mod store;
 mod versions;
 
+pub use laws::one_tree_shown;
 pub use store::{Stop, Store, format, open};
 
 /// How many records a leaf has at most.

@@ -5,7 +5,7 @@ ghost use Rattle.vm_types.specs.Kept.{LeftBy};
 ghost use Rattle.vm_disk.specs.Disk.{Goes, NoCalls};
 ghost use Rattle.vm_disk.specs.Moments.{Throughout, OnlyReads, Leaves};
 ghost use Rattle.vm_types.specs.Queries.{value_in};
-ghost use Rattle.vm_store.specs.Answers.{IsMerge};
+ghost use Rattle.vm_store.specs.Answers.{ChangesEntriesAlone, IsEarly, IsMerge};
 ghost use Rattle.vm_store.specs.Guarded.{IsGuarded};
 ghost use Rattle.vm_store.specs.Resting.{spare_of};
 ghost use Rattle.vm_store.specs.Shown.{Shows};
@@ -71,7 +71,7 @@ pub struct Store<D: Disk> {
 }
 
 impl<D: Disk> Store<D> {
-    ghost use Rattle.vm_store.specs.Store.{disk_of, has_failed, entries_of, root_of, Answers, Holds, held_of, free_of};
+    ghost use Rattle.vm_store.specs.Store.{disk_of, has_failed, entries_of, root_of, Answers, Holds, IsSameButDisk, held_of, free_of};
 
     /// Carries out one command. After an answer `Device` the store answers `Failed` to every call but
     /// `close`: close it, and open the disk again.
@@ -83,7 +83,11 @@ impl<D: Disk> Store<D> {
         ensures no_calls { has_failed self.old ≡ true → (self.new ≡ self.old) }
         ensures only_then { has_failed self.old ≡ false → result ≢ Err Refusal.Failed }
         ensures same { OnErr result (result ≢ Err Refusal.Device → entries_of self.new ≡ entries_of self.old) }
+        ensures unchanged { IfErr result (λ refusal. IsEarly refusal → IsSameButDisk self.old self.new) }
         ensures memory { result ≡ Err Refusal.Memory → IsMerge command.now }
+
+        // For these commands no device call is made, and no block is taken.
+        ensures blocks { ChangesEntriesAlone command.now → (disk_of self.new ≡ disk_of self.old) × (held_of self.new ≡ held_of self.old) }
 
         // The answer is the model's, or one that the device, or want of blocks or memory forces.
         ensures answer { (D.state (disk_of self.new)).honest ≡ true → has_failed self.old ≡ false
@@ -119,8 +123,14 @@ impl<D: Disk> Store<D> {
         ensures any { Goes (result ≡ Err Refusal.Device) (D.state (disk_of self.old)) (D.state (disk_of self.new)) }
         ensures never { result ≢ Err Refusal.Failed }
         ensures memory { result ≡ Err Refusal.Memory → IsMerge command.now }
+        ensures blocks { ChangesEntriesAlone command.now → (disk_of self.new ≡ disk_of self.old) × (held_of self.new ≡ held_of self.old) }
         ensures same { OnErr result (entries_of self.new ≡ entries_of self.old) }
+<<<<<<< HEAD
         ensures answer { (D.state (disk_of self.new)).honest ≡ true → (s : State) (holds : Holds self.old s)
+=======
+        ensures unchanged { IfErr result (λ refusal. IsEarly refusal → IsSameButDisk self.old self.new) }
+        ensures answer { (D.state (disk_of self.old)).honest ≡ true → (s : State) (holds : Holds self.old s)
+>>>>>>> h2/main
             → Answers self.old self.new s holds command.now result }
         ensures state { (D.state (disk_of self.new)).honest ≡ true → result ≢ Err Refusal.Device → (s : State) → Holds self.old s → Holds self.new (next s command.now result) }
         ensures crash { (D.state (disk_of self.new)).honest ≡ true → (s : State) → Holds self.old s
@@ -149,6 +159,7 @@ impl<D: Disk> Store<D> {
         ensures any { Goes (result ≡ Err Refusal.Device) (D.state (disk_of self.old)) (D.state (disk_of self.new)) }
         ensures failed { has_failed self.new ≡ has_failed self.old }
         ensures never { (result ≢ Err Refusal.Failed) × (result ≢ Err Refusal.Memory) }
+        ensures late { IfErr result (λ refusal. IsEarly refusal → ⊥) }
         ensures same { entries_of self.new ≡ entries_of self.old }
         ensures roots { root_of self.new ≡ root_of self.old }
         ensures reads { (D.state (disk_of self.new)).honest ≡ true → OnlyReads (D.state (disk_of self.old)) (D.state (disk_of self.new)) }
@@ -182,6 +193,7 @@ impl<D: Disk> Store<D> {
         ensures any { Goes (result ≡ Err Refusal.Device) (D.state (disk_of self.old)) (D.state (disk_of self.new)) }
         ensures failed { has_failed self.new ≡ has_failed self.old }
         ensures never { (result ≢ Err Refusal.Failed) × (result ≢ Err Refusal.Memory) }
+        ensures late { IfErr result (λ refusal. IsEarly refusal → ⊥) }
         ensures same { entries_of self.new ≡ entries_of self.old }
         ensures roots { root_of self.new ≡ root_of self.old }
         ensures free { IfOk result (λ yes. IsTrue yes → 16 * changes ≤ free_of self.new) }
@@ -205,7 +217,12 @@ impl<D: Disk> Store<D> {
         ensures failed { has_failed self.new ≡ has_failed self.old }
         ensures never { (result ≢ Err Refusal.Failed) × (result ≢ Err Refusal.Memory) }
         ensures same { OnErr result (entries_of self.new ≡ entries_of self.old) }
+<<<<<<< HEAD
         ensures answer { (D.state (disk_of self.new)).honest ≡ true → (s : State) (holds : Holds self.old s)
+=======
+        ensures unchanged { IfErr result (λ refusal. IsEarly refusal → IsSameButDisk self.old self.new) }
+        ensures answer { (D.state (disk_of self.old)).honest ≡ true → (s : State) (holds : Holds self.old s)
+>>>>>>> h2/main
             → Answers self.old self.new s holds (Command.Put alt.now key value.now) result }
         ensures state { (D.state (disk_of self.new)).honest ≡ true → (s : State) → Holds self.old s → Holds self.new (next s (Command.Put alt.now key value.now) result) }
         ensures crash { (D.state (disk_of self.new)).honest ≡ true → (s : State) → Holds self.old s
@@ -261,7 +278,7 @@ impl<D: Disk> Store<D> {
         ensures refused { has_failed self.old ≡ true → result ≡ Err Refusal.Failed }
         ensures no_calls { has_failed self.old ≡ true → self.new ≡ self.old }
         ensures only_then { has_failed self.old ≡ false → result ≢ Err Refusal.Failed }
-        ensures same { entries_of self.new ≡ entries_of self.old }
+        ensures unchanged { IsSameButDisk self.old self.new }
         ensures no_memory { result ≢ Err Refusal.Memory }
 
         ensures value { (D.state (disk_of self.new)).honest ≡ true → has_failed self.old ≡ false → (s : State) → Holds self.old s
@@ -287,6 +304,10 @@ impl<D: Disk> Store<D> {
         ensures disk { result ≡ disk_of self }
         ensures shown { (D.state result).honest ≡ true → has_failed self ≡ false → (s : State) → Holds self s
             → Shows (D.state result).now.contents s.committed }
+
+        // A crash after it leaves what was committed.
+        ensures crash { (D.state result).honest ≡ true → has_failed self ≡ false → (s : State) → Holds self s
+            → Leaves (λ x. Shows x s.committed) (D.state result).now }
     {
         let Store {
             disk,

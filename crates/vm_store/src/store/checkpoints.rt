@@ -5,6 +5,7 @@ ghost use Rattle.vm_types.specs.Kept.{LeftBy};
 ghost use Rattle.vm_disk.specs.Disk.{Goes};
 ghost use Rattle.vm_disk.specs.Moments.{Throughout, Leaves};
 ghost use Rattle.vm_types.specs.Queries.{checkpoints_in};
+ghost use Rattle.vm_store.specs.Answers.{IsEarly};
 ghost use Rattle.vm_store.specs.Shown.{Shows};
 
 use super::Store;
@@ -16,16 +17,22 @@ use vm_disk::Disk;
 use vm_types::{Answer, Command, Name, Refusal};
 
 impl<D: Disk> Store<D> {
-    ghost use Rattle.vm_store.specs.Store.{disk_of, has_failed, entries_of, Answers, Holds};
+    ghost use Rattle.vm_store.specs.Store.{disk_of, has_failed, entries_of, Answers, Holds, IsSameButDisk, held_of};
 
     // Names the present records of the alternative, current and base.
     pub(super) fn make_checkpoint(&mut self, alt: &Name, name: &Name) -> Result<Answer, Refusal>
         ensures any { Goes (result ≡ Err Refusal.Device) (D.state (disk_of self.old)) (D.state (disk_of self.new)) }
         ensures disk { disk_of self.new ≡ disk_of self.old }
+        ensures held { held_of self.new ≡ held_of self.old }
         ensures failed { has_failed self.new ≡ has_failed self.old }
         ensures never { (result ≢ Err Refusal.Failed) × (result ≢ Err Refusal.Memory) }
         ensures same { OnErr result (entries_of self.new ≡ entries_of self.old) }
+<<<<<<< HEAD
         ensures answer { (D.state (disk_of self.new)).honest ≡ true → (s : State) (holds : Holds self.old s)
+=======
+        ensures unchanged { IfErr result (λ refusal. IsEarly refusal → IsSameButDisk self.old self.new) }
+        ensures answer { (D.state (disk_of self.old)).honest ≡ true → (s : State) (holds : Holds self.old s)
+>>>>>>> h2/main
             → Answers self.old self.new s holds (Command.Checkpoint alt.now name.now) result }
         ensures state { (D.state (disk_of self.new)).honest ≡ true → (s : State) → Holds self.old s → Holds self.new (next s (Command.Checkpoint alt.now name.now) result) }
         ensures crash { (D.state (disk_of self.new)).honest ≡ true → (s : State) → Holds self.old s
@@ -54,10 +61,16 @@ impl<D: Disk> Store<D> {
     pub(super) fn uncheck(&mut self, alt: &Name, name: &Name) -> Result<Answer, Refusal>
         ensures any { Goes (result ≡ Err Refusal.Device) (D.state (disk_of self.old)) (D.state (disk_of self.new)) }
         ensures disk { disk_of self.new ≡ disk_of self.old }
+        ensures held { held_of self.new ≡ held_of self.old }
         ensures failed { has_failed self.new ≡ has_failed self.old }
         ensures never { (result ≢ Err Refusal.Failed) × (result ≢ Err Refusal.Memory) }
         ensures same { OnErr result (entries_of self.new ≡ entries_of self.old) }
+<<<<<<< HEAD
         ensures answer { (D.state (disk_of self.new)).honest ≡ true → (s : State) (holds : Holds self.old s)
+=======
+        ensures unchanged { IfErr result (λ refusal. IsEarly refusal → IsSameButDisk self.old self.new) }
+        ensures answer { (D.state (disk_of self.old)).honest ≡ true → (s : State) (holds : Holds self.old s)
+>>>>>>> h2/main
             → Answers self.old self.new s holds (Command.Uncheck alt.now name.now) result }
         ensures state { (D.state (disk_of self.new)).honest ≡ true → (s : State) → Holds self.old s → Holds self.new (next s (Command.Uncheck alt.now name.now) result) }
         ensures crash { (D.state (disk_of self.new)).honest ≡ true → (s : State) → Holds self.old s
@@ -77,10 +90,16 @@ impl<D: Disk> Store<D> {
     pub(super) fn go_back(&mut self, alt: &Name, name: &Name) -> Result<Answer, Refusal>
         ensures any { Goes (result ≡ Err Refusal.Device) (D.state (disk_of self.old)) (D.state (disk_of self.new)) }
         ensures disk { disk_of self.new ≡ disk_of self.old }
+        ensures held { held_of self.new ≡ held_of self.old }
         ensures failed { has_failed self.new ≡ has_failed self.old }
         ensures never { (result ≢ Err Refusal.Failed) × (result ≢ Err Refusal.Memory) }
         ensures same { OnErr result (entries_of self.new ≡ entries_of self.old) }
+<<<<<<< HEAD
         ensures answer { (D.state (disk_of self.new)).honest ≡ true → (s : State) (holds : Holds self.old s)
+=======
+        ensures unchanged { IfErr result (λ refusal. IsEarly refusal → IsSameButDisk self.old self.new) }
+        ensures answer { (D.state (disk_of self.old)).honest ≡ true → (s : State) (holds : Holds self.old s)
+>>>>>>> h2/main
             → Answers self.old self.new s holds (Command.Back alt.now name.now) result }
         ensures state { (D.state (disk_of self.new)).honest ≡ true → (s : State) → Holds self.old s → Holds self.new (next s (Command.Back alt.now name.now) result) }
         ensures crash { (D.state (disk_of self.new)).honest ≡ true → (s : State) → Holds self.old s

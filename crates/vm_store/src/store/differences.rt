@@ -15,7 +15,7 @@ use vm_disk::Disk;
 use vm_types::{Change, Conflict, Name, Refusal};
 
 impl<D: Disk> Store<D> {
-    ghost use Rattle.vm_store.specs.Store.{disk_of, has_failed, entries_of, Holds};
+    ghost use Rattle.vm_store.specs.Store.{disk_of, has_failed, Holds, IsSameButDisk};
     ghost use Rattle.vm_store.specs.Shared.{unshared_of, unshared_with_parent};
 
     /// What changed in the working state of an alternative since its base, by rising keys.
@@ -25,7 +25,7 @@ impl<D: Disk> Store<D> {
         ensures refused { has_failed self.old ≡ true → result ≡ Err Refusal.Failed }
         ensures no_calls { has_failed self.old ≡ true → self.new ≡ self.old }
         ensures only_then { has_failed self.old ≡ false → result ≢ Err Refusal.Failed }
-        ensures same { entries_of self.new ≡ entries_of self.old }
+        ensures unchanged { IsSameButDisk self.old self.new }
 
         ensures value { (D.state (disk_of self.new)).honest ≡ true → has_failed self.old ≡ false → (s : State) → Holds self.old s
             → IsList result (changes_in s.working alt.now) }
@@ -57,7 +57,7 @@ impl<D: Disk> Store<D> {
         ensures refused { has_failed self.old ≡ true → result ≡ Err Refusal.Failed }
         ensures no_calls { has_failed self.old ≡ true → self.new ≡ self.old }
         ensures only_then { has_failed self.old ≡ false → result ≢ Err Refusal.Failed }
-        ensures same { entries_of self.new ≡ entries_of self.old }
+        ensures unchanged { IsSameButDisk self.old self.new }
 
         ensures value { (D.state (disk_of self.new)).honest ≡ true → has_failed self.old ≡ false → (s : State) → Holds self.old s
             → IsList result (conflicts_in s.working alt.now) }

@@ -14,7 +14,7 @@ use vm_tree::scan;
 use vm_types::{Key, Name, Refusal, Value};
 
 impl<D: Disk> Store<D> {
-    ghost use Rattle.vm_store.specs.Store.{disk_of, has_failed, entries_of, Holds};
+    ghost use Rattle.vm_store.specs.Store.{disk_of, has_failed, Holds, IsSameButDisk};
 
     /// All records in the working state of an alternative, by rising keys.
     pub fn list(&mut self, alloc: Global, alt: &Name) -> Result<Vec<(Key, Value)>, Refusal>
@@ -23,7 +23,7 @@ impl<D: Disk> Store<D> {
         ensures refused { has_failed self.old ≡ true → result ≡ Err Refusal.Failed }
         ensures no_calls { has_failed self.old ≡ true → self.new ≡ self.old }
         ensures only_then { has_failed self.old ≡ false → result ≢ Err Refusal.Failed }
-        ensures same { entries_of self.new ≡ entries_of self.old }
+        ensures unchanged { IsSameButDisk self.old self.new }
 
         ensures value { (D.state (disk_of self.new)).honest ≡ true → has_failed self.old ≡ false → (s : State) → Holds self.old s
             → IsList result (records_in s.working alt.now) }

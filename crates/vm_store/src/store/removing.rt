@@ -1,11 +1,12 @@
 //! The command that takes a record out.
-ghost use Rattle.std.specs.Prelude.{◌≡◌, ◌≢◌, true, OnErr};
+ghost use Rattle.std.specs.Prelude.{◌≡◌, ◌≢◌, true, OnErr, IfErr};
 ghost use Rattle.vm_types.specs.State.{State, next};
 ghost use Rattle.vm_types.specs.declared.command.Command.TheVariants.{Remove};
 ghost use Rattle.vm_types.specs.Kept.{LeftBy};
 ghost use Rattle.vm_disk.specs.Disk.{Goes};
 ghost use Rattle.vm_disk.specs.Moments.{Throughout, Leaves};
 ghost use Rattle.vm_store.specs.Guarded.{IsGuarded};
+ghost use Rattle.vm_store.specs.Answers.{IsEarly};
 ghost use Rattle.vm_store.specs.Shown.{Shows};
 
 use super::Store;
@@ -17,7 +18,7 @@ use vm_tree::{get, remove};
 use vm_types::{Answer, Key, Name, Refusal};
 
 impl<D: Disk> Store<D> {
-    ghost use Rattle.vm_store.specs.Store.{disk_of, has_failed, entries_of, Answers, Holds, held_of};
+    ghost use Rattle.vm_store.specs.Store.{disk_of, has_failed, entries_of, Answers, Holds, IsSameButDisk, held_of};
 
     // Takes a record out of the alternative. The record is looked for first, so that no blocks are
     // marked for one that is absent.
@@ -26,7 +27,12 @@ impl<D: Disk> Store<D> {
         ensures failed { has_failed self.new ≡ has_failed self.old }
         ensures never { (result ≢ Err Refusal.Failed) × (result ≢ Err Refusal.Memory) }
         ensures same { OnErr result (entries_of self.new ≡ entries_of self.old) }
+<<<<<<< HEAD
         ensures answer { (D.state (disk_of self.new)).honest ≡ true → (s : State) (holds : Holds self.old s)
+=======
+        ensures unchanged { IfErr result (λ refusal. IsEarly refusal → IsSameButDisk self.old self.new) }
+        ensures answer { (D.state (disk_of self.old)).honest ≡ true → (s : State) (holds : Holds self.old s)
+>>>>>>> h2/main
             → Answers self.old self.new s holds (Remove alt.now key) result }
         ensures state { (D.state (disk_of self.new)).honest ≡ true → (s : State) → Holds self.old s → Holds self.new (next s (Remove alt.now key) result) }
         ensures crash { (D.state (disk_of self.new)).honest ≡ true → (s : State) → Holds self.old s
@@ -53,7 +59,7 @@ impl<D: Disk> Store<D> {
                 self.working[i].current = root;
                 Ok(Answer::Done)
             }
-            Ok(None) => Err(Refusal::NoSuchRecord),
+            Ok(None) => Err(Refusal::Damaged(root.block)),
             Err(fault) => Err(refusal_of(fault)),
         }
     }

@@ -20,18 +20,18 @@ loop-command-preserved g c =
     let sound = no_failure _ (λ is. let device = (e.failed before.sound).0 is in let yes = c.is_device-failed.ensures.1 device in cc (yes, c.if-failed.false)) in
     rw (take_one_more c.args.commands.now c.loop-command.command-index c.command-item.result c.loop-command-test.true c.command-item.is, c.in-Ok-push.ensures.items) (record {
       blocks = e.any.same_blocks ∙ before.blocks;
-      earlier = λ honest. before.earlier (e.any.earlier honest);
+      honesty = e.any.same_honesty ∙ before.honesty;
       rising = omega (arith, e.any.rising, before.rising);
       sound = sound;
       fine = none_more c.loop-command.answers.items c.apply-answer.result before.fine (λ is. let yes = c.is_device-failed.ensures.1 is in cc (yes, c.if-failed.false));
       many = grind (arith, common_steps);
       room = grind (arith, common_steps);
-      run = λ honest s rests. ran_more old (g.D.Disk.state (disk_of c.loop-command.self)) (g.D.Disk.state (disk_of c.apply-answer.new.self)) s _ _ c.command-item.result c.apply-answer.result (before.run (e.state.earlier honest) s rests) (e.crash honest before.sound _ (before.holds (e.state.earlier honest) s rests));
+      run = λ honest s rests. ran_more old (g.D.Disk.state (disk_of c.loop-command.self)) (g.D.Disk.state (disk_of c.apply-answer.new.self)) s _ _ c.command-item.result c.apply-answer.result (before.run honest s rests) (e.crash (before.honesty ∙ honest) before.sound _ (before.holds honest s rests));
       holds = λ honest s rests.
           let ok : c.apply-answer.result ≡ Err Device → ⊥ = λ is. let yes = c.is_device-failed.ensures.1 is in cc (yes, c.if-failed.false) in
-          subst (λ (t : State). Holds c.apply-answer.new.self t) (sym (after_more s _ _ c.command-item.result c.apply-answer.result (before.run (e.state.earlier honest) s rests).last.same)) (e.state honest before.sound ok _ (before.holds (e.state.earlier honest) s rests));
-      guarded = λ honest s rests. guarded_more old (g.D.Disk.state (disk_of c.loop-command.self)) (g.D.Disk.state (disk_of c.apply-answer.new.self)) c.apply-answer.new.self.held (before.guarded (e.state.earlier honest) s rests) (e.guarded honest before.sound _ (before.holds (e.state.earlier honest) s rests));
-      told = λ honest s rests. in_turn_more c.args.self.now c.loop-command.self c.apply-answer.new.self s _ _ c.command-item.result c.apply-answer.result (before.told (e.state.earlier honest) s rests) (carried_out c.loop-command.self c.apply-answer.new.self _ c.command-item.result c.apply-answer.result c.apply-answer.new.self.held (e.answer honest before.sound _) e.any (e.guarded honest before.sound _ (before.holds (e.state.earlier honest) s rests)) (e.failed before.sound) (λ fine. e.state honest before.sound fine _ (before.holds (e.state.earlier honest) s rests)));
+          subst (λ (t : State). Holds c.apply-answer.new.self t) (sym (after_more s _ _ c.command-item.result c.apply-answer.result (before.run honest s rests).last.same)) (e.state (before.honesty ∙ honest) before.sound ok _ (before.holds honest s rests));
+      guarded = λ honest s rests. guarded_more old (g.D.Disk.state (disk_of c.loop-command.self)) (g.D.Disk.state (disk_of c.apply-answer.new.self)) c.apply-answer.new.self.held (before.guarded honest s rests) (e.guarded (before.honesty ∙ honest) before.sound _ (before.holds honest s rests));
+      told = λ honest s rests. in_turn_more c.args.self.now c.loop-command.self c.apply-answer.new.self s _ _ c.command-item.result c.apply-answer.result (before.told honest s rests) (carried_out c.loop-command.self c.apply-answer.new.self _ c.command-item.result c.apply-answer.result c.apply-answer.new.self.held (e.answer (before.honesty ∙ honest) before.sound _) e.any (e.guarded (before.honesty ∙ honest) before.sound _ (before.holds honest s rests)) (e.failed before.sound) (λ fine. e.state (before.honesty ∙ honest) before.sound fine _ (before.holds honest s rests)));
     })
 
 pub loop-command-init : goal.loop-command-init
@@ -39,7 +39,7 @@ loop-command-init g c =
     let first = g.D.Disk.state (disk_of c.args.self.now) in
     rw (c.in-Ok.ensures.items) (record {
       blocks = refl;
-      earlier = λ honest. honest;
+      honesty = refl;
       rising = omega arith;
       sound = c.if-self.false;
       fine = tt;
@@ -62,7 +62,7 @@ returns-then-failed-clause-kept g c honest sound s rests =
     let old = g.D.Disk.state (disk_of c.args.self.now) in
     let count : length c.push.new.self.items ≡ c.loop-command.command-index + 1 = grind (arith, common_steps) in
     rw (count, take_one_more c.args.commands.now c.loop-command.command-index c.command-item.result c.loop-command-test.true c.command-item.is, c.in-Ok-push.ensures.items)
-    (ran_more old (g.D.Disk.state (disk_of c.loop-command.self)) (g.D.Disk.state (disk_of c.apply-answer.new.self)) s _ _ c.command-item.result c.apply-answer.result (before.run (e.crash.earlier honest) s rests) (e.crash honest before.sound _ (before.holds (e.crash.earlier honest) s rests))).moments
+    (ran_more old (g.D.Disk.state (disk_of c.loop-command.self)) (g.D.Disk.state (disk_of c.apply-answer.new.self)) s _ _ c.command-item.result c.apply-answer.result (before.run honest s rests) (e.crash (before.honesty ∙ honest) before.sound _ (before.holds honest s rests))).moments
 
 pub returns-then-failed-clause-answers : goal.returns-then-failed-clause-answers
 returns-then-failed-clause-answers g c honest sound s rests =
@@ -70,7 +70,7 @@ returns-then-failed-clause-answers g c honest sound s rests =
     let e = c.apply-answer.ensures in
     let count : length c.push.new.self.items ≡ c.loop-command.command-index + 1 = grind (arith, common_steps) in
     rw (count, take_one_more c.args.commands.now c.loop-command.command-index c.command-item.result c.loop-command-test.true c.command-item.is, c.in-Ok-push.ensures.items)
-    (in_turn_more c.args.self.now c.loop-command.self c.apply-answer.new.self s _ _ c.command-item.result c.apply-answer.result (before.told (e.state.earlier honest) s rests) (carried_out c.loop-command.self c.apply-answer.new.self _ c.command-item.result c.apply-answer.result c.apply-answer.new.self.held (e.answer honest before.sound _) e.any (e.guarded honest before.sound _ (before.holds (e.state.earlier honest) s rests)) (e.failed before.sound) (λ fine. e.state honest before.sound fine _ (before.holds (e.state.earlier honest) s rests))))
+    (in_turn_more c.args.self.now c.loop-command.self c.apply-answer.new.self s _ _ c.command-item.result c.apply-answer.result (before.told honest s rests) (carried_out c.loop-command.self c.apply-answer.new.self _ c.command-item.result c.apply-answer.result c.apply-answer.new.self.held (e.answer (before.honesty ∙ honest) before.sound _) e.any (e.guarded (before.honesty ∙ honest) before.sound _ (before.holds honest s rests)) (e.failed before.sound) (λ fine. e.state (before.honesty ∙ honest) before.sound fine _ (before.holds honest s rests))))
 
 pub returns-then-failed-clause-isolated : goal.returns-then-failed-clause-isolated
 returns-then-failed-clause-isolated g c honest s name apart = isolated name s _ _ apart
@@ -90,8 +90,8 @@ returns-in_default-clause-guarded g c honest sound s rests =
 pub returns-then-failed-clause-guarded : goal.returns-then-failed-clause-guarded
 returns-then-failed-clause-guarded g c honest sound s rests =
     let before = c.loop-command.invariant in
-    guarded_more (g.D.Disk.state (disk_of c.args.self.now)) (g.D.Disk.state (disk_of c.loop-command.self)) (g.D.Disk.state (disk_of c.apply-answer.new.self)) c.apply-answer.new.self.held (before.guarded (c.apply-answer.ensures.any.earlier honest) s rests)
-    (c.apply-answer.ensures.guarded honest before.sound _ (before.holds (c.apply-answer.ensures.any.earlier honest) s rests))
+    guarded_more (g.D.Disk.state (disk_of c.args.self.now)) (g.D.Disk.state (disk_of c.loop-command.self)) (g.D.Disk.state (disk_of c.apply-answer.new.self)) c.apply-answer.new.self.held (before.guarded honest s rests)
+    (c.apply-answer.ensures.guarded (before.honesty ∙ honest) before.sound _ (before.holds honest s rests))
 
 pub returns-clause-guarded : goal.returns-clause-guarded
 returns-clause-guarded g c honest sound s rests = c.loop-command.invariant.guarded honest s rests

@@ -13,14 +13,14 @@ invariant-loop-command g l =
     let old = g.D.Disk.state (disk_of l.fn.self) in
     let now = g.D.Disk.state (disk_of l.self) in record {
       blocks : now.blocks ≡ old.blocks;
-      earlier : now.honest ≡ true → old.honest ≡ true;
+      honesty : now.honest ≡ old.honest;
       rising : old.failures ≤ now.failures;
       sound : has_failed l.self ≡ false;
       fine : NoneIsDevice l.answers.items;
       many : length l.answers.items ≡ l.command-index;
       room : length l.commands ≤ vec_capacity l.answers;
-      run : now.honest ≡ true → (s : State) → Holds l.fn.self s → Ran old now s (take l.command-index l.commands) l.answers.items;
-      holds : now.honest ≡ true → (s : State) → Holds l.fn.self s → Holds l.self (after s (take l.command-index l.commands) l.answers.items);
-      guarded : now.honest ≡ true → (s : State) → Holds l.fn.self s → Throughout old now (λ m. (bits : List Bool) × IsGuarded bits m);
-      told : now.honest ≡ true → (s : State) → Holds l.fn.self s → AnswersInTurn l.fn.self l.self s (take l.command-index l.commands) l.answers.items;
+      run : old.honest ≡ true → (s : State) → Holds l.fn.self s → Ran old now s (take l.command-index l.commands) l.answers.items;
+      holds : old.honest ≡ true → (s : State) → Holds l.fn.self s → Holds l.self (after s (take l.command-index l.commands) l.answers.items);
+      guarded : old.honest ≡ true → (s : State) → Holds l.fn.self s → Throughout old now (λ m. (bits : List Bool) × IsGuarded bits m);
+      told : old.honest ≡ true → (s : State) → Holds l.fn.self s → AnswersInTurn l.fn.self l.self s (take l.command-index l.commands) l.answers.items;
     }
