@@ -1,6 +1,6 @@
 -- A run so far: what it answered, and what a crash leaves at each moment of it.
-use Rattle.std.proofs.Common.{◌≡◌, ◌≢◌, ◌↔◌, ℕ, ◌+◌, ◌<◌, Bool, true, false, List, [], ◌∷◌, ◌++◌, length, take, get_or, Result, Err, refl, sym, ap, ◌∙◌, subst, arith}
-use Rattle.std.proofs.lemmas.List.{take_more}
+use Rattle.std.proofs.Common.{◌≡◌, ◌≢◌, ◌↔◌, ℕ, zero, suc, ◌+◌, ◌<◌, ◌≤◌, Bool, true, false, List, [], ◌∷◌, ◌++◌, drop, length, take, get_or, Result, Err, OnErr, OnOk, refl, sym, ap, ◌∙◌, subst, arith}
+use Rattle.std.proofs.lemmas.List.{drop-append-le, drop_all, length-append, take-append-le, take_all, take_more}
 use Rattle.vm_types.specs.declared.answer.Answer.{Answer}
 use Rattle.vm_types.specs.declared.command.Command.{Command}
 use Rattle.vm_types.specs.declared.command.Command.TheVariants.{New, Drop, Put, Remove, Checkpoint, Uncheck, Back, Merge, Post, Commit, Reclaim}
@@ -18,12 +18,12 @@ use Rattle.vm_disk.proofs.MomentLemmas.{started, and_then, weaken, past_stays, m
 use Rattle.vm_store.specs.declared.versions.Version.{Version}
 use Rattle.vm_store.specs.Answers.{IsMergeAnswer, merge_changes}
 use Rattle.vm_store.specs.Changing.{MeetsFullPath}
-use Rattle.vm_store.specs.Store.{Answers, Holds, has_failed}
+use Rattle.vm_store.specs.Store.{Answers, Holds, entries_of, free_of, has_failed, held_of}
 use Rattle.vm_store.specs.declared.store.Store.{Store}
 use Rattle.vm_tree.specs.Free.{is_free}
 use Rattle.vm_store.specs.Guarded.{IsGuarded}
 use Rattle.vm_store.specs.Resting.{Rests, spare_of}
-use Rattle.vm_store.specs.Running.{AnswersInTurn, CarriesOut, NoneIsDevice}
+use Rattle.vm_store.specs.Running.{AnswersInTurn, CarriesOut, IsGuardedOnTheWay, IsOnTheWay, NoneIsDevice}
 use Rattle.vm_store.specs.Shown.{Shows}
 use Rattle.vm_store.proofs.RestingLemmas.{shows_old}
 
@@ -43,14 +43,6 @@ ran_more old mid new s commands answers c a ran crash =
     HasRun-more ran (disk.LeftAt new) c a _ _ (after_more s commands answers c a ran.last.same) (moment_rises mid new _ crash)
     (λ t x le was. past_stays mid new _ crash t x le was)
     (λ t x from to was. leaves_only mid new _ crash t x from was)
-
--- the slots are guarded before the first command, and through one more
-pub guarded_none : (old : disk.State) {bits : List Bool} → IsGuarded bits old.now → Throughout old old (λ m. (held : List Bool) × IsGuarded held m)
-guarded_none old {bits} guarded = started old (λ m. (held : List Bool) × IsGuarded held m) (bits, guarded)
-
-pub guarded_more : (old mid new : disk.State) (bits : List Bool) → Throughout old mid (λ m. (held : List Bool) × IsGuarded held m) → Throughout mid new (IsGuarded bits) → Throughout old new (λ m. (held : List Bool) × IsGuarded held m)
-guarded_more old mid new bits so_far more =
-    and_then old mid new (λ m. (held : List Bool) × IsGuarded held m) so_far (weaken mid new (IsGuarded bits) (λ m. (held : List Bool) × IsGuarded held m) (λ m guarded. (bits, guarded)) more)
 
 -- a crash before the first command shows what is committed
 pub rests_show : (m : Medium) (limit : ℕ) (slot_b : Bool) (bits : List Bool) (committed working : List Version) (s : State) → Rests m limit slot_b bits committed working s → Leaves (λ x. Shows x s.committed) m
@@ -74,20 +66,34 @@ module _ {D : Type 0} {members : _} (old new : Store D members) (s : State) (hol
   answers_on other Commit same size answer = answer
   answers_on other Reclaim same size answer = answer
 
+-- the others lead from the state after the first so many to the state after all
+after_through : (s : State) (n : ℕ) (commands : List Command) (answers : List (Result Answer Refusal)) → length answers ≡ length commands
+    → after (after s (take n commands) (take n answers)) (drop n commands) (drop n answers) ≡ after s commands answers
+after_through s zero commands answers same = refl
+after_through s (suc n) [] [] same = refl
+after_through s (suc n) [] (a ∷ answers) same = absurd (omega arith)
+after_through s (suc n) (c ∷ commands) [] same = absurd (omega arith)
+after_through s (suc n) (c ∷ commands) (a ∷ answers) same = after_through (next s c a) n commands answers (omega arith)
+
 module _ {D : Type 0} {members : _} where
   -- what `apply` promises of one command
-  pub carried_out : (old new : Store D members) (s : State) (c : Command) (a : Result Answer Refusal) (bits : List Bool) → ((holds : Holds old s) → Answers old new s holds c a)
-      → disk.Goes (a ≡ Err Device) (members.state old.disk) (members.state new.disk) → Throughout (members.state old.disk) (members.state new.disk) (IsGuarded bits)
-      → (has_failed new ≡ true ↔ a ≡ Err Device) → (a ≢ Err Device → Holds new (next s c a)) → CarriesOut old new s c a
-  carried_out old new s c a bits answers goes guarded failed holds = record {
+  pub carried_out : (old new : Store D members) (s : State) (c : Command) (a : Result Answer Refusal) → ((holds : Holds old s) → Answers old new s holds c a)
+      → disk.Goes (a ≡ Err Device) (members.state old.disk) (members.state new.disk) → (has_failed new ≡ true ↔ a ≡ Err Device)
+      → OnErr a (a ≢ Err Device → entries_of new ≡ entries_of old) → (a ≢ Err Device → Holds new (next s c a))
+      → Throughout (members.state old.disk) (members.state new.disk) (Leaves (LeftBy Shows s c)) → Throughout (members.state old.disk) (members.state new.disk) (IsGuarded (held_of new))
+      → (c ≡ Reclaim → (holds : Holds old s) → OnOk a (free_of new ≡ spare_of holds)) → CarriesOut old new s c a
+  carried_out old new s c a answers goes failed same holds crash guarded reclaimed = record {
     answers = answers;
     goes = goes;
-    since = weaken (members.state old.disk) (members.state new.disk) (IsGuarded bits) (λ m. Unit {0}) (λ m is. tt) guarded;
     failed = failed;
+    same = same;
     holds = holds;
+    crash = crash;
+    guarded = guarded;
+    reclaimed = reclaimed;
   }
 
-  -- and one command more
+  -- one command more
   pub in_turn_more : (old mid new : Store D members) (s : State) (commands : List Command) (answers : List (Result Answer Refusal)) (c : Command) (a : Result Answer Refusal) → AnswersInTurn old mid s commands answers
       → CarriesOut mid new (after s commands answers) c a → AnswersInTurn old new s (commands ++ c ∷ []) (answers ++ a ∷ [])
   in_turn_more old mid new s [] [] c a so_far last = (new, subst (λ (t : Store D members). CarriesOut t new s c a) so_far last, refl)
@@ -95,6 +101,55 @@ module _ {D : Type 0} {members : _} where
   in_turn_more old mid new s (d ∷ commands) [] c a so_far last = absurd so_far
   in_turn_more old mid new s (d ∷ commands) (b ∷ answers) c a so_far last =
       (so_far.0, so_far.1, in_turn_more so_far.0 mid new (next s d b) commands answers c a so_far.2 last)
+
+  -- the last store is on the way
+  way_last : (old new : Store D members) (s : State) (commands : List Command) (answers : List (Result Answer Refusal)) → length answers ≡ length commands → AnswersInTurn old new s commands answers
+      → IsOnTheWay old new s commands answers new
+  way_last old new s commands answers same told =
+      let all : take (length commands) commands ≡ commands = take_all (length commands) commands (omega arith) in
+      let each : take (length commands) answers ≡ answers = take_all (length commands) answers (omega arith) in
+      let none : drop (length commands) commands ≡ [] = drop_all (length commands) commands (omega arith) in
+      let no_answer : drop (length commands) answers ≡ [] = drop_all (length commands) answers (omega arith) in
+      record {
+        beginning = length commands;
+        within = omega arith;
+        before = rw (all, each) told;
+        behind = rw (none, no_answer) refl;
+      }
+
+  -- a store on the way stays there
+  way_more : (old mid new : Store D members) (s : State) (commands : List Command) (answers : List (Result Answer Refusal)) (c : Command) (a : Result Answer Refusal) → length answers ≡ length commands
+      → CarriesOut mid new (after s commands answers) c a → (store : Store D members) → IsOnTheWay old mid s commands answers store → IsOnTheWay old new s (commands ++ c ∷ []) (answers ++ a ∷ []) store
+  way_more old mid new s commands answers c a same last store way =
+      let n = way.beginning in
+      let inner : n ≤ length commands = way.within in
+      let state = after_through s n commands answers same in
+      let step = subst (λ (t : State). CarriesOut mid new t c a) (sym state) last in
+      record {
+        beginning = n;
+        within = rw (length-append commands (c ∷ [])) (omega (arith, inner));
+        before = rw (take-append-le n commands (c ∷ []) inner, take-append-le n answers (a ∷ []) (omega (arith, inner, same))) way.before;
+        behind = rw (take-append-le n commands (c ∷ []) inner, take-append-le n answers (a ∷ []) (omega (arith, inner, same)), drop-append-le n commands (c ∷ []) inner, drop-append-le n answers (a ∷ []) (omega (arith, inner, same)))
+            (in_turn_more store mid new (after s (take n commands) (take n answers)) (drop n commands) (drop n answers) c a way.behind step);
+      }
+
+  -- the slots are guarded before the first command
+  pub guarded_none : (store : Store D members) (s : State) → IsGuarded (held_of store) (members.state store.disk).now → Throughout (members.state store.disk) (members.state store.disk) (IsGuardedOnTheWay store store s [] [])
+  guarded_none store s guarded =
+      started (members.state store.disk) (IsGuardedOnTheWay store store s [] []) (store, way_last store store s [] [] refl refl, guarded)
+
+  -- and through one more
+  pub guarded_more : (old mid new : Store D members) (s : State) (commands : List Command) (answers : List (Result Answer Refusal)) (c : Command) (a : Result Answer Refusal) → length answers ≡ length commands
+      → AnswersInTurn old mid s commands answers → CarriesOut mid new (after s commands answers) c a
+      → Throughout (members.state old.disk) (members.state mid.disk) (IsGuardedOnTheWay old mid s commands answers)
+      → Throughout (members.state old.disk) (members.state new.disk) (IsGuardedOnTheWay old new s (commands ++ c ∷ []) (answers ++ a ∷ []))
+  guarded_more old mid new s commands answers c a same told last so_far =
+      let Q = IsGuardedOnTheWay old new s (commands ++ c ∷ []) (answers ++ a ∷ []) in
+      let ends : length (answers ++ a ∷ []) ≡ length (commands ++ c ∷ []) = rw (length-append answers (a ∷ []), length-append commands (c ∷ []), same) refl in
+      let here : IsOnTheWay old new s (commands ++ c ∷ []) (answers ++ a ∷ []) new = way_last old new s _ _ ends (in_turn_more old mid new s commands answers c a told last) in
+      and_then (members.state old.disk) (members.state mid.disk) (members.state new.disk) Q
+      (weaken (members.state old.disk) (members.state mid.disk) (IsGuardedOnTheWay old mid s commands answers) Q (λ m was. (was.0, way_more old mid new s commands answers c a same last was.0 was.1, was.2)) so_far)
+      (weaken (members.state mid.disk) (members.state new.disk) (IsGuarded (held_of new)) Q (λ m guarded. (new, here, guarded)) last.guarded)
 
 -- one more answer that is no failure of the device
 pub none_more : (answers : List (Result Answer Refusal)) (a : Result Answer Refusal) → NoneIsDevice answers → (a ≡ Err Device → ⊥) → NoneIsDevice (answers ++ a ∷ [])

@@ -1,25 +1,39 @@
--- What a run of commands answers.
-use Rattle.std.specs.Prelude.{◌≡◌, ◌≢◌, ◌↔◌, true, List, [], ◌∷◌, ◌++◌, Result, Err}
+-- What a command does to a store, and what a run of commands does.
+use Rattle.std.specs.Prelude.{◌≡◌, ◌≢◌, ◌↔◌, ◌≤◌, ℕ, true, List, [], ◌∷◌, ◌++◌, Result, Err, OnErr, OnOk, drop, length, take}
 use Rattle.vm_types.specs.declared.answer.Answer.{Answer}
 use Rattle.vm_types.specs.declared.command.Command.{Command}
+use Rattle.vm_types.specs.declared.command.Command.TheVariants.{Reclaim}
 use Rattle.vm_types.specs.declared.refusal.Refusal.{Refusal}
 use Rattle.vm_types.specs.declared.refusal.Refusal.TheVariants.{Device}
-use Rattle.vm_types.specs.State.{State, next}
-use Rattle.vm_disk.specs.Disk.{Goes}
-use Rattle.vm_disk.specs.Moments.{Throughout}
-use Rattle.vm_store.specs.Store.{Answers, Holds, has_failed}
+use Rattle.vm_types.specs.Kept.{LeftBy}
+use Rattle.vm_types.specs.State.{State, after, next}
+use Rattle.vm_disk.specs.Disk.{Goes, Medium}
+use Rattle.vm_disk.specs.Moments.{Leaves, Throughout}
+use Rattle.vm_store.specs.Guarded.{IsGuarded}
+use Rattle.vm_store.specs.Resting.{spare_of}
+use Rattle.vm_store.specs.Shown.{Shows}
+use Rattle.vm_store.specs.Store.{Answers, Holds, entries_of, free_of, has_failed, held_of}
 use Rattle.vm_store.specs.declared.store.Store.{Store}
 
 module _ {D : Type 0} {members : _} where
-  -- a store that stood for the state carried out a command. Its answer is the one that is due, where Full and Deep come on their
-  -- conditions and Memory to a Merge alone; or Device, where a device call failed, and then, and only then, the store has failed.
-  -- Else it stands for what the answer leaves
+  -- a store that stood for the state carried out a command
   pub record CarriesOut (old new : Store D members) (s : State) (command : Command) (answer : Result Answer Refusal) : Type 0 where
+    -- the answer is the one that is due, where Full and Deep come on their conditions and Memory to a Merge alone, or Device
     pub answers : (holds : Holds old s) → Answers old new s holds command answer
+    -- it is Device only where a device call failed
     pub goes : Goes (answer ≡ Err Device) (members.state old.disk) (members.state new.disk)
-    pub since : Throughout (members.state old.disk) (members.state new.disk) (λ m. Unit {0})
+    -- then, and only then, the store has failed
     pub failed : has_failed new ≡ true ↔ answer ≡ Err Device
+    -- a refusal leaves the entries as they were
+    pub same : OnErr answer (answer ≢ Err Device → entries_of new ≡ entries_of old)
+    -- a store that hasn't failed stands for what the answer leaves
     pub holds : answer ≢ Err Device → Holds new (next s command answer)
+    -- a crash at any moment leaves what was committed, or what the command commits
+    pub crash : Throughout (members.state old.disk) (members.state new.disk) (Leaves (LeftBy Shows s command))
+    -- at each moment the slots that it may leave in use are whole, clean and held
+    pub guarded : Throughout (members.state old.disk) (members.state new.disk) (IsGuarded (held_of new))
+    -- after a Reclaim just the spare blocks are free
+    pub reclaimed : command ≡ Reclaim → (holds : Holds old s) → OnOk answer (free_of new ≡ spare_of holds)
 
   -- commands are carried out one after another: each by the store that the one before left, from the first store to the last
   abbrev pub AnswersInTurn : Store D members → Store D members → State → List Command → List (Result Answer Refusal) → Type 0
@@ -28,6 +42,17 @@ module _ {D : Type 0} {members : _} where
       (mid : Store D members) × CarriesOut old mid s command answer × AnswersInTurn mid new (next s command answer) commands answers
   AnswersInTurn old new s [] (answer ∷ answers) = ⊥
   AnswersInTurn old new s (command ∷ commands) [] = ⊥
+
+  -- a store on the way: so many of the commands led from the first store to it, and the others lead from it to the last
+  pub record IsOnTheWay (old new : Store D members) (s : State) (commands : List Command) (answers : List (Result Answer Refusal)) (mid : Store D members) : Type 0 where
+    pub beginning : ℕ
+    pub within : beginning ≤ length commands
+    pub before : AnswersInTurn old mid s (take beginning commands) (take beginning answers)
+    pub behind : AnswersInTurn mid new (after s (take beginning commands) (take beginning answers)) (drop beginning commands) (drop beginning answers)
+
+  -- the slots that a crash may leave in use are whole, clean, and held by a store on the way
+  abbrev pub IsGuardedOnTheWay : Store D members → Store D members → State → List Command → List (Result Answer Refusal) → Medium → Type 0
+  IsGuardedOnTheWay old new s commands answers m = (mid : Store D members) × IsOnTheWay old new s commands answers mid × IsGuarded (held_of mid) m
 
 -- no answer is that the device failed
 abbrev pub NoneIsDevice : List (Result Answer Refusal) → Type 0

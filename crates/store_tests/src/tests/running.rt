@@ -76,3 +76,34 @@ fn list_ends_where_the_device_fails(rt: HostRuntime) -> Result<(), Fail> {
     assert_eq!(rt; record_on(rt.alloc(), disk.into_inner())?, None);
     Ok(())
 }
+
+// Of 64 blocks 34 are the store's own. The first Put takes a leaf, the second a copy of it, and then
+// no version reaches the first leaf any longer.
+#[test]
+fn reclaim_in_a_list_leaves_the_spare_blocks_free(rt: HostRuntime) -> Result<(), Fail> {
+    let alt = Name::new(b"top").ok_or("no name")?;
+    let first = Command::Put {
+        alt,
+        key: DUCT,
+        value: Value::new(b"duct").ok_or("no value")?,
+    };
+    let second = Command::Put {
+        alt,
+        key: DUCT,
+        value: Value::new(b"pipe").ok_or("no value")?,
+    };
+    let mut store = fresh_store(rt.alloc())?;
+    assert_eq!(rt; store.free(), Ok(30));
+    let (answers, stop) = store.run(rt.alloc(), &[first, second]);
+    assert_eq!(rt; answers.as_slice(), [Ok(Answer::Done), Ok(Answer::Done)].as_slice());
+    assert_eq!(rt; stop, None);
+    assert_eq!(rt; store.free(), Ok(28));
+
+    let (answers, stop) = store.run(rt.alloc(), &[Command::Reclaim, Command::Commit]);
+    assert_eq!(rt; answers.as_slice(), [Ok(Answer::Done), Ok(Answer::Done)].as_slice());
+    assert_eq!(rt; stop, None);
+    assert_eq!(rt; store.free(), Ok(29));
+    assert_eq!(rt; get(&mut store, DUCT), Ok(Value::new(b"pipe")));
+    let _disk = store.close();
+    Ok(())
+}

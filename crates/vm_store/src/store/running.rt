@@ -1,13 +1,12 @@
 //! Running a list of commands.
-ghost use Rattle.std.specs.Prelude.{◌≡◌, ◌≢◌, ℕ, Bool, true, false, List, [], length, take, All, Some, None};
+ghost use Rattle.std.specs.Prelude.{◌≡◌, ◌≢◌, ℕ, true, false, List, [], length, take, All, Err, Some, None};
 ghost use Rattle.vm_types.specs.Isolation.{LeavesAlone};
 ghost use Rattle.vm_types.specs.Moments.{KeptThroughout};
 ghost use Rattle.vm_types.specs.State.{State, after};
 ghost use Rattle.vm_types.specs.Tree.{named};
 ghost use Rattle.vm_disk.specs.Disk.{Goes, LeftAt, moment};
 ghost use Rattle.vm_disk.specs.Moments.{Throughout};
-ghost use Rattle.vm_store.specs.Guarded.{IsGuarded};
-ghost use Rattle.vm_store.specs.Running.{AnswersInTurn, EndsWithDevice, NoneIsDevice};
+ghost use Rattle.vm_store.specs.Running.{AnswersInTurn, EndsWithDevice, IsGuardedOnTheWay, NoneIsDevice};
 ghost use Rattle.vm_store.specs.Shown.{Shows};
 
 use super::{Store, is_device};
@@ -43,9 +42,11 @@ impl<D: Disk> Store<D> {
         ensures memory { result.1 ≡ Some Stop.Memory → (result.0.items ≡ []) × (self.new ≡ self.old) }
         ensures device { result.1 ≡ Some Stop.Device → (has_failed self.new ≡ true) × EndsWithDevice result.0.items }
         ensures no_device { result.1 ≢ Some Stop.Device → NoneIsDevice result.0.items }
+        ensures no_failed { All (λ answer. answer ≢ Err Refusal.Failed) result.0.items }
         ensures whole { result.1 ≡ None → (length result.0.items ≡ length commands.now) × (has_failed self.new ≡ false) }
 
-        // Each command is answered in its turn, as `apply` promises of it, and the store stands for what these answers leave.
+        // Each command is answered in its turn and does to the store just what `apply` promises of it, and the
+        // store stands for what these answers leave.
         ensures answers { (D.state (disk_of self.old)).honest ≡ true → has_failed self.old ≡ false → (s : State) → Holds self.old s
             → AnswersInTurn self.old self.new s (take (length result.0.items) commands.now) result.0.items }
         ensures state { (D.state (disk_of self.old)).honest ≡ true → has_failed self.new ≡ false → (s : State) → Holds self.old s
@@ -62,9 +63,11 @@ impl<D: Disk> Store<D> {
             → KeptThroughout Shows (LeftAt (D.state (disk_of self.new))) s (moment (D.state (disk_of self.old)))
             (take (length result.0.items) commands.now) result.0.items (moment (D.state (disk_of self.new))) }
 
-        // For at each moment the slots that it may leave in use are whole, clean and held.
+        // For at each moment the slots that it may leave in use are whole, clean, and held by the store as some
+        // of the commands left it: in a command, as `answers` says, as that one does.
         ensures guarded { (D.state (disk_of self.old)).honest ≡ true → has_failed self.old ≡ false → (s : State) → Holds self.old s
-            → Throughout (D.state (disk_of self.old)) (D.state (disk_of self.new)) (λ m. (bits : List Bool) × IsGuarded bits m) }
+            → Throughout (D.state (disk_of self.old)) (D.state (disk_of self.new))
+            (IsGuardedOnTheWay self.old self.new s (take (length result.0.items) commands.now) result.0.items) }
     {
         if self.failed {
             return (Vec::new(alloc), Some(Stop::Failed));

@@ -1,7 +1,8 @@
-use Rattle.std.proofs.Common.{◌≡◌, ◌+◌, [], ◌∷◌, ◌++◌, length, Result, Err, ap, refl, sym, subst, ◌∙◌, arith}
+use Rattle.std.proofs.Common.{◌≡◌, ◌≢◌, ◌+◌, [], ◌∷◌, ◌++◌, length, Result, Err, ap, refl, sym, subst, ◌∙◌, arith}
 use Rattle.std.proofs.lemmas.Grind.{common_steps}
+use Rattle.std.proofs.lemmas.List.Elements.{All-nil, All-push}
 use Rattle.vm_types.specs.State.{State}
-use Rattle.vm_types.specs.declared.refusal.Refusal.TheVariants.{Device}
+use Rattle.vm_types.specs.declared.refusal.Refusal.TheVariants.{Device, Failed}
 use Rattle.vm_types.proofs.Runs.{after_more}
 use Rattle.vm_types.proofs.IsolationLemmas.{isolated}
 use Rattle.vm_types.specs.declared.answer.Answer.{Answer}
@@ -17,6 +18,10 @@ loop-command-preserved g c =
     let before = c.loop-command.invariant in
     let e = c.apply-answer.ensures in
     let old = g.D.Disk.state (disk_of c.args.self.now) in
+    let first = c.args.self.now in
+    let mid = c.loop-command.self in
+    let new = c.apply-answer.new.self in
+    let command = c.command-item.result in
     let sound = no_failure _ (λ is. let device = (e.failed before.sound).0 is in let yes = c.is_device-failed.ensures.1 device in cc (yes, c.if-failed.false)) in
     rw (take_one_more c.args.commands.now c.loop-command.command-index c.command-item.result c.loop-command-test.true c.command-item.is, c.in-Ok-push.ensures.items) (record {
       blocks = e.any.same_blocks ∙ before.blocks;
@@ -24,14 +29,18 @@ loop-command-preserved g c =
       rising = omega (arith, e.any.rising, before.rising);
       sound = sound;
       fine = none_more c.loop-command.answers.items c.apply-answer.result before.fine (λ is. let yes = c.is_device-failed.ensures.1 is in cc (yes, c.if-failed.false));
+      never = All-push (λ answer. answer ≢ Err Failed) c.loop-command.answers.items c.apply-answer.result before.never (e.only_then before.sound);
       many = grind (arith, common_steps);
       room = grind (arith, common_steps);
       run = λ honest s rests. ran_more old (g.D.Disk.state (disk_of c.loop-command.self)) (g.D.Disk.state (disk_of c.apply-answer.new.self)) s _ _ c.command-item.result c.apply-answer.result (before.run honest s rests) (e.crash (before.honesty ∙ honest) before.sound _ (before.holds honest s rests));
       holds = λ honest s rests.
           let ok : c.apply-answer.result ≡ Err Device → ⊥ = λ is. let yes = c.is_device-failed.ensures.1 is in cc (yes, c.if-failed.false) in
           subst (λ (t : State). Holds c.apply-answer.new.self t) (sym (after_more s _ _ c.command-item.result c.apply-answer.result (before.run honest s rests).last.same)) (e.state (before.honesty ∙ honest) before.sound ok _ (before.holds honest s rests));
-      guarded = λ honest s rests. guarded_more old (g.D.Disk.state (disk_of c.loop-command.self)) (g.D.Disk.state (disk_of c.apply-answer.new.self)) c.apply-answer.new.self.held (before.guarded honest s rests) (e.guarded (before.honesty ∙ honest) before.sound _ (before.holds honest s rests));
-      told = λ honest s rests. in_turn_more c.args.self.now c.loop-command.self c.apply-answer.new.self s _ _ c.command-item.result c.apply-answer.result (before.told honest s rests) (carried_out c.loop-command.self c.apply-answer.new.self _ c.command-item.result c.apply-answer.result c.apply-answer.new.self.held (e.answer (before.honesty ∙ honest) before.sound _) e.any (e.guarded (before.honesty ∙ honest) before.sound _ (before.holds honest s rests)) (e.failed before.sound) (λ fine. e.state (before.honesty ∙ honest) before.sound fine _ (before.holds honest s rests)));
+      guarded = λ honest s rests. guarded_more first mid new s _ _ command c.apply-answer.result (before.run honest s rests).last.same (before.told honest s rests)
+          (carried_out mid new _ command c.apply-answer.result (e.answer (before.honesty ∙ honest) before.sound _) e.any (e.failed before.sound) e.same (λ fine. e.state (before.honesty ∙ honest) before.sound fine _ (before.holds honest s rests)) (e.crash (before.honesty ∙ honest) before.sound _ (before.holds honest s rests)) (e.guarded (before.honesty ∙ honest) before.sound _ (before.holds honest s rests)) (λ is. e.reclaimed (before.honesty ∙ honest) before.sound is _))
+          (before.guarded honest s rests);
+      told = λ honest s rests. in_turn_more first mid new s _ _ command c.apply-answer.result (before.told honest s rests)
+          (carried_out mid new _ command c.apply-answer.result (e.answer (before.honesty ∙ honest) before.sound _) e.any (e.failed before.sound) e.same (λ fine. e.state (before.honesty ∙ honest) before.sound fine _ (before.holds honest s rests)) (e.crash (before.honesty ∙ honest) before.sound _ (before.holds honest s rests)) (e.guarded (before.honesty ∙ honest) before.sound _ (before.holds honest s rests)) (λ is. e.reclaimed (before.honesty ∙ honest) before.sound is _));
     })
 
 pub loop-command-init : goal.loop-command-init
@@ -43,11 +52,12 @@ loop-command-init g c =
       rising = omega arith;
       sound = c.if-self.false;
       fine = tt;
+      never = All-nil (λ answer. answer ≢ Err Failed);
       many = refl;
       room = omega (arith, c.in-Ok.ensures.exact);
       run = λ honest s rests. ran_none first s (rests_show _ _ _ _ _ _ s rests);
       holds = λ honest s rests. rests;
-      guarded = λ honest s rests. guarded_none first (guarded_at_rest _ _ _ _ _ _ s rests);
+      guarded = λ honest s rests. guarded_none c.args.self.now s (guarded_at_rest _ _ _ _ _ _ s rests);
       told = λ honest s rests. refl;
     })
 
@@ -70,7 +80,7 @@ returns-then-failed-clause-answers g c honest sound s rests =
     let e = c.apply-answer.ensures in
     let count : length c.push.new.self.items ≡ c.loop-command.command-index + 1 = grind (arith, common_steps) in
     rw (count, take_one_more c.args.commands.now c.loop-command.command-index c.command-item.result c.loop-command-test.true c.command-item.is, c.in-Ok-push.ensures.items)
-    (in_turn_more c.args.self.now c.loop-command.self c.apply-answer.new.self s _ _ c.command-item.result c.apply-answer.result (before.told honest s rests) (carried_out c.loop-command.self c.apply-answer.new.self _ c.command-item.result c.apply-answer.result c.apply-answer.new.self.held (e.answer (before.honesty ∙ honest) before.sound _) e.any (e.guarded (before.honesty ∙ honest) before.sound _ (before.holds honest s rests)) (e.failed before.sound) (λ fine. e.state (before.honesty ∙ honest) before.sound fine _ (before.holds honest s rests))))
+    (in_turn_more c.args.self.now c.loop-command.self c.apply-answer.new.self s _ _ c.command-item.result c.apply-answer.result (before.told honest s rests) (carried_out c.loop-command.self c.apply-answer.new.self _ c.command-item.result c.apply-answer.result (e.answer (before.honesty ∙ honest) before.sound _) e.any (e.failed before.sound) e.same (λ fine. e.state (before.honesty ∙ honest) before.sound fine _ (before.holds honest s rests)) (e.crash (before.honesty ∙ honest) before.sound _ (before.holds honest s rests)) (e.guarded (before.honesty ∙ honest) before.sound _ (before.holds honest s rests)) (λ is. e.reclaimed (before.honesty ∙ honest) before.sound is _)))
 
 pub returns-then-failed-clause-isolated : goal.returns-then-failed-clause-isolated
 returns-then-failed-clause-isolated g c honest s name apart = isolated name s _ _ apart
@@ -85,16 +95,30 @@ returns-clause-kept g c honest sound s rests =
 
 pub returns-in_default-clause-guarded : goal.returns-in_default-clause-guarded
 returns-in_default-clause-guarded g c honest sound s rests =
-    guarded_none (g.D.Disk.state (disk_of c.args.self.now)) (guarded_at_rest _ _ _ _ _ _ s rests)
+    rw (c.new-in_default.ensures.items) (guarded_none c.args.self.now s (guarded_at_rest _ _ _ _ _ _ s rests))
 
 pub returns-then-failed-clause-guarded : goal.returns-then-failed-clause-guarded
 returns-then-failed-clause-guarded g c honest sound s rests =
     let before = c.loop-command.invariant in
-    guarded_more (g.D.Disk.state (disk_of c.args.self.now)) (g.D.Disk.state (disk_of c.loop-command.self)) (g.D.Disk.state (disk_of c.apply-answer.new.self)) c.apply-answer.new.self.held (before.guarded honest s rests)
-    (c.apply-answer.ensures.guarded (before.honesty ∙ honest) before.sound _ (before.holds honest s rests))
+    let e = c.apply-answer.ensures in
+    let count : length c.push.new.self.items ≡ c.loop-command.command-index + 1 = grind (arith, common_steps) in
+    rw (count, take_one_more c.args.commands.now c.loop-command.command-index c.command-item.result c.loop-command-test.true c.command-item.is, c.in-Ok-push.ensures.items)
+    (guarded_more c.args.self.now c.loop-command.self c.apply-answer.new.self s _ _ c.command-item.result c.apply-answer.result (before.run honest s rests).last.same (before.told honest s rests)
+    (carried_out c.loop-command.self c.apply-answer.new.self _ c.command-item.result c.apply-answer.result (e.answer (before.honesty ∙ honest) before.sound _) e.any (e.failed before.sound) e.same (λ fine. e.state (before.honesty ∙ honest) before.sound fine _ (before.holds honest s rests)) (e.crash (before.honesty ∙ honest) before.sound _ (before.holds honest s rests)) (e.guarded (before.honesty ∙ honest) before.sound _ (before.holds honest s rests)) (λ is. e.reclaimed (before.honesty ∙ honest) before.sound is _))
+    (before.guarded honest s rests))
 
 pub returns-clause-guarded : goal.returns-clause-guarded
-returns-clause-guarded g c honest sound s rests = c.loop-command.invariant.guarded honest s rests
+returns-clause-guarded g c honest sound s rests =
+    let after = c.loop-command.invariant in
+    rw (after.many) (after.guarded honest s rests)
+
+pub returns-in_default-clause-no_failed : goal.returns-in_default-clause-no_failed
+returns-in_default-clause-no_failed g c = rw (c.new-in_default.ensures.items) (All-nil (λ answer. answer ≢ Err Failed))
+
+pub returns-then-failed-clause-no_failed : goal.returns-then-failed-clause-no_failed
+returns-then-failed-clause-no_failed g c =
+    let before = c.loop-command.invariant in
+    rw (c.in-Ok-push.ensures.items) (All-push (λ answer. answer ≢ Err Failed) c.loop-command.answers.items c.apply-answer.result before.never (c.apply-answer.ensures.only_then before.sound))
 
 pub returns-then-failed-clause-device : goal.returns-then-failed-clause-device
 returns-then-failed-clause-device g c stopped =

@@ -1,8 +1,8 @@
-use Rattle.std.proofs.Common.{◌≡◌, ◌≤◌, Bool, true, false, List, length, take, vec_capacity}
+use Rattle.std.proofs.Common.{◌≡◌, ◌≢◌, ◌≤◌, All, true, false, Err, length, take, vec_capacity}
 use Rattle.vm_types.specs.State.{State, after}
 use Rattle.vm_disk.specs.Moments.{Throughout}
-use Rattle.vm_store.specs.Guarded.{IsGuarded}
-use Rattle.vm_store.specs.Running.{AnswersInTurn, NoneIsDevice}
+use Rattle.vm_types.specs.declared.refusal.Refusal.TheVariants.{Failed}
+use Rattle.vm_store.specs.Running.{AnswersInTurn, IsGuardedOnTheWay, NoneIsDevice}
 use Rattle.vm_store.specs.Store.{disk_of, has_failed, Holds}
 use Rattle.vm_store.proofs.RunLemmas.{Ran}
 use Rattle.vm_store.proofs.store.Store.run.Given as goal
@@ -17,10 +17,11 @@ invariant-loop-command g l =
       rising : old.failures ≤ now.failures;
       sound : has_failed l.self ≡ false;
       fine : NoneIsDevice l.answers.items;
+      never : All (λ answer. answer ≢ Err Failed) l.answers.items;
       many : length l.answers.items ≡ l.command-index;
       room : length l.commands ≤ vec_capacity l.answers;
       run : old.honest ≡ true → (s : State) → Holds l.fn.self s → Ran old now s (take l.command-index l.commands) l.answers.items;
       holds : old.honest ≡ true → (s : State) → Holds l.fn.self s → Holds l.self (after s (take l.command-index l.commands) l.answers.items);
-      guarded : old.honest ≡ true → (s : State) → Holds l.fn.self s → Throughout old now (λ m. (bits : List Bool) × IsGuarded bits m);
+      guarded : old.honest ≡ true → (s : State) → Holds l.fn.self s → Throughout old now (IsGuardedOnTheWay l.fn.self l.self s (take l.command-index l.commands) l.answers.items);
       told : old.honest ≡ true → (s : State) → Holds l.fn.self s → AnswersInTurn l.fn.self l.self s (take l.command-index l.commands) l.answers.items;
     }
