@@ -77,11 +77,12 @@ after_through s (suc n) (c ∷ commands) (a ∷ answers) same = after_through (n
 
 module _ {D : Type 0} {members : _} where
   -- what `apply` promises of one command
-  pub carried_out : (old new : Store D members) (s : State) (c : Command) (a : Result Answer Refusal) → ((holds : Holds old s) → Answers old new s holds c a)
+  pub carried_out : (old new : Store D members) (s : State) (c : Command) (a : Result Answer Refusal) → ((members.state new.disk).honest ≡ true → (holds : Holds old s) → Answers old new s holds c a)
       → disk.Goes (a ≡ Err Device) (members.state old.disk) (members.state new.disk) → (has_failed new ≡ true ↔ a ≡ Err Device)
-      → OnErr a (a ≢ Err Device → entries_of new ≡ entries_of old) → (a ≢ Err Device → Holds new (next s c a))
-      → Throughout (members.state old.disk) (members.state new.disk) (Leaves (LeftBy Shows s c)) → Throughout (members.state old.disk) (members.state new.disk) (IsGuarded (held_of new))
-      → (c ≡ Reclaim → (holds : Holds old s) → OnOk a (free_of new ≡ spare_of holds)) → CarriesOut old new s c a
+      → OnErr a (a ≢ Err Device → entries_of new ≡ entries_of old) → ((members.state new.disk).honest ≡ true → Holds old s → a ≢ Err Device → Holds new (next s c a))
+      → ((members.state new.disk).honest ≡ true → Holds old s → Throughout (members.state old.disk) (members.state new.disk) (Leaves (LeftBy Shows s c)))
+      → ((members.state new.disk).honest ≡ true → Holds old s → Throughout (members.state old.disk) (members.state new.disk) (IsGuarded (held_of new)))
+      → ((members.state new.disk).honest ≡ true → c ≡ Reclaim → (holds : Holds old s) → OnOk a (free_of new ≡ spare_of holds)) → CarriesOut old new s c a
   carried_out old new s c a answers goes failed same holds crash guarded reclaimed = record {
     answers = answers;
     goes = goes;
@@ -141,15 +142,16 @@ module _ {D : Type 0} {members : _} where
   -- and through one more
   pub guarded_more : (old mid new : Store D members) (s : State) (commands : List Command) (answers : List (Result Answer Refusal)) (c : Command) (a : Result Answer Refusal) → length answers ≡ length commands
       → AnswersInTurn old mid s commands answers → CarriesOut mid new (after s commands answers) c a
+      → (members.state new.disk).honest ≡ true → Holds mid (after s commands answers)
       → Throughout (members.state old.disk) (members.state mid.disk) (IsGuardedOnTheWay old mid s commands answers)
       → Throughout (members.state old.disk) (members.state new.disk) (IsGuardedOnTheWay old new s (commands ++ c ∷ []) (answers ++ a ∷ []))
-  guarded_more old mid new s commands answers c a same told last so_far =
+  guarded_more old mid new s commands answers c a same told last honest holds so_far =
       let Q = IsGuardedOnTheWay old new s (commands ++ c ∷ []) (answers ++ a ∷ []) in
       let ends : length (answers ++ a ∷ []) ≡ length (commands ++ c ∷ []) = rw (length-append answers (a ∷ []), length-append commands (c ∷ []), same) refl in
       let here : IsOnTheWay old new s (commands ++ c ∷ []) (answers ++ a ∷ []) new = way_last old new s _ _ ends (in_turn_more old mid new s commands answers c a told last) in
       and_then (members.state old.disk) (members.state mid.disk) (members.state new.disk) Q
       (weaken (members.state old.disk) (members.state mid.disk) (IsGuardedOnTheWay old mid s commands answers) Q (λ m was. (was.0, way_more old mid new s commands answers c a same last was.0 was.1, was.2)) so_far)
-      (weaken (members.state mid.disk) (members.state new.disk) (IsGuarded (held_of new)) Q (λ m guarded. (new, here, guarded)) last.guarded)
+      (weaken (members.state mid.disk) (members.state new.disk) (IsGuarded (held_of new)) Q (λ m guarded. (new, here, guarded)) (last.guarded honest holds))
 
 -- one more answer that is no failure of the device
 pub none_more : (answers : List (Result Answer Refusal)) (a : Result Answer Refusal) → NoneIsDevice answers → (a ≡ Err Device → ⊥) → NoneIsDevice (answers ++ a ∷ [])

@@ -16,10 +16,10 @@ use Rattle.vm_store.specs.Store.{Answers, Holds, entries_of, free_of, has_failed
 use Rattle.vm_store.specs.declared.store.Store.{Store}
 
 module _ {D : Type 0} {members : _} where
-  -- a store that stood for the state carried out a command
+  -- a store carried out a command. What is said of its state asks that it stood for this one before, and that the disk is honest after it
   pub record CarriesOut (old new : Store D members) (s : State) (command : Command) (answer : Result Answer Refusal) : Type 0 where
     -- the answer is the one that is due, where Full and Deep come on their conditions and Memory to a Merge alone, or Device
-    pub answers : (holds : Holds old s) → Answers old new s holds command answer
+    pub answers : (members.state new.disk).honest ≡ true → (holds : Holds old s) → Answers old new s holds command answer
     -- it is Device only where a device call failed
     pub goes : Goes (answer ≡ Err Device) (members.state old.disk) (members.state new.disk)
     -- then, and only then, the store has failed
@@ -27,13 +27,13 @@ module _ {D : Type 0} {members : _} where
     -- a refusal leaves the entries as they were
     pub same : OnErr answer (answer ≢ Err Device → entries_of new ≡ entries_of old)
     -- a store that hasn't failed stands for what the answer leaves
-    pub holds : answer ≢ Err Device → Holds new (next s command answer)
+    pub holds : (members.state new.disk).honest ≡ true → Holds old s → answer ≢ Err Device → Holds new (next s command answer)
     -- a crash at any moment leaves what was committed, or what the command commits
-    pub crash : Throughout (members.state old.disk) (members.state new.disk) (Leaves (LeftBy Shows s command))
+    pub crash : (members.state new.disk).honest ≡ true → Holds old s → Throughout (members.state old.disk) (members.state new.disk) (Leaves (LeftBy Shows s command))
     -- at each moment the slots that it may leave in use are whole, clean and held
-    pub guarded : Throughout (members.state old.disk) (members.state new.disk) (IsGuarded (held_of new))
+    pub guarded : (members.state new.disk).honest ≡ true → Holds old s → Throughout (members.state old.disk) (members.state new.disk) (IsGuarded (held_of new))
     -- after a Reclaim just the spare blocks are free
-    pub reclaimed : command ≡ Reclaim → (holds : Holds old s) → OnOk answer (free_of new ≡ spare_of holds)
+    pub reclaimed : (members.state new.disk).honest ≡ true → command ≡ Reclaim → (holds : Holds old s) → OnOk answer (free_of new ≡ spare_of holds)
 
   -- commands are carried out one after another: each by the store that the one before left, from the first store to the last
   abbrev pub AnswersInTurn : Store D members → Store D members → State → List Command → List (Result Answer Refusal) → Type 0

@@ -125,12 +125,8 @@ impl<D: Disk> Store<D> {
         ensures memory { result ≡ Err Refusal.Memory → IsMerge command.now }
         ensures blocks { ChangesEntriesAlone command.now → (disk_of self.new ≡ disk_of self.old) × (held_of self.new ≡ held_of self.old) }
         ensures same { OnErr result (entries_of self.new ≡ entries_of self.old) }
-<<<<<<< HEAD
-        ensures answer { (D.state (disk_of self.new)).honest ≡ true → (s : State) (holds : Holds self.old s)
-=======
         ensures unchanged { IfErr result (λ refusal. IsEarly refusal → IsSameButDisk self.old self.new) }
-        ensures answer { (D.state (disk_of self.old)).honest ≡ true → (s : State) (holds : Holds self.old s)
->>>>>>> h2/main
+        ensures answer { (D.state (disk_of self.new)).honest ≡ true → (s : State) (holds : Holds self.old s)
             → Answers self.old self.new s holds command.now result }
         ensures state { (D.state (disk_of self.new)).honest ≡ true → result ≢ Err Refusal.Device → (s : State) → Holds self.old s → Holds self.new (next s command.now result) }
         ensures crash { (D.state (disk_of self.new)).honest ≡ true → (s : State) → Holds self.old s
@@ -217,12 +213,8 @@ impl<D: Disk> Store<D> {
         ensures failed { has_failed self.new ≡ has_failed self.old }
         ensures never { (result ≢ Err Refusal.Failed) × (result ≢ Err Refusal.Memory) }
         ensures same { OnErr result (entries_of self.new ≡ entries_of self.old) }
-<<<<<<< HEAD
-        ensures answer { (D.state (disk_of self.new)).honest ≡ true → (s : State) (holds : Holds self.old s)
-=======
         ensures unchanged { IfErr result (λ refusal. IsEarly refusal → IsSameButDisk self.old self.new) }
-        ensures answer { (D.state (disk_of self.old)).honest ≡ true → (s : State) (holds : Holds self.old s)
->>>>>>> h2/main
+        ensures answer { (D.state (disk_of self.new)).honest ≡ true → (s : State) (holds : Holds self.old s)
             → Answers self.old self.new s holds (Command.Put alt.now key value.now) result }
         ensures state { (D.state (disk_of self.new)).honest ≡ true → (s : State) → Holds self.old s → Holds self.new (next s (Command.Put alt.now key value.now) result) }
         ensures crash { (D.state (disk_of self.new)).honest ≡ true → (s : State) → Holds self.old s

@@ -27,12 +27,8 @@ impl<D: Disk> Store<D> {
         ensures failed { has_failed self.new ≡ has_failed self.old }
         ensures never { result ≢ Err Refusal.Failed }
         ensures same { OnErr result (entries_of self.new ≡ entries_of self.old) }
-<<<<<<< HEAD
-        ensures answer { (D.state (disk_of self.new)).honest ≡ true → (s : State) (holds : Holds self.old s)
-=======
         ensures unchanged { IfErr result (λ refusal. IsEarly refusal → IsSameButDisk self.old self.new) }
-        ensures answer { (D.state (disk_of self.old)).honest ≡ true → (s : State) (holds : Holds self.old s)
->>>>>>> h2/main
+        ensures answer { (D.state (disk_of self.new)).honest ≡ true → (s : State) (holds : Holds self.old s)
             → Answers self.old self.new s holds (Merge alt.now settled.now) result }
         ensures state { (D.state (disk_of self.new)).honest ≡ true → (s : State) → Holds self.old s → Holds self.new (next s (Merge alt.now settled.now) result) }
         ensures crash { (D.state (disk_of self.new)).honest ≡ true → (s : State) → Holds self.old s

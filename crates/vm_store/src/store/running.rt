@@ -47,25 +47,25 @@ impl<D: Disk> Store<D> {
 
         // Each command is answered in its turn and does to the store just what `apply` promises of it, and the
         // store stands for what these answers leave.
-        ensures answers { (D.state (disk_of self.old)).honest ≡ true → has_failed self.old ≡ false → (s : State) → Holds self.old s
+        ensures answers { has_failed self.old ≡ false → (s : State)
             → AnswersInTurn self.old self.new s (take (length result.0.items) commands.now) result.0.items }
-        ensures state { (D.state (disk_of self.old)).honest ≡ true → has_failed self.new ≡ false → (s : State) → Holds self.old s
+        ensures state { (D.state (disk_of self.new)).honest ≡ true → has_failed self.new ≡ false → (s : State) → Holds self.old s
             → Holds self.new (after s (take (length result.0.items) commands.now) result.0.items) }
 
         // An alternative on which no command works stays as it is.
-        ensures isolated { (D.state (disk_of self.old)).honest ≡ true → (s : State) (name : List ℕ)
+        ensures isolated { (D.state (disk_of self.new)).honest ≡ true → (s : State) (name : List ℕ)
             → LeavesAlone s (take (length result.0.items) commands.now) result.0.items name
             → named (after s (take (length result.0.items) commands.now) result.0.items).working name ≡ named s.working name }
 
         // Stopped at any moment, a crash shows the committed tree after a beginning of the commands that is
         // empty or ends with a commit, and this beginning holds every commit that was acknowledged.
-        ensures kept { (D.state (disk_of self.old)).honest ≡ true → has_failed self.old ≡ false → (s : State) → Holds self.old s
+        ensures kept { (D.state (disk_of self.new)).honest ≡ true → has_failed self.old ≡ false → (s : State) → Holds self.old s
             → KeptThroughout Shows (LeftAt (D.state (disk_of self.new))) s (moment (D.state (disk_of self.old)))
             (take (length result.0.items) commands.now) result.0.items (moment (D.state (disk_of self.new))) }
 
         // For at each moment the slots that it may leave in use are whole, clean, and held by the store as some
         // of the commands left it: in a command, as `answers` says, as that one does.
-        ensures guarded { (D.state (disk_of self.old)).honest ≡ true → has_failed self.old ≡ false → (s : State) → Holds self.old s
+        ensures guarded { (D.state (disk_of self.new)).honest ≡ true → has_failed self.old ≡ false → (s : State) → Holds self.old s
             → Throughout (D.state (disk_of self.old)) (D.state (disk_of self.new))
             (IsGuardedOnTheWay self.old self.new s (take (length result.0.items) commands.now) result.0.items) }
     {

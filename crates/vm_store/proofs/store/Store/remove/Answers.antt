@@ -185,25 +185,15 @@ pub returns-in-Ok-None-remove-clause-answer : goal.returns-in-Ok-None-remove-cla
 returns-in-Ok-None-remove-clause-answer g c honest s rests =
     let e = c.index.result.now in
     let is = found_at c.args.alt.now _ _ c.in-Some.i e c.deref.ensures.value c.in-Some.ensures.found ∙ ap Some (sym c.index.ensures) in
-<<<<<<< HEAD
+    let found = found_entry _ _ _ _ _ _ s rests c.args.alt.now e is in
+    let there = value_found _ _ _ _ _ _ s rests c.args.alt.now e is c.args.key (Some c.in-Ok-Some.field-0-0) (sym c.in-Ok-Some.field-0-is ∙ c.in-Ok-Some.ensures.value (c.has_spare.ensures.any.earlier (c.in-Ok-None-remove.ensures.any.earlier honest)) sizes found.filed.current found.stands.current.stands_in found.stands.current.rooted) in
     let rests' = c.has_spare.ensures.state (c.in-Ok-None-remove.ensures.any.earlier honest) s (read_rests _ _ _ _ _ _ _ s (c.in-Ok-Some.ensures.reads (c.has_spare.ensures.any.earlier (c.in-Ok-None-remove.ensures.any.earlier honest))) rests) in
     let mid = c.has_spare.new.self in
     let is' = found_again c.args.alt.now _ (mid.committed.items, mid.working.items) e c.has_spare.ensures.same is in
     let found' = found_entry _ _ _ _ _ _ s rests' c.args.alt.now e is' in
     let removed = c.in-Ok-None-remove.ensures.remove honest found'.filed.current (grown_of _ _ _ _ e.current _ (sym mid.bits) found'.stands.current) in
-    removes_missing s c.args.alt.now c.args.key _ _ (value_found _ _ _ _ _ _ s rests' c.args.alt.now e is' c.args.key None (sym (removed_none _ _ _ c.in-Ok-None-remove.field-0-is removed)))
-=======
-    let found = found_entry _ _ _ _ _ _ s rests c.args.alt.now e is in
-    let there = value_found _ _ _ _ _ _ s rests c.args.alt.now e is c.args.key (Some c.in-Ok-Some.field-0-0) (sym c.in-Ok-Some.field-0-is ∙ c.in-Ok-Some.ensures.value honest sizes found.filed.current found.stands.current.stands_in found.stands.current.rooted) in
-    let honest' = c.has_spare.ensures.any.same_honesty ∙ (c.in-Ok-Some.ensures.any.same_honesty ∙ honest) in
-    let rests' = c.has_spare.ensures.state (c.in-Ok-Some.ensures.any.same_honesty ∙ honest) s (read_rests _ _ _ _ _ _ _ s (c.in-Ok-Some.ensures.reads honest) rests) in
-    let mid = c.has_spare.new.self in
-    let is' = found_again c.args.alt.now _ (mid.committed.items, mid.working.items) e c.has_spare.ensures.same is in
-    let found' = found_entry _ _ _ _ _ _ s rests' c.args.alt.now e is' in
-    let removed = c.in-Ok-None-remove.ensures.remove honest' found'.filed.current (grown_of _ _ _ _ e.current _ (sym mid.bits) found'.stands.current) in
     let missing = value_found _ _ _ _ _ _ s rests' c.args.alt.now e is' c.args.key None (sym (removed_none _ _ _ c.in-Ok-None-remove.field-0-is removed)) in
     let clash = there ∙ sym missing in cc
->>>>>>> h2/main
 
 pub returns-in-Err-remove-clause-answer : goal.returns-in-Err-remove-clause-answer
 returns-in-Err-remove-clause-answer g c honest s rests =

@@ -25,22 +25,22 @@ loop-command-preserved g c =
     let sound = no_failure _ (λ is. let device = (e.failed before.sound).0 is in let yes = c.is_device-failed.ensures.1 device in cc (yes, c.if-failed.false)) in
     rw (take_one_more c.args.commands.now c.loop-command.command-index c.command-item.result c.loop-command-test.true c.command-item.is, c.in-Ok-push.ensures.items) (record {
       blocks = e.any.same_blocks ∙ before.blocks;
-      honesty = e.any.same_honesty ∙ before.honesty;
+      earlier = λ honest. before.earlier (e.any.earlier honest);
       rising = omega (arith, e.any.rising, before.rising);
       sound = sound;
       fine = none_more c.loop-command.answers.items c.apply-answer.result before.fine (λ is. let yes = c.is_device-failed.ensures.1 is in cc (yes, c.if-failed.false));
       never = All-push (λ answer. answer ≢ Err Failed) c.loop-command.answers.items c.apply-answer.result before.never (e.only_then before.sound);
       many = grind (arith, common_steps);
       room = grind (arith, common_steps);
-      run = λ honest s rests. ran_more old (g.D.Disk.state (disk_of c.loop-command.self)) (g.D.Disk.state (disk_of c.apply-answer.new.self)) s _ _ c.command-item.result c.apply-answer.result (before.run honest s rests) (e.crash (before.honesty ∙ honest) before.sound _ (before.holds honest s rests));
+      run = λ honest s rests. ran_more old (g.D.Disk.state (disk_of c.loop-command.self)) (g.D.Disk.state (disk_of c.apply-answer.new.self)) s _ _ c.command-item.result c.apply-answer.result (before.run (e.any.earlier honest) s rests) (e.crash honest before.sound _ (before.holds (e.any.earlier honest) s rests));
       holds = λ honest s rests.
           let ok : c.apply-answer.result ≡ Err Device → ⊥ = λ is. let yes = c.is_device-failed.ensures.1 is in cc (yes, c.if-failed.false) in
-          subst (λ (t : State). Holds c.apply-answer.new.self t) (sym (after_more s _ _ c.command-item.result c.apply-answer.result (before.run honest s rests).last.same)) (e.state (before.honesty ∙ honest) before.sound ok _ (before.holds honest s rests));
-      guarded = λ honest s rests. guarded_more first mid new s _ _ command c.apply-answer.result (before.run honest s rests).last.same (before.told honest s rests)
-          (carried_out mid new _ command c.apply-answer.result (e.answer (before.honesty ∙ honest) before.sound _) e.any (e.failed before.sound) e.same (λ fine. e.state (before.honesty ∙ honest) before.sound fine _ (before.holds honest s rests)) (e.crash (before.honesty ∙ honest) before.sound _ (before.holds honest s rests)) (e.guarded (before.honesty ∙ honest) before.sound _ (before.holds honest s rests)) (λ is. e.reclaimed (before.honesty ∙ honest) before.sound is _))
-          (before.guarded honest s rests);
-      told = λ honest s rests. in_turn_more first mid new s _ _ command c.apply-answer.result (before.told honest s rests)
-          (carried_out mid new _ command c.apply-answer.result (e.answer (before.honesty ∙ honest) before.sound _) e.any (e.failed before.sound) e.same (λ fine. e.state (before.honesty ∙ honest) before.sound fine _ (before.holds honest s rests)) (e.crash (before.honesty ∙ honest) before.sound _ (before.holds honest s rests)) (e.guarded (before.honesty ∙ honest) before.sound _ (before.holds honest s rests)) (λ is. e.reclaimed (before.honesty ∙ honest) before.sound is _));
+          subst (λ (t : State). Holds c.apply-answer.new.self t) (sym (after_more s _ _ c.command-item.result c.apply-answer.result (before.run (e.any.earlier honest) s rests).last.same)) (e.state honest before.sound ok _ (before.holds (e.any.earlier honest) s rests));
+      guarded = λ honest s rests. guarded_more first mid new s _ _ command c.apply-answer.result (before.run (e.any.earlier honest) s rests).last.same (before.told s)
+          (carried_out mid new _ command c.apply-answer.result (λ honest. e.answer honest before.sound _) e.any (e.failed before.sound) e.same (λ honest rests fine. e.state honest before.sound fine _ rests) (λ honest rests. e.crash honest before.sound _ rests) (λ honest rests. e.guarded honest before.sound _ rests) (λ honest is. e.reclaimed honest before.sound is _)) honest (before.holds (e.any.earlier honest) s rests)
+          (before.guarded (e.any.earlier honest) s rests);
+      told = λ s. in_turn_more first mid new s _ _ command c.apply-answer.result (before.told s)
+          (carried_out mid new _ command c.apply-answer.result (λ honest. e.answer honest before.sound _) e.any (e.failed before.sound) e.same (λ honest rests fine. e.state honest before.sound fine _ rests) (λ honest rests. e.crash honest before.sound _ rests) (λ honest rests. e.guarded honest before.sound _ rests) (λ honest is. e.reclaimed honest before.sound is _));
     })
 
 pub loop-command-init : goal.loop-command-init
@@ -48,7 +48,7 @@ loop-command-init g c =
     let first = g.D.Disk.state (disk_of c.args.self.now) in
     rw (c.in-Ok.ensures.items) (record {
       blocks = refl;
-      honesty = refl;
+      earlier = λ honest. honest;
       rising = omega arith;
       sound = c.if-self.false;
       fine = tt;
@@ -58,7 +58,7 @@ loop-command-init g c =
       run = λ honest s rests. ran_none first s (rests_show _ _ _ _ _ _ s rests);
       holds = λ honest s rests. rests;
       guarded = λ honest s rests. guarded_none c.args.self.now s (guarded_at_rest _ _ _ _ _ _ s rests);
-      told = λ honest s rests. refl;
+      told = λ s. refl;
     })
 
 pub returns-in_default-clause-kept : goal.returns-in_default-clause-kept
@@ -72,15 +72,15 @@ returns-then-failed-clause-kept g c honest sound s rests =
     let old = g.D.Disk.state (disk_of c.args.self.now) in
     let count : length c.push.new.self.items ≡ c.loop-command.command-index + 1 = grind (arith, common_steps) in
     rw (count, take_one_more c.args.commands.now c.loop-command.command-index c.command-item.result c.loop-command-test.true c.command-item.is, c.in-Ok-push.ensures.items)
-    (ran_more old (g.D.Disk.state (disk_of c.loop-command.self)) (g.D.Disk.state (disk_of c.apply-answer.new.self)) s _ _ c.command-item.result c.apply-answer.result (before.run honest s rests) (e.crash (before.honesty ∙ honest) before.sound _ (before.holds honest s rests))).moments
+    (ran_more old (g.D.Disk.state (disk_of c.loop-command.self)) (g.D.Disk.state (disk_of c.apply-answer.new.self)) s _ _ c.command-item.result c.apply-answer.result (before.run (e.any.earlier honest) s rests) (e.crash honest before.sound _ (before.holds (e.any.earlier honest) s rests))).moments
 
 pub returns-then-failed-clause-answers : goal.returns-then-failed-clause-answers
-returns-then-failed-clause-answers g c honest sound s rests =
+returns-then-failed-clause-answers g c sound s =
     let before = c.loop-command.invariant in
     let e = c.apply-answer.ensures in
     let count : length c.push.new.self.items ≡ c.loop-command.command-index + 1 = grind (arith, common_steps) in
     rw (count, take_one_more c.args.commands.now c.loop-command.command-index c.command-item.result c.loop-command-test.true c.command-item.is, c.in-Ok-push.ensures.items)
-    (in_turn_more c.args.self.now c.loop-command.self c.apply-answer.new.self s _ _ c.command-item.result c.apply-answer.result (before.told honest s rests) (carried_out c.loop-command.self c.apply-answer.new.self _ c.command-item.result c.apply-answer.result (e.answer (before.honesty ∙ honest) before.sound _) e.any (e.failed before.sound) e.same (λ fine. e.state (before.honesty ∙ honest) before.sound fine _ (before.holds honest s rests)) (e.crash (before.honesty ∙ honest) before.sound _ (before.holds honest s rests)) (e.guarded (before.honesty ∙ honest) before.sound _ (before.holds honest s rests)) (λ is. e.reclaimed (before.honesty ∙ honest) before.sound is _)))
+    (in_turn_more c.args.self.now c.loop-command.self c.apply-answer.new.self s _ _ c.command-item.result c.apply-answer.result (before.told s) (carried_out c.loop-command.self c.apply-answer.new.self _ c.command-item.result c.apply-answer.result (λ honest. e.answer honest before.sound _) e.any (e.failed before.sound) e.same (λ honest rests fine. e.state honest before.sound fine _ rests) (λ honest rests. e.crash honest before.sound _ rests) (λ honest rests. e.guarded honest before.sound _ rests) (λ honest is. e.reclaimed honest before.sound is _)))
 
 pub returns-then-failed-clause-isolated : goal.returns-then-failed-clause-isolated
 returns-then-failed-clause-isolated g c honest s name apart = isolated name s _ _ apart
@@ -103,9 +103,9 @@ returns-then-failed-clause-guarded g c honest sound s rests =
     let e = c.apply-answer.ensures in
     let count : length c.push.new.self.items ≡ c.loop-command.command-index + 1 = grind (arith, common_steps) in
     rw (count, take_one_more c.args.commands.now c.loop-command.command-index c.command-item.result c.loop-command-test.true c.command-item.is, c.in-Ok-push.ensures.items)
-    (guarded_more c.args.self.now c.loop-command.self c.apply-answer.new.self s _ _ c.command-item.result c.apply-answer.result (before.run honest s rests).last.same (before.told honest s rests)
-    (carried_out c.loop-command.self c.apply-answer.new.self _ c.command-item.result c.apply-answer.result (e.answer (before.honesty ∙ honest) before.sound _) e.any (e.failed before.sound) e.same (λ fine. e.state (before.honesty ∙ honest) before.sound fine _ (before.holds honest s rests)) (e.crash (before.honesty ∙ honest) before.sound _ (before.holds honest s rests)) (e.guarded (before.honesty ∙ honest) before.sound _ (before.holds honest s rests)) (λ is. e.reclaimed (before.honesty ∙ honest) before.sound is _))
-    (before.guarded honest s rests))
+    (guarded_more c.args.self.now c.loop-command.self c.apply-answer.new.self s _ _ c.command-item.result c.apply-answer.result (before.run (e.any.earlier honest) s rests).last.same (before.told s)
+    (carried_out c.loop-command.self c.apply-answer.new.self _ c.command-item.result c.apply-answer.result (λ honest. e.answer honest before.sound _) e.any (e.failed before.sound) e.same (λ honest rests fine. e.state honest before.sound fine _ rests) (λ honest rests. e.crash honest before.sound _ rests) (λ honest rests. e.guarded honest before.sound _ rests) (λ honest is. e.reclaimed honest before.sound is _)) honest (before.holds (e.any.earlier honest) s rests)
+    (before.guarded (e.any.earlier honest) s rests))
 
 pub returns-clause-guarded : goal.returns-clause-guarded
 returns-clause-guarded g c honest sound s rests =

@@ -13,15 +13,15 @@ invariant-loop-command g l =
     let old = g.D.Disk.state (disk_of l.fn.self) in
     let now = g.D.Disk.state (disk_of l.self) in record {
       blocks : now.blocks ≡ old.blocks;
-      honesty : now.honest ≡ old.honest;
+      earlier : now.honest ≡ true → old.honest ≡ true;
       rising : old.failures ≤ now.failures;
       sound : has_failed l.self ≡ false;
       fine : NoneIsDevice l.answers.items;
       never : All (λ answer. answer ≢ Err Failed) l.answers.items;
       many : length l.answers.items ≡ l.command-index;
       room : length l.commands ≤ vec_capacity l.answers;
-      run : old.honest ≡ true → (s : State) → Holds l.fn.self s → Ran old now s (take l.command-index l.commands) l.answers.items;
-      holds : old.honest ≡ true → (s : State) → Holds l.fn.self s → Holds l.self (after s (take l.command-index l.commands) l.answers.items);
-      guarded : old.honest ≡ true → (s : State) → Holds l.fn.self s → Throughout old now (IsGuardedOnTheWay l.fn.self l.self s (take l.command-index l.commands) l.answers.items);
-      told : old.honest ≡ true → (s : State) → Holds l.fn.self s → AnswersInTurn l.fn.self l.self s (take l.command-index l.commands) l.answers.items;
+      run : now.honest ≡ true → (s : State) → Holds l.fn.self s → Ran old now s (take l.command-index l.commands) l.answers.items;
+      holds : now.honest ≡ true → (s : State) → Holds l.fn.self s → Holds l.self (after s (take l.command-index l.commands) l.answers.items);
+      guarded : now.honest ≡ true → (s : State) → Holds l.fn.self s → Throughout old now (IsGuardedOnTheWay l.fn.self l.self s (take l.command-index l.commands) l.answers.items);
+      told : (s : State) → AnswersInTurn l.fn.self l.self s (take l.command-index l.commands) l.answers.items;
     }
