@@ -1,0 +1,93 @@
+#!/usr/bin/env python3
+"""Lists the lemmas and definitions of the crates that nothing cites: `tools/uncited.py`.
+
+It reads specs/ and proofs/ of each crate. An item counts as cited where its name stands outside its own
+text and outside a line of imports: in another item, in a contract, or in an answer. What goals name
+(Answers.antt, Invariants.antt, Proof.antt) is cited by the check itself, and is left out, as are the sessions
+that are computed (Rows.antt). It prints a line for each item that is left, and ends with status 1 where there
+is one.
+"""
+import pathlib
+import re
+import sys
+
+ROOT = pathlib.Path(__file__).resolve().parent.parent
+# Answers to goals, and the sessions of the model that are computed by its definitions.
+LEFT_OUT = {"Answers.antt", "Invariants.antt", "Proof.antt", "Lib.antt", "Rows.antt"}
+ITEM = re.compile(
+    r"^(?P<indent> *)(?:(?:abbrev|unfoldable) )?(?:pub )?(?:(?:record|data) )?"
+    r"(?P<name>[^\s:(){}.,λ]+) *(?:\([^:=]*:.*?\) *)*:(?: |$)"
+)
+WORD = re.compile(r"[^\s(){}\[\],;:.\"→×⊎¬↔≡≢≤<∙∷+*/=|]+")
+NOT_ITEMS = {"let", "use", "mod", "open", "where", "in", "--", "pub", "module", "unfolding"}
+
+
+def items(text):
+    """The items of a file: name, first and last line."""
+    lines = text.split("\n")
+    heads = []
+    for number, line in enumerate(lines):
+        found = ITEM.match(line)
+        if not found or found["name"] in NOT_ITEMS or line.lstrip().startswith("--"):
+            continue
+        indent = len(found["indent"])
+        if indent > 2 or (indent == 2 and not in_module(lines, number)):
+            continue
+        heads.append((found["name"], number, indent))
+    for at, (name, first, indent) in enumerate(heads):
+        last = heads[at + 1][1] if at + 1 < len(heads) else len(lines)
+        yield name, first, last
+
+
+def in_module(lines, number):
+    """Whether the line stands in a `module`, and not in a record."""
+    for line in reversed(lines[:number]):
+        if line and not line.startswith(" ") and not line.startswith("--"):
+            return line.startswith(("module", "abbrev mutual", "mutual"))
+    return False
+
+
+def words_of(lines):
+    """The words of lines that are no imports and no comments."""
+    found = set()
+    for line in lines:
+        bare = line.strip()
+        if bare.startswith(("use ", "ghost use ", "pub use ", "--", "//")):
+            continue
+        found.update(WORD.findall(line))
+    return found
+
+
+def main():
+    files = [
+        path
+        for path in sorted(ROOT.glob("crates/*/**/*"))
+        if path.suffix in (".rt", ".antt") and "out" not in path.relative_to(ROOT).parts
+    ]
+    texts = {path: path.read_text().split("\n") for path in files}
+    words = {path: words_of(lines) for path, lines in texts.items()}
+    imports = {
+        path: "\n".join(line for line in lines if re.match(r"\s*(ghost |pub )?use ", line))
+        for path, lines in texts.items()
+    }
+    left = 0
+    for path in files:
+        parts = path.relative_to(ROOT).parts
+        if path.suffix != ".antt" or path.name in LEFT_OUT:
+            continue
+        crate = parts[1]
+        for name, first, last in items("\n".join(texts[path])):
+            own = texts[path][:first] + texts[path][last:]
+            cited = name in words_of(own) or any(
+                name in words[other]
+                and (f"Rattle.{crate}." in imports[other] or f"Rattle.{crate}." in "\n".join(texts[other]))
+                for other in files
+                if other != path
+            )
+            if not cited:
+                print(f"{path.relative_to(ROOT)}:{first + 1}: {name}")
+                left += 1
+    sys.exit(1 if left else 0)
+
+
+main()
