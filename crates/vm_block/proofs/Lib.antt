@@ -1,5 +1,6 @@
 pub mod EachLemmas
 pub mod FormLemmas
+pub mod HeadLemmas
 pub mod LeafLemmas
 pub mod NodeLemmas
 pub mod Pieces

@@ -1,4 +1,5 @@
 pub mod FullPath
+pub mod Head
 pub mod Header
 pub mod Leaf
 pub mod Node

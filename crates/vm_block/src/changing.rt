@@ -1,15 +1,16 @@
 //! One child or one record put in the bytes of a block, which is not written anew for it.
-ghost use Rattle.std.specs.Prelude.{◌≡◌, ℕ, ◌+◌, ◌<◌, ◌≤◌, ◌++◌, ◌∷◌, List, length, take, drop};
+ghost use Rattle.std.specs.Prelude.{◌≡◌, ◌≢◌, ◌↔◌, ℕ, ◌+◌, ◌<◌, ◌≤◌, ◌++◌, ◌∷◌, List, length, take, drop};
+ghost use Rattle.vm_block.specs.Head.{IsLeafHead};
 ghost use Rattle.vm_block.specs.Leaf.{Record, RecordFits, IsLeaf, leaf_bytes};
 ghost use Rattle.vm_block.specs.Node.{IsNode, node_bytes};
 ghost use Rattle.vm_block.specs.Way.{Leaves};
 ghost use Rattle.vm_block.specs.declared.node.Child.{Child};
 
+use crate::head::leaf_count;
 use crate::keys::read_key;
 use crate::leaf::{write_leaf_head, write_record};
 use crate::node::{Child, write_child};
 use crate::way::choose;
-use byteorder::{ByteOrder, LittleEndian};
 use vm_types::{Key, Value};
 
 /// What came of a record that was to be put in a leaf.
@@ -19,7 +20,7 @@ pub enum Placed {
     Put,
     /// The leaf has no room for it, and is as it was.
     Full,
-    /// The bytes are no leaf of so many records.
+    /// The bytes begin with the head of no leaf of so many records, and are as they were.
     NoLeaf,
 }
 
@@ -57,14 +58,15 @@ fn insert_record(bytes: &mut [u8; 4096], count: usize, index: usize, key: Key, v
 pub fn put_record(bytes: &mut [u8; 4096], most: usize, key: Key, value: &Value) -> Placed
     requires { most ≤ 16 }
     ensures fits { RecordFits (key, value.now) }
+    ensures head { (result ≢ Placed.NoLeaf) ↔ ((n : ℕ) × IsLeafHead bytes.old most n) }
+    ensures kept { result ≢ Placed.Put → bytes.new ≡ bytes.old }
     ensures only { (rs : List Record) → IsLeaf bytes.old rs → length rs ≤ most → Leaves result most (key, value.now) rs bytes.old bytes.new }
 {
     let short = value.as_bytes().len() <= Value::MAX_LEN;
     prove!(short);
-    let count = LittleEndian::read_u32(&bytes[8..]) as usize;
-    if count == 0 || count > most {
+    let Some(count) = leaf_count(bytes, most) else {
         return Placed::NoLeaf;
-    }
+    };
     let place = key.place();
     let index = choose(bytes, 252, count, place);
     let there = read_key(&bytes[16 + 252 * index..]).place();

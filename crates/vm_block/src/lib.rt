@@ -5,11 +5,12 @@
 //! read exactly where its bytes are the form, every zero byte included, and then as the one thing
 //! that it spells; and what is written is read again. A descent to a key, and a change of one child
 //! or record, go by the bytes alone: of a block that is of its form they say and make what reading,
-//! changing and writing it would; of other bytes they promise nothing but to end. No call takes
-//! memory.
+//! changing and writing it would. Of other bytes they answer that they are none where their first
+//! sixteen are no head, and behind a head they take what stands there. No call takes memory.
 #![tactic(auto)]
 
 mod changing;
+mod head;
 mod header;
 mod keys;
 mod laws;
@@ -26,7 +27,7 @@ pub use changing::{Placed, put_record, set_child};
 pub use header::{read_header, write_header};
 pub use laws::{one_form, one_tree, written_is_a_form};
 pub use leaf::{read_leaf, write_leaf};
-pub use node::{Child, Node, read_node, write_node};
+pub use node::{Child, Node, read_node, spelled_children, write_node};
 pub use selector::{read_selector, write_selector};
 pub use slot::{
     Entry, Kind, MAX_BLOCKS, MAX_ENTRIES, MIN_BLOCKS, SlotHead, read_entry, read_slot_head,

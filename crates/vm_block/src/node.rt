@@ -112,6 +112,19 @@ fn read_children(bytes: &[u8], count: usize, children: &mut ArrayVec<Child, 256>
     }
 }
 
+/// So many children, as they are spelled behind the head of an inner block: those that it has,
+/// where the bytes are one with so many, and else what stands there.
+pub fn spelled_children(bytes: &[u8; 4096], count: usize) -> ArrayVec<Child, 256>
+    requires { count ≤ 256 }
+    ensures many { length result.items ≡ count }
+    ensures fit { AllByRecursion ChildFits result.items }
+    ensures only { (level : ℕ) (cs : List Child) → IsNode bytes.now level cs → count ≡ length cs → result.items ≡ cs }
+{
+    let mut children = ArrayVec::new();
+    read_children(&bytes[16..], count, &mut children);
+    children
+}
+
 /// Whether an inner block may have this level and so many children.
 pub(crate) fn is_in_range(level: u32, count: u32) -> bool
     ensures { IsTrue result ↔ ((0 < level) × (level ≤ 7) × (0 < count) × (count ≤ 256)) }

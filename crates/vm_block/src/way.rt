@@ -1,17 +1,18 @@
 //! The way down to a key in the bytes of blocks, which are not read whole for it.
-ghost use Rattle.std.specs.Prelude.{◌≡◌, ℕ, ◌+◌, ◌*◌, ◌<◌, ◌≤◌, List, length, IfSome, IsSomeAnd, slice_index_or};
+ghost use Rattle.std.specs.Prelude.{◌≡◌, ℕ, ◌+◌, ◌*◌, ◌<◌, ◌≤◌, List, None, length, take, drop, IfSome, IsSomeAnd, slice_index_or};
 ghost use Rattle.vm_types.specs.Places.{KeyFits, place, value_at};
-ghost use Rattle.vm_block.specs.Leaf.{Record, IsLeaf};
-ghost use Rattle.vm_block.specs.Node.{ChildFits, IsNode};
+ghost use Rattle.vm_block.specs.Head.{IsLeafHead, IsNodeHead};
+ghost use Rattle.vm_block.specs.Leaf.{Record, RecordFits, IsLeaf, key_bytes, record_bytes};
+ghost use Rattle.vm_block.specs.Node.{ChildFits, IsNode, child_bytes};
 ghost use Rattle.vm_block.specs.FullPath.{IsChosen};
 ghost use Rattle.vm_block.specs.Tree.{Begins};
 ghost use Rattle.vm_block.specs.Way.{KeysStand, Lowest, Takes};
 ghost use Rattle.vm_block.specs.declared.node.Child.{Child};
 
+use crate::head::{leaf_count, node_numbers};
 use crate::keys::read_key;
 use crate::leaf::{MAX_RECORDS, read_record};
-use crate::node::{Child, is_in_range, read_child};
-use byteorder::{ByteOrder, LittleEndian};
+use crate::node::{Child, read_child};
 use vm_types::{Key, Value};
 
 /// Where a descent to a key goes in an inner block.
@@ -52,55 +53,67 @@ pub(crate) fn choose(bytes: &[u8; 4096], size: usize, count: usize, place: u128)
 fn child_at(bytes: &[u8; 4096], i: usize) -> Child
     requires { i < 256 }
     ensures fits { ChildFits result }
+    ensures spelled { take 14 (drop (16 + 14 * i) bytes.now) ≡ child_bytes result }
     ensures child { (level : ℕ) (cs : List Child) → IsNode bytes.now level cs → i < length cs → slice_index_or cs i result ≡ result }
 {
     let at = 16 + 14 * i;
     read_child(&bytes[at..at + 14])
 }
 
-/// Where a descent to the key goes in an inner block. None where no inner block has such a level
-/// or so many children; of other bytes that are no inner block it is any child.
+/// Where a descent to the key goes in an inner block. None just where the bytes begin with the
+/// head of none; behind its head an inner block is not looked at but for the keys on the way.
 pub fn find_child(bytes: &[u8; 4096], key: Key) -> Option<Way>
     ensures range { IfSome result (λ way. (0 < way.level) × (way.level ≤ 7) × (way.index < way.count) × (way.count ≤ 256)) }
     ensures fits { IfSome result (λ way. ChildFits way.child) }
+
+    // On any bytes: Some just where they begin with the head of an inner block, whose level and count it tells; and
+    // the child is what is spelled at its index.
+    ensures head { IfSome result (λ way. IsNodeHead bytes.now way.level way.count) }
+    ensures headed { (level n : ℕ) → IsNodeHead bytes.now level n → IsSomeAnd result (λ way. (way.level ≡ level) × (way.count ≡ n)) }
+    ensures spelled { IfSome result (λ way. take 14 (drop (16 + 14 * way.index) bytes.now) ≡ child_bytes way.child) }
+
     ensures only { (level : ℕ) (cs : List Child) → IsNode bytes.now level cs
         → IsSomeAnd result (λ way. (way.level ≡ level) × (way.count ≡ length cs) × Takes cs (place key) way.index way.child) }
 {
-    let level = LittleEndian::read_u32(&bytes[4..]);
-    let count = LittleEndian::read_u32(&bytes[8..]);
-    if !is_in_range(level, count) {
-        return None;
+    match node_numbers(bytes) {
+        Some((level, count)) => {
+            let index = choose(bytes, 14, count, key.place());
+            Some(Way {
+                level,
+                count,
+                index,
+                child: child_at(bytes, index),
+            })
+        }
+        None => None,
     }
-    let count = count as usize;
-    let index = choose(bytes, 14, count, key.place());
-    Some(Way {
-        level: level as u8,
-        count,
-        index,
-        child: child_at(bytes, index),
-    })
 }
 
 /// The lowest key of an inner block, that of its first child, or of a leaf.
 pub fn lowest_key(bytes: &[u8; 4096]) -> Key
     ensures fits { KeyFits result }
+    ensures spelled { take 10 (drop 16 bytes.now) ≡ key_bytes result }
     ensures node { (level : ℕ) (cs : List Child) → IsNode bytes.now level cs → Lowest result cs }
     ensures leaf { (rs : List Record) → IsLeaf bytes.now rs → Begins result rs }
 {
     read_key(&bytes[16..])
 }
 
-/// The value of the key in a leaf. None where no leaf has so many records, or the record that was
-/// found is none; of other bytes that are no leaf it is any answer.
+/// The value of the key in a leaf. None just where the bytes begin with the head of none, or the
+/// record that was found is none.
 pub fn find_record(bytes: &[u8; 4096], key: Key) -> Option<Option<Value>>
+    // On any bytes: None where they begin with the head of no leaf, and else only where a record is none.
+    ensures head { IfSome result (λ value. (n : ℕ) × IsLeafHead bytes.now 16 n) }
+    ensures headed { (n : ℕ) → IsLeafHead bytes.now 16 n → result ≡ None
+        → (i : ℕ) × (i < n) × ((r : Record) → RecordFits r → take 252 (drop (16 + 252 * i) bytes.now) ≡ record_bytes r → ⊥) }
+
     ensures only { (rs : List Record) → IsLeaf bytes.now rs → IsSomeAnd result (λ value. value ≡ value_at (place key) rs) }
 {
-    let count = LittleEndian::read_u32(&bytes[8..]);
-    if count == 0 || count > MAX_RECORDS {
+    let Some(count) = leaf_count(bytes, MAX_RECORDS as usize) else {
         return None;
-    }
+    };
     let place = key.place();
-    let at = 16 + 252 * choose(bytes, 252, count as usize, place);
+    let at = 16 + 252 * choose(bytes, 252, count, place);
     if read_key(&bytes[at..]).place() != place {
         return Some(None);
     }
