@@ -14,22 +14,25 @@ fn five_thousand(bench: &mut Bench) -> Result<Root, TreeFault> {
     Ok(root)
 }
 
-// Whether the change of this one record is found for three blocks of each tree, which are all that
-// the trees do not share.
+// Whether the change of this one record takes three blocks of its own, and is found for just these
+// and the three in whose place they stand: all that the trees do not share.
 fn costs_two_paths(
     alloc: Global,
     bench: &mut Bench,
     first: Root,
     number: u64,
 ) -> Result<bool, TreeFault> {
+    let free = bench.held.free_count();
     let second = with::<16, 256, 8>(bench, first, number, b'w')?;
+    let own_blocks = free.wrapping_sub(bench.held.free_count());
     let calls = bench.disk.calls();
     let changes = changes_of(alloc, bench, first, second)?;
     let reads = bench.disk.calls().wrapping_sub(calls);
     let found = changes.as_slice() == [change(number, Some(b'v'), Some(b'w'))].as_slice();
     let calls = bench.disk.calls();
     let equal = are_same(bench, first, second)?;
-    Ok(found && reads == 6 && !equal && bench.disk.calls().wrapping_sub(calls) <= 6)
+    let fewer = bench.disk.calls().wrapping_sub(calls);
+    Ok(own_blocks == 3 && found && reads == 6 && !equal && fewer <= 6)
 }
 
 // 5,000 records need more than 256 leaves of 16, so an inner block above inner blocks; and where each
