@@ -1,6 +1,7 @@
 //! Differences of maps that are made by puts and removals, and how many blocks are read for them.
 ghost use Rattle.vm_tree.specs.Root.{AreSizes};
 
+mod levels;
 mod merging;
 
 use crate::{changed, same};
