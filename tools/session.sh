@@ -301,6 +301,203 @@ echo "$came" >status.came
 compare 'a full output: status' status status.came
 compare 'a full output: standard error' faults faults.came
 
+# --- standard descriptors that are closed, or fail --------------------------------------------------
+
+# Starts the program with the words after the third, on the bytes in `lines`, with the standard descriptors closed that the
+# second names by their numbers. Compares its status with the third word, its output with `output`, and its standard error with
+# `faults`, as far as they are open.
+closed() {
+    name="$1, closed $2"
+    input='<lines' out='>output.came' error='2>faults.came'
+    cp output output.came
+    cp faults faults.came
+    case $2 in *0*) input='<&-' ;; esac
+    case $2 in *1*) out='>&-' ;; esac
+    case $2 in *2*) error='2>&-' ;; esac
+    echo "$3" >status
+    shift 3
+    came=0
+    eval "\"\$altctl\" \"\$@\" $input $out $error" || came=$?
+    echo "$came" >status.came
+    compare "$name: status" status status.came
+    compare "$name: output" output output.came
+    compare "$name: standard error" faults faults.came
+}
+
+# The status is 3 where one of these is closed, or else the third word. What is said then is in `faults`.
+stopped_if() {
+    case $2 in
+    *[$1]*)
+        : >output
+        echo 'altctl: stopped' >faults
+        echo 3
+        ;;
+    *)
+        echo "$3"
+        ;;
+    esac
+}
+
+# That no file has this name.
+absent() {
+    if [ -e "$2" ]; then
+        echo "$1: expected no file $2, and one came"
+        differences=$((differences + 1))
+        rm "$2"
+    fi
+}
+
+# A store with a value that spells commands.
+create spelled 64
+session 'a value that spells commands' spelled <<'END'
+> put top 1 1 %0Aput%20top%202%202%20b%0Acommit%0A
+ok
+> commit
+ok
+END
+create fresh 64
+cp spelled answered
+printf 'free\nput top 1 2 b\ncommit\n' >lines
+"$altctl" run answered <lines >answers
+
+for which in 0 1 2 01 02 12 012; do
+    echo 'created 64' >output
+    : >faults
+    status=$(stopped_if 1 $which 0)
+    closed create $which "$status" create made 64
+    compare "create, closed $which: the file" fresh made
+    rm -f made
+
+    cp answers output
+    : >faults
+    status=$(stopped_if 01 $which 0)
+    cp spelled store
+    closed run $which "$status" run store
+    case $which in
+    2) compare "run, closed $which: the file" answered store ;;
+    *) compare "run, closed $which: the file" spelled store ;;
+    esac
+
+    : >output
+    echo 'altctl: 19 NotAStore' >faults
+    status=$(stopped_if 2 $which 1)
+    cp h zeros
+    closed 'run on zero blocks' $which "$status" run zeros
+    compare "run on zero blocks, closed $which: the file" h zeros
+
+    : >output
+    "$altctl" create made many 2>faults || :
+    status=$(stopped_if 2 $which 2)
+    closed 'wrong words' $which "$status" create made many
+    absent "wrong words, closed $which" made
+
+    "$altctl" --help >output
+    : >faults
+    status=$(stopped_if 1 $which 0)
+    closed 'help' $which "$status" --help
+
+    : >output
+    echo 'altctl: the words are not UTF-8' >faults
+    status=$(stopped_if 2 $which 2)
+    closed 'no UTF-8' $which "$status" run "$(printf '\377')"
+done
+
+# Starts the program with the words after the first, with a standard error that takes nothing. Its status is 3.
+unheard() {
+    name=$1
+    shift
+    echo 3 >status
+    : >output
+    came=0
+    "$altctl" "$@" <lines >output.came 2>/dev/full || came=$?
+    echo "$came" >status.came
+    compare "$name, a full standard error: status" status status.came
+    compare "$name, a full standard error: output" output output.came
+}
+
+unheard 'run without a file' run g
+unheard 'wrong words' create g many
+unheard 'no UTF-8' run "$(printf '\377')"
+absent 'a full standard error' g
+
+# --- the script that starts the program ------------------------------------------------------------
+
+script=$tools/../altctl
+
+mkdir links
+ln -s "$script" links/first
+ln -s first links/second
+ln -s ../links/second links/third
+: >lines
+"$script" --help >output
+: >faults
+altctl=links/third
+program 'through three links' 0 --help
+
+# A limit on the size of files, and a reader that is gone.
+cat >limited <<'END'
+#!/bin/sh
+ulimit -f "$limit"
+exec "$script" "$@"
+END
+chmod +x limited
+export limit=256 script
+altctl=./limited
+: >output
+echo 'altctl: cannot create limits' >faults
+program 'create over a limit' 1 create limits 64
+
+limit=8
+printf 'put top 1 2 b\nfree\n' >lines
+echo 'error 15 Device' >output
+echo 'altctl: stopped' >faults
+program 'run over a limit' 3 run spelled
+
+echo free >lines
+echo 3 >status
+echo 'altctl: stopped' >faults
+{
+    sleep 1
+    came=0
+    "$script" run spelled <lines 2>faults.came || came=$?
+    echo "$came" >status.came
+} | :
+compare 'a reader that is gone: status' status status.came
+compare 'a reader that is gone: standard error' faults faults.came
+
+# A build that fails, and one that is interrupted: `rt` is a script here, which waits and then fails.
+mkdir -p built/crates/altctl built/bin built/tmp
+cp "$script" built/altctl
+: >built/crates.txt
+cat >built/bin/rt <<'END'
+#!/bin/sh
+: >"$begun"
+until [ -e "$go" ]; do sleep 1; done
+exit 1
+END
+chmod +x built/bin/rt
+export begun="$work/built/begun" go="$work/built/go"
+
+# Starts that script, and interrupts it where the first word says so. Compares its status with the second.
+builds() {
+    rm -f "$begun" "$go"
+    PATH=$work/built/bin:$PATH TMPDIR=$work/built/tmp built/altctl --help >output.came 2>faults.came &
+    until [ -e "$begun" ]; do sleep 1; done
+    [ "$1" != interrupted ] || kill -TERM $!
+    : >"$go"
+    echo "$2" >status
+    came=0
+    wait $! || came=$?
+    echo "$came" >status.came
+    compare "a build that is $1: status" status status.came
+    : >none
+    ls built/tmp >left
+    compare "a build that is $1: temporary files" none left
+}
+
+builds refused 1
+builds interrupted 143
+
 if [ "$differences" -gt 0 ]; then
     echo "session: $differences differences"
     exit 1

@@ -1,38 +1,34 @@
 //! The program `altctl`: a version managed map store with alternatives, in a file.
 #![tactic(auto)]
 
-use std::io::{ErrorKind, Write};
+use std::io::ErrorKind;
 use std::process::ExitCode;
 use std::rt::Env;
 use std::{env, io};
-use vm_cli::{RealFiles, run_words};
+use vm_cli::{RealFiles, refuse_words, run_words, stop};
 
 fn main(rt: HostRuntime) -> ExitCode {
     let mut faults = rt.stderr();
-    match words(&rt) {
-        Ok(words) => ExitCode::from(run_words(
+    // Before anything is opened.
+    let Ok(mut files) = RealFiles::new(&rt) else {
+        return ExitCode::from(stop(&mut faults));
+    };
+    let status = match words(&rt) {
+        Ok(words) => run_words(
             rt.alloc(),
             words.as_slice(),
-            &mut RealFiles::new(&rt),
+            &mut files,
             &mut rt.stdin(),
             &mut rt.stdout(),
             &mut faults,
-        )),
-        Err(error) => ExitCode::from(unreadable(&error, &mut faults)),
-    }
+        ),
+        Err(error) if error.kind() == ErrorKind::OutOfMemory => stop(&mut faults),
+        Err(_) => refuse_words(&mut faults),
+    };
+    ExitCode::from(status)
 }
 
 // The words that the program was started with.
 fn words<R: Env + AllocGlobal>(rt: &R) -> io::Result<Vec<String>> {
     Ok(env::args(rt)?.collect(rt.alloc())?)
-}
-
-// The status where the words could not be had: 3 for want of memory, and 2 where one is no text.
-fn unreadable<F: Write>(error: &io::Error, faults: &mut F) -> u8 {
-    if error.kind() == ErrorKind::OutOfMemory {
-        let _ = faults.write_all(b"altctl: stopped\n");
-        return 3;
-    }
-    let _ = faults.write_all(b"altctl: the words are not UTF-8\n");
-    2
 }

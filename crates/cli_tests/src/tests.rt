@@ -1,6 +1,7 @@
 //! The program over disks in memory, and over an input and an output that fail.
 mod faults;
 mod files;
+mod flushes;
 mod help;
 mod lines;
 

@@ -39,6 +39,10 @@ refused_text refusal = codes "altctl: " ++ (refusal_text refusal ++ 10 ∷ [])
 abbrev pub stopped_text : List ℕ
 stopped_text = codes "altctl: stopped" ++ 10 ∷ []
 
+-- a word is no text
+abbrev pub unreadable_text : List ℕ
+unreadable_text = codes "altctl: the words are not UTF-8" ++ 10 ∷ []
+
 -- ---- which words ask for which text
 
 -- the words are no mistake, and ask for this job
@@ -83,6 +87,10 @@ AskTalk words = (file : Text) × IsJob words (run file)
 -- a text was meant for a writer, with this end: it was written whole, or begun where the program stopped
 abbrev pub Tells : Exit → Exit → Option (List ℕ) → Option (List ℕ) → List ℕ → Type 0
 Tells meant exit before after text = ((exit ≡ meant) × Appends before after text) ⊎ ((exit ≡ Stopped) × Begins before after text)
+
+-- a text for the faults was begun, and then it was begun to say that the program stopped
+abbrev pub IsCutShort : {F : Type 0} → (F → Option (List ℕ)) → List ℕ → F → F → Type 0
+IsCutShort {F} in_faults text faults faults' = (said : F) × Begins (in_faults faults) (in_faults said) text × Begins (in_faults said) (in_faults faults') stopped_text
 
 module _ {W F : Type 0} (in_output : W → Option (List ℕ)) (in_faults : F → Option (List ℕ)) where
   -- all was done: a text was written to the output, or lines were answered, and nothing was said to the faults

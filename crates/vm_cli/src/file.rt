@@ -1,10 +1,15 @@
 //! A real file as a disk.
-ghost use Rattle.std.specs.Prelude.{◌≡◌, ◌<◌, ◌^◌, IfSome};
+ghost use Rattle.std.specs.Prelude.{◌≡◌, ◌<◌, ◌^◌, ◌<ℤ◌, IfSome, pos};
+ghost use Rattle.std.specs.Fd.{file_raw_fd};
 
 use std::fs::{File, OpenOptions};
+use std::os::fd::{AsRawFd, RawFd};
 use std::os::unix::fs::FileExt;
 use std::rt::Files;
 use vm_disk::{DeviceFault, Disk, History};
+
+/// The standard input, output and error have the descriptors 0, 1 and 2.
+pub const LAST_STANDARD: RawFd = 2;
 
 /// The bytes of a block.
 const BLOCK: u64 = 4096;
@@ -17,6 +22,9 @@ const AT_ONCE: u32 = 16;
 /// What a file holds is outside every contract, so this disk is never called honest. Its reads and
 /// writes are positional and its sync is `fsync`; whoever takes a file for an honest disk assumes
 /// that they do as they say and that no one else writes the file.
+///
+/// Its descriptor is none of the standard ones, so that what is read and written there never is the
+/// file.
 #[derive(Drop)]
 pub struct FileDisk {
     file: File,
@@ -24,6 +32,7 @@ pub struct FileDisk {
     reads: History<()>,
     failed: History<()>,
     ghost small: { blocks < 2 ^ 32 },
+    ghost apart: { pos 2 <ℤ file_raw_fd file },
 }
 
 impl FileDisk {
@@ -36,7 +45,7 @@ impl FileDisk {
             .ok()?;
         let len = file.metadata().ok()?.len();
         let whole = u32::try_from(len / BLOCK).unwrap_or(u32::MAX);
-        Some(FileDisk::over(file, whole))
+        FileDisk::over(file, whole)
     }
 
     /// Makes a file that is not there yet, of zero blocks. Where they could not all be written, the
@@ -51,19 +60,22 @@ impl FileDisk {
             .open(rt, path)
             .ok()?;
         write_zeros(&file, blocks)?;
-        Some(FileDisk::over(file, blocks))
+        FileDisk::over(file, blocks)
     }
 
-    // An open file with this many blocks.
-    fn over(file: File, blocks: u32) -> FileDisk
-        ensures { result.blocks ≡ blocks }
+    // An open file with this many blocks, unless it has a standard descriptor.
+    fn over(file: File, blocks: u32) -> Option<FileDisk>
+        ensures { IfSome result (λ disk. disk.blocks ≡ blocks) }
     {
-        FileDisk {
+        if file.as_raw_fd() <= LAST_STANDARD {
+            return None;
+        }
+        Some(FileDisk {
             file,
             blocks,
             reads: History::new(),
             failed: History::new(),
-        }
+        })
     }
 }
 

@@ -26,7 +26,7 @@ mod writing;
 
 pub use file::FileDisk;
 pub use place::{Place, RealFiles};
-pub use program::run_words;
+pub use program::{refuse_words, run_words, stop};
 pub use talk::{ServeFault, serve};
 pub use task::Job;
 pub use words::job;

@@ -54,7 +54,7 @@ ghost use Rattle.vm_types.specs.declared.refusal.Refusal.{Refusal as RefusalValu
 ghost use Rattle.vm_store.specs.Formatting.{IsFormatted};
 ghost use Rattle.vm_store.specs.Refused.{IsRefused as IsRefusedDisk};
 ghost use Rattle.vm_cli.specs.Sessions.{HasServed};
-ghost use Rattle.vm_cli.specs.Exits.{Ends, IsDone, IsHelp, MayRefuse, IsRefused, IsStopped, IsWrong, SaysRefused, Tells, created_text, file_text, refused_text};
+ghost use Rattle.vm_cli.specs.Exits.{Ends, IsDone, IsHelp, MayRefuse, IsRefused, IsStopped, IsCutShort, IsWrong, SaysRefused, Tells, created_text, file_text, refused_text, stopped_text, unreadable_text};
 ghost use Rattle.vm_cli.specs.Words.Wanted.{create as create_wanted, run as run_wanted};
 
 /// Does what the words say, of which the first is the program's name, and gives the exit status.
@@ -73,11 +73,31 @@ pub fn run_words<P: Place, R: Read, W: Write, F: Write>(
     ensures wrong { result ≡ 2 → IsWrong W.contents F.contents (map string_bytes words.now) output.old output.new faults.old faults.new }
     ensures stopped { result ≡ 3 → IsStopped W.contents F.contents (map string_bytes words.now) output.old output.new faults.old faults.new }
 {
-    let exit = carry_out(alloc, words, place, input, output, faults);
-    if let Exit::Stopped = exit {
-        let _ = say(faults, b"altctl: stopped\n");
+    match carry_out(alloc, words, place, input, output, faults) {
+        Exit::Stopped => stop(faults),
+        exit => exit.status(),
     }
-    exit.status()
+}
+
+/// Says that one of the words is no text, and gives the exit status: 2, or 3 where that could not be
+/// said.
+pub fn refuse_words<F: Write>(faults: &mut F) -> u8
+    ensures { ((result ≡ 2) × Appends (F.contents faults.old) (F.contents faults.new) unreadable_text)
+        ⊎ ((result ≡ 3) × IsCutShort F.contents unreadable_text faults.old faults.new) }
+{
+    match say(faults, b"altctl: the words are not UTF-8\n") {
+        Ok(()) => 2,
+        Err(WriteFault) => stop(faults),
+    }
+}
+
+/// Says that the program stopped, where that can be said, and gives the exit status.
+pub fn stop<F: Write>(faults: &mut F) -> u8
+    ensures status { result ≡ 3 }
+    ensures said { Begins (F.contents faults.old) (F.contents faults.new) stopped_text }
+{
+    let _ = say(faults, b"altctl: stopped\n");
+    3
 }
 
 // Does what the words say. That the program stopped is still to be said.

@@ -45,7 +45,7 @@ impl Write for NarrowWriter {
 }
 
 /// A store of 64 blocks in memory.
-fn new_store<R: AllocGlobal + Abort>(rt: &R) -> Result<Store<MemDisk>, Fail> {
+pub fn new_store<R: AllocGlobal + Abort>(rt: &R) -> Result<Store<MemDisk>, Fail> {
     let disk = match format(MemDisk::new(rt.alloc(), 64)?, 64) {
         Ok(disk) => disk,
         Err((disk, _)) => disk,

@@ -1,0 +1,135 @@
+//! A writer that is flushed, and whose flush fails.
+use super::faults::new_store;
+use super::{CREATE, Outcome, Shelf};
+use std::alloc::Global;
+use std::io::{self, ErrorKind, Write};
+use std::process::Abort;
+use std::test::Fail;
+use vm_cli::{ServeFault, refuse_words, run_words, serve, stop};
+
+/// A writer that keeps what it takes, with a bar for each flush. From some flush on they fail.
+#[derive(Drop)]
+struct FlushedWriter {
+    taken: Vec<u8>,
+    flushes: usize,
+}
+
+impl FlushedWriter {
+    /// A writer that can be flushed this often.
+    fn new(alloc: Global, flushes: usize) -> FlushedWriter {
+        FlushedWriter {
+            taken: Vec::new(alloc),
+            flushes,
+        }
+    }
+}
+
+impl Write for FlushedWriter {
+    fn write(&mut self, buf: &[u8]) -> io::Result<usize> {
+        self.taken.extend_from_slice(buf)?;
+        Ok(buf.len())
+    }
+
+    fn flush(&mut self) -> io::Result<()> {
+        if self.flushes == 0 {
+            return Err(io::Error::from(ErrorKind::Other));
+        }
+        self.flushes -= 1;
+        self.taken.push(b'|')?;
+        Ok(())
+    }
+}
+
+#[test]
+fn flushes_after_each_answer(rt: HostRuntime) -> Result<(), Fail> {
+    let mut store = new_store(&rt)?;
+    let mut input = b"put top 1 1 a\nget top 1 1\nlist top\nnonsense\nget top 1 2".as_slice();
+    let mut output = FlushedWriter::new(rt.alloc(), 5);
+    let served = serve(rt.alloc(), &mut input, &mut output, &mut store);
+    assert!(rt; served.is_ok());
+    let answers = b"ok\n|value a\n|record 1 1 a\nend 1\n|error 22 BadLine\n|none\n|";
+    assert_eq!(rt; output.taken.as_slice(), answers.as_slice());
+    let _disk = store.close();
+    Ok(())
+}
+
+/// What is there after three puts, of which the writer can't be flushed after the one with this number,
+/// counted from zero.
+fn kept<R: AllocGlobal + Abort>(rt: &R, flushes: usize) -> Result<Vec<u8>, Fail> {
+    let mut store = new_store(rt)?;
+    let mut input = b"put top 1 1 a\nput top 1 2 b\nput top 1 3 c\n".as_slice();
+    let mut output = FlushedWriter::new(rt.alloc(), flushes);
+    let served = serve(rt.alloc(), &mut input, &mut output, &mut store);
+    assert!(rt; matches!(&served, Err(ServeFault::Write)));
+    let mut rest = b"list top\n".as_slice();
+    let mut answers = Vec::new(rt.alloc());
+    let served = serve(rt.alloc(), &mut rest, &mut answers, &mut store);
+    assert!(rt; served.is_ok());
+    let _disk = store.close();
+    Ok(answers)
+}
+
+#[test]
+fn stops_where_a_flush_fails(rt: HostRuntime) -> Result<(), Fail> {
+    let lists = [
+        b"record 1 1 a\nend 1\n".as_slice(),
+        b"record 1 1 a\nrecord 1 2 b\nend 2\n".as_slice(),
+        b"record 1 1 a\nrecord 1 2 b\nrecord 1 3 c\nend 3\n".as_slice(),
+    ];
+    for (flushes, list) in lists.iter().enumerate() {
+        assert_eq!(rt; kept(&rt, flushes)?.as_slice(), *list);
+    }
+    Ok(())
+}
+
+/// Runs the program with an output and faults that can be flushed this often.
+fn flushed(alloc: Global, words: &[&str], output: usize, faults: usize) -> Result<Outcome, Fail> {
+    let mut owned = Vec::new(alloc);
+    for word in words {
+        owned.push(String::from_str(alloc, word)?)?;
+    }
+    let mut output = FlushedWriter::new(alloc, output);
+    let mut faults = FlushedWriter::new(alloc, faults);
+    let status = run_words(
+        alloc,
+        owned.as_slice(),
+        &mut Shelf::new(alloc),
+        &mut b"".as_slice(),
+        &mut output,
+        &mut faults,
+    );
+    Ok(Outcome {
+        status,
+        output: output.taken,
+        faults: faults.taken,
+    })
+}
+
+#[test]
+fn ends_by_what_could_be_flushed(rt: HostRuntime) -> Result<(), Fail> {
+    let absent = ["altctl", "run", "f"];
+    flushed(rt.alloc(), CREATE.as_slice(), 1, 0)?.expect(&rt, 0, b"created 64\n|", b"");
+    let created = flushed(rt.alloc(), CREATE.as_slice(), 0, 1)?;
+    created.expect(&rt, 3, b"created 64\n", b"altctl: stopped\n|");
+    let refused = flushed(rt.alloc(), absent.as_slice(), 0, 1)?;
+    refused.expect(&rt, 1, b"", b"altctl: cannot open f\n|");
+    let unheard = flushed(rt.alloc(), absent.as_slice(), 0, 0)?;
+    unheard.expect(&rt, 3, b"", b"altctl: cannot open f\naltctl: stopped\n");
+    Ok(())
+}
+
+#[test]
+fn says_that_a_word_is_no_text(rt: HostRuntime) -> Result<(), Fail> {
+    let mut faults = FlushedWriter::new(rt.alloc(), 1);
+    assert_eq!(rt; refuse_words(&mut faults), 2);
+    let said = b"altctl: the words are not UTF-8\n|".as_slice();
+    assert_eq!(rt; faults.taken.as_slice(), said);
+    let mut faults = FlushedWriter::new(rt.alloc(), 0);
+    assert_eq!(rt; refuse_words(&mut faults), 3);
+    let said = b"altctl: the words are not UTF-8\naltctl: stopped\n".as_slice();
+    assert_eq!(rt; faults.taken.as_slice(), said);
+    let mut faults = FlushedWriter::new(rt.alloc(), 1);
+    assert_eq!(rt; stop(&mut faults), 3);
+    assert_eq!(rt; faults.taken.as_slice(), b"altctl: stopped\n|".as_slice());
+    Ok(())
+}
