@@ -12,9 +12,10 @@ use Rattle.vm_store.specs.declared.store.Store.{Store}
 use Rattle.vm_cli.specs.Carried.{Begins}
 use Rattle.vm_cli.specs.Feeding.{Fed, Writes}
 use Rattle.vm_cli.specs.Lines.{IsPart, lines_of, onto_first}
-use Rattle.vm_cli.specs.Talk.{Done, EndsTalk, HandlesLine, HasTalked, ServesLines, Talks, after_line, with_answer, with_command}
+use Rattle.vm_cli.specs.Talk.{Done, EndsTalk, HandlesLine, HasTalked, ServesLines, Stops, Talks, after_line, with_answer, with_command}
 use Rattle.vm_cli.specs.declared.talk.ServeFault.{ServeFault}
 use Rattle.vm_cli.specs.declared.talk.ServeFault.TheVariants as fault
+use Rattle.vm_cli.proofs.HandledLemmas.{handled_stops}
 use Rattle.vm_cli.proofs.Known.{Appends-nil, Appends-then}
 
 after-with : (s : State) (done : Done) (later : List Command) (others : List (Result Answer Refusal)) → after s (with_command done later) (with_answer done others) ≡ after (after_line s done) later others
@@ -118,6 +119,7 @@ module _ {D : Type 0} {members : _} where
           texts = ap (λ bs. text ++ bs) e.texts ∙ sym (append_assoc text e.earlier e.last);
           talked = talked-join old mid e.mid s lines text first e.lines e.earlier then;
           handled = subst (λ t. HandlesLine e.mid new t e.line e.last ends) (sym state) e.handled;
+          stops = λ last. subst (λ t. Stops e.mid new t) (sym state) (e.stops last);
         }
 
     begins-after : (a b c : Option (List ℕ)) (second : List ℕ) → Appends a b text → Begins b c second → Begins a c (text ++ second)
@@ -156,6 +158,7 @@ module _ {D : Type 0} {members : _} where
       texts = refl;
       talked = talked-none old s holds;
       handled = handled;
+      stops = handled_stops old new s line text ends handled;
     }
 
     pub serves-line : {T : Type 0} (result : Result T ServeFault) (a b : Option (List ℕ)) (others : List (List ℕ)) → OnOk result (others ≡ [])

@@ -1,22 +1,20 @@
 -- What a store has done when a line is answered.
-use Rattle.std.proofs.Common.{◌≡◌, ◌≢◌, ◌⊎◌, ◌↔◌, inl, inr, ℕ, Bool, true, false, List, [], Option, Some, None, Result, Ok, Err, OnOk, refl, ap, sym, subst, ◌∙◌}
+use Rattle.std.proofs.Common.{◌≡◌, ◌≢◌, ◌⊎◌, inl, inr, ℕ, Bool, true, false, List, [], Option, Some, None, Result, Err, Ok, refl, ap, sym, subst, ◌∙◌}
 use Rattle.vm_types.specs.declared.answer.Answer.{Answer}
 use Rattle.vm_types.specs.declared.command.Command.{Command}
-use Rattle.vm_types.specs.declared.command.Command.TheVariants.{Reclaim}
 use Rattle.vm_types.specs.declared.refusal.Refusal.{Refusal}
 use Rattle.vm_types.specs.declared.refusal.Refusal.TheVariants.{Device, Failed, Memory}
-use Rattle.vm_types.specs.State.{State, next}
+use Rattle.vm_types.specs.State.{State}
 use Rattle.vm_disk.specs.Disk.{Goes}
-use Rattle.vm_disk.specs.Moments.{Throughout}
-use Rattle.vm_store.specs.Resting.{spare_of}
-use Rattle.vm_store.specs.Store.{Answers, Holds, free_of, has_failed}
+use Rattle.vm_store.specs.Running.{CarriesOut}
+use Rattle.vm_store.specs.Store.{Holds, has_failed}
 use Rattle.vm_store.specs.declared.store.Store.{Store}
 use Rattle.vm_cli.specs.Feeding.{HandlesRequest, Replied, Replies}
 use Rattle.vm_cli.specs.Reading.{Holds as HoldsLine, KindHolds, without_return}
 use Rattle.vm_cli.specs.Replies.{ends_talk, reply_text}
 use Rattle.vm_cli.specs.Requests.{request_of}
 use Rattle.vm_cli.specs.Spaces.{words_of}
-use Rattle.vm_cli.specs.Talk.{AnsweredRequest, Done, Handled, HandlesLine, Meets, Passes, SaysFailed, answer_text, error_text}
+use Rattle.vm_cli.specs.Talk.{Answered, AnsweredRequest, Done, Handled, HandlesLine, Meets, Passes, SaysFailed, Stops, answer_text, error_text}
 use Rattle.vm_cli.specs.declared.line.Kind.TheVariants.{Kept, Long}
 use Rattle.vm_cli.specs.declared.line.Line.{Line}
 use Rattle.vm_cli.specs.declared.reply.Reply.{Reply}
@@ -25,7 +23,7 @@ use Rattle.vm_cli.specs.declared.request.Request.{Request}
 use Rattle.vm_cli.specs.declared.request.Request.TheVariants as request
 use Rattle.vm_cli.specs.declared.writing.WriteFault.{WriteFault}
 use Rattle.vm_cli.proofs.CarriedLemmas.{carries-nothing}
-use Rattle.vm_cli.proofs.PassLemmas.{failed_or, goes_any, never_both, passes_left, passes_none}
+use Rattle.vm_cli.proofs.PassLemmas.{failed_or, goes_any, never_both, passes_command, passes_left, passes_none}
 
 -- a reply that is the whole answer
 pub replied_whole : (P : List ℕ → Bool → Type 0) (reply : Reply) (a : Option (List ℕ)) (rest : List ℕ) → rest ≡ [] → P (reply_text reply) (ends_talk reply) → Replied P reply a a rest
@@ -97,7 +95,7 @@ module _ {D : Type 0} {members : _} (old new : Store D members) (s : State) wher
   asked_as asked query is r a b rest p = subst (λ q. Replies (HandlesRequest old new s q) r a b rest) (sym is) p
 
   -- a query, after which the store has failed where it had before, and is else as good
-  module _ (query : Request) (passes : Passes old new) (same : has_failed new ≡ has_failed old) (left : has_failed old ≡ true → new ≡ old) (holds : has_failed old ≡ false → Holds new s) where
+  module _ (query : Request) (passes : Passes old new None) (same : has_failed new ≡ has_failed old) (left : has_failed old ≡ true → new ≡ old) (holds : has_failed old ≡ false → Holds new s) where
     pub asked : (text : List ℕ) (ends : Bool) → (has_failed old ≡ false → (ends ≡ false) × Meets old new s query text None) → (has_failed old ≡ true → SaysFailed query text ends)
         → HandlesRequest old new s query text ends
     asked text ends meets fails = record {
@@ -127,41 +125,26 @@ module _ {D : Type 0} {members : _} (old new : Store D members) (s : State) wher
 -- what `apply` promises of a command and its answer
 pub record Applied {D : Type 0} {members : _} (old new : Store D members) (s : State) (command : Command) (answer : Result Answer Refusal) : Type 0 where
   pub any : Goes (answer ≡ Err Device) (members.state old.disk) (members.state new.disk)
-  pub failed : has_failed old ≡ false → (has_failed new ≡ true ↔ answer ≡ Err Device)
   pub refused : has_failed old ≡ true → answer ≡ Err Failed
   pub left : has_failed old ≡ true → new ≡ old
-  pub due : has_failed old ≡ false → (holds : Holds old s) → Answers old new s holds command answer
-  pub stands : has_failed old ≡ false → answer ≢ Err Device → Holds new (next s command answer)
-  pub since : has_failed old ≡ false → Throughout (members.state old.disk) (members.state new.disk) (λ m. Unit {0})
-  pub reclaimed : has_failed old ≡ false → command ≡ Reclaim → (holds : Holds old s) → OnOk answer (free_of new ≡ spare_of holds)
+  pub carries : has_failed old ≡ false → CarriesOut old new s command answer
 
 -- a command
 module _ {D : Type 0} {members : _} (old new : Store D members) (s : State) (command : Command) (answer : Result Answer Refusal) (applied : Applied old new s command answer) where
-  pub obeyed : (text : List ℕ) (ends : Bool) → text ≡ answer_text answer → (has_failed old ≡ false → ends ≡ has_failed new) → (answer ≡ Err Failed → ends ≡ true)
+  pub carried : (text : List ℕ) (ends : Bool) → text ≡ answer_text answer → (has_failed old ≡ false → ends ≡ has_failed new) → (answer ≡ Err Failed → ends ≡ true)
       → HandlesRequest old new s (request.Command command) text ends
-  obeyed text ends says last fails = either (failed_or (has_failed old))
+  carried text ends says last fails = either (failed_or (has_failed old))
     where
       either : (has_failed old ≡ false) ⊎ (has_failed old ≡ true) → HandlesRequest old new s (request.Command command) text ends
-      either (inl sound) = record {
-        done = Some (command, answer);
-        answers = inl (
-          sound,
-          last sound,
-          (
-            refl,
-            record {
-              answers = applied.due sound;
-              failing = applied.any.fault;
-              failed = applied.failed sound;
-              reclaimed = applied.reclaimed sound;
-            },
-            says,
-          ),
-        );
-        passes = record { goes = goes_any _ _ _ applied.any; since = applied.since sound };
-        still = λ e. sym (last sound) ∙ e ∙ sym sound;
-        holds = λ fine. applied.stands sound (λ device. never_both _ fine ((applied.failed sound).1 device));
-      }
+      either (inl sound) =
+          let carries = applied.carries sound in
+          record {
+            done = Some (command, answer);
+            answers = inl (sound, last sound, (refl, carries, says));
+            passes = passes_command old new command answer (goes_any _ _ _ applied.any);
+            still = λ e. sym (last sound) ∙ e ∙ sym sound;
+            holds = λ fine. carries.holds (λ device. never_both _ fine (carries.failed.1 device));
+          }
       either (inr failed) =
           let same = applied.left failed in
           record {
@@ -171,3 +154,35 @@ module _ {D : Type 0} {members : _} (old new : Store D members) (s : State) (com
             still = λ e. ap (λ (t : Store D members). has_failed t) same;
             holds = λ fine. absurd (never_both _ fine (ap (λ (t : Store D members). has_failed t) same ∙ failed));
           }
+
+-- an answer that ends the talk
+module _ {D : Type 0} {members : _} (old new : Store D members) (s : State) where
+  -- the device failed in a command
+  carries_device : (asked : Command) (given : Result Answer Refusal) → CarriesOut old new s asked given → has_failed new ≡ true → (command : Command) × CarriesOut old new s command (Err Device)
+  carries_device asked given carries failed = (asked, subst (λ (a : Result Answer Refusal). CarriesOut old new s asked a) (carries.failed.0 failed) carries)
+
+  -- it can be no query's, unless the store had failed
+  meets_stops : (asked : Request) (text : List ℕ) (was : Done) → has_failed new ≡ true → Meets old new s asked text was → (command : Command) × CarriesOut old new s command (Err Device)
+  meets_stops (request.Command command) text None failed meets = absurd meets
+  meets_stops (request.Command command) text (Some (other, answer)) failed meets = carries_device command answer meets.1 failed
+  meets_stops (request.Get alt key) text was failed meets = absurd (never_both _ meets.1 failed)
+  meets_stops (request.List alt) text was failed meets = absurd (never_both _ meets.1 failed)
+  meets_stops request.Alternatives text was failed meets = absurd (never_both _ meets.1 failed)
+  meets_stops (request.Checkpoints alt) text was failed meets = absurd (never_both _ meets.1 failed)
+  meets_stops (request.Changes alt) text was failed meets = absurd (never_both _ meets.1 failed)
+  meets_stops (request.Conflicts alt) text was failed meets = absurd (never_both _ meets.1 failed)
+  meets_stops request.Free text was failed meets = absurd (never_both _ meets.1 failed)
+  meets_stops request.Nothing text was failed meets = absurd (never_both _ meets.1 failed)
+  meets_stops request.Bad text was failed meets = absurd (never_both _ meets.1 failed)
+
+  request_stops : (asked : Request) (text : List ℕ) (ends : Bool) (was : Done) → ends ≡ true → AnsweredRequest old new s asked text ends was → Stops old new s
+  request_stops asked text ends was e (inl (sound, last, meets)) = inl (sound, meets_stops asked text was (sym last ∙ e) meets)
+  request_stops asked text ends was e (inr (failed, same, none, says)) = inr (failed, same)
+
+  line_stops : (line text : List ℕ) (ends : Bool) (was : Done) → ends ≡ true → Answered old new s line text ends was → Stops old new s
+  line_stops line text ends was e (inl (same, none, goes_on, says)) = absurd (never_both ends goes_on e)
+  line_stops line text ends was e (inr (inl (long, same, none, goes_on, says))) = absurd (never_both ends goes_on e)
+  line_stops line text ends was e (inr (inr (short, answered))) = request_stops (request_of (words_of (without_return line))) text ends was e answered
+
+  pub handled_stops : (line text : List ℕ) (ends : Bool) → HandlesLine old new s line text ends → ends ≡ true → Stops old new s
+  handled_stops line text ends handled e = line_stops line text ends handled.done e handled.answers

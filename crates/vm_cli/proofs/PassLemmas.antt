@@ -1,10 +1,13 @@
 -- How a store goes over into another, and what became of its device.
-use Rattle.std.proofs.Common.{◌≡◌, ◌⊎◌, inl, inr, Bool, true, false, refl, ap, sym, subst, ◌∙◌, arith}
+use Rattle.std.proofs.Common.{◌≡◌, ◌⊎◌, inl, inr, Bool, true, false, Some, None, Result, refl, ap, sym, subst, ◌∙◌, arith}
+use Rattle.vm_types.specs.declared.answer.Answer.{Answer}
+use Rattle.vm_types.specs.declared.command.Command.{Command}
+use Rattle.vm_types.specs.declared.refusal.Refusal.{Refusal}
 use Rattle.vm_disk.specs.Disk as disk
-use Rattle.vm_disk.specs.Disk.{Goes, Medium}
-use Rattle.vm_disk.specs.Moments.{OnlyReads, Throughout}
+use Rattle.vm_disk.specs.Disk.{Goes}
+use Rattle.vm_disk.specs.Moments.{OnlyReads}
 use Rattle.vm_disk.proofs.GoesLemmas.{goes_at, goes_nowhere, goes_then}
-use Rattle.vm_disk.proofs.MomentLemmas.{started, weaken}
+use Rattle.vm_disk.proofs.MomentLemmas.{started}
 use Rattle.vm_store.specs.Store.{has_failed}
 use Rattle.vm_store.specs.declared.store.Store.{Store}
 use Rattle.vm_cli.specs.Talk.{Failing, Passes}
@@ -31,28 +34,25 @@ goes_none now = goes_nowhere ⊥ now now refl (λ no. no)
 pub goes_both : (old mid new : disk.State) → Goes ⊥ old mid → Goes ⊥ mid new → Goes ⊥ old new
 goes_both old mid new first second = goes_then ⊥ ⊥ ⊥ old mid new first second (λ no. no)
 
--- what was asked of the device is past
-pub since_any : (Q : Medium → Type 0) (old new : disk.State) → Throughout old new Q → Throughout old new (λ m. Unit {0})
-since_any Q old new through = weaken old new Q (λ m. Unit {0}) (λ m q. tt) through
-
 module _ {D : Type 0} {members : _} where
   -- a store passes into itself
-  pub passes_none : (store : Store D members) → Passes store store
+  pub passes_none : (store : Store D members) → Passes store store None
   passes_none store = record {
     goes = goes_none (members.state store.disk);
-    since = started (members.state store.disk) (λ m. Unit {0}) tt;
+    reads = λ e. started (members.state store.disk) (λ m. m ≡ (members.state store.disk).now) refl;
   }
 
   -- into one that only read
-  pub passes_reads : (old new : Store D members) → Goes ⊥ (members.state old.disk) (members.state new.disk) → OnlyReads (members.state old.disk) (members.state new.disk) → Passes old new
-  passes_reads old new goes reads = record {
-    goes = goes;
-    since = since_any (λ m. m ≡ (members.state old.disk).now) (members.state old.disk) (members.state new.disk) reads;
-  }
+  pub passes_reads : (old new : Store D members) → Goes ⊥ (members.state old.disk) (members.state new.disk) → OnlyReads (members.state old.disk) (members.state new.disk) → Passes old new None
+  passes_reads old new goes reads = record { goes = goes; reads = λ e. reads }
+
+  -- into one that carried out a command
+  pub passes_command : (old new : Store D members) (command : Command) (answer : Result Answer Refusal) → Goes ⊥ (members.state old.disk) (members.state new.disk) → Passes old new (Some (command, answer))
+  passes_command old new command answer goes = record { goes = goes; reads = λ e. cc }
 
   -- into one that was left as it was
-  pub passes_left : (old new : Store D members) → new ≡ old → Passes old new
-  passes_left old new same = subst (λ (t : Store D members). Passes old t) (sym same) (passes_none old)
+  pub passes_left : (old new : Store D members) → new ≡ old → Passes old new None
+  passes_left old new same = subst (λ (t : Store D members). Passes old t None) (sym same) (passes_none old)
 
   -- the device failed later
   pub failing_later : (old mid new : Store D members) → Goes ⊥ (members.state old.disk) (members.state mid.disk) → Failing mid new → Failing old new

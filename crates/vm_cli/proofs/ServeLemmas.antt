@@ -15,17 +15,17 @@ use Rattle.vm_cli.proofs.CarriedLemmas.{on_ok}
 use Rattle.vm_cli.proofs.FeedLemmas.{serves-after, serves-line}
 
 -- all was read
-pub read-all : (a b c : Option (List ℕ)) (bytes buf : List ℕ) (n : ℕ) (P : List ℕ → Type 0) → Consumes a b bytes → Consumes b c (take n buf) → n ≡ 0 → IsAtEnd c → P bytes → IfSome a P
-read-all a b c bytes buf n P p q none end whole =
+pub read-all : (a b c : Option (List ℕ)) (bytes buf : List ℕ) (n : ℕ) → Consumes a b bytes → Consumes b c (take n buf) → n ≡ 0 → IsAtEnd c → IfSome a (λ own. own ≡ bytes)
+read-all a b c bytes buf n p q none end =
     let all : Consumes a c (bytes ++ take n buf) = Consumes-trans a b c bytes (take n buf) p q in
     let same : bytes ++ take n buf ≡ bytes = rw none (append-nil bytes) in
-    Consumes-whole a c (bytes ++ take n buf) P all end (subst P (sym same) whole)
+    Consumes-whole a c (bytes ++ take n buf) (λ own. own ≡ bytes) all end same
 
 -- more may be there to be read
-pub read-some : (a b : Option (List ℕ)) (bytes : List ℕ) (P : List ℕ → Type 0) → Consumes a b bytes → ((more : List ℕ) → P (bytes ++ more)) → IfSome a P
-read-some None b bytes P p whatever = tt
-read-some (Some x) None bytes P p whatever = absurd p
-read-some (Some x) (Some y) bytes P p whatever = subst P (sym p) (whatever y)
+pub read-some : (a b : Option (List ℕ)) (bytes : List ℕ) → Consumes a b bytes → (more : List ℕ) × IfSome a (λ own. own ≡ bytes ++ more)
+read-some None b bytes p = ([], tt)
+read-some (Some x) None bytes p = absurd p
+read-some (Some x) (Some y) bytes p = (y, p)
 
 no-lines : (to : List ℕ) → is_nil to ≡ true → lines_of (to ++ []) ≡ []
 no-lines [] e = refl
@@ -43,19 +43,40 @@ module _ {D : Type 0} {members : _} (old mid : Store D members) (s : State) (byt
   cut-all = ap lines_of (sym (append-nil bytes)) ∙ f.cut []
 
   -- the input ended with a line's end
-  pub serves-all : {T : Type 0} (t : T) → is_nil to ≡ true → Serves {T = T} old mid s (Ok t) a b bytes
-  serves-all t e =
+  pub serves-all : {T : Type 0} (t : T) (known : Option (List ℕ)) → IfSome known (λ own. own ≡ bytes) → is_nil to ≡ true → Serves {T = T} old mid s (Ok t) a b known
+  serves-all t known own e =
       let lines : lines_of bytes ≡ f.lines = cut-all ∙ ap (λ ls. f.lines ++ ls) (no-lines to e) ∙ append-nil f.lines in
-      (f.text, subst (λ ls. HasTalked old mid s ls f.text) (sym lines) f.talked, f.written)
+      record {
+        input = bytes;
+        own = own;
+        served = (f.text, subst (λ ls. HasTalked old mid s ls f.text) (sym lines) f.talked, f.written);
+      }
 
   -- it ended within a line
-  pub serves-last : {T : Type 0} (new : Store D members) (c : Option (List ℕ)) (r : Result T ServeFault) → IsPart to → is_nil to ≡ false
-      → Writes (HandlesLine mid new (after s f.talked.commands f.talked.answers) to) r b c → Serves old new s r a c bytes
-  serves-last new c r part e w =
+  pub serves-last : {T : Type 0} (new : Store D members) (c known : Option (List ℕ)) (r : Result T ServeFault) → IfSome known (λ own. own ≡ bytes) → IsPart to → is_nil to ≡ false
+      → Writes (HandlesLine mid new (after s f.talked.commands f.talked.answers) to) r b c → Serves old new s r a c known
+  serves-last new c known r own part e w =
       let lines : lines_of bytes ≡ f.lines ++ (to ∷ []) = cut-all ∙ ap (λ ls. f.lines ++ ls) (last-line to part e) in
       let line = serves-line mid new (after s f.talked.commands f.talked.answers) f.talked.holds to r b c [] (on_ok r refl) w in
-      subst (λ ls. ServesLines old new s r a c ls) (sym lines) (serves-after old mid new s f.lines f.text f.talked r a b c (to ∷ []) f.written line)
+      record {
+        input = bytes;
+        own = own;
+        served = subst (λ ls. ServesLines old new s r a c ls) (sym lines) (serves-after old mid new s f.lines f.text f.talked r a b c (to ∷ []) f.written line);
+      }
 
   -- the reader failed
-  pub serves-read : (T : Type 0) (more : List ℕ) → Serves {T = T} old mid s (Err fault.Read) a b (bytes ++ more)
-  serves-read T more = (f.text, f.lines, lines_of (to ++ more), f.cut more, f.talked, f.written)
+  pub serves-read : (T : Type 0) (known left : Option (List ℕ)) → Consumes known left bytes → Serves {T = T} old mid s (Err fault.Read) a b known
+  serves-read T known left read =
+      let rest = read-some known left bytes read in
+      record {
+        input = bytes ++ rest.0;
+        own = rest.1;
+        served = (f.text, f.lines, lines_of (to ++ rest.0), f.cut rest.0, f.talked, f.written);
+      }
+
+-- the talk ended among these bytes
+pub serves-some : {D : Type 0} {members : _} (old new : Store D members) (s : State) {T : Type 0} (result : Result T ServeFault) (a c known left : Option (List ℕ)) (bytes : List ℕ) → Consumes known left bytes
+    → ((more : List ℕ) → ServesLines old new s result a c (lines_of (bytes ++ more))) → Serves old new s result a c known
+serves-some old new s result a c known left bytes read ended =
+    let rest = read-some known left bytes read in
+    record { input = bytes ++ rest.0; own = rest.1; served = ended rest.0 }

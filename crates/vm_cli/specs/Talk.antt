@@ -1,21 +1,21 @@
 -- What a talk promises: what each line is answered, and what the store is after it.
-use Rattle.std.specs.Prelude.{◌≡◌, ◌⊎◌, ◌↔◌, ◌<◌, ◌≤◌, ℕ, Bool, true, false, List, [], ◌∷◌, ◌++◌, Option, Some, None, Result, Ok, Err, OnOk, flat_map, length}
+use Rattle.std.specs.Prelude.{◌≡◌, ◌⊎◌, ◌<◌, ◌≤◌, ℕ, Bool, true, false, List, [], ◌∷◌, ◌++◌, Option, Some, None, Result, Ok, Err, IfSome, flat_map, length}
 use Rattle.std.specs.Io.KnownBytes.{Appends}
 use Rattle.vm_types.specs.declared.answer.Answer.{Answer}
 use Rattle.vm_types.specs.declared.answer.Answer.TheVariants as answer
 use Rattle.vm_types.specs.declared.command.Command.{Command}
-use Rattle.vm_types.specs.declared.command.Command.TheVariants.{Reclaim}
 use Rattle.vm_types.specs.declared.key.Key.{Key}
 use Rattle.vm_types.specs.declared.refusal.Refusal.{Refusal}
 use Rattle.vm_types.specs.declared.refusal.Refusal.TheVariants.{Device, Failed, Memory}
 use Rattle.vm_types.specs.Shape.{shape}
 use Rattle.vm_types.specs.State.{State, after, next}
 use Rattle.vm_disk.specs.Disk.{Goes}
-use Rattle.vm_disk.specs.Moments.{Throughout}
+use Rattle.vm_disk.specs.Moments.{OnlyReads}
 use Rattle.vm_types.specs.Queries.{value_in}
 use Rattle.vm_types.specs.Queries.{changes_in, checkpoints_in, conflicts_in, records_in}
 use Rattle.vm_store.specs.Resting.{spare_of}
-use Rattle.vm_store.specs.Store.{Answers, Holds, free_of, has_failed}
+use Rattle.vm_store.specs.Running.{CarriesOut}
+use Rattle.vm_store.specs.Store.{Holds, free_of, has_failed}
 use Rattle.vm_store.specs.declared.store.Store.{Store}
 use Rattle.vm_cli.specs.Carried.{Begins}
 use Rattle.vm_cli.specs.Lines.{lines_of}
@@ -102,28 +102,26 @@ module _ {D : Type 0} {members : _} where
   abbrev pub Failing : Store D members → Store D members → Type 0
   Failing old new = (members.state old.disk).failures < (members.state new.disk).failures
 
-  -- what the device was asked for took the disk of the one store to that of the other, and what it held before is now past
-  pub record Passes (old new : Store D members) : Type 0 where
+  -- what the device was asked for by a line: by any but a command it was only read, and each moment of it is now past
+  pub record Passes (old new : Store D members) (done : Done) : Type 0 where
     pub goes : Goes ⊥ (members.state old.disk) (members.state new.disk)
-    pub since : Throughout (members.state old.disk) (members.state new.disk) (λ m. Unit {0})
+    pub reads : done ≡ None → OnlyReads (members.state old.disk) (members.state new.disk)
 
-  -- a store that stood for the state carried out a command. Its answer is the one that is due, where Full and Deep come on their
-  -- conditions and Memory to a Merge alone; or Device, where a device call failed, and then, and only then, the store has failed.
-  -- After a Reclaim just the spare blocks are free
-  pub record Obeys (old new : Store D members) (s : State) (command : Command) (answer : Result Answer Refusal) : Type 0 where
-    pub answers : (holds : Holds old s) → Answers old new s holds command answer
-    pub failing : answer ≡ Err Device → Failing old new
-    pub failed : has_failed new ≡ true ↔ answer ≡ Err Device
-    pub reclaimed : command ≡ Reclaim → (holds : Holds old s) → OnOk answer (free_of new ≡ spare_of holds)
+  -- the store failed in a command, and a crash since then leaves what was committed, or what that command commits; or it had
+  -- failed before, and was left as it was
+  abbrev pub Stops : Store D members → Store D members → State → Type 0
+  Stops old new s =
+      ((has_failed old ≡ false) × ((command : Command) × CarriesOut old new s command (Err Device)))
+      ⊎ ((has_failed old ≡ true) × (new ≡ old))
 
   -- the number of blocks that are not held, all of which are spare
   abbrev pub CountsFree : Store D members → State → ℕ → Type 0
   CountsFree store s count = (count ≡ free_of store) × ((holds : Holds store s) → count ≤ spare_of holds)
 
-  -- a command is answered as the store obeys it
+  -- a command is answered as the store carried it out
   abbrev pub AnswersCommand : Store D members → Store D members → State → Command → List ℕ → Done → Type 0
   AnswersCommand old new s command text None = ⊥
-  AnswersCommand old new s command text (Some (asked, answer)) = (asked ≡ command) × Obeys old new s command answer × (text ≡ answer_text answer)
+  AnswersCommand old new s command text (Some (asked, answer)) = (asked ≡ command) × CarriesOut old new s command answer × (text ≡ answer_text answer)
 
   -- what a request is answered by a store that had not failed: no query makes it fail
   abbrev pub Meets : Store D members → Store D members → State → Request → List ℕ → Done → Type 0
@@ -149,7 +147,7 @@ module _ {D : Type 0} {members : _} where
   pub record Handled (old new : Store D members) (s : State) (ends : Bool) (IsAnswer : Done → Type 0) : Type 0 where
     pub done : Done
     pub answers : IsAnswer done
-    pub passes : Passes old new
+    pub passes : Passes old new done
     pub still : ends ≡ false → has_failed new ≡ has_failed old
     pub holds : has_failed new ≡ false → Holds new (after_line s done)
 
@@ -175,7 +173,8 @@ module _ {D : Type 0} {members : _} where
     pub still : has_failed new ≡ has_failed old
     pub holds : has_failed new ≡ false → Holds new (after s commands answers)
 
-  -- a talk over all these lines that ended with one of them: those before it were answered, then it was, and no other
+  -- a talk over all these lines that ended with one of them: those before it were answered, then it was, and no other. Where its
+  -- answer ends the talk, the store stands for what the answers before it leave, as far as a failed store stands for something
   pub record EndsTalk (old new : Store D members) (s : State) (ends : Bool) (all : List (List ℕ)) (text : List ℕ) : Type 0 where
     pub mid : Store D members
     pub lines : List (List ℕ)
@@ -187,6 +186,7 @@ module _ {D : Type 0} {members : _} where
     pub texts : text ≡ earlier ++ last
     pub talked : HasTalked old mid s lines earlier
     pub handled : HandlesLine mid new (after s talked.commands talked.answers) line last ends
+    pub stops : ends ≡ true → Stops mid new (after s talked.commands talked.answers)
 
   -- a talk over all these lines. At Ok each was answered; at Read the first of them were; at Store the answer to one of them ended
   -- the talk; and at Write the writer failed in the answer to one of them, and only a beginning of the texts was written
@@ -197,6 +197,8 @@ module _ {D : Type 0} {members : _} where
   ServesLines old new s (Err fault.Store) before after all = (text : List ℕ) × EndsTalk old new s true all text × Appends before after text
   ServesLines old new s (Err fault.Write) before after all = (text : List ℕ) × (ends : Bool) × EndsTalk old new s ends all text × Begins before after text
 
-  -- a talk over this input
-  abbrev pub Serves : {T : Type 0} → Store D members → Store D members → State → Result T ServeFault → Option (List ℕ) → Option (List ℕ) → List ℕ → Type 0
-  Serves old new s result before after input = ServesLines old new s result before after (lines_of input)
+  -- a talk over some input, which is what the reader had to give, where that is known
+  pub record Serves {T : Type 0} (old new : Store D members) (s : State) (result : Result T ServeFault) (before after : Option (List ℕ)) (known : Option (List ℕ)) : Type 0 where
+    pub input : List ℕ
+    pub own : IfSome known (λ bytes. bytes ≡ input)
+    pub served : ServesLines old new s result before after (lines_of input)

@@ -1,6 +1,6 @@
 //! The talk: lines in, answers out.
-ghost use Rattle.std.specs.Prelude.{◌≡◌, ◌≢◌, ◌⊎◌, ◌+◌, ◌≤◌, ◌++◌, ◌∷◌, ℕ, List, [], length, true, false, Err, flat_map, IfErr, IfOk, IfSome, OnErr, OnOk};
-ghost use Rattle.std.specs.Io.KnownBytes.{Appends};
+ghost use Rattle.std.specs.Prelude.{◌≡◌, ◌≢◌, ◌⊎◌, ◌+◌, ◌≤◌, ◌++◌, ◌∷◌, ℕ, List, [], length, true, false, Err, flat_map, IfErr, IfOk, OnErr, OnOk};
+ghost use Rattle.std.specs.Io.KnownBytes.{Appends, IsAtEnd};
 ghost use Rattle.vm_cli.specs.Carried.{Begins, Carries};
 ghost use Rattle.vm_cli.specs.Feeding.{Fed, HandlesRequest, Replies, Writes};
 ghost use Rattle.vm_cli.specs.Lines.{lines_of};
@@ -49,6 +49,9 @@ pub fn serve<R: Read, W: Write, D: Disk>(
     writer: &mut W,
     store: &mut Store<D>,
 ) -> Result<(), ServeFault>
+    // At Ok nothing of the input is left.
+    ensures end { OnOk result (IsAtEnd (R.remaining reader.new)) }
+
     // On any disk the talk ends with Store only where a device call failed in it, or the store had failed before; such a
     // store is left as it was.
     ensures goes { Goes ⊥ (D.state (disk_of store.old)) (D.state (disk_of store.new)) }
@@ -57,10 +60,10 @@ pub fn serve<R: Read, W: Write, D: Disk>(
     ensures left { has_failed store.old ≡ true → store.new ≡ store.old }
 
     // The lines of the input are answered one after another, each by the store that the line before left, and the store
-    // stands for what their commands leave. A store that had failed answers Failed to the first command or query, and the
-    // talk ends.
+    // stands for what their commands leave; where it failed in one, for what those before it leave, but that a crash may
+    // leave what this one commits. A store that had failed answers Failed to the first command or query, and the talk ends.
     ensures answers { (D.state (disk_of store.old)).honest ≡ true → (s : State) → (has_failed store.old ≡ false → Holds store.old s)
-        → IfSome (R.remaining reader.old) (Serves store.old store.new s result (W.contents writer.old) (W.contents writer.new)) }
+        → Serves store.old store.new s result (W.contents writer.old) (W.contents writer.new) (R.remaining reader.old) }
 {
     let mut line = Line::new(alloc);
     let mut text = Text::new();

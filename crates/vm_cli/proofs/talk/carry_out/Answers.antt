@@ -1,7 +1,8 @@
 use Rattle.vm_store.specs.Store.{has_failed}
+use Rattle.vm_store.proofs.RunLemmas.{carried_out}
 use Rattle.vm_cli.specs.Replies.{ends_talk, reply_text}
-use Rattle.vm_cli.proofs.HandledLemmas.{obeyed}
-use Rattle.vm_cli.proofs.PassLemmas.{goes_any, since_any}
+use Rattle.vm_cli.proofs.HandledLemmas.{carried}
+use Rattle.vm_cli.proofs.PassLemmas.{goes_any}
 use Rattle.vm_cli.proofs.TalkLemmas.{last-is}
 use Rattle.vm_cli.proofs.talk.carry_out.Goals as goal
 
@@ -17,16 +18,13 @@ returns g c =
       failing = λ sound failed. said.any.fault ((said.failed sound).0 failed);
       left = said.no_calls;
       answer = λ honest s holds.
-          obeyed old new s c.args.command.now c.apply.result
+          carried old new s c.args.command.now c.apply.result
           (record {
             any = said.any;
-            failed = said.failed;
             refused = said.refused;
             left = said.no_calls;
-            due = λ sound. said.answer honest sound s;
-            stands = λ sound fine. said.state honest sound fine s (holds sound);
-            since = λ sound. since_any _ _ _ (said.crash honest sound s (holds sound));
-            reclaimed = λ sound is. said.reclaimed honest sound is s;
+            carries = λ sound. carried_out old new s c.args.command.now c.apply.result (said.answer honest sound s) said.any (said.failed sound) said.same
+                (λ fine. said.state honest sound fine s (holds sound)) (said.crash honest sound s (holds sound)) (said.guarded honest sound s (holds sound)) (λ is. said.reclaimed honest sound is s);
           })
           (reply_text c.answered.result) ends c.answered.ensures.text
           (λ sound. last-is ends (has_failed new) c.apply.result (said.failed sound) (said.only_then sound) c.answered.ensures.device c.answered.ensures.last)

@@ -1,10 +1,9 @@
-use Rattle.std.proofs.Common.{◌≡◌, ◌∙◌, [], Ok, Err, refl, sym, arith, rules}
+use Rattle.std.proofs.Common.{◌≡◌, ◌∙◌, [], Err, OnOk, refl, sym, arith, rules}
 use Rattle.std.proofs.KnownBytes.{Consumes-nil, Consumes-trans}
-use Rattle.vm_cli.specs.Talk.{Serves}
-use Rattle.vm_cli.specs.declared.talk.ServeFault.TheVariants as fault
+use Rattle.vm_cli.proofs.CarriedLemmas.{on_ok}
 use Rattle.vm_cli.proofs.FeedLemmas.{ended-join, fed-join, fed-nothing}
 use Rattle.vm_cli.proofs.PassLemmas.{ends_later, ends_store, goes_both, goes_none, left_again}
-use Rattle.vm_cli.proofs.ServeLemmas.{read-all, read-some, serves-all, serves-last, serves-read}
+use Rattle.vm_cli.proofs.ServeLemmas.{read-all, serves-all, serves-last, serves-read, serves-some}
 use Rattle.vm_cli.proofs.talk.serve.Goals as goal
 
 pub loop-init : goal.loop-init
@@ -17,6 +16,16 @@ loop-init g c = record {
   fed = λ honest s holds. ([], c.new-line.ensures, fed-nothing c.args.store.now s holds [] (g.W.Write.contents c.args.writer.now));
 }
 
+pub returns-then-line-clause-end : goal.returns-then-line-clause-end
+returns-then-line-clause-end g c =
+    let none : c.in-Ok-eq0.field-0 ≡ 0 = omega (arith, c.in-Ok-eq0.field-0-test) in
+    c.in-Ok-eq0.ensures.bytes.1 none (search rules)
+
+pub returns-in-Ok-eq0-clause-end : goal.returns-in-Ok-eq0-clause-end
+returns-in-Ok-eq0-clause-end g c =
+    let none : c.in-Ok-eq0.field-0 ≡ 0 = omega (arith, c.in-Ok-eq0.field-0-test) in
+    on_ok c.answer.result (c.in-Ok-eq0.ensures.bytes.1 none (search rules))
+
 pub returns-then-line-clause-answers : goal.returns-then-line-clause-answers
 returns-then-line-clause-answers g c honest s holds =
     let so_far = c.loop.invariant in
@@ -25,8 +34,7 @@ returns-then-line-clause-answers g c honest s holds =
     let none : c.in-Ok-eq0.field-0 ≡ 0 = omega (arith, c.in-Ok-eq0.field-0-test) in
     let before = g.W.Write.contents c.args.writer.now in
     let now = g.W.Write.contents c.loop.writer in
-    read-all _ _ _ so_far.bytes _ c.in-Ok-eq0.field-0 (Serves {T = Unit {0}} c.args.store.now c.loop.store s (Ok tt) before now) so_far.read more.0 none (more.1 none (search rules))
-    (serves-all c.args.store.now c.loop.store s so_far.bytes p.0 before now p.2 {T = Unit {0}} tt (sym p.1.empty ∙ c.if-line.true))
+    serves-all c.args.store.now c.loop.store s so_far.bytes p.0 before now p.2 {T = Unit {0}} tt _ (read-all _ _ _ so_far.bytes _ c.in-Ok-eq0.field-0 so_far.read more.0 none (more.1 none (search rules))) (sym p.1.empty ∙ c.if-line.true)
 
 pub returns-in-Ok-eq0-clause-goes : goal.returns-in-Ok-eq0-clause-goes
 returns-in-Ok-eq0-clause-goes g c = goes_both _ _ _ c.loop.invariant.goes c.answer.ensures.goes
@@ -44,8 +52,8 @@ returns-in-Ok-eq0-clause-answers g c honest s holds =
     let mid = g.W.Write.contents c.loop.writer in
     let now = g.W.Write.contents c.answer.new.writer in
     let w = c.answer.ensures.answer (so_far.goes.same_honesty ∙ honest) _ p.2.talked.holds p.0 p.1 in
-    read-all _ _ _ so_far.bytes _ c.in-Ok-eq0.field-0 (Serves {T = Unit {0}} c.args.store.now c.answer.new.store s c.answer.result before now) so_far.read more.0 none (more.1 none (search rules))
-    (serves-last c.args.store.now c.loop.store s so_far.bytes p.0 before mid p.2 c.answer.new.store now c.answer.result p.1.unbroken (sym p.1.empty ∙ c.if-line.false) w)
+    serves-last c.args.store.now c.loop.store s so_far.bytes p.0 before mid p.2 c.answer.new.store now _ c.answer.result (read-all _ _ _ so_far.bytes _ c.in-Ok-eq0.field-0 so_far.read more.0 none (more.1 none (search rules)))
+    p.1.unbroken (sym p.1.empty ∙ c.if-line.false) w
 
 pub returns-in-Err-feed-clause-goes : goal.returns-in-Err-feed-clause-goes
 returns-in-Err-feed-clause-goes g c = goes_both _ _ _ c.loop.invariant.goes c.in-Err-feed.ensures.goes
@@ -68,7 +76,7 @@ returns-in-Err-feed-clause-answers g c honest s holds =
     let before = g.W.Write.contents c.args.writer.now in
     let now = g.W.Write.contents c.feed.new.writer in
     let q = c.in-Err-feed.ensures.ended (so_far.goes.same_honesty ∙ honest) _ p.2.talked.holds p.0 p.1 in
-    read-some (g.R.Read.remaining c.args.reader.now) (g.R.Read.remaining c.read.new.self) _ (Serves {T = Unit {0}} old new s (Err c.in-Err-feed.fault) before now)
+    serves-some old new s {T = Unit {0}} (Err c.in-Err-feed.fault) before now (g.R.Read.remaining c.args.reader.now) (g.R.Read.remaining c.read.new.self) _
     (Consumes-trans _ _ _ so_far.bytes _ so_far.read c.in-Ok.ensures.bytes.0)
     (λ more. ended-join old mid new s so_far.bytes _ [] p.0 before _ now p.2 {T = Unit {0}} (Err c.in-Err-feed.fault) more (q more))
 
@@ -77,16 +85,14 @@ returns-in-Err-clause-answers g c honest s holds =
     let before = g.W.Write.contents c.args.writer.now in
     let now = g.W.Write.contents c.loop.writer in
     let p = c.loop.invariant.fed honest s holds in
-    read-some (g.R.Read.remaining c.args.reader.now) (g.R.Read.remaining c.loop.reader) c.loop.invariant.bytes (Serves {T = Unit {0}} c.args.store.now c.loop.store s (Err fault.Read) before now) c.loop.invariant.read
-    (serves-read c.args.store.now c.loop.store s c.loop.invariant.bytes p.0 before now p.2 (Unit {0}))
+    serves-read c.args.store.now c.loop.store s c.loop.invariant.bytes p.0 before now p.2 (Unit {0}) (g.R.Read.remaining c.args.reader.now) (g.R.Read.remaining c.loop.reader) c.loop.invariant.read
 
 pub returns-clause-answers : goal.returns-clause-answers
 returns-clause-answers g c honest s holds =
     let before = g.W.Write.contents c.args.writer.now in
     let now = g.W.Write.contents c.loop.writer in
     let p = c.loop.invariant.fed honest s holds in
-    read-some (g.R.Read.remaining c.args.reader.now) (g.R.Read.remaining c.loop.reader) c.loop.invariant.bytes (Serves {T = Unit {0}} c.args.store.now c.loop.store s (Err fault.Read) before now) c.loop.invariant.read
-    (serves-read c.args.store.now c.loop.store s c.loop.invariant.bytes p.0 before now p.2 (Unit {0}))
+    serves-read c.args.store.now c.loop.store s c.loop.invariant.bytes p.0 before now p.2 (Unit {0}) (g.R.Read.remaining c.args.reader.now) (g.R.Read.remaining c.loop.reader) c.loop.invariant.read
 
 pub loop-preserved : goal.loop-preserved
 loop-preserved g c =
