@@ -12,7 +12,7 @@ use Rattle.vm_store.specs.declared.store.Store.{Store}
 use Rattle.vm_cli.specs.Carried.{Begins}
 use Rattle.vm_cli.specs.Feeding.{Fed, Writes}
 use Rattle.vm_cli.specs.Lines.{IsPart, lines_of, onto_first}
-use Rattle.vm_cli.specs.Talk.{Done, EndsTalk, HandlesLine, HasTalked, ServesLines, Stops, Talks, after_line, with_answer, with_command}
+use Rattle.vm_cli.specs.Talk.{Done, EndsTalk, HandlesLine, HasTalked, ServesLines, Stood, Stops, Talks, after_line, with_answer, with_command}
 use Rattle.vm_cli.specs.declared.talk.ServeFault.{ServeFault}
 use Rattle.vm_cli.specs.declared.talk.ServeFault.TheVariants as fault
 use Rattle.vm_cli.proofs.HandledLemmas.{handled_stops}
@@ -66,14 +66,21 @@ module _ {D : Type 0} {members : _} where
         talks-join next mid new (after_line s step.done) lines more rest second later1 later others1 others talks (subst (λ t. Talks mid new t more second later others) state q),
       )
 
+  -- a disk that is honest after a talk was so before it
+  talks-back : (old new : Store D members) (s : State) (lines : List (List ℕ)) (text : List ℕ) (commands : List Command) (answers : List (Result Answer Refusal)) → Talks old new s lines text commands answers
+      → (members.state new.disk).honest ≡ true → (members.state old.disk).honest ≡ true
+  talks-back old new s [] text commands answers (d, e, f, g) honest = subst (λ (t : Store D members). (members.state t.disk).honest ≡ true) d honest
+  talks-back old new s (line ∷ lines) text commands answers (mid, first, rest, later, others, step, e, f, g, talks) honest =
+      step.passes.goes.earlier (talks-back mid new (after_line s step.done) lines rest later others talks honest)
+
   -- no line
-  abbrev pub talked-none : (store : Store D members) (s : State) → (has_failed store ≡ false → Holds store s) → HasTalked store store s [] []
-  talked-none store s holds = record {
+  abbrev pub talked-none : (store : Store D members) (s : State) → HasTalked store store s [] []
+  talked-none store s = record {
     commands = [];
     answers = [];
     talks = (refl, refl, refl, refl);
     still = refl;
-    holds = holds;
+    holds = λ stood fine. stood.holds;
   }
 
   -- one line
@@ -83,7 +90,7 @@ module _ {D : Type 0} {members : _} where
     answers = with_answer handled.done [];
     talks = (new, text, [], [], [], handled, sym (append-nil text), refl, refl, (refl, refl, refl, refl));
     still = handled.still refl;
-    holds = λ fine. subst (λ t. Holds new t) (sym (after-with s handled.done [] [])) (handled.holds fine);
+    holds = λ stood fine. subst (λ t. Holds new t) (sym (after-with s handled.done [] [])) (handled.holds stood fine);
   }
 
   -- further lines
@@ -91,13 +98,19 @@ module _ {D : Type 0} {members : _} where
     state-then : (more : List (List ℕ)) (second : List ℕ) (then : HasTalked mid new (after s first.commands first.answers) more second) → after s (first.commands ++ then.commands) (first.answers ++ then.answers) ≡ after (after s first.commands first.answers) then.commands then.answers
     state-then more second then = after-join old mid s lines text first.commands then.commands first.answers then.answers first.talks
 
+    -- the store between stood for what the first lines leave, where this one did for what came before
+    stood-then : (more : List (List ℕ)) (second : List ℕ) (then : HasTalked mid new (after s first.commands first.answers) more second) → Stood old new s → has_failed new ≡ false → Stood mid new (after s first.commands first.answers)
+    stood-then more second then stood fine =
+        let back = talks-back mid new (after s first.commands first.answers) more second then.commands then.answers then.talks stood.honest in
+        record { honest = stood.honest; holds = first.holds (record { honest = back; holds = stood.holds }) (sym then.still ∙ fine) }
+
     pub talked-join : (more : List (List ℕ)) (second : List ℕ) → HasTalked mid new (after s first.commands first.answers) more second → HasTalked old new s (lines ++ more) (text ++ second)
     talked-join more second then = record {
       commands = first.commands ++ then.commands;
       answers = first.answers ++ then.answers;
       talks = talks-join old mid new s lines more text second first.commands then.commands first.answers then.answers first.talks then.talks;
       still = then.still ∙ first.still;
-      holds = λ fine. subst (λ t. Holds new t) (sym (state-then more second then)) (then.holds fine);
+      holds = λ stood fine. subst (λ t. Holds new t) (sym (state-then more second then)) (then.holds (stood-then more second then stood fine) fine);
     }
 
   -- a talk that ends after further lines
@@ -145,7 +158,7 @@ module _ {D : Type 0} {members : _} where
         (text ++ second, ends, ends-after ends all second ended, begins-after a b c second written more)
 
   -- a talk of one line
-  module _ (old new : Store D members) (s : State) (holds : has_failed old ≡ false → Holds old s) (line : List ℕ) where
+  module _ (old new : Store D members) (s : State) (line : List ℕ) where
     ends-line : (ends : Bool) (text : List ℕ) (others : List (List ℕ)) → HandlesLine old new s line text ends → EndsTalk old new s ends (line ∷ others) text
     ends-line ends text others handled = record {
       mid = old;
@@ -156,7 +169,7 @@ module _ {D : Type 0} {members : _} where
       last = text;
       cut = refl;
       texts = refl;
-      talked = talked-none old s holds;
+      talked = talked-none old s;
       handled = handled;
       stops = handled_stops old new s line text ends handled;
     }
@@ -187,14 +200,14 @@ lines-end (b ∷ from) more part =
     rw other (ap (onto_first b) (lines-end from more part.1))
 
 module _ {D : Type 0} {members : _} where
-  module _ (store : Store D members) (s : State) (holds : has_failed store ≡ false → Holds store s) (from : List ℕ) where
+  module _ (store : Store D members) (s : State) (from : List ℕ) where
     -- no byte
     pub fed-nothing : (a : Option (List ℕ)) → Fed store store s [] from from a a
     fed-nothing a = record {
       lines = [];
       text = [];
       cut = λ more. refl;
-      talked = talked-none store s holds;
+      talked = talked-none store s;
       written = Appends-nil a;
     }
 
@@ -204,7 +217,7 @@ module _ {D : Type 0} {members : _} where
       lines = [];
       text = [];
       cut = λ more. ap lines_of (sym (append_assoc from (b ∷ []) more));
-      talked = talked-none store s holds;
+      talked = talked-none store s;
       written = Appends-nil a;
     }
 
@@ -219,10 +232,10 @@ module _ {D : Type 0} {members : _} where
       written = written;
     }
 
-    pub ended-line : (T : Type 0) (why : ServeFault) (more : List ℕ) → (has_failed old ≡ false → Holds old s) → Writes {T = T} (HandlesLine old new s from) (Err why) a b
+    pub ended-line : (T : Type 0) (why : ServeFault) (more : List ℕ) → Writes {T = T} (HandlesLine old new s from) (Err why) a b
         → ServesLines {T = T} old new s (Err why) a b (lines_of (from ++ ((10 ∷ []) ++ more)))
-    ended-line T why more holds writes =
-        subst (λ ls. ServesLines {T = T} old new s (Err why) a b ls) (sym (lines-end from more part)) (serves-line old new s holds from {T = T} (Err why) a b (lines_of more) tt writes)
+    ended-line T why more writes =
+        subst (λ ls. ServesLines {T = T} old new s (Err why) a b ls) (sym (lines-end from more part)) (serves-line old new s from {T = T} (Err why) a b (lines_of more) tt writes)
 
   -- further bytes
   module _ (old mid new : Store D members) (s : State) (bytes then from middle : List ℕ) (a b c : Option (List ℕ)) (first : Fed old mid s bytes from middle a b) where

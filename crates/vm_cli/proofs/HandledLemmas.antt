@@ -14,7 +14,7 @@ use Rattle.vm_cli.specs.Reading.{Holds as HoldsLine, KindHolds, without_return}
 use Rattle.vm_cli.specs.Replies.{ends_talk, reply_text}
 use Rattle.vm_cli.specs.Requests.{request_of}
 use Rattle.vm_cli.specs.Spaces.{words_of}
-use Rattle.vm_cli.specs.Talk.{Answered, AnsweredRequest, Done, Handled, HandlesLine, Meets, Passes, SaysFailed, Stops, answer_text, error_text}
+use Rattle.vm_cli.specs.Talk.{Answered, AnsweredRequest, Done, Handled, HandlesLine, Meets, Passes, SaysFailed, Stood, Stops, answer_text, error_text}
 use Rattle.vm_cli.specs.declared.line.Kind.TheVariants.{Kept, Long}
 use Rattle.vm_cli.specs.declared.line.Line.{Line}
 use Rattle.vm_cli.specs.declared.reply.Reply.{Reply}
@@ -35,7 +35,7 @@ pub replies_as : (P Q : List ℕ → Bool → Type 0) → ((text : List ℕ) (en
 replies_as P Q f (Ok reply) a b rest p = record { whole = p.whole; says = f _ _ p.says; carries = p.carries }
 replies_as P Q f (Err fault) a b rest p = record { whole = p.whole; ends = p.ends; says = f _ _ p.says; begins = p.begins }
 
-module _ {D : Type 0} {members : _} (store : Store D members) (s : State) (holds : has_failed store ≡ false → Holds store s) where
+module _ {D : Type 0} {members : _} (store : Store D members) (s : State) where
   -- the store was asked nothing
   pub unmoved : (ends : Bool) (IsAnswer : Done → Type 0) → IsAnswer None → Handled store store s ends IsAnswer
   unmoved ends IsAnswer p = record {
@@ -43,7 +43,7 @@ module _ {D : Type 0} {members : _} (store : Store D members) (s : State) (holds
     answers = p;
     passes = passes_none store;
     still = λ e. refl;
-    holds = holds;
+    holds = λ stood fine. stood.holds;
   }
 
   -- a line without words
@@ -51,7 +51,7 @@ module _ {D : Type 0} {members : _} (store : Store D members) (s : State) (holds
   nothing_handled = unmoved false (AnsweredRequest store store s request.Nothing [] false) (either (failed_or (has_failed store)))
     where
       either : (has_failed store ≡ false) ⊎ (has_failed store ≡ true) → AnsweredRequest store store s request.Nothing [] false None
-      either (inl sound) = inl (sound, sym sound, (refl, sound, refl))
+      either (inl sound) = inl (sound, sym sound, (refl, sound, λ stood. refl))
       either (inr failed) = inr (failed, refl, refl, (refl, refl))
 
   -- a line that asks for nothing that there is
@@ -59,7 +59,7 @@ module _ {D : Type 0} {members : _} (store : Store D members) (s : State) (holds
   bad_handled = unmoved false (AnsweredRequest store store s request.Bad (reply_text reply.BadLine) false) (either (failed_or (has_failed store)))
     where
       either : (has_failed store ≡ false) ⊎ (has_failed store ≡ true) → AnsweredRequest store store s request.Bad (reply_text reply.BadLine) false None
-      either (inl sound) = inl (sound, sym sound, (refl, sound, refl))
+      either (inl sound) = inl (sound, sym sound, (refl, sound, λ stood. refl))
       either (inr failed) = inr (failed, refl, refl, (refl, refl))
 
   -- a line for which there was no memory
@@ -95,7 +95,7 @@ module _ {D : Type 0} {members : _} (old new : Store D members) (s : State) wher
   asked_as asked query is r a b rest p = subst (λ q. Replies (HandlesRequest old new s q) r a b rest) (sym is) p
 
   -- a query, after which the store has failed where it had before, and is else as good
-  module _ (query : Request) (passes : Passes old new None) (same : has_failed new ≡ has_failed old) (left : has_failed old ≡ true → new ≡ old) (holds : has_failed old ≡ false → Holds new s) where
+  module _ (query : Request) (passes : Passes old new None) (same : has_failed new ≡ has_failed old) (left : has_failed old ≡ true → new ≡ old) (holds : Stood old new s → Holds new s) where
     pub asked : (text : List ℕ) (ends : Bool) → (has_failed old ≡ false → (ends ≡ false) × Meets old new s query text None) → (has_failed old ≡ true → SaysFailed query text ends)
         → HandlesRequest old new s query text ends
     asked text ends meets fails = record {
@@ -103,7 +103,7 @@ module _ {D : Type 0} {members : _} (old new : Store D members) (s : State) wher
       answers = either (failed_or (has_failed old));
       passes = passes;
       still = λ e. same;
-      holds = λ sound. holds (sym same ∙ sound);
+      holds = λ stood fine. holds stood;
     }
       where
         either : (has_failed old ≡ false) ⊎ (has_failed old ≡ true) → AnsweredRequest old new s query text ends None
@@ -143,7 +143,7 @@ module _ {D : Type 0} {members : _} (old new : Store D members) (s : State) (com
             answers = inl (sound, last sound, (refl, carries, says));
             passes = passes_command old new command answer (goes_any _ _ _ applied.any);
             still = λ e. sym (last sound) ∙ e ∙ sym sound;
-            holds = λ fine. carries.holds (λ device. never_both _ fine (carries.failed.1 device));
+            holds = λ stood fine. carries.holds stood.honest stood.holds (λ device. never_both _ fine (carries.failed.1 device));
           }
       either (inr failed) =
           let same = applied.left failed in
@@ -152,7 +152,7 @@ module _ {D : Type 0} {members : _} (old new : Store D members) (s : State) (com
             answers = inr (failed, same, refl, (says ∙ ap answer_text (applied.refused failed), fails (applied.refused failed)));
             passes = passes_left old new same;
             still = λ e. ap (λ (t : Store D members). has_failed t) same;
-            holds = λ fine. absurd (never_both _ fine (ap (λ (t : Store D members). has_failed t) same ∙ failed));
+            holds = λ stood fine. absurd (never_both _ fine (ap (λ (t : Store D members). has_failed t) same ∙ failed));
           }
 
 -- an answer that ends the talk

@@ -39,16 +39,16 @@ module _ {D : Type 0} {members : _} where
   pub passes_none : (store : Store D members) → Passes store store None
   passes_none store = record {
     goes = goes_none (members.state store.disk);
-    reads = λ e. started (members.state store.disk) (λ m. m ≡ (members.state store.disk).now) refl;
+    reads = λ honest e. started (members.state store.disk) (λ m. m ≡ (members.state store.disk).now) refl;
   }
 
   -- into one that only read
-  pub passes_reads : (old new : Store D members) → Goes ⊥ (members.state old.disk) (members.state new.disk) → OnlyReads (members.state old.disk) (members.state new.disk) → Passes old new None
-  passes_reads old new goes reads = record { goes = goes; reads = λ e. reads }
+  pub passes_reads : (old new : Store D members) → Goes ⊥ (members.state old.disk) (members.state new.disk) → ((members.state new.disk).honest ≡ true → OnlyReads (members.state old.disk) (members.state new.disk)) → Passes old new None
+  passes_reads old new goes reads = record { goes = goes; reads = λ honest e. reads honest }
 
   -- into one that carried out a command
   pub passes_command : (old new : Store D members) (command : Command) (answer : Result Answer Refusal) → Goes ⊥ (members.state old.disk) (members.state new.disk) → Passes old new (Some (command, answer))
-  passes_command old new command answer goes = record { goes = goes; reads = λ e. cc }
+  passes_command old new command answer goes = record { goes = goes; reads = λ honest e. cc }
 
   -- into one that was left as it was
   pub passes_left : (old new : Store D members) → new ≡ old → Passes old new None

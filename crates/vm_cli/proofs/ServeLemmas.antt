@@ -57,7 +57,7 @@ module _ {D : Type 0} {members : _} (old mid : Store D members) (s : State) (byt
       → Writes (HandlesLine mid new (after s f.talked.commands f.talked.answers) to) r b c → Serves old new s r a c known
   serves-last new c known r own part e w =
       let lines : lines_of bytes ≡ f.lines ++ (to ∷ []) = cut-all ∙ ap (λ ls. f.lines ++ ls) (last-line to part e) in
-      let line = serves-line mid new (after s f.talked.commands f.talked.answers) f.talked.holds to r b c [] (on_ok r refl) w in
+      let line = serves-line mid new (after s f.talked.commands f.talked.answers) to r b c [] (on_ok r refl) w in
       record {
         input = bytes;
         own = own;

@@ -32,19 +32,19 @@ says_value Fails due r text fails is (inl device) = inr (is ∙ ap value_line de
 says_value Fails due r text fails is (inr same) = inl (is ∙ ap value_line same)
 
 -- a list is written as is due
-pub list_replies : {X : Type 0} (P : List ℕ → Bool → Type 0) (Fails : Type 0) (line : X → List ℕ) (items : List X) (due : Result (List X) Refusal) (r : Result Reply WriteFault) (a b : Option (List ℕ)) (rest : List ℕ)
-    → ((text : List ℕ) → SaysList Fails line due text → P text false)
-    → due ≡ Ok items → IfOk r (λ reply. reply ≡ End (length items)) → OnOk r (Carries a b rest (flat_map line items)) → OnErr r (Begins a b (flat_map line items))
+pub list_replies : {X : Type 0} (C : Type 0) (P : List ℕ → Bool → Type 0) (Fails : Type 0) (line : X → List ℕ) (items : List X) (due : Result (List X) Refusal) (r : Result Reply WriteFault) (a b : Option (List ℕ)) (rest : List ℕ)
+    → ((text : List ℕ) → (C → SaysList Fails line due text) → P text false)
+    → (C → due ≡ Ok items) → IfOk r (λ reply. reply ≡ End (length items)) → OnOk r (Carries a b rest (flat_map line items)) → OnErr r (Begins a b (flat_map line items))
     → Replies P r a b rest
-list_replies P Fails line items due (Ok reply) a b rest lift is ends carries begins = record {
+list_replies C P Fails line items due (Ok reply) a b rest lift is ends carries begins = record {
   whole = flat_map line items;
-  says = rw ends (lift (list_text line items) (inl (rw is refl)));
+  says = rw ends (lift (list_text line items) (λ c. inl (rw (is c) refl)));
   carries = carries;
 }
-list_replies P Fails line items due (Err fault) a b rest lift is ends carries begins = record {
+list_replies C P Fails line items due (Err fault) a b rest lift is ends carries begins = record {
   whole = list_text line items;
   ends = false;
-  says = lift (list_text line items) (inl (rw is refl));
+  says = lift (list_text line items) (λ c. inl (rw (is c) refl));
   begins = begins-more a b (flat_map line items) _ begins;
 }
 

@@ -102,10 +102,15 @@ module _ {D : Type 0} {members : _} where
   abbrev pub Failing : Store D members → Store D members → Type 0
   Failing old new = (members.state old.disk).failures < (members.state new.disk).failures
 
+  -- the store stood for this state before, and its disk is honest after: as long as that is so, each step keeps what it promises
+  pub record Stood (old new : Store D members) (s : State) : Type 0 where
+    pub honest : (members.state new.disk).honest ≡ true
+    pub holds : Holds old s
+
   -- what the device was asked for by a line: by any but a command it was only read, and each moment of it is now past
   pub record Passes (old new : Store D members) (done : Done) : Type 0 where
     pub goes : Goes ⊥ (members.state old.disk) (members.state new.disk)
-    pub reads : done ≡ None → OnlyReads (members.state old.disk) (members.state new.disk)
+    pub reads : (members.state new.disk).honest ≡ true → done ≡ None → OnlyReads (members.state old.disk) (members.state new.disk)
 
   -- the store failed in a command, and a crash since then leaves what was committed, or what that command commits; or it had
   -- failed before, and was left as it was
@@ -126,7 +131,7 @@ module _ {D : Type 0} {members : _} where
   -- what a request is answered by a store that had not failed: no query makes it fail
   abbrev pub Meets : Store D members → Store D members → State → Request → List ℕ → Done → Type 0
   Meets old new s (request.Command command) text done = AnswersCommand old new s command text done
-  Meets old new s query text done = (done ≡ None) × (has_failed new ≡ false) × Says (Failing old new) (CountsFree old s) s query text
+  Meets old new s query text done = (done ≡ None) × (has_failed new ≡ false) × (Stood old new s → Says (Failing old new) (CountsFree old s) s query text)
 
   -- a request is answered, and the talk ends with it where the device fails in a command, or the store had failed before, which is
   -- then left as it was
@@ -149,7 +154,7 @@ module _ {D : Type 0} {members : _} where
     pub answers : IsAnswer done
     pub passes : Passes old new done
     pub still : ends ≡ false → has_failed new ≡ has_failed old
-    pub holds : has_failed new ≡ false → Holds new (after_line s done)
+    pub holds : Stood old new s → has_failed new ≡ false → Holds new (after_line s done)
 
   -- a line was answered so
   abbrev pub HandlesLine : Store D members → Store D members → State → List ℕ → List ℕ → Bool → Type 0
@@ -171,7 +176,7 @@ module _ {D : Type 0} {members : _} where
     pub answers : List (Result Answer Refusal)
     pub talks : Talks old new s lines text commands answers
     pub still : has_failed new ≡ has_failed old
-    pub holds : has_failed new ≡ false → Holds new (after s commands answers)
+    pub holds : Stood old new s → has_failed new ≡ false → Holds new (after s commands answers)
 
   -- a talk over all these lines that ended with one of them: those before it were answered, then it was, and no other. Where its
   -- answer ends the talk, the store stands for what the answers before it leave, as far as a failed store stands for something

@@ -146,10 +146,10 @@ fn make_store<D: Disk, W: Write, F: Write>(
     faults: &mut F,
 ) -> (Exit, D)
     // On an honest disk the new store is shown; a store that was there stands as it was.
-    ensures { ((faults.new ≡ faults.old) × ((D.state disk).honest ≡ true → IsFormatted blocks (D.state result.1).now)
+    ensures { ((faults.new ≡ faults.old) × ((D.state result.1).honest ≡ true → IsFormatted blocks (D.state result.1).now)
         × Tells Exit.Done result.0 (W.contents output.old) (W.contents output.new) (created_text blocks))
         ⊎ ((output.new ≡ output.old) × ((refusal : RefusalValue) × MayRefuse refusal
-        × ((D.state disk).honest ≡ true → refusal ≡ Refusal.AlreadyAStore → (D.state result.1).now.contents ≡ (D.state disk).now.contents)
+        × ((D.state result.1).honest ≡ true → refusal ≡ Refusal.AlreadyAStore → (D.state result.1).now.contents ≡ (D.state disk).now.contents)
         × Tells Exit.Refused result.0 (F.contents faults.old) (F.contents faults.new) (refused_text refusal))) }
 {
     match format(disk, blocks) {
@@ -189,10 +189,10 @@ fn answer_lines<D: Disk, R: Read, W: Write, F: Write>(
 ) -> (Exit, D)
     ensures ends { ((faults.new ≡ faults.old) × ((result.0 ≡ Exit.Done) ⊎ (result.0 ≡ Exit.Stopped)))
         ⊎ ((output.new ≡ output.old) × ((refusal : RefusalValue) × Tells Exit.Refused result.0 (F.contents faults.old) (F.contents faults.new) (refused_text refusal))) }
-    // On an honest disk the lines are answered as `serve` promises, from what the disk shows; or it is said why it shows no store.
-    ensures served { (D.state disk).honest ≡ true
-        → HasServed D.Disk disk result.1 result.0 (R.remaining input.old) (W.contents output.old) (W.contents output.new)
-        ⊎ ((refusal : RefusalValue) × IsRefusedDisk (D.state disk).now.contents refusal
+    // As long as the disk is honest the lines are answered as `serve` promises, from what it shows; or it is said why it shows no
+    // store.
+    ensures served { HasServed D.Disk disk result.1 result.0 (R.remaining input.old) (W.contents output.old) (W.contents output.new)
+        ⊎ ((refusal : RefusalValue) × ((D.state result.1).honest ≡ true → IsRefusedDisk (D.state disk).now.contents refusal)
         × Tells Exit.Refused result.0 (F.contents faults.old) (F.contents faults.new) (refused_text refusal)) }
 {
     match open(alloc, disk) {

@@ -62,7 +62,7 @@ pub fn serve<R: Read, W: Write, D: Disk>(
     // The lines of the input are answered one after another, each by the store that the line before left, and the store
     // stands for what their commands leave; where it failed in one, for what those before it leave, but that a crash may
     // leave what this one commits. A store that had failed answers Failed to the first command or query, and the talk ends.
-    ensures answers { (D.state (disk_of store.old)).honest ≡ true → (s : State) → (has_failed store.old ≡ false → Holds store.old s)
+    ensures answers { (s : State)
         → Serves store.old store.new s result (W.contents writer.old) (W.contents writer.new) (R.remaining reader.old) }
 {
     let mut line = Line::new(alloc);
@@ -99,10 +99,10 @@ fn feed<W: Write, D: Disk>(
     ensures ok { has_failed store.old ≡ false → OnOk result (has_failed store.new ≡ false) }
     ensures err { has_failed store.old ≡ false → IfErr result (λ fault. (fault ≡ ServeFault.Write) ⊎ ((fault ≡ ServeFault.Store) × (has_failed store.new ≡ true) × Failing store.old store.new)) }
     ensures left { has_failed store.old ≡ true → store.new ≡ store.old }
-    ensures fed { (D.state (disk_of store.old)).honest ≡ true → (s : State) → (has_failed store.old ≡ false → Holds store.old s)
+    ensures fed { (s : State)
         → (from : List ℕ) → HoldsLine line.old from
         → OnOk result ((to : List ℕ) × HoldsLine line.new to × Fed store.old store.new s bytes.now from to (W.contents writer.old) (W.contents writer.new)) }
-    ensures ended { (D.state (disk_of store.old)).honest ≡ true → (s : State) → (has_failed store.old ≡ false → Holds store.old s)
+    ensures ended { (s : State)
         → (from : List ℕ) → HoldsLine line.old from → (more : List ℕ)
         → OnErr result (ServesLines store.old store.new s result (W.contents writer.old) (W.contents writer.new) (lines_of (from ++ (bytes.now ++ more)))) }
 {
@@ -128,10 +128,10 @@ fn feed_byte<W: Write, D: Disk>(
     ensures ok { has_failed store.old ≡ false → OnOk result (has_failed store.new ≡ false) }
     ensures err { has_failed store.old ≡ false → IfErr result (λ fault. (fault ≡ ServeFault.Write) ⊎ ((fault ≡ ServeFault.Store) × (has_failed store.new ≡ true) × Failing store.old store.new)) }
     ensures left { has_failed store.old ≡ true → store.new ≡ store.old }
-    ensures fed { (D.state (disk_of store.old)).honest ≡ true → (s : State) → (has_failed store.old ≡ false → Holds store.old s)
+    ensures fed { (s : State)
         → (from : List ℕ) → HoldsLine line.old from
         → OnOk result ((to : List ℕ) × HoldsLine line.new to × Fed store.old store.new s (byte ∷ []) from to (W.contents writer.old) (W.contents writer.new)) }
-    ensures ended { (D.state (disk_of store.old)).honest ≡ true → (s : State) → (has_failed store.old ≡ false → Holds store.old s)
+    ensures ended { (s : State)
         → (from : List ℕ) → HoldsLine line.old from → (more : List ℕ)
         → OnErr result (ServesLines store.old store.new s result (W.contents writer.old) (W.contents writer.new) (lines_of (from ++ ((byte ∷ []) ++ more)))) }
 {
@@ -160,7 +160,7 @@ fn answer<W: Write, D: Disk>(
     ensures ok { has_failed store.old ≡ false → OnOk result (has_failed store.new ≡ false) }
     ensures err { has_failed store.old ≡ false → IfErr result (λ fault. (fault ≡ ServeFault.Write) ⊎ ((fault ≡ ServeFault.Store) × (has_failed store.new ≡ true) × Failing store.old store.new)) }
     ensures left { has_failed store.old ≡ true → store.new ≡ store.old }
-    ensures answer { (D.state (disk_of store.old)).honest ≡ true → (s : State) → (has_failed store.old ≡ false → Holds store.old s)
+    ensures answer { (s : State)
         → (part : List ℕ) → HoldsLine line.now part
         → Writes (HandlesLine store.old store.new s part) result (W.contents writer.old) (W.contents writer.new) }
 {
@@ -203,7 +203,7 @@ fn reply_to<W: Write, D: Disk>(
     ensures last { has_failed store.old ≡ false → IfOk result (λ reply. ends_talk reply ≡ has_failed store.new) }
     ensures failing { has_failed store.old ≡ false → has_failed store.new ≡ true → Failing store.old store.new }
     ensures left { has_failed store.old ≡ true → store.new ≡ store.old }
-    ensures answer { (D.state (disk_of store.old)).honest ≡ true → (s : State) → (has_failed store.old ≡ false → Holds store.old s)
+    ensures answer { (s : State)
         → (part : List ℕ) → HoldsLine line.now part
         → Replies (HandlesLine store.old store.new s part) result (W.contents writer.old) (W.contents writer.new) text.new }
 {
@@ -231,7 +231,7 @@ fn reply_to_request<W: Write, D: Disk>(
     ensures last { has_failed store.old ≡ false → IfOk result (λ reply. ends_talk reply ≡ has_failed store.new) }
     ensures failing { has_failed store.old ≡ false → has_failed store.new ≡ true → Failing store.old store.new }
     ensures left { has_failed store.old ≡ true → store.new ≡ store.old }
-    ensures answer { (D.state (disk_of store.old)).honest ≡ true → (s : State) → (has_failed store.old ≡ false → Holds store.old s)
+    ensures answer { (s : State)
         → Replies (HandlesRequest store.old store.new s request) result (W.contents writer.old) (W.contents writer.new) text.new }
 {
     match request {
@@ -254,7 +254,7 @@ fn carry_out<D: Disk>(command: &Command, store: &mut Store<D>) -> Reply
     ensures last { has_failed store.old ≡ false → ends_talk result ≡ has_failed store.new }
     ensures failing { has_failed store.old ≡ false → has_failed store.new ≡ true → Failing store.old store.new }
     ensures left { has_failed store.old ≡ true → store.new ≡ store.old }
-    ensures answer { (D.state (disk_of store.old)).honest ≡ true → (s : State) → (has_failed store.old ≡ false → Holds store.old s)
+    ensures answer { (s : State)
         → HandlesRequest store.old store.new s (Request.Command command.now) (reply_text result) (ends_talk result) }
 {
     answered(store.apply(command))
@@ -281,7 +281,7 @@ fn get<D: Disk>(alt: &Name, key: Key, store: &mut Store<D>) -> Reply
     ensures failed { has_failed store.new ≡ has_failed store.old }
     ensures last { has_failed store.old ≡ false → ends_talk result ≡ false }
     ensures left { has_failed store.old ≡ true → store.new ≡ store.old }
-    ensures answer { (D.state (disk_of store.old)).honest ≡ true → (s : State) → (has_failed store.old ≡ false → Holds store.old s)
+    ensures answer { (s : State)
         → HandlesRequest store.old store.new s (Request.Get alt.now key) (reply_text result) (ends_talk result) }
 {
     match store.get(alt, key) {
@@ -293,7 +293,7 @@ fn get<D: Disk>(alt: &Name, key: Key, store: &mut Store<D>) -> Reply
 // Answers a query for the number of free blocks.
 fn free<D: Disk>(store: &Store<D>) -> Reply
     ensures last { has_failed store.now ≡ false → ends_talk result ≡ false }
-    ensures answer { (s : State) → (has_failed store.now ≡ false → Holds store.now s)
+    ensures answer { (s : State)
         → HandlesRequest store.now store.now s Request.Free (reply_text result) (ends_talk result) }
 {
     match store.free() {
@@ -328,7 +328,7 @@ fn list<W: Write, D: Disk>(
     ensures failed { has_failed store.new ≡ has_failed store.old }
     ensures last { has_failed store.old ≡ false → IfOk result (λ reply. ends_talk reply ≡ false) }
     ensures left { has_failed store.old ≡ true → store.new ≡ store.old }
-    ensures answer { (D.state (disk_of store.old)).honest ≡ true → (s : State) → (has_failed store.old ≡ false → Holds store.old s)
+    ensures answer { (s : State)
         → Replies (HandlesRequest store.old store.new s (Request.List alt.now)) result (W.contents writer.old) (W.contents writer.new) text.new }
 {
     match store.list(alloc, alt) {
@@ -347,7 +347,7 @@ fn alternatives<W: Write, D: Disk>(
     requires { text.old ≡ [] }
     ensures room { OnOk result (length text.new + 1024 ≤ 4096) }
     ensures last { has_failed store.now ≡ false → IfOk result (λ reply. ends_talk reply ≡ false) }
-    ensures answer { (s : State) → (has_failed store.now ≡ false → Holds store.now s)
+    ensures answer { (s : State)
         → Replies (HandlesRequest store.now store.now s Request.Alternatives) result (W.contents writer.old) (W.contents writer.new) text.new }
 {
     match store.alternatives(alloc) {
@@ -367,7 +367,7 @@ fn checkpoints<W: Write, D: Disk>(
     requires { text.old ≡ [] }
     ensures room { OnOk result (length text.new + 1024 ≤ 4096) }
     ensures last { has_failed store.now ≡ false → IfOk result (λ reply. ends_talk reply ≡ false) }
-    ensures answer { (s : State) → (has_failed store.now ≡ false → Holds store.now s)
+    ensures answer { (s : State)
         → Replies (HandlesRequest store.now store.now s (Request.Checkpoints alt.now)) result (W.contents writer.old) (W.contents writer.new) text.new }
 {
     match store.checkpoints(alloc, alt) {
@@ -390,7 +390,7 @@ fn changes<W: Write, D: Disk>(
     ensures failed { has_failed store.new ≡ has_failed store.old }
     ensures last { has_failed store.old ≡ false → IfOk result (λ reply. ends_talk reply ≡ false) }
     ensures left { has_failed store.old ≡ true → store.new ≡ store.old }
-    ensures answer { (D.state (disk_of store.old)).honest ≡ true → (s : State) → (has_failed store.old ≡ false → Holds store.old s)
+    ensures answer { (s : State)
         → Replies (HandlesRequest store.old store.new s (Request.Changes alt.now)) result (W.contents writer.old) (W.contents writer.new) text.new }
 {
     match store.changes(alloc, alt) {
@@ -413,7 +413,7 @@ fn conflicts<W: Write, D: Disk>(
     ensures failed { has_failed store.new ≡ has_failed store.old }
     ensures last { has_failed store.old ≡ false → IfOk result (λ reply. ends_talk reply ≡ false) }
     ensures left { has_failed store.old ≡ true → store.new ≡ store.old }
-    ensures answer { (D.state (disk_of store.old)).honest ≡ true → (s : State) → (has_failed store.old ≡ false → Holds store.old s)
+    ensures answer { (s : State)
         → Replies (HandlesRequest store.old store.new s (Request.Conflicts alt.now)) result (W.contents writer.old) (W.contents writer.new) text.new }
 {
     match store.conflicts(alloc, alt) {

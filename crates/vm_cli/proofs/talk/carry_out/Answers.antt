@@ -17,14 +17,14 @@ returns g c =
       last = λ sound. last-is ends (has_failed new) c.apply.result (said.failed sound) (said.only_then sound) c.answered.ensures.device c.answered.ensures.last;
       failing = λ sound failed. said.any.fault ((said.failed sound).0 failed);
       left = said.no_calls;
-      answer = λ honest s holds.
+      answer = λ s.
           carried old new s c.args.command.now c.apply.result
           (record {
             any = said.any;
             refused = said.refused;
             left = said.no_calls;
-            carries = λ sound. carried_out old new s c.args.command.now c.apply.result (said.answer honest sound s) said.any (said.failed sound) said.same
-                (λ fine. said.state honest sound fine s (holds sound)) (said.crash honest sound s (holds sound)) (said.guarded honest sound s (holds sound)) (λ is. said.reclaimed honest sound is s);
+            carries = λ sound. carried_out old new s c.args.command.now c.apply.result (λ honest. said.answer honest sound s) said.any (said.failed sound) said.same
+                (λ honest holds fine. said.state honest sound fine s holds) (λ honest holds. said.crash honest sound s holds) (λ honest holds. said.guarded honest sound s holds) (λ honest is. said.reclaimed honest sound is s);
           })
           (reply_text c.answered.result) ends c.answered.ensures.text
           (λ sound. last-is ends (has_failed new) c.apply.result (said.failed sound) (said.only_then sound) c.answered.ensures.device c.answered.ensures.last)

@@ -12,6 +12,6 @@ invariant-loop-byte g l = record {
   goes : Goes ⊥ (g.D.Disk.state (disk_of l.fn.store)) (g.D.Disk.state (disk_of l.store));
   sound : has_failed l.fn.store ≡ false → has_failed l.store ≡ false;
   left : has_failed l.fn.store ≡ true → l.store ≡ l.fn.store;
-  fed : (g.D.Disk.state (disk_of l.fn.store)).honest ≡ true → (s : State) → (has_failed l.fn.store ≡ false → Holds l.fn.store s) → (from : List ℕ) → HoldsLine l.fn.line from
+  fed : (s : State) → (from : List ℕ) → HoldsLine l.fn.line from
       → (to : List ℕ) × HoldsLine l.line to × Fed l.fn.store l.store s (take l.byte-index l.fn.bytes) from to (g.W.Write.contents l.fn.writer) (g.W.Write.contents l.writer);
 }

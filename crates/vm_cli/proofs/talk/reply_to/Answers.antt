@@ -5,21 +5,21 @@ use Rattle.vm_cli.proofs.HandledLemmas.{kept_handled, long_handled, memory_handl
 use Rattle.vm_cli.proofs.talk.reply_to.Goals as goal
 
 pub returns-in-Long-clause-answer : goal.returns-in-Long-clause-answer
-returns-in-Long-clause-answer g c honest s holds part h =
+returns-in-Long-clause-answer g c s part h =
     let store = c.args.store.now in
-    replied_whole (HandlesLine store store s part) reply.LongLine _ c.args.text.now c.requires (long_handled store s holds c.args.line.now part h c.in-Long.is)
+    replied_whole (HandlesLine store store s part) reply.LongLine _ c.args.text.now c.requires (long_handled store s c.args.line.now part h c.in-Long.is)
 
 pub returns-in-NoMemory-clause-answer : goal.returns-in-NoMemory-clause-answer
-returns-in-NoMemory-clause-answer g c honest s holds part h =
+returns-in-NoMemory-clause-answer g c s part h =
     let store = c.args.store.now in
-    replied_whole (HandlesLine store store s part) (reply.Refused Memory) _ c.args.text.now c.requires (memory_handled store s holds part)
+    replied_whole (HandlesLine store store s part) (reply.Refused Memory) _ c.args.text.now c.requires (memory_handled store s part)
 
 pub returns-in-Ok-clause-answer : goal.returns-in-Ok-clause-answer
-returns-in-Ok-clause-answer g c honest s holds part h =
+returns-in-Ok-clause-answer g c s part h =
     kept_handled c.args.store.now c.reply_to_request.new.store s c.args.line.now part h c.in-Kept.is c.in-Ok.request c.text.result.now c.text.ensures c.in-Ok.ensures.request
-    c.reply_to_request.result _ _ c.reply_to_request.new.text (c.reply_to_request.ensures.answer honest s holds)
+    c.reply_to_request.result _ _ c.reply_to_request.new.text (c.reply_to_request.ensures.answer s)
 
 pub returns-in-Err-clause-answer : goal.returns-in-Err-clause-answer
-returns-in-Err-clause-answer g c honest s holds part h =
+returns-in-Err-clause-answer g c s part h =
     let store = c.args.store.now in
-    replied_whole (HandlesLine store store s part) (reply.Refused Memory) _ c.args.text.now c.requires (memory_handled store s holds part)
+    replied_whole (HandlesLine store store s part) (reply.Refused Memory) _ c.args.text.now c.requires (memory_handled store s part)

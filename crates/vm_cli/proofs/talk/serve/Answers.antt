@@ -13,7 +13,7 @@ loop-init g c = record {
   left = λ failed. refl;
   bytes = [];
   read = Consumes-nil (g.R.Read.remaining c.args.reader.now);
-  fed = λ honest s holds. ([], c.new-line.ensures, fed-nothing c.args.store.now s holds [] (g.W.Write.contents c.args.writer.now));
+  fed = λ s. ([], c.new-line.ensures, fed-nothing c.args.store.now s [] (g.W.Write.contents c.args.writer.now));
 }
 
 pub returns-then-line-clause-end : goal.returns-then-line-clause-end
@@ -27,9 +27,9 @@ returns-in-Ok-eq0-clause-end g c =
     on_ok c.answer.result (c.in-Ok-eq0.ensures.bytes.1 none (search rules))
 
 pub returns-then-line-clause-answers : goal.returns-then-line-clause-answers
-returns-then-line-clause-answers g c honest s holds =
+returns-then-line-clause-answers g c s =
     let so_far = c.loop.invariant in
-    let p = so_far.fed honest s holds in
+    let p = so_far.fed s in
     let more = c.in-Ok-eq0.ensures.bytes in
     let none : c.in-Ok-eq0.field-0 ≡ 0 = omega (arith, c.in-Ok-eq0.field-0-test) in
     let before = g.W.Write.contents c.args.writer.now in
@@ -43,15 +43,15 @@ pub returns-in-Ok-eq0-clause-left : goal.returns-in-Ok-eq0-clause-left
 returns-in-Ok-eq0-clause-left g c = left_again c.args.store.now c.loop.store c.answer.new.store c.loop.invariant.left c.answer.ensures.left
 
 pub returns-in-Ok-eq0-clause-answers : goal.returns-in-Ok-eq0-clause-answers
-returns-in-Ok-eq0-clause-answers g c honest s holds =
+returns-in-Ok-eq0-clause-answers g c s =
     let so_far = c.loop.invariant in
-    let p = so_far.fed honest s holds in
+    let p = so_far.fed s in
     let more = c.in-Ok-eq0.ensures.bytes in
     let none : c.in-Ok-eq0.field-0 ≡ 0 = omega (arith, c.in-Ok-eq0.field-0-test) in
     let before = g.W.Write.contents c.args.writer.now in
     let mid = g.W.Write.contents c.loop.writer in
     let now = g.W.Write.contents c.answer.new.writer in
-    let w = c.answer.ensures.answer (so_far.goes.same_honesty ∙ honest) _ p.2.talked.holds p.0 p.1 in
+    let w = c.answer.ensures.answer _ p.0 p.1 in
     serves-last c.args.store.now c.loop.store s so_far.bytes p.0 before mid p.2 c.answer.new.store now _ c.answer.result (read-all _ _ _ so_far.bytes _ c.in-Ok-eq0.field-0 so_far.read more.0 none (more.1 none (search rules)))
     p.1.unbroken (sym p.1.empty ∙ c.if-line.false) w
 
@@ -67,31 +67,31 @@ pub returns-in-Err-feed-clause-left : goal.returns-in-Err-feed-clause-left
 returns-in-Err-feed-clause-left g c = left_again c.args.store.now c.loop.store c.feed.new.store c.loop.invariant.left c.in-Err-feed.ensures.left
 
 pub returns-in-Err-feed-clause-answers : goal.returns-in-Err-feed-clause-answers
-returns-in-Err-feed-clause-answers g c honest s holds =
+returns-in-Err-feed-clause-answers g c s =
     let old = c.args.store.now in
     let mid = c.loop.store in
     let new = c.feed.new.store in
     let so_far = c.loop.invariant in
-    let p = so_far.fed honest s holds in
+    let p = so_far.fed s in
     let before = g.W.Write.contents c.args.writer.now in
     let now = g.W.Write.contents c.feed.new.writer in
-    let q = c.in-Err-feed.ensures.ended (so_far.goes.same_honesty ∙ honest) _ p.2.talked.holds p.0 p.1 in
+    let q = c.in-Err-feed.ensures.ended _ p.0 p.1 in
     serves-some old new s {T = Unit {0}} (Err c.in-Err-feed.fault) before now (g.R.Read.remaining c.args.reader.now) (g.R.Read.remaining c.read.new.self) _
     (Consumes-trans _ _ _ so_far.bytes _ so_far.read c.in-Ok.ensures.bytes.0)
     (λ more. ended-join old mid new s so_far.bytes _ [] p.0 before _ now p.2 {T = Unit {0}} (Err c.in-Err-feed.fault) more (q more))
 
 pub returns-in-Err-clause-answers : goal.returns-in-Err-clause-answers
-returns-in-Err-clause-answers g c honest s holds =
+returns-in-Err-clause-answers g c s =
     let before = g.W.Write.contents c.args.writer.now in
     let now = g.W.Write.contents c.loop.writer in
-    let p = c.loop.invariant.fed honest s holds in
+    let p = c.loop.invariant.fed s in
     serves-read c.args.store.now c.loop.store s c.loop.invariant.bytes p.0 before now p.2 (Unit {0}) (g.R.Read.remaining c.args.reader.now) (g.R.Read.remaining c.loop.reader) c.loop.invariant.read
 
 pub returns-clause-answers : goal.returns-clause-answers
-returns-clause-answers g c honest s holds =
+returns-clause-answers g c s =
     let before = g.W.Write.contents c.args.writer.now in
     let now = g.W.Write.contents c.loop.writer in
-    let p = c.loop.invariant.fed honest s holds in
+    let p = c.loop.invariant.fed s in
     serves-read c.args.store.now c.loop.store s c.loop.invariant.bytes p.0 before now p.2 (Unit {0}) (g.R.Read.remaining c.args.reader.now) (g.R.Read.remaining c.loop.reader) c.loop.invariant.read
 
 pub loop-preserved : goal.loop-preserved
@@ -108,8 +108,8 @@ loop-preserved g c =
       left = left_again old mid new so_far.left c.in-Ok-feed.ensures.left;
       bytes = _;
       read = Consumes-trans _ _ _ so_far.bytes _ so_far.read c.in-Ok.ensures.bytes.0;
-      fed = λ honest s holds.
-          let p = so_far.fed honest s holds in
-          let q = c.in-Ok-feed.ensures.fed (so_far.goes.same_honesty ∙ honest) _ p.2.talked.holds p.0 p.1 in
+      fed = λ s.
+          let p = so_far.fed s in
+          let q = c.in-Ok-feed.ensures.fed _ p.0 p.1 in
           (q.0, q.1, fed-join old mid new s so_far.bytes _ [] p.0 before _ now p.2 q.0 q.2);
     }

@@ -15,6 +15,6 @@ invariant-loop g l = record {
   left : has_failed l.fn.store ≡ true → l.store ≡ l.fn.store;
   bytes : List ℕ;
   read : Consumes (g.R.Read.remaining l.fn.reader) (g.R.Read.remaining l.reader) bytes;
-  fed : (g.D.Disk.state (disk_of l.fn.store)).honest ≡ true → (s : State) → (has_failed l.fn.store ≡ false → Holds l.fn.store s)
+  fed : (s : State)
       → (to : List ℕ) × HoldsLine l.line to × Fed l.fn.store l.store s bytes [] to (g.W.Write.contents l.fn.writer) (g.W.Write.contents l.writer);
 }
