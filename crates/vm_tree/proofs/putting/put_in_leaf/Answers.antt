@@ -2,7 +2,6 @@ use Rattle.std.proofs.Common.{◌∙◌, ℕ, List, length, sym, subst, refl, ar
 use Rattle.std.proofs.lemmas.Bool.{false≢true}
 use Rattle.vm_types.specs.Places.{with_record}
 use Rattle.vm_block.specs.Leaf.{Record, IsLeaf}
-use Rattle.vm_block.specs.Tree.{IsData}
 use Rattle.vm_block.proofs.TreeLemmas.{leaf_opens}
 use Rattle.vm_disk.proofs.MomentLemmas.{after_reads, reads_keep, reads_then, spares_itself}
 use Rattle.vm_alloc.specs.Held.{IsHeld}

@@ -1,6 +1,6 @@
-use Rattle.std.proofs.Common.{◌≡◌, ◌≢◌, ◌∙◌, ℕ, Bool, ◌+◌, ◌-◌, ◌<◌, None, Ok, List, [], ◌∷◌, ◌++◌, length, get_or, take, drop, ap, sym, subst, refl, arith}
+use Rattle.std.proofs.Common.{◌≡◌, ◌∙◌, ℕ, Bool, ◌+◌, ◌-◌, ◌<◌, Ok, List, [], ◌∷◌, ◌++◌, length, take, drop, ap, sym, subst, refl, arith}
 use Rattle.std.proofs.lemmas.Bool.{false≢true, eqb-true}
-use Rattle.vm_types.specs.Places.{place, value_at}
+use Rattle.vm_types.specs.Places.{place}
 use Rattle.std.specs.List.{AllByRecursion}
 use Rattle.vm_disk.specs.Disk.{Contents, Medium}
 use Rattle.vm_disk.proofs.MomentLemmas.{after_reads, reads_keep, reads_then, spares_itself, same_medium}
@@ -10,7 +10,7 @@ use Rattle.vm_block.specs.declared.node.Child.{Child}
 use Rattle.vm_alloc.specs.Held.{IsHeld}
 use Rattle.vm_tree.specs.Making.{Made}
 use Rattle.vm_tree.specs.Reading.{IsNodeAt}
-use Rattle.vm_tree.specs.Removing.{Rests, RemovesBelow, child_of, level_of, without_place}
+use Rattle.vm_tree.specs.Removing.{RemovesBelow, child_of, level_of, without_place}
 use Rattle.vm_tree.specs.declared.removing.Left.{Left}
 use Rattle.vm_tree.specs.declared.root.Root.{Root}
 use Rattle.vm_tree.specs.Root.{sizes_of}

@@ -4,7 +4,6 @@ use Rattle.std.proofs.lemmas.List.{nil_from_length}
 use Rattle.vm_disk.proofs.MomentLemmas.{after_reads, reads_keep, spares_itself}
 use Rattle.vm_types.specs.Places.{RisesFrom, places, value_at}
 use Rattle.vm_block.specs.Leaf.{Record, RecordFits}
-use Rattle.vm_block.specs.Tree.{Subtree}
 use Rattle.vm_block.proofs.TreeLemmas.{subtree_fit}
 use Rattle.vm_alloc.specs.Held.{IsHeld}
 use Rattle.vm_tree.specs.Making.{Made}
