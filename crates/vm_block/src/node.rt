@@ -118,6 +118,7 @@ pub fn spelled_children(bytes: &[u8; 4096], count: usize) -> ArrayVec<Child, 256
     requires { count ≤ 256 }
     ensures many { length result.items ≡ count }
     ensures fit { AllByRecursion ChildFits result.items }
+    ensures spelled { take (14 * count) (drop 16 bytes.now) ≡ flat_map child_bytes result.items }
     ensures only { (level : ℕ) (cs : List Child) → IsNode bytes.now level cs → count ≡ length cs → result.items ≡ cs }
 {
     let mut children = ArrayVec::new();

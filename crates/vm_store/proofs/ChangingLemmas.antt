@@ -5,7 +5,7 @@ use Rattle.std.specs.List.{AllByRecursion}
 use Rattle.std.proofs.Math.Seq.{split_at}
 use Rattle.std.proofs.lemmas.List.{length-map, take_more}
 use Rattle.vm_types.specs.declared.change.Change.{Change}
-use Rattle.vm_types.specs.Map.{Map, get, with_value, put_or_taken, with_change, with_changes}
+use Rattle.vm_types.specs.Map.{Map, get, without, with_value, put_or_taken, with_change, with_changes}
 use Rattle.vm_types.specs.Places.{place}
 use Rattle.vm_types.proofs.Changes.{with_changes-more}
 use Rattle.vm_types.proofs.Keys.{without_absent}
@@ -116,6 +116,10 @@ absent_makes old new held now limit root m change is same still absent grown =
     (subst (λ (n : Map). Grown sizes (IsHeld now) new.contents limit root n) (sym (without_absent m change.key absent))
     (subst (λ (flags : List Bool). Grown sizes (IsHeld flags) new.contents limit root m) (sym still)
     (subst (λ (medium : Medium). Grown sizes (IsHeld held) medium.contents limit root m) (sym same) grown)))
+
+-- what is left without a record is what a change to no value makes
+pub rest_makes : (P : Map → Type 0) (m : Map) (change : Change) → change.after ≡ None → P (without m change.key) → P (with_change m change)
+rest_makes P m change is left = subst (λ (after : Option (List ℕ)). P (put_or_taken m change.key after)) (sym is) left
 
 -- a fault that is the device's is an answer
 pub device_makes : {T : Type 0} (fault : TreeFault) (deep : Type 0) (P : T → Type 0) → fault ≡ Device → Makes (Err fault) deep P

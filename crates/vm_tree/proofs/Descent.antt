@@ -2,13 +2,14 @@
 use Rattle.std.proofs.Common.{◌≡◌, ℕ, zero, suc, ◌+◌, ◌-◌, ◌<◌, ◌≤◌, List, [], ◌∷◌, ◌++◌, length, get_or, take, drop, Option, Result, Ok, Err, sym, ap, ◌∙◌, subst, arith, length-drop, get_or-drop}
 use Rattle.std.specs.Prelude.{slice_index}
 use Rattle.std.proofs.lemmas.List.{length-map, get_or-map, drop-map}
+use Rattle.vm_types.specs.declared.key.Key.{Key}
 use Rattle.vm_types.specs.Places.{place, RisesFrom, places, value_at}
 use Rattle.vm_disk.specs.Disk.{Contents, block, Medium}
 use Rattle.vm_block.specs.Leaf.{Record}
 use Rattle.vm_block.specs.Node.{IsNode, lows}
 use Rattle.vm_block.specs.FullPath.{IsChosen}
 use Rattle.vm_block.specs.Tree.{Sizes, IsData, Begins, Children, Subtree}
-use Rattle.vm_block.specs.Way.{Takes}
+use Rattle.vm_block.specs.Way.{Lowest, Takes}
 use Rattle.vm_block.specs.declared.node.Child.{Child}
 use Rattle.vm_block.proofs.NodeLemmas.{node_one}
 use Rattle.vm_block.proofs.TreeLemmas.{LeafAt, leaf_opens, node_opens}
@@ -119,36 +120,51 @@ ok_map (Err e) P Q h so = h
 pub node_value : (sizes : Sizes) (old mid : Medium) (limit level b p : ℕ) (rs : List Record) (bs : List ℕ) (cs : List Child) (i : ℕ) (d : Child) (result : Result (Option (List ℕ)) TreeFault)
     → mid ≡ old → 0 < level → Subtree sizes old.contents limit level b rs bs → RisesFrom 0 (places rs)
     → ((ds : List Child) → IsNodeAt old.contents limit level b ds → length ds ≤ sizes.fan → cs ≡ ds) → IsChosen (lows cs) p i
-    → ((sub : List Record) (own : List ℕ) → Subtree sizes mid.contents limit (level - 1) (get_or cs i d).block sub own → RisesFrom 0 (places sub) → OkOrDevice result (λ value. value ≡ value_at p sub))
+    → ((sub : List Record) (own : List ℕ) → Subtree sizes mid.contents limit (level - 1) (get_or cs i d).block sub own → Begins (get_or cs i d).low sub → RisesFrom 0 (places sub) → OkOrDevice result (λ value. value ≡ value_at p sub))
     → OkOrDevice result (λ value. value ≡ value_at p rs)
 node_value sizes old mid limit level b p rs bs cs i d result still above tree rises only chosen below =
     let at = opens sizes old.contents limit level b p rs bs cs i d above tree rises only chosen in
     let s = at.way.split in
     let child = subst (λ (m : Medium). Subtree sizes m.contents limit (level - 1) (get_or cs i d).block s.sub s.own) (sym still) s.child in
-    ok_map result (λ value. value ≡ value_at p s.sub) (λ value. value ≡ value_at p rs) (below s.sub s.own child at.way.rising)
+    ok_map result (λ value. value ≡ value_at p s.sub) (λ value. value ≡ value_at p rs) (below s.sub s.own child s.begins at.way.rising)
     (λ value is. is ∙ sym (ap (value_at p) s.records ∙ value_between p s.before s.sub s.after at.way.below at.way.above))
 
 -- the same of a child that was found in the bytes of its parent
 pub way_value : (sizes : Sizes) (old mid : Medium) (limit level b p : ℕ) (rs : List Record) (bs : List ℕ) (cs : List Child) (i : ℕ) (c : Child) (result : Result (Option (List ℕ)) TreeFault)
     → mid ≡ old → 0 < level → Subtree sizes old.contents limit level b rs bs → RisesFrom 0 (places rs) → IsNodeAt old.contents limit level b cs → Takes cs p i c
-    → ((sub : List Record) (own : List ℕ) → Subtree sizes mid.contents limit (level - 1) c.block sub own → RisesFrom 0 (places sub) → OkOrDevice result (λ value. value ≡ value_at p sub))
+    → ((sub : List Record) (own : List ℕ) → Subtree sizes mid.contents limit (level - 1) c.block sub own → Begins c.low sub → RisesFrom 0 (places sub) → OkOrDevice result (λ value. value ≡ value_at p sub))
     → OkOrDevice result (λ value. value ≡ value_at p rs)
 way_value sizes old mid limit level b p rs bs cs i c result still above tree rises at takes below =
     node_value sizes old mid limit level b p rs bs cs i c result still above tree rises
     (λ ds other few. (node_one (block old.contents b) level level cs ds at.node other.node).1) takes.chosen
-    (λ sub own under rising. below sub own (subst (λ (d : Child). Subtree sizes mid.contents limit (level - 1) d.block sub own) takes.child under) rising)
+    (λ sub own under begins rising. below sub own (subst (λ (d : Child). Subtree sizes mid.contents limit (level - 1) d.block sub own) takes.child under) (subst (λ (d : Child). Begins d.low sub) takes.child begins) rising)
 
 -- what is read of a leaf of a tree
 pub leaf_read : (sizes : Sizes) (x : Contents) (limit level b : ℕ) (rs : List Record) (bs : List ℕ) → level ≡ 0 → Subtree sizes x limit level b rs bs → IsLeafAt x limit b rs × (length rs ≤ sizes.leaf)
 leaf_read sizes x limit level b rs bs zero_is tree =
     let at = leaf_opens sizes x limit level b rs bs zero_is tree in (record { inside = at.place; leaf = at.leaf }, at.few)
 
+-- the same, where the count of blocks is named otherwise
+pub leaf_there : (sizes : Sizes) (x : Contents) (limit other level b : ℕ) (rs : List Record) (bs : List ℕ) → level ≡ 0 → other ≡ limit → Subtree sizes x limit level b rs bs → IsLeafAt x other b rs
+leaf_there sizes x limit other level b rs bs none is tree =
+    subst (λ n. IsLeafAt x n b rs) (sym is) (leaf_read sizes x limit level b rs bs none tree).0
+
+-- children over records have the lowest key with which these begin
+pub lowest_of : (T : ℕ → List Record → List ℕ → Type 0) (cs : List Child) (low : Key) (rs : List Record) (bs : List ℕ) → 0 < length cs → Children T cs rs bs → Begins low rs → Lowest low cs
+lowest_of T [] low rs bs some t begins = absurd (omega arith)
+lowest_of T (c ∷ cs) low rs bs some t begins = first_key t.0 t.5 (subst (Begins low) t.7 begins)
+  where
+    first_key : (first : List Record) → Begins c.low first → Begins low (first ++ t.1) → c.low ≡ low
+    first_key [] own all = absurd own
+    first_key (y ∷ first) own all = sym own ∙ all
+
 -- what is read of an inner block of a tree
-pub node_read : (sizes : Sizes) (x : Contents) (limit level b : ℕ) (rs : List Record) (bs : List ℕ) → 0 < level → Subtree sizes x limit level b rs bs → (cs : List Child) × IsNodeAt x limit level b cs × (length cs ≤ sizes.fan)
+pub node_read : (sizes : Sizes) (x : Contents) (limit level b : ℕ) (rs : List Record) (bs : List ℕ) → 0 < level → Subtree sizes x limit level b rs bs
+    → (cs : List Child) × IsNodeAt x limit level b cs × (length cs ≤ sizes.fan) × ((low : Key) → Begins low rs → Lowest low cs)
 node_read sizes x limit level b rs bs above tree =
     let up : suc (level - 1) ≡ level = omega arith in
     let at = node_opens sizes x limit level (level - 1) b rs bs (sym up) tree in
-    (at.children, record { inside = at.place; node = subst (λ n. IsNode (block x b) n at.children) up at.node }, at.few)
+    (at.children, record { inside = at.place; node = subst (λ n. IsNode (block x b) n at.children) up at.node }, at.few, λ low begins. lowest_of (Subtree sizes x limit (level - 1)) at.children low rs at.under at.node.some at.below begins)
 
 -- what lies under an inner block that was read
 pub node_under : (sizes : Sizes) (x : Contents) (limit level b : ℕ) (rs : List Record) (bs : List ℕ) (cs : List Child) → 0 < level → Subtree sizes x limit level b rs bs → ((ds : List Child) → IsNodeAt x limit level b ds → cs ≡ ds)

@@ -1,6 +1,7 @@
 pub mod Descent
 pub mod FullPaths
 pub mod Growing
+pub mod Leading
 pub mod Placing
 pub mod PutLemmas
 pub mod Removal

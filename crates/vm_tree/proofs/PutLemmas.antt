@@ -8,7 +8,7 @@ use Rattle.vm_disk.specs.Disk.{Contents, block, Medium}
 use Rattle.vm_block.specs.Leaf.{Record}
 use Rattle.vm_block.specs.Node.{ChildFits, lows}
 use Rattle.vm_block.specs.FullPath.{IsChosen}
-use Rattle.vm_block.specs.Tree.{Sizes, Children, Subtree}
+use Rattle.vm_block.specs.Tree.{Sizes, Begins, Children, Subtree}
 use Rattle.vm_block.specs.declared.node.Child.{Child}
 use Rattle.vm_block.proofs.EachLemmas.{each_front, each_back, each_so}
 use Rattle.vm_block.proofs.NodeLemmas.{node_one}
@@ -106,16 +106,16 @@ module _ (sizes : Sizes) (old mid : Medium) (limit level b : ℕ) (r : Record) (
     (tree : Subtree sizes old.contents limit level b rs bs) (rises : RisesFrom 0 (places rs)) (only : (ds : List Child) → IsNodeAt old.contents limit level b ds → length ds ≤ sizes.fan → cs ≡ ds) (chosen : IsChosen (lows cs) (place r.0) i) where
   -- what is asked of a Put under the chosen child
   abbrev pub Asked : Result Copied TreeFault → (ℕ → Type 0) → (List Child → List Record → Type 0) → Type 0
-  Asked result P M = (sub : List Record) (own : List ℕ) → Subtree sizes mid.contents limit (level - 1) (get_or cs i d).block sub own → RisesFrom 0 (places sub)
+  Asked result P M = (sub : List Record) (own : List ℕ) → Subtree sizes mid.contents limit (level - 1) (get_or cs i d).block sub own → Begins (get_or cs i d).low sub → RisesFrom 0 (places sub)
       → PutsBelow result (Splits sizes mid.contents (place r.0) (level - 1) (get_or cs i d).block sub) (λ ds. AllByRecursion P own → M ds (with_record r sub))
 
   -- what is answered of a child is asked where a descent takes that child
   pub asked_of : (c : Child) (result : Result Copied TreeFault) (P : ℕ → Type 0) (M : List Child → List Record → Type 0) → get_or cs i d ≡ c
-      → ((sub : List Record) (own : List ℕ) → Subtree sizes mid.contents limit (level - 1) c.block sub own → RisesFrom 0 (places sub)
+      → ((sub : List Record) (own : List ℕ) → Subtree sizes mid.contents limit (level - 1) c.block sub own → Begins c.low sub → RisesFrom 0 (places sub)
       → PutsBelow result (Splits sizes mid.contents (place r.0) (level - 1) c.block sub) (λ ds. AllByRecursion P own → M ds (with_record r sub)))
       → Asked result P M
   asked_of c result P M is below =
-      subst (λ (e : Child). (sub : List Record) (own : List ℕ) → Subtree sizes mid.contents limit (level - 1) e.block sub own → RisesFrom 0 (places sub)
+      subst (λ (e : Child). (sub : List Record) (own : List ℕ) → Subtree sizes mid.contents limit (level - 1) e.block sub own → Begins e.low sub → RisesFrom 0 (places sub)
       → PutsBelow result (Splits sizes mid.contents (place r.0) (level - 1) e.block sub) (λ ds. AllByRecursion P own → M ds (with_record r sub))) (sym is) below
 
   -- an inner block, with the chosen child written anew
@@ -131,7 +131,7 @@ module _ (sizes : Sizes) (old mid : Medium) (limit level b : ℕ) (r : Record) (
       let at = opens sizes old.contents limit level b p rs bs cs i d above tree rises only chosen in
       let s = at.way.split in
       let child = subst (λ (m : Medium). Subtree sizes m.contents limit (level - 1) (get_or cs i d).block s.sub s.own) (sym still) s.child in
-      let got = below s.sub s.own child at.way.rising in
+      let got = below s.sub s.own child s.begins at.way.rising in
       let here = λ (splits : Splits sizes mid.contents p (level - 1) (get_or cs i d).block s.sub). subst (λ (m : Medium). Splits sizes m.contents p (level - 1) (get_or cs i d).block s.sub) still splits in
       let there = λ (splits : Splits sizes old.contents p (level - 1) (get_or cs i d).block s.sub). subst (λ (m : Medium). Splits sizes m.contents p (level - 1) (get_or cs i d).block s.sub) (sym still) splits in
       let within : i < length cs = omega (arith, chosen.within, length-map cs (λ (c : Child). place c.low)) in
@@ -164,5 +164,5 @@ module _ (sizes : Sizes) (old mid : Medium) (limit level b : ℕ) (r : Record) (
       let s = at.way.split in
       let child = subst (λ (m : Medium). Subtree sizes m.contents limit (level - 1) (get_or cs i d).block s.sub s.own) (sym still) s.child in
       fault_below e (Splits sizes mid.contents p (level - 1) (get_or cs i d).block s.sub) (Splits sizes old.contents p level b rs) (λ ds. AllByRecursion P0 s.own → M ds (with_record r s.sub)) Q
-      (below s.sub s.own child at.way.rising)
+      (below s.sub s.own child s.begins at.way.rising)
       (λ is splits. node_splits sizes old.contents limit level b p rs bs cs i d above at chosen (full is) (subst (λ (m : Medium). Splits sizes m.contents p (level - 1) (get_or cs i d).block s.sub) still splits))

@@ -1,5 +1,5 @@
 -- What a Remove under a block answers, from what it answers under the chosen child; and what lies under a root with one child.
-use Rattle.std.proofs.Common.{◌≡◌, ◌≢◌, ℕ, zero, suc, ◌+◌, ◌-◌, ◌<◌, ◌≤◌, List, [], ◌∷◌, ◌++◌, length, get_or, take, drop, None, Result, Ok, Err, refl, sym, ap, ◌∙◌, subst, arith, append-nil, length-drop}
+use Rattle.std.proofs.Common.{◌≡◌, ◌≢◌, ℕ, zero, suc, ◌+◌, ◌-◌, ◌<◌, ◌≤◌, List, [], ◌∷◌, ◌++◌, length, get_or, take, drop, None, Result, Ok, Err, refl, sym, ap, ◌∙◌, subst, arith, append-nil, length-drop, take-append-drop}
 use Rattle.std.specs.List.{AllByRecursion}
 use Rattle.std.proofs.lemmas.List.{nil_from_length, length-map}
 use Rattle.vm_types.specs.Places.{place, RisesFrom, places, value_at}
@@ -8,8 +8,9 @@ use Rattle.vm_block.specs.Leaf.{Record}
 use Rattle.vm_block.specs.Node.{ChildFits, IsNode, lows}
 use Rattle.vm_block.specs.FullPath.{IsChosen}
 use Rattle.vm_block.specs.Tree.{Sizes, Begins, Children, Subtree}
+use Rattle.vm_block.specs.Way.{Lowest}
 use Rattle.vm_block.specs.declared.node.Child.{Child}
-use Rattle.vm_block.proofs.EachLemmas.{each_front, each_back}
+use Rattle.vm_block.proofs.EachLemmas.{each_front, each_back, each_join, each_so}
 use Rattle.vm_block.proofs.TreeLemmas.{node_opens}
 use Rattle.vm_tree.specs.Answers.{OkOrDevice}
 use Rattle.vm_tree.specs.Making.{Made}
@@ -19,11 +20,12 @@ use Rattle.vm_tree.specs.declared.root.Root.{Root}
 use Rattle.vm_tree.specs.declared.root.TreeFault.{TreeFault}
 use Rattle.vm_tree.specs.declared.removing.Left.{Left}
 use Rattle.vm_tree.specs.declared.removing.Left.TheVariants.{Same, Nothing, Rest}
-use Rattle.vm_tree.proofs.Descent.{Opened, opens, ok_map}
+use Rattle.vm_tree.proofs.Descent.{Opened, opens, lowest_of, ok_map}
 use Rattle.vm_tree.proofs.Growing.{made_moved}
 use Rattle.vm_tree.proofs.PutLemmas.{replaced_made}
 use Rattle.vm_tree.proofs.Removal.{without_between, without_rises}
 use Rattle.vm_tree.proofs.Rising.{value_between}
+use Rattle.vm_tree.proofs.Splitting.{children_join}
 
 -- what lies under one child alone
 pub alone_opens : (T : ℕ → List Record → List ℕ → Type 0) (c : Child) (rs : List Record) (bs : List ℕ) → Children T (c ∷ []) rs bs → T c.block rs bs × Begins c.low rs
@@ -45,15 +47,17 @@ narrows_here sizes x limit l top root rs bs is t =
 
 -- the root is what its one child is narrowed to
 pub narrows_down : (sizes : Sizes) (old mid : Medium) (limit level : ℕ) (top : Child) (cs : List Child) (d : Child) (rs : List Record) (bs : List ℕ) (result : Result Root TreeFault) → mid ≡ old → 0 < level → length cs ≡ 1
-    → Children (Subtree sizes old.contents limit level) (top ∷ []) rs bs → ((ds : List Child) → IsNodeAt old.contents limit level top.block ds → length ds ≤ sizes.fan → cs ≡ ds)
+    → Children (Subtree sizes old.contents limit level) (top ∷ []) rs bs → ((ds : List Child) → IsNodeAt old.contents limit level top.block ds → Lowest top.low ds → length ds ≤ sizes.fan → cs ≡ ds)
     → ((under : List ℕ) → Children (Subtree sizes mid.contents limit (level - 1)) (get_or cs 0 d ∷ []) rs under → OkOrDevice result (λ root. Narrows sizes mid.contents limit (get_or cs 0 d) root rs under))
     → OkOrDevice result (λ root. Narrows sizes old.contents limit top root rs bs)
 narrows_down sizes old mid limit level top cs d rs bs result still above one t only below =
     let x = old.contents in
     let up : suc (level - 1) ≡ level = omega arith in
-    let at = node_opens sizes x limit level (level - 1) top.block rs bs (sym up) (alone_opens (Subtree sizes x limit level) top rs bs t).0 in
+    let alone = alone_opens (Subtree sizes x limit level) top rs bs t in
+    let at = node_opens sizes x limit level (level - 1) top.block rs bs (sym up) alone.0 in
+    let lowest = lowest_of (Subtree sizes x limit (level - 1)) at.children top.low rs at.under at.node.some at.below alone.1 in
     let node = subst (λ n. IsNode (block x top.block) n at.children) up at.node in
-    let same : at.children ≡ get_or cs 0 d ∷ [] = sym (only at.children (record { inside = at.place; node = node }) at.few) ∙ one_child cs d one in
+    let same : at.children ≡ get_or cs 0 d ∷ [] = sym (only at.children (record { inside = at.place; node = node }) lowest at.few) ∙ one_child cs d one in
     let under = subst (λ (ds : List Child). Children (Subtree sizes x limit (level - 1)) ds rs at.under) same at.below in
     let fit = subst (AllByRecursion ChildFits) same at.node.fit in
     ok_map result (λ root. Narrows sizes mid.contents limit (get_or cs 0 d) root rs at.under) (λ root. Narrows sizes x limit top root rs bs)
@@ -66,26 +70,22 @@ narrows_down sizes old mid limit level top cs d rs bs result still above one t o
       fit = λ fits. n.fit fit.0;
     })
 
--- what was made, narrowed
-pub narrowed_made : (P : ℕ → Type 0) (sizes : Sizes) (x y : Contents) (limit l : ℕ) (top : Child) (root : Root) (rs : List Record) → y ≡ x → (made : Made P sizes x limit l (top ∷ []) rs) → Narrows sizes x limit top root rs made.blocks
-    → Made P sizes y limit root.level (child_of root ∷ []) rs
-narrowed_made P sizes x y limit l top root rs still made n = record {
+-- what lay under one child, narrowed
+pub narrowed_made : (P Q : ℕ → Type 0) (sizes : Sizes) (x y : Contents) (limit l : ℕ) (top : Child) (root : Root) (rs : List Record) (bs : List ℕ) → y ≡ x → ((n : ℕ) → P n → Q n) → ChildFits top → AllByRecursion P bs
+    → Narrows sizes x limit top root rs bs → Made Q sizes y limit root.level (child_of root ∷ []) rs
+narrowed_made P Q sizes x y limit l top root rs bs still so fits all n = record {
   blocks = n.own;
   under = subst (λ (z : Contents). Children (Subtree sizes z limit root.level) (child_of root ∷ []) rs n.own) (sym still) n.under;
-  each = each_back P n.above n.own (subst (AllByRecursion P) n.blocks made.each);
-  fit = (n.fit made.fit.0, tt);
+  each = each_so P Q so n.own (each_back P n.above n.own (subst (AllByRecursion P) n.blocks all));
+  fit = (n.fit fits, tt);
 }
 
 -- what was written is answered
-pub rests_removes : (result : Result Left TreeFault) (p : ℕ) (rs : List Record) (P : Root → Type 0) → value_at p rs ≢ None → Rests result (without_place p rs) P → RemovesBelow result p rs P
-rests_removes (Ok Same) p rs P some rest = absurd rest
-rests_removes (Ok Nothing) p rs P some rest = (some, rest)
-rests_removes (Ok (Rest root)) p rs P some rest = (some, rest)
-rests_removes (Err e) p rs P some rest = rest
-
--- no child was made of no record
-pub made_none : (P : ℕ → Type 0) (sizes : Sizes) (x : Contents) (limit l : ℕ) (rs : List Record) → rs ≡ [] → Made P sizes x limit l [] rs
-made_none P sizes x limit l rs is = record { blocks = []; under = (is, refl); each = tt; fit = tt }
+pub rests_removes : (result : Result Left TreeFault) (p : ℕ) (rs : List Record) (P Q : Root → Type 0) → ((root : Root) → P root → Q root) → value_at p rs ≢ None → Rests result (without_place p rs) P → RemovesBelow result p rs Q
+rests_removes (Ok Same) p rs P Q so some rest = absurd rest
+rests_removes (Ok Nothing) p rs P Q so some rest = (some, rest)
+rests_removes (Ok (Rest root)) p rs P Q so some rest = (some, so root rest)
+rests_removes (Err e) p rs P Q so some rest = rest
 
 module _ (sizes : Sizes) (old mid : Medium) (limit level b p : ℕ) (rs : List Record) (bs : List ℕ) (cs : List Child) (i : ℕ) (d : Child) (still : mid ≡ old) (above : 0 < level)
     (tree : Subtree sizes old.contents limit level b rs bs) (rises : RisesFrom 0 (places rs)) (only : (ds : List Child) → IsNodeAt old.contents limit level b ds → length ds ≤ sizes.fan → cs ≡ ds) (chosen : IsChosen (lows cs) p i) where
@@ -97,55 +97,93 @@ module _ (sizes : Sizes) (old mid : Medium) (limit level b p : ℕ) (rs : List R
   value_is =
       let s = at_child.way.split in ap (value_at p) s.records ∙ value_between p s.before s.sub s.after at_child.way.below at_child.way.above
 
+  under_held : (P : ℕ → Type 0) → AllByRecursion P bs → AllByRecursion P (at_child.way.split.left ++ (at_child.way.split.own ++ at_child.way.split.right))
+  under_held P all = subst (AllByRecursion P) at_child.way.split.blocks (subst (AllByRecursion P) at_child.first all).1
+
   own_held : (P : ℕ → Type 0) → AllByRecursion P bs → AllByRecursion P at_child.way.split.own
   own_held P all =
-      let s = at_child.way.split in
-      let under = subst (AllByRecursion P) s.blocks (subst (AllByRecursion P) at_child.first all).1 in each_front P s.own s.right (each_back P s.left (s.own ++ s.right) under)
+      let s = at_child.way.split in each_front P s.own s.right (each_back P s.left (s.own ++ s.right) (under_held P all))
 
   -- what is asked under the chosen child
-  abbrev pub Asks : (ℕ → Type 0) → (List Record → Type 0) → Type 0
-  Asks P A = (sub : List Record) (own : List ℕ) → Subtree sizes mid.contents limit (level - 1) (get_or cs i d).block sub own → RisesFrom 0 (places sub) → AllByRecursion P own → A sub
+  abbrev pub Asks : Child → (List Record → List ℕ → Type 0) → Type 0
+  Asks c A = (sub : List Record) (own : List ℕ) → Subtree sizes mid.contents limit (level - 1) c.block sub own → Begins c.low sub → RisesFrom 0 (places sub) → A sub own
 
-  answered : (P : ℕ → Type 0) (A : List Record → Type 0) → AllByRecursion P bs → Asks P A → A at_child.way.split.sub
-  answered P A all below =
+  -- what is left of the records under it is Q's, where its blocks have P
+  abbrev pub Kept : (P : ℕ → Type 0) → (List Record → Type 0) → List Record → List ℕ → Type 0
+  Kept P M sub own = (value_at p sub ≢ None) × (AllByRecursion P own → M (without_place p sub))
+
+  answered : (c : Child) → get_or cs i d ≡ c → (A : List Record → List ℕ → Type 0) → Asks c A → A at_child.way.split.sub at_child.way.split.own
+  answered c is A below =
       let s = at_child.way.split in
-      below s.sub s.own (subst (λ (m : Medium). Subtree sizes m.contents limit (level - 1) (get_or cs i d).block s.sub s.own) (sym still) s.child) at_child.way.rising (own_held P all)
+      let there = subst (λ (m : Medium). Subtree sizes m.contents limit (level - 1) (get_or cs i d).block s.sub s.own) (sym still) s.child in
+      below s.sub s.own (subst (λ (e : Child). Subtree sizes mid.contents limit (level - 1) e.block s.sub s.own) is there) (subst (λ (e : Child). Begins e.low s.sub) is s.begins) at_child.way.rising
 
   -- where no record stands there under the child, none stands there
-  pub none_there : (P : ℕ → Type 0) → AllByRecursion P bs → Asks P (λ sub. value_at p sub ≡ None) → value_at p rs ≡ None
-  none_there P all below = value_is ∙ answered P (λ sub. value_at p sub ≡ None) all below
+  pub none_there : (c : Child) → get_or cs i d ≡ c → Asks c (λ sub own. value_at p sub ≡ None) → value_at p rs ≡ None
+  none_there c is below = value_is ∙ answered c is (λ sub own. value_at p sub ≡ None) below
 
   -- a fault from below
-  pub fault_there : (P : ℕ → Type 0) (A : Type 0) → AllByRecursion P bs → Asks P (λ sub. A) → A
-  fault_there P A all below = answered P (λ sub. A) all below
+  pub fault_there : (c : Child) → get_or cs i d ≡ c → (A : Type 0) → Asks c (λ sub own. A) → A
+  fault_there c is A below = answered c is (λ sub own. A) below
 
   -- what is left of the children, with these in the place of the chosen one
-  pub node_rest : (P Q : ℕ → Type 0) (x2 : Contents) (other : ℕ) (now lent : List Child) → AllByRecursion P bs → ((n : ℕ) → P n → block x2 n ≡ block mid.contents n) → ((n : ℕ) → P n → Q n) → other ≡ limit
+  pub node_rest : (c : Child) → get_or cs i d ≡ c → (P Q : ℕ → Type 0) (x2 : Contents) (other : ℕ) (now lent : List Child) → ((n : ℕ) → P n → block x2 n ≡ block mid.contents n) → ((n : ℕ) → P n → Q n) → other ≡ limit
       → lent ≡ take i cs ++ (now ++ drop (i + 1) cs)
-      → Asks P (λ sub. (value_at p sub ≢ None) × Made Q sizes x2 limit (level - 1) now (without_place p sub))
-      → (value_at p rs ≢ None) × RisesFrom 0 (places (without_place p rs)) × Made Q sizes x2 other (level - 1) lent (without_place p rs)
-  node_rest P Q x2 other now lent all same so limits is below =
-      let got = answered P (λ sub. (value_at p sub ≢ None) × Made Q sizes x2 limit (level - 1) now (without_place p sub)) all below in
+      → Asks c (Kept P (Made Q sizes x2 limit (level - 1) now))
+      → (value_at p rs ≢ None) × (AllByRecursion P bs → RisesFrom 0 (places (without_place p rs)) × Made Q sizes x2 other (level - 1) lent (without_place p rs))
+  node_rest c at P Q x2 other now lent same so limits is below =
+      let got = answered c at (Kept P (Made Q sizes x2 limit (level - 1) now)) below in
       let s = at_child.way.split in
       let same_old = λ (n : ℕ) (has : P n). same n has ∙ ap (λ (m : Medium). block m.contents n) still in
-      let made = replaced_made P Q sizes old.contents x2 limit level b p rs bs cs i d same_old so at_child all now (without_place p s.sub) got.1 in
-      let records = ap (without_place p) s.records ∙ without_between p s.before s.sub s.after at_child.way.below at_child.way.above in
-      let whole = subst (λ (qs : List Record). Made Q sizes x2 limit (level - 1) (take i cs ++ (now ++ drop (i + 1) cs)) qs) (sym records) made in (
+      let records = ap (without_place p) s.records ∙ without_between p s.before s.sub s.after at_child.way.below at_child.way.above in (
         λ none. got.0 (sym value_is ∙ none),
-        without_rises p 0 rs rises,
-        made_moved Q Q sizes x2 x2 limit other (level - 1) (λ n has. refl) (λ n has. has) limits (take i cs ++ (now ++ drop (i + 1) cs)) lent (without_place p rs) is whole,
+        λ all.
+            let made = replaced_made P Q sizes old.contents x2 limit level b p rs bs cs i d same_old so at_child all now (without_place p s.sub) (got.1 (own_held P all)) in
+            let whole = subst (λ (qs : List Record). Made Q sizes x2 limit (level - 1) (take i cs ++ (now ++ drop (i + 1) cs)) qs) (sym records) made in
+            (without_rises p 0 rs rises, made_moved Q Q sizes x2 x2 limit other (level - 1) (λ n has. refl) (λ n has. has) limits (take i cs ++ (now ++ drop (i + 1) cs)) lent (without_place p rs) is whole),
       )
 
+  -- what is left of the children without the chosen one, under which no record is left
+  pub record Others (P : ℕ → Type 0) (lent : List Child) : Type 0 where
+    pub there : value_at p rs ≢ None
+    pub rising : RisesFrom 0 (places (without_place p rs))
+    pub kept : List ℕ
+    pub under : Children (Subtree sizes old.contents limit (level - 1)) lent (without_place p rs) kept
+    pub fit : AllByRecursion ChildFits lent
+    pub held : AllByRecursion P bs → AllByRecursion P kept
+
+  pub others_left : (c : Child) → get_or cs i d ≡ c → (P : ℕ → Type 0) (lent : List Child) → lent ≡ take i cs ++ drop (i + 1) cs → Asks c (λ sub own. (value_at p sub ≢ None) × (without_place p sub ≡ [])) → Others P lent
+  others_left c at P lent is below =
+      let got = answered c at (λ sub own. (value_at p sub ≢ None) × (without_place p sub ≡ [])) below in
+      let s = at_child.way.split in
+      let T = Subtree sizes old.contents limit (level - 1) in
+      let one : suc i ≡ i + 1 = omega arith in
+      let back = subst (λ n. Children T (drop n cs) s.after s.right) one s.back in
+      let records : without_place p rs ≡ s.before ++ s.after = ap (without_place p) s.records ∙ without_between p s.before s.sub s.after at_child.way.below at_child.way.above ∙ ap (λ (z : List Record). s.before ++ (z ++ s.after)) got.1 in
+      let joined = children_join T (take i cs) (drop (i + 1) cs) s.before s.after s.left s.right s.front back in
+      let cut = λ (n : ℕ). subst (AllByRecursion ChildFits) (sym (take-append-drop n cs)) at_child.node.fit in
+      let fits = each_join ChildFits (take i cs) (drop (i + 1) cs) (each_front ChildFits (take i cs) (drop i cs) (cut i)) (each_back ChildFits (take (i + 1) cs) (drop (i + 1) cs) (cut (i + 1))) in
+      record {
+        there = λ none. got.0 (sym value_is ∙ none);
+        rising = without_rises p 0 rs rises;
+        kept = s.left ++ s.right;
+        under = subst (λ (ds : List Child). Children T ds (without_place p rs) (s.left ++ s.right)) (sym is) (subst (λ (qs : List Record). Children T (take i cs ++ drop (i + 1) cs) qs (s.left ++ s.right)) (sym records) joined);
+        fit = subst (AllByRecursion ChildFits) (sym is) fits;
+        held = λ all.
+            let under = under_held P all in each_join P s.left s.right (each_front P s.left (s.own ++ s.right) under) (each_back P s.own s.right (each_back P s.left (s.own ++ s.right) under));
+      }
+
   -- where the child is the only one, all records lie under it
-  pub only_there : (P : ℕ → Type 0) (A : List Record → Type 0) → length cs ≡ 1 → AllByRecursion P bs → Asks P A → A rs
-  only_there P A one all below =
+  pub only_there : (c : Child) → get_or cs i d ≡ c → (P : ℕ → Type 0) (M : List Record → Type 0) → length cs ≡ 1 → Asks c (Kept P M) → (value_at p rs ≢ None) × (AllByRecursion P bs → M (without_place p rs))
+  only_there c at P M one below =
+      let got = answered c at (Kept P M) below in
       let s = at_child.way.split in
       let index : i ≡ 0 = omega (arith, chosen.within, length-map cs (λ (c : Child). place c.low), one) in
       let before : s.before ≡ [] = none_before i s.before s.left index s.front in
       let last : drop (suc i) cs ≡ [] = nil_from_length (drop (suc i) cs) (omega (arith, length-drop (suc i) cs, one)) in
       let after : s.after ≡ [] = (subst (λ (ds : List Child). Children (Subtree sizes old.contents limit (level - 1)) ds s.after s.right) last s.back).0 in
       let same : rs ≡ s.sub = s.records ∙ ap (λ (z : List Record). z ++ (s.sub ++ s.after)) before ∙ ap (λ (z : List Record). s.sub ++ z) after ∙ append-nil s.sub in
-      subst A (sym same) (answered P A all below)
+      (λ none. got.0 (sym value_is ∙ none), λ all. subst (λ (qs : List Record). M (without_place p qs)) (sym same) (got.1 (own_held P all)))
     where
       none_before : (j : ℕ) (before : List Record) (left : List ℕ) → j ≡ 0 → Children (Subtree sizes old.contents limit (level - 1)) (take j cs) before left → before ≡ []
       none_before zero before left is t = t.0

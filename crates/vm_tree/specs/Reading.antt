@@ -1,15 +1,18 @@
 -- Blocks of a tree as they are read.
-use Rattle.std.specs.Prelude.{◌≡◌, ℕ, List}
+use Rattle.std.specs.Prelude.{◌≡◌, ℕ, zero, suc, ◌+◌, ◌*◌, ◌<◌, List, take, drop}
+use Rattle.vm_types.specs.declared.key.Key.{Key}
 use Rattle.vm_disk.specs.Disk.{Contents, block}
-use Rattle.vm_block.specs.Leaf.{Record, IsLeaf}
-use Rattle.vm_block.specs.Node.{IsNode}
+use Rattle.vm_block.specs.Head.{IsLeafHead, IsNodeHead}
+use Rattle.vm_block.specs.Leaf.{Record, IsLeaf, key_bytes}
+use Rattle.vm_block.specs.Node.{IsNode, child_bytes}
 use Rattle.vm_block.specs.Tree.{IsData}
 use Rattle.vm_block.specs.declared.node.Child.{Child}
 
--- this block is for data, and has these bytes
-pub record IsBlockAt (x : Contents) (limit b : ℕ) (bytes : List ℕ) : Type 0 where
+-- this block is for data, has these bytes, and begins with this key
+pub record IsBlockAt (x : Contents) (limit b : ℕ) (low : Key) (bytes : List ℕ) : Type 0 where
   pub inside : IsData limit b
   pub bytes_are : bytes ≡ block x b
+  pub first : take 10 (drop 16 bytes) ≡ key_bytes low
 
 -- this block is for data, and is a leaf of these records
 pub record IsLeafAt (x : Contents) (limit b : ℕ) (rs : List Record) : Type 0 where
@@ -20,3 +23,26 @@ pub record IsLeafAt (x : Contents) (limit b : ℕ) (rs : List Record) : Type 0 w
 pub record IsNodeAt (x : Contents) (limit level b : ℕ) (cs : List Child) : Type 0 where
   pub inside : IsData limit b
   pub node : IsNode (block x b) level cs
+
+-- this block is for data, has the head of a leaf, and begins with this key
+pub record EndsAt (x : Contents) (limit b : ℕ) (low : Key) : Type 0 where
+  pub count : ℕ
+  pub inside : IsData limit b
+  pub head : IsLeafHead (block x b) 16 count
+  pub first : take 10 (drop 16 (block x b)) ≡ key_bytes low
+
+-- this block is for data, has the head of an inner block of this level, begins with this key, and has this child
+pub record StepsTo (x : Contents) (limit level b : ℕ) (low : Key) (child : Child) : Type 0 where
+  pub count : ℕ
+  pub index : ℕ
+  pub inside : IsData limit b
+  pub head : IsNodeHead (block x b) level count
+  pub first : take 10 (drop 16 (block x b)) ≡ key_bytes low
+  pub within : index < count
+  pub spelled : take 14 (drop (16 + 14 * index) (block x b)) ≡ child_bytes child
+
+-- from block b, so many levels above the leaves, a descent leads to a leaf: each block on it has the head of its
+-- level, and begins with the key that was said of it
+unfoldable pub LeadsDown : Contents → ℕ → ℕ → ℕ → Key → Type 0
+LeadsDown x limit zero b low = EndsAt x limit b low
+LeadsDown x limit (suc l) b low = (child : Child) × StepsTo x limit (suc l) b low child × LeadsDown x limit l child.block child.low

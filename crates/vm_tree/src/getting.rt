@@ -1,17 +1,18 @@
 //! The value of a key.
-ghost use Rattle.std.specs.Prelude.{◌≡◌, ◌≢◌, ℕ, ◌≤◌, true, List};
+ghost use Rattle.std.specs.Prelude.{◌≡◌, ◌≢◌, ℕ, ◌<◌, ◌≤◌, true, List, IfOk};
 ghost use Rattle.vm_types.specs.Map.{Map, get};
 ghost use Rattle.vm_types.specs.Places.{KeyFits, RisesFrom, place, places, value_at};
 ghost use Rattle.vm_disk.specs.Disk.{Goes};
 ghost use Rattle.vm_disk.specs.Moments.{OnlyReads};
 ghost use Rattle.vm_block.specs.Leaf.{Record};
-ghost use Rattle.vm_block.specs.Tree.{Sizes, Subtree};
+ghost use Rattle.vm_block.specs.Tree.{Sizes, Begins, Subtree};
 ghost use Rattle.vm_tree.specs.Answers.{OkOrDevice};
+ghost use Rattle.vm_tree.specs.Reading.{LeadsDown};
 ghost use Rattle.vm_tree.specs.Root.{IsRooted};
 
 use crate::reading::{block_at, way_at};
 use crate::root::{Root, TreeFault};
-use vm_block::find_record;
+use vm_block::{Child, find_record};
 use vm_disk::Disk;
 use vm_types::{Key, Value};
 
@@ -20,7 +21,7 @@ fn get_below<D: Disk>(
     disk: &mut D,
     blocks: u32,
     level: u8,
-    block: u32,
+    top: Child,
     key: Key,
     bytes: &mut [u8; 4096],
 ) -> Result<Option<Value>, TreeFault>
@@ -30,21 +31,22 @@ fn get_below<D: Disk>(
     ensures memory { result ≢ Err TreeFault.Memory }
     ensures fits { KeyFits key }
     ensures reads { (D.state disk.new).honest ≡ true → OnlyReads (D.state disk.old) (D.state disk.new) }
+    ensures path { (D.state disk.new).honest ≡ true → IfOk result (λ value. LeadsDown (D.state disk.old).now.contents blocks level top.block top.low) }
     ensures value { (D.state disk.new).honest ≡ true → (sizes : Sizes) (rs : List Record) (bs : List ℕ)
-        → Subtree sizes (D.state disk.old).now.contents blocks level block rs bs → RisesFrom 0 (places rs)
+        → Subtree sizes (D.state disk.old).now.contents blocks level top.block rs bs → Begins top.low rs → RisesFrom 0 (places rs)
         → OkOrDevice result (λ value. value ≡ value_at (place key) rs) }
 {
     if level == 0 {
-        return match block_at(disk, blocks, block, bytes) {
+        return match block_at(disk, blocks, top, bytes) {
             Ok(()) => match find_record(bytes, key) {
                 Some(value) => Ok(value),
-                None => Err(TreeFault::Damaged(block)),
+                None => Err(TreeFault::Damaged(top.block)),
             },
             Err(fault) => Err(fault),
         };
     }
-    match way_at::<D, 256>(disk, blocks, level, block, key, bytes) {
-        Ok(way) => get_below(disk, blocks, level - 1, way.child.block, key, bytes),
+    match way_at::<D, 256>(disk, blocks, level, top, key, bytes) {
+        Ok(way) => get_below(disk, blocks, level - 1, way.child, key, bytes),
         Err(fault) => Err(fault),
     }
 }
@@ -62,6 +64,11 @@ pub fn get<D: Disk>(
     ensures memory { result ≢ Err TreeFault.Memory }
     ensures reads { (D.state disk.new).honest ≡ true → OnlyReads (D.state disk.old) (D.state disk.new) }
 
+    // A value, or that there is none, is told only where each block on the path has the head of its level and begins
+    // with the key that its parent says, the first with the lowest key of the root.
+    ensures path { (D.state disk.new).honest ≡ true
+        → IfOk result (λ value. 0 < root.block → LeadsDown (D.state disk.old).now.contents blocks root.level root.block root.low) }
+
     // On a tree it is the value of its map, whatever the sizes of its blocks, unless the device fails.
     ensures value { (D.state disk.new).honest ≡ true → (sizes : Sizes) (m : Map) (bs : List ℕ)
         → IsRooted sizes (D.state disk.old).now.contents blocks root m bs → OkOrDevice result (λ value. value ≡ get m key) }
@@ -69,6 +76,10 @@ pub fn get<D: Disk>(
     if root.block == 0 {
         return Ok(None);
     }
+    let top = Child {
+        low: root.low,
+        block: root.block,
+    };
     let mut bytes = [0; 4096];
-    get_below(disk, blocks, root.level, root.block, key, &mut bytes)
+    get_below(disk, blocks, root.level, top, key, &mut bytes)
 }

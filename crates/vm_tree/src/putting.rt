@@ -4,15 +4,16 @@ ghost use Rattle.std.specs.List.{AllByRecursion};
 ghost use Rattle.vm_types.specs.Map.{Map, with_value};
 ghost use Rattle.vm_types.specs.Places.{KeyFits, RisesFrom, place, places, with_record};
 ghost use Rattle.vm_disk.specs.Disk.{Goes};
-ghost use Rattle.vm_disk.specs.Moments.{Throughout, Spares};
+ghost use Rattle.vm_disk.specs.Moments.{Throughout, OnlyReads, Spares};
 ghost use Rattle.vm_alloc.specs.Held.{IsHeld, HoldsMore, free_count};
 ghost use Rattle.vm_block.specs.Leaf.{Record, RecordFits, IsLeaf};
 ghost use Rattle.vm_block.specs.Node.{IsNode};
-ghost use Rattle.vm_block.specs.Tree.{Sizes, Subtree};
+ghost use Rattle.vm_block.specs.Tree.{Sizes, Begins, Subtree};
 ghost use Rattle.vm_block.specs.declared.node.Child.{Child};
 ghost use Rattle.vm_tree.specs.Answers.{LacksRoom, OkOrDevice, Puts};
 ghost use Rattle.vm_tree.specs.Free.{is_free, IsTaken};
 ghost use Rattle.vm_tree.specs.Making.{Made, PutsBelow, Splits, children_of, is_split, with_copied};
+ghost use Rattle.vm_tree.specs.Reading.{LeadsDown};
 ghost use Rattle.vm_tree.specs.Root.{AreSizes, Grown, IsRooted, sizes_of};
 
 use crate::reading::{block_at, way_at};
@@ -23,7 +24,7 @@ use crate::writing::{
 };
 use arrayvec::ArrayVec;
 use vm_alloc::Held;
-use vm_block::{Placed, Way, put_record, read_leaf, read_node, set_child};
+use vm_block::{Child, Placed, Way, put_record, read_leaf, set_child, spelled_children};
 use vm_disk::Disk;
 use vm_types::{Key, Value};
 
@@ -67,12 +68,11 @@ fn with_record(records: &[(Key, Value)], key: Key, value: &Value) -> ArrayVec<(K
 }
 
 /// Writes the inner block of these bytes anew, with the child that was taken replaced by what its
-/// block was written anew as.
+/// block was written anew as. The bytes were compared on the way down, and none is refused here.
 fn write_replaced<D: Disk, const FAN: usize>(
     disk: &mut D,
     held: &mut Held,
     level: u8,
-    block: u32,
     way: Way,
     bytes: &mut [u8; 4096],
     copied: Copied,
@@ -84,12 +84,11 @@ fn write_replaced<D: Disk, const FAN: usize>(
     requires few { way.count ≤ FAN }
     requires free { 2 ≤ free_count held.old }
     ensures any { Goes (result ≡ Err TreeFault.Device) (D.state disk.old) (D.state disk.new) }
-    ensures deep { result ≢ Err TreeFault.Deep }
-    ensures memory { result ≢ Err TreeFault.Memory }
-    ensures device { IfOk result (λ done. AllByRecursion (λ child. IsTaken held.new child.block) (children_of done)) }
+    ensures device { OkOrDevice result (λ done. AllByRecursion (λ child. IsTaken held.new child.block) (children_of done)) }
     ensures split { IfOk result (λ done. is_split done ≡ true → (is_split copied ≡ true) × (FAN ≤ way.count)) }
     ensures still { HoldsMore held.old held.new }
     ensures one { way.count < FAN → free_count held.old ≤ free_count held.new + 1 }
+    ensures single { IfOk result (λ done. is_split done ≡ false → free_count held.old ≤ free_count held.new + 1) }
     ensures taken { free_count held.old ≤ free_count held.new + 2 }
     ensures moments { (D.state disk.new).honest ≡ true
         → Throughout (D.state disk.old) (D.state disk.new) (Spares (is_free held.old) (D.state disk.old).now) }
@@ -107,13 +106,11 @@ fn write_replaced<D: Disk, const FAN: usize>(
                 Err(fault) => Err(fault),
             }
         }
-        Copied::Two(left, right) => match read_node(bytes) {
-            Some(node) if node.children.len() == way.count => {
-                let children = spliced(node.children.as_slice(), way.index, &[left, right]);
-                write_nodes::<D, FAN>(disk, held, level, children.as_slice())
-            }
-            _ => Err(TreeFault::Damaged(block)),
-        },
+        Copied::Two(left, right) => {
+            let children = spelled_children(bytes, way.count);
+            let children = spliced(children.as_slice(), way.index, &[left, right]);
+            write_nodes::<D, FAN>(disk, held, level, children.as_slice())
+        }
     }
 }
 
@@ -134,7 +131,10 @@ fn split_leaf<D: Disk, const LEAF: usize>(
     ensures deep { result ≢ Err TreeFault.Deep }
     ensures memory { result ≢ Err TreeFault.Memory }
     ensures device { IfOk result (λ copied. AllByRecursion (λ child. IsTaken held.new child.block) (children_of copied)) }
+    ensures damaged { (b : ℕ) → result ≡ Err (TreeFault.Damaged b) → held.new ≡ held.old }
+    ensures reads { (D.state disk.new).honest ≡ true → (b : ℕ) → result ≡ Err (TreeFault.Damaged b) → OnlyReads (D.state disk.old) (D.state disk.new) }
     ensures still { HoldsMore held.old held.new }
+    ensures single { IfOk result (λ copied. is_split copied ≡ false → free_count held.old ≤ free_count held.new + 1) }
     ensures taken { free_count held.old ≤ free_count held.new + 2 }
     ensures moments { (D.state disk.new).honest ≡ true
         → Throughout (D.state disk.old) (D.state disk.new) (Spares (is_free held.old) (D.state disk.old).now) }
@@ -156,7 +156,7 @@ fn split_leaf<D: Disk, const LEAF: usize>(
 fn put_in_leaf<D: Disk, const LEAF: usize>(
     disk: &mut D,
     held: &mut Held,
-    block: u32,
+    top: Child,
     room: bool,
     key: Key,
     value: &Value,
@@ -170,26 +170,30 @@ fn put_in_leaf<D: Disk, const LEAF: usize>(
     ensures device { IfOk result (λ copied. AllByRecursion (λ child. IsTaken held.new child.block) (children_of copied)) }
     ensures split { IfOk result (λ copied. is_split copied ≡ true → room ≡ true) }
     ensures deep { result ≡ Err TreeFault.Deep → (room ≡ false) × (held.new ≡ held.old) }
+    ensures damaged { (b : ℕ) → result ≡ Err (TreeFault.Damaged b) → held.new ≡ held.old }
+    ensures reads { (D.state disk.new).honest ≡ true → (b : ℕ) → result ≡ Err (TreeFault.Damaged b) → OnlyReads (D.state disk.old) (D.state disk.new) }
     ensures still { HoldsMore held.old held.new }
     ensures one { room ≡ false → free_count held.old ≤ free_count held.new + 1 }
+    ensures single { IfOk result (λ copied. is_split copied ≡ false → free_count held.old ≤ free_count held.new + 1) }
     ensures taken { free_count held.old ≤ free_count held.new + 2 }
     ensures moments { (D.state disk.new).honest ≡ true
         → Throughout (D.state disk.old) (D.state disk.new) (Spares (is_free held.old) (D.state disk.old).now) }
+    ensures path { (D.state disk.new).honest ≡ true → IfOk result (λ copied. LeadsDown (D.state disk.old).now.contents (length held.old) 0 top.block top.low) }
     ensures put { (D.state disk.new).honest ≡ true → (fan levels : ℕ) (rs : List Record) (bs : List ℕ)
-        → Subtree (sizes_of LEAF fan levels) (D.state disk.old).now.contents (length held.old) 0 block rs bs → RisesFrom 0 (places rs)
-        → PutsBelow result (Splits (sizes_of LEAF fan levels) (D.state disk.old).now.contents (place key) 0 block rs)
+        → Subtree (sizes_of LEAF fan levels) (D.state disk.old).now.contents (length held.old) 0 top.block rs bs → Begins top.low rs → RisesFrom 0 (places rs)
+        → PutsBelow result (Splits (sizes_of LEAF fan levels) (D.state disk.old).now.contents (place key) 0 top.block rs)
         (λ cs. Made (IsHeld held.new) (sizes_of LEAF fan levels) (D.state disk.new).now.contents (length held.old) 0 cs (with_record (key, value.now) rs)) }
 {
     let mut bytes = [0; 4096];
-    match block_at(disk, held.blocks(), block, &mut bytes) {
+    match block_at(disk, held.blocks(), top, &mut bytes) {
         Ok(()) => match put_record(&mut bytes, LEAF, key, value) {
             Placed::Put => match write_bytes(disk, held, &bytes) {
                 Ok(leaf) => Ok(Copied::One(leaf)),
                 Err(fault) => Err(fault),
             },
             Placed::Full if !room => Err(TreeFault::Deep),
-            Placed::Full => split_leaf::<D, LEAF>(disk, held, block, &bytes, key, value),
-            Placed::NoLeaf => Err(TreeFault::Damaged(block)),
+            Placed::Full => split_leaf::<D, LEAF>(disk, held, top.block, &bytes, key, value),
+            Placed::NoLeaf => Err(TreeFault::Damaged(top.block)),
         },
         Err(fault) => Err(fault),
     }
@@ -201,7 +205,7 @@ fn put_below<D: Disk, const LEAF: usize, const FAN: usize>(
     disk: &mut D,
     held: &mut Held,
     level: u8,
-    block: u32,
+    top: Child,
     room: bool,
     key: Key,
     value: &Value,
@@ -219,27 +223,30 @@ fn put_below<D: Disk, const LEAF: usize, const FAN: usize>(
     ensures device { IfOk result (λ copied. AllByRecursion (λ child. IsTaken held.new child.block) (children_of copied)) }
     ensures split { IfOk result (λ copied. is_split copied ≡ true → room ≡ true) }
     ensures deep { result ≡ Err TreeFault.Deep → (room ≡ false) × (held.new ≡ held.old) }
+    ensures damaged { (b : ℕ) → result ≡ Err (TreeFault.Damaged b) → held.new ≡ held.old }
+    ensures reads { (D.state disk.new).honest ≡ true → (b : ℕ) → result ≡ Err (TreeFault.Damaged b) → OnlyReads (D.state disk.old) (D.state disk.new) }
     ensures still { HoldsMore held.old held.new }
     ensures one { room ≡ false → free_count held.old ≤ free_count held.new + (2 * level + 1) }
+    ensures single { IfOk result (λ copied. is_split copied ≡ false → free_count held.old ≤ free_count held.new + (2 * level + 1)) }
     ensures taken { free_count held.old ≤ free_count held.new + (2 * level + 2) }
     ensures moments { (D.state disk.new).honest ≡ true
         → Throughout (D.state disk.old) (D.state disk.new) (Spares (is_free held.old) (D.state disk.old).now) }
+    ensures path { (D.state disk.new).honest ≡ true → IfOk result (λ copied. LeadsDown (D.state disk.old).now.contents (length held.old) level top.block top.low) }
     ensures put { (D.state disk.new).honest ≡ true → (levels : ℕ) (rs : List Record) (bs : List ℕ)
-        → Subtree (sizes_of LEAF FAN levels) (D.state disk.old).now.contents (length held.old) level block rs bs → RisesFrom 0 (places rs)
-        → PutsBelow result (Splits (sizes_of LEAF FAN levels) (D.state disk.old).now.contents (place key) level block rs)
+        → Subtree (sizes_of LEAF FAN levels) (D.state disk.old).now.contents (length held.old) level top.block rs bs → Begins top.low rs → RisesFrom 0 (places rs)
+        → PutsBelow result (Splits (sizes_of LEAF FAN levels) (D.state disk.old).now.contents (place key) level top.block rs)
         (λ cs. AllByRecursion (IsHeld held.old) bs → Made (IsHeld held.new) (sizes_of LEAF FAN levels) (D.state disk.new).now.contents (length held.old) level cs (with_record (key, value.now) rs)) }
 {
     if level == 0 {
-        return put_in_leaf::<D, LEAF>(disk, held, block, room, key, value);
+        return put_in_leaf::<D, LEAF>(disk, held, top, room, key, value);
     }
     let mut bytes = [0; 4096];
-    match way_at::<D, FAN>(disk, held.blocks(), level, block, key, &mut bytes) {
+    match way_at::<D, FAN>(disk, held.blocks(), level, top, key, &mut bytes) {
         Ok(way) => {
             let room = room || way.count < FAN;
-            let child = way.child.block;
-            match put_below::<D, LEAF, FAN>(disk, held, level - 1, child, room, key, value) {
+            match put_below::<D, LEAF, FAN>(disk, held, level - 1, way.child, room, key, value) {
                 Ok(copied) => {
-                    write_replaced::<D, FAN>(disk, held, level, block, way, &mut bytes, copied)
+                    write_replaced::<D, FAN>(disk, held, level, way, &mut bytes, copied)
                 }
                 Err(fault) => Err(fault),
             }
@@ -296,6 +303,21 @@ pub fn put<D: Disk, const LEAF: usize, const FAN: usize, const LEVELS: usize>(
     ensures taken { free_count held.old ≤ free_count held.new + 15 }
     ensures deep { result ≡ Err TreeFault.Deep → held.new ≡ held.old }
 
+    // It takes the blocks of one path alone: two a level at most and a new root, or two a level but one at the top
+    // where the tree stays as high, and one for the empty map.
+    ensures path_taken { free_count held.old ≤ free_count held.new + (2 * root.level + 3) }
+    ensures as_high { IfOk result (λ r. r.level ≡ root.level → free_count held.old ≤ free_count held.new + (2 * root.level + 1)) }
+    ensures first_taken { root.block ≡ 0 → free_count held.old ≤ free_count held.new + 1 }
+
+    // A block is found damaged before any is taken or written.
+    ensures damaged { (b : ℕ) → result ≡ Err (TreeFault.Damaged b) → held.new ≡ held.old }
+    ensures reads { (D.state disk.new).honest ≡ true → (b : ℕ) → result ≡ Err (TreeFault.Damaged b) → OnlyReads (D.state disk.old) (D.state disk.new) }
+
+    // A root is made only where each block on the path has the head of its level and begins with the key that its
+    // parent says, the first with the lowest key of the old root.
+    ensures path { (D.state disk.new).honest ≡ true
+        → IfOk result (λ r. 0 < root.block → LeadsDown (D.state disk.old).now.contents (length held.old) root.level root.block root.low) }
+
     // At no moment has a block that was held other bytes than before.
     ensures moments { (D.state disk.new).honest ≡ true
         → Throughout (D.state disk.old) (D.state disk.new) (Spares (is_free held.old) (D.state disk.old).now) }
@@ -315,7 +337,11 @@ pub fn put<D: Disk, const LEAF: usize, const FAN: usize, const LEVELS: usize>(
         return Err(TreeFault::Damaged(root.block));
     }
     let room = usize::from(level) + 1 < LEVELS;
-    match put_below::<D, LEAF, FAN>(disk, held, level, root.block, room, key, value) {
+    let top = Child {
+        low: root.low,
+        block: root.block,
+    };
+    match put_below::<D, LEAF, FAN>(disk, held, level, top, room, key, value) {
         Ok(Copied::One(top)) => Ok(root_at(top, level)),
         Ok(Copied::Two(left, right)) => {
             match write_node_block(disk, held, level + 1, &[left, right]) {

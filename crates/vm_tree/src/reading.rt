@@ -3,18 +3,18 @@ ghost use Rattle.std.specs.Prelude.{◌≡◌, ◌≢◌, ◌↔◌, ℕ, ◌<�
 ghost use Rattle.vm_types.specs.Places.{place};
 ghost use Rattle.vm_disk.specs.Disk.{Goes};
 ghost use Rattle.vm_disk.specs.Moments.{OnlyReads};
-ghost use Rattle.vm_block.specs.Leaf.{Record};
+ghost use Rattle.vm_block.specs.Leaf.{Record, IsLeaf};
 ghost use Rattle.vm_block.specs.Node.{IsNode};
-ghost use Rattle.vm_block.specs.Tree.{IsData};
-ghost use Rattle.vm_block.specs.Way.{Takes};
+ghost use Rattle.vm_block.specs.Tree.{IsData, Begins};
+ghost use Rattle.vm_block.specs.Way.{Lowest, Takes};
 ghost use Rattle.vm_block.specs.declared.node.Child.{Child};
 ghost use Rattle.vm_tree.specs.Answers.{OkOrDevice};
-ghost use Rattle.vm_tree.specs.Reading.{IsBlockAt, IsLeafAt, IsNodeAt};
+ghost use Rattle.vm_tree.specs.Reading.{EndsAt, IsBlockAt, IsLeafAt, IsNodeAt, StepsTo};
 
 use crate::root::TreeFault;
 use arrayvec::ArrayVec;
 use vm_alloc::FIRST_DATA;
-use vm_block::{Child, Way, find_child, read_leaf, read_node};
+use vm_block::{Child, Way, find_child, lowest_key, read_leaf, read_node};
 use vm_disk::Disk;
 use vm_types::{Key, Value};
 
@@ -25,11 +25,11 @@ fn is_data(blocks: u32, block: u32) -> bool
     (FIRST_DATA..blocks).contains(&block)
 }
 
-/// Reads a block for data into these bytes.
+/// Reads a block for data, which is to begin with this key, into these bytes.
 pub(crate) fn block_at<D: Disk>(
     disk: &mut D,
     blocks: u32,
-    block: u32,
+    top: Child,
     bytes: &mut [u8; 4096],
 ) -> Result<(), TreeFault>
     requires { blocks ≤ (D.state disk.old).blocks }
@@ -37,15 +37,18 @@ pub(crate) fn block_at<D: Disk>(
     ensures deep { result ≢ Err TreeFault.Deep }
     ensures memory { result ≢ Err TreeFault.Memory }
     ensures reads { (D.state disk.new).honest ≡ true → OnlyReads (D.state disk.old) (D.state disk.new) }
-    ensures found { (D.state disk.new).honest ≡ true → IfOk result (λ done. IsBlockAt (D.state disk.old).now.contents blocks block bytes.new) }
-    ensures only { (D.state disk.new).honest ≡ true → IsData blocks block
-        → OkOrDevice result (λ done. IsBlockAt (D.state disk.old).now.contents blocks block bytes.new) }
+    ensures found { (D.state disk.new).honest ≡ true → IfOk result (λ done. IsBlockAt (D.state disk.old).now.contents blocks top.block top.low bytes.new) }
+    ensures leaf { (D.state disk.new).honest ≡ true → (rs : List Record) → IsLeafAt (D.state disk.old).now.contents blocks top.block rs → Begins top.low rs
+        → OkOrDevice result (λ done. IsLeaf bytes.new rs) }
+    ensures node { (D.state disk.new).honest ≡ true → (level : ℕ) (cs : List Child) → IsNodeAt (D.state disk.old).now.contents blocks level top.block cs → Lowest top.low cs
+        → OkOrDevice result (λ done. IsNode bytes.new level cs) }
 {
-    if !is_data(blocks, block) {
-        return Err(TreeFault::Damaged(block));
+    if !is_data(blocks, top.block) {
+        return Err(TreeFault::Damaged(top.block));
     }
-    match disk.read(block, bytes) {
-        Ok(()) => Ok(()),
+    match disk.read(top.block, bytes) {
+        Ok(()) if lowest_key(bytes) == top.low => Ok(()),
+        Ok(()) => Err(TreeFault::Damaged(top.block)),
         Err(_) => Err(TreeFault::Device),
     }
 }
@@ -56,7 +59,7 @@ pub(crate) fn way_at<D: Disk, const MOST: usize>(
     disk: &mut D,
     blocks: u32,
     level: u8,
-    block: u32,
+    top: Child,
     key: Key,
     bytes: &mut [u8; 4096],
 ) -> Result<Way, TreeFault>
@@ -67,13 +70,66 @@ pub(crate) fn way_at<D: Disk, const MOST: usize>(
     ensures level { IfOk result (λ way. (way.level ≡ level) × (level ≤ 7)) }
     ensures within { IfOk result (λ way. (way.index < way.count) × (way.count ≤ MOST) × (way.count ≤ 256)) }
     ensures reads { (D.state disk.new).honest ≡ true → OnlyReads (D.state disk.old) (D.state disk.new) }
-    ensures only { (D.state disk.new).honest ≡ true → (cs : List Child) → IsNodeAt (D.state disk.old).now.contents blocks level block cs → length cs ≤ MOST
+    ensures step { (D.state disk.new).honest ≡ true → IfOk result (λ way. StepsTo (D.state disk.old).now.contents blocks level top.block top.low way.child) }
+    ensures only { (D.state disk.new).honest ≡ true → (cs : List Child) → IsNodeAt (D.state disk.old).now.contents blocks level top.block cs → Lowest top.low cs → length cs ≤ MOST
         → OkOrDevice result (λ way. IsNode bytes.new level cs × (way.count ≡ length cs) × Takes cs (place key) way.index way.child) }
 {
-    match block_at(disk, blocks, block, bytes) {
+    match block_at(disk, blocks, top, bytes) {
         Ok(()) => match find_child(bytes, key) {
             Some(way) if way.level == level && way.count <= MOST => Ok(way),
-            _ => Err(TreeFault::Damaged(block)),
+            _ => Err(TreeFault::Damaged(top.block)),
+        },
+        Err(fault) => Err(fault),
+    }
+}
+
+/// The records of a leaf that is to begin with this key, which are MOST at most.
+pub(crate) fn leaf_under<D: Disk, const MOST: usize>(
+    disk: &mut D,
+    blocks: u32,
+    top: Child,
+) -> Result<ArrayVec<(Key, Value), 16>, TreeFault>
+    requires { blocks ≤ (D.state disk.old).blocks }
+    ensures any { Goes (result ≡ Err TreeFault.Device) (D.state disk.old) (D.state disk.new) }
+    ensures deep { result ≢ Err TreeFault.Deep }
+    ensures memory { result ≢ Err TreeFault.Memory }
+    ensures count { IfOk result (λ records. (0 < length records.items) × (length records.items ≤ MOST)) }
+    ensures reads { (D.state disk.new).honest ≡ true → OnlyReads (D.state disk.old) (D.state disk.new) }
+    ensures end { (D.state disk.new).honest ≡ true → IfOk result (λ records. EndsAt (D.state disk.old).now.contents blocks top.block top.low) }
+    ensures only { (D.state disk.new).honest ≡ true → (rs : List Record) → IsLeafAt (D.state disk.old).now.contents blocks top.block rs → Begins top.low rs → length rs ≤ MOST
+        → OkOrDevice result (λ records. records.items ≡ rs) }
+{
+    let mut bytes = [0; 4096];
+    match block_at(disk, blocks, top, &mut bytes) {
+        Ok(()) => match read_leaf(&bytes) {
+            Some(records) if records.len() <= MOST => Ok(records),
+            _ => Err(TreeFault::Damaged(top.block)),
+        },
+        Err(fault) => Err(fault),
+    }
+}
+
+/// The children of an inner block of this level that is to begin with this key, which are MOST at
+/// most.
+pub(crate) fn node_under<D: Disk, const MOST: usize>(
+    disk: &mut D,
+    blocks: u32,
+    level: u8,
+    top: Child,
+) -> Result<ArrayVec<Child, 256>, TreeFault>
+    requires { blocks ≤ (D.state disk.old).blocks }
+    ensures any { Goes (result ≡ Err TreeFault.Device) (D.state disk.old) (D.state disk.new) }
+    ensures deep { result ≢ Err TreeFault.Deep }
+    ensures memory { result ≢ Err TreeFault.Memory }
+    ensures reads { (D.state disk.new).honest ≡ true → OnlyReads (D.state disk.old) (D.state disk.new) }
+    ensures only { (D.state disk.new).honest ≡ true → (cs : List Child) → IsNodeAt (D.state disk.old).now.contents blocks level top.block cs → Lowest top.low cs → length cs ≤ MOST
+        → OkOrDevice result (λ children. children.items ≡ cs) }
+{
+    let mut bytes = [0; 4096];
+    match block_at(disk, blocks, top, &mut bytes) {
+        Ok(()) => match read_node(&bytes) {
+            Some(node) if node.level == level && node.children.len() <= MOST => Ok(node.children),
+            _ => Err(TreeFault::Damaged(top.block)),
         },
         Err(fault) => Err(fault),
     }

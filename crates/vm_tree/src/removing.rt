@@ -7,16 +7,17 @@ ghost use Rattle.vm_disk.specs.Disk.{Goes};
 ghost use Rattle.vm_disk.specs.Moments.{Throughout, OnlyReads, Spares};
 ghost use Rattle.vm_alloc.specs.Held.{IsHeld, HoldsMore, free_count};
 ghost use Rattle.vm_block.specs.Leaf.{Record};
-ghost use Rattle.vm_block.specs.Node.{IsNode};
-ghost use Rattle.vm_block.specs.Tree.{Children, Subtree};
+ghost use Rattle.vm_block.specs.Node.{ChildFits, IsNode};
+ghost use Rattle.vm_block.specs.Tree.{Begins, Children, Subtree};
 ghost use Rattle.vm_block.specs.declared.node.Child.{Child};
 ghost use Rattle.vm_tree.specs.Answers.{OkOrDevice, Removes};
 ghost use Rattle.vm_tree.specs.Free.{is_free, IsTaken};
 ghost use Rattle.vm_tree.specs.Making.{Made};
+ghost use Rattle.vm_tree.specs.Reading.{LeadsDown};
 ghost use Rattle.vm_tree.specs.Removing.{Narrows, RemovesBelow, Rests, child_of, level_of, without_place};
 ghost use Rattle.vm_tree.specs.Root.{AreSizes, Grown, IsRooted, sizes_of};
 
-use crate::reading::{leaf_at, node_at, way_at};
+use crate::reading::{leaf_under, node_under, way_at};
 use crate::root::{Root, TreeFault, root_at};
 use crate::splicing::{push_all, spliced};
 use crate::writing::{write_bytes, write_leaf_block, write_node_block};
@@ -93,7 +94,7 @@ fn without_child(bytes: &[u8; 4096], way: Way) -> Option<ArrayVec<Child, 257>>
 fn remove_from_leaf<D: Disk, const LEAF: usize>(
     disk: &mut D,
     held: &mut Held,
-    block: u32,
+    top: Child,
     place: u128,
 ) -> Result<Left, TreeFault>
     requires inside { length held.old ≤ (D.state disk.old).blocks }
@@ -107,14 +108,19 @@ fn remove_from_leaf<D: Disk, const LEAF: usize>(
     ensures taken { free_count held.old ≤ free_count held.new + 1 }
     ensures same { result ≡ Ok Left.Same → held.new ≡ held.old }
     ensures reads { (D.state disk.new).honest ≡ true → result ≡ Ok Left.Same → OnlyReads (D.state disk.old) (D.state disk.new) }
+    ensures nothing { result ≡ Ok Left.Nothing → held.new ≡ held.old }
+    ensures nothing_reads { (D.state disk.new).honest ≡ true → result ≡ Ok Left.Nothing → OnlyReads (D.state disk.old) (D.state disk.new) }
+    ensures damaged { (b : ℕ) → result ≡ Err (TreeFault.Damaged b) → held.new ≡ held.old }
+    ensures damaged_reads { (D.state disk.new).honest ≡ true → (b : ℕ) → result ≡ Err (TreeFault.Damaged b) → OnlyReads (D.state disk.old) (D.state disk.new) }
+    ensures path { (D.state disk.new).honest ≡ true → IfOk result (λ left. LeadsDown (D.state disk.old).now.contents (length held.old) 0 top.block top.low) }
     ensures moments { (D.state disk.new).honest ≡ true
         → Throughout (D.state disk.old) (D.state disk.new) (Spares (is_free held.old) (D.state disk.old).now) }
     ensures remove { (D.state disk.new).honest ≡ true → (fan levels : ℕ) (rs : List Record) (bs : List ℕ)
-        → Subtree (sizes_of LEAF fan levels) (D.state disk.old).now.contents (length held.old) 0 block rs bs → RisesFrom 0 (places rs)
+        → Subtree (sizes_of LEAF fan levels) (D.state disk.old).now.contents (length held.old) 0 top.block rs bs → Begins top.low rs → RisesFrom 0 (places rs)
         → RemovesBelow result place rs
-        (λ root. Made (IsHeld held.new) (sizes_of LEAF fan levels) (D.state disk.new).now.contents (length held.old) root.level (child_of root ∷ []) (without_place place rs)) }
+        (λ root. AllByRecursion (IsHeld held.old) bs → Made (IsHeld held.new) (sizes_of LEAF fan levels) (D.state disk.new).now.contents (length held.old) root.level (child_of root ∷ []) (without_place place rs)) }
 {
-    match leaf_at::<D, LEAF>(disk, held.blocks(), block) {
+    match leaf_under::<D, LEAF>(disk, held.blocks(), top) {
         Ok(records) => {
             let records = records.as_slice();
             let Some(i) = index_of(records, place) else {
@@ -152,7 +158,7 @@ fn narrowed<D: Disk, const FAN: usize>(
     if level == 0 {
         return Ok(root_at(top, 0));
     }
-    match node_at::<D, FAN>(disk, blocks, level, top.block) {
+    match node_under::<D, FAN>(disk, blocks, level, top) {
         Ok(children) if children.len() == 1 => {
             narrowed::<D, FAN>(disk, blocks, children.as_slice()[0], level - 1)
         }
@@ -182,13 +188,17 @@ fn write_rest<D: Disk, const FAN: usize>(
     ensures changed { result ≢ Ok Left.Same }
     ensures level { IfOk result (λ left. level_of left level ≤ level) }
     ensures same_level { is_root ≡ false → IfOk result (λ left. level_of left level ≡ level) }
+    ensures nothing { result ≡ Ok Left.Nothing → held.new ≡ held.old }
+    ensures nothing_reads { (D.state disk.new).honest ≡ true → result ≡ Ok Left.Nothing → OnlyReads (D.state disk.old) (D.state disk.new) }
+    ensures damaged { (b : ℕ) → result ≡ Err (TreeFault.Damaged b) → held.new ≡ held.old }
+    ensures damaged_reads { (D.state disk.new).honest ≡ true → (b : ℕ) → result ≡ Err (TreeFault.Damaged b) → OnlyReads (D.state disk.old) (D.state disk.new) }
     ensures still { HoldsMore held.old held.new }
     ensures taken { free_count held.old ≤ free_count held.new + 1 }
     ensures moments { (D.state disk.new).honest ≡ true
         → Throughout (D.state disk.old) (D.state disk.new) (Spares (is_free held.old) (D.state disk.old).now) }
-    ensures rest { (D.state disk.new).honest ≡ true → (leaf levels : ℕ) (rs : List Record) → RisesFrom 0 (places rs)
-        → Made (IsHeld held.old) (sizes_of leaf FAN levels) (D.state disk.old).now.contents (length held.old) (level - 1) children.now rs
-        → Rests result rs (λ root. Made (IsHeld held.new) (sizes_of leaf FAN levels) (D.state disk.new).now.contents (length held.old) root.level (child_of root ∷ []) rs) }
+    ensures rest { (D.state disk.new).honest ≡ true → (leaf levels : ℕ) (rs : List Record) (bs : List ℕ) → RisesFrom 0 (places rs) → AllByRecursion ChildFits children.now
+        → Children (Subtree (sizes_of leaf FAN levels) (D.state disk.old).now.contents (length held.old) (level - 1)) children.now rs bs
+        → Rests result rs (λ root. AllByRecursion (IsHeld held.old) bs → Made (IsHeld held.new) (sizes_of leaf FAN levels) (D.state disk.new).now.contents (length held.old) root.level (child_of root ∷ []) rs) }
 {
     if children.is_empty() {
         return Ok(Left::Nothing);
@@ -211,7 +221,7 @@ fn remove_below<D: Disk, const LEAF: usize, const FAN: usize>(
     disk: &mut D,
     held: &mut Held,
     level: u8,
-    block: u32,
+    top: Child,
     is_root: bool,
     key: Key,
 ) -> Result<Left, TreeFault>
@@ -230,28 +240,32 @@ fn remove_below<D: Disk, const LEAF: usize, const FAN: usize>(
     ensures taken { free_count held.old ≤ free_count held.new + (level + 1) }
     ensures same { result ≡ Ok Left.Same → held.new ≡ held.old }
     ensures reads { (D.state disk.new).honest ≡ true → result ≡ Ok Left.Same → OnlyReads (D.state disk.old) (D.state disk.new) }
+    ensures nothing { result ≡ Ok Left.Nothing → held.new ≡ held.old }
+    ensures nothing_reads { (D.state disk.new).honest ≡ true → result ≡ Ok Left.Nothing → OnlyReads (D.state disk.old) (D.state disk.new) }
+    ensures damaged { (b : ℕ) → result ≡ Err (TreeFault.Damaged b) → held.new ≡ held.old }
+    ensures damaged_reads { (D.state disk.new).honest ≡ true → (b : ℕ) → result ≡ Err (TreeFault.Damaged b) → OnlyReads (D.state disk.old) (D.state disk.new) }
+    ensures path { (D.state disk.new).honest ≡ true → IfOk result (λ left. LeadsDown (D.state disk.old).now.contents (length held.old) level top.block top.low) }
     ensures moments { (D.state disk.new).honest ≡ true
         → Throughout (D.state disk.old) (D.state disk.new) (Spares (is_free held.old) (D.state disk.old).now) }
     ensures remove { (D.state disk.new).honest ≡ true → (levels : ℕ) (rs : List Record) (bs : List ℕ)
-        → Subtree (sizes_of LEAF FAN levels) (D.state disk.old).now.contents (length held.old) level block rs bs → RisesFrom 0 (places rs) → AllByRecursion (IsHeld held.old) bs
+        → Subtree (sizes_of LEAF FAN levels) (D.state disk.old).now.contents (length held.old) level top.block rs bs → Begins top.low rs → RisesFrom 0 (places rs)
         → RemovesBelow result (place key) rs
-        (λ root. Made (IsHeld held.new) (sizes_of LEAF FAN levels) (D.state disk.new).now.contents (length held.old) root.level (child_of root ∷ []) (without_place (place key) rs)) }
+        (λ root. AllByRecursion (IsHeld held.old) bs → Made (IsHeld held.new) (sizes_of LEAF FAN levels) (D.state disk.new).now.contents (length held.old) root.level (child_of root ∷ []) (without_place (place key) rs)) }
 {
     if level == 0 {
-        return remove_from_leaf::<D, LEAF>(disk, held, block, key.place());
+        return remove_from_leaf::<D, LEAF>(disk, held, top, key.place());
     }
     let mut bytes = [0; 4096];
-    match way_at::<D, FAN>(disk, held.blocks(), level, block, key, &mut bytes) {
+    match way_at::<D, FAN>(disk, held.blocks(), level, top, key, &mut bytes) {
         Ok(way) => {
             let alone = is_root && way.count == 1;
-            let child = way.child.block;
-            match remove_below::<D, LEAF, FAN>(disk, held, level - 1, child, alone, key) {
+            match remove_below::<D, LEAF, FAN>(disk, held, level - 1, way.child, alone, key) {
                 Ok(Left::Same) => Ok(Left::Same),
                 Ok(Left::Nothing) => match without_child(&bytes, way) {
                     Some(rest) => {
                         write_rest::<D, FAN>(disk, held, level, is_root, rest.as_slice())
                     }
-                    None => Err(TreeFault::Damaged(block)),
+                    None => Err(TreeFault::Damaged(top.block)),
                 },
                 Ok(Left::Rest(root)) => {
                     if alone {
@@ -290,20 +304,32 @@ pub fn remove<D: Disk, const LEAF: usize, const FAN: usize, const LEVELS: usize>
     ensures still { HoldsMore held.old held.new }
     ensures taken { free_count held.old ≤ free_count held.new + 8 }
 
+    // It takes the blocks of one path alone, one a level.
+    ensures path_taken { free_count held.old ≤ free_count held.new + (root.level + 1) }
+
     // Where the answer is None, nothing was written or taken.
     ensures kept { result ≡ Ok None → held.new ≡ held.old }
     ensures reads { (D.state disk.new).honest ≡ true → result ≡ Ok None → OnlyReads (D.state disk.old) (D.state disk.new) }
+
+    // A block is found damaged before any is taken or written.
+    ensures damaged { (b : ℕ) → result ≡ Err (TreeFault.Damaged b) → held.new ≡ held.old }
+    ensures damaged_reads { (D.state disk.new).honest ≡ true → (b : ℕ) → result ≡ Err (TreeFault.Damaged b) → OnlyReads (D.state disk.old) (D.state disk.new) }
+
+    // What is left, or that the key is absent, is told only where each block on the path has the head of its level and
+    // begins with the key that its parent says, the first with the lowest key of the old root.
+    ensures path { (D.state disk.new).honest ≡ true
+        → IfOk result (λ rest. 0 < root.block → LeadsDown (D.state disk.old).now.contents (length held.old) root.level root.block root.low) }
 
     // At no moment has a block that was held other bytes than before.
     ensures moments { (D.state disk.new).honest ≡ true
         → Throughout (D.state disk.old) (D.state disk.new) (Spares (is_free held.old) (D.state disk.old).now) }
 
-    // On a tree in held blocks the answer is None just where the key is absent, and else a root that has the map
-    // without the key, unless the device fails.
-    ensures remove { (D.state disk.new).honest ≡ true → (m : Map)
-        → Grown (sizes_of LEAF FAN LEVELS) (IsHeld held.old) (D.state disk.old).now.contents (length held.old) root m
+    // On a tree the answer is None just where the key is absent, and else a root, unless the device fails; and where
+    // the blocks of the tree are held, the root has the map without the key.
+    ensures remove { (D.state disk.new).honest ≡ true → (m : Map) (bs : List ℕ)
+        → IsRooted (sizes_of LEAF FAN LEVELS) (D.state disk.old).now.contents (length held.old) root m bs
         → Removes result (get m key ≡ None)
-        (λ r. Grown (sizes_of LEAF FAN LEVELS) (IsHeld held.new) (D.state disk.new).now.contents (length held.old) r (without m key)) }
+        (λ r. AllByRecursion (IsHeld held.old) bs → Grown (sizes_of LEAF FAN LEVELS) (IsHeld held.new) (D.state disk.new).now.contents (length held.old) r (without m key)) }
 {
     if root.block == 0 {
         return Ok(None);
@@ -311,7 +337,11 @@ pub fn remove<D: Disk, const LEAF: usize, const FAN: usize, const LEVELS: usize>
     if usize::from(root.level) >= LEVELS {
         return Err(TreeFault::Damaged(root.block));
     }
-    match remove_below::<D, LEAF, FAN>(disk, held, root.level, root.block, true, key) {
+    let top = Child {
+        low: root.low,
+        block: root.block,
+    };
+    match remove_below::<D, LEAF, FAN>(disk, held, root.level, top, true, key) {
         Ok(Left::Same) => Ok(None),
         Ok(Left::Nothing) => Ok(Some(Root::default())),
         Ok(Left::Rest(root)) => Ok(Some(root)),

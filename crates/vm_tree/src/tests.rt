@@ -6,7 +6,7 @@ use crate::{Root, TreeFault, get, put, remove, scan};
 use std::alloc::Global;
 use std::test::Fail;
 use vm_alloc::{Held, Marks};
-use vm_block::{Child, read_leaf, read_node};
+use vm_block::{Child, read_leaf, read_node, write_leaf, write_node};
 use vm_disk::{Disk, MemDisk};
 use vm_types::{Key, Value};
 
@@ -345,5 +345,169 @@ fn agrees_with_a_sorted_map(rt: HostRuntime) -> Result<(), Fail> {
         }
     }
     assert!(rt; is_as(&mut map, rt.alloc(), &model)?);
+    Ok(())
+}
+
+// Writes a block, which the disk has.
+fn write_in(map: &mut Bench, block: u32, bytes: &[u8; 4096]) -> Result<(), TreeFault> {
+    if block >= map.disk.blocks() {
+        return Err(TreeFault::Damaged(block));
+    }
+    map.disk.write(block, bytes).map_err(|_| TreeFault::Device)
+}
+
+// Whether a get, a put and a remove of record 10 each name this block, and none of them takes or
+// writes a block.
+fn is_refused(map: &mut Bench, block: u32) -> Result<bool, TreeFault> {
+    map.disk.sync().map_err(|_| TreeFault::Device)?;
+    let free = map.held.free_count();
+    if get_from(map, 10) != Err(TreeFault::Damaged(block))
+        || put_in::<16, 256, 8>(map, 10, b'w') != Err(TreeFault::Damaged(block))
+        || remove_from::<16, 256, 8>(map, 10) != Err(TreeFault::Damaged(block))
+    {
+        return Ok(false);
+    }
+    for n in 0..64 {
+        if map.disk.is_dirty(n) {
+            return Ok(false);
+        }
+    }
+    Ok(map.held.free_count() == free)
+}
+
+// Four bytes put into a leaf, block 36, or into the root above it, block 37.
+const SPOILED: [(u32, u8, [u8; 4]); 13] = [
+    (36, 0, *b"NODE"),
+    (36, 4, [1, 0, 0, 0]),
+    (36, 8, [0, 0, 0, 0]),
+    (36, 8, [17, 0, 0, 0]),
+    (36, 12, [0, 0, 0, 1]),
+    (36, 16, [1, 0, 11, 0]),
+    (37, 0, *b"LEAF"),
+    (37, 4, [0, 0, 0, 0]),
+    (37, 4, [2, 0, 0, 0]),
+    (37, 8, [0, 0, 0, 0]),
+    (37, 8, [1, 1, 0, 0]),
+    (37, 12, [1, 0, 0, 0]),
+    (37, 16, [1, 0, 0, 0]),
+];
+
+#[test]
+fn refuses_a_block_of_another_head_or_first_key(rt: HostRuntime) -> Result<(), Fail> {
+    let mut map = seventeen(rt.alloc())?;
+    for (i, (block, at, word)) in SPOILED.iter().enumerate() {
+        let before = bytes_of(&mut map.disk, *block)?;
+        let mut bytes = before;
+        for (k, byte) in word.iter().enumerate() {
+            bytes[usize::from(*at) + k] = *byte;
+        }
+        write_in(&mut map, *block, &bytes)?;
+        assert!(rt; is_refused(&mut map, *block)?, "case {i}");
+        write_in(&mut map, *block, &before)?;
+    }
+    assert!(rt; get_from(&mut map, 10)? == Some(value(b'v')));
+    Ok(())
+}
+
+#[test]
+fn refuses_another_leaf_in_the_place_of_a_leaf(rt: HostRuntime) -> Result<(), Fail> {
+    let mut map = seventeen(rt.alloc())?;
+    let sibling = bytes_of(&mut map.disk, 35)?;
+    write_in(&mut map, 36, &sibling)?;
+    assert!(rt; is_refused(&mut map, 36)?);
+
+    // The leaf as it was before record 10 came, and after it went.
+    let mut older = [0; 4096];
+    write_leaf(&[(key(11), value(b'v')), (key(12), value(b'v'))], &mut older);
+    write_in(&mut map, 36, &older)?;
+    assert!(rt; is_refused(&mut map, 36)?);
+    Ok(())
+}
+
+// Writes an inner block of level 1 with so many children into block 35, of which each is said to
+// be block 34, and a leaf of every second number up to 30 into block 34; and holds both.
+fn foreign(alloc: Global, children: usize) -> Result<Bench, TreeFault> {
+    let mut map = new_bench(alloc, 64)?;
+    let mut records = [(key(0), value(b'v')); 16];
+    for (i, record) in records.iter_mut().enumerate() {
+        record.0 = key(2 * i as u64);
+    }
+    let mut rows = [Child::default(); 256];
+    for (i, row) in rows.iter_mut().enumerate() {
+        *row = Child {
+            low: key(32 * i as u64),
+            block: 34,
+        };
+    }
+    let mut bytes = [0; 4096];
+    write_leaf(&records, &mut bytes);
+    write_in(&mut map, 34, &bytes)?;
+    write_node(1, &rows[..children.min(256)], &mut bytes);
+    write_in(&mut map, 35, &bytes)?;
+    let _leaf = map.held.take();
+    let _root = map.held.take();
+    map.root = Root {
+        block: 35,
+        level: 1,
+        low: key(0),
+    };
+    Ok(map)
+}
+
+// How many children an inner block has.
+fn count_in_node(disk: &mut MemDisk, block: u32) -> Result<usize, TreeFault> {
+    match read_node(&bytes_of(disk, block)?) {
+        Some(node) => Ok(node.children.len()),
+        None => Err(TreeFault::Damaged(block)),
+    }
+}
+
+#[test]
+fn splits_a_full_inner_block_in_129_and_128(rt: HostRuntime) -> Result<(), Fail> {
+    let mut map = foreign(rt.alloc(), 256)?;
+    let free = map.held.free_count();
+    put_in::<16, 256, 8>(&mut map, 1, b'w')?;
+    assert_eq!(rt; map.held.free_count(), free.saturating_sub(5));
+
+    // Of 17 records the left leaf has 9, and of 257 children the left block has 129; the left one
+    // of each pair was written first.
+    assert_eq!(rt; map.root.block, 40);
+    assert_eq!(rt; map.root.level, 2);
+    assert_eq!(rt; count_in_leaf(&mut map.disk, 36)?, 9);
+    assert_eq!(rt; count_in_leaf(&mut map.disk, 37)?, 8);
+    assert_eq!(rt; count_in_node(&mut map.disk, 38)?, 129);
+    assert_eq!(rt; count_in_node(&mut map.disk, 39)?, 128);
+    assert_eq!(rt; count_in_node(&mut map.disk, 40)?, 2);
+    for (block, i, low, child) in [
+        (38, 0, 0, 36),
+        (38, 1, 16, 37),
+        (38, 2, 32, 34),
+        (38, 128, 4064, 34),
+        (39, 0, 4096, 34),
+        (39, 127, 8160, 34),
+        (40, 0, 0, 38),
+        (40, 1, 4096, 39),
+    ] {
+        let due = Child {
+            low: key(low),
+            block: child,
+        };
+        assert_eq!(rt; child_at(&mut map.disk, block, i)?, Some(due), "child {i} of {block}");
+    }
+    Ok(())
+}
+
+#[test]
+fn copies_a_root_of_one_child(rt: HostRuntime) -> Result<(), Fail> {
+    let mut map = foreign(rt.alloc(), 1)?;
+    let free = map.held.free_count();
+    put_in::<16, 256, 8>(&mut map, 2, b'w')?;
+    assert_eq!(rt; map.held.free_count(), free.saturating_sub(2));
+    assert_eq!(rt; map.root.block, 37);
+    assert_eq!(rt; map.root.level, 1);
+    assert_eq!(rt; count_in_node(&mut map.disk, 37)?, 1);
+    assert_eq!(rt; child_at(&mut map.disk, 37, 0)?, Some(Child { low: key(0), block: 36 }));
+    assert_eq!(rt; count_in_leaf(&mut map.disk, 36)?, 16);
+    assert!(rt; get_from(&mut map, 2)? == Some(value(b'w')));
     Ok(())
 }

@@ -146,6 +146,7 @@ pub(crate) fn write_leaves<D: Disk, const LEAF: usize>(
     ensures split { IfOk result (λ copied. (is_split copied ≡ true) ↔ (LEAF < length records.now)) }
     ensures still { HoldsMore held.old held.new }
     ensures one { length records.now ≤ LEAF → free_count held.old ≤ free_count held.new + 1 }
+    ensures single { IfOk result (λ copied. is_split copied ≡ false → free_count held.old ≤ free_count held.new + 1) }
     ensures taken { free_count held.old ≤ free_count held.new + 2 }
     ensures moments { (D.state disk.new).honest ≡ true
         → Throughout (D.state disk.old) (D.state disk.new) (Spares (is_free held.old) (D.state disk.old).now) }
@@ -188,6 +189,7 @@ pub(crate) fn write_nodes<D: Disk, const FAN: usize>(
     ensures split { IfOk result (λ copied. (is_split copied ≡ true) ↔ (FAN < length children.now)) }
     ensures still { HoldsMore held.old held.new }
     ensures one { length children.now ≤ FAN → free_count held.old ≤ free_count held.new + 1 }
+    ensures single { IfOk result (λ copied. is_split copied ≡ false → free_count held.old ≤ free_count held.new + 1) }
     ensures taken { free_count held.old ≤ free_count held.new + 2 }
     ensures moments { (D.state disk.new).honest ≡ true
         → Throughout (D.state disk.old) (D.state disk.new) (Spares (is_free held.old) (D.state disk.old).now) }

@@ -11,6 +11,7 @@ use Rattle.vm_tree.specs.Root.{Grown, sizes_of}
 use Rattle.vm_tree.proofs.Descent.{subtree_top}
 use Rattle.vm_tree.proofs.RootLemmas.{splits_lacks, root_one, root_two, fault_puts, first_puts}
 use Rattle.vm_tree.proofs.Sparing.{spares_then}
+use Rattle.vm_tree.proofs.Leading.{if_ok_is}
 use Rattle.vm_tree.proofs.putting.put.Goals as goal
 
 pub returns-then-root-eq0-clause-put : goal.returns-then-root-eq0-clause-put
@@ -31,7 +32,7 @@ returns-in-Ok-One-clause-put g c honest m bs (inr top) =
     let held = IsHeld c.put_below.new.held in
     let after = (g.D.Disk.state c.put_below.new.disk).now.contents in
     let done = root_one sizes _ (length c.args.held.now) c.args.root m bs c.args.key c.put_below.ensures.fits top held after c.args.value.now c.in-Ok-One.field-0 c.in-Ok-One.top (AllByRecursion (IsHeld c.args.held.now) bs)
-    c.in-Ok-One.field-0-is (c.in-Ok-One.ensures.put honest g.row.LEVELS m bs top.subtree top.rising) in
+    c.in-Ok-One.field-0-is (c.in-Ok-One.ensures.put honest g.row.LEVELS m bs top.subtree top.lowest top.rising) in
     (λ all. subst (λ (r : Root). Grown sizes held after (length c.args.held.now) r (with_value m c.args.key c.args.value.now)) (sym c.root_at.ensures) (done.0 all), done.1)
 
 pub returns-in-Ok-clause-moments : goal.returns-in-Ok-clause-moments
@@ -50,7 +51,7 @@ returns-in-Ok-clause-put g c honest m bs (inr top) =
     let few : level + 1 ≤ 7 = omega (arith, room (ap is_split c.in-Ok-Two.field-0-is), c.requires.sizes.levels_most) in
     let done = root_two sizes _ (length c.args.held.now) c.args.root m bs c.args.key c.put_below.ensures.fits top (IsHeld c.put_below.new.held) held (g.D.Disk.state c.put_below.new.disk).now.contents after (length c.put_below.new.held)
     c.args.value.now c.in-Ok-Two.field-0 c.in-Ok-Two.left c.in-Ok-Two.right c.in-Ok.top (AllByRecursion (IsHeld c.args.held.now) bs)
-    c.in-Ok-Two.field-0-is c.in-Ok-Two.ensures.still.same_length room (c.in-Ok-Two.ensures.put (c.in-Ok.ensures.any.earlier honest) g.row.LEVELS m bs top.subtree top.rising)
+    c.in-Ok-Two.field-0-is c.in-Ok-Two.ensures.still.same_length room (c.in-Ok-Two.ensures.put (c.in-Ok.ensures.any.earlier honest) g.row.LEVELS m bs top.subtree top.lowest top.rising)
     (λ rs rising made. c.in-Ok.ensures.made honest sizes rs (omega arith) few c.requires.sizes.fan_least rising made) in
     (λ all. subst (λ (r : Root). Grown sizes held after (length c.args.held.now) r (with_value m c.args.key c.args.value.now)) (sym c.root_at-in-Ok.ensures) (done.0 all), done.1)
 
@@ -64,7 +65,10 @@ returns-in-Err-clause-put g c honest m bs (inr top) =
     let sizes = sizes_of g.row.LEAF g.row.FAN g.row.LEVELS in
     let x = (g.D.Disk.state c.args.disk.now).now.contents in
     fault_puts c.in-Err.fault (Splits sizes x (place c.args.key) c.args.root.level c.args.root.block m) (LacksRoom sizes x c.args.root m c.args.key) _ _
-    (c.in-Err.ensures.put honest g.row.LEVELS m bs top.subtree top.rising)
+    (c.in-Err.ensures.put honest g.row.LEVELS m bs top.subtree top.lowest top.rising)
     (λ is splits.
     let none = ltb-false (c.from-2.result + 1) g.row.LEVELS (c.in-Err.ensures.deep (ap Err is)).0 in
     splits_lacks sizes x _ c.args.root m bs c.args.key c.put_below.ensures.fits top (omega (arith, none, c.from-2.ensures, top.level)) splits)
+
+pub returns-then-root-eq0-clause-path : goal.returns-then-root-eq0-clause-path
+returns-then-root-eq0-clause-path g c honest = if_ok_is c.put_first.result _ (λ some. absurd (omega (arith, some, c.if-root-eq0.true)))

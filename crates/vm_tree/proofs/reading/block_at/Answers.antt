@@ -6,3 +6,6 @@ returns-in-Ok-clause-reads g c honest = read_once _ _ _ _ _ (c.read.ensures.hone
 
 pub returns-in-Err-clause-reads : goal.returns-in-Err-clause-reads
 returns-in-Err-clause-reads g c honest = read_once _ _ _ _ _ (c.read.ensures.honest honest)
+
+pub returns-in-Ok-2-clause-reads : goal.returns-in-Ok-2-clause-reads
+returns-in-Ok-2-clause-reads g c honest = read_once _ _ _ _ _ (c.read.ensures.honest honest)

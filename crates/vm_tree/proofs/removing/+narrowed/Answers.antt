@@ -18,7 +18,7 @@ pub returns-in-Ok-clause-narrow : goal.returns-in-Ok-clause-narrow
 returns-in-Ok-clause-narrow g t c honest leaf levels rs bs under =
     narrows_down (sizes_of leaf g.row.FAN levels) (g.D.Disk.state c.args.disk.now).now _ _ c.args.level c.args.top c.as_slice.result.now (record { low = record { table = 0; number = 0 }; block = 0 }) rs bs c.narrowed.result
     (same_medium _ _ (c.in-Ok.ensures.reads (c.narrowed.ensures.any.earlier honest))) (omega (arith, c.if-level-eq0.false)) (omega (arith, ap length c.as_slice.ensures.value, c.len.ensures.value, c.if-len-eq1.true)) under
-    (λ ds at few. c.as_slice.ensures.value ∙ c.in-Ok.ensures.only (c.narrowed.ensures.any.earlier honest) ds at few)
+    (λ ds at lowest few. c.as_slice.ensures.value ∙ c.in-Ok.ensures.only (c.narrowed.ensures.any.earlier honest) ds at lowest few)
     (λ below there. c.narrowed.ensures.narrow honest leaf levels rs below there)
 
 pub returns-in-Ok-2-clause-narrow : goal.returns-in-Ok-2-clause-narrow
@@ -28,5 +28,6 @@ returns-in-Ok-2-clause-narrow g t c honest leaf levels rs bs under =
 pub returns-in-Err-clause-narrow : goal.returns-in-Err-clause-narrow
 returns-in-Err-clause-narrow g t c honest leaf levels rs bs under =
     let sizes = sizes_of leaf g.row.FAN levels in
-    let at = node_read sizes _ _ _ _ rs bs (omega (arith, c.if-level-eq0.false)) (alone_opens (Subtree sizes (g.D.Disk.state c.args.disk.now).now.contents c.args.blocks c.args.level) c.args.top rs bs under).0 in
-    c.in-Err.ensures.only honest at.0 at.1 at.2
+    let alone = alone_opens (Subtree sizes (g.D.Disk.state c.args.disk.now).now.contents c.args.blocks c.args.level) c.args.top rs bs under in
+    let at = node_read sizes _ _ _ _ rs bs (omega (arith, c.if-level-eq0.false)) alone.0 in
+    c.in-Err.ensures.only honest at.0 at.1 (at.3 c.args.top.low alone.1) at.2

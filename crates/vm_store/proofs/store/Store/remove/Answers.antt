@@ -122,9 +122,10 @@ returns-in-Ok-Some-remove-clause-state g c honest s rests =
     let mid = c.has_spare.new.self in
     let is' = found_again c.args.alt.now _ (mid.committed.items, mid.working.items) e c.has_spare.ensures.same is in
     let found' = found_entry _ _ _ _ _ _ s rests' c.args.alt.now e is' in
-    let removed = c.in-Ok-Some-remove.ensures.remove honest found'.filed.current (grown_of _ _ _ _ e.current _ (sym mid.bits) found'.stands.current) in
+    let before = grown_of _ _ _ _ e.current _ (sym mid.bits) found'.stands.current in
+    let removed = c.in-Ok-Some-remove.ensures.remove honest found'.filed.current before.stands_in before.rooted in
     let same = c.deref.ensures.value ∙ sym (ap (λ p. p.1) c.has_spare.ensures.same) in
-    let grown = grown_of _ _ _ _ c.in-Ok-Some-remove.root _ mid.bits (removed_root _ _ _ _ c.in-Ok-Some-remove.field-0-is removed) in
+    let grown = grown_of _ _ _ _ c.in-Ok-Some-remove.root _ mid.bits (removed_root _ _ _ _ c.in-Ok-Some-remove.field-0-is removed before.each) in
     rests_as _ _ _ _ _ _ _ _ (placed c.args.alt.now _ mid.working.items c.in-Some.i c.in-Ok-Some-remove.root c.index_mut.result.now same c.in-Some.ensures.found c.index_mut.ensures.value)
     (remove_rests _ _ _ _ _ _ s rests' c.args.alt.now e is' c.args.key _ there _ c.remove.new.held c.in-Ok-Some-remove.root (grown_small _ _ _ _ _ mid.most grown)
     (at_end _ _ _ (c.in-Ok-Some-remove.ensures.moments honest)) c.in-Ok-Some-remove.ensures.still grown)
@@ -191,7 +192,8 @@ returns-in-Ok-None-remove-clause-answer g c honest s rests =
     let mid = c.has_spare.new.self in
     let is' = found_again c.args.alt.now _ (mid.committed.items, mid.working.items) e c.has_spare.ensures.same is in
     let found' = found_entry _ _ _ _ _ _ s rests' c.args.alt.now e is' in
-    let removed = c.in-Ok-None-remove.ensures.remove honest found'.filed.current (grown_of _ _ _ _ e.current _ (sym mid.bits) found'.stands.current) in
+    let before = grown_of _ _ _ _ e.current _ (sym mid.bits) found'.stands.current in
+    let removed = c.in-Ok-None-remove.ensures.remove honest found'.filed.current before.stands_in before.rooted in
     let missing = value_found _ _ _ _ _ _ s rests' c.args.alt.now e is' c.args.key None (sym (removed_none _ _ _ c.in-Ok-None-remove.field-0-is removed)) in
     let clash = there ∙ sym missing in cc
 
@@ -203,5 +205,6 @@ returns-in-Err-remove-clause-answer g c honest s rests =
     let mid = c.has_spare.new.self in
     let is' = found_again c.args.alt.now _ (mid.committed.items, mid.working.items) e c.has_spare.ensures.same is in
     let found' = found_entry _ _ _ _ _ _ s rests' c.args.alt.now e is' in
-    let removed = c.in-Err-remove.ensures.remove honest found'.filed.current (grown_of _ _ _ _ e.current _ (sym mid.bits) found'.stands.current) in
+    let before = grown_of _ _ _ _ e.current _ (sym mid.bits) found'.stands.current in
+    let removed = c.in-Err-remove.ensures.remove honest found'.filed.current before.stands_in before.rooted in
     removes_device s c.args.alt.now c.args.key _ _ c.in-Err-remove.fault c.refusal_of-in-Err-remove.result c.refusal_of-in-Err-remove.ensures removed

@@ -1,0 +1,57 @@
+-- A descent that leads down, from its steps.
+use Rattle.std.proofs.Common.{◌≡◌, ℕ, zero, suc, ◌+◌, ◌-◌, ◌*◌, ◌<◌, ◌≤◌, List, take, drop, Result, Ok, Err, IfOk, sym, ap, ◌∙◌, subst, arith}
+use Rattle.vm_types.specs.declared.key.Key.{Key}
+use Rattle.vm_disk.specs.Disk.{Contents, block, Medium}
+use Rattle.vm_block.specs.Head.{IsLeafHead, IsNodeHead}
+use Rattle.vm_block.specs.Node.{child_bytes}
+use Rattle.vm_block.specs.declared.node.Child.{Child}
+use Rattle.vm_tree.specs.Reading.{EndsAt, IsBlockAt, LeadsDown, StepsTo}
+
+-- the block that was read has the head of a leaf
+pub ends_at : (x : Contents) (limit b : ℕ) (low : Key) (bytes : List ℕ) (most n : ℕ) → most ≤ 16 → IsBlockAt x limit b low bytes → IsLeafHead bytes most n → EndsAt x limit b low
+ends_at x limit b low bytes most n few at head =
+    let here = subst (λ (c : List ℕ). IsLeafHead c most n) at.bytes_are head in
+    record {
+      count = n;
+      inside = at.inside;
+      head = record { begins = here.begins; some = here.some; few = omega (arith, here.few) };
+      first = ap (λ (c : List ℕ). take 10 (drop 16 c)) (sym at.bytes_are) ∙ at.first;
+    }
+
+-- the block that was read has the head of an inner block, and this child
+pub steps_to : (x : Contents) (limit level b : ℕ) (low : Key) (bytes : List ℕ) (l n i : ℕ) (c : Child) → l ≡ level → IsBlockAt x limit b low bytes → IsNodeHead bytes l n → i < n → take 14 (drop (16 + 14 * i) bytes) ≡ child_bytes c
+    → StepsTo x limit level b low c
+steps_to x limit level b low bytes l n i c is at head lt spelled = record {
+  count = n;
+  index = i;
+  inside = at.inside;
+  head = subst (λ m. IsNodeHead (block x b) m n) is (subst (λ (z : List ℕ). IsNodeHead z l n) at.bytes_are head);
+  first = ap (λ (z : List ℕ). take 10 (drop 16 z)) (sym at.bytes_are) ∙ at.first;
+  within = lt;
+  spelled = ap (λ (z : List ℕ). take 14 (drop (16 + 14 * i) z)) (sym at.bytes_are) ∙ spelled;
+}
+
+-- a descent that ends in a leaf
+pub leads_end : (x : Contents) (most limit l b : ℕ) (low : Key) → l ≡ 0 → most ≡ limit → EndsAt x most b low → LeadsDown x limit l b low
+unfolding LeadsDown
+leads_end x most limit zero b low none is end = subst (λ n. EndsAt x n b low) is end
+leads_end x most limit (suc l) b low none is end = absurd (omega (arith, none))
+
+-- a descent that goes on from one step
+pub leads_on : (x y : Medium) (most limit l b : ℕ) (low : Key) (c : Child) → 0 < l → most ≡ limit → y ≡ x → StepsTo x.contents most l b low c → LeadsDown y.contents limit (l - 1) c.block c.low → LeadsDown x.contents limit l b low
+unfolding LeadsDown
+leads_on x y most limit zero b low c above is still step rest = absurd (omega (arith, above))
+leads_on x y most limit (suc l) b low c above is still step rest =
+    let same : suc l - 1 ≡ l = omega arith in
+    let there = subst (λ (m : Medium). LeadsDown m.contents limit (suc l - 1) c.block c.low) still rest in
+    (c, subst (λ n. StepsTo x.contents n (suc l) b low c) is step, subst (λ n. LeadsDown x.contents limit n c.block c.low) same there)
+
+-- what holds is told of each answer
+pub if_ok_is : {T E : Type 0} (result : Result T E) (A : Type 0) → A → IfOk result (λ x. A)
+if_ok_is (Ok x) A a = a
+if_ok_is (Err e) A a = tt
+
+-- and what follows from it
+pub if_ok_so : {T E : Type 0} (result : Result T E) (A B : Type 0) → IfOk result (λ x. A) → (A → B) → IfOk result (λ x. B)
+if_ok_so (Ok x) A B h so = so h
+if_ok_so (Err e) A B h so = tt

@@ -1,0 +1,10 @@
+use Rattle.std.proofs.Common.{length, arith}
+use Rattle.vm_block.proofs.HeadLemmas.{leaf_headed}
+use Rattle.vm_tree.proofs.Leading.{ends_at}
+use Rattle.vm_tree.proofs.reading.leaf_under.Goals as goal
+
+pub returns-in-Some-clause-end : goal.returns-in-Some-clause-end
+returns-in-Some-clause-end g c honest =
+    let items = c.in-Some.records.items in
+    let leaf = c.in-Some.ensures.found in
+    ends_at _ c.args.blocks c.args.top.block c.args.top.low _ 16 (length items) (omega arith) (c.in-Ok.ensures.found honest) (leaf_headed _ items 16 leaf leaf.few)
