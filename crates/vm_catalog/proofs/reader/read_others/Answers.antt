@@ -38,6 +38,7 @@ loop-index-preserved g c =
       blocks = any.same_blocks ∙ so_far.blocks;
       honesty = any.same_honesty ∙ so_far.honesty;
       rising = omega arith;
+      once = omega (arith, any.read, so_far.once);
       reads = λ honest. reads_then _ _ _ (so_far.reads honest) (read_once _ _ _ _ _ (c.read.ensures.honest (so_far.honesty ∙ honest)));
       room = c.if-not-read_entries.ensures.room ∙ so_far.room;
       fits = other_fits c.read.new.into _ _ c.loop-index.index c.min-count.result _ _ so_far.fits inside c.if-not-read_entries.ensures.found (omega (arith, c.min-count.ensures, c.len.ensures, c.loop-index.entries.ok.0));
