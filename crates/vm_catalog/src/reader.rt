@@ -97,6 +97,7 @@ fn read_first<D: Disk>(
     ensures any { Goes (result ≡ Err LoadFault.Device) (D.state disk.old) (D.state disk.new) }
     ensures reads { (D.state disk.new).honest ≡ true
         → OnlyReads (D.state disk.old) (D.state disk.new) }
+    ensures once { (D.state disk.new).reads ≡ (D.state disk.old).reads + 1 }
     ensures room { vec_capacity entries.new ≡ vec_capacity entries.old }
     ensures fits { IfOk result (λ head. FitsSoFar head.blocks head.entries 1 entries.new.items) }
     ensures found { (D.state disk.new).honest ≡ true
@@ -131,6 +132,8 @@ fn read_others<D: Disk>(
     ensures any { Goes (result ≡ Err LoadFault.Device) (D.state disk.old) (D.state disk.new) }
     ensures reads { (D.state disk.new).honest ≡ true
         → OnlyReads (D.state disk.old) (D.state disk.new) }
+    ensures once { (D.state disk.new).reads + 1 ≤ (D.state disk.old).reads + used_blocks head.entries }
+    ensures whole { OnOk result ((D.state disk.new).reads + 1 ≡ (D.state disk.old).reads + used_blocks head.entries) }
     ensures room { vec_capacity entries.new ≡ vec_capacity entries.old }
     ensures fits { OnOk result (FitsSoFar head.blocks head.entries (used_blocks head.entries) entries.new.items) }
     ensures found { (D.state disk.new).honest ≡ true
@@ -160,6 +163,11 @@ pub fn load<D: Disk>(alloc: Global, disk: &mut D, slot_b: bool) -> Result<Slot, 
     ensures any { Goes (result ≡ Err LoadFault.Device) (D.state disk.old) (D.state disk.new) }
     ensures reads { (D.state disk.new).honest ≡ true
         → OnlyReads (D.state disk.old) (D.state disk.new) }
+
+    // It makes no more reads than a slot has blocks, and at Ok one for each used block.
+    ensures once { (D.state disk.new).reads ≤ (D.state disk.old).reads + 16 }
+    ensures whole { IfOk result (λ slot. (D.state disk.new).reads
+        ≡ (D.state disk.old).reads + used_blocks (length slot.entries.items)) }
 
     // On any disk what is loaded are entries that a slot may have, with room for as many as it can.
     ensures fits { IfOk result (λ slot. SlotFits slot.blocks slot.entries.items) }

@@ -3,6 +3,7 @@ pub mod FoundLemmas
 pub mod JoinLemmas
 pub mod KnownLemmas
 pub mod MarkLemmas
+pub mod OnlyLemmas
 pub mod RootLemmas
 pub mod SpanLemmas
 pub mod WalkLemmas

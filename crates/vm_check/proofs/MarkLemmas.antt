@@ -1,23 +1,22 @@
 -- Marks on the blocks of trees: how they grow, and that what lies under a marked block is marked.
-use Rattle.std.proofs.Common.{◌≡◌, ◌⊎◌, inl, inr, ℕ, zero, suc, ◌+◌, ◌-◌, ◌<◌, ◌≤◌, Bool, true, List, [], ◌∷◌, ◌++◌, length, get_or, take, refl, sym, ap, ◌∙◌, subst, arith}
+use Rattle.std.proofs.Common.{◌≡◌, ◌⊎◌, inl, inr, ℕ, zero, suc, ◌+◌, ◌-◌, ◌<◌, ◌≤◌, Bool, true, false, List, [], ◌∷◌, ◌++◌, length, get_or, take, replicate, refl, sym, ap, ◌∙◌, subst, arith}
 use Rattle.std.specs.Prelude.{slice_set, Contains}
 use Rattle.std.specs.List.{AllByRecursion}
 use Rattle.std.proofs.lemmas.Bool.{cases_eq, false_from_ne_true}
 use Rattle.std.proofs.lemmas.List.{take_all}
 use Rattle.std.proofs.lemmas.List.Elements.{Contains-append_left, Contains-append_right, Contains-append_cases}
 use Rattle.vm_disk.specs.Disk.{Contents, block, Medium}
-use Rattle.vm_alloc.specs.Held.{is_held, free_count}
-use Rattle.vm_alloc.specs.Marks.{IsMarked}
-use Rattle.vm_alloc.proofs.HeldLemmas.{holds_same, holds_more_then, taken_holds_more, taken_is_held, others_as_before, free_from, free_less}
+use Rattle.vm_alloc.specs.Marks.{IsMarked, is_marked}
+use Rattle.vm_alloc.proofs.HeldLemmas.{holds_same, holds_more_then, taken_holds_more, taken_is_held, others_as_before, free_new, unmarked_less}
 use Rattle.vm_block.specs.Leaf.{Record}
 use Rattle.vm_block.specs.Node.{IsNode}
-use Rattle.vm_block.specs.Tree.{Sizes, Children, Subtree}
+use Rattle.vm_block.specs.Tree.{Sizes, IsData, Children, Subtree}
 use Rattle.vm_block.specs.declared.node.Child.{Child}
 use Rattle.vm_block.proofs.EachLemmas.{each_so, each_join}
 use Rattle.vm_block.proofs.FormLemmas.{leaf_or_node}
 use Rattle.vm_block.proofs.NodeLemmas.{node_one}
 use Rattle.vm_block.proofs.TreeLemmas.{leaf_opens, node_opens}
-use Rattle.vm_check.specs.Marking.{Joined, MarksMore, ClosedTo}
+use Rattle.vm_check.specs.Marking.{Joined, MarksMore, ClosedTo, unmarked}
 use Rattle.vm_check.proofs.JoinLemmas.{LastOf, last_of, joined_front}
 
 -- what holds of each element holds of one of them
@@ -174,9 +173,14 @@ under_marked sizes x limit most marks closed (suc l) b rs bs le t is =
           (closed.closed b (suc l) t.1 is le t.3),
     )
 
--- a block that was not marked is one less that is not
-pub set_less : (marks : List Bool) (b : ℕ) → b < length marks → (IsMarked marks b → ⊥) → free_count marks ≡ free_count (slice_set marks b true) + 1
-set_less marks b inside not_yet = free_less marks b (free_from marks b inside (false_from_ne_true (is_held marks b) not_yet))
+-- a data block that was not marked is one less that is not
+pub set_less : (marks first : List Bool) (b limit : ℕ) → first ≡ slice_set marks b true → length marks ≡ limit → IsData limit b → (IsMarked marks b → ⊥) → unmarked marks ≡ unmarked first + 1
+set_less marks first b limit set many data_block not_yet =
+    unmarked_less 34 marks b data_block.0 (omega (arith, data_block.1, many)) (false_from_ne_true (is_marked marks b) not_yet) ∙ ap (λ (z : List Bool). unmarked z + 1) (sym set)
+
+-- where no block is marked, all the data blocks are counted
+pub all_unmarked : (blocks : ℕ) → 34 ≤ blocks → unmarked (replicate blocks false) + 34 ≡ blocks
+all_unmarked blocks enough = omega (arith, free_new 34 blocks enough)
 
 -- # The children of an inner block, one after another
 

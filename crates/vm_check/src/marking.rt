@@ -2,11 +2,11 @@
 ghost use Rattle.std.specs.Prelude.{◌≡◌, ◌≢◌, ℕ, ◌+◌, ◌≤◌, true, List, length, OnOk};
 ghost use Rattle.vm_disk.specs.Disk.{Goes};
 ghost use Rattle.vm_disk.specs.Moments.{OnlyReads};
-ghost use Rattle.vm_alloc.specs.Held.{HoldsMore, free_count};
+ghost use Rattle.vm_alloc.specs.Held.{HoldsMore};
 ghost use Rattle.vm_block.specs.Leaf.{Record};
 ghost use Rattle.vm_block.specs.Tree.{Sizes, Subtree};
 ghost use Rattle.vm_tree.specs.Answers.{OkOrDevice};
-ghost use Rattle.vm_check.specs.Marking.{AreUnder, ClosedTo, IsClosed, IsUnder, MarksMore};
+ghost use Rattle.vm_check.specs.Marking.{AreUnder, ClosedTo, IsClosed, IsUnder, MarksMore, MarksOnly, unmarked};
 
 use crate::reading::{children_at, is_data};
 use vm_alloc::Marks;
@@ -26,12 +26,16 @@ fn mark_below<D: Disk>(
     ensures any { Goes (result ≡ Err TreeFault.Device) (D.state disk.old) (D.state disk.new) }
     ensures deep { result ≢ Err TreeFault.Deep }
     ensures memory { result ≢ Err TreeFault.Memory }
-    ensures once { (D.state disk.new).reads + free_count marks.new ≤ (D.state disk.old).reads + free_count marks.old }
+    ensures once { (D.state disk.new).reads + unmarked marks.new ≤ (D.state disk.old).reads + unmarked marks.old }
     ensures growing { HoldsMore marks.old marks.new }
     ensures reads { (D.state disk.new).honest ≡ true → OnlyReads (D.state disk.old) (D.state disk.new) }
     ensures marked { (D.state disk.new).honest ≡ true → (sizes : Sizes) (rs : List Record) (bs : List ℕ)
         → Subtree sizes (D.state disk.old).now.contents blocks level block rs bs → ClosedTo (D.state disk.old).now.contents level marks.old
         → OkOrDevice result (λ _. MarksMore bs marks.old marks.new) }
+    ensures sound { (D.state disk.new).honest ≡ true → (sizes : Sizes) (rs : List Record) (bs : List ℕ)
+        → Subtree sizes (D.state disk.old).now.contents blocks level block rs bs → OkOrDevice result (λ _. Unit {0}) }
+    ensures only { (D.state disk.new).honest ≡ true → (sizes : Sizes) (rs : List Record) (bs : List ℕ)
+        → Subtree sizes (D.state disk.old).now.contents blocks level block rs bs → MarksOnly bs marks.old marks.new }
 {
     if !is_data(blocks, block) {
         return Err(TreeFault::Damaged(block));
@@ -69,12 +73,16 @@ fn mark_root<D: Disk>(
     ensures any { Goes (result ≡ Err TreeFault.Device) (D.state disk.old) (D.state disk.new) }
     ensures deep { result ≢ Err TreeFault.Deep }
     ensures memory { result ≢ Err TreeFault.Memory }
-    ensures once { (D.state disk.new).reads + free_count marks.new ≤ (D.state disk.old).reads + free_count marks.old }
+    ensures once { (D.state disk.new).reads + unmarked marks.new ≤ (D.state disk.old).reads + unmarked marks.old }
     ensures growing { HoldsMore marks.old marks.new }
     ensures reads { (D.state disk.new).honest ≡ true → OnlyReads (D.state disk.old) (D.state disk.new) }
     ensures marked { (D.state disk.new).honest ≡ true → (sizes : Sizes) (bs : List ℕ)
         → IsUnder sizes (D.state disk.old).now.contents blocks root bs → IsClosed (D.state disk.old).now.contents marks.old
         → OkOrDevice result (λ _. MarksMore bs marks.old marks.new) }
+    ensures sound { (D.state disk.new).honest ≡ true → (sizes : Sizes) (bs : List ℕ)
+        → IsUnder sizes (D.state disk.old).now.contents blocks root bs → OkOrDevice result (λ _. Unit {0}) }
+    ensures only { (D.state disk.new).honest ≡ true → (sizes : Sizes) (bs : List ℕ)
+        → IsUnder sizes (D.state disk.old).now.contents blocks root bs → MarksOnly bs marks.old marks.new }
 {
     if root.block == 0 {
         return Ok(());
@@ -83,7 +91,8 @@ fn mark_root<D: Disk>(
 }
 
 /// Marks all blocks under the roots, without memory. What lies under a block that is marked already
-/// is not walked again, so the marks have to be closed: clear, or left by earlier calls.
+/// is not walked again, so for all to be marked the marks have to be closed: clear, or left by
+/// earlier calls.
 ///
 /// On trees it answers neither Damaged nor Deep nor Memory. Where the device fails, some of the
 /// blocks are marked.
@@ -95,10 +104,17 @@ pub fn mark<D: Disk>(disk: &mut D, roots: &[Root], marks: &mut Marks) -> Result<
     ensures growing { HoldsMore marks.old marks.new }
     ensures reads { (D.state disk.new).honest ≡ true → OnlyReads (D.state disk.old) (D.state disk.new) }
 
-    // For each block that it reads it marks one that was not marked.
-    ensures once { (D.state disk.new).reads + free_count marks.new ≤ (D.state disk.old).reads + free_count marks.old }
+    // For each block that it reads it marks a data block that was not marked.
+    ensures once { (D.state disk.new).reads + unmarked marks.new ≤ (D.state disk.old).reads + unmarked marks.old }
 
-    // On trees, whatever the sizes of their blocks, the marks grow by exactly the blocks under the roots.
+    // On trees, whatever the sizes of their blocks and whatever was marked before, it is Ok unless the
+    // device fails; and whatever it answers, it marks no blocks but those under the roots.
+    ensures sound { (D.state disk.new).honest ≡ true → (sizes : Sizes) (bs : List ℕ)
+        → AreUnder sizes (D.state disk.old).now.contents (length marks.old) roots.now bs → OkOrDevice result (λ _. Unit {0}) }
+    ensures only { (D.state disk.new).honest ≡ true → (sizes : Sizes) (bs : List ℕ)
+        → AreUnder sizes (D.state disk.old).now.contents (length marks.old) roots.now bs → MarksOnly bs marks.old marks.new }
+
+    // Where the marks were closed, they grow by exactly the blocks under the roots, and stay closed.
     ensures marked { (D.state disk.new).honest ≡ true → (sizes : Sizes) (bs : List ℕ)
         → AreUnder sizes (D.state disk.old).now.contents (length marks.old) roots.now bs → IsClosed (D.state disk.old).now.contents marks.old
         → OkOrDevice result (λ _. MarksMore bs marks.old marks.new) }

@@ -4,12 +4,13 @@ ghost use Rattle.vm_types.specs.Map.{Map};
 ghost use Rattle.vm_types.specs.Places.{RisesFrom, place, places};
 ghost use Rattle.vm_disk.specs.Disk.{Goes};
 ghost use Rattle.vm_disk.specs.Moments.{OnlyReads};
-ghost use Rattle.vm_alloc.specs.Held.{HoldsMore, free_count};
+ghost use Rattle.vm_alloc.specs.Held.{HoldsMore};
 ghost use Rattle.vm_block.specs.Leaf.{Record};
 ghost use Rattle.vm_block.specs.Node.{lows};
 ghost use Rattle.vm_block.specs.Tree.{Begins, Subtree, Children, IsTree};
 ghost use Rattle.vm_tree.specs.Answers.{OkOrDevice, Lists};
 ghost use Rattle.vm_tree.specs.Root.{AreSizes, sizes_of};
+ghost use Rattle.vm_check.specs.Marking.{unmarked};
 ghost use Rattle.vm_check.specs.Verifying.{HaveTrees, Found};
 ghost use Rattle.vm_check.specs.Visiting.{IsHighest, Known, Visited, VisitedAll, RootVisited};
 
@@ -48,7 +49,7 @@ fn visit<D: Disk, const LEAF: usize, const FAN: usize>(
     ensures any { Goes (result ≡ Err TreeFault.Device) (D.state disk.old) (D.state disk.new) }
     ensures deep { result ≢ Err TreeFault.Deep }
     ensures memory { result ≢ Err TreeFault.Memory }
-    ensures once { (D.state disk.new).reads + free_count marks.new ≤ (D.state disk.old).reads + free_count marks.old }
+    ensures once { (D.state disk.new).reads + unmarked marks.new ≡ (D.state disk.old).reads + unmarked marks.old }
     ensures growing { HoldsMore marks.old marks.new }
     ensures reads { (D.state disk.new).honest ≡ true → OnlyReads (D.state disk.old) (D.state disk.new) }
     ensures found { (D.state disk.new).honest ≡ true → (levels : ℕ) → Known (sizes_of LEAF FAN levels) (D.state disk.old).now.contents blocks most marks.old spans.old
@@ -130,7 +131,7 @@ fn visit_children<D: Disk, const LEAF: usize, const FAN: usize>(
     ensures any { Goes (result ≡ Err TreeFault.Device) (D.state disk.old) (D.state disk.new) }
     ensures deep { result ≢ Err TreeFault.Deep }
     ensures memory { result ≢ Err TreeFault.Memory }
-    ensures once { (D.state disk.new).reads + free_count marks.new ≤ (D.state disk.old).reads + free_count marks.old }
+    ensures once { (D.state disk.new).reads + unmarked marks.new ≡ (D.state disk.old).reads + unmarked marks.old }
     ensures growing { HoldsMore marks.old marks.new }
     ensures reads { (D.state disk.new).honest ≡ true → OnlyReads (D.state disk.old) (D.state disk.new) }
     ensures found { (D.state disk.new).honest ≡ true → (levels : ℕ) → Known (sizes_of LEAF FAN levels) (D.state disk.old).now.contents blocks level marks.old spans.old
@@ -188,10 +189,10 @@ pub fn verify<D: Disk, const LEAF: usize, const FAN: usize, const LEVELS: usize>
     ensures roots { IfOk result (λ found. length found.0.items ≡ length numbers.now) }
     ensures named { IfOk result (λ found. map (λ root. root.block) found.0.items ≡ numbers.now) }
 
-    // No block is read twice, whatever the disk holds: there are no more reads than blocks, and where
-    // it answers Ok, no more than blocks that are marked.
-    ensures once { (D.state disk.new).reads ≤ (D.state disk.old).reads + blocks }
-    ensures paid { IfOk result (λ found. (D.state disk.new).reads + free_count found.1 ≤ (D.state disk.old).reads + blocks) }
+    // No block is read twice, whatever the disk holds and whatever the answer: there are no more reads
+    // than data blocks, and where it answers Ok, just as many as blocks that are marked.
+    ensures once { (D.state disk.new).reads + 34 ≤ (D.state disk.old).reads + blocks }
+    ensures paid { IfOk result (λ found. (D.state disk.new).reads + unmarked found.1 + 34 ≡ (D.state disk.old).reads + blocks) }
 
     // It is Ok exactly where each number has a tree, unless the device fails or no memory is found.
     ensures found { (D.state disk.new).honest ≡ true
@@ -234,7 +235,7 @@ fn visit_root<D: Disk, const LEAF: usize, const FAN: usize, const LEVELS: usize>
     ensures any { Goes (result ≡ Err TreeFault.Device) (D.state disk.old) (D.state disk.new) }
     ensures deep { result ≢ Err TreeFault.Deep }
     ensures memory { result ≢ Err TreeFault.Memory }
-    ensures once { (D.state disk.new).reads + free_count marks.new ≤ (D.state disk.old).reads + free_count marks.old }
+    ensures once { (D.state disk.new).reads + unmarked marks.new ≡ (D.state disk.old).reads + unmarked marks.old }
     ensures count { length marks.new ≡ blocks }
     ensures named { IfOk result (λ root. root.block ≡ number) }
     ensures reads { (D.state disk.new).honest ≡ true → OnlyReads (D.state disk.old) (D.state disk.new) }

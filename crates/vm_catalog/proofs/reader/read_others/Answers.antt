@@ -38,6 +38,7 @@ loop-index-preserved g c =
       blocks = any.same_blocks ∙ so_far.blocks;
       earlier = λ honest. so_far.earlier (any.earlier honest);
       rising = omega arith;
+      once = omega (arith, any.read, so_far.once);
       reads = λ honest. reads_then _ _ _ (so_far.reads (c.in-Ok.ensures.any.earlier honest)) (read_once _ _ _ _ _ (c.read.ensures.honest honest));
       room = c.if-not-read_entries.ensures.room ∙ so_far.room;
       fits = other_fits c.read.new.into _ _ c.loop-index.index c.min-count.result _ _ so_far.fits inside c.if-not-read_entries.ensures.found (omega (arith, c.min-count.ensures, c.len.ensures, c.loop-index.entries.ok.0));

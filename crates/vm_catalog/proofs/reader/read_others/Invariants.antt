@@ -1,4 +1,4 @@
-use Rattle.std.proofs.Common.{◌≡◌, ◌≤◌, true, vec_capacity}
+use Rattle.std.proofs.Common.{◌≡◌, ◌+◌, ◌≤◌, true, vec_capacity}
 use Rattle.vm_disk.specs.Moments.{OnlyReads}
 use Rattle.vm_catalog.specs.Place.{blocks_from, slot_at}
 use Rattle.vm_catalog.specs.Reading.{FitsSoFar, Begins}
@@ -12,6 +12,7 @@ invariant-loop-index g l =
       blocks : now.blocks ≡ old.blocks;
       earlier : now.honest ≡ true → old.honest ≡ true;
       rising : old.failures ≤ now.failures;
+      once : now.reads + 1 ≡ old.reads + l.index;
       reads : now.honest ≡ true → OnlyReads old now;
       room : vec_capacity l.entries ≡ vec_capacity l.fn.entries;
       fits : FitsSoFar l.head.blocks l.head.entries l.index l.entries.items;

@@ -1,11 +1,12 @@
-use Rattle.std.proofs.Common.{List, sym, subst, ◌∙◌, arith}
+use Rattle.std.proofs.Common.{List, inl, sym, subst, ◌∙◌, arith}
 use Rattle.std.proofs.lemmas.Bool.{false≢true}
 use Rattle.vm_disk.proofs.MomentLemmas.{reads_then, same_medium}
 use Rattle.vm_alloc.proofs.HeldLemmas.{holds_more_then, taken_holds_more}
 use Rattle.vm_alloc.specs.Held.{HoldsMore}
 use Rattle.vm_tree.proofs.Descent.{subtree_top, node_read}
 use Rattle.vm_check.specs.Marking.{MarksMore}
-use Rattle.vm_check.proofs.MarkLemmas.{same_more, under_marked, set_less, leaf_marked, node_start, node_marked, node_fault, child_more}
+use Rattle.vm_check.proofs.MarkLemmas.{IsBelow, top_within, same_more, under_marked, set_less, leaf_marked, node_start, node_marked, node_fault, child_more}
+use Rattle.vm_check.proofs.OnlyLemmas.{only_set, only_top, only_all, child_sound, child_only_more, child_only_fault}
 use Rattle.vm_check.proofs.marking.+mark_below.Goals as goal
 
 pub returns-then-not-is_data-clause-marked : goal.returns-then-not-is_data-clause-marked
@@ -21,11 +22,23 @@ returns-then-level-eq0-clause-marked g t c honest sizes rs bs tree closed =
     let inside = subtree_top sizes _ _ _ _ rs bs tree in
     leaf_marked sizes _ _ _ _ rs bs _ _ c.if-level-eq0.true (omega (arith, inside.1, c.requires.bits)) c.set.ensures tree
 
+pub returns-then-level-eq0-clause-once : goal.returns-then-level-eq0-clause-once
+returns-then-level-eq0-clause-once g t c =
+    omega (arith, set_less _ _ _ _ c.set.ensures c.requires.bits (c.is_data.ensures.0 c.if-not-is_data.false) (λ is. false≢true (sym c.if-is_set.false ∙ c.is_set.ensures.1 is)))
+
+pub returns-in-Err-clause-once : goal.returns-in-Err-clause-once
+returns-in-Err-clause-once g t c =
+    omega (
+      arith,
+      c.children_at.ensures.once,
+      set_less _ _ _ _ c.set.ensures c.requires.bits (c.is_data.ensures.0 c.if-not-is_data.false) (λ is. false≢true (sym c.if-is_set.false ∙ c.is_set.ensures.1 is)),
+    )
+
 pub loop-child-init : goal.loop-child-init
 loop-child-init g t c =
     let any = c.children_at.ensures.any in
     let inside = c.is_data.ensures.0 c.if-not-is_data.false in
-    let less = set_less c.args.marks.now c.args.block (omega (arith, inside.1, c.requires.bits)) (λ is. false≢true (sym c.if-is_set.false ∙ c.is_set.ensures.1 is)) in
+    let less = set_less _ _ _ _ c.set.ensures c.requires.bits inside (λ is. false≢true (sym c.if-is_set.false ∙ c.is_set.ensures.1 is)) in
     let grows = subst (HoldsMore c.args.marks.now) (sym c.set.ensures) (taken_holds_more c.args.marks.now c.args.block) in
     record {
       blocks = any.same_blocks;
@@ -33,10 +46,11 @@ loop-child-init g t c =
       since = λ honest. honest;
       rising = any.rising;
       many = grows.same_length ∙ c.requires.bits;
-      once = rw c.set.ensures (omega (arith, c.children_at.ensures.once, less));
+      once = omega (arith, c.children_at.ensures.once, less);
       growing = grows;
       reads = λ honest. c.children_at.ensures.reads honest;
       marked = λ honest sizes bs none closed. subst (λ (ds : List _). MarksMore ds c.set.new.self c.set.new.self) (sym none) (same_more _ c.set.new.self tt);
+      only = λ honest sizes bs none n is. inl is;
     }
 
 pub returns-in-Err-mark_below-clause-marked : goal.returns-in-Err-mark_below-clause-marked
@@ -60,9 +74,11 @@ loop-child-preserved g t c =
       many = grows.same_length ∙ so_far.many;
       once = omega (arith, c.mark_below.ensures.once, so_far.once);
       growing = holds_more_then _ _ _ so_far.growing grows;
-      reads = λ honest. reads_then _ _ _ (so_far.reads (c.in-Ok-mark_below.ensures.any.earlier honest)) (c.mark_below.ensures.reads honest);
-      marked = λ honest sizes. child_more sizes _ _ _ _ _ _ _ _ _ _ (same_medium _ _ (so_far.reads (c.in-Ok-mark_below.ensures.any.earlier honest))) c.loop-child-test.true (so_far.marked (c.in-Ok-mark_below.ensures.any.earlier honest) sizes)
+      reads = λ honest. reads_then _ _ _ (so_far.reads (c.mark_below.ensures.any.earlier honest)) (c.mark_below.ensures.reads honest);
+      marked = λ honest sizes. child_more sizes _ _ _ _ _ _ _ _ _ _ (same_medium _ _ (so_far.reads (c.mark_below.ensures.any.earlier honest))) c.loop-child-test.true (so_far.marked (c.mark_below.ensures.any.earlier honest) sizes)
           (λ rs ds. c.in-Ok-mark_below.ensures.marked honest sizes rs ds);
+      only = λ honest sizes. child_only_more sizes _ _ _ _ _ _ _ (same_medium _ _ (so_far.reads (c.mark_below.ensures.any.earlier honest))) c.loop-child-test.true _ _ _ (so_far.only (c.mark_below.ensures.any.earlier honest) sizes)
+          (λ rs ds. c.mark_below.ensures.only honest sizes rs ds);
     }
 
 pub returns-after-loop-child-clause-marked : goal.returns-after-loop-child-clause-marked
@@ -81,3 +97,37 @@ pub returns-in-Err-mark_below-clause-reads : goal.returns-in-Err-mark_below-clau
 returns-in-Err-mark_below-clause-reads g t c honest =
     let so_far = c.loop-child.invariant in
     reads_then _ _ _ (so_far.reads (c.mark_below.ensures.any.earlier honest)) (c.mark_below.ensures.reads honest)
+
+pub returns-then-not-is_data-clause-sound : goal.returns-then-not-is_data-clause-sound
+returns-then-not-is_data-clause-sound g t c honest sizes rs bs tree =
+    absurd (false≢true (sym c.if-not-is_data.true ∙ c.is_data.ensures.1 (subtree_top sizes _ _ _ _ rs bs tree)))
+
+pub returns-in-Err-clause-sound : goal.returns-in-Err-clause-sound
+returns-in-Err-clause-sound g t c honest sizes rs bs tree =
+    let at = node_read sizes _ _ _ _ rs bs (omega (arith, c.if-level-eq0.false)) tree in
+    c.in-Err.ensures.only honest at.0 at.1.node
+
+pub returns-in-Err-mark_below-clause-sound : goal.returns-in-Err-mark_below-clause-sound
+returns-in-Err-mark_below-clause-sound g t c honest sizes rs bs tree =
+    let so_far = c.loop-child.invariant in
+    let start = node_start sizes _ _ _ _ rs bs _ (omega (arith, c.if-level-eq0.false)) tree (λ ds node. c.as_slice-child-items.ensures.value ∙ c.in-Ok.ensures.only (so_far.since (c.in-Err-mark_below.ensures.any.earlier honest)) ds node) in
+    child_sound sizes _ _ _ _ _ _ _ (same_medium _ _ (so_far.reads (c.in-Err-mark_below.ensures.any.earlier honest))) c.loop-child-test.true _ _ start.joined (λ qs ds. c.in-Err-mark_below.ensures.sound honest sizes qs ds)
+
+pub returns-then-level-eq0-clause-only : goal.returns-then-level-eq0-clause-only
+returns-then-level-eq0-clause-only g t c honest sizes rs bs tree = only_set _ bs _ _ c.set.ensures (top_within sizes _ _ _ _ rs bs tree)
+
+pub returns-in-Err-clause-only : goal.returns-in-Err-clause-only
+returns-in-Err-clause-only g t c honest sizes rs bs tree = only_set _ bs _ _ c.set.ensures (top_within sizes _ _ _ _ rs bs tree)
+
+pub returns-in-Err-mark_below-clause-only : goal.returns-in-Err-mark_below-clause-only
+returns-in-Err-mark_below-clause-only g t c honest sizes rs bs tree =
+    let so_far = c.loop-child.invariant in
+    let start = node_start sizes _ _ _ _ rs bs _ (omega (arith, c.if-level-eq0.false)) tree (λ ds node. c.as_slice-child-items.ensures.value ∙ c.in-Ok.ensures.only (so_far.since (c.in-Err-mark_below.ensures.any.earlier honest)) ds node) in
+    only_top _ start.under bs _ _ _ c.set.ensures start.first
+    (child_only_fault sizes _ _ _ _ _ _ _ (same_medium _ _ (so_far.reads (c.in-Err-mark_below.ensures.any.earlier honest))) c.loop-child-test.true _ _ _ (so_far.only (c.in-Err-mark_below.ensures.any.earlier honest) sizes)
+    (λ qs ds. c.in-Err-mark_below.ensures.only honest sizes qs ds) start.under start.joined)
+
+pub returns-after-loop-child-clause-only : goal.returns-after-loop-child-clause-only
+returns-after-loop-child-clause-only g t c honest sizes rs bs tree =
+    let start = node_start sizes _ _ _ _ rs bs _ (omega (arith, c.if-level-eq0.false)) tree (λ ds node. c.as_slice-child-items.ensures.value ∙ c.in-Ok.ensures.only (c.loop-child.invariant.since honest) ds node) in
+    only_top _ start.under bs _ _ _ c.set.ensures start.first (only_all (IsBelow sizes _ _ _) _ _ start.under _ _ c.loop-child-test.false (c.loop-child.invariant.only honest sizes) start.joined)

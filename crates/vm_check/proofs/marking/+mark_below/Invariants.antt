@@ -1,8 +1,10 @@
 use Rattle.std.proofs.Common.{◌≡◌, ◌+◌, ◌-◌, ◌≤◌, true, length}
 use Rattle.vm_disk.specs.Moments.{OnlyReads}
-use Rattle.vm_alloc.specs.Held.{HoldsMore, free_count}
+use Rattle.vm_alloc.specs.Held.{HoldsMore}
 use Rattle.vm_block.specs.Tree.{Sizes}
-use Rattle.vm_check.proofs.MarkLemmas.{MarkedSoFar}
+use Rattle.vm_check.specs.Marking.{unmarked}
+use Rattle.vm_check.proofs.MarkLemmas.{IsBelow, MarkedSoFar}
+use Rattle.vm_check.proofs.OnlyLemmas.{OnlySoFar}
 use Rattle.vm_check.proofs.marking.+mark_below.Given as goal
 
 abbrev pub decreases-mark_below : goal.decreases-mark_below
@@ -17,8 +19,9 @@ invariant-loop-child g l =
       since : now.honest ≡ true → (g.D.Disk.state l.initial.disk).honest ≡ true;
       rising : old.failures ≤ now.failures;
       many : length l.marks ≡ l.blocks;
-      once : now.reads + free_count l.marks ≤ old.reads + free_count l.fn.marks;
+      once : now.reads + unmarked l.marks ≤ old.reads + unmarked l.fn.marks;
       growing : HoldsMore l.fn.marks l.marks;
       reads : now.honest ≡ true → OnlyReads old now;
       marked : now.honest ≡ true → (sizes : Sizes) → MarkedSoFar sizes l.blocks (l.level - 1) old.now.contents l.child-items l.child-index l.initial.marks l.marks;
+      only : now.honest ≡ true → (sizes : Sizes) → OnlySoFar (IsBelow sizes old.now.contents l.blocks (l.level - 1)) l.child-items l.child-index l.initial.marks l.marks;
     }

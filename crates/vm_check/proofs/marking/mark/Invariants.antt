@@ -1,8 +1,10 @@
 use Rattle.std.proofs.Common.{◌≡◌, ◌+◌, ◌≤◌, true, length}
 use Rattle.vm_disk.specs.Moments.{OnlyReads}
-use Rattle.vm_alloc.specs.Held.{HoldsMore, free_count}
+use Rattle.vm_alloc.specs.Held.{HoldsMore}
 use Rattle.vm_block.specs.Tree.{Sizes}
+use Rattle.vm_check.specs.Marking.{IsUnder, unmarked}
 use Rattle.vm_check.proofs.RootLemmas.{RootsSoFar}
+use Rattle.vm_check.proofs.OnlyLemmas.{OnlySoFar}
 use Rattle.vm_check.proofs.marking.mark.Given as goal
 
 abbrev pub invariant-loop-root : goal.invariant-loop-root
@@ -13,8 +15,9 @@ invariant-loop-root g l =
       earlier : now.honest ≡ true → old.honest ≡ true;
       rising : old.failures ≤ now.failures;
       many : length l.marks ≡ l.blocks;
-      once : now.reads + free_count l.marks ≤ old.reads + free_count l.fn.marks;
+      once : now.reads + unmarked l.marks ≤ old.reads + unmarked l.fn.marks;
       growing : HoldsMore l.fn.marks l.marks;
       reads : now.honest ≡ true → OnlyReads old now;
       marked : now.honest ≡ true → (sizes : Sizes) → RootsSoFar sizes l.blocks old.now.contents l.roots l.root-index l.fn.marks l.marks;
+      only : now.honest ≡ true → (sizes : Sizes) → OnlySoFar (IsUnder sizes old.now.contents l.blocks) l.roots l.root-index l.fn.marks l.marks;
     }

@@ -5,6 +5,7 @@ use Rattle.vm_disk.proofs.MomentLemmas.{reads_then, same_medium}
 use Rattle.vm_tree.proofs.Descent.{subtree_top}
 use Rattle.vm_check.specs.Visiting.{span_at}
 use Rattle.vm_alloc.proofs.HeldLemmas.{holds_more_then}
+use Rattle.vm_check.proofs.MarkLemmas.{set_less}
 use Rattle.vm_check.proofs.KnownLemmas.{level_one, subtree_level}
 use Rattle.vm_check.proofs.ChildLemmas.{leaf_top, node_top, top_form}
 use Rattle.vm_check.proofs.SpanLemmas.{keys_same, keys_differ}
@@ -14,6 +15,30 @@ use Rattle.vm_check.proofs.verifying.+walk.Goals.{visit-then-span-least-via-then
 use Rattle.vm_check.proofs.verifying.+walk.Goals.{visit-then-least-gt0-via-then-least-gt0, visit-then-least-gt0-via-else-least-gt0+then-len}
 use Rattle.vm_check.proofs.verifying.+walk.Goals.{visit-then-level-least-via-then-level-least, visit-then-level-least-via-else-level-least+then-level-most, visit-then-level-least-via-else-level-least+else-level-most+then-children}
 use Rattle.vm_check.proofs.verifying.+walk.Goals.{visit_children-then-ne-via-then-ne, visit_children-then-ne-via-else-ne+then-not-is_below_next}
+
+pub visit-returns-then-least-gt0-clause-once : goal.visit-returns-then-least-gt0-clause-once
+visit-returns-then-least-gt0-clause-once g t c =
+    omega (arith, c.read_form.ensures.once, set_less _ _ _ _ c.set.ensures c.requires.bits (c.is_data.ensures.0 c.if-not-is_data.false) (λ is. false≢true (sym c.if-is_set.false ∙ c.is_set.ensures.1 is)))
+
+pub visit-returns-then-level-least-clause-once : goal.visit-returns-then-level-least-clause-once
+visit-returns-then-level-least-clause-once g t c =
+    omega (arith, c.read_form.ensures.once, set_less _ _ _ _ c.set.ensures c.requires.bits (c.is_data.ensures.0 c.if-not-is_data.false) (λ is. false≢true (sym c.if-is_set.false ∙ c.is_set.ensures.1 is)))
+
+pub visit-returns-else-len-clause-once : goal.visit-returns-else-len-clause-once
+visit-returns-else-len-clause-once g t c =
+    omega (arith, c.read_form.ensures.once, set_less _ _ _ _ c.set.ensures c.requires.bits (c.is_data.ensures.0 c.if-not-is_data.false) (λ is. false≢true (sym c.if-is_set.false ∙ c.is_set.ensures.1 is)))
+
+pub visit-returns-in-Err-clause-once : goal.visit-returns-in-Err-clause-once
+visit-returns-in-Err-clause-once g t c =
+    omega (arith, c.read_form.ensures.once, set_less _ _ _ _ c.set.ensures c.requires.bits (c.is_data.ensures.0 c.if-not-is_data.false) (λ is. false≢true (sym c.if-is_set.false ∙ c.is_set.ensures.1 is)))
+
+pub visit-returns-in-Ok-clause-once : goal.visit-returns-in-Ok-clause-once
+visit-returns-in-Ok-clause-once g t c =
+    omega (arith, c.visit_children.ensures.once, c.read_form.ensures.once, set_less _ _ _ _ c.set.ensures c.requires.bits (c.is_data.ensures.0 c.if-not-is_data.false) (λ is. false≢true (sym c.if-is_set.false ∙ c.is_set.ensures.1 is)))
+
+pub visit-returns-in-Err-visit_children-clause-once : goal.visit-returns-in-Err-visit_children-clause-once
+visit-returns-in-Err-visit_children-clause-once g t c =
+    omega (arith, c.visit_children.ensures.once, c.read_form.ensures.once, set_less _ _ _ _ c.set.ensures c.requires.bits (c.is_data.ensures.0 c.if-not-is_data.false) (λ is. false≢true (sym c.if-is_set.false ∙ c.is_set.ensures.1 is)))
 
 pub visit-returns-then-not-is_data-clause-only : goal.visit-returns-then-not-is_data-clause-only
 visit-returns-then-not-is_data-clause-only g t c honest levels l rs bs known least most tree rises =

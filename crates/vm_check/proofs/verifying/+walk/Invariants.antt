@@ -2,9 +2,10 @@ use Rattle.std.proofs.Common.{◌≡◌, ◌+◌, ◌*◌, ◌≤◌, ◌<◌, �
 use Rattle.std.specs.Prelude.{slice_index_or}
 use Rattle.vm_types.specs.Places.{place}
 use Rattle.vm_disk.specs.Moments.{OnlyReads}
-use Rattle.vm_alloc.specs.Held.{HoldsMore, free_count}
+use Rattle.vm_alloc.specs.Held.{HoldsMore}
 use Rattle.vm_block.specs.Node.{lows}
 use Rattle.vm_tree.specs.Root.{sizes_of}
+use Rattle.vm_check.specs.Marking.{unmarked}
 use Rattle.vm_check.specs.Visiting.{Known, VisitedAll}
 use Rattle.vm_check.proofs.verifying.+walk.Given as goal
 
@@ -23,7 +24,7 @@ invariant-visit_children-loop-i g l =
       earlier : now.honest ≡ true → old.honest ≡ true;
       rising : old.failures ≤ now.failures;
       many : length l.marks ≡ l.blocks;
-      once : now.reads + free_count l.marks ≤ old.reads + free_count l.fn.marks;
+      once : now.reads + unmarked l.marks ≡ old.reads + unmarked l.fn.marks;
       growing : HoldsMore l.fn.marks l.marks;
       reads : now.honest ≡ true → OnlyReads old now;
       found : now.honest ≡ true → (levels : ℕ) → Known (sizes_of g.row.LEAF g.row.FAN levels) old.now.contents l.blocks l.level l.fn.marks l.initial.spans

@@ -1,10 +1,10 @@
 use Rattle.std.proofs.Common.{Bool, false, List, length, map, refl, ap, ◌∙◌, arith}
 use Rattle.std.proofs.lemmas.List.{length-replicate}
-use Rattle.vm_alloc.specs.Held.{free_count}
 use Rattle.vm_tree.specs.declared.root.Root.{Root}
 use Rattle.vm_disk.proofs.MomentLemmas.{started, reads_then, same_medium}
-use Rattle.vm_alloc.proofs.HeldLemmas.{free_replicate}
 use Rattle.vm_tree.proofs.ScanLemmas.{device_lists}
+use Rattle.vm_check.specs.Marking.{unmarked}
+use Rattle.vm_check.proofs.MarkLemmas.{all_unmarked}
 use Rattle.vm_check.proofs.FoundLemmas.{first_found, number_more, number_fault, named_more}
 use Rattle.vm_check.proofs.verifying.verify.Goals as goal
 
@@ -15,7 +15,7 @@ loop-number-init g c = record {
   rising = omega arith;
   many = ap length c.in-Ok-Ok.ensures ∙ length-replicate c.args.blocks false;
   room = c.as_mut_slice-spans.ensures.len ∙ c.in-Ok-Ok.ensures'.len;
-  once = omega (arith, ap (λ (z : List Bool). free_count z) c.in-Ok-Ok.ensures, free_replicate c.args.blocks);
+  once = omega (arith, ap (λ (z : List Bool). unmarked z) c.in-Ok-Ok.ensures, all_unmarked c.args.blocks (omega (arith, c.requires.enough)));
   named = ap (map (λ (r : Root). r.block)) c.new-roots.ensures.items;
   reads = λ honest. started _ _ refl;
   found = λ honest. first_found _ _ _ _ _ _ c.new-roots.ensures.items c.in-Ok-Ok.ensures;

@@ -1,8 +1,8 @@
 use Rattle.std.proofs.Common.{◌≡◌, ◌+◌, ◌≤◌, true, length, take, map}
 use Rattle.vm_disk.specs.Moments.{OnlyReads}
-use Rattle.vm_alloc.specs.Held.{free_count}
 use Rattle.vm_tree.specs.Root.{sizes_of}
 use Rattle.vm_tree.specs.declared.root.Root.{Root}
+use Rattle.vm_check.specs.Marking.{unmarked}
 use Rattle.vm_check.proofs.FoundLemmas.{FoundSoFar}
 use Rattle.vm_check.proofs.verifying.verify.Given as goal
 
@@ -16,7 +16,7 @@ invariant-loop-number g l =
       rising : old.failures ≤ now.failures;
       many : length l.marks ≡ l.blocks;
       room : length l.spans ≡ l.blocks;
-      once : now.reads + free_count l.marks ≤ old.reads + l.blocks;
+      once : now.reads + unmarked l.marks + 34 ≡ old.reads + l.blocks;
       named : map (λ (r : Root). r.block) l.roots.items ≡ take l.number-index l.numbers;
       reads : now.honest ≡ true → OnlyReads old now;
       found : now.honest ≡ true → FoundSoFar (sizes_of g.row.LEAF g.row.FAN g.row.LEVELS) old.now.contents l.blocks (take l.number-index l.numbers) l.roots.items l.marks l.spans;
