@@ -402,6 +402,16 @@ for which in 0 1 2 01 02 12 012; do
     closed 'no UTF-8' $which "$status" run "$(printf '\377')"
 done
 
+# Only one descriptor is left, and it is the one that is closed: the program opens no file.
+echo 3 >status
+came=0
+sh -c 'exec >&-; ulimit -n 3; exec "$0" create made 64' "$tools/../crates/altctl/out/altctl" <lines 2>faults.came || came=$?
+echo "$came" >status.came
+echo 'altctl: stopped' >faults
+compare 'no descriptor is left: status' status status.came
+compare 'no descriptor is left: standard error' faults faults.came
+absent 'no descriptor is left' made
+
 # Starts the program with the words after the first, with a standard error that takes nothing. Its status is 3.
 unheard() {
     name=$1
