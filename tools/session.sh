@@ -402,6 +402,16 @@ for which in 0 1 2 01 02 12 012; do
     closed 'no UTF-8' $which "$status" run "$(printf '\377')"
 done
 
+# Only one descriptor is left, and it is the one that is closed: the program opens no file.
+echo 3 >status
+came=0
+sh -c 'exec >&-; ulimit -n 3; exec "$0" create made 64' "$tools/../crates/altctl/out/altctl" <lines 2>faults.came || came=$?
+echo "$came" >status.came
+echo 'altctl: stopped' >faults
+compare 'no descriptor is left: status' status status.came
+compare 'no descriptor is left: standard error' faults faults.came
+absent 'no descriptor is left' made
+
 # Starts the program with the words after the first, with a standard error that takes nothing. Its status is 3.
 unheard() {
     name=$1
@@ -420,6 +430,19 @@ unheard 'wrong words' create g many
 unheard 'no UTF-8' run "$(printf '\377')"
 absent 'a full standard error' g
 
+# The reader of the answers is gone.
+echo free >lines
+echo 3 >status
+echo 'altctl: stopped' >faults
+{
+    sleep 1
+    came=0
+    "$altctl" run spelled <lines 2>faults.came || came=$?
+    echo "$came" >status.came
+} | :
+compare 'a reader that is gone: status' status status.came
+compare 'a reader that is gone: standard error' faults faults.came
+
 # --- the script that starts the program ------------------------------------------------------------
 
 script=$tools/../altctl
@@ -434,7 +457,7 @@ ln -s ../links/second links/third
 altctl=links/third
 program 'through three links' 0 --help
 
-# A limit on the size of files, and a reader that is gone.
+# A limit on the size of files.
 cat >limited <<'END'
 #!/bin/sh
 ulimit -f "$limit"
@@ -451,19 +474,9 @@ limit=8
 printf 'put top 1 2 b\nfree\n' >lines
 echo 'error 15 Device' >output
 echo 'altctl: stopped' >faults
+cp spelled before
 program 'run over a limit' 3 run spelled
-
-echo free >lines
-echo 3 >status
-echo 'altctl: stopped' >faults
-{
-    sleep 1
-    came=0
-    "$script" run spelled <lines 2>faults.came || came=$?
-    echo "$came" >status.came
-} | :
-compare 'a reader that is gone: status' status status.came
-compare 'a reader that is gone: standard error' faults faults.came
+compare 'run over a limit: the file' before spelled
 
 # A build that fails, and one that is interrupted: `rt` is a script here, which waits and then fails.
 mkdir -p built/crates/altctl built/bin built/tmp
@@ -471,20 +484,20 @@ cp "$script" built/altctl
 : >built/crates.txt
 cat >built/bin/rt <<'END'
 #!/bin/sh
-: >"$begun"
-until [ -e "$go" ]; do sleep 1; done
+: >"$session_begun"
+until [ -e "$session_go" ]; do sleep 1; done
 exit 1
 END
 chmod +x built/bin/rt
-export begun="$work/built/begun" go="$work/built/go"
+export session_begun="$work/built/begun" session_go="$work/built/go"
 
 # Starts that script, and interrupts it where the first word says so. Compares its status with the second.
 builds() {
-    rm -f "$begun" "$go"
+    rm -f "$session_begun" "$session_go"
     PATH=$work/built/bin:$PATH TMPDIR=$work/built/tmp built/altctl --help >output.came 2>faults.came &
-    until [ -e "$begun" ]; do sleep 1; done
+    until [ -e "$session_begun" ]; do sleep 1; done
     [ "$1" != interrupted ] || kill -TERM $!
-    : >"$go"
+    : >"$session_go"
     echo "$2" >status
     came=0
     wait $! || came=$?
