@@ -107,13 +107,13 @@ module _ {D : Type 0} {members : _} where
     pub honest : (members.state new.disk).honest ≡ true
     pub holds : Holds old s
 
-  -- what the device was asked for by a line: by any but a command it was only read, and each moment of it is now past
+  -- what a line asked of the device: any but a command only read
   pub record Passes (old new : Store D members) (done : Done) : Type 0 where
     pub goes : Goes ⊥ (members.state old.disk) (members.state new.disk)
     pub reads : (members.state new.disk).honest ≡ true → done ≡ None → OnlyReads (members.state old.disk) (members.state new.disk)
 
-  -- the store failed in a command, and a crash since then leaves what was committed, or what that command commits; or it had
-  -- failed before, and was left as it was
+  -- the store failed in a command, and a crash at any moment of it leaves what was committed, or what that command commits; or it
+  -- had failed before, and was left as it was
   abbrev pub Stops : Store D members → Store D members → State → Type 0
   Stops old new s =
       ((has_failed old ≡ false) × ((command : Command) × CarriesOut old new s command (Err Device)))

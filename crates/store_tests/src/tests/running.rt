@@ -92,15 +92,16 @@ fn reclaim_in_a_list_leaves_the_spare_blocks_free(rt: HostRuntime) -> Result<(),
         key: DUCT,
         value: Value::new(b"pipe").ok_or("no value")?,
     };
+    let done = [Ok(Answer::Done), Ok(Answer::Done)];
     let mut store = fresh_store(rt.alloc())?;
     assert_eq!(rt; store.free(), Ok(30));
     let (answers, stop) = store.run(rt.alloc(), &[first, second]);
-    assert_eq!(rt; answers.as_slice(), [Ok(Answer::Done), Ok(Answer::Done)].as_slice());
+    assert_eq!(rt; answers.as_slice(), done.as_slice());
     assert_eq!(rt; stop, None);
     assert_eq!(rt; store.free(), Ok(28));
 
     let (answers, stop) = store.run(rt.alloc(), &[Command::Reclaim, Command::Commit]);
-    assert_eq!(rt; answers.as_slice(), [Ok(Answer::Done), Ok(Answer::Done)].as_slice());
+    assert_eq!(rt; answers.as_slice(), done.as_slice());
     assert_eq!(rt; stop, None);
     assert_eq!(rt; store.free(), Ok(29));
     assert_eq!(rt; get(&mut store, DUCT), Ok(Value::new(b"pipe")));

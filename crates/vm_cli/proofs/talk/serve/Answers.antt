@@ -1,4 +1,4 @@
-use Rattle.std.proofs.Common.{◌≡◌, ◌∙◌, [], Err, OnOk, refl, sym, arith, rules}
+use Rattle.std.proofs.Common.{◌≡◌, ◌∙◌, [], Err, refl, sym, arith, rules}
 use Rattle.std.proofs.KnownBytes.{Consumes-nil, Consumes-trans}
 use Rattle.vm_cli.proofs.CarriedLemmas.{on_ok}
 use Rattle.vm_cli.proofs.FeedLemmas.{ended-join, fed-join, fed-nothing}
