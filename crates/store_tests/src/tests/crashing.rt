@@ -1,5 +1,9 @@
 //! A crash in a command, and a device that fails in one: what is shown afterwards.
-use super::{DUCT, bytes_of, commit, expect, get, open_on, put, record_on, slot_bytes};
+use super::commands::new;
+use super::{
+    DUCT, bytes_of, commit, duct_disk, every_block_filled, expect, get, get_in, open_on, put,
+    record_on, slot_bytes,
+};
 use std::alloc::Global;
 use std::test::Fail;
 use vm_disk::{FuseDisk, MemDisk};
@@ -109,6 +113,37 @@ fn put_that_is_not_committed_is_gone_after_a_crash(rt: HostRuntime) -> Result<()
         expect(&rt, &answers);
         let left = crashed(store, &[(35, [byte; 4096])]);
         assert_eq!(rt; record_on(rt.alloc(), left)?, Value::new(b"duct"));
+    }
+    Ok(())
+}
+
+// The Puts write the blocks 35 and 36. The crash takes other bytes into both.
+#[test]
+fn crash_after_a_closing_shows_what_was_committed(rt: HostRuntime) -> Result<(), Fail> {
+    for byte in [0, 0x41, 0xFF] {
+        let mut store = open_on(rt.alloc(), duct_disk(rt.alloc())?)?;
+        let answers = [
+            (put(&mut store, DUCT, b"pipe"), Ok(Answer::Done)),
+            (new(&mut store, b"spur", b"top"), Ok(Answer::Done)),
+            (put(&mut store, SECOND, b"x"), Ok(Answer::Done)),
+        ];
+        expect(&rt, &answers);
+        let disk = store.close();
+        for n in 0..64 {
+            assert_eq!(rt; disk.is_dirty(n), n == 35 || n == 36, "block {n}");
+        }
+        let left = disk.crash(&every_block_filled(rt.alloc(), byte)?);
+        let mut store = open_on(rt.alloc(), left)?;
+        let found = [
+            (get(&mut store, DUCT), Ok(Value::new(b"duct"))),
+            (get(&mut store, SECOND), Ok(None)),
+            (
+                get_in(&mut store, b"spur", DUCT),
+                Err(Refusal::NoSuchAlternative),
+            ),
+        ];
+        let _disk = store.close();
+        expect(&rt, &found);
     }
     Ok(())
 }

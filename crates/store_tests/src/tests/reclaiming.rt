@@ -1,7 +1,7 @@
 //! Blocks that no version needs.
 use super::commands::new;
 use super::removing::remove;
-use super::{DUCT, commit, duct_disk, expect, fresh_store, get, open_on, put};
+use super::{DUCT, commit, duct_disk, expect, fresh_store, get, get_in, list_of, open_on, put};
 use std::alloc::Global;
 use std::test::Fail;
 use vm_disk::{Disk, FuseDisk, MemDisk};
@@ -35,6 +35,39 @@ fn reclaim_frees_what_no_version_needs(rt: HostRuntime) -> Result<(), Fail> {
     expect(&rt, &[first, committed, second]);
     expect(&rt, &[opened, taken, freed, kept, freed_again]);
     assert_eq!(rt; get(&mut store, DUCT), Ok(Value::new(b"tube")));
+    let _disk = store.close();
+    Ok(())
+}
+
+// The Put takes one of thirty blocks. A new alternative shares its parent's, and what is refused takes none.
+#[test]
+fn what_is_refused_takes_no_block(rt: HostRuntime) -> Result<(), Fail> {
+    let mut store = fresh_store(rt.alloc())?;
+    let answers = [
+        (put(&mut store, DUCT, b"duct"), Ok(Answer::Done)),
+        (new(&mut store, b"a", b"top"), Ok(Answer::Done)),
+    ];
+    let made = (store.free(), Ok(29));
+    let refused = [
+        (
+            new(&mut store, b"a", b"top"),
+            Err(Refusal::AlternativeExists),
+        ),
+        (
+            new(&mut store, b"b", b"nope"),
+            Err(Refusal::NoSuchAlternative),
+        ),
+    ];
+    let after_new = (store.free(), Ok(29));
+    let found = get_in(&mut store, b"nope", DUCT);
+    let after_get = (store.free(), Ok(29));
+    let listed = list_of(rt.alloc(), &mut store, b"nope").err();
+    let after_list = (store.free(), Ok(29));
+    expect(&rt, &answers);
+    expect(&rt, &refused);
+    assert_eq!(rt; found, Err(Refusal::NoSuchAlternative));
+    assert_eq!(rt; listed, Some(Refusal::NoSuchAlternative));
+    expect(&rt, &[made, after_new, after_get, after_list]);
     let _disk = store.close();
     Ok(())
 }
