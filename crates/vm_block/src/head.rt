@@ -6,8 +6,10 @@ ghost use Rattle.vm_block.specs.Head.{IsLeafHead, IsNodeHead};
 use crate::node::is_in_range;
 use byteorder::{ByteOrder, LittleEndian};
 
-/// The letters LEAF as a number, and the letters NODE.
+/// The letters LEAF as a number.
 const LEAF: u32 = 0x4641_454C;
+
+/// The letters NODE as a number.
 const NODE: u32 = 0x4544_4F4E;
 
 /// The first sixteen bytes of a block.

@@ -3,8 +3,10 @@
 //!
 //! It stands on `vm_disk`, `vm_alloc` and `vm_block`. Its one promise: the new root has the map
 //! changed at one key, and at no moment has a block that was held other bytes than before.
-//! A descent goes by the bytes of inner blocks, and a change of one child is made in them; `get` and
-//! `put` decode a block only where it splits.
+//! A descent goes by the bytes of blocks. It compares the head and the first key of each with what
+//! stands above it, before any block is taken, and a block that differs there is refused and never
+//! copied. A change of one child is made in the bytes; `get` and `put` decode no block but a leaf
+//! that splits.
 #![tactic(auto)]
 
 mod getting;

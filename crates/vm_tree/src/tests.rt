@@ -418,7 +418,10 @@ fn refuses_another_leaf_in_the_place_of_a_leaf(rt: HostRuntime) -> Result<(), Fa
 
     // The leaf as it was before record 10 came, and after it went.
     let mut older = [0; 4096];
-    write_leaf(&[(key(11), value(b'v')), (key(12), value(b'v'))], &mut older);
+    write_leaf(
+        &[(key(11), value(b'v')), (key(12), value(b'v'))],
+        &mut older,
+    );
     write_in(&mut map, 36, &older)?;
     assert!(rt; is_refused(&mut map, 36)?);
     Ok(())
@@ -492,7 +495,11 @@ fn splits_a_full_inner_block_in_129_and_128(rt: HostRuntime) -> Result<(), Fail>
             low: key(low),
             block: child,
         };
-        assert_eq!(rt; child_at(&mut map.disk, block, i)?, Some(due), "child {i} of {block}");
+        assert_eq!(rt;
+            child_at(&mut map.disk, block, i)?,
+            Some(due),
+            "child {i} of {block}"
+        );
     }
     Ok(())
 }
@@ -506,7 +513,13 @@ fn copies_a_root_of_one_child(rt: HostRuntime) -> Result<(), Fail> {
     assert_eq!(rt; map.root.block, 37);
     assert_eq!(rt; map.root.level, 1);
     assert_eq!(rt; count_in_node(&mut map.disk, 37)?, 1);
-    assert_eq!(rt; child_at(&mut map.disk, 37, 0)?, Some(Child { low: key(0), block: 36 }));
+    assert_eq!(rt;
+        child_at(&mut map.disk, 37, 0)?,
+        Some(Child {
+            low: key(0),
+            block: 36
+        })
+    );
     assert_eq!(rt; count_in_leaf(&mut map.disk, 36)?, 16);
     assert!(rt; get_from(&mut map, 2)? == Some(value(b'w')));
     Ok(())
