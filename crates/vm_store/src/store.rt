@@ -86,7 +86,7 @@ impl<D: Disk> Store<D> {
         ensures unchanged { IfErr result (λ refusal. IsEarly refusal → IsSameButDisk self.old self.new) }
         ensures memory { result ≡ Err Refusal.Memory → IsMerge command.now }
 
-        // For these commands no device call is made, and no block is taken.
+        // To make, drop or go back to alternatives and checkpoints takes no device call and no block.
         ensures blocks { ChangesEntriesAlone command.now → (disk_of self.new ≡ disk_of self.old) × (held_of self.new ≡ held_of self.old) }
 
         // The answer is the model's, or one that the device, or want of blocks or memory forces.
