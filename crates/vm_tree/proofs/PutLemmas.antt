@@ -1,9 +1,9 @@
 -- What a Put under a block answers, from what it answers under the chosen child.
-use Rattle.std.proofs.Common.{◌≡◌, ◌↔◌, ℕ, suc, ◌+◌, ◌-◌, ◌<◌, ◌≤◌, true, false, List, ◌++◌, length, get_or, take, drop, Result, Ok, Err, IfOk, refl, sym, ap, ◌∙◌, subst, arith, inl, inr, length-append, length-drop, length-take-le, take-append-drop}
+use Rattle.std.proofs.Common.{◌≡◌, ◌≢◌, ◌↔◌, ℕ, None, suc, ◌+◌, ◌-◌, ◌<◌, ◌≤◌, true, false, List, ◌++◌, length, get_or, take, drop, Result, Ok, Err, IfOk, refl, sym, ap, ◌∙◌, subst, arith, inl, inr, length-append, length-drop, length-take-le, take-append-drop}
 use Rattle.std.specs.List.{AllByRecursion}
 use Rattle.std.proofs.lemmas.Bool.{cases_Bool, false≢true}
 use Rattle.std.proofs.lemmas.List.{length-map}
-use Rattle.vm_types.specs.Places.{place, RisesFrom, places, with_record}
+use Rattle.vm_types.specs.Places.{place, RisesFrom, places, value_at, with_record}
 use Rattle.vm_disk.specs.Disk.{Contents, block, Medium}
 use Rattle.vm_block.specs.Leaf.{Record}
 use Rattle.vm_block.specs.Node.{ChildFits, lows}
@@ -24,8 +24,13 @@ use Rattle.vm_tree.proofs.Descent.{Opened, opens}
 use Rattle.vm_tree.proofs.FullPaths.{leaf_splits, splits_leaf, node_splits, splits_node}
 use Rattle.vm_tree.proofs.Growing.{made_join, made_moved}
 use Rattle.vm_tree.proofs.Placing.{with_rises}
-use Rattle.vm_tree.proofs.Rising.{with_between}
+use Rattle.vm_tree.proofs.Rising.{value_between, with_between}
 use Rattle.vm_tree.proofs.Splitting.{children_in}
+
+-- where a record stands at the place, no block is split
+pub not_split : (copied : Copied) (sizes : Sizes) (x : Contents) (p l b : ℕ) (rs : List Record) → (is_split copied ≡ true → Splits sizes x p l b rs) → value_at p rs ≢ None → is_split copied ≡ false
+not_split copied sizes x p l b rs splits there =
+    elim (cases_Bool (is_split copied)) [ inl two ↦ absurd (there (splits two).absent) | inr one ↦ one ]
 
 -- what was written is answered, where it was split just where it should
 pub below_answers : (result : Result Copied TreeFault) (splits over : Type 0) (Q : Copied → Type 0) (P : List Child → Type 0)
@@ -117,6 +122,17 @@ module _ (sizes : Sizes) (old mid : Medium) (limit level b : ℕ) (r : Record) (
   asked_of c result P M is below =
       subst (λ (e : Child). (sub : List Record) (own : List ℕ) → Subtree sizes mid.contents limit (level - 1) e.block sub own → Begins e.low sub → RisesFrom 0 (places sub)
       → PutsBelow result (Splits sizes mid.contents (place r.0) (level - 1) e.block sub) (λ ds. AllByRecursion P own → M ds (with_record r sub))) (sym is) below
+
+  -- where a record stands at the place, it stands under the chosen child
+  pub there_below : (c : Child) (A : Type 0) → get_or cs i d ≡ c → value_at (place r.0) rs ≢ None
+      → ((sub : List Record) (own : List ℕ) → Subtree sizes mid.contents limit (level - 1) c.block sub own → Begins c.low sub → RisesFrom 0 (places sub) → value_at (place r.0) sub ≢ None → A) → A
+  there_below c A is there below =
+      let p = place r.0 in
+      let at = opens sizes old.contents limit level b p rs bs cs i d above tree rises only chosen in
+      let s = at.way.split in
+      let child = subst (λ (m : Medium). Subtree sizes m.contents limit (level - 1) (get_or cs i d).block s.sub s.own) (sym still) s.child in
+      let value = ap (value_at p) s.records ∙ value_between p s.before s.sub s.after at.way.below at.way.above in
+      below s.sub s.own (subst (λ (e : Child). Subtree sizes mid.contents limit (level - 1) e.block s.sub s.own) is child) (subst (λ (e : Child). Begins e.low s.sub) is s.begins) at.way.rising (λ none. there (value ∙ none))
 
   -- an inner block, with the chosen child written anew
   pub node_put : (P0 P1 P2 : ℕ → Type 0) (x2 x3 : Contents) (other : ℕ) (copied : Copied) (lent : List Child) (result : Result Copied TreeFault) (Q : Copied → Type 0)

@@ -1,8 +1,8 @@
 //! A record more, or another value of a key.
-ghost use Rattle.std.specs.Prelude.{◌≡◌, ◌≢◌, ◌↔◌, ℕ, ◌+◌, ◌-◌, ◌*◌, ◌<◌, ◌≤◌, ◌++◌, ◌∷◌, Bool, true, false, List, [], length, take, drop, IfOk, IfErr, MatchResult};
+ghost use Rattle.std.specs.Prelude.{◌≡◌, ◌≢◌, ◌↔◌, ℕ, ◌+◌, ◌-◌, ◌*◌, ◌<◌, ◌≤◌, ◌++◌, ◌∷◌, Bool, true, false, List, [], None, length, take, drop, IfOk, IfErr, MatchResult};
 ghost use Rattle.std.specs.List.{AllByRecursion};
-ghost use Rattle.vm_types.specs.Map.{Map, with_value};
-ghost use Rattle.vm_types.specs.Places.{KeyFits, RisesFrom, place, places, with_record};
+ghost use Rattle.vm_types.specs.Map.{Map, get, with_value};
+ghost use Rattle.vm_types.specs.Places.{KeyFits, RisesFrom, place, places, value_at, with_record};
 ghost use Rattle.vm_disk.specs.Disk.{Goes};
 ghost use Rattle.vm_disk.specs.Moments.{Throughout, OnlyReads, Spares};
 ghost use Rattle.vm_alloc.specs.Held.{IsHeld, HoldsMore, free_count};
@@ -88,6 +88,7 @@ fn write_replaced<D: Disk, const FAN: usize>(
     ensures split { IfOk result (λ done. is_split done ≡ true → (is_split copied ≡ true) × (FAN ≤ way.count)) }
     ensures still { HoldsMore held.old held.new }
     ensures one { way.count < FAN → free_count held.old ≤ free_count held.new + 1 }
+    ensures alone { is_split copied ≡ false → free_count held.old ≤ free_count held.new + 1 }
     ensures single { IfOk result (λ done. is_split done ≡ false → free_count held.old ≤ free_count held.new + 1) }
     ensures taken { free_count held.old ≤ free_count held.new + 2 }
     ensures moments { (D.state disk.new).honest ≡ true
@@ -179,6 +180,9 @@ fn put_in_leaf<D: Disk, const LEAF: usize>(
     ensures moments { (D.state disk.new).honest ≡ true
         → Throughout (D.state disk.old) (D.state disk.new) (Spares (is_free held.old) (D.state disk.old).now) }
     ensures path { (D.state disk.new).honest ≡ true → IfOk result (λ copied. LeadsDown (D.state disk.old).now.contents (length held.old) 0 top.block top.low) }
+    ensures replaced { (D.state disk.new).honest ≡ true → (fan levels : ℕ) (rs : List Record) (bs : List ℕ)
+        → Subtree (sizes_of LEAF fan levels) (D.state disk.old).now.contents (length held.old) 0 top.block rs bs → Begins top.low rs → RisesFrom 0 (places rs)
+        → value_at (place key) rs ≢ None → IfOk result (λ copied. free_count held.old ≤ free_count held.new + 1) }
     ensures put { (D.state disk.new).honest ≡ true → (fan levels : ℕ) (rs : List Record) (bs : List ℕ)
         → Subtree (sizes_of LEAF fan levels) (D.state disk.old).now.contents (length held.old) 0 top.block rs bs → Begins top.low rs → RisesFrom 0 (places rs)
         → PutsBelow result (Splits (sizes_of LEAF fan levels) (D.state disk.old).now.contents (place key) 0 top.block rs)
@@ -232,6 +236,9 @@ fn put_below<D: Disk, const LEAF: usize, const FAN: usize>(
     ensures moments { (D.state disk.new).honest ≡ true
         → Throughout (D.state disk.old) (D.state disk.new) (Spares (is_free held.old) (D.state disk.old).now) }
     ensures path { (D.state disk.new).honest ≡ true → IfOk result (λ copied. LeadsDown (D.state disk.old).now.contents (length held.old) level top.block top.low) }
+    ensures replaced { (D.state disk.new).honest ≡ true → (levels : ℕ) (rs : List Record) (bs : List ℕ)
+        → Subtree (sizes_of LEAF FAN levels) (D.state disk.old).now.contents (length held.old) level top.block rs bs → Begins top.low rs → RisesFrom 0 (places rs)
+        → value_at (place key) rs ≢ None → IfOk result (λ copied. free_count held.old ≤ free_count held.new + (level + 1)) }
     ensures put { (D.state disk.new).honest ≡ true → (levels : ℕ) (rs : List Record) (bs : List ℕ)
         → Subtree (sizes_of LEAF FAN levels) (D.state disk.old).now.contents (length held.old) level top.block rs bs → Begins top.low rs → RisesFrom 0 (places rs)
         → PutsBelow result (Splits (sizes_of LEAF FAN levels) (D.state disk.old).now.contents (place key) level top.block rs)
@@ -308,6 +315,11 @@ pub fn put<D: Disk, const LEAF: usize, const FAN: usize, const LEVELS: usize>(
     ensures path_taken { free_count held.old ≤ free_count held.new + (2 * root.level + 3) }
     ensures as_high { IfOk result (λ r. r.level ≡ root.level → free_count held.old ≤ free_count held.new + (2 * root.level + 1)) }
     ensures first_taken { root.block ≡ 0 → free_count held.old ≤ free_count held.new + 1 }
+
+    // On a tree that has the key it takes one block a level.
+    ensures replaced { (D.state disk.new).honest ≡ true → (m : Map) (bs : List ℕ)
+        → IsRooted (sizes_of LEAF FAN LEVELS) (D.state disk.old).now.contents (length held.old) root m bs → get m key ≢ None
+        → IfOk result (λ r. free_count held.old ≤ free_count held.new + (root.level + 1)) }
 
     // A block is found damaged before any is taken or written.
     ensures damaged { (b : ℕ) → result ≡ Err (TreeFault.Damaged b) → held.new ≡ held.old }

@@ -25,7 +25,8 @@ fn is_data(blocks: u32, block: u32) -> bool
     (FIRST_DATA..blocks).contains(&block)
 }
 
-/// Reads a block for data, which is to begin with this key, into these bytes.
+/// Reads this child's block, which is to be for data and to begin with the child's lowest key, into
+/// these bytes.
 pub(crate) fn block_at<D: Disk>(
     disk: &mut D,
     blocks: u32,
@@ -53,8 +54,8 @@ pub(crate) fn block_at<D: Disk>(
     }
 }
 
-/// Reads an inner block of this level, with MOST children at most, into these bytes, and tells
-/// where a descent to the key goes in it.
+/// Reads this child's block, which is to be an inner block of this level with MOST children at
+/// most, into these bytes, and tells where a descent to the key goes in it.
 pub(crate) fn way_at<D: Disk, const MOST: usize>(
     disk: &mut D,
     blocks: u32,
@@ -83,7 +84,7 @@ pub(crate) fn way_at<D: Disk, const MOST: usize>(
     }
 }
 
-/// The records of a leaf that is to begin with this key, which are MOST at most.
+/// The records of this child's block, which is to be a leaf of MOST records at most.
 pub(crate) fn leaf_under<D: Disk, const MOST: usize>(
     disk: &mut D,
     blocks: u32,
@@ -109,8 +110,8 @@ pub(crate) fn leaf_under<D: Disk, const MOST: usize>(
     }
 }
 
-/// The children of an inner block of this level that is to begin with this key, which are MOST at
-/// most.
+/// The children of this child's block, which is to be an inner block of this level with MOST
+/// children at most.
 pub(crate) fn node_under<D: Disk, const MOST: usize>(
     disk: &mut D,
     blocks: u32,

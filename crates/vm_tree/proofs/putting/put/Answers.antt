@@ -1,6 +1,6 @@
-use Rattle.std.proofs.Common.{◌≡◌, ◌∙◌, ◌+◌, ◌≤◌, ◌<◌, Err, IfOk, true, length, ap, sym, subst, inl, inr, arith}
+use Rattle.std.proofs.Common.{◌≡◌, ◌∙◌, ◌+◌, ◌≤◌, ◌<◌, Err, IfOk, true, length, ap, sym, subst, refl, inl, inr, arith}
 use Rattle.std.specs.List.{AllByRecursion}
-use Rattle.std.proofs.lemmas.Bool.{ltb-false, ltb-true}
+use Rattle.std.proofs.lemmas.Bool.{false≢true, ltb-false, ltb-true}
 use Rattle.vm_types.specs.Map.{Map, with_value}
 use Rattle.vm_types.specs.Places.{place}
 use Rattle.vm_alloc.specs.Held.{IsHeld}
@@ -9,6 +9,8 @@ use Rattle.vm_tree.specs.Making.{Splits, is_split}
 use Rattle.vm_tree.specs.declared.root.Root.{Root}
 use Rattle.vm_tree.specs.Root.{Grown, sizes_of}
 use Rattle.vm_tree.proofs.Descent.{subtree_top}
+use Rattle.vm_tree.proofs.PutLemmas.{not_split}
+use Rattle.vm_tree.proofs.RootRemoval.{value_there}
 use Rattle.vm_tree.proofs.RootLemmas.{splits_lacks, root_one, root_two, fault_puts, first_puts}
 use Rattle.vm_tree.proofs.Sparing.{spares_then}
 use Rattle.vm_tree.proofs.Leading.{if_ok_is}
@@ -72,3 +74,19 @@ returns-in-Err-clause-put g c honest m bs (inr top) =
 
 pub returns-then-root-eq0-clause-path : goal.returns-then-root-eq0-clause-path
 returns-then-root-eq0-clause-path g c honest = if_ok_is c.put_first.result _ (λ some. absurd (omega (arith, some, c.if-root-eq0.true)))
+
+pub returns-then-root-eq0-clause-replaced : goal.returns-then-root-eq0-clause-replaced
+returns-then-root-eq0-clause-replaced g c honest m bs rooted there = if_ok_is c.put_first.result _ (omega (arith, c.put_first.ensures.taken))
+
+pub returns-in-Ok-One-clause-replaced : goal.returns-in-Ok-One-clause-replaced
+returns-in-Ok-One-clause-replaced g c honest m bs (inl bare) there = absurd (c.if-root-eq0.false bare.none)
+returns-in-Ok-One-clause-replaced g c honest m bs (inr top) there =
+    let value = value_there _ _ _ c.args.root m bs c.args.key (place c.args.key) refl c.put_below.ensures.fits top in
+    c.in-Ok-One.ensures.replaced honest g.row.LEVELS m bs top.subtree top.lowest top.rising (λ none. there (sym value ∙ none))
+
+pub returns-in-Ok-clause-replaced : goal.returns-in-Ok-clause-replaced
+returns-in-Ok-clause-replaced g c honest m bs (inl bare) there = absurd (c.if-root-eq0.false bare.none)
+returns-in-Ok-clause-replaced g c honest m bs (inr top) there =
+    let value = value_there _ _ _ c.args.root m bs c.args.key (place c.args.key) refl c.put_below.ensures.fits top in
+    let one = not_split c.in-Ok-Two.field-0 _ _ (place c.args.key) c.args.root.level c.args.root.block m (c.in-Ok-Two.ensures.put (c.write_node_block.ensures.any.earlier honest) g.row.LEVELS m bs top.subtree top.lowest top.rising).1.0 (λ none. there (sym value ∙ none)) in
+    absurd (false≢true (sym one ∙ ap is_split c.in-Ok-Two.field-0-is))

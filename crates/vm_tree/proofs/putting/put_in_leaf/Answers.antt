@@ -99,3 +99,13 @@ returns-in-Full-2-clause-path g c honest =
 pub returns-in-Full-2-clause-reads : goal.returns-in-Full-2-clause-reads
 returns-in-Full-2-clause-reads g c honest b is =
     reads_then _ _ _ (c.in-Ok.ensures.reads (c.split_leaf.ensures.any.earlier honest)) (c.split_leaf.ensures.reads honest b is)
+
+pub returns-in-Full-2-clause-replaced : goal.returns-in-Full-2-clause-replaced
+returns-in-Full-2-clause-replaced g c honest fan levels rs bs tree begins rises there =
+    let sizes = sizes_of g.row.LEAF fan levels in
+    let r : Record = (c.args.key, c.args.value.now) in
+    let x = (g.D.Disk.state c.args.disk.now).now.contents in
+    let limit = length c.args.held.now in
+    let at = leaf_opens sizes x limit 0 c.args.top.block rs bs refl tree in
+    let leaf = c.in-Ok.ensures.leaf (c.split_leaf.ensures.any.earlier honest) rs (leaf_there sizes x limit _ 0 c.args.top.block rs bs refl c.blocks-2.ensures.count tree) begins in
+    absurd (there (leaf_splits sizes x limit c.args.top.block r rs bs at rises (c.in-Full-2.ensures.only rs leaf at.few).1).absent)
