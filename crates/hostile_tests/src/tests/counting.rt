@@ -1,0 +1,67 @@
+//! A memory disk that counts how often each of its blocks is read.
+ghost use Rattle.std.specs.Prelude.{◌≡◌, ◌<◌, true};
+
+use super::{BLOCKS, Wrong};
+use std::alloc::Global;
+use vm_disk::{DeviceFault, Disk, MemDisk};
+
+#[derive(Drop)]
+pub struct CountingDisk {
+    inner: MemDisk,
+    reads: Vec<u32>,
+}
+
+impl CountingDisk {
+    pub(super) fn new(alloc: Global, inner: MemDisk) -> Result<CountingDisk, Wrong> {
+        Ok(CountingDisk {
+            inner,
+            reads: Vec::from_elem(alloc, 0, BLOCKS as usize)?,
+        })
+    }
+
+    /// Begins to count anew.
+    pub(super) fn start(&mut self) {
+        self.reads.fill(0);
+    }
+
+    /// How often the block was read that was read most often.
+    pub(super) fn most(&self) -> u32 {
+        self.reads.iter().copied().max().unwrap_or(0)
+    }
+
+    /// How many blocks were read.
+    pub(super) fn count(&self) -> usize {
+        self.reads.iter().filter(|reads| **reads > 0).count()
+    }
+}
+
+impl Disk for CountingDisk {
+    ghost use Rattle.std.specs.Prelude.{refl};
+    ghost use Rattle.vm_disk.specs.Memory.{memory_state};
+
+    ghost state = { λ disk. memory_state disk.inner };
+
+    ghost whole = { λ disk honest. refl };
+
+    ghost small = { λ disk. disk.inner.platter.small };
+
+    fn blocks(&self) -> u32 {
+        self.inner.blocks()
+    }
+
+    fn read(&mut self, n: u32, into: &mut [u8; 4096]) -> Result<(), DeviceFault> {
+        let at = n as usize;
+        if at < self.reads.len() {
+            self.reads[at] = self.reads[at].saturating_add(1);
+        }
+        self.inner.read(n, into)
+    }
+
+    fn write(&mut self, n: u32, from: &[u8; 4096]) -> Result<(), DeviceFault> {
+        self.inner.write(n, from)
+    }
+
+    fn sync(&mut self) -> Result<(), DeviceFault> {
+        self.inner.sync()
+    }
+}

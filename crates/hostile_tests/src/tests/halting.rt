@@ -1,0 +1,139 @@
+//! A run that is stopped at one device call after another, and what a crash may leave there.
+use super::Wrong;
+use super::image::Image;
+use super::layers::Layer;
+use super::running::{Due, Left, NEVER, Scene, run};
+use std::alloc::Global;
+use vm_disk::MemDisk;
+
+/// What a block holds that a run has torn, and that no store writes.
+const TORN: [u8; 4096] = [0x5A; 4096];
+
+/// What a crash leaves in each block that is not synced: what it held at the last sync that succeeded,
+/// what was handed to its last write, or the same byte all over.
+#[derive(Clone, Copy, Debug, PartialEq, Eq)]
+pub enum Fill {
+    Synced,
+    Written,
+    Byte(u8),
+}
+
+/// All of them.
+pub const FILLS: [Fill; 4] = [Fill::Synced, Fill::Written, Fill::Byte(0), Fill::Byte(0xFF)];
+
+/// What is left in the blocks that are not synced, and in the one whose write is stopped.
+#[derive(Drop)]
+pub struct Filling {
+    pub torn: [u8; 4096],
+    pub blocks: Vec<(u32, [u8; 4096])>,
+}
+
+/// The end of a run, to look at.
+#[derive(Drop)]
+struct Moment {
+    image: Image,
+    disk: MemDisk,
+    due: Option<Due>,
+}
+
+/// A scene that is stopped after so many calls, what its disk held at the last sync before, and the
+/// same a call later.
+#[derive(Drop)]
+pub struct Halt {
+    pub passes: u32,
+    pub synced: Image,
+    here: Moment,
+    later: Moment,
+}
+
+fn stopped_at<D: Layer>(alloc: Global, scene: &Scene, passes: u32) -> Result<Moment, Wrong> {
+    let Left { mut disk, due, .. } = run::<D>(alloc, scene, passes, &TORN)?;
+    Ok(Moment {
+        image: Image::of(alloc, &mut disk)?,
+        disk,
+        due,
+    })
+}
+
+impl Halt {
+    /// A scene that is stopped after so many calls, where its disk held this at the last sync.
+    pub(super) fn at<D: Layer>(
+        alloc: Global,
+        scene: &Scene,
+        passes: u32,
+        synced: Image,
+    ) -> Result<Halt, Wrong> {
+        Ok(Halt {
+            passes,
+            synced,
+            here: stopped_at::<D>(alloc, scene, passes)?,
+            later: stopped_at::<D>(alloc, scene, passes.saturating_add(1))?,
+        })
+    }
+
+    /// What a crash may show, or nothing where all calls have passed.
+    pub(super) fn due(&self) -> Option<Due> {
+        self.here.due
+    }
+
+    // Whether the call that is stopped is a sync that makes blocks last.
+    fn is_sync(&self) -> bool {
+        (0..super::BLOCKS).any(|n| self.here.disk.is_dirty(n) && !self.later.disk.is_dirty(n))
+    }
+
+    /// The same, stopped a call later.
+    pub(super) fn next<D: Layer>(self, alloc: Global, scene: &Scene) -> Result<Halt, Wrong> {
+        let is_sync = self.is_sync();
+        let Halt {
+            passes,
+            synced,
+            here,
+            later,
+        } = self;
+        let passes = passes.saturating_add(1);
+        Ok(Halt {
+            passes,
+            synced: if is_sync { here.image } else { synced },
+            here: later,
+            later: stopped_at::<D>(alloc, scene, passes.saturating_add(1))?,
+        })
+    }
+
+    // What is left in this block.
+    fn bytes(&self, n: u32, fill: Fill) -> [u8; 4096] {
+        match fill {
+            Fill::Synced => self.synced.block(n),
+            Fill::Byte(byte) => [byte; 4096],
+            Fill::Written if self.here.image.block(n) == TORN => self.later.image.block(n),
+            Fill::Written => self.here.image.block(n),
+        }
+    }
+
+    /// What is left in all blocks that are not synced.
+    pub(super) fn filling(&self, alloc: Global, fill: Fill) -> Result<Filling, Wrong> {
+        let mut blocks = Vec::new(alloc);
+        let mut torn = [0; 4096];
+        for n in 0..super::BLOCKS {
+            if self.here.disk.is_dirty(n) {
+                let bytes = self.bytes(n, fill);
+                blocks.push((n, bytes)).map_err(|_| Wrong::Memory)?;
+                if self.here.image.block(n) == TORN {
+                    torn = bytes;
+                }
+            }
+        }
+        Ok(Filling { torn, blocks })
+    }
+
+    /// The disk after a crash at the call that is stopped.
+    pub(super) fn crash<D: Layer>(
+        &self,
+        alloc: Global,
+        scene: &Scene,
+        fill: Fill,
+    ) -> Result<MemDisk, Wrong> {
+        let filling = self.filling(alloc, fill)?;
+        let left = run::<D>(alloc, scene, self.passes.min(NEVER), &filling.torn)?;
+        Ok(left.disk.crash(&filling.blocks))
+    }
+}

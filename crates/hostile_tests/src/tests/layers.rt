@@ -1,0 +1,24 @@
+//! What stands between a store and the device that fails.
+use std::alloc::{AllocError, Global};
+use vm_disk::{Disk, FuseDisk, MemDisk};
+
+/// A device that fails one call, over one that stops.
+pub type Device = FuseDisk<FuseDisk<MemDisk>>;
+
+/// A disk for a store, over such a device.
+pub trait Layer: Disk + Drop {
+    fn over(alloc: Global, device: Device) -> Result<Self, AllocError>;
+
+    fn below(self) -> Device;
+}
+
+/// Nothing between them.
+impl Layer for Device {
+    fn over(_: Global, device: Device) -> Result<Device, AllocError> {
+        Ok(device)
+    }
+
+    fn below(self) -> Device {
+        self
+    }
+}

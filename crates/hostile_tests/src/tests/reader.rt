@@ -1,0 +1,314 @@
+//! A second reader of stores, written from the description of their blocks alone: slow, and with nothing
+//! in common with what opens them.
+use super::BLOCKS;
+use super::image::Image;
+use std::alloc::Global;
+use vm_types::{Key, Value};
+
+/// The first block for data.
+const FIRST_DATA: u32 = 34;
+
+/// The bytes of a name, zero bytes behind it, and its length.
+type Label = [u8; 33];
+
+/// An entry of a slot.
+#[derive(Clone, Copy)]
+struct Found {
+    tag: u8,
+    name: Label,
+    owner: Label,
+    current: u32,
+    base: u32,
+}
+
+/// A block of a tree: its lowest key, where that is known, and a key above all of its keys.
+#[derive(Clone, Copy)]
+struct Part {
+    block: u32,
+    low: Option<Key>,
+    above: Option<Key>,
+}
+
+/// What a store's disk holds: the blocks of its trees, each once, and the records of `top`.
+#[derive(Drop)]
+pub struct Content {
+    pub blocks: Vec<u32>,
+    pub records: Vec<(Key, Value)>,
+}
+
+fn byte(bytes: &[u8; 4096], at: usize) -> u8 {
+    bytes.get(at).copied().unwrap_or(0xFF)
+}
+
+// The number in so many bytes.
+fn number(bytes: &[u8; 4096], at: usize, width: usize) -> u64 {
+    let mut number: u64 = 0;
+    for i in 0..width {
+        let place = at.wrapping_add(width).wrapping_sub(i).wrapping_sub(1);
+        number = number
+            .wrapping_mul(256)
+            .wrapping_add(u64::from(byte(bytes, place)));
+    }
+    number
+}
+
+fn word(bytes: &[u8; 4096], at: usize) -> u32 {
+    u32::try_from(number(bytes, at, 4)).unwrap_or(u32::MAX)
+}
+
+fn are_zero(bytes: &[u8; 4096], from: usize, to: usize) -> bool {
+    (from..to).all(|at| byte(bytes, at) == 0)
+}
+
+fn starts_with(bytes: &[u8; 4096], start: &[u8]) -> bool {
+    start
+        .iter()
+        .enumerate()
+        .all(|(i, due)| byte(bytes, i) == *due)
+}
+
+fn key_at(bytes: &[u8; 4096], at: usize) -> Key {
+    Key {
+        table: u16::try_from(number(bytes, at, 2)).unwrap_or(u16::MAX),
+        number: number(bytes, at.wrapping_add(2), 8),
+    }
+}
+
+// Whether the keys rise that stand at each so many bytes from byte 16 on, lie below the bound, and
+// begin with the lowest.
+fn have_keys(bytes: &[u8; 4096], count: usize, width: usize, part: Part) -> bool {
+    let mut before: Option<Key> = None;
+    for i in 0..count {
+        let key = key_at(bytes, i.wrapping_mul(width).wrapping_add(16));
+        let rises = before.is_none_or(|before| before < key);
+        let is_low = i > 0 || part.low.is_none_or(|low| low == key);
+        if !rises || !is_low || !part.above.is_none_or(|above| key < above) {
+            return false;
+        }
+        before = Some(key);
+    }
+    true
+}
+
+// Whether the bytes are a block of a tree of this level, with this many records or children.
+fn is_framed(bytes: &[u8; 4096], level: u32, count: usize, part: Part) -> bool {
+    let (letters, most, width): (&[u8], usize, usize) = if level == 0 {
+        (b"LEAF", 16, 252)
+    } else {
+        (b"NODE", 256, 14)
+    };
+    starts_with(bytes, letters)
+        && word(bytes, 4) == level
+        && count >= 1
+        && count <= most
+        && word(bytes, 12) == 0
+        && are_zero(bytes, count.wrapping_mul(width).wrapping_add(16), 4096)
+        && have_keys(bytes, count, width, part)
+}
+
+// The record that stands at a byte.
+fn record_at(bytes: &[u8; 4096], at: usize) -> Option<(Key, Value)> {
+    let length = number(bytes, at.wrapping_add(10), 2) as usize;
+    let start = at.wrapping_add(12);
+    let end = start.wrapping_add(length);
+    if length > 240 || !are_zero(bytes, end, start.wrapping_add(240)) {
+        return None;
+    }
+    let value = Value::new(bytes.get(start..end)?)?;
+    Some((key_at(bytes, at), value))
+}
+
+// Adds the records of a leaf.
+fn read_records(bytes: &[u8; 4096], count: usize, records: &mut Vec<(Key, Value)>) -> Option<()> {
+    for i in 0..count {
+        let record = record_at(bytes, i.wrapping_mul(252).wrapping_add(16))?;
+        records.push(record).ok()?;
+    }
+    Some(())
+}
+
+// Adds the children of an inner block. Each one's keys lie below the lowest one of the next.
+fn read_children(
+    bytes: &[u8; 4096],
+    count: usize,
+    above: Option<Key>,
+    parts: &mut Vec<Part>,
+) -> Option<()> {
+    for i in 0..count {
+        let at = i.wrapping_mul(14).wrapping_add(16);
+        let next = at.wrapping_add(14);
+        let part = Part {
+            block: word(bytes, at.wrapping_add(10)),
+            low: Some(key_at(bytes, at)),
+            above: if i.wrapping_add(1) < count {
+                Some(key_at(bytes, next))
+            } else {
+                above
+            },
+        };
+        parts.push(part).ok()?;
+    }
+    Some(())
+}
+
+fn add_block(blocks: &mut Vec<u32>, block: u32) -> Option<()> {
+    if !blocks.contains(&block) {
+        blocks.push(block).ok()?;
+    }
+    Some(())
+}
+
+// Reads the blocks of one level. Gives those of the level below.
+fn read_level(
+    alloc: Global,
+    image: &Image,
+    level: u32,
+    parts: &[Part],
+    content: &mut Content,
+) -> Option<Vec<Part>> {
+    let mut below = Vec::new(alloc);
+    for part in parts {
+        if part.block < FIRST_DATA || part.block >= BLOCKS {
+            return None;
+        }
+        let bytes = image.block(part.block);
+        let count = word(&bytes, 8) as usize;
+        if !is_framed(&bytes, level, count, *part) {
+            return None;
+        }
+        add_block(&mut content.blocks, part.block)?;
+        if level == 0 {
+            read_records(&bytes, count, &mut content.records)?;
+        } else {
+            read_children(&bytes, count, part.above, &mut below)?;
+        }
+    }
+    Some(below)
+}
+
+// Reads the tree under a root. Its records are those of the content then.
+fn read_tree(alloc: Global, image: &Image, root: u32, content: &mut Content) -> Option<()> {
+    content.records.clear();
+    if root == 0 {
+        return Some(());
+    }
+    let levels = word(&image.block(root), 4);
+    if levels > 7 {
+        return None;
+    }
+    let mut parts = Vec::new(alloc);
+    let block = root;
+    let (low, above) = (None, None);
+    parts.push(Part { block, low, above }).ok()?;
+    for depth in 0..=levels {
+        parts = read_level(alloc, image, levels.saturating_sub(depth), &parts, content)?;
+    }
+    Some(())
+}
+
+// The name that stands at a byte, where it is none but the empty one.
+fn label_at(bytes: &[u8; 4096], at: usize) -> Option<Label> {
+    let length = byte(bytes, at);
+    let mut label = [0; 33];
+    for (i, place) in label.iter_mut().enumerate() {
+        let byte = byte(bytes, at.wrapping_add(i));
+        let is_letter = byte.is_ascii_alphanumeric() || matches!(byte, b'_' | b'-' | b'.');
+        if i > 0
+            && (if i > length as usize {
+                byte != 0
+            } else {
+                !is_letter
+            })
+        {
+            return None;
+        }
+        *place = byte;
+    }
+    (length <= 32).then_some(label)
+}
+
+// The entry that stands at a byte.
+fn entry_at(bytes: &[u8; 4096], at: usize) -> Option<Found> {
+    let found = Found {
+        tag: byte(bytes, at),
+        name: label_at(bytes, at.wrapping_add(1))?,
+        owner: label_at(bytes, at.wrapping_add(34))?,
+        current: word(bytes, at.wrapping_add(67)),
+        base: word(bytes, at.wrapping_add(71)),
+    };
+    let is_whole = are_zero(bytes, at.wrapping_add(75), at.wrapping_add(128));
+    (is_whole && found.name[0] > 0).then_some(found)
+}
+
+fn label(name: &[u8]) -> Label {
+    let mut label = [0; 33];
+    label[0] = u8::try_from(name.len()).unwrap_or(0);
+    for (place, byte) in label.iter_mut().skip(1).zip(name) {
+        *place = *byte;
+    }
+    label
+}
+
+// Whether an entry may follow these.
+fn fits(found: Found, before: &[Found]) -> bool {
+    let top = label(b"top");
+    if before.is_empty() {
+        return found.tag == b'A' && found.name == top && found.owner[0] == 0 && found.base == 0;
+    }
+    let owned = before
+        .iter()
+        .any(|other| other.tag == b'A' && other.name == found.owner);
+    let is_new = !before.iter().any(|other| {
+        other.tag == found.tag
+            && other.name == found.name
+            && (found.tag == b'A' || other.owner == found.owner)
+    });
+    match found.tag {
+        b'A' => owned && is_new,
+        b'C' => owned && is_new && (found.owner != top || found.base == 0),
+        _ => false,
+    }
+}
+
+// The entries of the slot that is in use.
+fn read_entries(alloc: Global, image: &Image) -> Option<Vec<Found>> {
+    let odd = byte(&image.block(1), 0) % 2 == 1;
+    let first: u32 = if odd { 18 } else { 2 };
+    let head = image.block(first);
+    let count = word(&head, 12);
+    let is_head = starts_with(&head, b"SLOT\x01\0\0\0") && are_zero(&head, 16, 128);
+    if !is_head || word(&head, 8) != BLOCKS || count == 0 || count > 511 {
+        return None;
+    }
+    let mut entries = Vec::new(alloc);
+    for i in 1..=count {
+        let bytes = image.block(first.wrapping_add(i / 32));
+        let found = entry_at(&bytes, (i % 32) as usize * 128)?;
+        if !fits(found, &entries) {
+            return None;
+        }
+        entries.push(found).ok()?;
+    }
+    Some(entries)
+}
+
+fn is_header(bytes: &[u8; 4096]) -> bool {
+    starts_with(bytes, b"ALTSTORE\x01\0\0\0\0\x10\0\0") && are_zero(bytes, 16, 4096)
+}
+
+/// What the store of a disk holds, where it is one of as many blocks as the disk.
+pub(super) fn read_store(alloc: Global, image: &Image) -> Option<Content> {
+    if !is_header(&image.block(0)) {
+        return None;
+    }
+    let mut content = Content {
+        blocks: Vec::new(alloc),
+        records: Vec::new(alloc),
+    };
+    let entries = read_entries(alloc, image)?;
+    for entry in entries.iter().rev() {
+        read_tree(alloc, image, entry.base, &mut content)?;
+        read_tree(alloc, image, entry.current, &mut content)?;
+    }
+    Some(content)
+}
