@@ -25,25 +25,37 @@ NOT_ITEMS = {"let", "use", "mod", "open", "where", "in", "--", "pub", "module", 
 def items(text):
     """The items of a file: name, first and last line."""
     lines = text.split("\n")
-    heads = []
     for number, line in enumerate(lines):
         found = ITEM.match(line)
         if not found or found["name"] in NOT_ITEMS or line.lstrip().startswith("--"):
             continue
         indent = len(found["indent"])
-        if indent > 2 or (indent == 2 and not in_module(lines, number)):
+        if indent and not in_module(lines, number, indent):
             continue
-        heads.append((found["name"], number, indent))
-    for at, (name, first, indent) in enumerate(heads):
-        last = heads[at + 1][1] if at + 1 < len(heads) else len(lines)
-        yield name, first, last
+        yield found["name"], number, end_of(lines, number, indent, found["name"])
 
 
-def in_module(lines, number):
-    """Whether the line stands in a `module`, and not in a record."""
+def end_of(lines, number, indent, name):
+    """Where the item ends: before the next line that stands as far left and is none of its cases."""
+    for at in range(number + 1, len(lines)):
+        line = lines[at]
+        if not line.strip() or len(line) - len(line.lstrip()) > indent:
+            continue
+        if line.split()[0] not in (name, "unfolding", "open"):
+            return at
+    return len(lines)
+
+
+def in_module(lines, number, indent):
+    """Whether the line stands in a `module`, and not in a record or a `where` of another item."""
     for line in reversed(lines[:number]):
-        if line and not line.startswith(" ") and not line.startswith("--"):
-            return line.startswith(("module", "abbrev mutual", "mutual"))
+        depth = len(line) - len(line.lstrip())
+        if line.strip() and depth < indent and not line.lstrip().startswith("--"):
+            if not line.lstrip().startswith(("module", "abbrev mutual", "mutual")):
+                return False
+            indent = depth
+            if not indent:
+                return True
     return False
 
 
