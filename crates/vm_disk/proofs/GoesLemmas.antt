@@ -1,7 +1,7 @@
 -- How what any number of device calls does is carried over one call more.
 use Rattle.std.proofs.Common.{ℕ, ◌<◌, Result, Ok, Err, IsErr, OnErr, refl, sym, ◌∙◌, subst, arith}
 use Rattle.vm_disk.specs.declared.disk.DeviceFault.{DeviceFault}
-use Rattle.vm_disk.specs.Disk.{State, Counts, Goes, NoCalls}
+use Rattle.vm_disk.specs.Disk.{State, Goes, NoCalls}
 
 -- no device call, so none failed
 pub goes_nowhere : (fails : Type 0) (old new : State) → NoCalls old new → (fails → ⊥) → Goes fails old new
