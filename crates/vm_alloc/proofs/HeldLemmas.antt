@@ -1,17 +1,14 @@
 -- What is known of the held blocks, for this crate and for those above it.
-use Rattle.std.proofs.Common.{◌≡◌, ◌≢◌, ℕ, ◌+◌, ◌-◌, ◌<◌, ◌≤◌, Bool, true, false, not, cond, Some, List, [], ◌∷◌, ◌++◌, length, get_or, drop, replicate, map, refl, sym, ◌∙◌, ap, inl, inr, arith, length-drop, suc}
+use Rattle.std.proofs.Common.{◌≡◌, ◌≢◌, ℕ, ◌+◌, ◌-◌, ◌<◌, ◌≤◌, Bool, true, false, not, cond, Some, List, [], ◌∷◌, ◌++◌, length, get_or, drop, replicate, refl, sym, ◌∙◌, ap, inl, inr, arith, length-drop, suc}
 use Rattle.std.specs.Prelude.{slice_get, slice_set}
 use Rattle.std.proofs.Math.ListN.{set, length-set}
-use Rattle.std.proofs.lemmas.Bool.{cases_eq, cases_lt, cases_Bool, false≢true, false_from_ne_true}
-use Rattle.std.proofs.lemmas.List.{ext_get_or, get_or-set_same, get_or-set_other, get_or-replicate, get_or_past, length-replicate, set-get_or, get_or-drop, drop-set-add, drop-set-lt, drop-replicate}
+use Rattle.std.proofs.lemmas.Bool.{cases_eq, cases_lt, false≢true}
+use Rattle.std.proofs.lemmas.List.{get_or-set_same, get_or-set_other, get_or-replicate, get_or_past, length-replicate, set-get_or, get_or-drop, drop-set-add, drop-set-lt, drop-replicate}
 use Rattle.std.proofs.lemmas.List.Folds.{sum_by-replicate}
 use Rattle.std.proofs.lemmas.List.Sums.{sum_by-cons, sum_by-append, sum_by-set}
 use Rattle.std.proofs.lemmas.Option.{slice_get_within, get_or_from_slice_get, slice_get-get_or}
-use Rattle.std.specs.List.{range_with_len, sum_by, count_by}
-use Rattle.std.proofs.lemmas.List.FromFn.{length-map-range_with_len, get_or-map-range_with_len}
 use Rattle.vm_alloc.specs.Held.{is_held, IsHeld, free_count, HoldsMore}
 use Rattle.vm_alloc.specs.Marks.{is_marked}
-use Rattle.vm_alloc.proofs.FlagLemmas.{first_flags_length, first_flags_low, first_flags_high}
 
 -- ---- held and free
 
@@ -29,19 +26,8 @@ free_inside held n free = slice_get_within held n false free
 pub free_is : (held : List Bool) (n : ℕ) → slice_get held n ≡ Some false → is_held held n ≡ false
 free_is held n free = get_or_from_slice_get held n false false free
 
-pub not_held : (held : List Bool) (n : ℕ) → slice_get held n ≡ Some false → IsHeld held n → ⊥
-not_held held n free is = false≢true (sym (free_is held n free) ∙ is)
-
 pub free_from : (held : List Bool) (n : ℕ) → n < length held → is_held held n ≡ false → slice_get held n ≡ Some false
 free_from held n inside free = slice_get-get_or held n false inside ∙ ap (λ (b : Bool). Some b) free
-
--- where the store's own blocks are held, a free one is a data block
-pub free_is_data : (held : List Bool) (n : ℕ) → ((k : ℕ) → k < 34 → IsHeld held k) → slice_get held n ≡ Some false → 34 ≤ n
-free_is_data held n system free =
-    elim (cases_lt n 34) [
-      | inl below ↦ absurd (not_held held n free (system n below))
-      | inr data_block ↦ data_block
-    ]
 
 -- ---- one block more
 
@@ -86,17 +72,6 @@ free_less held n free =
     let here : weight (get_or held n false) ≡ 1 = ap weight (free_is held n free) in
     omega (arith, all, here)
 
-pub free_some : (held : List Bool) (n : ℕ) → slice_get held n ≡ Some false → 0 < free_count held
-free_some held n free = omega (arith, free_less held n free)
-
--- where none is free, all are held
-pub none_free : (held : List Bool) (n : ℕ) → free_count held ≡ 0 → n < length held → IsHeld held n
-none_free held n none inside =
-    elim (cases_Bool (is_held held n)) [
-      | inl is ↦ is
-      | inr free ↦ absurd (omega (arith, free_less held n (free_from held n inside free)))
-    ]
-
 -- where all are held, none is free
 pub all_held : (held : List Bool) → ((n : ℕ) → n < length held → IsHeld held n) → free_count held ≡ 0
 all_held [] all = refl
@@ -114,12 +89,6 @@ free_replicate_held n = omega (arith, sum_by-replicate weight n true)
 
 pub free_append : (a b : List Bool) → free_count (a ++ b) ≡ free_count a + free_count b
 free_append a b = sum_by-append weight a b
-
-still_weighs : (a b : Bool) → (a ≡ true → b ≡ true) → weight b ≤ weight a
-still_weighs true true still = omega arith
-still_weighs true false still = absurd (false≢true (still refl))
-still_weighs false true still = omega arith
-still_weighs false false still = omega arith
 
 -- the first blocks, and then as before
 pub free_first : (n : ℕ) (marks : List Bool) → free_count (replicate n true ++ drop n marks) ≡ free_count (drop n marks)
@@ -153,69 +122,4 @@ unmarked_same_low first marks n low = ap (λ (held : List Bool). free_count held
 pub mark_same : (marks : List Bool) (n : ℕ) → is_marked marks n ≡ true → slice_set marks n true ≡ marks
 mark_same marks n marked = ap (λ (b : Bool). slice_set marks n b) (sym marked) ∙ set-get_or marks n false
 
--- the more is held, the less is free
-pub free_falls : (old new : List Bool) → HoldsMore old new → free_count new ≤ free_count old
-free_falls [] [] more = omega arith
-free_falls [] (b ∷ new) more = absurd (omega (arith, more.same_length))
-free_falls (a ∷ old) [] more = absurd (omega (arith, more.same_length))
-free_falls (a ∷ old) (b ∷ new) more =
-    let rest : free_count new ≤ free_count old = free_falls old new (record {
-      same_length = omega (arith, more.same_length);
-      still = λ n is. more.still (suc n) is;
-    }) in
-    let first : weight b ≤ weight a = still_weighs a b (more.still 0) in
-    omega (arith, free_cons a old, free_cons b new, rest, first)
-
 -- ---- held blocks that are told one by one
-
--- the first blocks and the marked ones
-pub marked_is : (first : ℕ) (held marks : List Bool) → first ≤ length marks → length held ≡ length marks
-    → ((n : ℕ) → n < first → IsHeld held n) → ((n : ℕ) → first ≤ n → is_held held n ≡ is_marked marks n)
-    → held ≡ replicate first true ++ drop first marks
-marked_is first held marks enough many low high =
-    ext_get_or false held (replicate first true ++ drop first marks) (many ∙ sym (first_flags_length first marks enough))
-    (λ n inside. elim (cases_lt n first) [
-      | inl below ↦ low n below ∙ sym (first_flags_low first marks n below)
-      | inr above ↦ high n above ∙ sym (first_flags_high first marks n above)
-    ])
-
-free_past : (first : ℕ) (held : List Bool) → first ≤ length held → ((n : ℕ) → n < first → IsHeld held n) → ((n : ℕ) → IsHeld held n → n < first)
-    → free_count held + first ≡ length held
-free_past first held enough low only =
-    let none = replicate (length held) false in
-    let many : length none ≡ length held = length-replicate (length held) false in
-    let same : held ≡ replicate first true ++ drop first none = marked_is first held none (omega arith) (sym many) low
-    (λ n above. false_from_ne_true (is_held held n) (λ is. absurd (omega (arith, only n is))) ∙ sym (no_mark (length held) n)) in
-    let free : free_count held ≡ free_count (drop first none) = ap (λ (h : List Bool). free_count h) same ∙ free_first first none in
-    omega (arith, free, free_new first (length held) enough)
-
--- where just the store's own blocks are held, so many are free
-pub free_at_first : (held : List Bool) → 34 ≤ length held → ((n : ℕ) → n < 34 → IsHeld held n) → ((n : ℕ) → IsHeld held n → n < 34)
-    → free_count held + 34 ≡ length held
-free_at_first held enough low only = free_past 34 held enough low only
-
--- lists of flags that say the same of each block
-pub same_held : (a b : List Bool) → length a ≡ length b → ((n : ℕ) → is_held a n ≡ is_held b n) → a ≡ b
-same_held a b many each = ext_get_or false a b many (λ n inside. each n)
-
-sum_mapped : (f : Bool → ℕ) (g : ℕ → Bool) (ns : List ℕ) → sum_by f (map g ns) ≡ sum_by (λ n. f (g n)) ns
-sum_mapped f g [] = refl
-sum_mapped f g (n ∷ ns) =
-    sum_by-cons f (g n) (map g ns) ∙ ap (λ (s : ℕ). f (g n) + s) (sum_mapped f g ns) ∙ sym (sum_by-cons (λ (m : ℕ). f (g m)) n ns)
-
-free_numbers : (first : ℕ) (held : List Bool) → first ≤ length held → ((n : ℕ) → n < first → IsHeld held n)
-    → free_count held ≡ count_by (λ n. not (is_held held n)) (range_with_len first (length held - first))
-free_numbers first held enough low =
-    let rest : held ≡ replicate first true ++ drop first held = marked_is first held held enough refl low (λ n above. refl) in
-    let past : drop first held ≡ map (is_held held) (range_with_len first (length held - first)) = ext_get_or false (drop first held) (map (is_held held) (range_with_len first (length held - first)))
-    (length-drop first held ∙ sym (length-map-range_with_len (is_held held) first (length held - first)))
-    (λ i inside. get_or-drop first held i false ∙ sym (get_or-map-range_with_len (is_held held) first (length held - first) i (first + i) false (omega (arith, length-drop first held)) refl)) in
-    ap (λ (h : List Bool). free_count h) rest
-    ∙ free_first first held
-    ∙ ap (λ (h : List Bool). free_count h) past
-    ∙ sum_mapped weight (is_held held) (range_with_len first (length held - first))
-
--- where the store's own blocks are held, the free blocks are counted among the data blocks, by their numbers
-pub free_by_number : (held : List Bool) → 34 ≤ length held → ((n : ℕ) → n < 34 → IsHeld held n)
-    → free_count held ≡ count_by (λ n. not (is_held held n)) (range_with_len 34 (length held - 34))
-free_by_number held enough low = free_numbers 34 held enough low

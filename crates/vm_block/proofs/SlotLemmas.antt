@@ -144,10 +144,6 @@ rest_all bytes n k is = take_all k (drop n bytes) (omega (arith, length-drop n b
 pub entry_is : (e f : Entry) → e.kind ≡ f.kind → e.name ≡ f.name → e.owner ≡ f.owner → e.current ≡ f.current → e.base ≡ f.base → e ≡ f
 entry_is e f k n o c b = λ i. record { kind = k i; name = n i; owner = o i; current = c i; base = b i }
 
--- an entry that is written again is the same
-pub entry_again : (bytes again : List ℕ) (e f : Entry) → IsEntry bytes e → f ≡ e → again ≡ entry_bytes f ++ [] → bytes ≡ again
-entry_again bytes again e f entry same is = entry.spelled ∙ ap entry_bytes (sym same) ∙ sym (append-nil (entry_bytes f)) ∙ sym is
-
 -- # One spelling, one meaning
 
 -- the same bytes are one head

@@ -78,11 +78,6 @@ unfolding IsTree
 tree_data sizes x limit zero m bs t = subst (AllByRecursion (IsData limit)) (sym t.1) tt
 tree_data sizes x limit (suc b) m bs t = subtree_data sizes x limit t.0 (suc b) m bs t.2
 
-pub stands_data : (P : ℕ → Type 0) (sizes : Sizes) (x : Contents) (limit b : ℕ) (m : List Record) → Stands sizes P x limit b m → Stands sizes (λ n. P n × IsData limit n) x limit b m
-stands_data P sizes x limit b m stands = record {
-  blocks = stands.blocks;
-  tree = stands.tree;
-  each = each_both P (IsData limit) stands.blocks stands.each (tree_data sizes x limit b m stands.blocks stands.tree);
 }
 
 -- # One tree under a root
@@ -142,13 +137,6 @@ unfolding IsTree
 tree_rises sizes x limit zero m bs t = (subst (λ (rs : List Record). RisesFrom 0 (places rs)) (sym t.0) tt, subst FitKeys (sym t.0) tt)
 tree_rises sizes x limit (suc b) m bs t = (t.3, each_so RecordFits (λ r. KeyFits r.0) (λ r fits. fits.0) m (subtree_fit sizes x limit t.0 (suc b) m bs t.2))
 
-pub stands_rises : (P : ℕ → Type 0) (sizes : Sizes) (x : Contents) (limit b : ℕ) (m : List Record) → Stands sizes P x limit b m → RisesFrom 0 (places m) × FitKeys m
-stands_rises P sizes x limit b m stands = tree_rises sizes x limit b m stands.blocks stands.tree
-
--- under one root stands one map, in whatever blocks
-pub stands_one : (P Q : ℕ → Type 0) (sizes : Sizes) (x : Contents) (limit b : ℕ) (m n : List Record) → Stands sizes P x limit b m → Stands sizes Q x limit b n → m ≡ n
-stands_one P Q sizes x limit b m n s t = (tree_one sizes x limit b m n s.blocks t.blocks s.tree t.tree).0
-
 -- # Opening and closing a block of a tree
 
 -- block b is a leaf of a tree
@@ -202,11 +190,6 @@ module _ (sizes : Sizes) (x : Contents) (limit : ℕ) where
   unfolding IsTree
   tree_none = (refl, refl)
 
-  pub none_under : (b : ℕ) (m : List Record) (bs : List ℕ) → b ≡ 0 → IsTree sizes x limit b m bs → (m ≡ []) × (bs ≡ [])
-  unfolding IsTree
-  none_under zero m bs e t = t
-  none_under (suc b) m bs e t = absurd (omega arith)
-
   -- a tree under a root that is not 0
   pub record Rooted (b : ℕ) (m : List Record) (bs : List ℕ) : Type 0 where
     pub level : ℕ
@@ -223,14 +206,3 @@ module _ (sizes : Sizes) (x : Contents) (limit : ℕ) where
   unfolding IsTree
   tree_closes zero m bs lt t = absurd (omega arith)
   tree_closes (suc b) m bs lt t = (t.level, t.low, t.subtree, t.rising)
-
-  -- one leaf is a tree
-  pub leaf_tree : (b : ℕ) (rs : List Record) (bs : List ℕ) → 0 < sizes.levels → LeafAt sizes x limit b rs bs → IsTree sizes x limit b rs bs
-  leaf_tree b rs bs some at =
-      tree_closes b rs bs (omega (arith, at.place.0)) (record { level = 0; low = some; subtree = leaf_closes b rs bs at; rising = at.leaf.rising })
-
-  -- where trees have one level, a tree is one leaf
-  pub tree_leaf : (b : ℕ) (m : List Record) (bs : List ℕ) → sizes.levels ≡ 1 → 0 < b → IsTree sizes x limit b m bs → LeafAt sizes x limit b m bs
-  tree_leaf b m bs one lt t =
-      let root = tree_opens b m bs lt t in
-      leaf_opens root.level b m bs (omega (arith, root.low)) root.subtree

@@ -23,10 +23,6 @@ use Rattle.vm_block.proofs.RecordLemmas.{key_one, length-record, record_key, rec
 use Rattle.vm_block.proofs.Rows.{piece_at, row_set, row_insert}
 use borrow.Rule.Slice.PartMut.{put_mid, mid_of}
 
--- a row lies within the rows
-pub row_room : (size i n : ℕ) → i < n → size * i + size ≤ size * n
-row_room size i n lt = omega (arith, mul-le-mul_left size (let le : i + 1 ≤ n = omega arith in le))
-
 -- keys of one spelling are one
 same_key : (a b : Key) → KeyFits a → KeyFits b → key_bytes a ≡ key_bytes b → a ≡ b
 same_key a b ha hb e = key_one a b [] [] ha hb (ap (λ x. x ++ []) e)

@@ -19,12 +19,6 @@ use Rattle.vm_block.proofs.SlotLemmas.{length-head, length-entry, head_one}
 use Rattle.vm_catalog.proofs.SlotBytes.{length-joined_blocks, entry_is, head_is, begins_head}
 use Rattle.vm_catalog.proofs.SlotOne.{read_one}
 
--- a cell of a block, as a slice of it
-pub cell_at : (bytes : List ℕ) (first i at k : ℕ) → at ≡ 128 * (first + i) → k ≡ at + 128 - at → take k (drop at bytes) ≡ cell_of bytes (first + i)
-cell_at bytes first i at k here many =
-    let size : k ≡ 128 = omega arith in
-    ap (λ (n : ℕ). take n (drop at bytes)) size ∙ ap (λ (n : ℕ). take 128 (drop n bytes)) here
-
 -- nothing is read yet
 pub taken_none : (bytes : List ℕ) (first : ℕ) (old : List Entry) → HasTaken bytes first 0 old old
 taken_none bytes first old =
@@ -45,17 +39,6 @@ taken_more bytes first i old mid new e so_far is pushed =
     }
 
 -- # The first block
-
--- its entries are the first 31
-pub first_fits : (bytes block : List ℕ) (limit n count : ℕ) (old new : List Entry) → IsHead bytes limit n → HasTaken block 1 count old new → old ≡ [] → count ≡ min n 31 → FitsSoFar limit n 1 new
-first_fits bytes block limit n count old new head taken none many =
-    let all : new ≡ taken.more = taken.items ∙ ap (λ (es : List Entry). es ++ taken.more) none in
-    let P : List Entry → Type 0 = λ es. AllByRecursion EntryFits es in
-    record {
-      head = head.fits;
-      each = subst P (sym all) taken.each;
-      many = omega (arith, ap length all, taken.many);
-    }
 
 -- it begins with the head, and these entries
 pub first_begins : (x : Contents) (at limit n count : ℕ) (bytes b : List ℕ) (old new : List Entry) → b ≡ block x at → length b ≡ 4096 → bytes ≡ take 128 b → IsHead bytes limit n → HasTaken b 1 count old new → old ≡ [] → Begins (blocks_from x at 1) limit n new

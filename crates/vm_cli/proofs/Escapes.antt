@@ -17,13 +17,6 @@ unescaped-literal (b ∷ c ∷ d ∷ rest) lt ne =
     let e : (b == 37) ≡ false = grind (arith, ne) in
     rw (take_rest (b ∷ c ∷ d ∷ rest) 1, e) refl
 
--- `%` without two more bytes
-pub unescaped-short : (word : List ℕ) → 0 < length word → get_or word 0 0 ≡ 37 → length word < 3 → unescaped word ≡ None
-unescaped-short [] lt e short = absurd (omega arith)
-unescaped-short (b ∷ []) lt e short = rw e refl
-unescaped-short (b ∷ c ∷ []) lt e short = rw e refl
-unescaped-short (b ∷ c ∷ d ∷ rest) lt e short = absurd (omega arith)
-
 -- `%` and two more bytes
 pub unescaped-escape : (word : List ℕ) → get_or word 0 0 ≡ 37 → 3 ≤ length word
     → unescaped word ≡ with_front (byte_of (hex_digit (get_or word 1 0)) (hex_digit (get_or word 2 0))) (unescaped (take (length word - 3) (drop 3 word)))

@@ -23,9 +23,6 @@ file_first a b what file h = begins-more a b what (file ++ 10 ∷ []) h
 pub file_then : (a b c : Option (List ℕ)) (what rest : List ℕ) → Appends a b what → Begins b c rest → Begins a c (what ++ rest)
 file_then a b c what rest p h = begins-then a b c rest (what ++ rest) (record { sent = what; split = refl; written = p }) h
 
-pub file_whole : (a b c d : Option (List ℕ)) (what file : List ℕ) → Appends a b what → Appends b c file → Appends c d (10 ∷ []) → Appends a d (file_text what file)
-file_whole a b c d what file p q r = Appends-then a b d what (file ++ 10 ∷ []) p (Appends-then b c d file (10 ∷ []) q r)
-
 -- ---- the end
 
 -- an error asks for help, or is a mistake
@@ -72,11 +69,3 @@ module _ {W F : Type 0} (in_output : W → Option (List ℕ)) (in_faults : F →
       → Ends in_output in_faults exit words output output' faults faults'
   mistaken kind exit wrong among (same, (text, inl (is, written))) = rw is (same, (kind, wrong, among), (text, written))
   mistaken kind exit wrong among (same, (text, inr (is, begun))) = rw is (inr (same, (text, inr (kind, wrong, among), begun)))
-
-  -- the status 1 is that of a refusal
-  pub refused_end : (exit : Exit) → status_of exit ≡ 1 → Ends in_output in_faults exit words output output' faults faults'
-      → IsRefused in_output in_faults words output output' faults faults'
-  refused_end Done e h = absurd (omega arith)
-  refused_end Refused e h = h
-  refused_end WrongWords e h = absurd (omega arith)
-  refused_end Stopped e h = absurd (omega arith)

@@ -109,10 +109,6 @@ flag_rows c waiting word h (waits id) = refl
 flag_rows c waiting word h plain = plain_rows c waiting word h
 flag_rows c waiting word h refused = plain_rows c waiting word h
 
--- a flag of a known command without fault: there is none
-abbrev NoFlag : List Rule → Type 0
-NoFlag c = (p : Rule → Bool) (a : Rule) → find (λ x. not (is_some x.index) && p x) c ≡ Some a → IsRequest a
-
 module _ (c : List Rule) (known : Every (IsKnown c) c) where
   flag_is_request : (p : Rule → Bool) (a : Rule) → find (λ x. not (is_some x.index) && p x) c ≡ Some a → IsRequest a
   flag_is_request p a found =

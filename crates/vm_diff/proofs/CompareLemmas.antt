@@ -54,11 +54,6 @@ pub record Compares (old new : State) (limit : ℕ) (one_first other_first one o
   pub left : new.honest ≡ true → (sizes : Sizes) (most : ℕ) (changes : List Change) → Differ sizes old.now.contents limit one_first other_first old.reads most changes
       → (rest : List Change) × (changes ≡ found ++ rest) × Differ sizes old.now.contents limit one other new.reads most rest
 
-pub compares_none : (s : State) (limit : ℕ) (one other : Walk) → Compares s s limit one other one other []
-compares_none s limit one other = record {
-  goes = record { same_blocks = refl; earlier = λ honest. honest; rising = omega arith; fault = λ failed. absurd failed };
-  reads = λ honest. started s (λ m. m ≡ s.now) refl;
-  left = λ honest sizes most changes d. (changes, refl, d);
 }
 
 module _ (old mid new : State) (back : new.honest ≡ true → mid.honest ≡ true) (limit : ℕ) (one_first other_first one other : Walk) (found : List Change) (so_far : Compares old mid limit one_first other_first one other found) where

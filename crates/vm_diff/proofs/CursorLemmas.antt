@@ -35,20 +35,6 @@ pub record PushedBack (level : ℕ) (cs : List Child) (i : ℕ) (old new : List 
   pub tops : reverse new ≡ tops_of level (drop (length cs - i) cs) ++ reverse old
   pub count : length new ≡ length old + i
 
--- one more
-pub pushed_more : (level : ℕ) (cs : List Child) (i : ℕ) (d : Child) (old new : List Root) (top : Root) → i < length cs → get_or cs (length cs - 1 - i) d ≡ d → top ≡ record { block = d.block; level = level; low = d.low }
-    → PushedBack level cs i old new → PushedBack level cs (i + 1) old (new ++ top ∷ [])
-pushed_more level cs i d old new top lt is same pushed =
-    let k : ℕ = length cs - 1 - i in
-    let next : k + 1 ≡ length cs - i = omega arith in
-    let rest : drop k cs ≡ d ∷ drop (length cs - i) cs = drop_more cs k d (omega arith) ∙ ap (λ (c : Child). c ∷ drop (k + 1) cs) is ∙ ap (λ n. d ∷ drop n cs) next in
-    let here : drop (length cs - (i + 1)) cs ≡ drop k cs = ap (λ n. drop n cs) (omega arith) in
-    record {
-      tops = reversed_last new top ∙ ap (λ (t : Root). t ∷ reverse new) same ∙ ap (λ (ts : List Root). top_of level d ∷ ts) pushed.tops
-          ∙ sym (ap (λ (ds : List Child). tops_of level ds ++ reverse old) (here ∙ rest));
-      count = omega (arith, pushed.count, length-append new (top ∷ []));
-    }
-
 -- what a top is opened into keeps the walk roomy
 pub roomy_opened : (level : ℕ) (cs : List Child) (top : Root) (old left new : List Root) → old ≡ left ++ top ∷ [] → 0 < top.level → level ≡ top.level - 1 → length cs ≤ 256 → IsRoomy (reverse old)
     → reverse new ≡ tops_of level cs ++ reverse left → IsRoomy (reverse new)

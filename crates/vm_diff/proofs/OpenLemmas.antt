@@ -30,11 +30,6 @@ front_top [] [] top e = cc
 front_top [] (t ∷ ts) top e = let same : t ≡ top = cc in (refl, ap (λ (u : Root). u ∷ ts) same)
 front_top (r ∷ rs) ts top e = cc
 
-pub front_end : (rs : List Record) (ts : List Root) → first_of rs ts ≡ End → (rs ≡ []) × (ts ≡ [])
-front_end [] [] e = (refl, refl)
-front_end [] (t ∷ ts) e = cc
-front_end (r ∷ rs) ts e = cc
-
 -- ---- how much is ahead
 
 weight_least : weight 0 ≡ 17

@@ -1,7 +1,7 @@
 -- How what any number of device calls does is carried over one call more.
 use Rattle.std.proofs.Common.{ℕ, ◌<◌, Result, Ok, Err, IsErr, OnErr, refl, sym, ◌∙◌, subst, arith}
 use Rattle.vm_disk.specs.declared.disk.DeviceFault.{DeviceFault}
-use Rattle.vm_disk.specs.Disk.{State, Counts, Goes, NoCalls}
+use Rattle.vm_disk.specs.Disk.{State, Goes, NoCalls}
 
 -- no device call, so none failed
 pub goes_nowhere : (fails : Type 0) (old new : State) → NoCalls old new → (fails → ⊥) → Goes fails old new
@@ -16,16 +16,6 @@ goes_nowhere fails old new same fine =
 counted : {T : Type 0} (result : Result T DeviceFault) (old new : ℕ) → OnErr result (old < new) → IsErr result → old < new
 counted (Ok x) old new fault failed = cc
 counted (Err e) old new fault failed = fault
-
--- one device call more, which is the one that failed
-pub goes_call : {T : Type 0} (reads : ℕ) (result : Result T DeviceFault) (before fails : Type 0) (old mid new : State) → Goes before old mid → Counts reads result mid new → (fails → IsErr result) → Goes fails old new
-goes_call reads result before fails old mid new so_far counts cause =
-    record {
-      same_blocks = counts.same_blocks ∙ so_far.same_blocks;
-      earlier = λ honest. so_far.earlier (counts.earlier honest);
-      rising = omega (arith, so_far.rising, counts.rising);
-      fault = λ failed. let rose = counted result mid.failures new.failures counts.fault (cause failed) in omega (arith, so_far.rising, rose);
-    }
 
 -- one call of a function more, in which the device failed
 pub goes_then : (before more fails : Type 0) (old mid new : State) → Goes before old mid → Goes more mid new → (fails → more) → Goes fails old new

@@ -126,21 +126,6 @@ write_on n bytes result touched old mid new inside so_far writes =
       clean = λ k out clean. writes.others_dirty k (apart touched k n inside out) ∙ before.clean k out clean;
     }
 
--- a sync adds nothing to what a crash may leave
-pub sync_leaves : {T : Type 0} (result : Result T DeviceFault) (old new : State) → Syncs result old new → (left : Contents) → MayLeave new.now left → MayLeave old.now left
-sync_leaves (Ok x) old new sync left may =
-    record {
-      count = may.count ∙ ap (λ (x : Contents). length x) sync.same;
-      clean = λ n clean. may.clean n (sync.synced n) ∙ ap (λ (x : Contents). block x n) sync.same;
-    }
-sync_leaves (Err e) old new sync left may =
-    let R : Medium → Type 0 = λ m. MayLeave m left in subst R sync.failed may
-
--- one sync more
-pub sync_on : {T : Type 0} (result : Result T DeviceFault) (old mid new : State) (P : Contents → Type 0) → Throughout old mid (Leaves P) → Syncs result mid new → Throughout old new (Leaves P)
-sync_on result old mid new P so_far sync =
-    goes_on old mid new (Leaves P) so_far sync.time (λ left may. at_end old mid (Leaves P) so_far left (sync_leaves result mid new sync left may))
-
 -- a sync spares what was spared before it
 pub sync_spares : {T : Type 0} (result : Result T DeviceFault) (touched : ℕ → Bool) (old : Medium) (mid new : State) → Syncs result mid new → Spares touched old mid.now → Spares touched old new.now
 sync_spares (Ok x) touched old mid new sync spares =

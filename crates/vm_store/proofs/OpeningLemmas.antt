@@ -59,11 +59,6 @@ settled (Err e) x old new ok sync = cc
 pub settled_then : (old : Medium) (mid new : disk.State) → IsSynced old mid.now → OnlyReads mid new → IsSynced old new.now
 settled_then old mid new synced reads = subst (IsSynced old) (sym (same_medium mid new reads)) synced
 
--- a fact at Ok implies more
-pub at_ok : {T E : Type 0} (r : Result T E) (A B : Type 0) → (A → B) → OnOk r A → OnOk r B
-at_ok (Ok x) A B so h = so h
-at_ok (Err e) A B so h = tt
-
 -- the entry with these roots
 abbrev entry_with : Entry → ℕ → ℕ → Entry
 entry_with e current base = record { kind = e.kind; name = e.name; owner = e.owner; current = current; base = base }

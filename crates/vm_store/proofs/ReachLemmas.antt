@@ -17,10 +17,6 @@ pub record ReachedSoFar (x : Contents) (limit : ℕ) (vs : List Version) (i : �
   pub marked : (bs : List ℕ) → AreReached x limit (take i vs) bs → IsClosed x first → MarksMore bs first now
   pub closed : (bs : List ℕ) → AreReached x limit (take i vs) bs → IsClosed x first → IsClosed x now
 
-pub reached_none : (x : Contents) (limit : ℕ) (vs : List Version) (marks : List Bool) → ReachedSoFar x limit vs 0 marks marks
-reached_none x limit vs marks = record {
-  marked = λ bs none closed. same_more bs marks (subst (AllByRecursion (IsMarked marks)) (sym none) tt);
-  closed = λ bs none closed. closed;
 }
 
 -- the two roots of a version

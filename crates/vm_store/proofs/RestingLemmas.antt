@@ -289,15 +289,6 @@ any_version = let none : Root = record { block = 0; level = 0; low = record { ta
 pub found_at : (alt : List ℕ) (lent working : List Version) (i : ℕ) (d : Version) → lent ≡ working → IsFirst (is_alternative_of alt) lent i → find (is_alternative_of alt) working ≡ Some (get_or working i d)
 found_at alt lent working i d same first = subst (λ (es : List Version). find (is_alternative_of alt) es ≡ Some (get_or es i d)) same (first.found d)
 
--- what a call that only reads a tree answered, where it was Ok
-pub got : {T : Type 0} (r : Result T TreeFault) (value : T) (P : T → Type 0) → r ≡ Ok value → OkOrDevice r P → P value
-got {T} (Ok x) value P is h = let same : x ≡ value = cc in subst P same h
-got {T} (Err e) value P is h = cc
-
-pub only_device : {T : Type 0} (r : Result T TreeFault) (e : TreeFault) (P : T → Type 0) → r ≡ Err e → OkOrDevice r P → e ≡ fault.Device
-only_device (Ok x) e P is h = cc
-only_device (Err d) e P is h = cc
-
 -- which fault a put into a tree answers
 pub fault_of_put : (f : TreeFault) (deep : Type 0) (P : Root → Type 0) → Puts (Err f) deep P → (f ≡ fault.Device) ⊎ ((f ≡ fault.Deep) × deep)
 fault_of_put fault.Device deep P h = inl refl

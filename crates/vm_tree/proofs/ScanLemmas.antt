@@ -21,11 +21,6 @@ pub record Scans (old new : State) (limit level : ℕ) (cs : List Child) (i : �
   pub reads : new.honest ≡ true → OnlyReads old new
   pub added : new.honest ≡ true → (sizes : Sizes) (front : List Record) (left : List ℕ) → Children (Subtree sizes old.now.contents limit (level - 1)) (take i cs) front left → now ≡ before ++ front
 
-pub scans_none : (s : State) (limit level : ℕ) (cs : List Child) (before : List Record) → Scans s s limit level cs 0 before before
-scans_none s limit level cs before = record {
-  goes = record { same_blocks = refl; earlier = λ honest. honest; rising = omega arith; fault = λ failed. absurd failed };
-  reads = λ honest. started s (λ m. m ≡ s.now) refl;
-  added = λ honest sizes front left t. sym (append-nil before) ∙ ap (λ (rs : List Record). before ++ rs) (sym t.0);
 }
 
 -- the last of some children

@@ -106,9 +106,6 @@ IsMap-rising_from low [] fm rises = refl
 IsMap-rising_from low (x ∷ m) fm rises =
     and_from _ _ (below_rest x.0 (place x.0 + 1) m fm.0 fm.1 (omega arith) rises.1) (IsMap-rising_from (place x.0 + 1) m fm.1 rises.1)
 
-pub IsMap-rising : (m : Map) → FitKeys m → RisesFrom 0 (places m) → IsMap m
-IsMap-rising m fm rises = IsMap-rising_from 0 m fm rises
-
 -- where a key is below each key of a list, its place is below where that list rises from
 rising_rest : (k : Key) (m : Map) → KeyFits k → FitKeys m → entries.below_all key_cmp k m ≡ true → IsMap m → RisesFrom (place k + 1) (places m)
 rising_rest k [] fk fm below h = tt
@@ -118,13 +115,6 @@ rising_rest k (x ∷ m) fk fm below h =
     let less : is_lt (nat_cmp (place k) (place x.0)) ≡ true = ap is_lt (sym (by_place k x.0 fk fm.0)) ∙ here.0 in
     let under : place k < place x.0 = ⊎_elim (λ (l : place k < place x.0). l) (λ (g : place x.0 ≤ place k). absurd (false≢true (sym (not_less (place k) (place x.0) g) ∙ less))) (cases_lt (place k) (place x.0)) in
     (omega arith, rising_rest x.0 m fm.0 fm.1 rest.0 rest.1)
-
--- the places of a map rise
-pub rising-IsMap : (m : Map) → FitKeys m → IsMap m → RisesFrom 0 (places m)
-rising-IsMap [] fm h = tt
-rising-IsMap (x ∷ m) fm h =
-    let rest = and_parts _ _ h in
-    (zero-le, rising_rest x.0 m fm.0 fm.1 rest.0 rest.1)
 
 -- the records without the one at a place, if there is one
 abbrev pub without_place : ℕ → Map → Map
@@ -155,21 +145,3 @@ without_place-without k low (x ∷ m) fk fm rises =
     ∙ ap (λ rest. x ∷ rest) (without_place-without k (place x.0 + 1) m fk fm.1 rises.1)
     ∙ sym (ap kept (same_place k x.0 fk fm.0 ∙ ne_eqb (place x.0) (place k) n)))
     (cases_eq (place x.0) (place k))
-
--- keys keep their sizes
-pub FitKeys-with_value : (m : Map) (k : Key) (v : List ℕ) → KeyFits k → FitKeys m → FitKeys (with_value m k v)
-FitKeys-with_value [] k v fk fm = (fk, tt)
-FitKeys-with_value (x ∷ m) k v fk fm =
-    elim (key_cmp k x.0) as (λ o. FitKeys (by_order o ((k, v) ∷ x ∷ m) ((x.0, v) ∷ m) (x ∷ with_value m k v))) [
-      | Less ↦ (fk, fm)
-      | Equal ↦ fm
-      | Greater ↦ (fm.0, FitKeys-with_value m k v fk fm.1)
-    ]
-
-pub FitKeys-without : (m : Map) (k : Key) → FitKeys m → FitKeys (without m k)
-FitKeys-without [] k fm = tt
-FitKeys-without (x ∷ m) k fm =
-    elim (same_key k x.0) as (λ t. FitKeys (cond (not t) (x ∷ without m k) (without m k))) [
-      | true ↦ FitKeys-without m k fm.1
-      | false ↦ (fm.0, FitKeys-without m k fm.1)
-    ]

@@ -32,9 +32,6 @@ same_Some x y h = cc
 not_none : (a : Result Answer Refusal) → None ≡ Some a → ⊥
 not_none a h = cc
 
-not_answered : (answer : Answer) → Err Device ≡ Ok answer → ⊥
-not_answered answer h = cc
-
 -- a command is a Commit, or its test says no
 commit_cases : (c : Command) → (c ≡ Commit) ⊎ (is_commit c ≡ false)
 commit_cases Commit = inl refl
@@ -189,13 +186,4 @@ module _ {X : Type 0} (shows : X → Tree → Type 0) (s : State) (commands : Li
       left_in_call c answers x last (Continues-same s commands answers last.same)
       (subst MayHaveHappened (sym none) tt)
       (λ answer _ ok. not_none (Ok answer) (sym none ∙ ok))
-      left
-
-  -- after a call in which the device failed
-  pub kept_failed : (c : Command) (x : X) → LastCommit s commands answers → LeftBy shows (after s commands answers) c x → Kept shows s (commands ++ c ∷ []) (answers ++ Err Device ∷ []) x
-  kept_failed c x last left =
-      let failed : slice_get (answers ++ Err Device ∷ []) (length commands) ≡ Some (Err Device) = at_last answers (Err Device) (length commands) (sym last.same) in
-      left_in_call c (answers ++ Err Device ∷ []) x last (Continues-more s commands answers (Err Device) last.same)
-      (subst MayHaveHappened (sym failed) refl)
-      (λ answer _ ok. not_answered answer (same_Some (Err Device) (Ok answer) (sym failed ∙ ok)))
       left

@@ -67,28 +67,3 @@ without_absent (x ∷ m) k h =
       | true ↦ λ e. cc
       | false ↦ λ e. ap (λ rest. x ∷ rest) (without_absent m k e)
     ] h
-
--- each key of a map is above a key that is below the first
-below_at : (k : Key) (m : Map) (i : ℕ) (d : Key × List ℕ) → entries.below_all key_cmp k m ≡ true → i < length m → key_cmp k (get_or m i d).0 ≡ Less
-below_at k [] i d h lt = absurd (omega arith)
-below_at k (x ∷ m) zero d h lt = is_less (key_cmp k x.0) (and_parts (is_lt (key_cmp k x.0)) (entries.below_all key_cmp k m) h).0
-below_at k (x ∷ m) (suc i) d h lt = below_at k m i d (and_parts (is_lt (key_cmp k x.0)) (entries.below_all key_cmp k m) h).1 (omega arith)
-
--- nothing is left out of records above the key
-without_below : (k : Key) (m : Map) → entries.below_all key_cmp k m ≡ true → without m k ≡ m
-without_below k [] h = refl
-without_below k (x ∷ m) h =
-    let here = and_parts (is_lt (key_cmp k x.0)) (entries.below_all key_cmp k m) h in
-    ap (λ t. cond (not t) (x ∷ without m k) (without m k)) (ap is_eq (is_less (key_cmp k x.0) here.0)) ∙ ap (λ rest. x ∷ rest) (without_below k m here.1)
-
--- a map without the key of its record at i is the list without that record
-pub without_at : (m : Map) (i : ℕ) (d : Key × List ℕ) → IsMap m → i < length m → without m (get_or m i d).0 ≡ remove m i
-without_at [] i d h lt = absurd (omega arith)
-without_at (x ∷ m) zero d h lt =
-    ap (λ t. cond (not t) (x ∷ without m x.0) (without m x.0)) (ap is_eq (tied_itself keys_total x.0))
-    ∙ without_below x.0 m (and_parts (entries.below_all key_cmp x.0 m) (entries.is_sorted key_cmp m) h).0
-without_at (x ∷ m) (suc i) d h lt =
-    let here = and_parts (entries.below_all key_cmp x.0 m) (entries.is_sorted key_cmp m) h in
-    let k = (get_or m i d).0 in
-    let above : key_cmp k x.0 ≡ Greater = keys_total.antisymm k x.0 ∙ ap ordering_reverse (below_at x.0 m i d here.0 (omega arith)) in
-    ap (λ t. cond (not t) (x ∷ without m k) (without m k)) (ap is_eq above) ∙ ap (λ rest. x ∷ rest) (without_at m i d here.1 (omega arith))

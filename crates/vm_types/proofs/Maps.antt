@@ -131,10 +131,6 @@ get-merge base parent mine settled q =
 pub IsMap-merge : (base parent mine : Map) (settled : List (Key × Side)) → IsMap mine → IsMap (merge base parent mine settled)
 IsMap-merge base parent mine settled h = IsMap-tabulated (merged_at base parent mine settled) (over parent mine) (IsMap-over parent mine h)
 
--- a map with these values at each key is the merge
-pub merge_unique : (base parent mine m : Map) (settled : List (Key × Side)) → IsMap mine → IsMap m → ((q : Key) → get m q ≡ merged_at base parent mine settled q) → m ≡ merge base parent mine settled
-merge_unique base parent mine m settled g h is = same_maps m (merge base parent mine settled) h (IsMap-merge base parent mine settled g) (λ q. is q ∙ sym (get-merge base parent mine settled q))
-
 -- ---- differences
 
 -- a list made of what each key gives is empty only where each gives none

@@ -76,8 +76,3 @@ HasRun-more {shows = shows} {left = left} {s = s} {start = start} {commands = co
             (λ t x from to was. kept_call shows s commands answers c x run.last (subst (λ (w : State). LeftBy shows w c x) run.state (crash t x from to was)));
       };
     }
-
--- what a crash leaves after the last call is kept with all answers
-pub HasRun-rest : {X : Type 0} {shows : X → Tree → Type 0} {left : ℕ → X → Type 0} {s : State} {start : ℕ} {commands : List Command} {answers : List (Result Answer Refusal)} {now : State} {end : ℕ} → HasRun shows left s start commands answers now end
-    → (x : X) → shows x now.committed → Kept shows s commands answers x
-HasRun-rest {shows = shows} {s = s} {commands = commands} {answers = answers} run x is = kept_rest shows s commands answers x run.last (subst (λ (w : State). shows x w.committed) run.state is)

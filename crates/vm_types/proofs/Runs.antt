@@ -20,8 +20,3 @@ after_fewer s [] [] (b ∷ more) h = refl
 after_fewer s [] (a ∷ answers) more h = refl
 after_fewer s (c ∷ commands) [] more h = absurd (omega arith)
 after_fewer s (c ∷ commands) (a ∷ answers) more h = after_fewer (next s c a) commands answers more (omega arith)
-
--- there is one answer to each command
-pub length-answers_to : (s : State) (commands : List Command) → length (answers_to s commands) ≡ length commands
-length-answers_to s [] = refl
-length-answers_to s (c ∷ commands) = ap suc (length-answers_to (next s c (answer_of (step s.working c))) commands)

@@ -97,12 +97,6 @@ module _ {tree : Tree} {name : List ℕ} {i : ℕ} (first : IsFirst (λ (a : Alt
   pub known : (body : Alternative → Outcome) (o : Outcome) (r : Refusal) → body (get_or tree i d) ≡ o → or_refuse (named tree name) r body ≡ o
   known body o r eq = or_refuse-some _ (get_or tree i d) r body (first.found d) ∙ eq
 
-  -- accepted: the alternative is changed so
-  pub accepted_here : {answer : Answer} (f : Alternative → Alternative) (body : Alternative → Outcome) (r : Refusal) (a' : Alternative) → a' ≡ f (get_or tree i d) → body (get_or tree i d) ≡ Ok (changed tree name f, answer) → IsOutcome (or_refuse (named tree name) r body) tree (set tree i a') (Ok answer)
-  accepted_here f body r a' new eq =
-      let all = known body _ r eq in
-      record { answer = sym (ap answer_of all); tree = ap (set tree i) new ∙ sym (first.change f d) ∙ sym (ap (tree_after tree) all) }
-
   -- refused, and nothing is changed
   pub refused_here : (body : Alternative → Outcome) (r refusal : Refusal) (tree' : Tree) → tree' ≡ tree → body (get_or tree i d) ≡ Err refusal → IsOutcome (or_refuse (named tree name) r body) tree tree' (Err refusal)
   refused_here body r refusal tree' same eq =
@@ -118,7 +112,3 @@ module _ {tree : Tree} {name : List ℕ} {i : ℕ} (first : IsFirst (λ (a : Alt
             let all = back_accepted tree name (get_or tree i d) (first.found d) n c is in
             record { answer = sym (ap answer_of all); tree = ap (set tree i) eq ∙ sym (first.change (λ x. record x { current = c.current; base = c.base }) d) ∙ sym (ap (tree_after tree) all) }
       ] refl there new
-
--- a name that isn't there: nothing is changed
-pub changed_none : (tree : Tree) (name : List ℕ) (f : Alternative → Alternative) → named tree name ≡ None → tree ≡ changed tree name f
-changed_none tree name f h = sym (change_first-none (λ (a : Alternative). bytes_eq a.name name) f tree h)

@@ -124,22 +124,4 @@ module _ (tree : Tree) (well : IsWellFormed tree) where
   step_stays Commit = record { well = well }
   step_stays Reclaim = record { well = well }
 
--- both trees of a state are well formed
-pub record AreWellFormed (s : State) : Type 0 where
-  pub committed : IsWellFormed s.committed
-  pub working : IsWellFormed s.working
-
--- a command keeps both so, whatever it is answered
-pub AreWellFormed-next : (s : State) (command : Command) (answer : Result Answer Refusal) → AreWellFormed s → AreWellFormed (next s command answer)
-AreWellFormed-next s command (Err refusal) well = well
-AreWellFormed-next s command (Ok answer) well = record {
-  committed = elim (is_commit command) as (λ t. IsWellFormed (cond t s.working s.committed)) [ true ↦ well.working | false ↦ well.committed ];
-  working = (step_stays s.working well.working command).well;
 }
-
--- and so do commands one after another
-pub AreWellFormed-after : (s : State) (commands : List Command) (answers : List (Result Answer Refusal)) → AreWellFormed s → AreWellFormed (after s commands answers)
-AreWellFormed-after s [] [] well = well
-AreWellFormed-after s [] (answer ∷ answers) well = well
-AreWellFormed-after s (command ∷ commands) [] well = well
-AreWellFormed-after s (command ∷ commands) (answer ∷ answers) well = AreWellFormed-after (next s command answer) commands answers (AreWellFormed-next s command answer well)
