@@ -78,8 +78,6 @@ unfolding IsTree
 tree_data sizes x limit zero m bs t = subst (AllByRecursion (IsData limit)) (sym t.1) tt
 tree_data sizes x limit (suc b) m bs t = subtree_data sizes x limit t.0 (suc b) m bs t.2
 
-}
-
 -- # One tree under a root
 
 children_one : (T U : ℕ → List Record → List ℕ → Type 0) → ((b : ℕ) (rs qs : List Record) (bs ds : List ℕ) → T b rs bs → U b qs ds → (rs ≡ qs) × (bs ≡ ds))

@@ -1,17 +1,16 @@
 -- How the program ends, from what its parts did.
-use Rattle.std.proofs.Common.{◌≡◌, ◌⊎◌, ◌++◌, ℕ, List, [], ◌∷◌, Option, refl, inl, inr, arith}
+use Rattle.std.proofs.Common.{◌≡◌, ◌⊎◌, ◌++◌, ℕ, List, [], ◌∷◌, Option, refl, inl, inr}
 use Rattle.std.specs.Io.KnownBytes.{Appends}
 use Rattle.clap.specs.Words.{IsAmong, Text, fault_of}
 use Rattle.clap.specs.declared.error.kind.ErrorKind.{ErrorKind}
 use Rattle.clap.specs.declared.error.kind.ErrorKind.TheVariants.{DisplayHelp, DisplayVersion}
 use Rattle.vm_cli.specs.Carried.{Begins}
-use Rattle.vm_cli.specs.Exits.{Ends, IsHelp, IsJob, IsRefused, SaysRefused, Tells, created_text, file_text, status_of}
+use Rattle.vm_cli.specs.Exits.{Ends, IsHelp, IsJob, SaysRefused, Tells, created_text, file_text}
 use Rattle.vm_cli.specs.Words.{altctl}
 use Rattle.vm_cli.specs.Words.Wanted.{create, run}
 use Rattle.vm_cli.specs.declared.program.Exit.{Exit}
 use Rattle.vm_cli.specs.declared.program.Exit.TheVariants.{Done, Refused, WrongWords, Stopped}
 use Rattle.vm_cli.proofs.CarriedLemmas.{begins-more, begins-then}
-use Rattle.vm_cli.proofs.Known.{Appends-then}
 
 -- ---- a line with the name of a file
 

@@ -54,8 +54,6 @@ pub record Compares (old new : State) (limit : ℕ) (one_first other_first one o
   pub left : new.honest ≡ true → (sizes : Sizes) (most : ℕ) (changes : List Change) → Differ sizes old.now.contents limit one_first other_first old.reads most changes
       → (rest : List Change) × (changes ≡ found ++ rest) × Differ sizes old.now.contents limit one other new.reads most rest
 
-}
-
 module _ (old mid new : State) (back : new.honest ≡ true → mid.honest ≡ true) (limit : ℕ) (one_first other_first one other : Walk) (found : List Change) (so_far : Compares old mid limit one_first other_first one other found) where
   -- what holds of one step on trees
   abbrev pub Stepped : (Sizes → ℕ → List Change → Type 0) → Type 0

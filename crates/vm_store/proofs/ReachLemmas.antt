@@ -17,8 +17,6 @@ pub record ReachedSoFar (x : Contents) (limit : ℕ) (vs : List Version) (i : �
   pub marked : (bs : List ℕ) → AreReached x limit (take i vs) bs → IsClosed x first → MarksMore bs first now
   pub closed : (bs : List ℕ) → AreReached x limit (take i vs) bs → IsClosed x first → IsClosed x now
 
-}
-
 -- the two roots of a version
 both_under : (x : Contents) (limit : ℕ) (v : Version) (bs : List ℕ) → IsReached x limit v bs → AreUnder sizes x limit (v.current ∷ v.base ∷ []) bs
 both_under x limit v bs (current, base, under, under', is) =

@@ -21,8 +21,6 @@ pub record Scans (old new : State) (limit level : ℕ) (cs : List Child) (i : �
   pub reads : new.honest ≡ true → OnlyReads old new
   pub added : new.honest ≡ true → (sizes : Sizes) (front : List Record) (left : List ℕ) → Children (Subtree sizes old.now.contents limit (level - 1)) (take i cs) front left → now ≡ before ++ front
 
-}
-
 -- the last of some children
 last_child : (T : ℕ → List Record → List ℕ → Type 0) (cs : List Child) (i : ℕ) (d : Child) (front : List Record) (left : List ℕ) → i < length cs → Children T (take (i + 1) cs) front left
     → (before : List Record) × (sub : List Record) × (kept : List ℕ) × (own : List ℕ) × Children T (take i cs) before kept × T (get_or cs i d).block sub own × (front ≡ before ++ sub)

@@ -123,5 +123,3 @@ module _ (tree : Tree) (well : IsWellFormed tree) where
   step_stays (Post alt) = or_refuse_stays _ _ _ (λ a found. or_refuse_stays _ _ _ (λ parent under. or_refuse_stays _ _ _ (λ p above. refuse_if_stays _ _ _ (λ _. post_stays alt parent a p _ found under above))))
   step_stays Commit = record { well = well }
   step_stays Reclaim = record { well = well }
-
-}

@@ -1,4 +1,4 @@
-use Rattle.std.proofs.Common.{◌≡◌, ◌∙◌, true, inl, refl, ap}
+use Rattle.std.proofs.Common.{inl, refl}
 use Rattle.vm_cli.proofs.program.answer_lines.Goals as goal
 
 pub returns-in-Ok-served-clause-served : goal.returns-in-Ok-served-clause-served

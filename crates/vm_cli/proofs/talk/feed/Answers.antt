@@ -1,4 +1,4 @@
-use Rattle.std.proofs.Common.{◌≡◌, ◌∙◌, ◌++◌, Err, refl, subst, sym, take, drop, ◌+◌, arith}
+use Rattle.std.proofs.Common.{◌≡◌, ◌++◌, Err, refl, subst, sym, take, drop, ◌+◌, arith}
 use Rattle.std.proofs.lemmas.List.{take_all}
 use Rattle.vm_cli.specs.Feeding.{Fed}
 use Rattle.vm_cli.specs.Lines.{lines_of}

@@ -1,7 +1,7 @@
 use Rattle.std.proofs.Common.{◌≡◌, ℕ, List, true, false, take}
 use Rattle.vm_disk.specs.Disk.{Goes}
 use Rattle.vm_types.specs.State.{State}
-use Rattle.vm_store.specs.Store.{Holds, disk_of, has_failed}
+use Rattle.vm_store.specs.Store.{disk_of, has_failed}
 use Rattle.vm_cli.specs.Feeding.{Fed}
 use Rattle.vm_cli.specs.Reading.{Holds as HoldsLine}
 use Rattle.vm_cli.proofs.talk.feed.Given as goal

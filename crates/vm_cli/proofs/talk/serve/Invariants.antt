@@ -2,7 +2,7 @@ use Rattle.std.proofs.Common.{◌≡◌, ℕ, List, [], true, false}
 use Rattle.std.specs.Io.KnownBytes.{Consumes}
 use Rattle.vm_disk.specs.Disk.{Goes}
 use Rattle.vm_types.specs.State.{State}
-use Rattle.vm_store.specs.Store.{Holds, disk_of, has_failed}
+use Rattle.vm_store.specs.Store.{disk_of, has_failed}
 use Rattle.vm_cli.specs.Feeding.{Fed}
 use Rattle.vm_cli.specs.Reading.{Holds as HoldsLine}
 use Rattle.vm_cli.proofs.talk.serve.Given as goal
