@@ -1,18 +1,25 @@
 //! Disks of blocks of 4,096 bytes: the trait that the layers above are written against, what it
-//! promises while the device is honest and when it is not, and two disks that keep the promise.
+//! promises while the device is honest and when it is not, and disks that keep the promise: in memory,
+//! over a file, and one that fails where a test asks it to.
 //!
 //! It stands on std alone. Its one promise: what an honest disk holds at each moment is known to
 //! contracts, and with it everything that a crash at that moment may leave.
 #![tactic(auto)]
 
 mod disk;
+mod file;
 mod fuse;
 mod history;
 mod memory;
+mod positional;
+mod system;
 #[cfg(test)]
 mod tests;
 
 pub use disk::{DeviceFault, Disk};
+pub use file::FileDisk;
 pub use fuse::FuseDisk;
 pub use history::History;
 pub use memory::MemDisk;
+pub use positional::Positional;
+pub use system::{SystemFile, World};

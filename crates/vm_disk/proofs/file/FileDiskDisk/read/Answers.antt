@@ -1,0 +1,10 @@
+use Rattle.std.proofs.Common.{◌∙◌, rules}
+use Rattle.vm_disk.proofs.FileLemmas.{disk_reads}
+use Rattle.vm_disk.proofs.file.FileDiskDisk.read.Goals as goal
+
+pub returns-clause-honest : goal.returns-clause-honest
+returns-clause-honest g c =
+    let same = c.counted.ensures.counted in
+    disk_reads g.F.Positional.state _ _ _ _ _ c.args.self.now c.counted.new.self _
+      (record { is = same.file; blocks = same.blocks; past = same.past ∙ c.note-2.ensures })
+      c.counted.ensures.answer c.requires c.offset_of.ensures (search rules) c.read_at-answer.ensures.honest

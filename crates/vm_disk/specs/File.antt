@@ -1,0 +1,82 @@
+-- What a disk over a file shows.
+use Rattle.std.specs.Prelude.{◌≡◌, ℕ, ◌+◌, ◌-◌, ◌*◌, ◌/◌, ◌^◌, min, nat_lt, nat_le, ◌&&◌, ◌||◌, Bool, true, false, List, [], ◌∷◌, length, map, replicate, take, drop, Result, OnOk, OnErr}
+use Rattle.std.specs.List.{range_with_len}
+use Rattle.vm_disk.specs.declared.disk.DeviceFault.{DeviceFault}
+use Rattle.vm_disk.specs.declared.file.FileDisk.{FileDisk}
+use Rattle.vm_disk.specs.Disk.{Contents, Medium, State}
+use Rattle.vm_disk.specs.Past.{noted}
+use Rattle.vm_disk.specs.Positional.{FileState}
+
+-- block n of a file is the 4,096 bytes from 4096 n on
+abbrev pub file_block : List ℕ → ℕ → List ℕ
+file_block bytes n = take 4096 (drop (4096 * n) bytes)
+
+-- the first so many blocks of a file
+abbrev pub file_blocks : ℕ → List ℕ → Contents
+file_blocks count bytes = map (file_block bytes) (range_with_len 0 count)
+
+-- a write that begins there, of so many bytes, touches block n
+abbrev pub touches : ℕ × ℕ → ℕ → Bool
+touches write n = nat_lt write.0 (4096 * n + 4096) && nat_lt (4096 * n) (write.0 + write.1)
+
+-- one of these writes touches block n
+abbrev pub is_touched : List (ℕ × ℕ) → ℕ → Bool
+is_touched [] n = false
+is_touched (write ∷ writes) n = touches write n || is_touched writes n
+
+-- a file as a disk of so many blocks: those that a waiting write touches are dirty
+abbrev pub file_medium : ℕ → FileState → Medium
+file_medium count file = record { contents = file_blocks count file.bytes; dirty = is_touched file.waiting }
+
+-- at each of these moments the file was long enough for so many blocks
+abbrev pub was_whole : ℕ → List FileState → Bool
+was_whole count [] = true
+was_whole count (file ∷ files) = nat_le (4096 * count) (length file.bytes) && was_whole count files
+
+-- a disk of so many blocks over this file, of which no call was made so far
+pub record IsOver (count : ℕ) (file : FileState) (s : State) : Type 0 where
+  pub blocks : s.blocks ≡ count
+  pub honest : s.honest ≡ (file.honest && was_whole count (file ∷ []))
+  pub reads : s.reads ≡ 0
+  pub failures : s.failures ≡ 0
+  pub now : s.now ≡ file_medium count file
+  pub past : s.past ≡ []
+
+-- an honest disk of the whole blocks of this file
+pub record IsOpened (file : FileState) (s : State) : Type 0 where
+  pub file_honest : file.honest ≡ true
+  pub honest : s.honest ≡ true
+  pub blocks : s.blocks ≡ min (length file.bytes / 4096) (2 ^ 32 - 1)
+  pub now : s.now ≡ file_medium s.blocks file
+
+-- an honest disk of zero blocks
+pub record IsZero (s : State) : Type 0 where
+  pub honest : s.honest ≡ true
+  pub zero : s.now.contents ≡ replicate s.blocks (replicate 4096 0)
+
+module _ {F : Type 0} where
+  -- the file below
+  abbrev pub file_of : FileDisk F → F
+  file_of disk = disk.file
+
+  -- honest as long as its file is, and is long enough for the disk's blocks
+  abbrev pub file_state : (F → FileState) → FileDisk F → State
+  file_state state disk =
+      let now = state disk.file in
+      let past = map state (noted disk.past) in record {
+        blocks = disk.blocks;
+        honest = now.honest && was_whole disk.blocks (now ∷ past);
+        reads = length (noted disk.reads);
+        failures = length (noted disk.failed);
+        now = file_medium disk.blocks now;
+        past = map (file_medium disk.blocks) past;
+      }
+
+  -- the answer is counted where it is a fault, and the rest is as it was
+  pub record IsCounted {T : Type 0} (answer : Result T DeviceFault) (old new : FileDisk F) : Type 0 where
+    pub file : new.file ≡ old.file
+    pub blocks : new.blocks ≡ old.blocks
+    pub past : noted new.past ≡ noted old.past
+    pub reads : noted new.reads ≡ noted old.reads
+    pub failed : OnErr answer (length (noted new.failed) ≡ length (noted old.failed) + 1)
+    pub fine : OnOk answer (length (noted new.failed) ≡ length (noted old.failed))

@@ -1,0 +1,45 @@
+-- What a file holds that is read and written at places, and what its calls do to it.
+use Rattle.std.specs.Prelude.{◌≡◌, ℕ, ◌+◌, ◌≤◌, Bool, List, [], ◌∷◌, ◌++◌, length, take, drop, Result, IfOk, OnOk, OnErr}
+use Rattle.vm_disk.specs.declared.disk.DeviceFault.{DeviceFault}
+
+-- what is known of a file
+pub record FileState : Type 0 where
+  -- it has kept the rules of a file in every call so far
+  pub honest : Bool
+  pub bytes : List ℕ
+  -- the writes that no sync has made last yet, the newest first: where each begins, and how many bytes it has
+  pub waiting : List (ℕ × ℕ)
+
+-- the file's bytes, with these written over them from the offset on
+abbrev pub overwritten : ℕ → List ℕ → List ℕ → List ℕ
+overwritten offset bytes old = take offset old ++ bytes ++ drop (offset + length bytes) old
+
+-- a write of some bytes, at most so many, whatever they are
+pub record IsTorn (offset count : ℕ) (old new : List ℕ) : Type 0 where
+  pub bytes : List ℕ
+  pub few : length bytes ≤ count
+  pub written : new ≡ overwritten offset bytes old
+
+-- what a read does, on a file that is honest after it
+pub record ReadsAt {T : Type 0} (offset : ℕ) (bytes : List ℕ) (result : Result T DeviceFault) (old new : FileState) : Type 0 where
+  pub bytes_are : OnOk result (bytes ≡ take (length bytes) (drop offset old.bytes))
+  pub same : new.bytes ≡ old.bytes
+  pub same_waiting : new.waiting ≡ old.waiting
+
+-- what a write does, on a file that is honest after it: where it fails, it may have written any bytes there
+pub record WritesAt {T : Type 0} (offset : ℕ) (bytes : List ℕ) (result : Result T DeviceFault) (old new : FileState) : Type 0 where
+  pub written : OnOk result (new.bytes ≡ overwritten offset bytes old.bytes)
+  pub torn : OnErr result (IsTorn offset (length bytes) old.bytes new.bytes)
+  pub waiting : new.waiting ≡ (offset, length bytes) ∷ old.waiting
+
+-- what a sync does, on a file that is honest after it
+pub record SyncsFile {T : Type 0} (result : Result T DeviceFault) (old new : FileState) : Type 0 where
+  pub synced : OnOk result (new.waiting ≡ [])
+  pub failed : OnErr result (new.waiting ≡ old.waiting)
+  pub same : new.bytes ≡ old.bytes
+
+-- what a count of its bytes does, on a file that is honest after it
+pub record Measures (result : Result ℕ DeviceFault) (old new : FileState) : Type 0 where
+  pub count : IfOk result (λ count. count ≡ length old.bytes)
+  pub same : new.bytes ≡ old.bytes
+  pub same_waiting : new.waiting ≡ old.waiting
