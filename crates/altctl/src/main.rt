@@ -2,6 +2,7 @@
 #![tactic(auto)]
 
 use std::io::ErrorKind;
+use std::marker::Brand;
 use std::process::ExitCode;
 use std::rt::Env;
 use std::{env, io};
@@ -10,7 +11,7 @@ use vm_cli::{RealFiles, refuse_words, run_words, stop};
 fn main(rt: HostRuntime) -> ExitCode {
     let mut faults = rt.stderr();
     // Before anything is opened.
-    let Ok(mut files) = RealFiles::new(&rt) else {
+    let Ok(mut files) = RealFiles::<_, Brand>::new(&rt) else {
         return ExitCode::from(stop(&mut faults));
     };
     let status = match words(&rt) {

@@ -9,7 +9,6 @@ pub mod Spaces
 pub mod Words
 pub mod Replies
 pub mod Settlements
-pub mod File
 pub mod Exits
 pub mod Carried
 pub mod Talk

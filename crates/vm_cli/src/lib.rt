@@ -7,7 +7,6 @@
 #![tactic(auto)]
 
 mod escape;
-mod file;
 mod help;
 mod line;
 mod listing;
@@ -24,9 +23,9 @@ mod text;
 mod words;
 mod writing;
 
-pub use file::FileDisk;
 pub use place::{Place, RealFiles};
 pub use program::{refuse_words, run_words, stop};
 pub use talk::{ServeFault, serve};
 pub use task::Job;
+pub use vm_disk::FileDisk;
 pub use words::job;

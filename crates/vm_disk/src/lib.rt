@@ -22,4 +22,4 @@ pub use fuse::FuseDisk;
 pub use history::History;
 pub use memory::MemDisk;
 pub use positional::Positional;
-pub use system::{SystemFile, World};
+pub use system::{LAST_STANDARD, SystemFile, World};

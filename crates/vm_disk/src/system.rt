@@ -1,16 +1,20 @@
 //! A file of the system, as contracts can know it.
-ghost use Rattle.std.specs.Prelude.{◌≡◌, ℕ, List, [], reverse, IfSome};
+ghost use Rattle.std.specs.Prelude.{◌≡◌, ℕ, ◌<ℤ◌, pos, List, [], reverse, IfSome};
+ghost use Rattle.std.specs.Fd.{file_raw_fd};
 ghost use Rattle.vm_disk.specs.Past.{noted};
-ghost use Rattle.vm_disk.specs.System.{system_state, fresh};
 
 use crate::disk::DeviceFault;
 use crate::history::History;
 use crate::positional::Positional;
 use std::fs::{File, OpenOptions};
 use std::marker::{Brand, PhantomData};
+use std::os::fd::{AsRawFd, RawFd};
 use std::os::unix::fs::FileExt;
 use std::rt::Files;
 use std::snapshot::Snapshot;
+
+/// The standard input, output and error have the descriptors 0, 1 and 2.
+pub const LAST_STANDARD: RawFd = 2;
 
 /// What no program can know of the files of a place, said for contracts alone. It has no functions:
 /// code that is written for any world is proved for each.
@@ -46,12 +50,16 @@ enum Call {
 ///
 /// Assumed, and in no contract: which bytes a sync makes last, and that no one else writes the file
 /// between two openings.
+///
+/// Its descriptor is none of the standard ones, so that what is read and written there never is the
+/// file.
 #[derive(Drop)]
 pub struct SystemFile<W> {
     file: File,
     name: History<u8>,
     calls: History<Call>,
     world: PhantomData<W>,
+    ghost apart: { pos 2 <ℤ file_raw_fd file },
 }
 
 // Bytes as contracts see them, kept without bytes, the last first.
@@ -66,7 +74,10 @@ fn noted_bytes(bytes: &[u8]) -> History<u8>
 }
 
 impl<W: World> SystemFile<W> {
-    /// Opens a file that is there, to be read and written.
+    ghost use Rattle.vm_disk.specs.System.{system_state, state_after, fresh};
+
+    /// Opens a file that is there, to be read and written. None where it cannot be opened, or has a
+    /// standard descriptor.
     pub fn open(rt: &impl Files<File = File>, path: &str) -> Option<SystemFile<W>>
         ensures { IfSome result (λ file.
             system_state W.first W.torn file ≡ fresh (W.first path.now)) }
@@ -76,15 +87,11 @@ impl<W: World> SystemFile<W> {
             .write(true)
             .open(rt, path)
             .ok()?;
-        Some(SystemFile {
-            file,
-            name: noted_bytes(path.as_bytes()),
-            calls: History::new(),
-            world: PhantomData,
-        })
+        SystemFile::over(file, path, History::new())
     }
 
-    /// Makes a file that is not there yet, with no bytes, to be read and written.
+    /// Makes a file that is not there yet, with no bytes, to be read and written. None where it cannot
+    /// be made, or has a standard descriptor.
     pub fn create(rt: &impl Files<File = File>, path: &str) -> Option<SystemFile<W>>
         ensures { IfSome result (λ file. system_state W.first W.torn file ≡ fresh []) }
     {
@@ -96,9 +103,20 @@ impl<W: World> SystemFile<W> {
             .ok()?;
         let mut calls = History::new();
         calls.note(&Call::Created);
+        SystemFile::over(file, path, calls)
+    }
+
+    // An open file of this name after these calls, unless it has a standard descriptor.
+    fn over(file: File, name: &str, calls: History<Call>) -> Option<SystemFile<W>>
+        ensures { IfSome result (λ file.
+            system_state W.first W.torn file ≡ state_after (W.first name.now) (W.torn name.now) (noted calls)) }
+    {
+        if file.as_raw_fd() <= LAST_STANDARD {
+            return None;
+        }
         Some(SystemFile {
             file,
-            name: noted_bytes(path.as_bytes()),
+            name: noted_bytes(name.as_bytes()),
             calls,
             world: PhantomData,
         })
