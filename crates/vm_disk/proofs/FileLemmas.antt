@@ -9,7 +9,7 @@ use Rattle.vm_disk.specs.Disk.{Contents, block, Medium, State, Reads, Writes, Sy
 use Rattle.vm_disk.specs.Positional.{FileState, overwritten, IsTorn, ReadsAt, WritesAt, SyncsFile}
 use Rattle.vm_disk.specs.Past.{noted}
 use Rattle.vm_disk.specs.declared.file.FileDisk.{FileDisk}
-use Rattle.vm_disk.specs.File.{file_state, file_block, file_blocks, touches, is_touched, file_medium, was_whole, IsOver, IsOpened, IsZero}
+use Rattle.vm_disk.specs.File.{file_state, file_block, file_blocks, touches, is_touched, file_medium, was_whole, IsOver, IsOpened, IsZero, StaysHonest}
 use Rattle.vm_disk.proofs.OverwrittenLemmas.{overwritten_at, overwritten_before, overwritten_after, overwritten_no_shorter}
 use Rattle.vm_disk.proofs.ZeroLemmas.{zero_blocks}
 
@@ -206,8 +206,10 @@ module _ {F : Type 0} (state : F → FileState) where
     where
       good : (state file).honest ≡ true
       good = file_is_honest was.blocks (state file) (state was.file ∷ map state (noted was.past)) (still_honest was now file called honest)
+
       same : (state file).bytes ≡ (state was.file).bytes → (file_state state now).now.contents ≡ (file_state state was).now.contents
       same e = ap (λ m. m.contents) (now_shown was now file called) ∙ ap (file_blocks was.blocks) e
+
       by_answer : (r : Result (Unit {0}) DeviceFault) → SyncsFile r (state was.file) (state file) → Syncs r (file_state state was) (file_state state now)
       by_answer (Ok x) syncs =
           record {
@@ -223,3 +225,36 @@ module _ {F : Type 0} (state : F → FileState) where
             same = same syncs.same;
             time = record { step = inl (past_shown was now file called) };
           }
+
+  -- the disk is honest after the call where its file is, which got no shorter
+  pub stays : (was now : FileDisk F) (file : F)
+      → IsCalled was now file
+      → ((state file).honest ≡ true → 4096 * was.blocks ≤ length (state was.file).bytes → length (state was.file).bytes ≤ length (state file).bytes)
+      → StaysHonest state was now
+  stays was now file called longer before good =
+      let shown : F → ℕ → List F → Bool = λ f k fs. (state f).honest && was_whole k (state f ∷ map state fs) in
+      let past = was.file ∷ noted was.past in
+      let kept = subst (λ f. (state f).honest ≡ true) called.is good in
+      let old = and_parts (state was.file).honest (was_whole was.blocks (map state past)) before in
+      let parts = and_parts (nat_le (4096 * was.blocks) (length (state was.file).bytes)) (was_whole was.blocks (map state (noted was.past))) old.1 in
+      let long = leb-true (4096 * was.blocks) (length (state was.file).bytes) parts.0 in
+      let more = longer kept long in
+      let end : shown file was.blocks past ≡ true = and_from _ _ kept (and_from _ _ (le-leb (4096 * was.blocks) (length (state file).bytes) (omega arith)) old.1) in
+      ap (λ fs. shown now.file now.blocks fs) called.past ∙ ap (λ k. shown now.file k past) called.blocks ∙ ap (λ f. shown f was.blocks past) called.is ∙ end
+
+  -- after a call that leaves the bytes as they were
+  pub same_stays : (was now : FileDisk F) (file : F) → IsCalled was now file → ((state file).honest ≡ true → (state file).bytes ≡ (state was.file).bytes) → StaysHonest state was now
+  same_stays was now file called same =
+      stays was now file called (λ good long. let e : length (state file).bytes ≡ length (state was.file).bytes = ap length (same good) in omega arith)
+
+  -- after a write
+  pub write_stays : {T : Type 0} (answer : Result T DeviceFault) (n offset : ℕ) (bytes : List ℕ) (was now : FileDisk F) (file : F)
+      → IsCalled was now file → n < was.blocks → offset ≡ 4096 * n
+      → ((state file).honest ≡ true → offset ≤ length (state was.file).bytes → WritesAt offset bytes answer (state was.file) (state file))
+      → StaysHonest state was now
+  write_stays answer n offset bytes was now file called inside at law =
+      stays was now file called (λ good long.
+      let old = (state was.file).bytes in
+      let within : offset ≤ length old = omega arith in
+      let torn = some_written answer offset bytes (state was.file) (state file) (law good within) in
+      subst (λ xs. length old ≤ length xs) (sym torn.written) (overwritten_no_shorter offset torn.bytes old within))

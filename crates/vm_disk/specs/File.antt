@@ -80,3 +80,8 @@ module _ {F : Type 0} where
     pub reads : noted new.reads ≡ noted old.reads
     pub failed : OnErr answer (length (noted new.failed) ≡ length (noted old.failed) + 1)
     pub fine : OnOk answer (length (noted new.failed) ≡ length (noted old.failed))
+
+  -- a call that its file is honest after leaves an honest disk honest
+  abbrev pub StaysHonest : (F → FileState) → FileDisk F → FileDisk F → Type 0
+  StaysHonest state old new =
+      (file_state state old).honest ≡ true → (state (file_of new)).honest ≡ true → (file_state state new).honest ≡ true

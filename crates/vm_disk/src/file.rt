@@ -58,7 +58,7 @@ impl<F: Positional + Drop> FileDisk<F> {
             IsOver disk.blocks (F.state (file_of disk)) (file_state F.state disk)) }
         ensures opened { IfSome result (λ disk.
             (F.state (file_of disk)).honest ≡ true
-                → IsOpened (F.state file) (file_state F.state disk)) }
+            → IsOpened (F.state file) (file_state F.state disk)) }
     {
         let Ok(len) = file.len() else {
             return None;
@@ -74,8 +74,8 @@ impl<F: Positional + Drop> FileDisk<F> {
             IsOver blocks (F.state (file_of disk)) (file_state F.state disk)) }
         ensures created { IfSome result (λ disk.
             (F.state (file_of disk)).honest ≡ true
-                → (F.state file).bytes ≡ []
-                → IsZero (file_state F.state disk)) }
+            → (F.state file).bytes ≡ []
+            → IsZero (file_state F.state disk)) }
     {
         write_zeros(&mut file, blocks)?;
         Some(FileDisk::over(file, blocks))
@@ -120,7 +120,7 @@ impl<F: Positional> FileDisk<F> {
 
 impl<F: Positional> Disk for FileDisk<F> {
     ghost use Rattle.std.proofs.lemmas.List.FromFn.{length-map-range_with_len};
-    ghost use Rattle.vm_disk.specs.File.{file_state, file_block};
+    ghost use Rattle.vm_disk.specs.File.{file_state, StaysHonest};
 
     ghost state = { file_state F.state };
 
@@ -132,20 +132,40 @@ impl<F: Positional> Disk for FileDisk<F> {
         self.blocks
     }
 
-    fn read(&mut self, n: u32, into: &mut [u8; 4096]) -> Result<(), DeviceFault> {
+    fn read(&mut self, n: u32, into: &mut [u8; 4096]) -> Result<(), DeviceFault>
+        requires { n < (file_state F.state self.old).blocks }
+        ensures any { Counts 1 result (file_state F.state self.old) (file_state F.state self.new) }
+        ensures honest { (file_state F.state self.new).honest ≡ true
+            → Reads n into.new result (file_state F.state self.old) (file_state F.state self.new) }
+
+        ensures stays { StaysHonest F.state self.old self.new }
+    {
         self.reads.note(&());
         self.past.note(&self.file);
         let answer = self.file.read_at(into, offset_of(n));
         self.counted(answer)
     }
 
-    fn write(&mut self, n: u32, from: &[u8; 4096]) -> Result<(), DeviceFault> {
+    fn write(&mut self, n: u32, from: &[u8; 4096]) -> Result<(), DeviceFault>
+        requires { n < (file_state F.state self.old).blocks }
+        ensures any { Counts 0 result (file_state F.state self.old) (file_state F.state self.new) }
+        ensures honest { (file_state F.state self.new).honest ≡ true
+            → Writes n from.now result (file_state F.state self.old) (file_state F.state self.new) }
+
+        ensures stays { StaysHonest F.state self.old self.new }
+    {
         self.past.note(&self.file);
         let answer = self.file.write_at(from, offset_of(n));
         self.counted(answer)
     }
 
-    fn sync(&mut self) -> Result<(), DeviceFault> {
+    fn sync(&mut self) -> Result<(), DeviceFault>
+        ensures any { Counts 0 result (file_state F.state self.old) (file_state F.state self.new) }
+        ensures honest { (file_state F.state self.new).honest ≡ true
+            → Syncs result (file_state F.state self.old) (file_state F.state self.new) }
+
+        ensures stays { StaysHonest F.state self.old self.new }
+    {
         self.past.note(&self.file);
         let answer = self.file.sync();
         self.counted(answer)
