@@ -1,3 +1,5 @@
 pub mod FillLemmas
 pub mod GoesLemmas
 pub mod MomentLemmas
+pub mod KeptLemmas
+pub mod CachedLemmas
