@@ -5,3 +5,5 @@ pub mod OverwrittenLemmas
 pub mod ZeroLemmas
 pub mod FileLemmas
 pub mod SystemLemmas
+pub mod KeptLemmas
+pub mod CachedLemmas

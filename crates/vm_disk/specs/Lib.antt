@@ -2,6 +2,8 @@ pub mod Disk
 pub mod Past
 pub mod Memory
 pub mod Fuse
+pub mod Kept
+pub mod Cached
 pub mod Moments
 pub mod Positional
 pub mod File

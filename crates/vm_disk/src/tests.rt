@@ -1,5 +1,5 @@
 //! What each disk holds after a few calls, by hand.
-use crate::{DeviceFault, Disk, FuseDisk, MemDisk};
+use crate::{CachedDisk, DeviceFault, Disk, FuseDisk, MemDisk};
 use std::test::Fail;
 
 // Fills block n with one byte. A number past the end is a failure.
@@ -103,5 +103,56 @@ fn fuse_stops(rt: HostRuntime) -> Result<(), Fail> {
         assert_eq!(rt; inner.is_dirty(n), dirty, "block {n}");
         assert_eq!(rt; filling(&mut inner, n)?, Some(byte), "block {n}");
     }
+    Ok(())
+}
+
+// Reads block n, and tells how many calls the disk below has had.
+fn calls_after_read(
+    disk: &mut CachedDisk<FuseDisk<MemDisk>>,
+    n: u32,
+    byte: u8,
+) -> Result<u32, DeviceFault> {
+    if filling(disk, n)? == Some(byte) {
+        Ok(disk.inner().calls())
+    } else {
+        Err(DeviceFault)
+    }
+}
+
+#[test]
+fn cache_asks_for_what_it_does_not_keep(rt: HostRuntime) -> Result<(), Fail> {
+    let fuse = FuseDisk::once(MemDisk::new(rt.alloc(), 64)?, 5, [9; 4096]);
+    let Ok(mut disk) = CachedDisk::new(rt.alloc(), fuse, 2) else {
+        return Err(Fail::new("no memory"));
+    };
+    for (n, calls) in [(34, 1), (34, 1), (35, 2), (36, 3), (34, 4)] {
+        assert_eq!(rt; calls_after_read(&mut disk, n, 0)?, calls, "block {n}");
+    }
+    fill(&mut disk, 34, 7)?;
+    assert_eq!(rt; disk.inner().calls(), 5);
+    assert_eq!(rt; calls_after_read(&mut disk, 34, 7)?, 5);
+    assert_eq!(rt; fill(&mut disk, 34, 8), Err(DeviceFault));
+    assert_eq!(rt; disk.inner().calls(), 6);
+    assert_eq!(rt; calls_after_read(&mut disk, 34, 9)?, 7);
+    disk.sync()?;
+    assert_eq!(rt; disk.into_inner().calls(), 8);
+    Ok(())
+}
+
+#[test]
+fn cache_writes_through(rt: HostRuntime) -> Result<(), Fail> {
+    let Ok(mut disk) = CachedDisk::new(rt.alloc(), MemDisk::new(rt.alloc(), 4)?, 1) else {
+        return Err(Fail::new("no memory"));
+    };
+    assert_eq!(rt; disk.blocks(), 4);
+    fill(&mut disk, 2, 7)?;
+    fill(&mut disk, 2, 8)?;
+    assert!(rt; disk.inner().is_dirty(2));
+    assert_eq!(rt; filling(&mut disk, 1)?, Some(0));
+    assert_eq!(rt; filling(&mut disk, 2)?, Some(8));
+    disk.sync()?;
+    let mut inner = disk.into_inner();
+    assert!(rt; !inner.is_dirty(2));
+    assert_eq!(rt; filling(&mut inner, 2)?, Some(8));
     Ok(())
 }

@@ -1,0 +1,39 @@
+-- The blocks that a cache keeps.
+use Rattle.std.specs.Prelude.{◌≡◌, ℕ, ◌-◌, Bool, if◌then◌else◌, List, ◌∷◌, length, map, take, nat_eq, is_some, Some}
+use Rattle.std.specs.Map.{lookup, remove_entry}
+use Rattle.vm_disk.specs.declared.kept.Kept.{Kept}
+use Rattle.vm_disk.specs.Disk.{Contents, block}
+use Rattle.vm_disk.specs.Past.{noted}
+
+-- blocks by number, each with its bytes, the one that was used last first
+abbrev pub Entries : Type 0
+Entries = List (ℕ × List ℕ)
+
+-- block n is among them
+abbrev pub keeps : ℕ → Entries → Bool
+keeps n entries = is_some (lookup (nat_eq n) entries)
+
+-- once block n was used and has these bytes: it is the first, and where one more would be too many the last one goes
+abbrev pub with_first : ℕ → ℕ → List ℕ → Entries → Entries
+with_first limit n bytes entries = (n, bytes) ∷ (if keeps n entries then remove_entry (nat_eq n) entries else take (limit - 1) entries)
+
+-- each of them has the bytes of its block
+abbrev pub AreOf : Contents → Entries → Type 0
+AreOf contents entries = (n : ℕ) (bytes : List ℕ) → lookup (nat_eq n) entries ≡ Some bytes → bytes ≡ block contents n
+
+-- the kept blocks
+abbrev pub entries_of : Kept → Entries
+entries_of kept = map (λ entry. (entry.0, entry.1.value)) kept.rooms.entries
+
+-- how many blocks may be kept
+abbrev pub limit_of : Kept → ℕ
+limit_of kept = kept.rooms.cap
+
+-- how often a block was not kept since memory for it was refused
+abbrev pub refusals_in : Kept → ℕ
+refusals_in kept = length (noted kept.refused)
+
+-- as many may be kept, and no memory was refused
+pub record Settings (old new : Kept) : Type 0 where
+  pub limit : limit_of new ≡ limit_of old
+  pub refusals : refusals_in new ≡ refusals_in old

@@ -1,0 +1,147 @@
+//! A disk that keeps the blocks which were used last.
+ghost use Rattle.std.specs.Prelude.{◌≡◌, ◌<◌, true, false, Some, nat_eq, IfOk, IfErr, OnOk, OnErr, IsOk};
+ghost use Rattle.std.specs.Map.{lookup, remove_entry};
+ghost use Rattle.vm_disk.specs.Disk.{Counts, Reads, Writes, Syncs};
+ghost use Rattle.vm_disk.specs.Kept.{AreOf, entries_of};
+
+use crate::disk::{DeviceFault, Disk};
+use crate::history::History;
+use crate::kept::Kept;
+use std::alloc::Global;
+use std::num::NonZeroUsize;
+
+/// Keeps the blocks of the disk below that were used last. A read of a kept block does not reach the
+/// disk below; each write does, and each sync.
+///
+/// Memory for the bytes of a block is taken when it is kept, until the cache is full. From there a block
+/// that is new takes the room of the one that goes. Where memory is refused, the block is not kept,
+/// and the call is served.
+#[derive(Drop)]
+pub struct CachedDisk<D: Disk> {
+    inner: D,
+    kept: Kept,
+    reads: History<()>,
+    ghost right: { (D.state inner).honest ≡ true → AreOf (D.state inner).now.contents (entries_of kept) },
+}
+
+impl<D: Disk> CachedDisk<D> {
+    ghost use Rattle.vm_disk.specs.Cached.{inner_of, IsEmptyOver};
+
+    /// Keeps up to `capacity` blocks of the disk below. Takes memory for the order of all of them and for the
+    /// bytes of one; where it is refused, the disk comes back.
+    pub fn new(alloc: Global, inner: D, capacity: usize) -> Result<CachedDisk<D>, D>
+        requires { 0 < capacity }
+        ensures ok { IfOk result (IsEmptyOver inner capacity) }
+        ensures refused { IfErr result (λ disk. disk ≡ inner) }
+    {
+        let Some(limit) = NonZeroUsize::new(capacity) else {
+            return Err(inner);
+        };
+        match Kept::new(alloc, limit) {
+            Ok(kept) => Ok(CachedDisk {
+                inner,
+                kept,
+                reads: History::new(),
+            }),
+            Err(_) => Err(inner),
+        }
+    }
+
+    /// The disk below, to look at.
+    pub fn inner(&self) -> &D
+        ensures { result.now ≡ inner_of self.now }
+    {
+        &self.inner
+    }
+
+    /// The disk below. The kept blocks are given up.
+    pub fn into_inner(self) -> D
+        ensures { result ≡ inner_of self }
+    {
+        self.inner
+    }
+}
+
+impl<D: Disk> Disk for CachedDisk<D> {
+    ghost use Rattle.vm_disk.specs.Kept.{keeps};
+    ghost use Rattle.vm_disk.specs.Cached.{inner_of, kept_of, cached_state, Uses, KeepsJust};
+
+    ghost state = { cached_state D.state };
+
+    ghost whole = { λ disk honest. D.whole disk.inner honest };
+
+    ghost small = { λ disk. D.small disk.inner };
+
+    fn blocks(&self) -> u32 {
+        self.inner.blocks()
+    }
+
+    fn read(&mut self, n: u32, into: &mut [u8; 4096]) -> Result<(), DeviceFault>
+        requires { n < (cached_state D.state self.old).blocks }
+        ensures any { Counts 1 result (cached_state D.state self.old) (cached_state D.state self.new) }
+        ensures honest { (cached_state D.state self.new).honest ≡ true
+            → Reads n into.new result (cached_state D.state self.old) (cached_state D.state self.new) }
+
+        // A kept block is copied out, and the disk below is not asked.
+        ensures hit { keeps n (kept_of self.old) ≡ true
+            → (inner_of self.new ≡ inner_of self.old)
+            × IsOk result
+            × (lookup (nat_eq n) (kept_of self.old) ≡ Some into.new) }
+
+        // Else it is asked once.
+        ensures miss { keeps n (kept_of self.old) ≡ false
+            → Counts 1 result (D.state (inner_of self.old)) (D.state (inner_of self.new)) }
+        ensures kept { OnOk result (Uses n into.new self.old self.new) }
+        ensures failed { OnErr result (KeepsJust (kept_of self.old) self.old self.new) }
+    {
+        self.reads.note(&());
+        if self.kept.recall(n, into) {
+            return Ok(());
+        }
+        match self.inner.read(n, into) {
+            Ok(()) => {
+                self.kept.keep(n, into);
+                Ok(())
+            }
+            Err(fault) => Err(fault),
+        }
+    }
+
+    fn write(&mut self, n: u32, from: &[u8; 4096]) -> Result<(), DeviceFault>
+        requires { n < (cached_state D.state self.old).blocks }
+        ensures any { Counts 0 result (cached_state D.state self.old) (cached_state D.state self.new) }
+        ensures honest { (cached_state D.state self.new).honest ≡ true
+            → Writes n from.now result (cached_state D.state self.old) (cached_state D.state self.new) }
+
+        ensures passed { Counts 0 result (D.state (inner_of self.old)) (D.state (inner_of self.new)) }
+        ensures kept { OnOk result (Uses n from.now self.old self.new) }
+
+        // A block whose write failed is not kept.
+        ensures failed { OnErr result (KeepsJust (remove_entry (nat_eq n) (kept_of self.old)) self.old self.new) }
+        ensures gone { OnErr result (keeps n (kept_of self.new) ≡ false) }
+    {
+        match self.inner.write(n, from) {
+            Ok(()) => {
+                if !self.kept.change(n, from) {
+                    self.kept.keep(n, from);
+                }
+                Ok(())
+            }
+            Err(fault) => {
+                self.kept.forget(n);
+                Err(fault)
+            }
+        }
+    }
+
+    fn sync(&mut self) -> Result<(), DeviceFault>
+        ensures any { Counts 0 result (cached_state D.state self.old) (cached_state D.state self.new) }
+        ensures honest { (cached_state D.state self.new).honest ≡ true
+            → Syncs result (cached_state D.state self.old) (cached_state D.state self.new) }
+
+        ensures passed { Counts 0 result (D.state (inner_of self.old)) (D.state (inner_of self.new)) }
+        ensures kept { KeepsJust (kept_of self.old) self.old self.new }
+    {
+        self.inner.sync()
+    }
+}

@@ -1,0 +1,128 @@
+//! The blocks that a cache keeps.
+ghost use Rattle.std.specs.Prelude.{◌≡◌, ◌⊎◌, ◌+◌, [], nat_eq, false, IfSome, IfOk};
+ghost use Rattle.std.specs.Bool.{OnTrue, OnFalse};
+ghost use Rattle.std.specs.Map.{lookup, remove_entry};
+ghost use Rattle.std.specs.NonZero.{non_zero_usize_get};
+
+use crate::history::History;
+use lru::LruCache;
+use std::alloc::{AllocError, Global};
+use std::num::NonZeroUsize;
+
+/// Room for the bytes of one block.
+type Room = Box<[u8; 4096]>;
+
+/// Blocks with their bytes, in the order of their last use. Where one more would be too many, the
+/// one that was used longest ago goes, and the next block that is new takes its room.
+#[derive(Drop)]
+pub(crate) struct Kept {
+    alloc: Global,
+    rooms: LruCache<u32, Room>,
+    spare: Option<Room>,
+    refused: History<()>,
+}
+
+fn fill(room: &mut Room, bytes: &[u8; 4096])
+    ensures { room.new.value ≡ bytes.now }
+{
+    **room = *bytes;
+}
+
+impl Kept {
+    ghost use Rattle.vm_disk.specs.Kept.{entries_of, limit_of, refusals_in, keeps, with_first, Settings};
+
+    /// No blocks yet. Takes memory for the order of all of them, and for the bytes of one.
+    pub(crate) fn new(alloc: Global, capacity: NonZeroUsize) -> Result<Kept, AllocError>
+        ensures entries { IfOk result (λ kept. entries_of kept ≡ []) }
+        ensures limit { IfOk result (λ kept. limit_of kept ≡ non_zero_usize_get capacity) }
+        ensures refusals { IfOk result (λ kept. refusals_in kept ≡ 0) }
+    {
+        Ok(Kept {
+            alloc,
+            rooms: LruCache::new(alloc, capacity)?,
+            spare: Some(Box::new(alloc, [0; 4096])?),
+            refused: History::new(),
+        })
+    }
+
+    /// Copies a kept block out, which is then the one used last, and tells whether there is one.
+    pub(crate) fn recall(&mut self, n: u32, into: &mut [u8; 4096]) -> bool
+        ensures answer { result ≡ keeps n (entries_of self.old) }
+        ensures found { OnTrue result (lookup (nat_eq n) (entries_of self.old) ≡ Some into.new) }
+        ensures first { OnTrue result (entries_of self.new ≡ with_first (limit_of self.old) n into.new (entries_of self.old)) }
+        ensures missed { OnFalse result (entries_of self.new ≡ entries_of self.old) }
+        ensures settings { Settings self.old self.new }
+    {
+        match self.rooms.get(&n) {
+            Some(room) => {
+                *into = **room;
+                true
+            }
+            None => false,
+        }
+    }
+
+    /// Gives a kept block these bytes, in its place, and tells whether there is one.
+    pub(crate) fn change(&mut self, n: u32, bytes: &[u8; 4096]) -> bool
+        ensures answer { result ≡ keeps n (entries_of self.old) }
+        ensures first { OnTrue result (entries_of self.new ≡ with_first (limit_of self.old) n bytes.now (entries_of self.old)) }
+        ensures missed { OnFalse result (entries_of self.new ≡ entries_of self.old) }
+        ensures settings { Settings self.old self.new }
+    {
+        match self.rooms.get_mut(&n) {
+            Some(room) => {
+                fill(room, bytes);
+                true
+            }
+            None => false,
+        }
+    }
+
+    // Room with these bytes. In a full cache it is the spare one.
+    fn room(&mut self, bytes: &[u8; 4096]) -> Option<Room>
+        ensures bytes { IfSome result (λ room. room.value ≡ bytes.now) }
+        ensures rooms { self.new.rooms ≡ self.old.rooms }
+        ensures settings { Settings self.old self.new }
+    {
+        if self.rooms.len() < self.rooms.cap().get() {
+            return Box::new(self.alloc, *bytes).ok();
+        }
+        let mut room = self.spare.take()?;
+        fill(&mut room, bytes);
+        Some(room)
+    }
+
+    /// Keeps a block with these bytes, if there is memory for it.
+    pub(crate) fn keep(&mut self, n: u32, bytes: &[u8; 4096])
+        ensures limit { limit_of self.new ≡ limit_of self.old }
+        ensures kept { (refusals_in self.new ≡ refusals_in self.old)
+            × (entries_of self.new ≡ with_first (limit_of self.old) n bytes.now (entries_of self.old))
+            ⊎ ((refusals_in self.new ≡ refusals_in self.old + 1) × (entries_of self.new ≡ entries_of self.old)) }
+    {
+        let Some(room) = self.room(bytes) else {
+            self.refused.note(&());
+            return;
+        };
+        match self.rooms.push(n, room) {
+            Ok(Some((_, room))) => self.spare = Some(room),
+            Ok(None) => {}
+            Err(failed) => {
+                self.spare = Some(failed.value.1);
+                self.refused.note(&());
+            }
+        }
+    }
+
+    /// Keeps block n no longer.
+    pub(crate) fn forget(&mut self, n: u32)
+        ensures entries { entries_of self.new ≡ remove_entry (nat_eq n) (entries_of self.old) }
+        ensures gone { keeps n (entries_of self.new) ≡ false }
+        ensures settings { Settings self.old self.new }
+    {
+        if self.rooms.len() > 0 {
+            if let Some(room) = self.rooms.pop(&n) {
+                self.spare = Some(room);
+            }
+        }
+    }
+}
