@@ -1,5 +1,5 @@
 //! What stands between a store and the device that fails.
-use std::alloc::{AllocError, Global};
+use std::alloc::Global;
 use vm_disk::{Disk, FuseDisk, MemDisk};
 
 /// A device that fails one call, over one that stops.
@@ -7,15 +7,17 @@ pub type Device = FuseDisk<FuseDisk<MemDisk>>;
 
 /// A disk for a store, over such a device.
 pub trait Layer: Disk + Drop {
-    fn over(alloc: Global, device: Device) -> Result<Self, AllocError>;
+    /// A new one, where there is memory for it.
+    fn over(alloc: Global, device: Device) -> Option<Self>;
 
+    /// The device, given back.
     fn below(self) -> Device;
 }
 
 /// Nothing between them.
 impl Layer for Device {
-    fn over(_: Global, device: Device) -> Result<Device, AllocError> {
-        Ok(device)
+    fn over(_: Global, device: Device) -> Option<Device> {
+        Some(device)
     }
 
     fn below(self) -> Device {

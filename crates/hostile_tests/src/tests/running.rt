@@ -164,7 +164,7 @@ pub(super) fn run<D: Layer>(
         Some(fault) => FuseDisk::once(stopping, fault.passes.min(NEVER), fault.torn),
         None => FuseDisk::once(stopping, NEVER, *torn),
     };
-    let disk = D::over(alloc, failing)?;
+    let disk = D::over(alloc, failing).ok_or(Wrong::Memory)?;
     let (disk, due) = go_on(alloc, disk, scene.from)?;
     let then = scene.fault.and_then(|fault| fault.then);
     let (disk, due) = match then {
