@@ -33,7 +33,6 @@ abbrev pub filed_maps : Filed → Map × Map
 filed_maps f = (f.current, f.base)
 
 module _ (n : List ℕ) where
-
   -- an alternative that is there is changed where it stands
   pub changed_front : (t u : Tree) (c : Alternative → Alternative) → is_some (named t n) ≡ true → changed (t ++ u) n c ≡ changed t n c ++ u
   changed_front [] u c h = cc
