@@ -1,5 +1,8 @@
 //! What each disk holds after a few calls, by hand.
-use crate::{CachedDisk, DeviceFault, Disk, FuseDisk, MemDisk};
+use crate::{CachedDisk, DeviceFault, Disk, FileDisk, FuseDisk, MemDisk, Positional, SystemFile};
+use std::alloc::{AllocError, Global};
+use std::fs;
+use std::marker::Brand;
 use std::test::Fail;
 
 // Fills block n with one byte. A number past the end is a failure.
@@ -154,5 +157,160 @@ fn cache_writes_through(rt: HostRuntime) -> Result<(), Fail> {
     let mut inner = disk.into_inner();
     assert!(rt; !inner.is_dirty(2));
     assert_eq!(rt; filling(&mut inner, 2)?, Some(8));
+    Ok(())
+}
+
+// A file in memory, of which no contract says anything. Where it is to fail, each call of it does.
+#[derive(Drop)]
+struct Bytes {
+    bytes: Vec<u8>,
+    fails: bool,
+}
+
+impl Bytes {
+    // Sets a byte, or adds it at the end.
+    fn set(&mut self, at: usize, byte: u8) -> Result<(), DeviceFault> {
+        if at < self.bytes.len() {
+            self.bytes[at] = byte;
+            return Ok(());
+        }
+        self.bytes.push(byte).map_err(|_| DeviceFault)
+    }
+}
+
+impl Positional for Bytes {
+    ghost use Rattle.std.specs.Prelude.{false, []};
+
+    ghost state = { λ file. record { honest = false; bytes = []; waiting = [] } };
+
+    fn len(&mut self) -> Result<u64, DeviceFault> {
+        if self.fails {
+            return Err(DeviceFault);
+        }
+        Ok(self.bytes.len() as u64)
+    }
+
+    fn read_at(&mut self, into: &mut [u8; 4096], offset: u64) -> Result<(), DeviceFault> {
+        let start = offset as usize;
+        for (k, to) in into.iter_mut().enumerate() {
+            match self.bytes.get(start.saturating_add(k)) {
+                Some(byte) if !self.fails => *to = *byte,
+                _ => return Err(DeviceFault),
+            }
+        }
+        Ok(())
+    }
+
+    fn write_at(&mut self, from: &[u8; 4096], offset: u64) -> Result<(), DeviceFault> {
+        if self.fails {
+            return Err(DeviceFault);
+        }
+        for (k, byte) in from.iter().enumerate() {
+            self.set((offset as usize).saturating_add(k), *byte)?;
+        }
+        Ok(())
+    }
+
+    fn write_zeros_at(&mut self, count: usize, offset: u64) -> Result<(), DeviceFault> {
+        if self.fails {
+            return Err(DeviceFault);
+        }
+        for k in 0..count {
+            self.set((offset as usize).saturating_add(k), 0)?;
+        }
+        Ok(())
+    }
+
+    fn sync(&mut self) -> Result<(), DeviceFault> {
+        if self.fails {
+            return Err(DeviceFault);
+        }
+        Ok(())
+    }
+}
+
+// A file of so many bytes: 1 in each byte of block 0, 2 in those of block 1, and so on.
+fn numbered(alloc: Global, count: usize) -> Result<Bytes, AllocError> {
+    let mut bytes = Vec::new(alloc);
+    for k in 0..count {
+        bytes.push((k / 4096 % 255) as u8 + 1)?;
+    }
+    Ok(Bytes {
+        bytes,
+        fails: false,
+    })
+}
+
+#[test]
+fn file_reads_and_writes_at_its_offsets(rt: HostRuntime) -> Result<(), Fail> {
+    let Some(mut disk) = FileDisk::open(numbered(rt.alloc(), 12298)?) else {
+        panic!(rt; "no disk");
+    };
+    assert_eq!(rt; disk.blocks(), 3);
+    for (n, byte) in [(0, 1), (1, 2), (2, 3)] {
+        assert_eq!(rt; filling(&mut disk, n)?, Some(byte), "block {n}");
+    }
+    fill(&mut disk, 1, 7)?;
+    disk.sync()?;
+    assert_eq!(rt; filling(&mut disk, 1)?, Some(7));
+    let file = disk.into_file();
+    for (at, byte) in [(4095, 1), (4096, 7), (8191, 7), (8192, 3), (12297, 4)] {
+        assert_eq!(rt; file.bytes.get(at).copied(), Some(byte), "byte {at}");
+    }
+    assert_eq!(rt; file.bytes.len(), 12298);
+    Ok(())
+}
+
+#[test]
+fn file_is_made_of_zero_blocks(rt: HostRuntime) -> Result<(), Fail> {
+    let Some(disk) = FileDisk::create(numbered(rt.alloc(), 0)?, 17) else {
+        panic!(rt; "no disk");
+    };
+    assert_eq!(rt; disk.blocks(), 17);
+    let file = disk.into_file();
+    assert_eq!(rt; file.bytes.len(), 69632);
+    assert!(rt; file.bytes.iter().all(|byte| *byte == 0));
+    Ok(())
+}
+
+#[test]
+fn file_that_fails(rt: HostRuntime) -> Result<(), Fail> {
+    let mut file = numbered(rt.alloc(), 4096)?;
+    file.fails = true;
+    let mut disk = FileDisk::over(file, 1);
+    assert_eq!(rt; filling(&mut disk, 0), Err(DeviceFault));
+    assert_eq!(rt; fill(&mut disk, 0, 7), Err(DeviceFault));
+    assert_eq!(rt; disk.sync(), Err(DeviceFault));
+    let file = disk.into_file();
+    assert_eq!(rt; file.bytes.get(0).copied(), Some(1));
+    assert!(rt; FileDisk::open(file).is_none());
+    Ok(())
+}
+
+#[test]
+fn system_file_holds_what_was_written(rt: HostRuntime) -> Result<(), Fail> {
+    let path = "vm_disk_system_file_test";
+    let _ = fs::remove_file(&rt, path);
+    let Some(file) = SystemFile::<Brand>::create(&rt, path) else {
+        panic!(rt; "not made");
+    };
+    let Some(mut disk) = FileDisk::create(file, 17) else {
+        panic!(rt; "not written");
+    };
+    fill(&mut disk, 16, 7)?;
+    disk.sync()?;
+    let _ = disk.into_file();
+
+    let Some(file) = SystemFile::<Brand>::open(&rt, path) else {
+        panic!(rt; "not opened");
+    };
+    let Some(mut disk) = FileDisk::open(file) else {
+        panic!(rt; "not measured");
+    };
+    assert_eq!(rt; disk.blocks(), 17);
+    for (n, byte) in [(0, 0), (15, 0), (16, 7)] {
+        assert_eq!(rt; filling(&mut disk, n)?, Some(byte), "block {n}");
+    }
+    fs::remove_file(&rt, path)?;
     Ok(())
 }
