@@ -1,26 +1,16 @@
 -- How the calls of a file show as calls of a disk over it.
-use Rattle.std.proofs.Common.{◌≡◌, ◌≢◌, ◌⊎◌, inl, inr, ℕ, ◌+◌, ◌-◌, ◌*◌, ◌/◌, ◌^◌, min, ◌<◌, ◌≤◌, ◌&&◌, ◌||◌, nat_lt, nat_le, Bool, true, false, List, [], ◌∷◌, length, map, replicate, take, drop, Result, Ok, Err, OnOk, OnErr, refl, sym, ◌∙◌, ap, subst, arith}
-use Rattle.std.specs.List.{range_with_len}
+use Rattle.std.proofs.Common.{◌≡◌, ◌≢◌, ◌⊎◌, inl, inr, ℕ, ◌+◌, ◌-◌, ◌*◌, ◌/◌, ◌^◌, min, ◌<◌, ◌≤◌, ◌&&◌, ◌||◌, nat_le, Bool, true, false, List, [], ◌∷◌, length, map, replicate, take, drop, Result, Ok, Err, OnOk, refl, sym, ◌∙◌, ap, subst, arith}
 use Rattle.std.proofs.lemmas.Bool.{and_parts, and_from, and_left, and_right, or_left, lt-ltb, le-ltb, leb-true, le-leb, cases_order, cases_lt}
 use Rattle.std.proofs.lemmas.List.{get_or_past, length-replicate}
 use Rattle.std.proofs.lemmas.List.FromFn.{length-map-range_with_len, get_or-map-range_with_len}
 use Rattle.vm_disk.specs.declared.disk.DeviceFault.{DeviceFault}
-use Rattle.vm_disk.specs.Disk.{Contents, block, Medium, State, Reads, Writes, Syncs}
+use Rattle.vm_disk.specs.Disk.{block, Medium, State, Reads, Writes, Syncs}
 use Rattle.vm_disk.specs.Positional.{FileState, overwritten, IsTorn, ReadsAt, WritesAt, SyncsFile}
 use Rattle.vm_disk.specs.Past.{noted}
 use Rattle.vm_disk.specs.declared.file.FileDisk.{FileDisk}
 use Rattle.vm_disk.specs.File.{file_state, file_block, file_blocks, touches, is_touched, file_medium, was_whole, IsOver, IsOpened, IsZero, StaysHonest}
 use Rattle.vm_disk.proofs.OverwrittenLemmas.{overwritten_at, overwritten_before, overwritten_after, overwritten_no_shorter}
 use Rattle.vm_disk.proofs.ZeroLemmas.{zero_blocks}
-
--- the disk was honest before the call
-pub honest_before : (count : ℕ) (old new : FileState) (past : List FileState) → (new.honest ≡ true → old.honest ≡ true)
-    → (new.honest && was_whole count (new ∷ old ∷ past)) ≡ true
-    → (old.honest && was_whole count (old ∷ past)) ≡ true
-honest_before count old new past earlier honest =
-    let now = and_parts new.honest (was_whole count (new ∷ old ∷ past)) honest in
-    let before = and_parts (nat_le (4096 * count) (length new.bytes)) (was_whole count (old ∷ past)) now.1 in
-    and_from old.honest (was_whole count (old ∷ past)) (earlier now.0) before.1
 
 -- the file is honest after the call
 pub file_is_honest : (count : ℕ) (new : FileState) (past : List FileState) → (new.honest && was_whole count (new ∷ past)) ≡ true → new.honest ≡ true

@@ -43,10 +43,6 @@ module _ {V : Type 0} (f : V → List ℕ) where
   take_view (suc m) [] = refl
   take_view (suc m) (e ∷ es) = ap (λ l. (e.0, f e.1) ∷ l) (take_view m es)
 
-  keys_view : (es : List (ℕ × V)) → keys_of (view es) ≡ keys_of es
-  keys_view [] = refl
-  keys_view (e ∷ es) = ap (λ l. e.0 ∷ l) (keys_view es)
-
   -- what a look-up finds, by the entry
   pub found_entry : (n : ℕ) (es : List (ℕ × V)) (v : V) → lookup (nat_eq n) es ≡ Some v → lookup_entry (nat_eq n) es ≡ Some (n, v)
   found_entry n [] v h = cc

@@ -1,6 +1,6 @@
 -- What stands in a file after some bytes were written over those from an offset on.
-use Rattle.std.proofs.Common.{◌≡◌, ℕ, ◌+◌, ◌-◌, ◌≤◌, List, [], ◌++◌, length, take, drop, min, refl, sym, ◌∙◌, ap, arith, append_assoc, append-nil, length-append, length-drop}
-use Rattle.std.proofs.lemmas.List.{take_all, take_at, take-take, take-append-le, drop_at, drop_all, drop-drop, drop-take, length-take-le}
+use Rattle.std.proofs.Common.{◌≡◌, ℕ, ◌+◌, ◌-◌, ◌≤◌, List, ◌++◌, length, take, drop, refl, sym, ◌∙◌, ap, arith, append_assoc, length-append, length-drop}
+use Rattle.std.proofs.lemmas.List.{take_at, take-take, take-append-le, drop_at, drop-drop, drop-take, length-take-le}
 use Rattle.vm_disk.specs.Positional.{overwritten}
 
 front : (offset : ℕ) (bytes old : List ℕ) → offset ≤ length old → length (take offset old ++ bytes) ≡ offset + length bytes
@@ -39,10 +39,3 @@ pub overwritten_no_shorter : (offset : ℕ) (bytes old : List ℕ) → offset �
 overwritten_no_shorter offset bytes old inside =
     let end = offset + length bytes in
     omega (arith, length-append (take offset old ++ bytes) (drop end old), front offset bytes old inside, length-drop end old)
-
--- bytes written at the end
-pub appended : (bytes old : List ℕ) → overwritten (length old) bytes old ≡ old ++ bytes
-appended bytes old =
-    let whole : take (length old) old ≡ old = take_all (length old) old (omega arith) in
-    let rest : drop (length old + length bytes) old ≡ [] = drop_all (length old + length bytes) old (omega arith) in
-    ap (λ xs. xs ++ bytes ++ drop (length old + length bytes) old) whole ∙ ap (λ xs. old ++ bytes ++ xs) rest ∙ append-nil (old ++ bytes)

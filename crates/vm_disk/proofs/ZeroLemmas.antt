@@ -1,16 +1,8 @@
 -- A file that is filled with zeros, as blocks.
-use Rattle.std.proofs.Common.{◌≡◌, ℕ, ◌+◌, ◌-◌, ◌*◌, ◌<◌, ◌≤◌, List, [], ◌++◌, length, take, drop, replicate, refl, sym, ◌∙◌, ap, arith}
-use Rattle.std.proofs.lemmas.List.{length-replicate, get_or-replicate, replicate-append-replicate, take-replicate, drop-replicate}
+use Rattle.std.proofs.Common.{◌≡◌, ℕ, ◌-◌, ◌*◌, ◌<◌, List, [], take, replicate, sym, ◌∙◌, ap, arith}
+use Rattle.std.proofs.lemmas.List.{length-replicate, get_or-replicate, take-replicate, drop-replicate}
 use Rattle.std.proofs.lemmas.List.FromFn.{fill_by_all}
-use Rattle.vm_disk.specs.Positional.{overwritten}
 use Rattle.vm_disk.specs.File.{file_block, file_blocks}
-use Rattle.vm_disk.proofs.OverwrittenLemmas.{appended}
-
--- zeros written at the end of zeros
-pub zeros_more : (so_far more upto offset : ℕ) (bytes old new : List ℕ) → old ≡ replicate so_far 0 → bytes ≡ replicate more 0 → offset ≡ so_far → so_far + more ≡ upto → new ≡ overwritten offset bytes old → new ≡ replicate upto 0
-zeros_more so_far more upto offset bytes old new before zeros at sum written =
-    let end : offset ≡ length old = at ∙ sym (length-replicate so_far 0) ∙ ap length (sym before) in
-    written ∙ ap (λ k. overwritten k bytes old) end ∙ appended bytes old ∙ ap (λ xs. xs ++ bytes) before ∙ ap (λ xs. replicate so_far 0 ++ xs) zeros ∙ replicate-append-replicate so_far more 0 ∙ ap (λ k. replicate k 0) sum
 
 zero_block : (count k : ℕ) → k < count → file_block (replicate (4096 * count) 0) k ≡ replicate 4096 0
 zero_block count k inside =

@@ -1,5 +1,5 @@
 -- What a file of the system shows, by the calls that were made of it.
-use Rattle.std.specs.Prelude.{◌≡◌, ℕ, ◌+◌, ◌==◌, ◌&&◌, Bool, true, List, [], ◌∷◌, length, reverse, take, drop, replicate, bytes_eq}
+use Rattle.std.specs.Prelude.{ℕ, ◌==◌, ◌&&◌, Bool, true, List, [], ◌∷◌, length, reverse, take, drop, replicate, bytes_eq}
 use Rattle.vm_disk.specs.declared.system.Call.{Call}
 use Rattle.vm_disk.specs.declared.system.Call.TheVariants.{Created, Measured, Read, Written, Zeroed, Torn, Synced}
 use Rattle.vm_disk.specs.declared.system.SystemFile.{SystemFile}
