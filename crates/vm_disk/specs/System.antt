@@ -1,5 +1,5 @@
 -- What a file of the system shows, by the calls that were made of it.
-use Rattle.std.specs.Prelude.{ℕ, ◌==◌, ◌&&◌, Bool, true, List, [], ◌∷◌, length, reverse, take, drop, replicate, bytes_eq}
+use Rattle.std.specs.Prelude.{ℕ, ◌==◌, ◌&&◌, Bool, true, List, [], ◌∷◌, Option, Some, None, length, reverse, take, drop, replicate, bytes_eq}
 use Rattle.vm_disk.specs.declared.system.Call.{Call}
 use Rattle.vm_disk.specs.declared.system.Call.TheVariants.{Created, Measured, Read, Written, Zeroed, Torn, Synced}
 use Rattle.vm_disk.specs.declared.system.SystemFile.{SystemFile}
@@ -53,11 +53,22 @@ state_after first torn calls =
       waiting = waiting_after calls;
     }
 
+-- the bytes that a file held, none where there was none
+abbrev pub held_bytes : Option (List ℕ) → List ℕ
+held_bytes None = []
+held_bytes (Some bytes) = bytes
+
 -- the name of the file
 abbrev pub name_of : {W : Type 0} → SystemFile W → List ℕ
 name_of file = reverse (noted file.name)
 
+-- how many files had been opened before it
+abbrev pub opening_of : {W : Type 0} → SystemFile W → ℕ
+opening_of file = length (noted file.opened.value)
+
 -- a file of the system, where the world says what it held at first, and what failed writes left there
-abbrev pub system_state : {W : Type 0} → (List ℕ → List ℕ) → (List ℕ → ℕ → List ℕ) → SystemFile W → FileState
-system_state first torn file =
-    let name = name_of file in state_after (first name) (torn name) (noted file.calls)
+abbrev pub system_state : {W : Type 0} → (ℕ → List ℕ → Option (List ℕ)) → (ℕ → List ℕ → ℕ → List ℕ) → SystemFile W → FileState
+system_state held torn file =
+    let opening = opening_of file in
+    let name = name_of file in
+    state_after (held_bytes (held opening name)) (torn opening name) (noted file.calls)

@@ -1,5 +1,5 @@
 //! Values that contracts alone see, kept without bytes.
-ghost use Rattle.std.specs.Prelude.{◌≡◌, [], ◌∷◌};
+ghost use Rattle.std.specs.Prelude.{◌≡◌, [], ◌∷◌, reverse};
 
 use std::mem;
 use std::snapshot::Snapshot;
@@ -49,4 +49,17 @@ impl<T> History<T> {
         });
         self.newest = Snapshot::of(&newest);
     }
+}
+
+ghost use Rattle.vm_disk.specs.Past.{noted};
+
+/// Bytes, as if each had been noted in turn.
+pub fn noted_bytes(bytes: &[u8]) -> History<u8>
+    ensures { reverse (noted result) ≡ bytes.now }
+{
+    let mut kept = History::new();
+    for byte in bytes {
+        kept.note(byte);
+    }
+    kept
 }

@@ -24,7 +24,7 @@ pub use cached::CachedDisk;
 pub use disk::{DeviceFault, Disk};
 pub use file::FileDisk;
 pub use fuse::FuseDisk;
-pub use history::History;
+pub use history::{History, noted_bytes};
 pub use memory::MemDisk;
 pub use positional::Positional;
 pub use system::{LAST_STANDARD, SystemFile, World};

@@ -1,10 +1,10 @@
 //! A file of the system, as contracts can know it.
-ghost use Rattle.std.specs.Prelude.{◌≡◌, ℕ, ◌<ℤ◌, pos, List, [], reverse, IfSome};
+ghost use Rattle.std.specs.Prelude.{◌≡◌, ℕ, ◌<ℤ◌, pos, List, [], Option, None, length, IfSome};
 ghost use Rattle.std.specs.Fd.{file_raw_fd};
 ghost use Rattle.vm_disk.specs.Past.{noted};
 
 use crate::disk::DeviceFault;
-use crate::history::History;
+use crate::history::{History, noted_bytes};
 use crate::positional::Positional;
 use std::fs::{File, OpenOptions};
 use std::marker::{Brand, PhantomData};
@@ -16,20 +16,21 @@ use std::snapshot::Snapshot;
 /// The standard input, output and error have the descriptors 0, 1 and 2.
 pub const LAST_STANDARD: RawFd = 2;
 
-/// What no program can know of the files of a place, said for contracts alone. It has no functions:
+/// What no program can know of the files of a system, said for contracts alone. It has no functions:
 /// code that is written for any world is proved for each.
 pub trait World {
-    /// What the file of a name held when it was opened.
-    ghost first: { List ℕ → List ℕ };
+    /// What the file of a name held when so many files had been opened; None where there was none.
+    ghost held: { ℕ → List ℕ → Option (List ℕ) };
 
-    /// What a write that failed left in the file of a name, by how many calls came before it.
-    ghost torn: { List ℕ → ℕ → List ℕ };
+    /// What a write that failed left in the file of a name, by how many files had been opened before it
+    /// was, and how many calls of it came before that write.
+    ghost torn: { ℕ → List ℕ → ℕ → List ℕ };
 }
 
 impl World for Brand {
-    ghost first = { λ name. [] };
+    ghost held = { λ opened name. None };
 
-    ghost torn = { λ name calls. [] };
+    ghost torn = { λ opened name calls. [] };
 }
 
 // A call that was made of a file. A read that failed, and a sync that failed, did nothing.
@@ -57,43 +58,45 @@ enum Call {
 pub struct SystemFile<W> {
     file: File,
     name: History<u8>,
+    opened: Snapshot<History<()>>,
     calls: History<Call>,
     world: PhantomData<W>,
     ghost apart: { pos 2 <ℤ file_raw_fd file },
 }
 
-// Bytes as contracts see them, kept without bytes, the last first.
-fn noted_bytes(bytes: &[u8]) -> History<u8>
-    ensures { reverse (noted result) ≡ bytes.now }
-{
-    let mut kept = History::new();
-    for byte in bytes {
-        kept.note(byte);
-    }
-    kept
-}
-
 impl<W: World> SystemFile<W> {
-    ghost use Rattle.vm_disk.specs.System.{system_state, state_after, fresh};
+    ghost use Rattle.vm_disk.specs.System.{system_state, state_after, fresh, held_bytes, name_of, opening_of};
 
-    /// Opens a file that is there, to be read and written. None where it cannot be opened, or has a
-    /// standard descriptor.
-    pub fn open(rt: &impl Files<File = File>, path: &str) -> Option<SystemFile<W>>
-        ensures { IfSome result (λ file.
-            system_state W.first W.torn file ≡ fresh (W.first path.now)) }
+    /// Opens a file that is there, to be read and written, after so many others. None where it cannot be
+    /// opened, or has a standard descriptor.
+    pub fn open(
+        rt: &impl Files<File = File>,
+        path: &str,
+        opened: &History<()>,
+    ) -> Option<SystemFile<W>>
+        ensures state { IfSome result (λ file. system_state W.held W.torn file
+            ≡ fresh (held_bytes (W.held (length (noted opened.now)) path.now))) }
+        ensures name { IfSome result (λ file. name_of file ≡ path.now) }
+        ensures opening { IfSome result (λ file. opening_of file ≡ length (noted opened.now)) }
     {
         let file = OpenOptions::new()
             .read(true)
             .write(true)
             .open(rt, path)
             .ok()?;
-        SystemFile::over(file, path, History::new())
+        SystemFile::over(file, path, opened, History::new())
     }
 
-    /// Makes a file that is not there yet, with no bytes, to be read and written. None where it cannot
-    /// be made, or has a standard descriptor.
-    pub fn create(rt: &impl Files<File = File>, path: &str) -> Option<SystemFile<W>>
-        ensures { IfSome result (λ file. system_state W.first W.torn file ≡ fresh []) }
+    /// Makes a file that is not there yet, with no bytes, to be read and written, after so many others
+    /// were opened. None where it cannot be made, or has a standard descriptor.
+    pub fn create(
+        rt: &impl Files<File = File>,
+        path: &str,
+        opened: &History<()>,
+    ) -> Option<SystemFile<W>>
+        ensures state { IfSome result (λ file. system_state W.held W.torn file ≡ fresh []) }
+        ensures name { IfSome result (λ file. name_of file ≡ path.now) }
+        ensures opening { IfSome result (λ file. opening_of file ≡ length (noted opened.now)) }
     {
         let file = OpenOptions::new()
             .read(true)
@@ -103,13 +106,21 @@ impl<W: World> SystemFile<W> {
             .ok()?;
         let mut calls = History::new();
         calls.note(&Call::Created);
-        SystemFile::over(file, path, calls)
+        SystemFile::over(file, path, opened, calls)
     }
 
     // An open file of this name after these calls, unless it has a standard descriptor.
-    fn over(file: File, name: &str, calls: History<Call>) -> Option<SystemFile<W>>
-        ensures { IfSome result (λ file.
-            system_state W.first W.torn file ≡ state_after (W.first name.now) (W.torn name.now) (noted calls)) }
+    fn over(
+        file: File,
+        name: &str,
+        opened: &History<()>,
+        calls: History<Call>,
+    ) -> Option<SystemFile<W>>
+        ensures state { IfSome result (λ file. system_state W.held W.torn file
+            ≡ state_after (held_bytes (W.held (length (noted opened.now)) name.now))
+            (W.torn (length (noted opened.now)) name.now) (noted calls)) }
+        ensures name { IfSome result (λ file. name_of file ≡ name.now) }
+        ensures opening { IfSome result (λ file. opening_of file ≡ length (noted opened.now)) }
     {
         if file.as_raw_fd() <= LAST_STANDARD {
             return None;
@@ -117,6 +128,7 @@ impl<W: World> SystemFile<W> {
         Some(SystemFile {
             file,
             name: noted_bytes(name.as_bytes()),
+            opened: Snapshot::of(opened),
             calls,
             world: PhantomData,
         })
@@ -126,7 +138,7 @@ impl<W: World> SystemFile<W> {
 impl<W: World> Positional for SystemFile<W> {
     ghost use Rattle.vm_disk.specs.System.{system_state};
 
-    ghost state = { system_state W.first W.torn };
+    ghost state = { system_state W.held W.torn };
 
     fn len(&mut self) -> Result<u64, DeviceFault> {
         let Ok(metadata) = self.file.metadata() else {
