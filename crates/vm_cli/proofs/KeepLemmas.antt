@@ -38,7 +38,8 @@ module _ {X : Type 0} (shows : X → Tree → Type 0) (s : State) where
       )
 
   -- and so of a run
-  pub HasRun-past : (left left' : ℕ → X → Type 0) (start : ℕ) (commands : List Command) (answers : List (Result Answer Refusal)) (now : State) (end : ℕ) → HasRun shows left s start commands answers now end
+  pub HasRun-past : (left left' : ℕ → X → Type 0) (start : ℕ) (commands : List Command) (answers : List (Result Answer Refusal)) (now : State) (end : ℕ)
+      → HasRun shows left s start commands answers now end
       → ((t : ℕ) (x : X) → t ≤ end → left' t x → left t x) → HasRun shows left' s start commands answers now end
   HasRun-past left left' start commands answers now end run past =
       let onward = KeptBetween-onward shows s left [] [] start commands answers end run.moments.calls in
@@ -52,14 +53,16 @@ module _ {X : Type 0} (shows : X → Tree → Type 0) (s : State) where
       }
 
 -- a call in which the device failed may have happened as it may without an answer
-may_told : (answers : List (Result Answer Refusal)) (n : ℕ) → n ≤ length answers → MayHaveHappened (slice_get answers n) → MayHaveHappened (slice_get (answers ++ Err Device ∷ []) n)
+may_told : (answers : List (Result Answer Refusal)) (n : ℕ) → n ≤ length answers → MayHaveHappened (slice_get answers n)
+    → MayHaveHappened (slice_get (answers ++ Err Device ∷ []) n)
 may_told [] zero few may = refl
 may_told [] (suc n) few may = absurd (omega (arith, few))
 may_told (b ∷ answers) zero few may = may
 may_told (b ∷ answers) (suc n) few may = may_told answers n (omega (arith, few)) may
 
 -- and acknowledges nothing
-ok_told : (answers : List (Result Answer Refusal)) (n : ℕ) (answer : Answer) → slice_get (answers ++ Err Device ∷ []) n ≡ Some (Ok answer) → slice_get answers n ≡ Some (Ok answer)
+ok_told : (answers : List (Result Answer Refusal)) (n : ℕ) (answer : Answer)
+    → slice_get (answers ++ Err Device ∷ []) n ≡ Some (Ok answer) → slice_get answers n ≡ Some (Ok answer)
 ok_told [] zero answer e = cc
 ok_told [] (suc n) answer e = cc
 ok_told (b ∷ answers) zero answer e = e
@@ -69,11 +72,13 @@ module _ {X : Type 0} (shows : X → Tree → Type 0) (s : State) (commands : Li
   few_told : (n : ℕ) → suc n ≤ length commands → length (take n commands) ≤ length answers
   few_told n within = let few : n ≤ length commands = omega (arith, within) in omega (arith, within, each, length-take-le n commands few)
 
-  ends_told : (n : ℕ) → n ≤ length commands → EndsInCommit commands answers n → EndsInCommit commands (answers ++ Err Device ∷ []) n
+  ends_told : (n : ℕ) → n ≤ length commands → EndsInCommit commands answers n
+      → EndsInCommit commands (answers ++ Err Device ∷ []) n
   ends_told zero within ends = tt
   ends_told (suc n) within ends = (ends.0, may_told answers n (omega (arith, within, each)) ends.1)
 
-  committed_told : (n : ℕ) → n ≤ length commands → committed_by s commands (answers ++ Err Device ∷ []) n ≡ committed_by s commands answers n
+  committed_told : (n : ℕ) → n ≤ length commands
+      → committed_by s commands (answers ++ Err Device ∷ []) n ≡ committed_by s commands answers n
   committed_told zero within = refl
   committed_told (suc n) within = ap (λ (t : State). t.working) (after_fewer s (take n commands) answers (Err Device ∷ []) (few_told n within))
 
@@ -100,7 +105,8 @@ pub record Keeping (old now : disk.State) (s : State) (commands : List Command) 
   pub time : ℕ
   pub within : time ≤ moment now
   pub run : HasRun Shows (LeftAt now) s (moment old) commands answers (after s commands answers) time
-  pub rest : (t : ℕ) (x : Contents) → time ≤ t → t ≤ moment now → LeftAt now t x → Shows x (after s commands answers).committed
+  pub rest : (t : ℕ) (x : Contents) → time ≤ t → t ≤ moment now → LeftAt now t x
+      → Shows x (after s commands answers).committed
 
 -- at first
 pub keeping_none : (old : disk.State) (s : State) → ShowsCommitted s old.now → Keeping old old s [] []

@@ -60,7 +60,8 @@ module _ {D : Type 0} {members : _} (old : disk.State) (first last : Store D mem
 
   -- also on the disk that the store gives back
   pub session_kept : {T : Type 0} (result : Result T ServeFault) (before then known : Option (List ℕ)) (serves : (s : State) → Serves first last s result before then known)
-      → (new : D) → new ≡ disk_of last → (members.state new).honest ≡ true → (tree : Tree) → Leaves (λ x. Shows x tree) old.now
+      → (new : D) → new ≡ disk_of last → (members.state new).honest ≡ true → (tree : Tree)
+      → Leaves (λ x. Shows x tree) old.now
       → Keeps old (members.state new) (opened tree) (commands_of (serves (opened tree))) (answers_of (serves (opened tree)))
   session_kept result before then known serves new given honest tree leaves =
       subst (λ d. Keeps old (members.state d) (opened tree) (commands_of (serves (opened tree))) (answers_of (serves (opened tree)))) (sym given)

@@ -29,12 +29,14 @@ with_command-append : (done : Done) (commands : List Command) → with_command d
 with_command-append None commands = refl
 with_command-append (Some (command, answer)) commands = refl
 
-with_answer-append : (done : Done) (answers : List (Result Answer Refusal)) → with_answer done [] ++ answers ≡ with_answer done answers
+with_answer-append : (done : Done) (answers : List (Result Answer Refusal))
+    → with_answer done [] ++ answers ≡ with_answer done answers
 with_answer-append None answers = refl
 with_answer-append (Some (command, answer)) answers = refl
 
 -- the state after a line
-after_line-is : (s : State) (commands : List Command) (answers : List (Result Answer Refusal)) (done : Done) → length answers ≡ length commands
+after_line-is : (s : State) (commands : List Command) (answers : List (Result Answer Refusal)) (done : Done)
+    → length answers ≡ length commands
     → after s (commands ++ with_command done []) (answers ++ with_answer done []) ≡ after_line (after s commands answers) done
 after_line-is s commands answers None same = rw (append-nil commands, append-nil answers) refl
 after_line-is s commands answers (Some (command, answer)) same = after_more s commands answers command answer same
@@ -53,18 +55,21 @@ module _ {D : Type 0} {members : _} (old new : Store D members) (s : State) (c :
   meets_carries request.Nothing text meets = let none = meets.0 in cc
   meets_carries request.Bad text meets = let none = meets.0 in cc
 
-  request_carries : (asked : Request) (text : List ℕ) (ends : Bool) → AnsweredRequest old new s asked text ends (Some (c, a)) → CarriesOut old new s c a
+  request_carries : (asked : Request) (text : List ℕ) (ends : Bool) → AnsweredRequest old new s asked text ends (Some (c, a))
+      → CarriesOut old new s c a
   request_carries asked text ends (inl (sound, last, meets)) = meets_carries asked text meets
   request_carries asked text ends (inr (failed, same, none, says)) = cc
 
-  pub line_carries : (line text : List ℕ) (ends : Bool) → Answered old new s line text ends (Some (c, a)) → CarriesOut old new s c a
+  pub line_carries : (line text : List ℕ) (ends : Bool) → Answered old new s line text ends (Some (c, a))
+      → CarriesOut old new s c a
   line_carries line text ends (inl (same, none, goes_on, says)) = cc
   line_carries line text ends (inr (inl (long, same, none, goes_on, says))) = cc
   line_carries line text ends (inr (inr (short, answered))) = request_carries (request_of (words_of (without_return line))) text ends answered
 
 module _ {D : Type 0} {members : _} where
   -- a disk that is honest after lines was so before them
-  pub talks_earlier : (lines : List (List ℕ)) (old new : Store D members) (s : State) (text : List ℕ) (commands : List Command) (answers : List (Result Answer Refusal)) → Talks old new s lines text commands answers
+  pub talks_earlier : (lines : List (List ℕ)) (old new : Store D members) (s : State) (text : List ℕ) (commands : List Command) (answers : List (Result Answer Refusal))
+      → Talks old new s lines text commands answers
       → (members.state new.disk).honest ≡ true → (members.state old.disk).honest ≡ true
   talks_earlier [] old new s text commands answers talks honest = subst (λ (t : Store D members). (members.state t.disk).honest ≡ true) talks.0 honest
   talks_earlier (line ∷ lines) old new s text commands answers talks honest = talks.5.passes.goes.earlier (talks_earlier lines talks.0 new _ talks.2 talks.3 talks.4 talks.9 honest)
@@ -90,18 +95,21 @@ module _ {D : Type 0} {members : _} where
           (passes.reads honest refl)))
 
       -- it was a command, in which the device didn't fail
-      line_runs : (c : Command) (a : Result Answer Refusal) → CarriesOut old new (after s commands answers) c a → has_failed new ≡ false → SoFar new (commands ++ c ∷ []) (answers ++ a ∷ [])
+      line_runs : (c : Command) (a : Result Answer Refusal) → CarriesOut old new (after s commands answers) c a
+          → has_failed new ≡ false → SoFar new (commands ++ c ∷ []) (answers ++ a ∷ [])
       line_runs c a carries sound =
           keeping_more start (members.state old.disk) s commands answers so_far (members.state new.disk) c a (carries.crash honest holds)
           (stands_show new _ (carries.holds honest holds (λ device. never_both _ sound (carries.failed.1 device))))
 
-      line_keeping : (line text : List ℕ) (ends : Bool) (done : Done) → Answered old new (after s commands answers) line text ends done → Passes old new done → has_failed new ≡ false
+      line_keeping : (line text : List ℕ) (ends : Bool) (done : Done)
+          → Answered old new (after s commands answers) line text ends done → Passes old new done → has_failed new ≡ false
           → SoFar new (commands ++ with_command done []) (answers ++ with_answer done [])
       line_keeping line text ends None answered passes sound = line_reads passes
       line_keeping line text ends (Some (c, a)) answered passes sound = line_runs c a (line_carries old new (after s commands answers) c a line text ends answered) sound
 
       -- it may end the talk
-      line_keeps : (line text : List ℕ) (ends : Bool) (done : Done) → Answered old new (after s commands answers) line text ends done → Passes old new done
+      line_keeps : (line text : List ℕ) (ends : Bool) (done : Done)
+          → Answered old new (after s commands answers) line text ends done → Passes old new done
           → Keeps start (members.state new.disk) s (commands ++ with_command done []) (answers ++ with_answer done [])
       line_keeps line text ends None answered passes = keeps start (members.state new.disk) s _ _ (line_reads passes)
       line_keeps line text ends (Some (c, a)) answered passes = either (failed_or (has_failed new))
@@ -109,13 +117,15 @@ module _ {D : Type 0} {members : _} where
           carries : CarriesOut old new (after s commands answers) c a
           carries = line_carries old new (after s commands answers) c a line text ends answered
 
-          either : (has_failed new ≡ false) ⊎ (has_failed new ≡ true) → Keeps start (members.state new.disk) s (commands ++ c ∷ []) (answers ++ a ∷ [])
+          either : (has_failed new ≡ false) ⊎ (has_failed new ≡ true)
+              → Keeps start (members.state new.disk) s (commands ++ c ∷ []) (answers ++ a ∷ [])
           either (inl sound) = keeps start (members.state new.disk) s _ _ (line_runs c a carries sound)
           either (inr failed) = keeps_failed start (members.state old.disk) s commands answers so_far (members.state new.disk) c a (carries.crash honest holds) (carries.failed.0 failed)
 
     -- lines that end no talk
     talks_keeping : (lines : List (List ℕ)) (old new : Store D members) (commands : List Command) (answers : List (Result Answer Refusal)) (text : List ℕ) (later : List Command) (others : List (Result Answer Refusal))
-        → Talks old new (after s commands answers) lines text later others → SoFar old commands answers → (members.state new.disk).honest ≡ true → has_failed old ≡ false → Holds old (after s commands answers)
+        → Talks old new (after s commands answers) lines text later others → SoFar old commands answers
+        → (members.state new.disk).honest ≡ true → has_failed old ≡ false → Holds old (after s commands answers)
         → SoFar new (commands ++ later) (answers ++ others)
     talks_keeping [] old new commands answers text later others talks so_far honest sound holds =
         rw (talks.0, talks.2, talks.3, append-nil commands, append-nil answers) so_far
@@ -136,11 +146,13 @@ module _ {D : Type 0} {members : _} where
         subst (λ cs. SoFar new cs (answers ++ others)) these (subst (λ rs. SoFar new ((commands ++ with_command done []) ++ talks.3) rs) those all)
 
     module _ (old new : Store D members) (so_far : SoFar old [] []) (honest : (members.state new.disk).honest ≡ true) (sound : has_failed old ≡ false) (holds : Holds old s) where
-      talked_keeping : (lines : List (List ℕ)) (text : List ℕ) (talked : HasTalked old new s lines text) → SoFar new talked.commands talked.answers
+      talked_keeping : (lines : List (List ℕ)) (text : List ℕ) (talked : HasTalked old new s lines text)
+          → SoFar new talked.commands talked.answers
       talked_keeping lines text talked = talks_keeping lines old new [] [] text talked.commands talked.answers talked.talks so_far honest sound holds
 
     -- a talk that ended with a line
-    ended_keeps : (old new : Store D members) → SoFar old [] [] → (members.state new.disk).honest ≡ true → has_failed old ≡ false → Holds old s
+    ended_keeps : (old new : Store D members) → SoFar old [] [] → (members.state new.disk).honest ≡ true
+        → has_failed old ≡ false → Holds old s
         → (ends : Bool) (all : List (List ℕ)) (text : List ℕ) (ended : EndsTalk old new s ends all text)
         → Keeps start (members.state new.disk) s (ended.talked.commands ++ with_command ended.handled.done []) (ended.talked.answers ++ with_answer ended.handled.done [])
     ended_keeps old new so_far honest sound holds ends all text ended =
@@ -152,7 +164,8 @@ module _ {D : Type 0} {members : _} where
         line_keeps mid new talked.commands talked.answers (talked_keeping old mid so_far honest_mid sound holds ended.lines ended.earlier talked) honest stands ended.line ended.last ends handled.done handled.answers handled.passes
 
     -- each talk
-    pub serves_keeps : (old new : Store D members) → SoFar old [] [] → (members.state new.disk).honest ≡ true → has_failed old ≡ false → Holds old s
+    pub serves_keeps : (old new : Store D members) → SoFar old [] [] → (members.state new.disk).honest ≡ true
+        → has_failed old ≡ false → Holds old s
         → {T : Type 0} (result : Result T ServeFault) (before then known : Option (List ℕ)) (serves : Serves old new s result before then known)
         → Keeps start (members.state new.disk) s (commands_of serves) (answers_of serves)
     serves_keeps old new so_far honest sound holds (Ok t) before then known serves = keeps start (members.state new.disk) s _ _ (talked_keeping old new so_far honest sound holds _ serves.served.0 serves.served.1)

@@ -29,7 +29,7 @@ pub record HasMade (old new : disk.State) (blocks : ℕ) : Type 0 where
   pub none : new.honest ≡ true → IsNoStore old.now.contents
   pub shown : new.honest ≡ true → IsFormatted blocks new.now
 
--- no store was made, for this reason: one that was there stands as it was, and for a bad size the disk was not asked for anything
+-- no store was made, for this reason: one that was there stands as it was, and for a bad size no call was made
 pub record HasMadeNone (old new : disk.State) (blocks : ℕ) (refusal : Refusal) : Type 0 where
   pub size : refusal ≡ BadSize ↔ IsBadSize blocks old.blocks
   pub untouched : refusal ≡ BadSize → NoCalls old new
@@ -57,9 +57,12 @@ module _ {D : Type 0} (members : _) where
     pub serves : (s : State) → Serves first last s served before after input
     pub ends : exit ≡ end_of served
     pub given_back : new ≡ disk_of last
-    pub shown : (members.state new).honest ≡ true → has_failed last ≡ false → (s : State) → Holds last s → Shows (members.state new).now.contents s.committed
+    pub shown : (members.state new).honest ≡ true → has_failed last ≡ false → (s : State) → Holds last s
+        → Shows (members.state new).now.contents s.committed
     -- so does a crash after the talk
-    pub left : (members.state new).honest ≡ true → has_failed last ≡ false → (s : State) → Holds last s → Leaves (λ x. Shows x s.committed) (members.state new).now
-    -- and where a crash before it left the tree that was opened, one at any moment of it leaves what the commands so far keep
+    pub left : (members.state new).honest ≡ true → has_failed last ≡ false → (s : State) → Holds last s
+        → Leaves (λ x. Shows x s.committed) (members.state new).now
+    -- where a crash before the opening leaves a tree, one at any moment since leaves what the commands so far keep
     pub kept : (members.state new).honest ≡ true → (tree : Tree) → Leaves (λ x. Shows x tree) (members.state old).now
-        → Keeps (members.state old) (members.state new) (opened tree) (commands_of (serves (opened tree))) (answers_of (serves (opened tree)))
+        → Keeps (members.state old) (members.state new) (opened tree)
+        (commands_of (serves (opened tree))) (answers_of (serves (opened tree)))
