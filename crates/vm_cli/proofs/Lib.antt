@@ -19,3 +19,6 @@ pub mod WritesLemmas
 pub mod FeedLemmas
 pub mod ServeLemmas
 pub mod ExitLemmas
+pub mod KeepLemmas
+pub mod TalkKeepLemmas
+pub mod SessionLemmas

@@ -13,4 +13,5 @@ pub mod Exits
 pub mod Carried
 pub mod Talk
 pub mod Feeding
+pub mod Keeps
 pub mod Sessions

@@ -1,10 +1,19 @@
--- What becomes of a disk on which lines are answered.
-use Rattle.std.specs.Prelude.{◌≡◌, ℕ, List, true, false, Option, Result, Ok, Err}
-use Rattle.vm_types.specs.State.{State}
+-- What becomes of a disk on which a store is made, or lines are answered.
+use Rattle.std.specs.Prelude.{◌≡◌, ◌↔◌, ℕ, List, true, false, Option, Result, Ok, Err}
+use Rattle.vm_types.specs.declared.refusal.Refusal.{Refusal}
+use Rattle.vm_types.specs.declared.refusal.Refusal.TheVariants.{AlreadyAStore, BadSize}
+use Rattle.vm_types.specs.State.{State, opened}
+use Rattle.vm_types.specs.Tree.{Tree}
+use Rattle.vm_disk.specs.Disk as disk
+use Rattle.vm_disk.specs.Disk.{Goes, NoCalls}
+use Rattle.vm_disk.specs.Moments.{Leaves, Throughout}
+use Rattle.vm_store.specs.Formatting.{IsBadSize, IsFormatted}
 use Rattle.vm_store.specs.Opening.{OpensAs}
+use Rattle.vm_store.specs.Refused.{IsAtMostSynced, IsNoStore, IsRefused, IsStore}
 use Rattle.vm_store.specs.Shown.{Shows}
 use Rattle.vm_store.specs.Store.{Holds, disk_of, has_failed}
 use Rattle.vm_store.specs.declared.store.Store.{Store}
+use Rattle.vm_cli.specs.Keeps.{Keeps, answers_of, commands_of}
 use Rattle.vm_cli.specs.Talk.{Serves}
 use Rattle.vm_cli.specs.declared.program.Exit.{Exit}
 use Rattle.vm_cli.specs.declared.program.Exit.TheVariants.{Done, Stopped}
@@ -15,6 +24,24 @@ abbrev pub end_of : {T : Type 0} → Result T ServeFault → Exit
 end_of (Ok t) = Done
 end_of (Err fault) = Stopped
 
+-- a store of so many blocks was made where there was none, and is shown
+pub record HasMade (old new : disk.State) (blocks : ℕ) : Type 0 where
+  pub none : new.honest ≡ true → IsNoStore old.now.contents
+  pub shown : new.honest ≡ true → IsFormatted blocks new.now
+
+-- no store was made, for this reason: one that was there stands as it was, and for a bad size no call was made
+pub record HasMadeNone (old new : disk.State) (blocks : ℕ) (refusal : Refusal) : Type 0 where
+  pub size : refusal ≡ BadSize ↔ IsBadSize blocks old.blocks
+  pub untouched : refusal ≡ BadSize → NoCalls old new
+  pub already : new.honest ≡ true → refusal ≡ AlreadyAStore → new.now.contents ≡ old.now.contents
+  pub stands : new.honest ≡ true → IsStore old.now.contents → new.now.contents ≡ old.now.contents
+
+-- the disk was refused for this reason, and at each moment nothing has changed, or all is synced
+pub record HasRefused (old new : disk.State) (refusal : Refusal) : Type 0 where
+  pub goes : Goes ⊥ old new
+  pub why : new.honest ≡ true → IsRefused old.now.contents refusal
+  pub moments : new.honest ≡ true → Throughout old new (IsAtMostSynced old.now)
+
 module _ {D : Type 0} (members : _) where
   -- the store that the disk showed was opened, the lines of an input were answered, which is the reader's own where that is known,
   -- and the disk came back as the store left it: it shows what was committed. The talk is told for each state, so for that of the
@@ -23,8 +50,19 @@ module _ {D : Type 0} (members : _) where
     pub first : Store D members
     pub last : Store D members
     pub served : Result (Unit {0}) ServeFault
+    pub found : Goes ⊥ (members.state old) (members.state first.disk)
+    pub goes : Goes ⊥ (members.state first.disk) (members.state new)
+    pub well : has_failed first ≡ false
     pub opens : (members.state first.disk).honest ≡ true → OpensAs (members.state old).now.contents first
     pub serves : (s : State) → Serves first last s served before after input
     pub ends : exit ≡ end_of served
     pub given_back : new ≡ disk_of last
-    pub shown : (members.state new).honest ≡ true → has_failed last ≡ false → (s : State) → Holds last s → Shows (members.state new).now.contents s.committed
+    pub shown : (members.state new).honest ≡ true → has_failed last ≡ false → (s : State) → Holds last s
+        → Shows (members.state new).now.contents s.committed
+    -- so does a crash after the talk
+    pub left : (members.state new).honest ≡ true → has_failed last ≡ false → (s : State) → Holds last s
+        → Leaves (λ x. Shows x s.committed) (members.state new).now
+    -- where a crash before the opening leaves a tree, one at any moment since leaves what the commands so far keep
+    pub kept : (members.state new).honest ≡ true → (tree : Tree) → Leaves (λ x. Shows x tree) (members.state old).now
+        → Keeps (members.state old) (members.state new) (opened tree)
+        (commands_of (serves (opened tree))) (answers_of (serves (opened tree)))

@@ -51,9 +51,10 @@ ghost use Rattle.std.specs.String.{string_bytes};
 ghost use Rattle.clap.specs.Words.{kind_of};
 ghost use Rattle.vm_cli.specs.Carried.{Begins};
 ghost use Rattle.vm_types.specs.declared.refusal.Refusal.{Refusal as RefusalValue};
-ghost use Rattle.vm_store.specs.Formatting.{IsFormatted};
-ghost use Rattle.vm_store.specs.Refused.{IsRefused as IsRefusedDisk};
-ghost use Rattle.vm_cli.specs.Sessions.{HasServed};
+ghost use Rattle.vm_disk.specs.Disk.{Goes};
+ghost use Rattle.vm_disk.specs.Moments.{Throughout};
+ghost use Rattle.vm_store.specs.Formatting.{IsFormatting};
+ghost use Rattle.vm_cli.specs.Sessions.{HasMade, HasMadeNone, HasRefused, HasServed};
 ghost use Rattle.vm_cli.specs.Exits.{Ends, IsDone, IsHelp, MayRefuse, IsRefused, IsStopped, IsCutShort, IsWrong, SaysRefused, Tells, created_text, file_text, refused_text, stopped_text, unreadable_text};
 ghost use Rattle.vm_cli.specs.Words.Wanted.{create as create_wanted, run as run_wanted};
 
@@ -146,11 +147,13 @@ fn make_store<D: Disk, W: Write, F: Write>(
     faults: &mut F,
 ) -> (Exit, D)
     // On an honest disk the new store is shown; a store that was there stands as it was.
-    ensures { ((faults.new ≡ faults.old) × ((D.state result.1).honest ≡ true → IsFormatted blocks (D.state result.1).now)
+    ensures made { ((faults.new ≡ faults.old) × HasMade (D.state disk) (D.state result.1) blocks
         × Tells Exit.Done result.0 (W.contents output.old) (W.contents output.new) (created_text blocks))
-        ⊎ ((output.new ≡ output.old) × ((refusal : RefusalValue) × MayRefuse refusal
-        × ((D.state result.1).honest ≡ true → refusal ≡ Refusal.AlreadyAStore → (D.state result.1).now.contents ≡ (D.state disk).now.contents)
+        ⊎ ((output.new ≡ output.old) × ((refusal : RefusalValue) × MayRefuse refusal × HasMadeNone (D.state disk) (D.state result.1) blocks refusal
         × Tells Exit.Refused result.0 (F.contents faults.old) (F.contents faults.new) (refused_text refusal))) }
+    ensures goes { Goes ⊥ (D.state disk) (D.state result.1) }
+    // At each moment nothing has changed, or all is synced; or there was no store, and a crash shows at most the new one.
+    ensures moments { (D.state result.1).honest ≡ true → Throughout (D.state disk) (D.state result.1) (IsFormatting (D.state disk).now) }
 {
     match format(disk, blocks) {
         Ok(disk) => (created(blocks, output), disk),
@@ -189,10 +192,10 @@ fn answer_lines<D: Disk, R: Read, W: Write, F: Write>(
 ) -> (Exit, D)
     ensures ends { ((faults.new ≡ faults.old) × ((result.0 ≡ Exit.Done) ⊎ (result.0 ≡ Exit.Stopped)))
         ⊎ ((output.new ≡ output.old) × ((refusal : RefusalValue) × Tells Exit.Refused result.0 (F.contents faults.old) (F.contents faults.new) (refused_text refusal))) }
-    // As long as the disk is honest the lines are answered as `serve` promises, from what it shows; or it is said why it shows no
-    // store.
+    // As long as the disk is honest the lines are answered as `serve` promises, from what it shows, and a crash at any moment
+    // leaves what the commands so far keep; or it is said why it shows no store, and it is at most synced.
     ensures served { HasServed D.Disk disk result.1 result.0 (R.remaining input.old) (W.contents output.old) (W.contents output.new)
-        ⊎ ((refusal : RefusalValue) × ((D.state result.1).honest ≡ true → IsRefusedDisk (D.state disk).now.contents refusal)
+        ⊎ ((refusal : RefusalValue) × HasRefused (D.state disk) (D.state result.1) refusal
         × Tells Exit.Refused result.0 (F.contents faults.old) (F.contents faults.new) (refused_text refusal)) }
 {
     match open(alloc, disk) {

@@ -1,0 +1,193 @@
+-- What a crash leaves at each moment so far, where between two commands the disk was only read or synced.
+use Rattle.std.proofs.Common.{◌≡◌, inl, ℕ, zero, suc, ◌<◌, ◌≤◌, List, [], ◌∷◌, ◌++◌, length, take, slice_get, Some, Result, Ok, Err, refl, sym, ap, subst, arith, ⊎_elim, le_trans}
+use Rattle.std.proofs.lemmas.Bool.{cases_lt}
+use Rattle.std.proofs.lemmas.List.{length-append, length-take-le}
+use Rattle.vm_types.specs.declared.answer.Answer.{Answer}
+use Rattle.vm_types.specs.declared.command.Command.{Command}
+use Rattle.vm_types.specs.declared.refusal.Refusal.{Refusal}
+use Rattle.vm_types.specs.declared.refusal.Refusal.TheVariants.{Device}
+use Rattle.vm_types.specs.Kept.{EndsInCommit, Kept, LeftBy, MayHaveHappened, committed_by}
+use Rattle.vm_types.specs.Moments.{KeptBetween}
+use Rattle.vm_types.specs.State.{State, after, next}
+use Rattle.vm_types.specs.Tree.{Tree}
+use Rattle.vm_types.proofs.KeptLemmas.{kept_call, kept_rest}
+use Rattle.vm_types.proofs.MomentsLemmas.{HasRun, HasRun-more, HasRun-none, KeptBetween-onward}
+use Rattle.vm_types.proofs.Runs.{after_fewer, after_more}
+use Rattle.vm_disk.specs.Disk as disk
+use Rattle.vm_disk.specs.Disk.{Contents, LeftAt, MayLeave, Medium, moment}
+use Rattle.vm_disk.specs.Moments.{Leaves, Throughout}
+use Rattle.vm_disk.proofs.MomentLemmas.{leaves_only, moment_rises, past_stays, started}
+use Rattle.vm_store.specs.Shown.{Shows}
+use Rattle.vm_cli.specs.Keeps.{Keeps}
+
+module _ {X : Type 0} (shows : X → Tree → Type 0) (s : State) where
+  -- it is kept where no more may be left
+  pub KeptBetween-past : (left left' : ℕ → X → Type 0) (before : List Command) (told : List (Result Answer Refusal)) (start : ℕ) (commands : List Command) (answers : List (Result Answer Refusal)) (end : ℕ)
+      → KeptBetween shows left s before told start commands answers end
+      → ((t : ℕ) (x : X) → t ≤ end → left' t x → left t x)
+      → KeptBetween shows left' s before told start commands answers end
+  KeptBetween-past left left' before told start [] [] end kept past = kept
+  KeptBetween-past left left' before told start [] (b ∷ answers) end kept past = absurd kept
+  KeptBetween-past left left' before told start (d ∷ commands) [] end kept past = absurd kept
+  KeptBetween-past left left' before told start (d ∷ commands) (b ∷ answers) end kept past =
+      let onward = KeptBetween-onward shows s left (before ++ d ∷ []) (told ++ b ∷ []) kept.0 commands answers end kept.3 in (
+        kept.0,
+        kept.1,
+        (λ t x from to was. kept.2 t x from to (past t x (le_trans to onward) was)),
+        KeptBetween-past left left' (before ++ d ∷ []) (told ++ b ∷ []) kept.0 commands answers end kept.3 past,
+      )
+
+  -- and so of a run
+  pub HasRun-past : (left left' : ℕ → X → Type 0) (start : ℕ) (commands : List Command) (answers : List (Result Answer Refusal)) (now : State) (end : ℕ)
+      → HasRun shows left s start commands answers now end
+      → ((t : ℕ) (x : X) → t ≤ end → left' t x → left t x) → HasRun shows left' s start commands answers now end
+  HasRun-past left left' start commands answers now end run past =
+      let onward = KeptBetween-onward shows s left [] [] start commands answers end run.moments.calls in
+      record {
+        state = run.state;
+        last = run.last;
+        moments = record {
+          first = λ x was. run.moments.first x (past start x onward was);
+          calls = KeptBetween-past left left' [] [] start commands answers end run.moments.calls past;
+        };
+      }
+
+-- a call in which the device failed may have happened as it may without an answer
+may_told : (answers : List (Result Answer Refusal)) (n : ℕ) → n ≤ length answers → MayHaveHappened (slice_get answers n)
+    → MayHaveHappened (slice_get (answers ++ Err Device ∷ []) n)
+may_told [] zero few may = refl
+may_told [] (suc n) few may = absurd (omega (arith, few))
+may_told (b ∷ answers) zero few may = may
+may_told (b ∷ answers) (suc n) few may = may_told answers n (omega (arith, few)) may
+
+-- and acknowledges nothing
+ok_told : (answers : List (Result Answer Refusal)) (n : ℕ) (answer : Answer)
+    → slice_get (answers ++ Err Device ∷ []) n ≡ Some (Ok answer) → slice_get answers n ≡ Some (Ok answer)
+ok_told [] zero answer e = cc
+ok_told [] (suc n) answer e = cc
+ok_told (b ∷ answers) zero answer e = e
+ok_told (b ∷ answers) (suc n) answer e = ok_told answers n answer e
+
+module _ {X : Type 0} (shows : X → Tree → Type 0) (s : State) (commands : List Command) (answers : List (Result Answer Refusal)) (each : length commands ≡ suc (length answers)) where
+  few_told : (n : ℕ) → suc n ≤ length commands → length (take n commands) ≤ length answers
+  few_told n within = let few : n ≤ length commands = omega (arith, within) in omega (arith, within, each, length-take-le n commands few)
+
+  ends_told : (n : ℕ) → n ≤ length commands → EndsInCommit commands answers n
+      → EndsInCommit commands (answers ++ Err Device ∷ []) n
+  ends_told zero within ends = tt
+  ends_told (suc n) within ends = (ends.0, may_told answers n (omega (arith, within, each)) ends.1)
+
+  committed_told : (n : ℕ) → n ≤ length commands
+      → committed_by s commands (answers ++ Err Device ∷ []) n ≡ committed_by s commands answers n
+  committed_told zero within = refl
+  committed_told (suc n) within = ap (λ (t : State). t.working) (after_fewer s (take n commands) answers (Err Device ∷ []) (few_told n within))
+
+  -- what was kept of a call without an answer is kept where the device failed in it
+  pub kept_failed : (x : X) → Kept shows s commands answers x → Kept shows s commands (answers ++ Err Device ∷ []) x
+  kept_failed x kept = record {
+    beginning = kept.beginning;
+    within = kept.within;
+    ends = ends_told kept.beginning kept.within kept.ends;
+    acknowledged = λ i answer is ok. kept.acknowledged i answer is (ok_told answers i answer ok);
+    shown = subst (shows x) (sym (committed_told kept.beginning kept.within)) kept.shown;
+  }
+
+-- what a disk holds is among what a crash may leave of it
+pub left_held : (now : disk.State) → LeftAt now (moment now) now.now.contents
+left_held now = inl (refl, record { count = refl; clean = λ n clean. refl })
+
+-- the tree that a crash shows once a state is committed
+abbrev pub ShowsCommitted : State → Medium → Type 0
+ShowsCommitted s = Leaves (λ x. Shows x s.committed)
+
+-- the device failed in no command, and since the last of them a crash shows what is committed
+pub record Keeping (old now : disk.State) (s : State) (commands : List Command) (answers : List (Result Answer Refusal)) : Type 0 where
+  pub time : ℕ
+  pub within : time ≤ moment now
+  pub run : HasRun Shows (LeftAt now) s (moment old) commands answers (after s commands answers) time
+  pub rest : (t : ℕ) (x : Contents) → time ≤ t → t ≤ moment now → LeftAt now t x
+      → Shows x (after s commands answers).committed
+
+-- at first
+pub keeping_none : (old : disk.State) (s : State) → ShowsCommitted s old.now → Keeping old old s [] []
+keeping_none old s shows =
+    let first : (t : ℕ) (x : Contents) → moment old ≤ t → LeftAt old t x → Shows x s.committed = leaves_only old old (λ x. Shows x s.committed) (started old (ShowsCommitted s) shows) in
+    record {
+      time = moment old;
+      within = omega arith;
+      run = HasRun-none Shows (LeftAt old) s (moment old) (λ x was. first (moment old) x (omega arith) was);
+      rest = λ t x from to was. first t x from was;
+    }
+
+module _ (old mid : disk.State) (s : State) (commands : List Command) (answers : List (Result Answer Refusal)) (keeping : Keeping old mid s commands answers) where
+  -- what is committed so far
+  abbrev reached : State
+  reached = after s commands answers
+
+  -- at the end
+  pub keeps : Keeps old mid s commands answers
+  keeps =
+      let told : (t : ℕ) (x : Contents) → keeping.time ≤ t → t ≤ moment mid → LeftAt mid t x → Kept Shows s commands answers x = λ t x from to was. kept_rest Shows s commands answers x keeping.run.last (keeping.rest t x from to was) in
+      record {
+        time = keeping.time;
+        within = keeping.within;
+        calls = keeping.run.moments;
+        rest = told;
+        held = told (moment mid) mid.now.contents keeping.within (omega arith) (left_held mid);
+      }
+
+  -- a crash shows what is committed, also at each moment that comes to it
+  pub keeping_quiet : (new : disk.State) → Throughout mid new (ShowsCommitted reached) → Keeping old new s commands answers
+  keeping_quiet new quiet = record {
+    time = keeping.time;
+    within = le_trans keeping.within (moment_rises mid new _ quiet);
+    run = HasRun-past Shows s (LeftAt mid) (LeftAt new) (moment old) commands answers reached keeping.time keeping.run (λ t x to was. past_stays mid new _ quiet t x (le_trans to keeping.within) was);
+    rest = λ t x from to was.
+        ⊎_elim
+        (λ (lt : t < moment mid). let le : t ≤ moment mid = omega (arith, lt) in keeping.rest t x from le (past_stays mid new _ quiet t x le was))
+        (λ (ge : moment mid ≤ t). leaves_only mid new _ quiet t x ge was)
+        (cases_lt t (moment mid));
+  }
+
+  -- one command more
+  module _ (new : disk.State) (c : Command) (a : Result Answer Refusal) (crash : Throughout mid new (Leaves (LeftBy Shows reached c))) where
+    call_since : (t : ℕ) (x : Contents) → keeping.time ≤ t → LeftAt new t x → LeftBy Shows reached c x
+    call_since t x from was =
+        ⊎_elim
+        (λ (lt : t < moment mid). let le : t ≤ moment mid = omega (arith, lt) in inl (keeping.rest t x from le (past_stays mid new _ crash t x le was)))
+        (λ (ge : moment mid ≤ t). leaves_only mid new _ crash t x ge was)
+        (cases_lt t (moment mid))
+
+    has_run : HasRun Shows (LeftAt new) s (moment old) (commands ++ c ∷ []) (answers ++ a ∷ []) (after s (commands ++ c ∷ []) (answers ++ a ∷ [])) (moment new)
+    has_run =
+        HasRun-more keeping.run (LeftAt new) c a _ (moment new) (after_more s commands answers c a keeping.run.last.same) (le_trans keeping.within (moment_rises mid new _ crash))
+        (λ t x to was. past_stays mid new _ crash t x (le_trans to keeping.within) was)
+        (λ t x from to was. call_since t x from was)
+
+    -- after it a crash shows what is committed then
+    pub keeping_more : ShowsCommitted (next reached c a) new.now → Keeping old new s (commands ++ c ∷ []) (answers ++ a ∷ [])
+    keeping_more shows =
+        let then : ShowsCommitted (after s (commands ++ c ∷ []) (answers ++ a ∷ [])) new.now = subst (λ (t : State). ShowsCommitted t new.now) (sym (after_more s commands answers c a keeping.run.last.same)) shows in
+        record {
+          time = moment new;
+          within = omega arith;
+          run = has_run;
+          rest = λ t x from to was. leaves_only new new _ (started new _ then) t x from was;
+        }
+
+    -- the device failed in it
+    pub keeps_failed : a ≡ Err Device → Keeps old new s (commands ++ c ∷ []) (answers ++ a ∷ [])
+    keeps_failed failed =
+        let onward = le_trans keeping.within (moment_rises mid new _ crash) in
+        let told : (t : ℕ) (x : Contents) → moment new ≤ t → t ≤ moment new → LeftAt new t x → Kept Shows s (commands ++ c ∷ []) (answers ++ a ∷ []) x =
+        λ t x from to was.
+        subst (λ r. Kept Shows s (commands ++ c ∷ []) (answers ++ r ∷ []) x) (sym failed)
+        (kept_failed Shows s (commands ++ c ∷ []) answers (omega (arith, length-append commands (c ∷ []), keeping.run.last.same)) x
+        (kept_call Shows s commands answers c x keeping.run.last (call_since t x (le_trans onward from) was))) in
+        record {
+          time = moment new;
+          within = omega arith;
+          calls = has_run.moments;
+          rest = told;
+          held = told (moment new) new.now.contents (omega arith) (omega arith) (left_held new);
+        }

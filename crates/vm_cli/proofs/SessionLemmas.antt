@@ -1,0 +1,68 @@
+-- What a crash leaves from the moment at which a disk is found to that at which it comes back.
+use Rattle.std.proofs.Common.{◌≡◌, inl, inr, ℕ, true, false, List, [], length, Option, Result, refl, sym, ap, ◌∙◌, subst}
+use Rattle.std.proofs.lemmas.List.{ext_get_or}
+use Rattle.vm_types.specs.State.{State, opened}
+use Rattle.vm_types.specs.Tree.{Tree}
+use Rattle.vm_disk.specs.Disk as disk
+use Rattle.vm_disk.specs.Disk.{Contents, Goes, IsClean, MayLeave, Medium}
+use Rattle.vm_disk.specs.Moments.{Leaves, Throughout}
+use Rattle.vm_disk.proofs.MomentLemmas.{weaken}
+use Rattle.vm_store.specs.Opening.{OpensAs}
+use Rattle.vm_store.specs.Refused.{IsAtMostSynced}
+use Rattle.vm_store.specs.Shown.{Shows}
+use Rattle.vm_store.specs.Store.{Holds, disk_of, has_failed}
+use Rattle.vm_store.specs.declared.store.Store.{Store}
+use Rattle.vm_store.proofs.ShownLemmas.{shown_one}
+use Rattle.vm_cli.specs.Keeps.{Keeps, answers_of, commands_of}
+use Rattle.vm_cli.specs.Talk.{Serves}
+use Rattle.vm_cli.specs.declared.talk.ServeFault.{ServeFault}
+use Rattle.vm_cli.proofs.KeepLemmas.{Keeping, keeping_none, keeping_quiet, keeps}
+use Rattle.vm_cli.proofs.TalkKeepLemmas.{serves_keeps}
+
+-- a crash leaves of a synced disk what it holds
+pub clean_leaves : (P : Contents → Type 0) (m : Medium) → IsClean m → P m.contents → Leaves P m
+clean_leaves P m clean p left may = subst P (sym (ext_get_or [] left m.contents may.count (λ n inside. may.clean n (clean n)))) p
+
+-- what a crash leaves it may leave: what is held
+pub leaves_held : (P : Contents → Type 0) (m : Medium) → Leaves P m → P m.contents
+leaves_held P m leaves = leaves m.contents record { count = refl; clean = λ n clean. refl }
+
+-- a sync makes a crash leave no more
+pub synced_leaves : (P : Contents → Type 0) (old m : Medium) → Leaves P old → IsAtMostSynced old m → Leaves P m
+synced_leaves P old m leaves (inl same) = subst (Leaves P) (sym same) leaves
+synced_leaves P old m leaves (inr synced) = λ left may. leaves left record {
+  count = may.count ∙ ap length synced.same;
+  clean = λ n clean. may.clean n (synced.clean n) ∙ ap (λ (x : Contents). disk.block x n) synced.same;
+}
+
+-- a disk that is at most synced keeps the tree
+module _ (old new : disk.State) (tree : Tree) (leaves : Leaves (λ x. Shows x tree) old.now) (synced : Throughout old new (IsAtMostSynced old.now)) where
+  pub synced_keeping : Keeping old new (opened tree) [] []
+  synced_keeping =
+      keeping_quiet old old (opened tree) [] [] (keeping_none old (opened tree) leaves) new
+      (weaken old new (IsAtMostSynced old.now) (Leaves (λ x. Shows x tree)) (λ m at_most. synced_leaves (λ x. Shows x tree) old.now m leaves at_most) synced)
+
+  pub synced_keeps : Keeps old new (opened tree) [] []
+  synced_keeps = keeps old new (opened tree) [] [] synced_keeping
+
+-- and so does one on which lines were answered
+module _ {D : Type 0} {members : _} (old : disk.State) (first last : Store D members) (opens : (members.state first.disk).honest ≡ true → OpensAs old.now.contents first)
+    (synced : (members.state first.disk).honest ≡ true → Throughout old (members.state first.disk) (IsAtMostSynced old.now)) (well : has_failed first ≡ false) (goes : Goes ⊥ (members.state first.disk) (members.state last.disk)) where
+  session_keeps : {T : Type 0} (result : Result T ServeFault) (before then known : Option (List ℕ)) (serves : (s : State) → Serves first last s result before then known)
+      → (members.state last.disk).honest ≡ true → (tree : Tree) → Leaves (λ x. Shows x tree) old.now
+      → Keeps old (members.state last.disk) (opened tree) (commands_of (serves (opened tree))) (answers_of (serves (opened tree)))
+  session_keeps result before then known serves honest tree leaves =
+      let honest_first = goes.earlier honest in
+      let at_first = opens honest_first in
+      let same : at_first.tree ≡ tree = shown_one old.now.contents at_first.tree tree at_first.shown (leaves_held (λ x. Shows x tree) old.now leaves) in
+      serves_keeps old (opened tree) first last (synced_keeping old (members.state first.disk) tree leaves (synced honest_first)) honest well
+      (subst (λ t. Holds first (opened t)) same at_first.holds) result before then known (serves (opened tree))
+
+  -- also on the disk that the store gives back
+  pub session_kept : {T : Type 0} (result : Result T ServeFault) (before then known : Option (List ℕ)) (serves : (s : State) → Serves first last s result before then known)
+      → (new : D) → new ≡ disk_of last → (members.state new).honest ≡ true → (tree : Tree)
+      → Leaves (λ x. Shows x tree) old.now
+      → Keeps old (members.state new) (opened tree) (commands_of (serves (opened tree))) (answers_of (serves (opened tree)))
+  session_kept result before then known serves new given honest tree leaves =
+      subst (λ d. Keeps old (members.state d) (opened tree) (commands_of (serves (opened tree))) (answers_of (serves (opened tree)))) (sym given)
+      (session_keeps result before then known serves (subst (λ d. (members.state d).honest ≡ true) given honest) tree leaves)
