@@ -22,3 +22,5 @@ pub mod ExitLemmas
 pub mod KeepLemmas
 pub mod TalkKeepLemmas
 pub mod SessionLemmas
+mod FilesLemmas
+mod RealFilesLemmas

@@ -15,3 +15,6 @@ pub mod Talk
 pub mod Feeding
 pub mod Keeps
 pub mod Sessions
+pub mod Places
+pub mod Files
+pub mod RealFiles

@@ -1,27 +1,57 @@
 //! Where disks are found by name.
+ghost use Rattle.std.specs.Prelude.{◌≡◌, true, option_map};
+ghost use Rattle.vm_cli.specs.Places.{PlaceState, Creates, Finds, TakesBack};
+
 use std::fs::File;
 use std::io;
 use std::marker::PhantomData;
 use std::os::fd::AsRawFd;
 use std::rt::Files;
-use vm_disk::{Disk, FileDisk, LAST_STANDARD, SystemFile, World};
+use std::snapshot::Snapshot;
+use vm_disk::{Disk, FileDisk, History, LAST_STANDARD, SystemFile, World, noted_bytes};
 
 /// Where disks are found by name.
+///
+/// Of a place that is not honest nothing is said: what its files hold is then unknown.
 pub trait Place {
     type D: Disk;
 
+    /// What is known of it, for contracts alone.
+    ghost state: { Self → PlaceState };
+
     /// Makes a disk that is not there yet, of this many zero blocks.
-    fn create(&mut self, file: &str, blocks: u32) -> Option<Self::D>;
+    fn create(&mut self, file: &str, blocks: u32) -> Option<Self::D>
+        ensures earlier { (state self.new).honest ≡ true → (state self.old).honest ≡ true }
+        ensures honest { (state self.new).honest ≡ true
+            → Creates file.now blocks (option_map Self.D.state result) (state self.old) (state self.new) };
 
     /// A disk that is there.
-    fn find(&mut self, file: &str) -> Option<Self::D>;
+    fn find(&mut self, file: &str) -> Option<Self::D>
+        ensures earlier { (state self.new).honest ≡ true → (state self.old).honest ≡ true }
+        ensures honest { (state self.new).honest ≡ true
+            → Finds file.now (option_map Self.D.state result) (state self.old) (state self.new) };
 
     /// Takes a disk back that it gave.
-    fn give_back(&mut self, file: &str, disk: Self::D);
+    fn give_back(&mut self, file: &str, disk: Self::D)
+        ensures earlier { (state self.new).honest ≡ true → (state self.old).honest ≡ true }
+        ensures honest { (state self.new).honest ≡ true
+            → TakesBack file.now (Self.D.state disk) (state self.old) (state self.new) };
+}
+
+// What was done with a file of the system.
+#[derive(Drop)]
+enum Event<W> {
+    Found(Snapshot<SystemFile<W>>),
+    Made(Snapshot<SystemFile<W>>),
+    Given(History<u8>, Snapshot<FileDisk<SystemFile<W>>>),
 }
 
 /// The files of the system. What they hold when they are opened no program can know: the world W says
-/// it, for contracts alone.
+/// it, for contracts alone. They are honest as long as each is found as it was left, and each disk that
+/// comes back has kept the disk model.
+///
+/// Assumed, and in no contract: that between two openings no one else writes a file, and that it keeps
+/// what the disk model says that a crash may leave.
 ///
 /// As long as it is there, the standard input, output and error are open. One that was closed is open
 /// on a folder: reads fail there, and so do writes.
@@ -29,6 +59,8 @@ pub trait Place {
 pub struct RealFiles<'a, R, W> {
     rt: &'a R,
     folders: [Option<File>; 3],
+    opened: History<()>,
+    events: History<Event<W>>,
     world: PhantomData<W>,
 }
 
@@ -48,6 +80,8 @@ impl<'a, R: Files<File = File>, W> RealFiles<'a, R, W> {
         Ok(RealFiles {
             rt,
             folders,
+            opened: History::new(),
+            events: History::new(),
             world: PhantomData,
         })
     }
@@ -56,13 +90,30 @@ impl<'a, R: Files<File = File>, W> RealFiles<'a, R, W> {
 impl<R: Files<File = File>, W: World> Place for RealFiles<'_, R, W> {
     type D = FileDisk<SystemFile<W>>;
 
+    ghost use Rattle.vm_disk.specs.Past.{noted};
+    ghost use Rattle.vm_cli.specs.RealFiles.{files_after, honest_after};
+
+    ghost state = { λ place. record {
+      honest = honest_after W.held W.torn (noted place.events);
+      files = files_after W.held W.torn (noted place.events);
+    } };
+
     fn create(&mut self, file: &str, blocks: u32) -> Option<FileDisk<SystemFile<W>>> {
-        FileDisk::create(SystemFile::create(self.rt, file)?, blocks)
+        let made = SystemFile::create(self.rt, file, &self.opened)?;
+        self.opened.note(&());
+        self.events.note(&Event::Made(Snapshot::of(&made)));
+        FileDisk::create(made, blocks)
     }
 
     fn find(&mut self, file: &str) -> Option<FileDisk<SystemFile<W>>> {
-        FileDisk::open(SystemFile::open(self.rt, file)?)
+        let found = SystemFile::open(self.rt, file, &self.opened)?;
+        self.opened.note(&());
+        self.events.note(&Event::Found(Snapshot::of(&found)));
+        FileDisk::open(found)
     }
 
-    fn give_back(&mut self, _file: &str, _disk: FileDisk<SystemFile<W>>) {}
+    fn give_back(&mut self, file: &str, disk: FileDisk<SystemFile<W>>) {
+        let name = noted_bytes(file.as_bytes());
+        self.events.note(&Event::Given(name, Snapshot::of(&disk)));
+    }
 }

@@ -1,27 +1,28 @@
-use Rattle.std.proofs.Common.{map, inl, inr}
+use Rattle.std.proofs.Common.{map, inl, inr, refl}
 use Rattle.std.specs.String.{string_bytes}
 use Rattle.clap.specs.Words.{kind_of}
 use Rattle.vm_cli.specs.Exits.{IsJob}
 use Rattle.vm_cli.specs.Words.Wanted.{create, run}
 use Rattle.vm_cli.proofs.ExitLemmas.{help_or_mistake, helped, made, mistaken, no_memory, talked}
+use Rattle.vm_cli.proofs.FilesLemmas.{did_create, did_nothing, did_run, no_fault, stopped_short}
 use Rattle.vm_cli.proofs.program.carry_out.Goals as goal
 
-pub returns-in-Ok-Create : goal.returns-in-Ok-Create
-returns-in-Ok-Create g c =
+pub returns-in-Ok-Create-clause-ends : goal.returns-in-Ok-Create-clause-ends
+returns-in-Ok-Create-clause-ends g c =
     let words = map string_bytes c.args.words.now in
     let e = rw c.in-Ok-Create.field-0-is at c.in-Ok-Create.ensures in
     let job : IsJob words (create c.in-Ok-Create.file.now c.in-Ok-Create.blocks) = (e.faults, e.ok) in
-    made g.W.Write.contents g.F.Write.contents words _ _ _ _ c.in-Ok-Create.file.now c.in-Ok-Create.blocks _ job c.create.ensures
+    made g.W.Write.contents g.F.Write.contents words _ _ _ _ c.in-Ok-Create.file.now c.in-Ok-Create.blocks _ job c.create.ensures.says
 
-pub returns-in-Ok-Run : goal.returns-in-Ok-Run
-returns-in-Ok-Run g c =
+pub returns-in-Ok-Run-clause-ends : goal.returns-in-Ok-Run-clause-ends
+returns-in-Ok-Run-clause-ends g c =
     let words = map string_bytes c.args.words.now in
     let e = rw c.in-Ok-Run.field-0-is at c.in-Ok-Run.ensures in
     let job : IsJob words (run c.in-Ok-Run.file.now) = (e.faults, e.ok) in
-    talked g.W.Write.contents g.F.Write.contents words _ _ _ _ c.in-Ok-Run.file.now _ job c.run.ensures
+    talked g.W.Write.contents g.F.Write.contents words _ _ _ _ c.in-Ok-Run.file.now _ job c.run.ensures.says
 
-pub returns-in-Err : goal.returns-in-Err
-returns-in-Err g c =
+pub returns-in-Err-clause-ends : goal.returns-in-Err-clause-ends
+returns-in-Err-clause-ends g c =
     let words = map string_bytes c.args.words.now in
     elim c.in-Err.ensures.faults [
       | inl memory ↦ let m = c.explain.ensures.memory memory in no_memory g.W.Write.contents g.F.Write.contents words _ _ _ _ _ m.0 m.1 m.2
@@ -30,3 +31,25 @@ returns-in-Err g c =
         | inr wrong ↦ mistaken g.W.Write.contents g.F.Write.contents words _ _ _ _ (kind_of c.in-Err.error) _ wrong among (c.explain.ensures.wrong wrong)
       ]
     ]
+
+pub returns-in-Ok-Create-clause-files : goal.returns-in-Ok-Create-clause-files
+returns-in-Ok-Create-clause-files g c honest =
+    let words = map string_bytes c.args.words.now in
+    let e = rw c.in-Ok-Create.field-0-is at c.in-Ok-Create.ensures in
+    let job : IsJob words (create c.in-Ok-Create.file.now c.in-Ok-Create.blocks) = (e.faults, e.ok) in
+    did_create g.P.D.Disk words _ _ _ _ _ _ _ _ job (c.create.ensures.files honest)
+
+pub returns-in-Ok-Run-clause-files : goal.returns-in-Ok-Run-clause-files
+returns-in-Ok-Run-clause-files g c honest =
+    let words = map string_bytes c.args.words.now in
+    let e = rw c.in-Ok-Run.field-0-is at c.in-Ok-Run.ensures in
+    let job : IsJob words (run c.in-Ok-Run.file.now) = (e.faults, e.ok) in
+    did_run g.P.D.Disk words _ _ _ _ _ _ _ job (c.run.ensures.files honest)
+
+pub returns-in-Err-clause-files : goal.returns-in-Err-clause-files
+returns-in-Err-clause-files g c honest =
+    let words = map string_bytes c.args.words.now in
+    did_nothing g.P.D.Disk words _ _ _ _ _ _ (λ name. refl) (λ job asked. elim c.in-Err.ensures.faults [
+      | inl memory ↦ stopped_short _ (c.explain.ensures.memory memory).0
+      | inr among ↦ absurd (no_fault (kind_of c.in-Err.error) words job asked among)
+    ])

@@ -1,0 +1,68 @@
+-- What a run of the program does to the files of its place.
+use Rattle.std.specs.Prelude.{◌≡◌, ◌≢◌, ◌⊎◌, ℕ, true, List, Option, Some, None, replicate}
+use Rattle.clap.specs.Words.{Text}
+use Rattle.vm_types.specs.State.{opened}
+use Rattle.vm_types.specs.Tree.{Tree}
+use Rattle.vm_disk.specs.Disk as disk
+use Rattle.vm_disk.specs.Disk.{Contents, IsClean, Medium}
+use Rattle.vm_disk.specs.Moments.{Throughout}
+use Rattle.vm_disk.specs.declared.disk.Disk.{Ghosts}
+use Rattle.vm_store.specs.Formatting.{IsFormatted, IsFormatting}
+use Rattle.vm_store.specs.Shown.{Shows}
+use Rattle.vm_cli.specs.Exits.{IsJob}
+use Rattle.vm_cli.specs.Keeps.{Keeps, answers_of, commands_of}
+use Rattle.vm_cli.specs.Places.{KeepsOthers, PlaceState}
+use Rattle.vm_cli.specs.Sessions.{HasServed}
+use Rattle.vm_cli.specs.Words.{Wanted}
+use Rattle.vm_cli.specs.Words.Wanted.{create, run}
+use Rattle.vm_cli.specs.declared.program.Exit.{Exit}
+use Rattle.vm_cli.specs.declared.program.Exit.TheVariants.{Done}
+
+-- every file is as it was
+abbrev pub KeepsAll : PlaceState → PlaceState → Type 0
+KeepsAll old new = (name : List ℕ) → new.files name ≡ old.files name
+
+-- the file of this name was made of so many zero blocks, and a store was to be made on them: at each moment they are as they were made,
+-- at most synced, or a crash shows at most the new store
+pub record LaysOut (name : List ℕ) (blocks : ℕ) (new : PlaceState) : Type 0 where
+  pub start : disk.State
+  pub end : disk.State
+  pub zero : start.now.contents ≡ replicate blocks (replicate 4096 0)
+  pub moments : Throughout start end (IsFormatting start.now)
+  pub holds : new.files name ≡ Some end.now.contents
+
+-- a file of this name was to be made, with a new store of so many blocks
+pub record Makes (name : List ℕ) (blocks : ℕ) (exit : Exit) (old new : PlaceState) : Type 0 where
+  -- at Done there was none, and now it shows the new store
+  pub made : exit ≡ Done → (old.files name ≡ None) × ((m : Medium) × (new.files name ≡ Some m.contents) × IsFormatted blocks m)
+  pub lays : LaysOut name blocks new ⊎ (exit ≢ Done)
+  -- a file that was there is as it was
+  pub stays : (contents : Contents) → old.files name ≡ Some contents → new.files name ≡ Some contents
+  pub others : KeepsOthers name old new
+
+module _ {D : Type 0} (members : Ghosts D) where
+  -- the lines of an input were answered over the file of this name
+  pub record Answers (name : List ℕ) (exit : Exit) (old new : PlaceState) (input before after : Option (List ℕ)) : Type 0 where
+    pub found : D
+    pub back : D
+    pub served : HasServed members found back exit input before after
+    -- its disk was found as the file was left, and kept the disk model to the end
+    pub held : old.files name ≡ Some (members.state found).now.contents
+    pub clean : IsClean (members.state found).now
+    pub honest : (members.state back).honest ≡ true
+    pub holds : new.files name ≡ Some (members.state back).now.contents
+    pub others : KeepsOthers name old new
+    -- where the file showed a tree, the commands go on from it: a crash at any moment leaves what those so far keep, and so does the
+    -- file at the end
+    pub kept : (tree : Tree) → Shows (members.state found).now.contents tree
+        → Keeps (members.state found) (members.state back) (opened tree)
+        (commands_of (served.serves (opened tree))) (answers_of (served.serves (opened tree)))
+
+  -- what a run of the program does to the files
+  pub record Does (words : List Text) (exit : Exit) (old new : PlaceState) (input before after : Option (List ℕ)) : Type 0 where
+    -- words that ask for a new store make its file
+    pub creates : (name : Text) (blocks : ℕ) → IsJob words (create name blocks) → Makes name blocks exit old new
+    -- words that ask that lines are answered have them answered over the file, or no file changes, and not all was done
+    pub runs : (name : Text) → IsJob words (run name) → Answers name exit old new input before after ⊎ ((exit ≢ Done) × KeepsAll old new)
+    -- words that ask for no job change no file
+    pub none : ((job : Wanted) → IsJob words job → ⊥) → KeepsAll old new

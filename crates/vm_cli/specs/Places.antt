@@ -1,0 +1,33 @@
+-- What is known of a place where disks are found by name, and what its calls do to it.
+use Rattle.std.specs.Prelude.{◌≡◌, ◌≢◌, ℕ, Bool, true, List, Option, Some, None, IfSome, replicate}
+use Rattle.vm_disk.specs.Disk.{Contents, IsClean}
+use Rattle.vm_disk.specs.Disk as disk
+
+-- what is known of a place
+pub record PlaceState : Type 0 where
+  -- it has kept these rules in every call so far, and so has each disk that came back kept those of a disk
+  pub honest : Bool
+  -- what the disk of this name holds; None where there is no such file
+  pub files : List ℕ → Option Contents
+
+-- all files but the one of this name are as they were
+abbrev pub KeepsOthers : List ℕ → PlaceState → PlaceState → Type 0
+KeepsOthers name old new = (other : List ℕ) → other ≢ name → new.files other ≡ old.files other
+
+-- a disk of so many zero blocks is made where there was no file of this name; a file that was there stays as it was
+pub record Creates (name : List ℕ) (blocks : ℕ) (made : Option disk.State) (old new : PlaceState) : Type 0 where
+  pub absent : IfSome made (λ s. old.files name ≡ None)
+  pub zero : IfSome made (λ s. s.honest ≡ true → (s.blocks ≡ blocks) × (s.now.contents ≡ replicate blocks (replicate 4096 0)))
+  pub stays : (contents : Contents) → old.files name ≡ Some contents → new.files name ≡ Some contents
+  pub others : KeepsOthers name old new
+
+-- the disk of this name is found as it was left, and what it holds is lasting; no file changes
+pub record Finds (name : List ℕ) (found : Option disk.State) (old new : PlaceState) : Type 0 where
+  pub held : IfSome found (λ s. s.honest ≡ true → (old.files name ≡ Some s.now.contents) × IsClean s.now)
+  pub same : (other : List ℕ) → new.files other ≡ old.files other
+
+-- a disk comes back: the file of this name holds what the disk holds
+pub record TakesBack (name : List ℕ) (given : disk.State) (old new : PlaceState) : Type 0 where
+  pub honest : given.honest ≡ true
+  pub holds : new.files name ≡ Some given.now.contents
+  pub others : KeepsOthers name old new

@@ -1,0 +1,61 @@
+-- What the files of the system hold, by what was done with them.
+use Rattle.std.specs.Prelude.{ℕ, ◌+◌, ◌-◌, ◌/◌, ◌^◌, ◌&&◌, min, Bool, true, false, List, [], ◌∷◌, Option, Some, None, if◌then◌else◌, length, reverse, bytes_eq, option_map}
+use Rattle.vm_disk.specs.Disk.{Contents, State}
+use Rattle.vm_disk.specs.File.{file_blocks, file_of, file_state}
+use Rattle.vm_disk.specs.Past.{noted}
+use Rattle.vm_disk.specs.System.{name_of, opening_of, system_state}
+use Rattle.vm_disk.specs.declared.file.FileDisk.{FileDisk}
+use Rattle.vm_disk.specs.declared.system.SystemFile.{SystemFile}
+use Rattle.vm_cli.specs.declared.place.Event.{Event}
+use Rattle.vm_cli.specs.declared.place.Event.TheVariants.{Found, Made, Given}
+
+-- the whole blocks of these bytes, as many as a disk may have
+abbrev pub whole_blocks : List ℕ → Contents
+whole_blocks bytes = file_blocks (min (length bytes / 4096) (2 ^ 32 - 1)) bytes
+
+-- two contents are the same, block by block
+abbrev pub same_contents : Contents → Contents → Bool
+same_contents [] [] = true
+same_contents (x ∷ xs) (y ∷ ys) = bytes_eq x y && same_contents xs ys
+same_contents [] (y ∷ ys) = false
+same_contents (x ∷ xs) [] = false
+
+-- what was found is what was left
+abbrev pub is_as_left : Option Contents → Option Contents → Bool
+is_as_left (Some found) (Some left) = same_contents found left
+is_as_left found left = false
+
+-- there is no such file
+abbrev pub is_absent : Option Contents → Bool
+is_absent None = true
+is_absent (Some contents) = false
+
+-- the blocks of a file when so many had been opened, as the world says
+abbrev pub blocks_held : (ℕ → List ℕ → Option (List ℕ)) → ℕ → List ℕ → Option Contents
+blocks_held held opened name = option_map whole_blocks (held opened name)
+
+module _ {W : Type 0} (held : ℕ → List ℕ → Option (List ℕ)) (torn : ℕ → List ℕ → ℕ → List ℕ) where
+  -- what is known of a file's disk
+  abbrev pub real_disk : FileDisk (SystemFile W) → State
+  real_disk = file_state (system_state held torn)
+
+  -- the name of a disk's file
+  abbrev pub disk_name : FileDisk (SystemFile W) → List ℕ
+  disk_name disk = name_of (file_of disk)
+
+  -- what the file of a name holds after these events, the newest first: what a disk that came back holds, and else what the world
+  -- says. Of a file that is being made the world says it
+  abbrev pub files_after : List (Event W) → List ℕ → Option Contents
+  files_after [] name = blocks_held held 0 name
+  files_after (Found file ∷ events) name = files_after events name
+  files_after (Made file ∷ events) name = if bytes_eq name (name_of file.value) then blocks_held held (opening_of file.value + 1) name else files_after events name
+  files_after (Given given disk ∷ events) name = if bytes_eq name (reverse (noted given)) then Some (real_disk disk.value).now.contents else files_after events name
+
+  -- each file was found as it was left, none was made that was there, and each disk came back honest, under its name
+  abbrev pub honest_after : List (Event W) → Bool
+  honest_after [] = true
+  honest_after (Found file ∷ events) =
+      is_as_left (blocks_held held (opening_of file.value) (name_of file.value)) (files_after events (name_of file.value)) && honest_after events
+  honest_after (Made file ∷ events) = is_absent (files_after events (name_of file.value)) && honest_after events
+  honest_after (Given given disk ∷ events) =
+      (real_disk disk.value).honest && (bytes_eq (disk_name disk.value) (reverse (noted given)) && honest_after events)
