@@ -185,8 +185,8 @@ fn run<P: Place, R: Read, W: Write, F: Write>(
     let Some(disk) = place.find(file) else {
         return no_file(b"altctl: cannot open ", file, faults);
     };
-    let (exit, disk) = answer_lines(alloc, disk, input, output, faults);
-    place.give_back(file, disk);
+    let (exit, served) = answer_lines(alloc, disk, input, output, faults);
+    place.give_back(file, served);
     exit
 }
 
