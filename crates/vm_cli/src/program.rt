@@ -113,7 +113,7 @@ fn carry_out<P: Place, R: Read, W: Write, F: Write>(
 {
     match job(alloc, words) {
         Ok(Job::Create { file, blocks }) => create(file, blocks, place, output, faults),
-        Ok(Job::Run { file }) => run(alloc, file, place, input, output, faults),
+        Ok(Job::Run { file, cache: _ }) => run(alloc, file, place, input, output, faults),
         Err(error) => explain(alloc, &error, output, faults),
     }
 }
@@ -168,7 +168,7 @@ fn run<P: Place, R: Read, W: Write, F: Write>(
     faults: &mut F,
 ) -> Exit
     ensures { ((faults.new ≡ faults.old) × ((result ≡ Exit.Done) ⊎ (result ≡ Exit.Stopped)))
-        ⊎ ((output.new ≡ output.old) × ((text : List ℕ) × SaysRefused (run_wanted file.now) text
+        ⊎ ((output.new ≡ output.old) × ((text : List ℕ) × SaysRefused (run_wanted file.now 0) text
         × Tells Exit.Refused result (F.contents faults.old) (F.contents faults.new) text)) }
 {
     let Some(disk) = place.find(file) else {
