@@ -14,3 +14,4 @@ pub mod Carried
 pub mod Talk
 pub mod Feeding
 pub mod Sessions
+pub mod Caching

@@ -179,8 +179,8 @@ fn run<P: Place, R: Read, W: Write, F: Write>(
     exit
 }
 
-// Opens the store on a disk, and answers the lines of the input.
-fn answer_lines<D: Disk, R: Read, W: Write, F: Write>(
+/// Opens the store on a disk, and answers the lines of the input.
+pub(crate) fn answer_lines<D: Disk, R: Read, W: Write, F: Write>(
     alloc: Global,
     disk: D,
     input: &mut R,
