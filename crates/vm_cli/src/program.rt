@@ -1,5 +1,6 @@
 //! All that the program does.
 
+use crate::caching::answer_lines_cached;
 use crate::place::Place;
 use crate::reply::push_refusal;
 use crate::talk::serve;
@@ -113,7 +114,7 @@ fn carry_out<P: Place, R: Read, W: Write, F: Write>(
 {
     match job(alloc, words) {
         Ok(Job::Create { file, blocks }) => create(file, blocks, place, output, faults),
-        Ok(Job::Run { file, cache: _ }) => run(alloc, file, place, input, output, faults),
+        Ok(Job::Run { file, cache }) => run(alloc, file, cache, place, input, output, faults),
         Err(error) => explain(alloc, &error, output, faults),
     }
 }
@@ -158,23 +159,24 @@ fn make_store<D: Disk, W: Write, F: Write>(
     }
 }
 
-// Opens the store in a file, and answers the lines of the input.
+// Opens the store in a file, and answers the lines of the input. Up to `cache` of its blocks stay in memory.
 fn run<P: Place, R: Read, W: Write, F: Write>(
     alloc: Global,
     file: &str,
+    cache: u32,
     place: &mut P,
     input: &mut R,
     output: &mut W,
     faults: &mut F,
 ) -> Exit
     ensures { ((faults.new ≡ faults.old) × ((result ≡ Exit.Done) ⊎ (result ≡ Exit.Stopped)))
-        ⊎ ((output.new ≡ output.old) × ((text : List ℕ) × SaysRefused (run_wanted file.now 0) text
+        ⊎ ((output.new ≡ output.old) × ((text : List ℕ) × SaysRefused (run_wanted file.now cache) text
         × Tells Exit.Refused result (F.contents faults.old) (F.contents faults.new) text)) }
 {
     let Some(disk) = place.find(file) else {
         return no_file(b"altctl: cannot open ", file, faults);
     };
-    let (exit, disk) = answer_lines(alloc, disk, input, output, faults);
+    let (exit, disk) = answer_lines_cached(alloc, disk, cache, input, output, faults);
     place.give_back(file, disk);
     exit
 }

@@ -17,8 +17,8 @@ pub returns-in-Ok-Run : goal.returns-in-Ok-Run
 returns-in-Ok-Run g c =
     let words = map string_bytes c.args.words.now in
     let e = rw c.in-Ok-Run.field-0-is at c.in-Ok-Run.ensures in
-    let job : IsJob words (run c.in-Ok-Run.file.now _) = (e.faults, e.ok) in
-    talked g.W.Write.contents g.F.Write.contents words _ _ _ _ c.in-Ok-Run.file.now _ _ job c.run.ensures
+    let job : IsJob words (run c.in-Ok-Run.file.now c.in-Ok-Run.cache) = (e.faults, e.ok) in
+    talked g.W.Write.contents g.F.Write.contents words _ _ _ _ c.in-Ok-Run.file.now c.in-Ok-Run.cache _ job c.run.ensures
 
 pub returns-in-Err : goal.returns-in-Err
 returns-in-Err g c =
