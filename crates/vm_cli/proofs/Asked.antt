@@ -1,8 +1,10 @@
 -- A parse without fault of the program's words asks for a job.
-use Rattle.std.proofs.Common.{◌≡◌, ◌==◌, unwrap_or, ◌⊎◌, ◌<◌, ◌≤◌, ◌^◌, ◌&&◌, ◌||◌, ℕ, Bool, true, false, not, List, [], ◌∷◌, Some, None, is_some, cond, codes, find, drop, refl, sym, inl, inr, arith, pos, option_and_then, lit<, lit≤}
+use Rattle.std.proofs.Common.{◌≡◌, ◌==◌, unwrap_or, ◌⊎◌, ◌<◌, ◌≤◌, ◌^◌, ◌&&◌, ◌||◌, ℕ, Bool, true, false, not, List, [], ◌∷◌, Some, None, cond, codes, find, drop, fold, refl, sym, subst, ◌∙◌, inl, inr, arith, pos, option_and_then, lit<}
 use Rattle.std.specs.Prelude.{slice_get}
 use Rattle.std.specs.Str.{bytes_eq}
-use Rattle.std.specs.Str.Parse.{digits_value, starts_with_minus, without_leading_plus}
+use Rattle.std.specs.Char.{digit_value}
+use Rattle.std.specs.Str.Parse.{IsNumeral, digits_value, starts_with_minus, without_leading_plus}
+use Rattle.std.proofs.lemmas.Bool.{eqb-true}
 use Rattle.std.proofs.lemmas.Int.{ints}
 use Rattle.std.proofs.lemmas.Slice.Eq.{bytes_eq-Decides}
 use Rattle.clap.specs.Lexer.{without_minus}
@@ -11,22 +13,22 @@ use Rattle.clap.specs.Values.{IsSignedIn, refused_kind}
 use Rattle.clap.specs.ValueTests.{accepts, is_unsigned_in}
 use Rattle.std.specs.List.{list_any}
 use Rattle.clap.specs.Facts.{unwrap_or_range}
-use Rattle.clap.specs.declared.builder.action.ArgAction.TheVariants.{Set}
+use Rattle.clap.specs.declared.builder.action.ArgAction.TheVariants.{Set, Help}
 use Rattle.clap.specs.declared.builder.value_parser.Reading.TheVariants.{WithoutMinus}
-use Rattle.clap.specs.Walk.{Row, Rule, Text, action_of, answers_to, arg_by_id, first_of, nothing_held, one_of, rows_after}
-use Rattle.clap.specs.Simple.{Shape, argument_words, built, built_leaf, filled, label_of, with_index, subcommand_of}
+use Rattle.clap.specs.Walk.{Row, Rule, Text, action_of, answers_to, arg_by_id, first_of, has_row, nothing_held, one_of, rows_after, settled, walk, with_default}
+use Rattle.clap.specs.Simple.{Shape, argument_words, built, built_leaf, filled, help_rule, label_of, with_index, subcommand_of}
 use Rattle.clap.specs.Takes.{is_given}
-use Rattle.clap.specs.Faults.{fault_of, level_fault}
+use Rattle.clap.specs.Faults.{fault_of, level_fault, values_fault}
 use Rattle.clap.specs.declared.builder.value_parser.ValueParser.TheVariants as vp
 use Rattle.clap.specs.declared.builder.value_parser.ValueParser.{ValueParser}
 use Rattle.clap.proofs.ValueTestLemmas.{Accepts-accepts, accepts-Accepts}
-use Rattle.vm_cli.specs.Words.{Wanted, altctl, asked_of, blocks_rule, create_app, number_in, run_app}
+use Rattle.vm_cli.specs.Words.{Wanted, altctl, asked_of, blocks_rule, cache_rule, create_app, file_rule, number_in, run_app}
 use Rattle.vm_cli.specs.Words.Wanted.{create, run}
 use Rattle.vm_cli.proofs.FaultFree.{Every, every-found, neither, nothing_wanting}
-use Rattle.vm_cli.proofs.Levels.{IsFilled, IsKnown, each_given, given_row, level_rows}
+use Rattle.vm_cli.proofs.Levels.{IsFilled, IsKnown, each_given, given_row, has-default, held_row, level_rows, no-default}
 use Rattle.vm_cli.proofs.Entered.{entered_one}
 
--- ---- the number of blocks
+-- ---- a number in a range
 
 minus_read : (t : List ℕ) → without_minus t ≡ cond (starts_with_minus t) (drop 1 t) t
 minus_read [] = refl
@@ -36,24 +38,44 @@ minus_read (x ∷ xs) = go (x == 45)
     go true = refl
     go false = refl
 
--- a text that passed a range of positive numbers is read as a number in it
-in_range : (low high : ℕ) (t : List ℕ) → 1 ≤ low → high < 2 ^ 64 → IsSignedIn (pos low) (pos high) t → (n : ℕ) × (number_in low high (without_minus t) ≡ Some n)
-in_range low high t positive small passed = go (starts_with_minus t) refl
+-- digits have no sign before them
+no_plus : (t : List ℕ) → IsNumeral 10 t → without_leading_plus t ≡ t
+no_plus [] numeral = refl
+no_plus (x ∷ xs) numeral = go (x == 43) refl
   where
+    go : (b : Bool) → (x == 43) ≡ b → drop (cond b 1 0) (x ∷ xs) ≡ x ∷ xs
+    go true plus =
+        let is : x ≡ 43 = eqb-true x 43 plus in
+        let digit : digit_value 43 < 10 = rw is at numeral.1.0 in
+        absurd (omega arith)
+    go false plus = refl
+
+-- a text that passed a range of numbers from 0 on is read as a number in it
+in_range : (low high : ℕ) (t : List ℕ) → high < 2 ^ 64 → IsSignedIn (pos low) (pos high) t → (n : ℕ) × (number_in low high (without_minus t) ≡ Some n)
+in_range low high t small passed = go (starts_with_minus t) refl
+  where
+    read : (u : List ℕ) → without_minus t ≡ u → IsNumeral 10 (without_leading_plus u) → low ≤ digits_value 10 (without_leading_plus u)
+        → digits_value 10 (without_leading_plus u) ≤ high → (n : ℕ) × (number_in low high (without_minus t) ≡ Some n)
+    read u same numeral above below =
+        let within : digits_value 10 (without_leading_plus u) < 2 ^ 64 = omega (arith, below, small) in
+        let is_in : is_unsigned_in low high u ≡ true = Accepts-accepts false (vp.Unsigned low high) u (numeral, within, above, below) in
+        (digits_value 10 (without_leading_plus u), rw (same, is_in) refl)
+
     go : (b : Bool) → starts_with_minus t ≡ b → (n : ℕ) × (number_in low high (without_minus t) ≡ Some n)
     go true minus =
+        let same : without_minus t ≡ drop 1 t = (let m = minus_read t in rw minus at m) in
+        let numeral : IsNumeral 10 (drop 1 t) = rw minus at passed.0 in
         let low_ok = rw minus at passed.2 in
-        absurd (omega (arith, ints))
+        let bare = no_plus (drop 1 t) numeral in
+        let zero : digits_value 10 (drop 1 t) ≡ 0 = omega (arith, ints) in
+        let least : low ≡ 0 = omega (arith, ints) in
+        read (drop 1 t) same (rw bare numeral) (rw (bare, zero, least) (omega arith)) (rw (bare, zero) (omega arith))
     go false minus =
         let low_ok = rw minus at passed.2 in
         let high_ok = rw minus at passed.3 in
         let numeral = rw minus at passed.0 in
         let same : without_minus t ≡ t = (let m = minus_read t in rw minus at m) in
-        let above : low ≤ digits_value 10 (without_leading_plus t) = omega (arith, ints) in
-        let below : digits_value 10 (without_leading_plus t) ≤ high = omega (arith, ints) in
-        let within : digits_value 10 (without_leading_plus t) < 2 ^ 64 = omega (arith, below, small) in
-        let is_in : is_unsigned_in low high t ≡ true = Accepts-accepts false (vp.Unsigned low high) t (numeral, within, above, below) in
-        (digits_value 10 (without_leading_plus t), rw (same, is_in) refl)
+        read t same numeral (omega (arith, ints)) (omega (arith, ints))
 
 -- the first of values that passed
 first_passes : (ignore_case : Bool) (parser : ValueParser) (values : List Text) (v : Text) → values_kinds ignore_case parser values ≡ [] → slice_get values 0 ≡ Some v
@@ -79,15 +101,19 @@ create_level = built_leaf create_app.top
 abbrev run_level : Shape
 run_level = built_leaf run_app.top
 
--- what is known of a positional that takes one value
-abbrev place : {c : List Rule} {a : Rule} → action_of a ≡ Set → 0 < (unwrap_or_range a.range).start_inclusive → a.defaults ≡ [] → is_some a.index ≡ true → arg_by_id c a.id ≡ Some a → IsKnown c a
-place sets least bare placed found = inl (record { sets = sets; least = least; bare = bare; placed = placed; found = found })
+-- what is known of an argument that takes one value
+abbrev valued : {c : List Rule} {a : Rule} → action_of a ≡ Set → 0 < (unwrap_or_range a.range).start_inclusive → values_fault a a.defaults ≡ [] → arg_by_id c a.id ≡ Some a → IsKnown c a
+valued sets least defaults found = inl (record { sets = sets; least = least; defaults = defaults; found = found })
+
+-- and of the flag that asks for help
+abbrev help : {c : List Rule} {a : Rule} → action_of a ≡ Help → a.defaults ≡ [] → IsKnown c a
+help asks bare = inr (record { asks = asks; bare = bare })
 
 create_known : Every (IsKnown create_level.rules) create_level.rules
-create_known = (place refl (lit< tt) refl refl refl, (place refl (lit< tt) refl refl refl, (inr (record { asks = refl; flag = refl; bare = refl }), tt)))
+create_known = (valued refl (lit< tt) refl refl, (valued refl (lit< tt) refl refl, (help refl refl, tt)))
 
 run_known : Every (IsKnown run_level.rules) run_level.rules
-run_known = (place refl (lit< tt) refl refl refl, (inr (record { asks = refl; flag = refl; bare = refl }), tt))
+run_known = (valued refl (lit< tt) refl refl, (valued refl (lit< tt) refl refl, (help refl refl, tt)))
 
 -- the first value of a row that is filled
 first_text : (c : List Rule) (rows : List Row) (id : Text) (r : Row) (filled : IsFilled c r) → find (λ x. bytes_eq x.id id) rows ≡ Some r → first_of id rows ≡ Some filled.first
@@ -98,33 +124,51 @@ one_read : (rows : List Row) (id : Text) (r : Row) (v : Text) → find (λ x. by
     → one_of id rows ≡ Some (without_minus v)
 one_read rows id r v found reading has = rw (found, has, reading) refl
 
--- the rule of the number of blocks
+-- the row of an argument whose values lie in a range says a number in it
+number_read : (c : List Rule) (a : Rule) (low high : ℕ) (rows : List Row) (r : Row) → high < 2 ^ 64
+    → a.parser ≡ Some (vp.Signed (pos low) (pos high)) → a.ignore_case ≡ false → arg_by_id c a.id ≡ Some a
+    → IsFilled c r → find (λ x. bytes_eq x.id a.id) rows ≡ Some r → bytes_eq r.id a.id ≡ true
+    → (n : ℕ) × (option_and_then (number_in low high) (one_of a.id rows) ≡ Some n)
+number_read c a low high rows r small parser case known row found named =
+    let id : r.id ≡ a.id = (bytes_eq-Decides r.id a.id).0 named in
+    let by : arg_by_id c r.id ≡ Some a = rw id known in
+    let passed = row.passes a by in
+    let reading : r.reading ≡ WithoutMinus = passed.0 ∙ rw parser refl in
+    let values : values_kinds false (vp.Signed (pos low) (pos high)) r.values ≡ [] = rw (parser, case) at passed.1 in
+    let accepted : accepts false (vp.Signed (pos low) (pos high)) row.first ≡ true = first_passes false (vp.Signed (pos low) (pos high)) r.values row.first values row.has in
+    let number = in_range low high row.first small (accepts-Accepts false (vp.Signed (pos low) (pos high)) row.first accepted) in
+    (number.0, rw (one_read rows a.id r row.first found reading row.has) number.1)
+
+-- the rules of the two numbers, in their levels
 abbrev blocks_place : Rule
 blocks_place = with_index 2 (filled blocks_rule)
 
--- the row of the number of blocks says a number in the range
-blocks_read : (rows : List Row) (r : Row) → IsFilled create_level.rules r → find (λ x. bytes_eq x.id (codes "blocks")) rows ≡ Some r → bytes_eq r.id (codes "blocks") ≡ true
-    → (n : ℕ) × (option_and_then (number_in 64 1048576) (one_of (codes "blocks") rows) ≡ Some n)
-blocks_read rows r row found named =
-    let id : r.id ≡ codes "blocks" = (bytes_eq-Decides r.id (codes "blocks")).0 named in
-    let by : arg_by_id create_level.rules r.id ≡ Some blocks_place = rw id refl in
-    let passed = row.passes blocks_place by in
-    let accepted : accepts false (vp.Signed (pos 64) (pos 1048576)) row.first ≡ true = first_passes false (vp.Signed (pos 64) (pos 1048576)) r.values row.first passed.1 row.has in
-    let number = in_range 64 1048576 row.first (lit≤ tt) (lit< tt) (accepts-Accepts false (vp.Signed (pos 64) (pos 1048576)) row.first accepted) in
-    (number.0, rw (one_read rows (codes "blocks") r row.first found passed.0 row.has) number.1)
+abbrev cache_option : Rule
+cache_option = filled cache_rule
 
 create_rows : (rows : List Row) → Every (IsFilled create_level.rules) rows → is_given (codes "file") rows ≡ true → is_given (codes "blocks") rows ≡ true
     → (w : Wanted) × (asked_of (Some (codes "create", rows)) ≡ Some w)
 create_rows rows filled file_given blocks_given =
     let file = given_row create_level create_known refl rows (codes "file") filled file_given in
     let blocks = given_row create_level create_known refl rows (codes "blocks") filled blocks_given in
-    let number = blocks_read rows blocks.0 blocks.2 blocks.1 blocks.3 in
+    let number = number_read create_level.rules blocks_place 64 1048576 rows blocks.0 (lit< tt) refl refl refl blocks.2 blocks.1 blocks.3 in
     (create file.2.first number.0, rw (first_text create_level.rules rows (codes "file") file.0 file.2 file.1, number.1) refl)
 
-run_rows : (rows : List Row) → Every (IsFilled run_level.rules) rows → is_given (codes "file") rows ≡ true → (w : Wanted) × (asked_of (Some (codes "run", rows)) ≡ Some w)
-run_rows rows filled file_given =
+run_rows : (rows : List Row) → Every (IsFilled run_level.rules) rows → is_given (codes "file") rows ≡ true → has_row (codes "cache") rows ≡ true
+    → (w : Wanted) × (asked_of (Some (codes "run", rows)) ≡ Some w)
+run_rows rows filled file_given cache_held =
     let file = given_row run_level run_known refl rows (codes "file") filled file_given in
-    (run file.2.first, rw (first_text run_level.rules rows (codes "file") file.0 file.2 file.1) refl)
+    let cache = held_row run_level run_known refl rows (codes "cache") filled cache_held in
+    let number = number_read run_level.rules cache_option 0 65536 rows cache.0 (lit< tt) refl refl refl cache.2 cache.1 cache.3 in
+    (run file.2.first number.0, rw (first_text run_level.rules rows (codes "file") file.0 file.2 file.1, number.1) refl)
+
+-- at the end of a level the default value stands where no word said another
+cache_found : (rows : List Row) → has_row (codes "cache") (fold with_default rows run_level.rules) ≡ true
+cache_found rows =
+    let without_file = with_default rows (with_index 1 (filled file_rule)) in
+    let with_cache = with_default without_file cache_option in
+    let here : has_row (codes "cache") with_cache ≡ true = has-default cache_option without_file (codes "256") [] refl in
+    subst (λ ends. has_row (codes "cache") ends ≡ true) (sym (no-default (filled help_rule) with_cache refl)) here
 
 create_asks : Asks create_level
 create_asks words e =
@@ -138,7 +182,7 @@ run_asks words e =
     let level = level_rows run_level run_known refl words e in
     let rows = rows_after run_level.rules [] words in
     let given = each_given run_level run_known refl run_level.rules rows (nothing_wanting false false (list_any (λ a. a.required && not (is_given a.id rows)) run_level.rules) level.1).1 in
-    run_rows rows level.0 (given.0 refl)
+    run_rows rows level.0 (given.0 refl) (cache_found (settled run_level.rules (walk run_level.rules [] nothing_held words).held).rows)
 
 -- a subcommand asks for a job, or is `help`
 abbrev AsksOrHelps : Shape → Type 0

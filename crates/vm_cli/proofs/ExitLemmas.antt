@@ -42,14 +42,14 @@ module _ {W F : Type 0} (in_output : W → Option (List ℕ)) (in_faults : F →
   made file blocks exit job (inr (same, (text, says, inr (is, begun)))) = rw is (inr (same, (text, inl (create file blocks, job, says), begun)))
 
   -- lines were to be answered
-  pub talked : (file : Text) (exit : Exit) → IsJob words (run file)
+  pub talked : (file : Text) (cache : ℕ) (exit : Exit) → IsJob words (run file cache)
       → ((faults' ≡ faults) × ((exit ≡ Done) ⊎ (exit ≡ Stopped)))
-      ⊎ ((output' ≡ output) × ((text : List ℕ) × SaysRefused (run file) text × Tells Refused exit (in_faults faults) (in_faults faults') text))
+      ⊎ ((output' ≡ output) × ((text : List ℕ) × SaysRefused (run file cache) text × Tells Refused exit (in_faults faults) (in_faults faults') text))
       → Ends in_output in_faults exit words output output' faults faults'
-  talked file exit job (inl (same, inl is)) = rw is (same, inr (file, job))
-  talked file exit job (inl (same, inr is)) = rw is (inl (same, inr (inr (file, job))))
-  talked file exit job (inr (same, (text, says, inl (is, written)))) = rw is (same, (text, (run file, job, says), written))
-  talked file exit job (inr (same, (text, says, inr (is, begun)))) = rw is (inr (same, (text, inl (run file, job, says), begun)))
+  talked file cache exit job (inl (same, inl is)) = rw is (same, inr (file, cache, job))
+  talked file cache exit job (inl (same, inr is)) = rw is (inl (same, inr (inr (file, cache, job))))
+  talked file cache exit job (inr (same, (text, says, inl (is, written)))) = rw is (same, (text, (run file cache, job, says), written))
+  talked file cache exit job (inr (same, (text, says, inr (is, begun)))) = rw is (inr (same, (text, inl (run file cache, job, says), begun)))
 
   -- memory was wanting
   pub no_memory : (exit : Exit) → exit ≡ Stopped → output' ≡ output → faults' ≡ faults → Ends in_output in_faults exit words output output' faults faults'

@@ -4,18 +4,27 @@ use Rattle.std.proofs.lemmas.Slice.Eq.{bytes_eq-Decides}
 use Rattle.std.specs.Str.{bytes_eq}
 use Rattle.clap.specs.Words.{IsAmong, Text, fault_of}
 use Rattle.clap.specs.declared.error.kind.ErrorKind.{ErrorKind}
-use Rattle.vm_disk.specs.Disk.{State}
-use Rattle.vm_disk.specs.Moments.{Throughout}
+use Rattle.vm_types.specs.State.{opened}
+use Rattle.vm_types.specs.Tree.{Tree}
+use Rattle.vm_disk.specs.Cached.{cached_state, inner_of}
+use Rattle.vm_disk.specs.Disk.{IsClean, State}
+use Rattle.vm_disk.specs.Moments.{Leaves, Throughout}
+use Rattle.vm_disk.specs.declared.cached.CachedDisk.{CachedDisk}
 use Rattle.vm_disk.specs.declared.disk.Disk.{Ghosts}
 use Rattle.vm_disk.proofs.MomentLemmas.{at_end}
 use Rattle.vm_store.specs.Refused.{IsAtMostSynced}
+use Rattle.vm_store.specs.Shown.{Shows}
+use Rattle.vm_cli.specs.Caching.{IsServed, answers_told, commands_told}
 use Rattle.vm_cli.specs.Exits.{IsJob, Tells}
+use Rattle.vm_cli.specs.Keeps.{Keeps, answers_of, commands_of}
 use Rattle.vm_cli.specs.Files.{Answers, Does, KeepsAll, Makes}
 use Rattle.vm_cli.specs.Places.{KeepsOthers, PlaceState}
 use Rattle.vm_cli.specs.Words.{Wanted, altctl}
 use Rattle.vm_cli.specs.Words.Wanted.{create, run}
 use Rattle.vm_cli.specs.declared.program.Exit.{Exit}
 use Rattle.vm_cli.specs.declared.program.Exit.TheVariants.{Done, Refused, Stopped}
+use Rattle.vm_cli.proofs.CachingLemmas.{keeps_below}
+use Rattle.vm_cli.proofs.SessionLemmas.{clean_leaves}
 
 -- a disk that was at most synced holds what it held
 pub synced_alone : (old new : State) → Throughout old new (IsAtMostSynced old.now) → new.now.contents ≡ old.now.contents
@@ -49,32 +58,72 @@ stopped_short exit is e = cc
 pub no_fault : (kind : ErrorKind) (words : List Text) (job : Wanted) → IsJob words job → IsAmong kind (fault_of altctl words) → ⊥
 no_fault kind words job asked among = subst (IsAmong kind) asked.0 among
 
-module _ {D : Type 0} (members : Ghosts D) (words : List Text) (exit : Exit) (old new : PlaceState) (input before after : Option (List ℕ)) where
+-- lines that were answered over a disk, or over a cache of its blocks, whose state is that of the disk but for its reads
+module _ {D : Type 0} (members : Ghosts D) (cached : Ghosts (CachedDisk D members)) (same : (cache : CachedDisk D members) → cached.state cache ≡ cached_state members.state cache)
+    (cache : ℕ) (found back : D) (exit : Exit) (input before after : Option (List ℕ)) (served : IsServed members cached cache found back exit input before after) (honest : (members.state back).honest ≡ true) where
+  -- the disk was honest when it was found
+  pub was_honest : (members.state found).honest ≡ true
+  was_honest = go served
+    where
+      go : IsServed members cached cache found back exit input before after → (members.state found).honest ≡ true
+      go (inl served) = served.found.earlier (served.goes.earlier honest)
+      go (inr over) =
+          let last : (members.state (inner_of over.last)).honest ≡ true = subst (λ (d : D). (members.state d).honest ≡ true) over.given_back honest in
+          let there : (cached.state over.last).honest ≡ true = rw (same over.last) last in
+          let first : (cached.state over.first).honest ≡ true = over.done.found.earlier (over.done.goes.earlier there) in
+          let below : (members.state (inner_of over.first)).honest ≡ true = rw (same over.first) at first in
+          subst (λ (d : D). (members.state d).honest ≡ true) over.empty.inner below
+
+  -- what a crash leaves at each moment, the commands so far keep
+  pub kept_told : IsClean (members.state found).now → (tree : Tree) → Shows (members.state found).now.contents tree
+      → Keeps (members.state found) (members.state back) (opened tree) (commands_told members cached served (opened tree)) (answers_told members cached served (opened tree))
+  kept_told clean tree shows = go served
+    where
+      go : (served : IsServed members cached cache found back exit input before after)
+          → Keeps (members.state found) (members.state back) (opened tree) (commands_told members cached served (opened tree)) (answers_told members cached served (opened tree))
+      go (inl served) = served.kept honest tree (clean_leaves (λ x. Shows x tree) (members.state found).now clean shows)
+      go (inr over) =
+          let commands = commands_of (over.done.serves (opened tree)) in
+          let answers = answers_of (over.done.serves (opened tree)) in
+          let last : (members.state (inner_of over.last)).honest ≡ true = subst (λ (d : D). (members.state d).honest ≡ true) over.given_back honest in
+          let there : (cached.state over.last).honest ≡ true = rw (same over.last) last in
+          let leaves : Leaves (λ x. Shows x tree) (members.state (inner_of over.first)).now =
+          subst (λ (d : D). Leaves (λ x. Shows x tree) (members.state d).now) (sym over.empty.inner) (clean_leaves (λ x. Shows x tree) (members.state found).now clean shows) in
+          let above : Leaves (λ x. Shows x tree) (cached.state over.first).now = rw (same over.first) leaves in
+          let kept : Keeps (cached_state members.state over.first) (cached_state members.state over.last) (opened tree) commands answers =
+          subst (λ (t : State). Keeps (cached_state members.state over.first) t (opened tree) commands answers) (same over.last)
+          (subst (λ (t : State). Keeps t (cached.state over.last) (opened tree) commands answers) (same over.first) (over.done.kept there tree above)) in
+          let below = keeps_below members over.first over.last (opened tree) commands answers kept in
+          subst (λ (d : D). Keeps (members.state found) (members.state d) (opened tree) commands answers) (sym over.given_back)
+          (subst (λ (d : D). Keeps (members.state d) (members.state (inner_of over.last)) (opened tree) commands answers) over.empty.inner below)
+
+module _ {D : Type 0} (members : Ghosts D) (cached : Ghosts (CachedDisk D members)) (words : List Text) (exit : Exit) (old new : PlaceState) (input before after : Option (List ℕ)) where
   -- a store was made
-  pub did_create : (name : Text) (blocks : ℕ) → IsJob words (create name blocks) → Makes name blocks exit old new → Does members words exit old new input before after
+  pub did_create : (name : Text) (blocks : ℕ) → IsJob words (create name blocks) → Makes name blocks exit old new → Does members cached words exit old new input before after
   did_create name blocks job makes = record {
     creates = λ other size asked. let same : create other size ≡ create name blocks = one_job words (create name blocks) (create other size) job asked in
         let name_is : other ≡ name = cc in
         let size_is : size ≡ blocks = cc in
         rw (name_is, size_is) makes;
-    runs = λ other asked. let same : run other ≡ create name blocks = one_job words (create name blocks) (run other) job asked in absurd (cc);
+    runs = λ other cache asked. let same : run other cache ≡ create name blocks = one_job words (create name blocks) (run other cache) job asked in absurd (cc);
     none = λ no. absurd (no (create name blocks) job);
   }
 
   -- lines were answered
-  pub did_run : (name : Text) → IsJob words (run name) → Answers members name exit old new input before after ⊎ ((exit ≢ Done) × KeepsAll old new) → Does members words exit old new input before after
-  did_run name job answers = record {
-    creates = λ other size asked. let same : create other size ≡ run name = one_job words (run name) (create other size) job asked in absurd (cc);
-    runs = λ other asked. let same : run other ≡ run name = one_job words (run name) (run other) job asked in
+  pub did_run : (name : Text) (cache : ℕ) → IsJob words (run name cache) → Answers members cached name cache exit old new input before after ⊎ ((exit ≢ Done) × KeepsAll old new) → Does members cached words exit old new input before after
+  did_run name cache job answers = record {
+    creates = λ other size asked. let same : create other size ≡ run name cache = one_job words (run name cache) (create other size) job asked in absurd (cc);
+    runs = λ other size asked. let same : run other size ≡ run name cache = one_job words (run name cache) (run other size) job asked in
         let name_is : other ≡ name = cc in
-        rw name_is answers;
-    none = λ no. absurd (no (run name) job);
+        let size_is : size ≡ cache = cc in
+        rw (name_is, size_is) answers;
+    none = λ no. absurd (no (run name cache) job);
   }
 
   -- no file changed, and what the words ask for was not done, where they ask for something
-  pub did_nothing : KeepsAll old new → ((job : Wanted) → IsJob words job → exit ≢ Done) → Does members words exit old new input before after
+  pub did_nothing : KeepsAll old new → ((job : Wanted) → IsJob words job → exit ≢ Done) → Does members cached words exit old new input before after
   did_nothing same undone = record {
     creates = λ name blocks asked. record { made = λ done. absurd (undone (create name blocks) asked done); lays = inr (undone (create name blocks) asked); stays = λ contents is. same name ∙ is; others = λ other apart. same other };
-    runs = λ name asked. inr (undone (run name) asked, same);
+    runs = λ name cache asked. inr (undone (run name cache) asked, same);
     none = λ no. same;
   }

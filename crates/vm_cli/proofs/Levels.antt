@@ -1,42 +1,47 @@
--- One level of a parse without fault, of a command whose arguments are positionals of one value or more, and help: each row has a first value, and its values passed.
-use Rattle.std.proofs.Common.{◌≡◌, ◌⊎◌, ◌<◌, ◌&&◌, ◌++◌, ◌∙◌, ℕ, Bool, true, false, not, zero, suc, List, [], ◌∷◌, Option, Some, None, is_some, cond, find, fold, drop, length, refl, sym, ap, subst, inl, inr, append-nil, lt-ltb}
+-- One level of a parse without fault, of a command whose arguments take one value or more, or ask for help: each row has a first value, and its values passed.
+use Rattle.std.proofs.Common.{◌≡◌, ◌⊎◌, ◌<◌, ◌&&◌, ◌||◌, ◌++◌, ◌∙◌, ℕ, Bool, true, false, not, zero, suc, List, [], ◌∷◌, Option, Some, None, is_some, cond, find, fold, drop, length, refl, sym, ap, subst, inl, inr, append-nil, lt-ltb}
 use Rattle.std.specs.Prelude.{encode_utf8, slice_get}
 use Rattle.std.specs.List.{list_any}
 use Rattle.std.specs.Option.{option_map_or}
 use Rattle.std.specs.Str.{bytes_eq, chars}
+use Rattle.std.proofs.lemmas.Slice.Eq.{bytes_eq-Decides}
 use Rattle.clap.specs.Lexer.{long_of, short_of}
 use Rattle.clap.specs.Facts.{unwrap_or_range}
 use Rattle.clap.specs.Kinds.{Kinds, or_else, range_kinds}
-use Rattle.clap.specs.Walk.{Held, Outcome, done, waits, plain, refused, Row, Rule, Step, next, trailing, subcommand, value, Text, Waiting, idle, option, positional, Walk, default_rows, used_by_id, action_of, after_flag, after_step, arg_by_id, arg_by_index, arg_by_long, arg_by_short, at_row, bundle_met, bundle_step, finished, has_long, has_row, has_short, is_pending, long_or_other, more_values, most_values, nothing_held, option_word, plain_word, reacted, reading_by, rows_after, settled, settled_rows, short_or_plain, takes_several, takes_values, to_positional, used, values_or_missing, walk, walk_from, walked, walked_from, with_default, word_met}
+use Rattle.clap.specs.Walk.{Held, Outcome, done, waits, plain, refused, Row, Rule, Step, next, trailing, subcommand, value, Text, Waiting, idle, option, positional, Walk, default_rows, used_by_id, action_of, after_flag, after_step, arg_by_id, arg_by_index, arg_by_long, arg_by_short, at_row, attached_value, bundle, bundle_met, bundle_step, finished, flag_met, has_long, has_row, has_short, is_pending, long_met, long_or_other, more_values, most_values, nothing_held, option_met, option_word, plain_word, reacted, reading_by, rows_after, settled, settled_rows, short_met, short_or_plain, takes_several, takes_values, to_positional, used, values_or_missing, walk, walk_from, walked, walked_from, with_default, word_met}
 use Rattle.clap.specs.Simple.{Shape}
 use Rattle.clap.specs.Takes.{is_given}
-use Rattle.clap.specs.Faults.{action_fault, bundle_fault, bundle_step_fault, check_fault, defaults_fault, flag_word_fault, flags_fault, level_fault, long_fault, positional_fault, repeat_fault, set_fault, settle_fault, short_fault, step_fault, turn_fault, use_fault, values_fault, walk_fault, word_fault}
+use Rattle.clap.specs.Faults.{action_fault, bundle_fault, bundle_step_fault, check_fault, defaults_fault, flag_word_fault, flags_fault, level_fault, long_fault, option_fault, positional_fault, react_fault, repeat_fault, set_fault, settle_fault, short_fault, step_fault, turn_fault, use_fault, values_fault, walk_fault, word_fault}
 use Rattle.clap.specs.declared.builder.action.ArgAction.TheVariants.{Set, Help}
-use Rattle.clap.specs.declared.parser.matches.ValueSource.TheVariants.{CommandLine}
+use Rattle.clap.specs.declared.error.kind.ErrorKind.TheVariants.{TooManyValues}
+use Rattle.clap.specs.declared.parser.matches.ValueSource.{ValueSource}
+use Rattle.clap.specs.declared.parser.matches.ValueSource.TheVariants.{CommandLine, DefaultValue}
 use Rattle.vm_cli.proofs.FaultFree.{Every, every-found, every-push, neither, neither_true}
 
--- a positional that takes one value or more, once
-pub record IsPlace (c : List Rule) (a : Rule) : Type 0 where
+-- an argument that takes one value or more, once, and whose default values pass
+pub record IsValued (c : List Rule) (a : Rule) : Type 0 where
   pub sets : action_of a ≡ Set
   pub least : 0 < (unwrap_or_range a.range).start_inclusive
-  pub bare : a.defaults ≡ []
-  pub placed : is_some a.index ≡ true
+  pub defaults : values_fault a a.defaults ≡ []
   pub found : arg_by_id c a.id ≡ Some a
 
 -- a flag that asks for help
 pub record IsRequest (a : Rule) : Type 0 where
   pub asks : action_of a ≡ Help
-  pub flag : takes_values a ≡ false
   pub bare : a.defaults ≡ []
 
 abbrev pub IsKnown : List Rule → Rule → Type 0
-IsKnown c a = IsPlace c a ⊎ IsRequest a
+IsKnown c a = IsValued c a ⊎ IsRequest a
 
 -- the row has a first value, and its values passed its argument's parser
 pub record IsFilled (c : List Rule) (r : Row) : Type 0 where
   pub first : Text
   pub has : slice_get r.values 0 ≡ Some first
   pub passes : (a : Rule) → arg_by_id c r.id ≡ Some a → (r.reading ≡ reading_by a) × (values_fault a r.values ≡ [])
+
+-- each row is filled
+abbrev pub AreFilled : List Rule → List Row → Type 0
+AreFilled c = Every (IsFilled c)
 
 -- ---- one use of an argument
 
@@ -58,14 +63,23 @@ at_none id change missing (r ∷ rs) e =
     rw parts.0 (ap (λ t. r ∷ t) (at_none id change missing rs parts.1))
 
 -- the row that a first use makes
-abbrev row_for : Rule → List Text → Row
-row_for a values = record { id = a.id; values = values; count = None; source = Some CommandLine; reading = reading_by a }
+abbrev row_for : ValueSource → Rule → List Text → Row
+row_for source a values = record { id = a.id; values = values; count = None; source = Some source; reading = reading_by a }
+
+-- it is filled, where its values pass
+row_filled : (c : List Rule) (source : ValueSource) (a : Rule) (v : Text) (vs : List Text) → arg_by_id c a.id ≡ Some a → values_fault a (v ∷ vs) ≡ []
+    → IsFilled c (row_for source a (v ∷ vs))
+row_filled c source a v vs found passes = record {
+  first = v;
+  has = refl;
+  passes = λ b other. let same : a ≡ b = cc in (ap reading_by same, ap (λ x. values_fault x (v ∷ vs)) (sym same) ∙ passes);
+}
 
 used_first : (a : Rule) (v : Text) (vs : List Text) (rows : List Row) → action_of a ≡ Set → has_row a.id rows ≡ false
-    → used a (v ∷ vs) rows ≡ rows ++ row_for a (v ∷ vs) ∷ []
+    → used a (v ∷ vs) rows ≡ rows ++ row_for CommandLine a (v ∷ vs) ∷ []
 used_first a v vs rows sets none =
     let kept : at_row a.id (λ _. []) [] rows ≡ rows = at_none a.id (λ _. []) [] rows none ∙ append-nil rows in
-    rw (sets, kept) (at_none a.id (more_values CommandLine (v ∷ vs)) (row_for a (v ∷ vs) ∷ []) rows none)
+    rw (sets, kept) (at_none a.id (more_values CommandLine (v ∷ vs)) (row_for CommandLine a (v ∷ vs) ∷ []) rows none)
 
 no_repeat : (id : Text) (rows : List Row) → repeat_fault false id rows ≡ [] → has_row id rows ≡ false
 no_repeat id rows e = go (has_row id rows) refl
@@ -74,8 +88,8 @@ no_repeat id rows e = go (has_row id rows) refl
     go true t = let bad : ⊥ = (let f = rw t at e in cc) in absurd bad
     go false t = t
 
-fills : (c : List Rule) (a : Rule) → IsPlace c a → (values : List Text) (rows : List Row) → use_fault false a values rows ≡ []
-    → Every (IsFilled c) rows → Every (IsFilled c) (used a values rows)
+fills : (c : List Rule) (a : Rule) → IsValued c a → (values : List Text) (rows : List Row) → use_fault false a values rows ≡ []
+    → AreFilled c rows → AreFilled c (used a values rows)
 fills c a p [] rows e h =
     let range : range_kinds (unwrap_or_range a.range).start_inclusive (most_values a) 0 ≡ [] = (uses false a [] rows e).0 in
     let bad : ⊥ = (let f = rw (lt-ltb 0 _ p.least) at range in cc) in
@@ -85,14 +99,15 @@ fills c a p (v ∷ vs) rows e h =
     let sets : set_fault false a (v ∷ vs) rows ≡ [] = rw p.sets at asked in
     let parts = neither (repeat_fault false a.id rows) (values_fault a (v ∷ vs)) sets in
     let none = no_repeat a.id rows parts.0 in
-    let filled : IsFilled c (row_for a (v ∷ vs)) = record {
-      first = v;
-      has = refl;
-      passes = λ b found. let same : a ≡ b = (let t = p.found in cc) in (ap reading_by same, ap (λ x. values_fault x (v ∷ vs)) (sym same) ∙ parts.1);
-    } in
-    rw (used_first a v vs rows p.sets none) (every-push (IsFilled c) rows _ h filled)
+    rw (used_first a v vs rows p.sets none) (every-push (IsFilled c) rows _ h (row_filled c CommandLine a v vs p.found parts.1))
 
--- ---- words that are no values
+used_filled : (c : List Rule) (again : Bool) (a : Rule) (values : List Text) (rows : List Row) → again ≡ false → IsKnown c a
+    → use_fault again a values rows ≡ [] → AreFilled c rows → AreFilled c (used a values rows)
+used_filled c true a values rows first known e filled = let bad : ⊥ = cc in absurd bad
+used_filled c false a values rows first (inl valued) e filled = fills c a valued values rows e filled
+used_filled c false a values rows first (inr request) e filled = absurd (no_request a request false values rows e)
+
+-- ---- words that are no flags
 
 plain_rows : (c : List Rule) (waiting : Waiting) (word : Text) (h : Held) → (plain_word c waiting word h).0.rows ≡ h.rows
 plain_rows c idle word h = refl
@@ -109,136 +124,158 @@ flag_rows c waiting word h (waits id) = refl
 flag_rows c waiting word h plain = plain_rows c waiting word h
 flag_rows c waiting word h refused = plain_rows c waiting word h
 
-module _ (c : List Rule) (known : Every (IsKnown c) c) where
-  flag_is_request : (p : Rule → Bool) (a : Rule) → find (λ x. not (is_some x.index) && p x) c ≡ Some a → IsRequest a
-  flag_is_request p a found =
-      let both = every-found (IsKnown c) (λ x. not (is_some x.index) && p x) c a known found in
-      elim both.0 [
-        | inl place ↦ let bad : ⊥ = (let t : (not true && p a) ≡ true = rw place.placed at both.1 in cc) in absurd bad
-        | inr request ↦ request
-      ]
-
-  no_react : (again : Bool) (a : Rule) (h : Held) → IsRequest a → or_else (settle_fault c again h) (use_fault again a [] (settled c h).rows) ≡ [] → ⊥
-  no_react again a h q e = no_request a q again [] (settled c h).rows (neither (settle_fault c again h) (use_fault again a [] (settled c h).rows) e).1
-
-  no_long : (again : Bool) (name : Text) (v : Option Text) (h : Held) (o : Option Rule) → arg_by_long c name ≡ o → long_fault c again o v h ≡ [] → ⊥
-  no_long again name v h None found e = cc
-  no_long again name (Some v) h (Some a) found e =
-      let q = flag_is_request (λ x. has_long x name) a found in
-      let f = rw q.flag at e in
-      cc
-  no_long again name None h (Some a) found e =
-      let q = flag_is_request (λ x. has_long x name) a found in
-      let f : or_else (settle_fault c again h) (use_fault again a [] (settled c h).rows) ≡ [] = rw q.flag at e in
-      no_react again a h q f
-
-  no_short : (again : Bool) (x : ℕ) (rest : Text) (h : Held) (more : Held → Kinds) (o : Option Rule) → arg_by_short c x ≡ o
-      → short_fault c again o rest h more ≡ [] → ⊥
-  no_short again x rest h more None found e = cc
-  no_short again x rest h more (Some a) found e =
-      let q = flag_is_request (λ y. has_short y x) a found in
-      let f : or_else (or_else (settle_fault c again h) (use_fault again a [] (settled c h).rows)) (more (reacted c a [] h)) ≡ [] = rw q.flag at e in
-      no_react again a h q (neither _ (more (reacted c a [] h)) f).0
-
-  bundle_turn : (again : Bool) (o : Option ℕ) (flags : Text) (skip : ℕ) (so_far : Outcome) (h : Held) (faults : Text → ℕ → Held → Kinds)
-      (met : Text → ℕ → Outcome → Held → Held × Outcome) → ((t : Text) (n : ℕ) → faults t n h ≡ [] → (met t n so_far h).0.rows ≡ h.rows)
-      → bundle_step_fault c again o flags skip h faults ≡ [] → (bundle_step c o flags skip so_far h met).0.rows ≡ h.rows
-  bundle_turn again None flags skip so_far h faults met ih e = refl
-  bundle_turn again (Some x) flags zero so_far h faults met ih e =
-      absurd (no_short again x (drop (length (encode_utf8 x)) flags) h (faults (drop (length (encode_utf8 x)) flags) 0) (arg_by_short c x) refl e)
-  bundle_turn again (Some x) flags (suc skip) so_far h faults met ih e = ih (drop (length (encode_utf8 x)) flags) skip e
-
-  bundle_rows : (again : Bool) (k : ℕ) (flags : Text) (skip : ℕ) (so_far : Outcome) (h : Held) → flags_fault c again k flags skip h ≡ []
-      → (bundle_met c k flags skip so_far h).0.rows ≡ h.rows
-  unfolding flags_fault bundle_met
-  bundle_rows again zero flags skip so_far h e = refl
-  bundle_rows again (suc k) flags skip so_far h e =
-      bundle_turn again (slice_get (chars flags) 0) flags skip so_far h (flags_fault c again k) (bundle_met c k) (λ t n f. bundle_rows again k t n so_far h f) e
-
-  short_rows : (again : Bool) (waiting : Waiting) (word : Text) (h : Held) (o : Option Text) → option_map_or (λ flags. bundle_fault c again flags h) o [] ≡ []
-      → (short_or_plain c waiting word o h).0.rows ≡ h.rows
-  short_rows again waiting word h None e = plain_rows c waiting word h
-  short_rows again waiting word h (Some flags) e =
-      flag_rows c waiting word _ _ ∙ bundle_rows again (length flags) flags h.skip plain (record h { skip = 0 }) e
-
-  other_rows : (again : Bool) (waiting : Waiting) (word : Text) (h : Held) (o : Option (Text × Option Text)) → flag_word_fault c again o word h ≡ []
-      → (long_or_other c waiting word o h).0.rows ≡ h.rows
-  other_rows again waiting word h None e = short_rows again waiting word h (short_of word) e
-  other_rows again waiting word h (Some p) e = absurd (no_long again p.0 p.1 h (arg_by_long c p.0) refl e)
-
-  -- ---- the walk
-
-  dashes_rows : (again : Bool) (waiting : Waiting) (position : ℕ) (word : Text) (h : Held) (b : Bool)
-      → cond b [] (flag_word_fault c again (long_of word) word h) ≡ []
-      → (cond b (h, trailing position) (long_or_other c waiting word (long_of word) h)).0.rows ≡ h.rows
-  dashes_rows again waiting position word h true e = refl
-  dashes_rows again waiting position word h false e = other_rows again waiting word h (long_of word) e
+module _ (c : List Rule) (known : Every (IsKnown c) c) (again : Bool) (first : again ≡ false) where
+  -- ---- what is pending is used
 
   settled_by : (pending : Option (Text × List Text)) (rows : List Row)
-      → option_map_or (λ p. option_map_or (λ a. use_fault false a p.1 rows) (arg_by_id c p.0) []) pending [] ≡ []
-      → Every (IsFilled c) rows → Every (IsFilled c) (settled_rows c pending rows)
-  settled_by None rows e h = h
-  settled_by (Some p) rows e h = go (arg_by_id c p.0) refl
+      → option_map_or (λ p. option_map_or (λ a. use_fault again a p.1 rows) (arg_by_id c p.0) []) pending [] ≡ []
+      → AreFilled c rows → AreFilled c (settled_rows c pending rows)
+  settled_by None rows e filled = filled
+  settled_by (Some p) rows e filled = go (arg_by_id c p.0) refl
     where
-      go : (o : Option Rule) → arg_by_id c p.0 ≡ o → Every (IsFilled c) (used_by_id o p.1 rows)
-      go None found = h
+      go : (o : Option Rule) → arg_by_id c p.0 ≡ o → AreFilled c (used_by_id o p.1 rows)
+      go None found = filled
       go (Some a) found =
-          let used_once : use_fault false a p.1 rows ≡ [] = rw found at e in
-          elim (every-found (IsKnown c) (λ x. bytes_eq x.id p.0) c a known found).0 [
-            | inl place ↦ fills c a place p.1 rows used_once h
-            | inr request ↦ absurd (no_request a request false p.1 rows used_once)
-          ]
+          let used_once : use_fault again a p.1 rows ≡ [] = rw found at e in
+          used_filled c again a p.1 rows first (every-found (IsKnown c) (λ x. bytes_eq x.id p.0) c a known found).0 used_once filled
 
-  settles : (again : Bool) (h : Held) → again ≡ false → settle_fault c again h ≡ [] → Every (IsFilled c) h.rows → Every (IsFilled c) (settled c h).rows
-  settles true h first e filled = let bad : ⊥ = cc in absurd bad
-  settles false h first e filled = settled_by h.pending h.rows e filled
+  settles : (h : Held) → settle_fault c again h ≡ [] → AreFilled c h.rows → AreFilled c (settled c h).rows
+  settles h e filled = settled_by h.pending h.rows e filled
 
-  place_rows : (again : Bool) (a : Rule) (word : Text) (h : Held) (b : Bool) → again ≡ false → cond b [] (settle_fault c again h) ≡ []
-      → Every (IsFilled c) h.rows → Every (IsFilled c) (cond b h (settled c h)).rows
-  place_rows again a word h true first e filled = filled
-  place_rows again a word h false first e filled = settles again h first e filled
+  reacts : (a : Rule) (values : List Text) (h : Held) → IsKnown c a → react_fault c again a values h ≡ [] → AreFilled c h.rows
+      → AreFilled c (reacted c a values h).rows
+  reacts a values h is e filled =
+      let parts = neither (settle_fault c again h) (use_fault again a values (settled c h).rows) e in
+      used_filled c again a values (settled c h).rows first is parts.1 (settles h parts.0 filled)
 
-  to_place : (again : Bool) (o : Option Rule) (word : Text) (w : Walk) (h : Held) (stray : Kinds) → again ≡ false
-      → option_map_or (λ a. positional_fault c again a h) o stray ≡ []
-      → Every (IsFilled c) h.rows → Every (IsFilled c) (to_positional c o word w h).held.rows
-  to_place again None word w h stray first e filled = filled
-  to_place again (Some a) word w h stray first e filled = place_rows again a word h (is_pending a h.pending && takes_several a) first e filled
+  -- ---- flags
+
+  option_filled : (a : Rule) (v : Option Text) (h : Held) → IsKnown c a → option_fault c again a v h ≡ [] → AreFilled c h.rows
+      → AreFilled c (option_met c a v h).0.rows
+  option_filled a (Some v) h is e filled = reacts a (v ∷ []) h is e filled
+  option_filled a None h is e filled = settles h e filled
+
+  flag_filled : (a : Rule) (v : Option Text) (h : Held) → IsKnown c a → cond (is_some v) (TooManyValues ∷ []) (react_fault c again a [] h) ≡ []
+      → AreFilled c h.rows → AreFilled c (flag_met c a v h).0.rows
+  flag_filled a (Some v) h is e filled = filled
+  flag_filled a None h is e filled = reacts a [] h is e filled
+
+  long_filled : (name : Text) (v : Option Text) (h : Held) (o : Option Rule) → arg_by_long c name ≡ o → long_fault c again o v h ≡ [] → AreFilled c h.rows
+      → AreFilled c (long_met c o v h).0.rows
+  long_filled name v h None found e filled = filled
+  long_filled name v h (Some a) found e filled = go (takes_values a) e
+    where
+      is : IsKnown c a
+      is = (every-found (IsKnown c) (λ x. not (is_some x.index) && has_long x name) c a known found).0
+
+      go : (b : Bool) → cond b (option_fault c again a v h) (cond (is_some v) (TooManyValues ∷ []) (react_fault c again a [] h)) ≡ []
+          → AreFilled c (cond b (option_met c a v h) (flag_met c a v h)).0.rows
+      go true f = option_filled a v h is f filled
+      go false f = flag_filled a v h is f filled
+
+  short_filled : (x : ℕ) (rest : Text) (h : Held) (more : Held → Kinds) (met : Held → Held × Outcome)
+      → ((k : Held) → more k ≡ [] → AreFilled c k.rows → AreFilled c (met k).0.rows)
+      → (o : Option Rule) → arg_by_short c x ≡ o → short_fault c again o rest h more ≡ [] → AreFilled c h.rows → AreFilled c (short_met c o rest h met).0.rows
+  short_filled x rest h more met later None found e filled = filled
+  short_filled x rest h more met later (Some a) found e filled = go (takes_values a) e
+    where
+      is : IsKnown c a
+      is = (every-found (IsKnown c) (λ y. not (is_some y.index) && has_short y x) c a known found).0
+
+      go : (b : Bool) → cond b (option_fault c again a (attached_value rest) h) (or_else (react_fault c again a [] h) (more (reacted c a [] h))) ≡ []
+          → AreFilled c (cond b (option_met c a (attached_value rest) h) (met (reacted c a [] h))).0.rows
+      go true f = option_filled a (attached_value rest) h is f filled
+      go false f =
+          let parts = neither (react_fault c again a [] h) (more (reacted c a [] h)) f in
+          later (reacted c a [] h) parts.1 (reacts a [] h is parts.0 filled)
+
+  bundle_turn : (o : Option ℕ) (flags : Text) (skip : ℕ) (so_far : Outcome) (h : Held) (faults : Text → ℕ → Held → Kinds)
+      (met : Text → ℕ → Outcome → Held → Held × Outcome)
+      → ((t : Text) (n : ℕ) (come : Outcome) (k : Held) → faults t n k ≡ [] → AreFilled c k.rows → AreFilled c (met t n come k).0.rows)
+      → bundle_step_fault c again o flags skip h faults ≡ [] → AreFilled c h.rows → AreFilled c (bundle_step c o flags skip so_far h met).0.rows
+  bundle_turn None flags skip so_far h faults met later e filled = filled
+  bundle_turn (Some x) flags zero so_far h faults met later e filled =
+      let rest = drop (length (encode_utf8 x)) flags in
+      short_filled x rest h (faults rest 0) (met rest 0 done) (λ k f so. later rest 0 done k f so) (arg_by_short c x) refl e filled
+  bundle_turn (Some x) flags (suc skip) so_far h faults met later e filled =
+      later (drop (length (encode_utf8 x)) flags) skip so_far h e filled
+
+  bundle_filled : (k : ℕ) (flags : Text) (skip : ℕ) (so_far : Outcome) (h : Held) → flags_fault c again k flags skip h ≡ [] → AreFilled c h.rows
+      → AreFilled c (bundle_met c k flags skip so_far h).0.rows
+  unfolding flags_fault bundle_met
+  bundle_filled zero flags skip so_far h e filled = filled
+  bundle_filled (suc k) flags skip so_far h e filled =
+      bundle_turn (slice_get (chars flags) 0) flags skip so_far h (flags_fault c again k) (bundle_met c k)
+      (λ t n come held f so. bundle_filled k t n come held f so) e filled
+
+  -- ---- words
+
+  short_rows : (waiting : Waiting) (word : Text) (h : Held) (o : Option Text) → option_map_or (λ flags. bundle_fault c again flags h) o [] ≡ []
+      → AreFilled c h.rows → AreFilled c (short_or_plain c waiting word o h).0.rows
+  short_rows waiting word h None e filled = subst (AreFilled c) (sym (plain_rows c waiting word h)) filled
+  short_rows waiting word h (Some flags) e filled =
+      let met = bundle c flags h in
+      subst (AreFilled c) (sym (flag_rows c waiting word met.0 met.1)) (bundle_filled (length flags) flags h.skip plain (record h { skip = 0 }) e filled)
+
+  other_rows : (waiting : Waiting) (word : Text) (h : Held) (o : Option (Text × Option Text)) → flag_word_fault c again o word h ≡ []
+      → AreFilled c h.rows → AreFilled c (long_or_other c waiting word o h).0.rows
+  other_rows waiting word h None e filled = short_rows waiting word h (short_of word) e filled
+  other_rows waiting word h (Some p) e filled =
+      let met = long_met c (arg_by_long c p.0) p.1 h in
+      subst (AreFilled c) (sym (flag_rows c waiting word met.0 met.1)) (long_filled p.0 p.1 h (arg_by_long c p.0) refl e filled)
+
+  dashes_rows : (waiting : Waiting) (position : ℕ) (word : Text) (h : Held) (b : Bool)
+      → cond b [] (flag_word_fault c again (long_of word) word h) ≡ []
+      → AreFilled c h.rows → AreFilled c (cond b (h, trailing position) (long_or_other c waiting word (long_of word) h)).0.rows
+  dashes_rows waiting position word h true e filled = filled
+  dashes_rows waiting position word h false e filled = other_rows waiting word h (long_of word) e filled
+
+  place_rows : (h : Held) (b : Bool) → cond b [] (settle_fault c again h) ≡ [] → AreFilled c h.rows → AreFilled c (cond b h (settled c h)).rows
+  place_rows h true e filled = filled
+  place_rows h false e filled = settles h e filled
+
+  to_place : (o : Option Rule) (word : Text) (w : Walk) (h : Held) (stray : Kinds) → option_map_or (λ a. positional_fault c again a h) o stray ≡ []
+      → AreFilled c h.rows → AreFilled c (to_positional c o word w h).held.rows
+  to_place None word w h stray e filled = filled
+  to_place (Some a) word w h stray e filled = place_rows h (is_pending a h.pending && takes_several a) e filled
 
 module _ (s : Shape) (known : Every (IsKnown s.rules) s.rules) (first : s.args_override_self ≡ false) where
-  abbrev filled_rows : List Row → Type 0
-  filled_rows rows = Every (IsFilled s.rules) rows
+  -- ---- the walk
 
-  step_rows : (w : Walk) (word : Text) (h : Held) (step : Step) → step_fault s w.position h step ≡ [] → filled_rows h.rows
-      → filled_rows (after_step s.rules word w h step).held.rows
+  step_rows : (w : Walk) (word : Text) (h : Held) (step : Step) → step_fault s w.position h step ≡ [] → AreFilled s.rules h.rows
+      → AreFilled s.rules (after_step s.rules word w h step).held.rows
   step_rows w word h (next waiting) e filled = filled
   step_rows w word h (trailing position) e filled = filled
   step_rows w word h (subcommand name) e filled = filled
-  step_rows w word h value e filled = to_place s.rules known s.args_override_self (arg_by_index s.rules w.position) word w h _ first e filled
+  step_rows w word h value e filled = to_place s.rules known s.args_override_self first (arg_by_index s.rules w.position) word w h _ e filled
 
   -- no word names a subcommand where there is none
   met_rows : (is_trailing : Bool) (waiting : Waiting) (position : ℕ) (word : Text) (h : Held) → word_fault s [] is_trailing waiting word h ≡ []
-      → (word_met s.rules [] is_trailing waiting position word h).0.rows ≡ h.rows
-  met_rows true waiting position word h e = refl
-  met_rows false idle position word h e = dashes_rows s.rules known s.args_override_self idle position word h (bytes_eq word (45 ∷ 45 ∷ [])) e
-  met_rows false positional position word h e = dashes_rows s.rules known s.args_override_self positional position word h (bytes_eq word (45 ∷ 45 ∷ [])) e
-  met_rows false (option id) position word h e = dashes_rows s.rules known s.args_override_self (option id) position word h (bytes_eq word (45 ∷ 45 ∷ [])) e
+      → AreFilled s.rules h.rows → AreFilled s.rules (word_met s.rules [] is_trailing waiting position word h).0.rows
+  met_rows true waiting position word h e filled = filled
+  met_rows false idle position word h e filled =
+      dashes_rows s.rules known s.args_override_self first idle position word h (bytes_eq word (45 ∷ 45 ∷ [])) e filled
+  met_rows false positional position word h e filled =
+      dashes_rows s.rules known s.args_override_self first positional position word h (bytes_eq word (45 ∷ 45 ∷ [])) e filled
+  met_rows false (option id) position word h e filled =
+      dashes_rows s.rules known s.args_override_self first (option id) position word h (bytes_eq word (45 ∷ 45 ∷ [])) e filled
 
   turn_by : (w : Walk) (word : Text) (stop : Option (Text × List Text))
       → cond (is_some stop) [] (or_else (word_fault s [] w.is_trailing w.waiting word w.held)
       (step_fault s w.position (word_met s.rules [] w.is_trailing w.waiting w.position word w.held).0 (word_met s.rules [] w.is_trailing w.waiting w.position word w.held).1)) ≡ []
-      → filled_rows w.held.rows → filled_rows (walked_from s.rules [] stop w word).held.rows
+      → AreFilled s.rules w.held.rows → AreFilled s.rules (walked_from s.rules [] stop w word).held.rows
   turn_by w word (Some p) e filled = filled
   turn_by w word None e filled =
       let met = word_met s.rules [] w.is_trailing w.waiting w.position word w.held in
       let parts = neither (word_fault s [] w.is_trailing w.waiting word w.held) (step_fault s w.position met.0 met.1) e in
-      step_rows w word met.0 met.1 parts.1 (subst filled_rows (sym (met_rows w.is_trailing w.waiting w.position word w.held parts.0)) filled)
+      step_rows w word met.0 met.1 parts.1 (met_rows w.is_trailing w.waiting w.position word w.held parts.0 filled)
 
-  turn_rows : (w : Walk) (word : Text) → turn_fault s [] w word ≡ [] → filled_rows w.held.rows → filled_rows (walked s.rules [] w word).held.rows
+  turn_rows : (w : Walk) (word : Text) → turn_fault s [] w word ≡ [] → AreFilled s.rules w.held.rows → AreFilled s.rules (walked s.rules [] w word).held.rows
   unfolding walked
   turn_rows w word e filled = turn_by w word w.stopped e filled
 
-  walk_rows : (words : List Text) (w : Walk) → walk_fault s [] w words ≡ [] → filled_rows w.held.rows
-      → filled_rows (fold (walked s.rules []) w words).held.rows
+  walk_rows : (words : List Text) (w : Walk) → walk_fault s [] w words ≡ [] → AreFilled s.rules w.held.rows
+      → AreFilled s.rules (fold (walked s.rules []) w words).held.rows
   unfolding walk_fault
   walk_rows [] w e filled = filled
   walk_rows (word ∷ words) w e filled =
@@ -247,20 +284,31 @@ module _ (s : Shape) (known : Every (IsKnown s.rules) s.rules) (first : s.args_o
 
   -- ---- after the walk
 
-  bare_rule : (a : Rule) (rows : List Row) → IsKnown s.rules a → with_default rows a ≡ rows
-  bare_rule a rows k = elim k [ inl place ↦ bare (has_row a.id rows) place.bare | inr request ↦ bare (has_row a.id rows) request.bare ]
-    where
-      bare : (b : Bool) → a.defaults ≡ [] → cond b rows (default_rows a.id (reading_by a) a.defaults rows) ≡ rows
-      bare true none = refl
-      bare false none = rw none refl
+  defaults_pass : (a : Rule) → IsKnown s.rules a → (v : Text) (vs : List Text) → a.defaults ≡ v ∷ vs
+      → (arg_by_id s.rules a.id ≡ Some a) × (values_fault a (v ∷ vs) ≡ [])
+  defaults_pass a (inl valued) v vs is = (valued.found, rw is at valued.defaults)
+  defaults_pass a (inr request) v vs is = let bad : ⊥ = (let none = request.bare in cc) in absurd bad
 
-  no_defaults : (rules : List Rule) (rows : List Row) → Every (IsKnown s.rules) rules → fold with_default rows rules ≡ rows
-  no_defaults [] rows h = refl
-  no_defaults (a ∷ rules) rows h = rw (bare_rule a rows h.0) (no_defaults rules rows h.1)
+  default_filled : (a : Rule) (rows : List Row) → IsKnown s.rules a → AreFilled s.rules rows → AreFilled s.rules (with_default rows a)
+  default_filled a rows is filled = go (has_row a.id rows) refl a.defaults refl
+    where
+      go : (b : Bool) → has_row a.id rows ≡ b → (values : List Text) → a.defaults ≡ values
+          → AreFilled s.rules (cond b rows (default_rows a.id (reading_by a) values rows))
+      go true has values same = filled
+      go false has [] same = filled
+      go false has (v ∷ vs) same =
+          let passes = defaults_pass a is v vs same in
+          rw (at_none a.id (more_values DefaultValue (v ∷ vs)) (row_for DefaultValue a (v ∷ vs) ∷ []) rows has)
+          (every-push (IsFilled s.rules) rows _ filled (row_filled s.rules DefaultValue a v vs passes.0 passes.1))
+
+  all_filled : (rules : List Rule) (rows : List Row) → Every (IsKnown s.rules) rules → AreFilled s.rules rows
+      → AreFilled s.rules (fold with_default rows rules)
+  all_filled [] rows h filled = filled
+  all_filled (a ∷ rules) rows h filled = all_filled rules (with_default rows a) h.1 (default_filled a rows h.0 filled)
 
   -- a level without fault: its rows are filled, and nothing is wanting
   pub level_rows : (words : List Text) → level_fault s [] nothing_held words false [] ≡ []
-      → filled_rows (rows_after s.rules [] words) × (check_fault s (rows_after s.rules [] words) false ≡ [])
+      → AreFilled s.rules (rows_after s.rules [] words) × (check_fault s (rows_after s.rules [] words) false ≡ [])
   level_rows words e =
       let end = (walk s.rules [] nothing_held words).held in
       let checks = check_fault s (finished s.rules end) false in
@@ -270,10 +318,8 @@ module _ (s : Shape) (known : Every (IsKnown s.rules) s.rules) (first : s.args_o
       let b = neither settling (or_else defaults checks) a.1 in
       let c = neither defaults checks b.1 in
       let walked_rows = walk_rows words (walk_from nothing_held) a.0 tt in
-      let all = settles s.rules known s.args_override_self end first b.0 walked_rows in (
-        subst filled_rows (sym (no_defaults s.rules (settled s.rules end).rows known)) all,
-        c.1,
-      )
+      let all = settles s.rules known s.args_override_self first end b.0 walked_rows in
+      (all_filled s.rules (settled s.rules end).rows known all, c.1)
 
   not_false : (b : Bool) → not b ≡ false → b ≡ true
   not_false true e = refl
@@ -292,7 +338,7 @@ module _ (s : Shape) (known : Every (IsKnown s.rules) s.rules) (first : s.args_o
       (λ t. required_by a rows a.required parts.0 t, each_given rules rows parts.1)
 
   -- the row of what was given
-  pub given_row : (rows : List Row) (id : Text) → filled_rows rows → is_given id rows ≡ true
+  pub given_row : (rows : List Row) (id : Text) → AreFilled s.rules rows → is_given id rows ≡ true
       → (r : Row) × (find (λ x. bytes_eq x.id id) rows ≡ Some r) × IsFilled s.rules r × (bytes_eq r.id id ≡ true)
   given_row rows id filled e = go (find (λ x. bytes_eq x.id id) rows) refl
     where
@@ -300,3 +346,42 @@ module _ (s : Shape) (known : Every (IsKnown s.rules) s.rules) (first : s.args_o
           → (r : Row) × (find (λ x. bytes_eq x.id id) rows ≡ Some r) × IsFilled s.rules r × (bytes_eq r.id id ≡ true)
       go None t = let bad : ⊥ = (let f = rw t at e in cc) in absurd bad
       go (Some r) t = let both = every-found (IsFilled s.rules) (λ x. bytes_eq x.id id) rows r filled t in (r, t, both.0, both.1)
+
+  -- the row of what is there
+  pub held_row : (rows : List Row) (id : Text) → AreFilled s.rules rows → has_row id rows ≡ true
+      → (r : Row) × (find (λ x. bytes_eq x.id id) rows ≡ Some r) × IsFilled s.rules r × (bytes_eq r.id id ≡ true)
+  held_row [] id filled e = let bad : ⊥ = cc in absurd bad
+  held_row (x ∷ rows) id filled e = go (bytes_eq x.id id) refl e (λ t. held_row rows id filled.1 t)
+    where
+      go : (b : Bool) → bytes_eq x.id id ≡ b → (b || has_row id rows) ≡ true
+          → (has_row id rows ≡ true → (r : Row) × (find (λ y. bytes_eq y.id id) rows ≡ Some r) × IsFilled s.rules r × (bytes_eq r.id id ≡ true))
+          → (r : Row) × (cond b (Some x) (find (λ y. bytes_eq y.id id) rows) ≡ Some r) × IsFilled s.rules r × (bytes_eq r.id id ≡ true)
+      go true is t later = (x, refl, filled.0, is)
+      go false is t later = later t
+
+-- ---- an argument with a default value has a row
+
+has-push : (id : Text) (rows : List Row) (r : Row) → bytes_eq r.id id ≡ true → has_row id (rows ++ r ∷ []) ≡ true
+has-push id [] r is = rw is refl
+has-push id (x ∷ rows) r is = go (bytes_eq x.id id) (has-push id rows r is)
+  where
+    go : (b : Bool) → has_row id (rows ++ r ∷ []) ≡ true → (b || has_row id (rows ++ r ∷ [])) ≡ true
+    go true later = refl
+    go false later = later
+
+pub has-default : (a : Rule) (rows : List Row) (v : Text) (vs : List Text) → a.defaults ≡ v ∷ vs → has_row a.id (with_default rows a) ≡ true
+has-default a rows v vs is = rw is (go (has_row a.id rows) refl)
+  where
+    go : (b : Bool) → has_row a.id rows ≡ b → has_row a.id (cond b rows (default_rows a.id (reading_by a) (v ∷ vs) rows)) ≡ true
+    go true has = has
+    go false has =
+        rw (at_none a.id (more_values DefaultValue (v ∷ vs)) (row_for DefaultValue a (v ∷ vs) ∷ []) rows has)
+        (has-push a.id rows _ ((bytes_eq-Decides a.id a.id).1 refl))
+
+-- one without leaves the rows as they are
+pub no-default : (a : Rule) (rows : List Row) → a.defaults ≡ [] → with_default rows a ≡ rows
+no-default a rows none = rw none (go (has_row a.id rows))
+  where
+    go : (b : Bool) → cond b rows rows ≡ rows
+    go true = refl
+    go false = refl

@@ -20,7 +20,7 @@ pub asked_of-create : (entered : Option (Text × List Row)) (name : Text) (rows 
     → option_and_then (number_in 64 1048576) (one_of (codes "blocks") rows) ≡ Some blocks → asked_of entered ≡ Some (create file blocks)
 asked_of-create entered name rows file blocks e f n b = rw (e, f, n, b) refl
 
-pub asked_of-run : (entered : Option (Text × List Row)) (name : Text) (rows : List Row) (file : Text)
+pub asked_of-run : (entered : Option (Text × List Row)) (name : Text) (rows : List Row) (file : Text) (cache : ℕ)
     → entered ≡ Some (name, rows) → first_of (codes "file") rows ≡ Some file → name ≡ codes "run"
-    → asked_of entered ≡ Some (run file)
-asked_of-run entered name rows file e f n = rw (e, f, n) refl
+    → option_and_then (number_in 0 65536) (one_of (codes "cache") rows) ≡ Some cache → asked_of entered ≡ Some (run file cache)
+asked_of-run entered name rows file cache e f n k = rw (e, f, n, k) refl

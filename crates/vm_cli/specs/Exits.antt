@@ -68,7 +68,7 @@ MayRefuse refusal = (refusal ≡ BadSize) ⊎ ((refusal ≡ AlreadyAStore) ⊎ (
 -- what is said where a job has no disk, or the disk is refused
 abbrev pub SaysRefused : Wanted → List ℕ → Type 0
 SaysRefused (create file blocks) text = (text ≡ file_text (codes "altctl: cannot create ") file) ⊎ ((refusal : Refusal) × MayRefuse refusal × (text ≡ refused_text refusal))
-SaysRefused (run file) text = (text ≡ file_text (codes "altctl: cannot open ") file) ⊎ ((refusal : Refusal) × (text ≡ refused_text refusal))
+SaysRefused (run file cache) text = (text ≡ file_text (codes "altctl: cannot open ") file) ⊎ ((refusal : Refusal) × (text ≡ refused_text refusal))
 
 -- a text for the output: help, or that a store was made
 abbrev pub IsNews : List Text → List ℕ → Type 0
@@ -80,7 +80,7 @@ IsRefusal words text = (job : Wanted) × IsJob words job × SaysRefused job text
 
 -- the words ask that lines are answered
 abbrev pub AskTalk : List Text → Type 0
-AskTalk words = (file : Text) × IsJob words (run file)
+AskTalk words = (file : Text) × (cache : ℕ) × IsJob words (run file cache)
 
 -- ---- ends
 

@@ -6,13 +6,14 @@ use Rattle.vm_types.specs.Tree.{Tree}
 use Rattle.vm_disk.specs.Disk as disk
 use Rattle.vm_disk.specs.Disk.{Contents, IsClean, Medium}
 use Rattle.vm_disk.specs.Moments.{Throughout}
+use Rattle.vm_disk.specs.declared.cached.CachedDisk.{CachedDisk}
 use Rattle.vm_disk.specs.declared.disk.Disk.{Ghosts}
 use Rattle.vm_store.specs.Formatting.{IsFormatted, IsFormatting}
 use Rattle.vm_store.specs.Shown.{Shows}
+use Rattle.vm_cli.specs.Caching.{IsServed, answers_told, commands_told}
 use Rattle.vm_cli.specs.Exits.{IsJob}
-use Rattle.vm_cli.specs.Keeps.{Keeps, answers_of, commands_of}
+use Rattle.vm_cli.specs.Keeps.{Keeps}
 use Rattle.vm_cli.specs.Places.{KeepsOthers, PlaceState}
-use Rattle.vm_cli.specs.Sessions.{HasServed}
 use Rattle.vm_cli.specs.Words.{Wanted}
 use Rattle.vm_cli.specs.Words.Wanted.{create, run}
 use Rattle.vm_cli.specs.declared.program.Exit.{Exit}
@@ -40,12 +41,12 @@ pub record Makes (name : List ℕ) (blocks : ℕ) (exit : Exit) (old new : Place
   pub stays : (contents : Contents) → old.files name ≡ Some contents → new.files name ≡ Some contents
   pub others : KeepsOthers name old new
 
-module _ {D : Type 0} (members : Ghosts D) where
-  -- the lines of an input were answered over the file of this name
-  pub record Answers (name : List ℕ) (exit : Exit) (old new : PlaceState) (input before after : Option (List ℕ)) : Type 0 where
+module _ {D : Type 0} (members : Ghosts D) (cached : Ghosts (CachedDisk D members)) where
+  -- the lines of an input were answered over the file of this name, of which up to so many blocks stayed in memory
+  pub record Answers (name : List ℕ) (cache : ℕ) (exit : Exit) (old new : PlaceState) (input before after : Option (List ℕ)) : Type 0 where
     pub found : D
     pub back : D
-    pub served : HasServed members found back exit input before after
+    pub served : IsServed members cached cache found back exit input before after
     -- its disk was found as the file was left, and kept the disk model to the end
     pub held : old.files name ≡ Some (members.state found).now.contents
     pub clean : IsClean (members.state found).now
@@ -56,13 +57,14 @@ module _ {D : Type 0} (members : Ghosts D) where
     -- file at the end
     pub kept : (tree : Tree) → Shows (members.state found).now.contents tree
         → Keeps (members.state found) (members.state back) (opened tree)
-        (commands_of (served.serves (opened tree))) (answers_of (served.serves (opened tree)))
+        (commands_told members cached served (opened tree)) (answers_told members cached served (opened tree))
 
   -- what a run of the program does to the files
   pub record Does (words : List Text) (exit : Exit) (old new : PlaceState) (input before after : Option (List ℕ)) : Type 0 where
     -- words that ask for a new store make its file
     pub creates : (name : Text) (blocks : ℕ) → IsJob words (create name blocks) → Makes name blocks exit old new
     -- words that ask that lines are answered have them answered over the file, or no file changes, and not all was done
-    pub runs : (name : Text) → IsJob words (run name) → Answers name exit old new input before after ⊎ ((exit ≢ Done) × KeepsAll old new)
+    pub runs : (name : Text) (cache : ℕ) → IsJob words (run name cache)
+        → Answers name cache exit old new input before after ⊎ ((exit ≢ Done) × KeepsAll old new)
     -- words that ask for no job change no file
     pub none : ((job : Wanted) → IsJob words job → ⊥) → KeepsAll old new

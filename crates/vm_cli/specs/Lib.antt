@@ -15,6 +15,7 @@ pub mod Talk
 pub mod Feeding
 pub mod Keeps
 pub mod Sessions
+pub mod Caching
 pub mod Places
 pub mod Files
 pub mod RealFiles

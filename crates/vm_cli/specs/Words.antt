@@ -1,5 +1,5 @@
 -- The command line of the program as clap reads it, and the job that clap's matches ask for.
-use Rattle.std.specs.Prelude.{ℕ, true, pos, List, Option, Some, None, codes, if◌then◌else◌, option_map, option_and_then}
+use Rattle.std.specs.Prelude.{ℕ, true, pos, List, [], ◌∷◌, Option, Some, None, codes, if◌then◌else◌, option_map, option_and_then}
 use Rattle.std.specs.Str.{bytes_eq}
 use Rattle.std.specs.Str.Parse.{digits_value, without_leading_plus}
 use Rattle.clap.specs.ValueTests.{is_unsigned_in}
@@ -25,27 +25,36 @@ blocks_rule = record (new_rule (codes "blocks")) {
 abbrev pub create_app : App
 create_app = with_rule (with_rule (new_app (codes "create")) file_rule) blocks_rule
 
--- `run FILE`
+-- how many blocks are kept in memory: a number in its range, and 256 where no word says one
+abbrev pub cache_rule : Rule
+cache_rule = record (new_rule (codes "cache")) {
+  long = Some (codes "cache");
+  value_names = 1;
+  defaults = codes "256" ∷ [];
+  parser = Some (vp.Signed (pos 0) (pos 65536));
+}
+
+-- `run [--cache N] FILE`
 abbrev pub run_app : App
-run_app = with_rule (new_app (codes "run")) file_rule
+run_app = with_rule (with_rule (new_app (codes "run")) file_rule) cache_rule
 
 -- the program without its tasks, one of which has to be named
 abbrev pub top_app : App
 top_app = on_top (λ s. record s { subcommand_required = true }) (new_app (codes "altctl"))
 
--- `altctl create FILE BLOCKS` and `altctl run FILE`
+-- `altctl create FILE BLOCKS` and `altctl run [--cache N] FILE`
 abbrev pub altctl : App
 altctl = with_subcommand (with_subcommand top_app create_app.top) run_app.top
 
 -- a job, with the file's name itself in place of a reference to it
 pub data Wanted : Type 0 where
   create : Text → ℕ → Wanted
-  run : Text → Wanted
+  run : Text → ℕ → Wanted
 
 -- what a job wants
 abbrev pub wanted_of : Job → Wanted
 wanted_of (Create file blocks) = create file.now blocks
-wanted_of (Run file) = run file.now
+wanted_of (Run file cache) = run file.now cache
 
 -- the number that a text says, where it lies in the range
 abbrev pub number_in : ℕ → ℕ → Text → Option ℕ
@@ -55,7 +64,7 @@ number_in low high text = if is_unsigned_in low high text then Some (digits_valu
 abbrev pub asked_by : Text → List Row → Text → Option Wanted
 asked_by name rows file =
     if bytes_eq name (codes "create") then option_map (create file) (option_and_then (number_in 64 1048576) (one_of (codes "blocks") rows))
-    else (if bytes_eq name (codes "run") then Some (run file) else None)
+    else (if bytes_eq name (codes "run") then option_map (run file) (option_and_then (number_in 0 65536) (one_of (codes "cache") rows)) else None)
 
 -- the job that the matches of a subcommand ask for
 abbrev pub asked_of : Option (Text × List Row) → Option Wanted

@@ -76,6 +76,9 @@ until it ends. What was not committed is gone then.";
 /// The file that `run` opens.
 pub const RUN_FILE: &str = "The file, as altctl create has made it";
 
+/// How many blocks `run` keeps in memory.
+pub const RUN_CACHE: &str = "How many blocks stay in memory: 0 to 65536";
+
 /// The lines that `run` answers.
 pub const RUN_AFTER: &str = "\
 Lines, by what they are about, each with what it does and its answer:

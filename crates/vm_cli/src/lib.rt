@@ -6,6 +6,7 @@
 //! to 3.
 #![tactic(auto)]
 
+mod caching;
 mod escape;
 mod help;
 mod line;

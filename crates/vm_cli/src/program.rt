@@ -1,5 +1,6 @@
 //! All that the program does.
 
+use crate::caching::answer_lines_cached;
 use crate::place::Place;
 use crate::reply::push_refusal;
 use crate::talk::serve;
@@ -11,7 +12,7 @@ use clap::Error;
 use clap::error::ErrorKind;
 use std::alloc::Global;
 use std::io::{Read, Write};
-use vm_disk::Disk;
+use vm_disk::{CachedDisk, Disk};
 use vm_store::{format, open};
 use vm_types::Refusal;
 
@@ -73,7 +74,7 @@ pub fn run_words<P: Place, R: Read, W: Write, F: Write>(
     ensures stopped { result ≡ 3 → IsStopped W.contents F.contents (map string_bytes words.now) output.old output.new faults.old faults.new }
     // As long as the place has kept its rules, and its disks theirs, the files are what the job makes of them.
     ensures files { (P.state place.new).honest ≡ true → ((exit : Exit) × (result ≡ status_of exit)
-        × Does P.D.Disk (map string_bytes words.now) exit (P.state place.old) (P.state place.new)
+        × Does P.D.Disk ⟦<CachedDisk<P::D> as Disk>⟧ (map string_bytes words.now) exit (P.state place.old) (P.state place.new)
         (R.remaining input.old) (W.contents output.old) (W.contents output.new)) }
 {
     match carry_out(alloc, words, place, input, output, faults) {
@@ -113,12 +114,12 @@ fn carry_out<P: Place, R: Read, W: Write, F: Write>(
     faults: &mut F,
 ) -> Exit
     ensures ends { Ends W.contents F.contents result (map string_bytes words.now) output.old output.new faults.old faults.new }
-    ensures files { (P.state place.new).honest ≡ true → Does P.D.Disk (map string_bytes words.now) result (P.state place.old) (P.state place.new)
+    ensures files { (P.state place.new).honest ≡ true → Does P.D.Disk ⟦<CachedDisk<P::D> as Disk>⟧ (map string_bytes words.now) result (P.state place.old) (P.state place.new)
         (R.remaining input.old) (W.contents output.old) (W.contents output.new) }
 {
     match job(alloc, words) {
         Ok(Job::Create { file, blocks }) => create(file, blocks, place, output, faults),
-        Ok(Job::Run { file }) => run(alloc, file, place, input, output, faults),
+        Ok(Job::Run { file, cache }) => run(alloc, file, cache, place, input, output, faults),
         Err(error) => explain(alloc, &error, output, faults),
     }
 }
@@ -166,32 +167,34 @@ fn make_store<D: Disk, W: Write, F: Write>(
     }
 }
 
-// Opens the store in a file, and answers the lines of the input.
+// Opens the store in a file, and answers the lines of the input. Up to `cache` of its blocks stay in memory.
 fn run<P: Place, R: Read, W: Write, F: Write>(
     alloc: Global,
     file: &str,
+    cache: u32,
     place: &mut P,
     input: &mut R,
     output: &mut W,
     faults: &mut F,
 ) -> Exit
     ensures says { ((faults.new ≡ faults.old) × ((result ≡ Exit.Done) ⊎ (result ≡ Exit.Stopped)))
-        ⊎ ((output.new ≡ output.old) × ((text : List ℕ) × SaysRefused (run_wanted file.now) text
+        ⊎ ((output.new ≡ output.old) × ((text : List ℕ) × SaysRefused (run_wanted file.now cache) text
         × Tells Exit.Refused result (F.contents faults.old) (F.contents faults.new) text)) }
     ensures files { (P.state place.new).honest ≡ true
-        → Answers P.D.Disk file.now result (P.state place.old) (P.state place.new) (R.remaining input.old) (W.contents output.old) (W.contents output.new)
+        → Answers P.D.Disk ⟦<CachedDisk<P::D> as Disk>⟧ file.now cache result (P.state place.old) (P.state place.new)
+        (R.remaining input.old) (W.contents output.old) (W.contents output.new)
         ⊎ ((result ≢ Exit.Done) × KeepsAll (P.state place.old) (P.state place.new)) }
 {
     let Some(disk) = place.find(file) else {
         return no_file(b"altctl: cannot open ", file, faults);
     };
-    let (exit, served) = answer_lines(alloc, disk, input, output, faults);
+    let (exit, served) = answer_lines_cached(alloc, disk, cache, input, output, faults);
     place.give_back(file, served);
     exit
 }
 
-// Opens the store on a disk, and answers the lines of the input.
-fn answer_lines<D: Disk, R: Read, W: Write, F: Write>(
+/// Opens the store on a disk, and answers the lines of the input.
+pub(crate) fn answer_lines<D: Disk, R: Read, W: Write, F: Write>(
     alloc: Global,
     disk: D,
     input: &mut R,

@@ -5,6 +5,6 @@
 pub enum Job<'a> {
     /// Makes a file of this many zero blocks, and a store in it.
     Create { file: &'a str, blocks: u32 },
-    /// Opens the store in a file, and answers lines.
-    Run { file: &'a str },
+    /// Opens the store in a file, and answers lines. Up to `cache` of its blocks are kept in memory.
+    Run { file: &'a str, cache: u32 },
 }

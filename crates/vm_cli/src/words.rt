@@ -3,7 +3,7 @@ ghost use Rattle.clap.specs.Words.{FailsBy, app_of, fault_of, kind_of, one_of, r
 ghost use Rattle.clap.specs.declared.builder.command.Command.TheViews.{out-Command};
 ghost use Rattle.std.specs.Prelude.{◌≡◌, ◌⊎◌, IfErr, IfOk, None, Some, false, map, ℕ, List, option_map, option_and_then, codes};
 ghost use Rattle.std.specs.String.{string_bytes};
-ghost use Rattle.vm_cli.specs.Words.{altctl, asked_by, asked_of, blocks_rule, create_app, file_rule, number_in, run_app, top_app, wanted_of};
+ghost use Rattle.vm_cli.specs.Words.{altctl, asked_by, asked_of, blocks_rule, cache_rule, create_app, file_rule, number_in, run_app, top_app, wanted_of};
 
 use crate::help;
 use crate::task::Job;
@@ -15,6 +15,9 @@ pub const LEAST_BLOCKS: u32 = 64;
 
 /// The most blocks of a store.
 pub const MOST_BLOCKS: u32 = 1_048_576;
+
+/// The most blocks that are kept in memory.
+pub const MOST_CACHE: u32 = 65_536;
 
 /// Reads the program's words, of which the first is its name. An `Err` has the text to show, help
 /// included.
@@ -39,26 +42,29 @@ fn asked<'a>(matches: &ArgMatches<'a>) -> Option<Job<'a>>
     let file = matches.get_str("file")?;
     match name {
         "create" => {
-            let blocks = blocks_of(matches)?;
+            let blocks = number_of(matches, "blocks", LEAST_BLOCKS, MOST_BLOCKS)?;
             Some(Job::Create { file, blocks })
         }
-        "run" => Some(Job::Run { file }),
+        "run" => {
+            let cache = number_of(matches, "cache", 0, MOST_CACHE)?;
+            Some(Job::Run { file, cache })
+        }
         _ => None,
     }
 }
 
-// The number of blocks, where it lies in the range.
-fn blocks_of(matches: &ArgMatches<'_>) -> Option<u32>
-    ensures { result ≡ option_and_then (number_in 64 1048576) (one_of (codes "blocks") (rows_of (found_of matches.now))) }
+// The number that an argument has, where it lies in the range.
+fn number_of(matches: &ArgMatches<'_>, name: &str, least: u32, most: u32) -> Option<u32>
+    ensures { result ≡ option_and_then (number_in least most) (one_of name.now (rows_of (found_of matches.now))) }
 {
-    let blocks = matches.get_one::<u32>("blocks")?;
-    if blocks < LEAST_BLOCKS {
+    let number = matches.get_one::<u32>(name)?;
+    if number < least {
         return None;
     }
-    if blocks > MOST_BLOCKS {
+    if number > most {
         return None;
     }
-    Some(blocks)
+    Some(number)
 }
 
 // The program's command line.
@@ -103,7 +109,8 @@ fn run<'a>(alloc: Global) -> Result<Command<'a>, AllocError>
         .about("Opens a store and answers the lines of the standard input")
         .long_about(help::RUN)
         .after_long_help(help::RUN_AFTER)
-        .arg(file(alloc, help::RUN_FILE))
+        .arg(file(alloc, help::RUN_FILE))?
+        .arg(cache(alloc))
 }
 
 fn file<'a>(alloc: Global, about: &'a str) -> Arg<'a>
@@ -125,4 +132,16 @@ fn blocks<'a>(alloc: Global) -> Arg<'a>
         .help(help::CREATE_BLOCKS)
         .required(true)
         .value_parser(value_parser!(u32).range(64..=1_048_576))
+}
+
+fn cache<'a>(alloc: Global) -> Arg<'a>
+    ensures rule { rule_of result ≡ cache_rule }
+    ensures local { result.global ≡ false }
+{
+    Arg::new(alloc, "cache")
+        .long("cache")
+        .value_name("N")
+        .help(help::RUN_CACHE)
+        .default_value("256")
+        .value_parser(value_parser!(u32).range(0..=65_536))
 }

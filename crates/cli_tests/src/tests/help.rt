@@ -107,7 +107,14 @@ fn shows_how_to_choose_the_blocks(rt: HostRuntime) -> Result<(), Fail> {
 #[test]
 fn shows_all_lines(rt: HostRuntime) -> Result<(), Fail> {
     let text = shown(&rt, ["altctl", "run", "--help"].as_slice())?;
-    assert!(rt; text.contains("Usage: altctl run <FILE>"));
+    for part in [
+        "Usage: altctl run [OPTIONS] <FILE>",
+        "--cache <N>",
+        "0 to 65536",
+        "[default: 256]",
+    ] {
+        assert!(rt; text.contains(part));
+    }
     for line in [
         "new NAME PARENT",
         "drop ALT",

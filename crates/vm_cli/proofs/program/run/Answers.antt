@@ -1,8 +1,6 @@
-use Rattle.std.proofs.Common.{◌∙◌, ap, inl, inr, sym, Some}
+use Rattle.std.proofs.Common.{◌≡◌, ◌∙◌, ap, inl, inr, refl, sym, Some}
 use Rattle.vm_cli.specs.Places.{KeepsOthers}
-use Rattle.vm_store.specs.Shown.{Shows}
-use Rattle.vm_cli.proofs.FilesLemmas.{keeps_all, not_done, synced_alone}
-use Rattle.vm_cli.proofs.SessionLemmas.{clean_leaves}
+use Rattle.vm_cli.proofs.FilesLemmas.{keeps_all, kept_told, not_done, synced_alone, was_honest}
 use Rattle.vm_cli.proofs.program.run.Goals as goal
 
 pub returns-clause-files : goal.returns-clause-files
@@ -12,19 +10,19 @@ returns-clause-files g c honest =
     let back = c.give_back.ensures.honest honest in
     let found = c.in-Some.ensures.honest (c.give_back.ensures.earlier honest) in
     let others : KeepsOthers c.args.file.now before after = λ other apart. back.others other apart ∙ found.same other in
-    elim c.answer_lines-exit.ensures.served [
+    elim c.answer_lines_cached-exit.ensures.served [
       | inl served ↦
-          let held = found.held (served.found.earlier (served.goes.earlier back.honest)) in
+          let held = found.held (was_honest g.P.D.Disk _ (λ cache. refl) _ _ _ _ _ _ _ served back.honest) in
           inl (record {
             found = c.in-Some.disk;
-            back = c.answer_lines-exit.result.1;
+            back = c.answer_lines_cached-exit.result.1;
             served = served;
             held = held.0;
             clean = held.1;
             honest = back.honest;
             holds = back.holds;
             others = others;
-            kept = λ tree shows. served.kept back.honest tree (clean_leaves (λ x. Shows x tree) _ held.1 shows);
+            kept = kept_told g.P.D.Disk _ (λ cache. refl) _ _ _ _ _ _ _ served back.honest held.1;
           })
       | inr refused ↦
           let held = found.held (refused.1.goes.earlier back.honest) in

@@ -20,10 +20,10 @@ returns-in_ok-blocks-in-create c =
     let file : first_of (codes "file") rows ≡ Some c.in_ok-file.file.now = sym (first_value-rows (found_of c.in_ok-name.matches.now) (codes "file")) ∙ sym c.in_ok-file.ensures in
     sym (asked_of-create _ _ rows _ _ entered file c.in-create.is (sym c.in_ok-blocks-in-create.ensures))
 
-pub returns-in-run : goal.returns-in-run
-returns-in-run c =
+pub returns-in_ok-cache-in-run : goal.returns-in_ok-cache-in-run
+returns-in_ok-cache-in-run c =
     let rows = rows_of (found_of c.in_ok-name.matches.now) in
     let entered : subcommand_rows_of c.args.matches.now ≡ Some (c.in_ok-name.name.now, rows) =
     subcommand_rows-parts _ _ _ _ c.in_ok-name.ensures.name c.in_ok-name.ensures.rows in
     let file : first_of (codes "file") rows ≡ Some c.in_ok-file.file.now = sym (first_value-rows (found_of c.in_ok-name.matches.now) (codes "file")) ∙ sym c.in_ok-file.ensures in
-    sym (asked_of-run _ _ rows _ entered file c.in-run.is)
+    sym (asked_of-run _ _ rows _ _ entered file c.in-run.is (sym c.in_ok-cache-in-run.ensures))
