@@ -22,6 +22,7 @@ mod writing;
 
 pub use getting::get;
 pub use putting::put;
+pub use reading::{data_at, is_data, leaf_at, node_at};
 pub use removing::remove;
 pub use root::{Root, TreeFault};
 pub use scanning::scan;
