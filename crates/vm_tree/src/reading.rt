@@ -128,30 +128,6 @@ pub(crate) fn leaf_under<D: Disk, const MOST: usize>(
     }
 }
 
-/// The children of this child's block, which is to be an inner block of this level with MOST
-/// children at most.
-pub(crate) fn node_under<D: Disk, const MOST: usize>(
-    disk: &mut D,
-    blocks: u32,
-    level: u8,
-    top: Child,
-) -> Result<ArrayVec<Child, 256>, TreeFault>
-    requires { blocks ≤ (D.state disk.old).blocks }
-    ensures any { Goes (result ≡ Err TreeFault.Device) (D.state disk.old) (D.state disk.new) }
-    ensures deep { result ≢ Err TreeFault.Deep }
-    ensures memory { result ≢ Err TreeFault.Memory }
-    ensures reads { (D.state disk.new).honest ≡ true → OnlyReads (D.state disk.old) (D.state disk.new) }
-    ensures only { (D.state disk.new).honest ≡ true → (cs : List Child) → IsNodeAt (D.state disk.old).now.contents blocks level top.block cs → Lowest top.low cs → length cs ≤ MOST
-        → OkOrDevice result (λ children. children.items ≡ cs) }
-{
-    let mut bytes = [0; 4096];
-    block_at(disk, blocks, top, &mut bytes)?;
-    match read_node(&bytes) {
-        Some(node) if node.level == level && node.children.len() <= MOST => Ok(node.children),
-        _ => Err(TreeFault::Damaged(top.block)),
-    }
-}
-
 /// The records of a leaf.
 pub fn leaf_at<D: Disk>(
     disk: &mut D,
