@@ -19,6 +19,7 @@ use Rattle.vm_block.proofs.NodeLemmas.{node_one}
 use Rattle.vm_block.proofs.TreeLemmas.{subtree_one}
 use Rattle.vm_tree.proofs.Rising.{rises_front, rises_back}
 use Rattle.vm_tree.proofs.Splitting.{split_at, children_join, child_alone}
+use Rattle.vm_tree.specs.Reading.{IsLeafAt, IsNodeAt}
 use Rattle.vm_check.specs.Visiting.{IsHighest, Adds, Visited, VisitedAll}
 use Rattle.vm_check.specs.declared.verifying.Span.{Span}
 use Rattle.vm_check.proofs.SpanLemmas.{begins_one, highest_join, lowest_highest, rises_join, highest_below}
@@ -151,7 +152,7 @@ module _ (sizes : Sizes) (x : Contents) (limit : ℕ) where
       }
 
   -- what follows from either form of the block on top
-  pub top_form : (l b : ℕ) (rs : List Record) (bs : List ℕ) (F : Type 0) → Subtree sizes x limit l b rs bs → ((qs : List Record) → IsLeaf (block x b) qs → F) → ((level : ℕ) (cs : List Child) → IsNode (block x b) level cs → F) → F
+  pub top_form : (l b : ℕ) (rs : List Record) (bs : List ℕ) (F : Type 0) → Subtree sizes x limit l b rs bs → ((qs : List Record) → IsLeafAt x limit b qs → F) → ((level : ℕ) (cs : List Child) → IsNodeAt x limit level b cs → F) → F
   unfolding Subtree
-  top_form zero b rs bs F t leaf node = leaf rs t.1
-  top_form (suc l) b rs bs F t leaf node = node (suc l) t.1 t.3
+  top_form zero b rs bs F t leaf node = leaf rs (record { inside = t.0; leaf = t.1 })
+  top_form (suc l) b rs bs F t leaf node = node (suc l) t.1 (record { inside = t.0; node = t.3 })

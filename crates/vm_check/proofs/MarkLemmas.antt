@@ -16,6 +16,7 @@ use Rattle.vm_block.proofs.EachLemmas.{each_so, each_join}
 use Rattle.vm_block.proofs.FormLemmas.{leaf_or_node}
 use Rattle.vm_block.proofs.NodeLemmas.{node_one}
 use Rattle.vm_block.proofs.TreeLemmas.{leaf_opens, node_opens}
+use Rattle.vm_tree.specs.Reading.{IsNodeAt}
 use Rattle.vm_check.specs.Marking.{Joined, MarksMore, ClosedTo, unmarked}
 use Rattle.vm_check.proofs.JoinLemmas.{LastOf, last_of, joined_front}
 
@@ -244,12 +245,12 @@ pub record NodeStart (sizes : Sizes) (x : Contents) (limit level b : ℕ) (bs : 
   pub joined : Joined (IsBelow sizes x limit (level - 1)) cs under
 
 pub node_start : (sizes : Sizes) (x : Contents) (limit level b : ℕ) (rs : List Record) (bs : List ℕ) (cs : List Child) → 0 < level → Subtree sizes x limit level b rs bs
-    → ((ds : List Child) → IsNode (block x b) level ds → cs ≡ ds) → NodeStart sizes x limit level b bs cs
+    → ((ds : List Child) → IsNodeAt x limit level b ds → cs ≡ ds) → NodeStart sizes x limit level b bs cs
 node_start sizes x limit level b rs bs cs above tree only =
     let up : suc (level - 1) ≡ level = omega arith in
     let at = node_opens sizes x limit level (level - 1) b rs bs (sym up) tree in
     let node = subst (λ n. IsNode (block x b) n at.children) up at.node in
-    let same = only at.children node in
+    let same = only at.children (record { inside = at.place; node = node }) in
     record {
       under = at.under;
       first = at.first;

@@ -3,8 +3,8 @@ use Rattle.std.specs.Prelude.{◌≡◌, ℕ, ◌<◌, ◌≤◌, List, length}
 use Rattle.vm_block.specs.Leaf.{Record, IsLeaf}
 use Rattle.vm_block.specs.Node.{IsNode}
 use Rattle.vm_block.specs.declared.node.Child.{Child}
-use Rattle.vm_check.specs.declared.reading.Form.{Form}
-use Rattle.vm_check.specs.declared.reading.Form.TheVariants.{Leaf, Node}
+use Rattle.vm_check.specs.declared.form.Form.{Form}
+use Rattle.vm_check.specs.declared.form.Form.TheVariants.{Leaf, Node}
 
 -- these bytes are the leaf or the inner block
 abbrev pub IsForm : List ℕ → Form → Type 0

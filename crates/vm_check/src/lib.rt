@@ -6,8 +6,8 @@
 //! exactly where each number has a tree, unless the device fails or no memory is found.
 #![tactic(auto)]
 
+mod form;
 mod marking;
-mod reading;
 #[cfg(test)]
 mod tests;
 mod verifying;

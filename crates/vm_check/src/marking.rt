@@ -8,10 +8,9 @@ ghost use Rattle.vm_block.specs.Tree.{Sizes, Subtree};
 ghost use Rattle.vm_tree.specs.Answers.{OkOrDevice};
 ghost use Rattle.vm_check.specs.Marking.{AreUnder, ClosedTo, IsClosed, IsUnder, MarksMore, MarksOnly, unmarked};
 
-use crate::reading::{children_at, is_data};
 use vm_alloc::Marks;
 use vm_disk::Disk;
-use vm_tree::{Root, TreeFault};
+use vm_tree::{Root, TreeFault, is_data, node_at};
 
 /// Marks a block of this level and all blocks under it, unless it is marked. A leaf is not read.
 fn mark_below<D: Disk>(
@@ -47,7 +46,7 @@ fn mark_below<D: Disk>(
     if level == 0 {
         return Ok(());
     }
-    match children_at(disk, level, block) {
+    match node_at(disk, blocks, level, block) {
         Ok(children) => {
             for child in children.as_slice() {
                 match mark_below(disk, blocks, level - 1, child.block, marks) {

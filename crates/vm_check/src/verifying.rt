@@ -14,12 +14,12 @@ ghost use Rattle.vm_check.specs.Marking.{unmarked};
 ghost use Rattle.vm_check.specs.Verifying.{HaveTrees, Found};
 ghost use Rattle.vm_check.specs.Visiting.{IsHighest, Known, Visited, VisitedAll, RootVisited};
 
-use crate::reading::{Form, is_data, read_form};
+use crate::form::{Form, form_at};
 use std::alloc::Global;
 use vm_alloc::Marks;
 use vm_block::Child;
 use vm_disk::Disk;
-use vm_tree::{Root, TreeFault};
+use vm_tree::{Root, TreeFault, is_data};
 use vm_types::{Key, Value};
 
 /// What was found at a block: its level, and the lowest and the highest key under it. While the
@@ -70,7 +70,7 @@ fn visit<D: Disk, const LEAF: usize, const FAN: usize>(
         return Ok(span);
     }
     marks.set(block);
-    match read_form(disk, block) {
+    match form_at(disk, blocks, block) {
         Ok(Form::Leaf(records)) => {
             if least > 0 || records.len() > LEAF {
                 return Err(TreeFault::Damaged(block));

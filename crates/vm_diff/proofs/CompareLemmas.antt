@@ -5,7 +5,7 @@ use Rattle.vm_types.specs.Map.{Map, delta}
 use Rattle.vm_disk.specs.Disk.{State, Contents, Medium, Goes}
 use Rattle.vm_disk.specs.Moments.{OnlyReads}
 use Rattle.vm_disk.proofs.GoesLemmas.{goes_then}
-use Rattle.vm_disk.proofs.MomentLemmas.{started, reads_then, same_medium}
+use Rattle.vm_disk.proofs.MomentLemmas.{reads_then, same_medium}
 use Rattle.vm_block.specs.Tree.{Sizes, Subtree}
 use Rattle.vm_tree.specs.Root.{IsRooted}
 use Rattle.vm_tree.specs.declared.root.Root.{Root}

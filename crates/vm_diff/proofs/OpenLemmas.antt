@@ -13,7 +13,7 @@ use Rattle.vm_tree.proofs.Descent.{leaf_read, node_read}
 use Rattle.vm_diff.specs.Walk.{Walk, IsAhead, Under, size, tops_of, weight, weight_of}
 use Rattle.vm_diff.specs.Front.{first_of, front_of}
 use Rattle.vm_diff.specs.Differ.{Passes}
-use Rattle.vm_diff.specs.declared.front.Front.TheVariants.{End, Pair, Top}
+use Rattle.vm_diff.specs.declared.front.Front.TheVariants.{Pair, Top}
 
 -- ---- what a walk stands before
 

@@ -12,7 +12,6 @@ mod cursor;
 mod front;
 mod merging;
 mod opening;
-mod reading;
 mod stepping;
 #[cfg(test)]
 mod tests;

@@ -11,9 +11,8 @@ ghost use Rattle.vm_diff.specs.Differ.{Passes};
 
 use crate::cursor::Cursor;
 use crate::front::Front;
-use crate::reading::{leaf_at, node_at};
 use vm_disk::Disk;
-use vm_tree::{Root, TreeFault};
+use vm_tree::{Root, TreeFault, leaf_at, node_at};
 use vm_types::{Key, Value};
 
 /// Opens the subtree that the walk stands before, by one read: what lies under it takes its place.

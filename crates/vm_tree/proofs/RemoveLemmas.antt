@@ -8,7 +8,7 @@ use Rattle.vm_block.specs.Leaf.{Record}
 use Rattle.vm_block.specs.Node.{ChildFits, IsNode, lows}
 use Rattle.vm_block.specs.FullPath.{IsChosen}
 use Rattle.vm_block.specs.Tree.{Sizes, Begins, Children, Subtree}
-use Rattle.vm_block.specs.Way.{Lowest}
+use Rattle.vm_block.specs.Way.{Lowest, Takes}
 use Rattle.vm_block.specs.declared.node.Child.{Child}
 use Rattle.vm_block.proofs.EachLemmas.{each_front, each_back, each_join, each_so}
 use Rattle.vm_block.proofs.TreeLemmas.{node_opens}
@@ -39,6 +39,12 @@ pub one_child : (cs : List Child) (d : Child) → length cs ≡ 1 → cs ≡ get
 one_child [] d one = absurd (omega (arith, one))
 one_child (c ∷ cs) d one = ap (λ (rest : List Child). c ∷ rest) (nil_from_length cs (omega (arith, one)))
 
+-- of one child alone a descent takes that
+pub sole : (cs : List Child) (p i : ℕ) (c : Child) → length cs ≡ 1 → i < 1 → Takes cs p i c → cs ≡ c ∷ []
+sole [] p i c one lt at = absurd (omega (arith, one))
+sole (d ∷ cs) p zero c one lt at = ap (λ (z : Child). z ∷ cs) at.child ∙ ap (λ (rest : List Child). c ∷ rest) (nil_from_length cs (omega (arith, one)))
+sole (d ∷ cs) p (suc i) c one lt at = absurd (omega (arith, lt))
+
 -- a root that is not narrowed
 pub narrows_here : (sizes : Sizes) (x : Contents) (limit l : ℕ) (top : Child) (root : Root) (rs : List Record) (bs : List ℕ) → root ≡ record { block = top.block; level = l; low = top.low }
     → Children (Subtree sizes x limit l) (top ∷ []) rs bs → Narrows sizes x limit top root rs bs
@@ -46,22 +52,22 @@ narrows_here sizes x limit l top root rs bs is t =
     subst (λ (r : Root). Narrows sizes x limit top r rs bs) (sym is) (record { above = []; own = bs; under = t; blocks = refl; fit = λ fits. fits })
 
 -- the root is what its one child is narrowed to
-pub narrows_down : (sizes : Sizes) (old mid : Medium) (limit level : ℕ) (top : Child) (cs : List Child) (d : Child) (rs : List Record) (bs : List ℕ) (result : Result Root TreeFault) → mid ≡ old → 0 < level → length cs ≡ 1
-    → Children (Subtree sizes old.contents limit level) (top ∷ []) rs bs → ((ds : List Child) → IsNodeAt old.contents limit level top.block ds → Lowest top.low ds → length ds ≤ sizes.fan → cs ≡ ds)
-    → ((under : List ℕ) → Children (Subtree sizes mid.contents limit (level - 1)) (get_or cs 0 d ∷ []) rs under → OkOrDevice result (λ root. Narrows sizes mid.contents limit (get_or cs 0 d) root rs under))
+pub narrows_down : (sizes : Sizes) (old mid : Medium) (limit level : ℕ) (top c : Child) (rs : List Record) (bs : List ℕ) (result : Result Root TreeFault) → mid ≡ old → 0 < level
+    → Children (Subtree sizes old.contents limit level) (top ∷ []) rs bs → ((ds : List Child) → IsNodeAt old.contents limit level top.block ds → Lowest top.low ds → length ds ≤ sizes.fan → ds ≡ c ∷ [])
+    → ((under : List ℕ) → Children (Subtree sizes mid.contents limit (level - 1)) (c ∷ []) rs under → OkOrDevice result (λ root. Narrows sizes mid.contents limit c root rs under))
     → OkOrDevice result (λ root. Narrows sizes old.contents limit top root rs bs)
-narrows_down sizes old mid limit level top cs d rs bs result still above one t only below =
+narrows_down sizes old mid limit level top c rs bs result still above t only below =
     let x = old.contents in
     let up : suc (level - 1) ≡ level = omega arith in
     let alone = alone_opens (Subtree sizes x limit level) top rs bs t in
     let at = node_opens sizes x limit level (level - 1) top.block rs bs (sym up) alone.0 in
     let lowest = lowest_of (Subtree sizes x limit (level - 1)) at.children top.low rs at.under at.node.some at.below alone.1 in
     let node = subst (λ n. IsNode (block x top.block) n at.children) up at.node in
-    let same : at.children ≡ get_or cs 0 d ∷ [] = sym (only at.children (record { inside = at.place; node = node }) lowest at.few) ∙ one_child cs d one in
+    let same = only at.children (record { inside = at.place; node = node }) lowest at.few in
     let under = subst (λ (ds : List Child). Children (Subtree sizes x limit (level - 1)) ds rs at.under) same at.below in
     let fit = subst (AllByRecursion ChildFits) same at.node.fit in
-    ok_map result (λ root. Narrows sizes mid.contents limit (get_or cs 0 d) root rs at.under) (λ root. Narrows sizes x limit top root rs bs)
-    (below at.under (subst (λ (m : Medium). Children (Subtree sizes m.contents limit (level - 1)) (get_or cs 0 d ∷ []) rs at.under) (sym still) under))
+    ok_map result (λ root. Narrows sizes mid.contents limit c root rs at.under) (λ root. Narrows sizes x limit top root rs bs)
+    (below at.under (subst (λ (m : Medium). Children (Subtree sizes m.contents limit (level - 1)) (c ∷ []) rs at.under) (sym still) under))
     (λ root n. record {
       above = top.block ∷ n.above;
       own = n.own;

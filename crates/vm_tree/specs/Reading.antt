@@ -1,5 +1,5 @@
 -- Blocks of a tree as they are read.
-use Rattle.std.specs.Prelude.{◌≡◌, ℕ, zero, suc, ◌+◌, ◌*◌, ◌<◌, List, take, drop}
+use Rattle.std.specs.Prelude.{◌≡◌, ℕ, zero, suc, ◌+◌, ◌*◌, ◌<◌, ◌≤◌, List, take, drop}
 use Rattle.vm_types.specs.declared.key.Key.{Key}
 use Rattle.vm_disk.specs.Disk.{Contents, block}
 use Rattle.vm_block.specs.Head.{IsLeafHead, IsNodeHead}
@@ -7,6 +7,17 @@ use Rattle.vm_block.specs.Leaf.{Record, IsLeaf, key_bytes}
 use Rattle.vm_block.specs.Node.{IsNode, child_bytes}
 use Rattle.vm_block.specs.Tree.{IsData}
 use Rattle.vm_block.specs.declared.node.Child.{Child}
+
+-- of these two numbers of reads on a disk the later counts a block for data once more, and another not
+pub record ReadsOne (limit b old new : ℕ) : Type 0 where
+  pub most : new ≤ old + 1
+  pub one : IsData limit b → new ≡ old + 1
+  pub none : (IsData limit b → ⊥) → new ≡ old
+
+-- this block is for data, and has these bytes
+pub record IsDataAt (x : Contents) (limit b : ℕ) (bytes : List ℕ) : Type 0 where
+  pub inside : IsData limit b
+  pub bytes_are : bytes ≡ block x b
 
 -- this block is for data, has these bytes, and begins with this key
 pub record IsBlockAt (x : Contents) (limit b : ℕ) (low : Key) (bytes : List ℕ) : Type 0 where

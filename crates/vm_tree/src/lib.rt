@@ -6,7 +6,8 @@
 //! A descent goes by the bytes of blocks. It compares the head and the first key of each with what
 //! stands above it, before any block is taken, and a block that differs there is refused and never
 //! copied. A change of one child is made in the bytes; `get` and `put` decode no block but a leaf
-//! that splits.
+//! that splits. For the walks of the crates above `data_at`, `leaf_at` and `node_at` read single
+//! blocks: one that is for data by one read, and another not at all.
 #![tactic(auto)]
 
 mod getting;
@@ -22,6 +23,7 @@ mod writing;
 
 pub use getting::get;
 pub use putting::put;
+pub use reading::{data_at, is_data, leaf_at, node_at};
 pub use removing::remove;
 pub use root::{Root, TreeFault};
 pub use scanning::scan;

@@ -1,7 +1,7 @@
 //! Blocks of a tree, read from a disk, and the way down to a key.
 ghost use Rattle.std.specs.Prelude.{◌≡◌, ◌≢◌, ◌↔◌, ℕ, ◌<◌, ◌≤◌, true, List, length, IsTrue, IfOk};
 ghost use Rattle.vm_types.specs.Places.{place};
-ghost use Rattle.vm_disk.specs.Disk.{Goes};
+ghost use Rattle.vm_disk.specs.Disk.{Goes, block as bytes_at};
 ghost use Rattle.vm_disk.specs.Moments.{OnlyReads};
 ghost use Rattle.vm_block.specs.Leaf.{Record, IsLeaf};
 ghost use Rattle.vm_block.specs.Node.{IsNode};
@@ -9,7 +9,7 @@ ghost use Rattle.vm_block.specs.Tree.{IsData, Begins};
 ghost use Rattle.vm_block.specs.Way.{Lowest, Takes};
 ghost use Rattle.vm_block.specs.declared.node.Child.{Child};
 ghost use Rattle.vm_tree.specs.Answers.{OkOrDevice};
-ghost use Rattle.vm_tree.specs.Reading.{EndsAt, IsBlockAt, IsLeafAt, IsNodeAt, StepsTo};
+ghost use Rattle.vm_tree.specs.Reading.{EndsAt, IsBlockAt, IsDataAt, IsLeafAt, IsNodeAt, ReadsOne, StepsTo};
 
 use crate::root::TreeFault;
 use arrayvec::ArrayVec;
@@ -19,10 +19,35 @@ use vm_disk::Disk;
 use vm_types::{Key, Value};
 
 /// Whether the block is for data, in a store of so many blocks.
-fn is_data(blocks: u32, block: u32) -> bool
+pub fn is_data(blocks: u32, block: u32) -> bool
     ensures { IsTrue result ↔ IsData blocks block }
 {
     (FIRST_DATA..blocks).contains(&block)
+}
+
+/// Reads a block, which is to be for data, into these bytes: Damaged, where it is not for data.
+pub fn data_at<D: Disk>(
+    disk: &mut D,
+    blocks: u32,
+    block: u32,
+    bytes: &mut [u8; 4096],
+) -> Result<(), TreeFault>
+    requires { blocks ≤ (D.state disk.old).blocks }
+    ensures any { Goes (result ≡ Err TreeFault.Device) (D.state disk.old) (D.state disk.new) }
+    ensures deep { result ≢ Err TreeFault.Deep }
+    ensures memory { result ≢ Err TreeFault.Memory }
+    ensures once { ReadsOne blocks block (D.state disk.old).reads (D.state disk.new).reads }
+    ensures reads { (D.state disk.new).honest ≡ true → OnlyReads (D.state disk.old) (D.state disk.new) }
+    ensures found { (D.state disk.new).honest ≡ true → IfOk result (λ done. IsDataAt (D.state disk.old).now.contents blocks block bytes.new) }
+    ensures only { (D.state disk.new).honest ≡ true → IsData blocks block → OkOrDevice result (λ done. bytes.new ≡ bytes_at (D.state disk.old).now.contents block) }
+{
+    if !is_data(blocks, block) {
+        return Err(TreeFault::Damaged(block));
+    }
+    match disk.read(block, bytes) {
+        Ok(()) => Ok(()),
+        Err(_) => Err(TreeFault::Device),
+    }
 }
 
 /// Reads this child's block, which is to be for data and to begin with the child's lowest key, into
@@ -44,14 +69,11 @@ pub(crate) fn block_at<D: Disk>(
     ensures node { (D.state disk.new).honest ≡ true → (level : ℕ) (cs : List Child) → IsNodeAt (D.state disk.old).now.contents blocks level top.block cs → Lowest top.low cs
         → OkOrDevice result (λ done. IsNode bytes.new level cs) }
 {
-    if !is_data(blocks, top.block) {
+    data_at(disk, blocks, top.block, bytes)?;
+    if lowest_key(bytes) != top.low {
         return Err(TreeFault::Damaged(top.block));
     }
-    match disk.read(top.block, bytes) {
-        Ok(()) if lowest_key(bytes) == top.low => Ok(()),
-        Ok(()) => Err(TreeFault::Damaged(top.block)),
-        Err(_) => Err(TreeFault::Device),
-    }
+    Ok(())
 }
 
 /// Reads this child's block, which is to be an inner block of this level with MOST children at
@@ -75,12 +97,10 @@ pub(crate) fn way_at<D: Disk, const MOST: usize>(
     ensures only { (D.state disk.new).honest ≡ true → (cs : List Child) → IsNodeAt (D.state disk.old).now.contents blocks level top.block cs → Lowest top.low cs → length cs ≤ MOST
         → OkOrDevice result (λ way. IsNode bytes.new level cs × (way.count ≡ length cs) × Takes cs (place key) way.index way.child) }
 {
-    match block_at(disk, blocks, top, bytes) {
-        Ok(()) => match find_child(bytes, key) {
-            Some(way) if way.level == level && way.count <= MOST => Ok(way),
-            _ => Err(TreeFault::Damaged(top.block)),
-        },
-        Err(fault) => Err(fault),
+    block_at(disk, blocks, top, bytes)?;
+    match find_child(bytes, key) {
+        Some(way) if way.level == level && way.count <= MOST => Ok(way),
+        _ => Err(TreeFault::Damaged(top.block)),
     }
 }
 
@@ -101,43 +121,15 @@ pub(crate) fn leaf_under<D: Disk, const MOST: usize>(
         → OkOrDevice result (λ records. records.items ≡ rs) }
 {
     let mut bytes = [0; 4096];
-    match block_at(disk, blocks, top, &mut bytes) {
-        Ok(()) => match read_leaf(&bytes) {
-            Some(records) if records.len() <= MOST => Ok(records),
-            _ => Err(TreeFault::Damaged(top.block)),
-        },
-        Err(fault) => Err(fault),
+    block_at(disk, blocks, top, &mut bytes)?;
+    match read_leaf(&bytes) {
+        Some(records) if records.len() <= MOST => Ok(records),
+        _ => Err(TreeFault::Damaged(top.block)),
     }
 }
 
-/// The children of this child's block, which is to be an inner block of this level with MOST
-/// children at most.
-pub(crate) fn node_under<D: Disk, const MOST: usize>(
-    disk: &mut D,
-    blocks: u32,
-    level: u8,
-    top: Child,
-) -> Result<ArrayVec<Child, 256>, TreeFault>
-    requires { blocks ≤ (D.state disk.old).blocks }
-    ensures any { Goes (result ≡ Err TreeFault.Device) (D.state disk.old) (D.state disk.new) }
-    ensures deep { result ≢ Err TreeFault.Deep }
-    ensures memory { result ≢ Err TreeFault.Memory }
-    ensures reads { (D.state disk.new).honest ≡ true → OnlyReads (D.state disk.old) (D.state disk.new) }
-    ensures only { (D.state disk.new).honest ≡ true → (cs : List Child) → IsNodeAt (D.state disk.old).now.contents blocks level top.block cs → Lowest top.low cs → length cs ≤ MOST
-        → OkOrDevice result (λ children. children.items ≡ cs) }
-{
-    let mut bytes = [0; 4096];
-    match block_at(disk, blocks, top, &mut bytes) {
-        Ok(()) => match read_node(&bytes) {
-            Some(node) if node.level == level && node.children.len() <= MOST => Ok(node.children),
-            _ => Err(TreeFault::Damaged(top.block)),
-        },
-        Err(fault) => Err(fault),
-    }
-}
-
-/// The records of a leaf, which are MOST at most.
-pub(crate) fn leaf_at<D: Disk, const MOST: usize>(
+/// The records of a leaf.
+pub fn leaf_at<D: Disk>(
     disk: &mut D,
     blocks: u32,
     block: u32,
@@ -146,27 +138,23 @@ pub(crate) fn leaf_at<D: Disk, const MOST: usize>(
     ensures any { Goes (result ≡ Err TreeFault.Device) (D.state disk.old) (D.state disk.new) }
     ensures deep { result ≢ Err TreeFault.Deep }
     ensures memory { result ≢ Err TreeFault.Memory }
-    ensures count { IfOk result (λ records. (0 < length records.items) × (length records.items ≤ MOST)) }
+    ensures once { ReadsOne blocks block (D.state disk.old).reads (D.state disk.new).reads }
+    ensures count { IfOk result (λ records. (0 < length records.items) × (length records.items ≤ 16)) }
     ensures reads { (D.state disk.new).honest ≡ true → OnlyReads (D.state disk.old) (D.state disk.new) }
     ensures found { (D.state disk.new).honest ≡ true → IfOk result (λ records. IsLeafAt (D.state disk.old).now.contents blocks block records.items) }
-    ensures only { (D.state disk.new).honest ≡ true → (rs : List Record) → IsLeafAt (D.state disk.old).now.contents blocks block rs → length rs ≤ MOST
+    ensures only { (D.state disk.new).honest ≡ true → (rs : List Record) → IsLeafAt (D.state disk.old).now.contents blocks block rs
         → OkOrDevice result (λ records. records.items ≡ rs) }
 {
-    if !is_data(blocks, block) {
-        return Err(TreeFault::Damaged(block));
-    }
     let mut bytes = [0; 4096];
-    match disk.read(block, &mut bytes) {
-        Ok(()) => match read_leaf(&bytes) {
-            Some(records) if records.len() <= MOST => Ok(records),
-            _ => Err(TreeFault::Damaged(block)),
-        },
-        Err(_) => Err(TreeFault::Device),
+    data_at(disk, blocks, block, &mut bytes)?;
+    match read_leaf(&bytes) {
+        Some(records) => Ok(records),
+        None => Err(TreeFault::Damaged(block)),
     }
 }
 
-/// The children of an inner block of this level, which are MOST at most.
-pub(crate) fn node_at<D: Disk, const MOST: usize>(
+/// The children of an inner block of this level.
+pub fn node_at<D: Disk>(
     disk: &mut D,
     blocks: u32,
     level: u8,
@@ -176,22 +164,18 @@ pub(crate) fn node_at<D: Disk, const MOST: usize>(
     ensures any { Goes (result ≡ Err TreeFault.Device) (D.state disk.old) (D.state disk.new) }
     ensures deep { result ≢ Err TreeFault.Deep }
     ensures memory { result ≢ Err TreeFault.Memory }
-    ensures count { IfOk result (λ children. (0 < length children.items) × (length children.items ≤ MOST)) }
+    ensures once { ReadsOne blocks block (D.state disk.old).reads (D.state disk.new).reads }
+    ensures count { IfOk result (λ children. (0 < length children.items) × (length children.items ≤ 256)) }
     ensures low { IfOk result (λ children. level ≤ 7) }
     ensures reads { (D.state disk.new).honest ≡ true → OnlyReads (D.state disk.old) (D.state disk.new) }
     ensures found { (D.state disk.new).honest ≡ true → IfOk result (λ children. IsNodeAt (D.state disk.old).now.contents blocks level block children.items) }
-    ensures only { (D.state disk.new).honest ≡ true → (cs : List Child) → IsNodeAt (D.state disk.old).now.contents blocks level block cs → length cs ≤ MOST
+    ensures only { (D.state disk.new).honest ≡ true → (cs : List Child) → IsNodeAt (D.state disk.old).now.contents blocks level block cs
         → OkOrDevice result (λ children. children.items ≡ cs) }
 {
-    if !is_data(blocks, block) {
-        return Err(TreeFault::Damaged(block));
-    }
     let mut bytes = [0; 4096];
-    match disk.read(block, &mut bytes) {
-        Ok(()) => match read_node(&bytes) {
-            Some(node) if node.level == level && node.children.len() <= MOST => Ok(node.children),
-            _ => Err(TreeFault::Damaged(block)),
-        },
-        Err(_) => Err(TreeFault::Device),
+    data_at(disk, blocks, block, &mut bytes)?;
+    match read_node(&bytes) {
+        Some(node) if node.level == level => Ok(node.children),
+        _ => Err(TreeFault::Damaged(block)),
     }
 }

@@ -17,7 +17,7 @@ ghost use Rattle.vm_tree.specs.Reading.{LeadsDown};
 ghost use Rattle.vm_tree.specs.Removing.{Narrows, RemovesBelow, Rests, child_of, level_of, without_place};
 ghost use Rattle.vm_tree.specs.Root.{AreSizes, Grown, IsRooted, sizes_of};
 
-use crate::reading::{leaf_under, node_under, way_at};
+use crate::reading::{leaf_under, way_at};
 use crate::root::{Root, TreeFault, root_at};
 use crate::splicing::{push_all, spliced};
 use crate::writing::{write_bytes, write_leaf_block, write_node_block};
@@ -158,10 +158,10 @@ fn narrowed<D: Disk, const FAN: usize>(
     if level == 0 {
         return Ok(root_at(top, 0));
     }
-    match node_under::<D, FAN>(disk, blocks, level, top) {
-        Ok(children) if children.len() == 1 => {
-            narrowed::<D, FAN>(disk, blocks, children.as_slice()[0], level - 1)
-        }
+    let mut bytes = [0; 4096];
+    // To any key the way goes to the one child, where there is one.
+    match way_at::<D, FAN>(disk, blocks, level, top, top.low, &mut bytes) {
+        Ok(way) if way.count == 1 => narrowed::<D, FAN>(disk, blocks, way.child, level - 1),
         Ok(_) => Ok(root_at(top, level)),
         Err(fault) => Err(fault),
     }

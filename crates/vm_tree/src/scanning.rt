@@ -28,7 +28,7 @@ fn scan_leaf<D: Disk>(
     ensures added { (D.state disk.new).honest ≡ true → (sizes : Sizes) (rs : List Record) (bs : List ℕ)
         → Subtree sizes (D.state disk.old).now.contents blocks 0 block rs bs → Lists result (λ _. into.new.items ≡ into.old.items ++ rs) }
 {
-    match leaf_at::<D, 16>(disk, blocks, block) {
+    match leaf_at(disk, blocks, block) {
         Ok(records) => match into.extend_from_slice(records.as_slice()) {
             Ok(()) => Ok(()),
             Err(_) => Err(TreeFault::Memory),
@@ -55,7 +55,7 @@ fn scan_below<D: Disk>(
     if level == 0 {
         return scan_leaf(disk, blocks, block, into);
     }
-    match node_at::<D, 256>(disk, blocks, level, block) {
+    match node_at(disk, blocks, level, block) {
         Ok(children) => {
             for child in children.as_slice() {
                 match scan_below(disk, blocks, level - 1, child.block, into) {

@@ -30,13 +30,13 @@ pub returns-in-Err-clause-once : goal.returns-in-Err-clause-once
 returns-in-Err-clause-once g t c =
     omega (
       arith,
-      c.children_at.ensures.once,
+      c.node_at.ensures.once.most,
       set_less _ _ _ _ c.set.ensures c.requires.bits (c.is_data.ensures.0 c.if-not-is_data.false) (λ is. false≢true (sym c.if-is_set.false ∙ c.is_set.ensures.1 is)),
     )
 
 pub loop-child-init : goal.loop-child-init
 loop-child-init g t c =
-    let any = c.children_at.ensures.any in
+    let any = c.node_at.ensures.any in
     let inside = c.is_data.ensures.0 c.if-not-is_data.false in
     let less = set_less _ _ _ _ c.set.ensures c.requires.bits inside (λ is. false≢true (sym c.if-is_set.false ∙ c.is_set.ensures.1 is)) in
     let grows = subst (HoldsMore c.args.marks.now) (sym c.set.ensures) (taken_holds_more c.args.marks.now c.args.block) in
@@ -46,9 +46,9 @@ loop-child-init g t c =
       since = λ honest. honest;
       rising = any.rising;
       many = grows.same_length ∙ c.requires.bits;
-      once = omega (arith, c.children_at.ensures.once, less);
+      once = omega (arith, c.node_at.ensures.once.most, less);
       growing = grows;
-      reads = λ honest. c.children_at.ensures.reads honest;
+      reads = λ honest. c.node_at.ensures.reads honest;
       marked = λ honest sizes bs none closed. subst (λ (ds : List _). MarksMore ds c.set.new.self c.set.new.self) (sym none) (same_more _ c.set.new.self tt);
       only = λ honest sizes bs none n is. inl is;
     }
@@ -91,7 +91,7 @@ returns-after-loop-child-clause-marked g t c honest sizes rs bs tree closed =
 pub returns-in-Err-clause-marked : goal.returns-in-Err-clause-marked
 returns-in-Err-clause-marked g t c honest sizes rs bs tree closed =
     let at = node_read sizes _ _ _ _ rs bs (omega (arith, c.if-level-eq0.false)) tree in
-    c.in-Err.ensures.only honest at.0 at.1.node
+    c.in-Err.ensures.only honest at.0 at.1
 
 pub returns-in-Err-mark_below-clause-reads : goal.returns-in-Err-mark_below-clause-reads
 returns-in-Err-mark_below-clause-reads g t c honest =
@@ -105,7 +105,7 @@ returns-then-not-is_data-clause-sound g t c honest sizes rs bs tree =
 pub returns-in-Err-clause-sound : goal.returns-in-Err-clause-sound
 returns-in-Err-clause-sound g t c honest sizes rs bs tree =
     let at = node_read sizes _ _ _ _ rs bs (omega (arith, c.if-level-eq0.false)) tree in
-    c.in-Err.ensures.only honest at.0 at.1.node
+    c.in-Err.ensures.only honest at.0 at.1
 
 pub returns-in-Err-mark_below-clause-sound : goal.returns-in-Err-mark_below-clause-sound
 returns-in-Err-mark_below-clause-sound g t c honest sizes rs bs tree =

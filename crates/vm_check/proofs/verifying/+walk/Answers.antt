@@ -18,27 +18,27 @@ use Rattle.vm_check.proofs.verifying.+walk.Goals.{visit_children-then-ne-via-the
 
 pub visit-returns-then-least-gt0-clause-once : goal.visit-returns-then-least-gt0-clause-once
 visit-returns-then-least-gt0-clause-once g t c =
-    omega (arith, c.read_form.ensures.once, set_less _ _ _ _ c.set.ensures c.requires.bits (c.is_data.ensures.0 c.if-not-is_data.false) (λ is. false≢true (sym c.if-is_set.false ∙ c.is_set.ensures.1 is)))
+    omega (arith, c.form_at.ensures.once.one (c.is_data.ensures.0 c.if-not-is_data.false), set_less _ _ _ _ c.set.ensures c.requires.bits (c.is_data.ensures.0 c.if-not-is_data.false) (λ is. false≢true (sym c.if-is_set.false ∙ c.is_set.ensures.1 is)))
 
 pub visit-returns-then-level-least-clause-once : goal.visit-returns-then-level-least-clause-once
 visit-returns-then-level-least-clause-once g t c =
-    omega (arith, c.read_form.ensures.once, set_less _ _ _ _ c.set.ensures c.requires.bits (c.is_data.ensures.0 c.if-not-is_data.false) (λ is. false≢true (sym c.if-is_set.false ∙ c.is_set.ensures.1 is)))
+    omega (arith, c.form_at.ensures.once.one (c.is_data.ensures.0 c.if-not-is_data.false), set_less _ _ _ _ c.set.ensures c.requires.bits (c.is_data.ensures.0 c.if-not-is_data.false) (λ is. false≢true (sym c.if-is_set.false ∙ c.is_set.ensures.1 is)))
 
 pub visit-returns-else-len-clause-once : goal.visit-returns-else-len-clause-once
 visit-returns-else-len-clause-once g t c =
-    omega (arith, c.read_form.ensures.once, set_less _ _ _ _ c.set.ensures c.requires.bits (c.is_data.ensures.0 c.if-not-is_data.false) (λ is. false≢true (sym c.if-is_set.false ∙ c.is_set.ensures.1 is)))
+    omega (arith, c.form_at.ensures.once.one (c.is_data.ensures.0 c.if-not-is_data.false), set_less _ _ _ _ c.set.ensures c.requires.bits (c.is_data.ensures.0 c.if-not-is_data.false) (λ is. false≢true (sym c.if-is_set.false ∙ c.is_set.ensures.1 is)))
 
 pub visit-returns-in-Err-clause-once : goal.visit-returns-in-Err-clause-once
 visit-returns-in-Err-clause-once g t c =
-    omega (arith, c.read_form.ensures.once, set_less _ _ _ _ c.set.ensures c.requires.bits (c.is_data.ensures.0 c.if-not-is_data.false) (λ is. false≢true (sym c.if-is_set.false ∙ c.is_set.ensures.1 is)))
+    omega (arith, c.form_at.ensures.once.one (c.is_data.ensures.0 c.if-not-is_data.false), set_less _ _ _ _ c.set.ensures c.requires.bits (c.is_data.ensures.0 c.if-not-is_data.false) (λ is. false≢true (sym c.if-is_set.false ∙ c.is_set.ensures.1 is)))
 
 pub visit-returns-in-Ok-clause-once : goal.visit-returns-in-Ok-clause-once
 visit-returns-in-Ok-clause-once g t c =
-    omega (arith, c.visit_children.ensures.once, c.read_form.ensures.once, set_less _ _ _ _ c.set.ensures c.requires.bits (c.is_data.ensures.0 c.if-not-is_data.false) (λ is. false≢true (sym c.if-is_set.false ∙ c.is_set.ensures.1 is)))
+    omega (arith, c.visit_children.ensures.once, c.form_at.ensures.once.one (c.is_data.ensures.0 c.if-not-is_data.false), set_less _ _ _ _ c.set.ensures c.requires.bits (c.is_data.ensures.0 c.if-not-is_data.false) (λ is. false≢true (sym c.if-is_set.false ∙ c.is_set.ensures.1 is)))
 
 pub visit-returns-in-Err-visit_children-clause-once : goal.visit-returns-in-Err-visit_children-clause-once
 visit-returns-in-Err-visit_children-clause-once g t c =
-    omega (arith, c.visit_children.ensures.once, c.read_form.ensures.once, set_less _ _ _ _ c.set.ensures c.requires.bits (c.is_data.ensures.0 c.if-not-is_data.false) (λ is. false≢true (sym c.if-is_set.false ∙ c.is_set.ensures.1 is)))
+    omega (arith, c.visit_children.ensures.once, c.form_at.ensures.once.one (c.is_data.ensures.0 c.if-not-is_data.false), set_less _ _ _ _ c.set.ensures c.requires.bits (c.is_data.ensures.0 c.if-not-is_data.false) (λ is. false≢true (sym c.if-is_set.false ∙ c.is_set.ensures.1 is)))
 
 pub visit-returns-then-not-is_data-clause-only : goal.visit-returns-then-not-is_data-clause-only
 visit-returns-then-not-is_data-clause-only g t c honest levels l rs bs known least most tree rises =
@@ -86,18 +86,18 @@ visit-returns-else-len-clause-found g t c honest levels known =
 
 pub visit-returns-in-Ok-clause-reads : goal.visit-returns-in-Ok-clause-reads
 visit-returns-in-Ok-clause-reads g t c honest =
-    reads_then _ _ _ (c.read_form.ensures.reads (c.visit_children.ensures.any.earlier honest)) (c.visit_children.ensures.reads honest)
+    reads_then _ _ _ (c.form_at.ensures.reads (c.visit_children.ensures.any.earlier honest)) (c.visit_children.ensures.reads honest)
 
 pub visit-returns-in-Err-visit_children-clause-reads : goal.visit-returns-in-Err-visit_children-clause-reads
 visit-returns-in-Err-visit_children-clause-reads g t c honest =
-    reads_then _ _ _ (c.read_form.ensures.reads (c.visit_children.ensures.any.earlier honest)) (c.visit_children.ensures.reads honest)
+    reads_then _ _ _ (c.form_at.ensures.reads (c.visit_children.ensures.any.earlier honest)) (c.visit_children.ensures.reads honest)
 
 pub visit-returns-in-Ok-clause-found : goal.visit-returns-in-Ok-clause-found
 visit-returns-in-Ok-clause-found g t c honest levels known =
     let inside = c.is_data.ensures.0 c.if-not-is_data.false in
     let node = rw c.in-Ok-Node.field-0-is at c.in-Ok-Node.ensures.found (c.in-Ok.ensures.any.earlier honest) in
     let first = record (span_at c.args.spans.now c.args.block) { level = c.in-Ok-Node.node.level } in
-    node_exit _ _ _ _ _ _ _ c.as_slice-children.result.now _ first _ _ _ _ _ _ (same_medium _ _ (c.read_form.ensures.reads (c.in-Ok.ensures.any.earlier honest)))
+    node_exit _ _ _ _ _ _ _ c.as_slice-children.result.now _ first _ _ _ _ _ _ (same_medium _ _ (c.form_at.ensures.reads (c.in-Ok.ensures.any.earlier honest)))
     (record {
       is = c.set.ensures;
       inside = omega (arith, inside.1, c.requires.bits);
@@ -116,7 +116,7 @@ visit-returns-in-Err-visit_children-clause-only g t c honest levels l rs bs know
     let inside = c.is_data.ensures.0 c.if-not-is_data.false in
     let node = rw c.in-Ok-Node.field-0-is at c.in-Ok-Node.ensures.found (c.in-Err-visit_children.ensures.any.earlier honest) in
     let first = record (span_at c.args.spans.now c.args.block) { level = c.in-Ok-Node.node.level } in
-    node_fault _ _ _ _ _ _ _ l c.as_slice-children.result.now first _ _ _ rs bs _ (same_medium _ _ (c.read_form.ensures.reads (c.in-Err-visit_children.ensures.any.earlier honest)))
+    node_fault _ _ _ _ _ _ _ l c.as_slice-children.result.now first _ _ _ rs bs _ (same_medium _ _ (c.form_at.ensures.reads (c.in-Err-visit_children.ensures.any.earlier honest)))
     (record {
       is = c.set.ensures;
       inside = omega (arith, inside.1, c.requires.bits);

@@ -4,7 +4,7 @@ use Rattle.vm_diff.proofs.opening.open.Goals as goal
 
 pub returns-in-Ok-clause-falls : goal.returns-in-Ok-clause-falls
 returns-in-Ok-clause-falls g c =
-    leaf_falls c.args.walk.now c.load.new.self c.args.top c.in-Ok.records.items c.requires.front c.if-top-eq0.true c.in-Ok.ensures.few c.load.ensures
+    leaf_falls c.args.walk.now c.load.new.self c.args.top c.in-Ok.records.items c.requires.front c.if-top-eq0.true c.in-Ok.ensures.count.1 c.load.ensures
 
 pub returns-in-Ok-clause-opens : goal.returns-in-Ok-clause-opens
 returns-in-Ok-clause-opens g c honest sizes rs bs ahead =

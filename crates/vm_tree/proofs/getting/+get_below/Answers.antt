@@ -1,4 +1,4 @@
-use Rattle.std.proofs.Common.{◌∙◌, refl, arith}
+use Rattle.std.proofs.Common.{refl, arith}
 use Rattle.vm_disk.proofs.MomentLemmas.{reads_then, same_medium}
 use Rattle.vm_tree.proofs.Descent.{leaf_read, node_read, way_value}
 use Rattle.vm_tree.proofs.Leading.{ends_at, leads_end, leads_on, if_ok_so}

@@ -1,4 +1,4 @@
-use Rattle.std.proofs.Common.{◌∙◌, ℕ, List, length, sym, subst, refl, arith}
+use Rattle.std.proofs.Common.{ℕ, List, length, sym, subst, refl, arith}
 use Rattle.std.proofs.lemmas.Bool.{false≢true}
 use Rattle.vm_types.specs.Places.{with_record}
 use Rattle.vm_block.specs.Leaf.{Record, IsLeaf}

@@ -7,4 +7,4 @@ pub returns-in-Some-clause-end : goal.returns-in-Some-clause-end
 returns-in-Some-clause-end g c honest =
     let items = c.in-Some.records.items in
     let leaf = c.in-Some.ensures.found in
-    ends_at _ c.args.blocks c.args.top.block c.args.top.low _ 16 (length items) (omega arith) (c.in-Ok.ensures.found honest) (leaf_headed _ items 16 leaf leaf.few)
+    ends_at _ c.args.blocks c.args.top.block c.args.top.low _ 16 (length items) (omega arith) (c.in_ok-block_at.ensures.found honest) (leaf_headed _ items 16 leaf leaf.few)

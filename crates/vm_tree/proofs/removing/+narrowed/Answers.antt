@@ -1,9 +1,9 @@
-use Rattle.std.proofs.Common.{◌∙◌, length, ap, sym, arith}
+use Rattle.std.proofs.Common.{◌∙◌, ap, sym, arith}
 use Rattle.vm_block.specs.Tree.{Subtree}
 use Rattle.vm_disk.proofs.MomentLemmas.{reads_then, same_medium}
 use Rattle.vm_tree.specs.Root.{sizes_of}
 use Rattle.vm_tree.proofs.Descent.{node_read}
-use Rattle.vm_tree.proofs.RemoveLemmas.{alone_opens, narrows_here, narrows_down}
+use Rattle.vm_tree.proofs.RemoveLemmas.{alone_opens, sole, narrows_here, narrows_down}
 use Rattle.vm_tree.proofs.removing.+narrowed.Goals as goal
 
 pub returns-then-level-eq0-clause-narrow : goal.returns-then-level-eq0-clause-narrow
@@ -16,9 +16,10 @@ returns-in-Ok-clause-reads g t c honest =
 
 pub returns-in-Ok-clause-narrow : goal.returns-in-Ok-clause-narrow
 returns-in-Ok-clause-narrow g t c honest leaf levels rs bs under =
-    narrows_down (sizes_of leaf g.row.FAN levels) (g.D.Disk.state c.args.disk.now).now _ _ c.args.level c.args.top c.as_slice.result.now (record { low = record { table = 0; number = 0 }; block = 0 }) rs bs c.narrowed.result
-    (same_medium _ _ (c.in-Ok.ensures.reads (c.narrowed.ensures.any.earlier honest))) (omega (arith, c.if-level-eq0.false)) (omega (arith, ap length c.as_slice.ensures.value, c.len.ensures.value, c.if-len-eq1.true)) under
-    (λ ds at lowest few. c.as_slice.ensures.value ∙ c.in-Ok.ensures.only (c.narrowed.ensures.any.earlier honest) ds at lowest few)
+    narrows_down (sizes_of leaf g.row.FAN levels) (g.D.Disk.state c.args.disk.now).now _ _ c.args.level c.args.top c.in-Ok.way.child rs bs c.narrowed.result
+    (same_medium _ _ (c.in-Ok.ensures.reads (c.narrowed.ensures.any.earlier honest))) (omega (arith, c.if-level-eq0.false)) under
+    (λ ds at lowest few. let way = c.in-Ok.ensures.only (c.narrowed.ensures.any.earlier honest) ds at lowest few in
+    sole ds _ c.in-Ok.way.index c.in-Ok.way.child (omega (arith, way.1, c.if-way-eq1.true)) (omega (arith, c.in-Ok.ensures.within.0, c.if-way-eq1.true)) way.2)
     (λ below there. c.narrowed.ensures.narrow honest leaf levels rs below there)
 
 pub returns-in-Ok-2-clause-narrow : goal.returns-in-Ok-2-clause-narrow

@@ -17,7 +17,7 @@ returns-in-Err-scan_below-clause-added g t c honest sizes rs bs tree =
     c.as_slice-child-items.result.now c.loop-child.child-index (record { low = record { table = 0; number = 0 }; block = 0 }) c.args.into.now.items c.loop-child.into.items rs bs c.in-Err-scan_below.fault
     (λ qs unit. c.scan_below.new.into.items ≡ c.loop-child.into.items ++ qs) _
     c.loop-child-test.true (omega (arith, c.if-level-eq0.false)) honest c.scan_below.ensures.any.earlier (ap (λ (m : Medium). m.contents) (same_medium _ _ (c.in-Ok.ensures.reads (so_far.goes.earlier (c.scan_below.ensures.any.earlier honest))))) tree
-    (λ ds at. c.as_slice-child-items.ensures.value ∙ c.in-Ok.ensures.only (so_far.goes.earlier (c.scan_below.ensures.any.earlier honest)) ds at at.node.few) so_far
+    (λ ds at. c.as_slice-child-items.ensures.value ∙ c.in-Ok.ensures.only (so_far.goes.earlier (c.scan_below.ensures.any.earlier honest)) ds at) so_far
     (λ then qs ds under. c.in-Err-scan_below.ensures.added then sizes qs ds under)
 
 pub loop-child-preserved : goal.loop-child-preserved
@@ -35,9 +35,9 @@ returns-after-loop-child-clause-added g t c honest sizes rs bs tree =
     scans_all sizes (g.D.Disk.state c.args.disk.now).now.contents (g.D.Disk.state c.node_at.new.disk) (g.D.Disk.state c.loop-child.disk) c.args.blocks c.args.level c.args.block
     c.as_slice-child-items.result.now c.loop-child.child-index c.args.into.now.items c.loop-child.into.items rs bs
     c.loop-child-test.false (omega (arith, c.if-level-eq0.false)) honest (ap (λ (m : Medium). m.contents) (same_medium _ _ (c.in-Ok.ensures.reads (c.loop-child.invariant.goes.earlier honest)))) tree
-    (λ ds at. c.as_slice-child-items.ensures.value ∙ c.in-Ok.ensures.only (c.loop-child.invariant.goes.earlier honest) ds at at.node.few) c.loop-child.invariant
+    (λ ds at. c.as_slice-child-items.ensures.value ∙ c.in-Ok.ensures.only (c.loop-child.invariant.goes.earlier honest) ds at) c.loop-child.invariant
 
 pub returns-in-Err-clause-added : goal.returns-in-Err-clause-added
 returns-in-Err-clause-added g t c honest sizes rs bs tree =
     let at = node_read sizes _ _ _ _ rs bs (omega (arith, c.if-level-eq0.false)) tree in
-    device_lists c.in-Err.fault _ (c.in-Err.ensures.only honest at.0 at.1 at.1.node.few)
+    device_lists c.in-Err.fault _ (c.in-Err.ensures.only honest at.0 at.1)

@@ -1,4 +1,4 @@
-use Rattle.std.proofs.Common.{◌-◌, ◌∙◌, List, length, ap, subst, arith, length-take, length-drop}
+use Rattle.std.proofs.Common.{◌-◌, List, length, ap, subst, arith, length-take, length-drop}
 use Rattle.std.proofs.lemmas.List.{take_rest}
 use Rattle.vm_types.specs.Places.{RisesFrom, places}
 use Rattle.vm_block.specs.Leaf.{Record}
