@@ -51,14 +51,15 @@ LeftPast (m ∷ earlier) t left = ((t ≡ length earlier) × MayLeave m left) �
 abbrev pub LeftAt : State → ℕ → Contents → Type 0
 LeftAt s t left = LeftPast (s.now ∷ s.past) t left
 
--- what each device call does, on any disk: it keeps the blocks, a disk that is honest after it was so before, it counts its reads, and a
--- fault is a failure that is counted
+-- what each device call does, on any disk: it keeps the blocks, a disk that is honest after it was so before, it counts its reads, and
+-- the count of failures rises just where it answers a fault
 pub record Counts {T : Type 0} (reads : ℕ) (result : Result T DeviceFault) (old new : State) : Type 0 where
   pub same_blocks : new.blocks ≡ old.blocks
   pub earlier : new.honest ≡ true → old.honest ≡ true
   pub read : new.reads ≡ old.reads + reads
   pub rising : old.failures ≤ new.failures
   pub fault : OnErr result (old.failures < new.failures)
+  pub fine : OnOk result (new.failures ≡ old.failures)
 
 -- what any number of device calls does, on any disk, where `fails` says that the device failed in one of them
 pub record Goes (fails : Type 0) (old new : State) : Type 0 where
