@@ -14,57 +14,18 @@ import subprocess
 import sys
 import tempfile
 
-BLOCK, BLOCKS = 4096, 64
-LINES = [
-    *("put top 1 1 a", "new x top", "put x 1 1 b", "checkpoint x c", "commit"),
-    *("put top 1 2 d", "merge x", "post x", "uncheck x c", "commit"),
-    *("put top 1 3 e", "remove top 1 1", "commit"),
-]
-QUERIES = ["alts", "list top", "list x", "changes x", "checks x", "free"]
-NONE = ["error 1 NoSuchAlternative"] * 3
-BOTH = ["alternative top ~", "alternative x top", "end 2"]
-# What the store shows once so many of the lines are committed.
-SHOWN = {
-    0: ["alternative top ~", "end 1", "end 0", *NONE, "free 30"],
-    5: [*BOTH, "record 1 1 a", "end 1", "record 1 1 b", "end 1", "change 1 1 a b", "end 1", "checkpoint c", "end 1", "free 28"],
-    10: [*BOTH, *["record 1 1 b", "record 1 2 d", "end 2"] * 2, "end 0", "end 0", "free 29"],
-    13: [*BOTH, "record 1 2 d", "record 1 3 e", "end 2", "record 1 1 b", "record 1 2 d", "end 2", "end 0", "end 0", "free 28"],
-}
+sys.dont_write_bytecode = True
+from fixed_run import BLOCK, BLOCKS, LINES, Failure, check_answers, create, expect, finish, run_and_finish, shown_after, start
 
 
-class Failure(Exception):
-    """Something is lost, or answered otherwise than it should be."""
+def limited_to(blocks):
+    """Limits the size of files to a number of blocks."""
+    return lambda: resource.setrlimit(resource.RLIMIT_FSIZE, (blocks * BLOCK, resource.RLIM_INFINITY))
 
 
-def expect(what, due, came):
-    if due != came:
-        raise Failure(f"{what}: expected {due}, and came {came}")
-
-
-def start(altctl, words, lines=(), limit=None):
-    """Starts the program. A limit is a number of blocks, above which no byte of a file may be written."""
-
-    def set_limit():
-        if limit is not None:
-            resource.setrlimit(resource.RLIMIT_FSIZE, (limit * BLOCK, resource.RLIM_INFINITY))
-
-    text = "".join(line + "\n" for line in lines)
-    ran = subprocess.run([altctl, *words], input=text, capture_output=True, text=True, preexec_fn=set_limit, timeout=60)
-    return ran.returncode, ran.stdout.splitlines(), ran.stderr
-
-
-def usual(n):
-    """The answer to a line."""
-    return "ok 1" if LINES[n] == "merge x" else "ok"
-
-
-def create(altctl, file):
-    expect("create", (0, [f"created {BLOCKS}"], ""), start(altctl, ["create", file, str(BLOCKS)]))
-
-
-def create_without_room(altctl, file, blocks, limit=None):
+def create_without_room(altctl, file, blocks, prepare=None):
     """Has the program make a file for which there is room for so many blocks alone. What was written of it stays, and is no store."""
-    came = start(altctl, ["create", file, str(BLOCKS)], limit=limit)
+    came = start(altctl, ["create", file, str(BLOCKS)], prepare=prepare)
     expect(f"create, with room for {blocks} blocks", (1, [], f"altctl: cannot create {file}\n"), came)
     if os.path.getsize(file) > blocks * BLOCK:
         raise Failure(f"create, with room for {blocks} blocks: the file has {os.path.getsize(file)} bytes")
@@ -74,55 +35,17 @@ def create_without_room(altctl, file, blocks, limit=None):
     os.remove(file)
 
 
-def committed(answers):
-    """After how many lines the state is that may be shown: what was acknowledged, or what the commit commits that was refused."""
-    last = max([n + 1 for n, answer in enumerate(answers) if LINES[n] == "commit" and answer == "ok"], default=0)
-    stopped = len(answers) - 1
-    return {last, stopped + 1} if answers[stopped] == "error 15 Device" and LINES[stopped] == "commit" else {last}
-
-
-def run_without_room(altctl, file, room, limit=None):
-    """Runs the lines, looks at what is shown then, and gives after how many of them that is. The status tells whether all were
-    carried out."""
-    status, answers, faults = start(altctl, ["run", file], LINES, limit)
-    stopped = status != 0
-    if not answers or len(answers) > len(LINES):
-        raise Failure(f"{room}: {len(answers)} answers, {faults!r}")
-    due = [usual(n) for n in range(len(answers))]
-    if stopped:
-        due[-1] = "error 15 Device"
-    expect(f"{room}: the answers", due, answers)
-    expect(f"{room}: the end", (3, "altctl: stopped\n") if stopped else (0, ""), (status, faults))
-    if not stopped:
-        expect(f"{room}: the number of answers", len(LINES), len(answers))
-    status, shown, faults = start(altctl, ["run", file], QUERIES)
-    expect(f"{room}, opened again", (0, ""), (status, faults))
-    for after in committed(answers):
-        if shown == SHOWN[after]:
-            return after, stopped
-    raise Failure(f"{room}, opened again: {shown} after {answers}")
-
-
-def finish(altctl, file, after, room):
-    """Runs the rest of the lines, with room."""
-    rest = LINES[after:]
-    due = [usual(n) for n in range(after, len(LINES))]
-    expect(f"{room}: the rest", (0, due, ""), start(altctl, ["run", file], rest))
-    expect(f"{room}: the end", (0, SHOWN[len(LINES)], ""), start(altctl, ["run", file], QUERIES))
-
-
 def try_limits(altctl, folder):
     """Limits the size of the file to each number of blocks. Gives how many of the runs were stopped."""
     file = os.path.join(folder, "limited")
     for blocks in range(BLOCKS):
-        create_without_room(altctl, file, blocks, limit=blocks)
+        create_without_room(altctl, file, blocks, limited_to(blocks))
     stops = 0
     for blocks in range(BLOCKS + 1):
         create(altctl, file)
-        after, stopped = run_without_room(altctl, file, f"with a limit of {blocks} blocks", limit=blocks)
-        finish(altctl, file, after, f"with a limit of {blocks} blocks")
+        how = f"with a limit of {blocks} blocks"
+        stops += run_and_finish(altctl, file, how, prepare=limited_to(blocks))
         os.remove(file)
-        stops += stopped
     return stops
 
 
@@ -165,9 +88,12 @@ def try_small_disk(altctl, folder):
     while stopped:
         copy_with_holes(whole, file)
         filler = leave_free(folder, stops)
-        after, stopped = run_without_room(altctl, file, f"with {stops} blocks left")
+        how = f"with {stops} blocks left"
+        status, answers, faults = start(altctl, ["run", file], LINES)
+        stopped = check_answers(status, answers, faults, how)
+        after = shown_after(altctl, file, answers, how)
         os.remove(filler)
-        finish(altctl, file, after, f"with {stops} blocks left")
+        finish(altctl, file, after, how)
         os.remove(file)
         stops += stopped
     return stops
