@@ -264,6 +264,42 @@ head -c 262144 /dev/zero >h
 echo 'altctl: 19 NotAStore' >faults
 program 'run on zero blocks' 1 run h
 
+# Bytes behind the last whole block are no block, and stay as they are.
+create longer 64
+head -c 100 /dev/zero | tr '\0' x >tail
+cat tail >>longer
+cp longer longer.before
+session '100 bytes behind 64 blocks' longer <<'END'
+> free
+free 30
+END
+compare '100 bytes behind 64 blocks: the file' longer.before longer
+session '100 bytes behind 64 blocks, a commit' longer <<'END'
+> put top 7 1 duct
+ok
+> commit
+ok
+END
+tail -c +262145 longer >tail.came
+compare '100 bytes behind 64 blocks: the bytes' tail tail.came
+session '100 bytes behind 64 blocks, opened again' longer <<'END'
+> get top 7 1
+value duct
+> free
+free 29
+END
+
+# A store that was cut.
+for length in 0 1 86016 258048 262143; do
+    head -c "$length" longer >short
+    cp short short.before
+    : >lines
+    : >output
+    echo 'altctl: 19 NotAStore' >faults
+    program "run on the first $length bytes of a store" 1 run short
+    compare "run on the first $length bytes of a store: the file" short.before short
+done
+
 # --- bytes ---------------------------------------------------------------------------------------
 
 # The same bytes many times.

@@ -9,6 +9,9 @@ pub const COMMANDS: u32 = 13;
 /// How many device calls `format`, `open` and the commands make.
 pub const CALLS: u32 = 7 + 4 + 1 + 2 + 4 + 2 + 6 + 4 + 2 + 3 + 4;
 
+/// How many of these are writes or syncs.
+pub const WRITES_AND_SYNCS: u32 = 6 + 1 + 1 + 1 + 4 + 1 + 1 + 4 + 1 + 1 + 4;
+
 /// The key of this number in table 1.
 pub(super) fn key(number: u64) -> Key {
     Key { table: 1, number }

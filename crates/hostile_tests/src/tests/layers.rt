@@ -1,6 +1,6 @@
 //! What stands between a store and the device that fails.
 use std::alloc::Global;
-use vm_disk::{Disk, FuseDisk, MemDisk};
+use vm_disk::{CachedDisk, Disk, FuseDisk, MemDisk};
 
 /// A device that fails one call, over one that stops.
 pub type Device = FuseDisk<FuseDisk<MemDisk>>;
@@ -22,5 +22,16 @@ impl Layer for Device {
 
     fn below(self) -> Device {
         self
+    }
+}
+
+/// A cache of two blocks between them.
+impl Layer for CachedDisk<Device> {
+    fn over(alloc: Global, device: Device) -> Option<CachedDisk<Device>> {
+        CachedDisk::new(alloc, device, 2).ok()
+    }
+
+    fn below(self) -> Device {
+        self.into_inner()
     }
 }

@@ -1,12 +1,13 @@
 //! The commands on a device that stops or fails at each of its calls in turn, and once more after that.
 use super::Wrong;
-use super::commands::{CALLS, COMMANDS};
+use super::commands::{CALLS, COMMANDS, WRITES_AND_SYNCS};
 use super::halting::{FILLS, Fill, Halt};
 use super::image::Image;
 use super::layers::{Device, Layer};
 use super::running::{Due, Fault, NEVER, Scene, run};
 use super::states::{Shown, look};
 use std::alloc::Global;
+use vm_disk::CachedDisk;
 
 /// What is done at each device call.
 #[derive(Clone, Copy, PartialEq, Eq)]
@@ -167,4 +168,33 @@ fn each_stop_after_a_fault_shows_what_was_acknowledged(rt: HostRuntime) {
         try_each::<Device>(rt.alloc(), Trial::FailThenStop),
         Ok(CALLS)
     );
+}
+
+// Through a cache each write and each sync reaches the device, but not each read.
+fn are_cached_calls(found: Result<u32, (Wrong, u32)>) -> bool {
+    found.is_ok_and(|calls| calls < CALLS && calls >= WRITES_AND_SYNCS)
+}
+
+#[test]
+fn each_stop_below_a_cache_shows_what_was_acknowledged(rt: HostRuntime) {
+    let found = try_each::<CachedDisk<Device>>(rt.alloc(), Trial::Stop);
+    assert!(rt; are_cached_calls(found), "{found:?}");
+}
+
+#[test]
+fn each_stop_after_a_stop_below_a_cache_shows_what_was_acknowledged(rt: HostRuntime) {
+    let found = try_each::<CachedDisk<Device>>(rt.alloc(), Trial::StopTwice);
+    assert!(rt; are_cached_calls(found), "{found:?}");
+}
+
+#[test]
+fn commands_over_a_cache_end_as_usual_after_each_fault(rt: HostRuntime) {
+    let found = try_each::<CachedDisk<Device>>(rt.alloc(), Trial::Fail);
+    assert!(rt; are_cached_calls(found), "{found:?}");
+}
+
+#[test]
+fn each_stop_after_a_fault_below_a_cache_shows_what_was_acknowledged(rt: HostRuntime) {
+    let found = try_each::<CachedDisk<Device>>(rt.alloc(), Trial::FailThenStop);
+    assert!(rt; are_cached_calls(found), "{found:?}");
 }
