@@ -24,3 +24,4 @@ pub mod TalkKeepLemmas
 pub mod SessionLemmas
 mod FilesLemmas
 mod RealFilesLemmas
+mod MemFilesLemmas

@@ -18,3 +18,4 @@ pub mod Sessions
 pub mod Places
 pub mod Files
 pub mod RealFiles
+pub mod MemFiles
