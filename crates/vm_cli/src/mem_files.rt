@@ -40,6 +40,13 @@ impl MemFiles {
             honest: true,
         }
     }
+
+    /// Whether each disk that came back did so under the name of a file that was made.
+    pub fn is_honest(&self) -> bool
+        ensures { result ≡ (files_state self.now).honest }
+    {
+        self.honest
+    }
 }
 
 impl Place for MemFiles {
