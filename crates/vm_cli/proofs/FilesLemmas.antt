@@ -93,14 +93,14 @@ module _ {D : Type 0} (members : Ghosts D) (cached : Ghosts (CachedDisk D member
           subst (λ (d : D). Keeps (members.state found) (members.state d) (opened tree) commands answers) (sym over.given_back)
           (subst (λ (d : D). Keeps (members.state d) (members.state (inner_of over.last)) (opened tree) commands answers) over.empty.inner below)
 
-module _ {D : Type 0} (members : Ghosts D) (cached : Ghosts (CachedDisk D members)) (Untouched : Type 0) (words : List Text) (exit : Exit)
+module _ {D : Type 0} (members : Ghosts D) (cached : Ghosts (CachedDisk D members)) (Untouched Denied : Type 0) (words : List Text) (exit : Exit)
     (old new : PlaceState) (input before after faults faults' : Option (List ℕ)) where
   -- what was done
   abbrev Did : Type 0
-  Did = Does members cached Untouched words exit old new input before after faults faults'
+  Did = Does members cached Untouched Denied words exit old new input before after faults faults'
 
   -- a store was to be made
-  pub did_create : (name : Text) (blocks : ℕ) → IsJob words (create name blocks) → Makes name blocks exit old new faults faults' → Did
+  pub did_create : (name : Text) (blocks : ℕ) → IsJob words (create name blocks) → Makes Denied name blocks exit old new faults faults' → Did
   did_create name blocks job makes = record {
     creates = λ other size asked. let same : create other size ≡ create name blocks = one_job words (create name blocks) (create other size) job asked in
         let name_is : other ≡ name = cc in
@@ -112,7 +112,7 @@ module _ {D : Type 0} (members : Ghosts D) (cached : Ghosts (CachedDisk D member
 
   -- lines were to be answered
   pub did_run : (name : Text) (cache : ℕ) → IsJob words (run name cache)
-      → Answers members cached name cache exit old new input before after ⊎ Declines name exit old new faults faults' → Did
+      → Answers members cached name cache exit old new input before after ⊎ Declines Denied name exit old new faults faults' → Did
   did_run name cache job answers = record {
     creates = λ other size asked. let same : create other size ≡ run name cache = one_job words (run name cache) (create other size) job asked in absurd (cc);
     runs = λ other size asked. let same : run other size ≡ run name cache = one_job words (run name cache) (run other size) job asked in
@@ -122,8 +122,8 @@ module _ {D : Type 0} (members : Ghosts D) (cached : Ghosts (CachedDisk D member
     none = λ no. absurd (no (run name cache) job);
   }
     where
-      told : Answers members cached name cache exit old new input before after ⊎ Declines name exit old new faults faults'
-          → Answers members cached name cache exit old new input before after ⊎ (Declines name exit old new faults faults' ⊎ ((exit ≡ Stopped) × Untouched))
+      told : Answers members cached name cache exit old new input before after ⊎ Declines Denied name exit old new faults faults'
+          → Answers members cached name cache exit old new input before after ⊎ (Declines Denied name exit old new faults faults' ⊎ ((exit ≡ Stopped) × Untouched))
       told (inl answers) = inl answers
       told (inr declines) = inr (inl declines)
 

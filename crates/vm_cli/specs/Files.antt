@@ -34,21 +34,22 @@ pub record LaysOut (name : List ℕ) (blocks : ℕ) (new : PlaceState) : Type 0 
   pub moments : Throughout start end (IsFormatting start.now)
   pub holds : new.files name ≡ Some end.now.contents
 
--- a file of this name was to be made, with a new store of so many blocks. The last two are the faults before and after
-pub record Makes (name : List ℕ) (blocks : ℕ) (exit : Exit) (old new : PlaceState) (faults faults' : Option (List ℕ)) : Type 0 where
+-- a file of this name was to be made, with a new store of so many blocks. `Denied` says that the place gave no disk; the last two are the
+-- faults before and after
+pub record Makes (Denied : Type 0) (name : List ℕ) (blocks : ℕ) (exit : Exit) (old new : PlaceState) (faults faults' : Option (List ℕ)) : Type 0 where
   -- at Done there was none, and now it shows the new store
   pub made : exit ≡ Done → (old.files name ≡ None) × ((m : Medium) × (new.files name ≡ Some m.contents) × IsFormatted blocks m)
   -- its disk was made, and laid out, or it is said that it could not be made
-  pub lays : LaysOut name blocks new ⊎ Tells Refused exit faults faults' (file_text (codes "altctl: cannot create ") name)
+  pub lays : LaysOut name blocks new ⊎ (Denied × Tells Refused exit faults faults' (file_text (codes "altctl: cannot create ") name))
   -- a file that was there is as it was
   pub stays : (contents : Contents) → old.files name ≡ Some contents → new.files name ≡ Some contents
   pub others : KeepsOthers name old new
 
 -- lines were to be answered over the file of this name, and no file changed: it is said that it could not be opened, or why it shows no
 -- store
-pub record Declines (name : List ℕ) (exit : Exit) (old new : PlaceState) (faults faults' : Option (List ℕ)) : Type 0 where
+pub record Declines (Denied : Type 0) (name : List ℕ) (exit : Exit) (old new : PlaceState) (faults faults' : Option (List ℕ)) : Type 0 where
   pub same : KeepsAll old new
-  pub told : Tells Refused exit faults faults' (file_text (codes "altctl: cannot open ") name)
+  pub told : (Denied × Tells Refused exit faults faults' (file_text (codes "altctl: cannot open ") name))
       ⊎ ((contents : Contents) × (refusal : Refusal) × (old.files name ≡ Some contents) × IsRefusedDisk contents refusal
       × Tells Refused exit faults faults' (refused_text refusal))
 
@@ -70,14 +71,14 @@ module _ {D : Type 0} (members : Ghosts D) (cached : Ghosts (CachedDisk D member
         → Keeps (members.state found) (members.state back) (opened tree)
         (commands_told members cached served (opened tree)) (answers_told members cached served (opened tree))
 
-  -- what a run of the program does to the files, where `Untouched` says that no call of the place was made. Only want of memory for the
-  -- words leaves a job undone so
-  pub record Does (Untouched : Type 0) (words : List Text) (exit : Exit) (old new : PlaceState) (input before after faults faults' : Option (List ℕ)) : Type 0 where
+  -- what a run of the program does to the files, where `Untouched` says that no call of the place was made, and `Denied` that one gave no
+  -- disk. Only want of memory for the words leaves a job undone without a call
+  pub record Does (Untouched Denied : Type 0) (words : List Text) (exit : Exit) (old new : PlaceState) (input before after faults faults' : Option (List ℕ)) : Type 0 where
     -- words that ask for a new store make its file
     pub creates : (name : Text) (blocks : ℕ) → IsJob words (create name blocks)
-        → Makes name blocks exit old new faults faults' ⊎ ((exit ≡ Stopped) × Untouched)
+        → Makes Denied name blocks exit old new faults faults' ⊎ ((exit ≡ Stopped) × Untouched)
     -- words that ask that lines are answered have them answered over the file, or it is said why not
     pub runs : (name : Text) (cache : ℕ) → IsJob words (run name cache)
-        → Answers name cache exit old new input before after ⊎ (Declines name exit old new faults faults' ⊎ ((exit ≡ Stopped) × Untouched))
+        → Answers name cache exit old new input before after ⊎ (Declines Denied name exit old new faults faults' ⊎ ((exit ≡ Stopped) × Untouched))
     -- words that ask for no job touch no file
     pub none : ((job : Wanted) → IsJob words job → ⊥) → Untouched

@@ -43,7 +43,7 @@ impl Exit {
     }
 }
 
-ghost use Rattle.std.specs.Prelude.{◌≡◌, ◌≢◌, ◌≤◌, ◌⊎◌, ◌++◌, ◌∷◌, ℕ, List, [], true, OnErr, OnOk, codes, map};
+ghost use Rattle.std.specs.Prelude.{◌≡◌, ◌≢◌, ◌+◌, ◌≤◌, ◌⊎◌, ◌++◌, ◌∷◌, ℕ, List, [], true, OnErr, OnOk, codes, map};
 ghost use Rattle.std.specs.Io.KnownBytes.{Appends};
 ghost use Rattle.std.specs.String.{string_bytes};
 ghost use Rattle.clap.specs.Words.{kind_of};
@@ -76,7 +76,7 @@ pub fn run_words<P: Place, R: Read, W: Write, F: Write>(
     // that is said to the faults behind what the job said.
     ensures files { (P.state place.new).honest ≡ true
         → ((exit : Exit) × (said : F) × (result ≡ status_of exit) × (exit ≢ Exit.Stopped → said ≡ faults.new)
-        × Does P.D.Disk ⟦<CachedDisk<P::D> as Disk>⟧ (place.new ≡ place.old) (map string_bytes words.now) exit (P.state place.old) (P.state place.new)
+        × Does P.D.Disk ⟦<CachedDisk<P::D> as Disk>⟧ (place.new ≡ place.old) (P.denied place.new ≡ P.denied place.old + 1) (map string_bytes words.now) exit (P.state place.old) (P.state place.new)
         (R.remaining input.old) (W.contents output.old) (W.contents output.new) (F.contents faults.old) (F.contents said)) }
 {
     match carry_out(alloc, words, place, input, output, faults) {
@@ -117,7 +117,7 @@ fn carry_out<P: Place, R: Read, W: Write, F: Write>(
 ) -> Exit
     ensures ends { Ends W.contents F.contents result (map string_bytes words.now) output.old output.new faults.old faults.new }
     ensures files { (P.state place.new).honest ≡ true
-        → Does P.D.Disk ⟦<CachedDisk<P::D> as Disk>⟧ (place.new ≡ place.old) (map string_bytes words.now) result (P.state place.old) (P.state place.new)
+        → Does P.D.Disk ⟦<CachedDisk<P::D> as Disk>⟧ (place.new ≡ place.old) (P.denied place.new ≡ P.denied place.old + 1) (map string_bytes words.now) result (P.state place.old) (P.state place.new)
         (R.remaining input.old) (W.contents output.old) (W.contents output.new) (F.contents faults.old) (F.contents faults.new) }
 {
     match job(alloc, words) {
@@ -139,7 +139,7 @@ fn create<P: Place, W: Write, F: Write>(
         ⊎ ((output.new ≡ output.old) × ((text : List ℕ) × SaysRefused (create_wanted file.now blocks) text
         × Tells Exit.Refused result (F.contents faults.old) (F.contents faults.new) text)) }
     ensures files { (P.state place.new).honest ≡ true
-        → Makes file.now blocks result (P.state place.old) (P.state place.new) (F.contents faults.old) (F.contents faults.new) }
+        → Makes (P.denied place.new ≡ P.denied place.old + 1) file.now blocks result (P.state place.old) (P.state place.new) (F.contents faults.old) (F.contents faults.new) }
 {
     let Some(disk) = place.create(file, blocks) else {
         return no_file(b"altctl: cannot create ", file, faults);
@@ -187,7 +187,7 @@ fn run<P: Place, R: Read, W: Write, F: Write>(
     ensures files { (P.state place.new).honest ≡ true
         → Answers P.D.Disk ⟦<CachedDisk<P::D> as Disk>⟧ file.now cache result (P.state place.old) (P.state place.new)
         (R.remaining input.old) (W.contents output.old) (W.contents output.new)
-        ⊎ Declines file.now result (P.state place.old) (P.state place.new) (F.contents faults.old) (F.contents faults.new) }
+        ⊎ Declines (P.denied place.new ≡ P.denied place.old + 1) file.now result (P.state place.old) (P.state place.new) (F.contents faults.old) (F.contents faults.new) }
 {
     let Some(disk) = place.find(file) else {
         return no_file(b"altctl: cannot open ", file, faults);

@@ -28,7 +28,7 @@ returns-in_default-clause-files g c honest =
     let denied = c.create.ensures.honest honest in
     record {
       made = λ done. absurd (not_done _ _ _ _ c.no_file.ensures done);
-      lays = inr c.no_file.ensures;
+      lays = inr (c.create.ensures.none c.in_default.is, c.no_file.ensures);
       stays = denied.stays;
       others = denied.others;
     }

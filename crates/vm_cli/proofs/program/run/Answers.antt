@@ -34,4 +34,4 @@ returns-clause-files g c honest =
     ]
 
 pub returns-in_default-clause-files : goal.returns-in_default-clause-files
-returns-in_default-clause-files g c honest = inr (record { same = (c.find.ensures.honest honest).same; told = inl c.no_file.ensures })
+returns-in_default-clause-files g c honest = inr (record { same = (c.find.ensures.honest honest).same; told = inl (c.find.ensures.none c.in_default.is, c.no_file.ensures) })

@@ -3,7 +3,7 @@ use Rattle.std.specs.BTreeMap.{get_by_text}
 use Rattle.std.specs.Option.{option_copied_mut}
 use Rattle.vm_disk.specs.Memory.{memory_state}
 use Rattle.vm_cli.proofs.MemFilesLemmas.{crash_keeps, finds}
-use Rattle.vm_cli.proofs.mem_files.MemFilesPlace.find.Goals as goal
+use Rattle.vm_cli.proofs.mem_files.MemFiles.found.Goals as goal
 
 pub returns-in_err-disk-clause-honest : goal.returns-in_err-disk-clause-honest
 returns-in_err-disk-clause-honest c honest =

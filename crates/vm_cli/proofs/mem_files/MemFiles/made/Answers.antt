@@ -1,7 +1,7 @@
 use Rattle.std.proofs.Common.{◌≡◌, sym, ◌∙◌, string_bytes}
 use Rattle.vm_disk.specs.Memory.{IsBlank, memory_state}
 use Rattle.vm_cli.proofs.MemFilesLemmas.{creates, ok_is}
-use Rattle.vm_cli.proofs.mem_files.MemFilesPlace.create.Goals as goal
+use Rattle.vm_cli.proofs.mem_files.MemFiles.made.Goals as goal
 
 pub returns-clause-honest : goal.returns-clause-honest
 returns-clause-honest c honest =
