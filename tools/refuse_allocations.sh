@@ -2,14 +2,15 @@
 # Tries what happens where memory is wanting. Two programs are run again and again, and one allocation is refused in
 # each run, the first, the second and so on, until a run meets no refusal.
 #
-# The program `refused` carries out one list of commands over disks in memory: by calls, as a list, as lines, and up to
-# its merge. It looks itself whether anything was lost at the refusal, asks once more, and says what was refused: an
-# `open`, a merge, a list of commands, a query that lists, or a line, and nothing else. Its output is the same each time.
+# The program `refused` carries out one list of commands over disks in memory: by calls, as a list, as lines, and up
+# to its merge. It looks itself whether anything was lost at the refusal, asks once more, and says what was refused:
+# an `open`, a merge, a list of commands, a query that lists, or a line, and nothing else. Its output is the same
+# each time.
 #
-# The program `altctl` answers two sessions of lines over a file. Each line is answered as in a run without refusal, or
-# with `error 16 Memory`. After that the store is as before the line, and the same line gets its usual answer. In the end
-# the file is the usual one, byte by byte. A run that ends before its first line leaves the file as it was, and the file
-# opens again.
+# The program `altctl` answers two sessions of lines over a file. Each line is answered as in a run without refusal,
+# or with `error 16 Memory`. After that the store is as before the line, and the same line gets its usual answer. In
+# the end the file is the usual one, byte by byte. A run that ends before its first line leaves the file as it was,
+# and the file opens again.
 #
 # It needs a C compiler, and programs that are linked against glibc. Its verdict is its exit status.
 set -eu
@@ -167,7 +168,8 @@ check_end() {
         "$count: 0 ") cmp -s "$room/store" "$room/usual" || fail "allocation $1: the file is another one" ;;
         '0: 1 altctl: 16 Memory' | '0: 3 altctl: stopped')
             cmp -s "$room/store" "$room/empty" || fail "allocation $1: the file was changed without a line"
-            [ "$(echo free | "$program" run "$room/store")" = "$free" ] || fail "allocation $1: the file does not open again"
+            [ "$(echo free | "$program" run "$room/store")" = "$free" ] ||
+                fail "allocation $1: the file does not open again"
             ;;
         *) fail "allocation $1: status $status after $answered answers: $(cat "$room/faults" "$room/answer")" ;;
     esac
