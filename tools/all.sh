@@ -1,7 +1,7 @@
 #!/bin/sh
-# Runs the scripts that stand beside the gate, one after another, each of a bounded size: `tools/all.sh`. It ends with one line.
-# Where a script fails, this line names it, the others are left out, and the status is 1. `measure.sh` is none of them: its times are
-# looked at, never tested.
+# Runs the scripts that stand beside the gate, one after another, each of a bounded size: `tools/all.sh`. It ends
+# with one line. Where a script fails, this line names it, the others are left out, and the status is 1.
+# `measure.sh` is none of them: its times are looked at, never tested.
 set -eu
 
 tools=$(cd "$(dirname "$0")" && pwd)

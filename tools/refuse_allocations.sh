@@ -1,22 +1,30 @@
 #!/bin/sh
-# Tries what the program altctl does where memory is wanting: it runs one session of lines again and again,
-# and refuses one allocation in each run, the first, the second and so on, until a run meets no refusal.
+# Tries what happens where memory is wanting. Two programs are run again and again, and one allocation is refused in
+# each run, the first, the second and so on, until a run meets no refusal.
 #
-# Each line is answered as in a run without refusal, or with `error 16 Memory`. After that the store is as
-# before the line, and the same line gets its usual answer. In the end the file is the usual one, byte by byte.
+# The program `refused` carries out one list of commands over disks in memory: by calls, as a list, as lines, and up
+# to its merge. It looks itself whether anything was lost at the refusal, asks once more, and says what was refused:
+# an `open`, a merge, a list of commands, a query that lists, or a line, and nothing else. Its output is the same
+# each time.
 #
-# It needs a C compiler, and a program that is linked against glibc. Its verdict is its exit status.
+# The program `altctl` answers two sessions of lines over a file. Each line is answered as in a run without refusal,
+# or with `error 16 Memory`. After that the store is as before the line, and the same line gets its usual answer. In
+# the end the file is the usual one, byte by byte. A run that ends before its first line leaves the file as it was,
+# and the file opens again.
+#
+# It needs a C compiler, and programs that are linked against glibc. Its verdict is its exit status.
 set -eu
 
 top=$(cd "$(dirname "$0")/.." && pwd)
 program=$top/crates/altctl/out/altctl
+commands=$top/crates/refused
 room=$(mktemp -d)
 trap 'rm -rf "$room"' EXIT
 # The program may end before it reads a line.
 trap '' PIPE
 
-# Each line of the session, and the last line of its answer.
-cat >"$room/session" <<'END'
+# Each line of the first session, and the last line of its answer.
+cat >"$room/session.a" <<'END'
 new a top => ok
 put top 1 1 x => ok
 put a 1 1 y => ok
@@ -45,6 +53,29 @@ checks a => end 1
 alts => end 2
 reclaim => ok
 free => free 219
+END
+
+# The list of commands as lines, and each listing.
+cat >"$room/session.x" <<'END'
+put top 1 1 a => ok
+new x top => ok
+put x 1 1 b => ok
+checkpoint x c => ok
+commit => ok
+put top 1 2 d => ok
+merge x => ok 1
+post x => ok
+uncheck x c => ok
+commit => ok
+put top 1 3 e => ok
+remove top 1 1 => ok
+commit => ok
+list x => end 2
+changes x => end 0
+conflicts x => end 0
+alts => end 2
+checks x => end 0
+free => free 24
 END
 
 fail() {
@@ -86,7 +117,7 @@ ask() {
 
 # All that can be seen of the store.
 state() {
-    for query in alts 'list top' 'list a' 'changes a' 'conflicts a' 'checks a' free; do
+    for query in alts 'list top' "list $alt" "changes $alt" "conflicts $alt" "checks $alt" free; do
         ask "$query" || return 1
     done
 }
@@ -102,7 +133,7 @@ run_usual() {
         [ "$(tail -n 1 "$room/answer.$count")" = "${pair##* => }" ] ||
             fail "$pair, but it is $(tail -n 1 "$room/answer.$count")"
         state >"$room/state.$count" || fail "the program ended after $pair"
-    done <"$room/session"
+    done <"$room/session.$alt"
     finish
     [ "$status" = 0 ] || fail "the status is $status without a refusal"
     cp "$room/store" "$room/usual"
@@ -126,36 +157,87 @@ run_refused() {
         cmp -s "$room/answer" "$room/answer.$((answered + 1))" ||
             fail "allocation $1: $line is answered $(cat "$room/answer")"
         answered=$((answered + 1))
-    done <"$room/session"
+    done <"$room/session.$alt"
     finish
 }
 
 # Tests how a run with this allocation refused has ended: as usual, or before the first line with the file as
-# it was.
+# it was, which opens again.
 check_end() {
     case "$answered: $status $(cat "$room/faults")" in
         "$count: 0 ") cmp -s "$room/store" "$room/usual" || fail "allocation $1: the file is another one" ;;
         '0: 1 altctl: 16 Memory' | '0: 3 altctl: stopped')
             cmp -s "$room/store" "$room/empty" || fail "allocation $1: the file was changed without a line"
+            [ "$(echo free | "$program" run "$room/store")" = "$free" ] ||
+                fail "allocation $1: the file does not open again"
             ;;
         *) fail "allocation $1: status $status after $answered answers: $(cat "$room/faults" "$room/answer")" ;;
     esac
 }
 
+# Runs a session over a new store of so many blocks, with each of its allocations refused.
+run_session() {
+    alt=$1
+    rm -f "$room/empty"
+    "$program" create "$room/empty" "$2" >/dev/null
+    free="free $(($2 - 34))"
+    run_usual
+    number=0
+    while
+        number=$((number + 1))
+        run_refused "$number"
+        check_end "$number"
+        [ -e "$room/refused" ]
+    do :; done
+    refusals=$((refusals + number - 1))
+}
+
+# Runs the list of commands in memory, with the allocation of this number refused. Where one was, just one thing was
+# refused.
+run_commands() {
+    rm -f "$room/refused"
+    status=0
+    timeout 60 env LD_PRELOAD="$room/refuse.so" REFUSE="$1" REFUSED="$room/refused" \
+        "$commands/out/refused" >"$room/shown" 2>"$room/said" || status=$?
+    [ "$status" = 0 ] || fail "commands, allocation $1: status $status: $(cat "$room/said")"
+    cmp -s "$room/shown" "$commands/stdout" || fail "commands, allocation $1: another output"
+    if [ -e "$room/refused" ]; then
+        sed -n 's/^refused: \(.*\), 1$/\1/p' "$room/said" >"$room/what"
+        [ "$(wc -l <"$room/said") $(wc -l <"$room/what")" = '1 1' ] ||
+            fail "commands, allocation $1: it says '$(cat "$room/said")'"
+        cat "$room/what" >>"$room/refused_commands"
+    elif [ -s "$room/said" ]; then
+        fail "commands: nothing was refused, and it says '$(cat "$room/said")'"
+    fi
+}
+
+# The list of commands in memory, with each allocation refused. Each of these was refused once at least.
+run_all_commands() {
+    : >"$room/refused_commands"
+    number=0
+    while
+        number=$((number + 1))
+        run_commands "$number"
+        [ -e "$room/refused" ]
+    do :; done
+    refusals=$((refusals + number - 1))
+    for what in open merge 'merge in a list' 'merge before closing' run line alternatives list changes checkpoints; do
+        grep -qx "$what" "$room/refused_commands" || fail "commands: $what was never refused"
+    done
+}
+
 "$top/altctl" --help >/dev/null
+(cd "$commands" && rt run) >"$room/log" 2>&1 </dev/null || fail "$(cat "$room/log")"
 ${CC:-cc} -O1 -shared -fPIC -o "$room/refuse.so" "$top/tools/refuse_allocations.c"
 mkfifo "$room/lines" "$room/answers"
-"$program" create "$room/empty" 256 >/dev/null
-run_usual
-
-number=0
 : >"$room/wanting"
-while
-    number=$((number + 1))
-    run_refused "$number"
-    check_end "$number"
-    [ -e "$room/refused" ]
-do :; done
+refusals=0
+run_all_commands
+run_session a 256
+run_session x 64
 grep -q '^merge' "$room/wanting" || fail 'no merge was refused'
-echo "$((number - 1)) allocations were refused, each in a run of its own. How often each line was refused:"
+echo 'How often each was refused, by calls:'
+sort "$room/refused_commands" | uniq -c
+echo 'and each line:'
 sort "$room/wanting" | uniq -c
+echo "refuse_allocations: $refusals allocations were refused, each in a run of its own, and nothing was lost"

@@ -30,11 +30,12 @@ pub(crate) fn form_at<D: Disk>(disk: &mut D, blocks: u32, block: u32) -> Result<
     ensures once { ReadsOne blocks block (D.state disk.old).reads (D.state disk.new).reads }
     ensures reads { (D.state disk.new).honest ≡ true → OnlyReads (D.state disk.old) (D.state disk.new) }
     ensures some { IfOk result IsFilled }
-    ensures found { (D.state disk.new).honest ≡ true → IfOk result (λ form. IsForm (bytes_at (D.state disk.old).now.contents block) form) }
-    ensures leaf { (D.state disk.new).honest ≡ true → (rs : List Record) → IsLeafAt (D.state disk.old).now.contents blocks block rs
-        → OkOrDevice result (λ form. IsLeafOf rs form) }
-    ensures node { (D.state disk.new).honest ≡ true → (level : ℕ) (cs : List Child) → IsNodeAt (D.state disk.old).now.contents blocks level block cs
-        → OkOrDevice result (λ form. IsNodeOf level cs form) }
+    ensures found { (D.state disk.new).honest ≡ true
+        → IfOk result (λ form. IsForm (bytes_at (D.state disk.old).now.contents block) form) }
+    ensures leaf { (D.state disk.new).honest ≡ true → (rs : List Record)
+        → IsLeafAt (D.state disk.old).now.contents blocks block rs → OkOrDevice result (λ form. IsLeafOf rs form) }
+    ensures node { (D.state disk.new).honest ≡ true → (level : ℕ) (cs : List Child)
+        → IsNodeAt (D.state disk.old).now.contents blocks level block cs → OkOrDevice result (λ form. IsNodeOf level cs form) }
 {
     let mut bytes = [0; 4096];
     data_at(disk, blocks, block, &mut bytes)?;

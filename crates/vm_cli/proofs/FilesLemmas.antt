@@ -17,7 +17,7 @@ use Rattle.vm_store.specs.Shown.{Shows}
 use Rattle.vm_cli.specs.Caching.{IsServed, answers_told, commands_told}
 use Rattle.vm_cli.specs.Exits.{IsJob, Tells}
 use Rattle.vm_cli.specs.Keeps.{Keeps, answers_of, commands_of}
-use Rattle.vm_cli.specs.Files.{Answers, Does, KeepsAll, Makes}
+use Rattle.vm_cli.specs.Files.{Answers, Declines, Does, KeepsAll, Makes}
 use Rattle.vm_cli.specs.Places.{KeepsOthers, PlaceState}
 use Rattle.vm_cli.specs.Words.{Wanted, altctl}
 use Rattle.vm_cli.specs.Words.Wanted.{create, run}
@@ -49,10 +49,6 @@ keeps_all name old new others same other = go (bytes_eq other name) refl
 -- words ask for one job
 pub one_job : (words : List Text) (job other : Wanted) → IsJob words job → IsJob words other → other ≡ job
 one_job words job other is also = let same : Some other ≡ Some job = sym also.1 ∙ is.1 in cc
-
--- to stop is not to have done all
-pub stopped_short : (exit : Exit) → exit ≡ Stopped → exit ≢ Done
-stopped_short exit is e = cc
 
 -- words that ask for a job have no fault
 pub no_fault : (kind : ErrorKind) (words : List Text) (job : Wanted) → IsJob words job → IsAmong kind (fault_of altctl words) → ⊥
@@ -97,33 +93,44 @@ module _ {D : Type 0} (members : Ghosts D) (cached : Ghosts (CachedDisk D member
           subst (λ (d : D). Keeps (members.state found) (members.state d) (opened tree) commands answers) (sym over.given_back)
           (subst (λ (d : D). Keeps (members.state d) (members.state (inner_of over.last)) (opened tree) commands answers) over.empty.inner below)
 
-module _ {D : Type 0} (members : Ghosts D) (cached : Ghosts (CachedDisk D members)) (words : List Text) (exit : Exit) (old new : PlaceState) (input before after : Option (List ℕ)) where
-  -- a store was made
-  pub did_create : (name : Text) (blocks : ℕ) → IsJob words (create name blocks) → Makes name blocks exit old new → Does members cached words exit old new input before after
+module _ {D : Type 0} (members : Ghosts D) (cached : Ghosts (CachedDisk D members)) (Untouched Denied : Type 0) (words : List Text) (exit : Exit)
+    (old new : PlaceState) (input before after faults faults' : Option (List ℕ)) where
+  -- what was done
+  abbrev Did : Type 0
+  Did = Does members cached Untouched Denied words exit old new input before after faults faults'
+
+  -- a store was to be made
+  pub did_create : (name : Text) (blocks : ℕ) → IsJob words (create name blocks) → Makes Denied name blocks exit old new faults faults' → Did
   did_create name blocks job makes = record {
     creates = λ other size asked. let same : create other size ≡ create name blocks = one_job words (create name blocks) (create other size) job asked in
         let name_is : other ≡ name = cc in
         let size_is : size ≡ blocks = cc in
-        rw (name_is, size_is) makes;
+        inl (rw (name_is, size_is) makes);
     runs = λ other cache asked. let same : run other cache ≡ create name blocks = one_job words (create name blocks) (run other cache) job asked in absurd (cc);
     none = λ no. absurd (no (create name blocks) job);
   }
 
-  -- lines were answered
-  pub did_run : (name : Text) (cache : ℕ) → IsJob words (run name cache) → Answers members cached name cache exit old new input before after ⊎ ((exit ≢ Done) × KeepsAll old new) → Does members cached words exit old new input before after
+  -- lines were to be answered
+  pub did_run : (name : Text) (cache : ℕ) → IsJob words (run name cache)
+      → Answers members cached name cache exit old new input before after ⊎ Declines Denied name exit old new faults faults' → Did
   did_run name cache job answers = record {
     creates = λ other size asked. let same : create other size ≡ run name cache = one_job words (run name cache) (create other size) job asked in absurd (cc);
     runs = λ other size asked. let same : run other size ≡ run name cache = one_job words (run name cache) (run other size) job asked in
         let name_is : other ≡ name = cc in
         let size_is : size ≡ cache = cc in
-        rw (name_is, size_is) answers;
+        rw (name_is, size_is) (told answers);
     none = λ no. absurd (no (run name cache) job);
   }
+    where
+      told : Answers members cached name cache exit old new input before after ⊎ Declines Denied name exit old new faults faults'
+          → Answers members cached name cache exit old new input before after ⊎ (Declines Denied name exit old new faults faults' ⊎ ((exit ≡ Stopped) × Untouched))
+      told (inl answers) = inl answers
+      told (inr declines) = inr (inl declines)
 
-  -- no file changed, and what the words ask for was not done, where they ask for something
-  pub did_nothing : KeepsAll old new → ((job : Wanted) → IsJob words job → exit ≢ Done) → Does members cached words exit old new input before after
-  did_nothing same undone = record {
-    creates = λ name blocks asked. record { made = λ done. absurd (undone (create name blocks) asked done); lays = inr (undone (create name blocks) asked); stays = λ contents is. same name ∙ is; others = λ other apart. same other };
-    runs = λ name cache asked. inr (undone (run name cache) asked, same);
-    none = λ no. same;
+  -- no call of the place was made, and it stopped, where the words ask for something
+  pub did_nothing : Untouched → ((job : Wanted) → IsJob words job → exit ≡ Stopped) → Did
+  did_nothing untouched stopped = record {
+    creates = λ name blocks asked. inr (stopped (create name blocks) asked, untouched);
+    runs = λ name cache asked. inr (inr (stopped (run name cache) asked, untouched));
+    none = λ no. untouched;
   }

@@ -25,3 +25,4 @@ pub mod SessionLemmas
 mod FilesLemmas
 mod RealFilesLemmas
 mod CachingLemmas
+mod MemFilesLemmas

@@ -16,7 +16,7 @@ use Rattle.vm_store.proofs.ShownLemmas.{shown_one}
 use Rattle.vm_cli.specs.Keeps.{Keeps, answers_of, commands_of}
 use Rattle.vm_cli.specs.Talk.{Serves}
 use Rattle.vm_cli.specs.declared.talk.ServeFault.{ServeFault}
-use Rattle.vm_cli.proofs.KeepLemmas.{Keeping, keeping_none, keeping_quiet, keeps}
+use Rattle.vm_cli.proofs.KeepLemmas.{Keeping, keeping_none, keeping_quiet}
 use Rattle.vm_cli.proofs.TalkKeepLemmas.{serves_keeps}
 
 -- a crash leaves of a synced disk what it holds
@@ -41,9 +41,6 @@ module _ (old new : disk.State) (tree : Tree) (leaves : Leaves (λ x. Shows x tr
   synced_keeping =
       keeping_quiet old old (opened tree) [] [] (keeping_none old (opened tree) leaves) new
       (weaken old new (IsAtMostSynced old.now) (Leaves (λ x. Shows x tree)) (λ m at_most. synced_leaves (λ x. Shows x tree) old.now m leaves at_most) synced)
-
-  pub synced_keeps : Keeps old new (opened tree) [] []
-  synced_keeps = keeps old new (opened tree) [] [] synced_keeping
 
 -- and so does one on which lines were answered
 module _ {D : Type 0} {members : _} (old : disk.State) (first last : Store D members) (opens : (members.state first.disk).honest ≡ true → OpensAs old.now.contents first)

@@ -1,6 +1,7 @@
 -- What a run of the program does to the files of its place.
-use Rattle.std.specs.Prelude.{◌≡◌, ◌≢◌, ◌⊎◌, ℕ, true, List, Option, Some, None, replicate}
+use Rattle.std.specs.Prelude.{◌≡◌, ◌⊎◌, ℕ, true, List, Option, Some, None, codes, replicate}
 use Rattle.clap.specs.Words.{Text}
+use Rattle.vm_types.specs.declared.refusal.Refusal.{Refusal}
 use Rattle.vm_types.specs.State.{opened}
 use Rattle.vm_types.specs.Tree.{Tree}
 use Rattle.vm_disk.specs.Disk as disk
@@ -9,15 +10,16 @@ use Rattle.vm_disk.specs.Moments.{Throughout}
 use Rattle.vm_disk.specs.declared.cached.CachedDisk.{CachedDisk}
 use Rattle.vm_disk.specs.declared.disk.Disk.{Ghosts}
 use Rattle.vm_store.specs.Formatting.{IsFormatted, IsFormatting}
+use Rattle.vm_store.specs.Refused.{IsRefused as IsRefusedDisk}
 use Rattle.vm_store.specs.Shown.{Shows}
 use Rattle.vm_cli.specs.Caching.{IsServed, answers_told, commands_told}
-use Rattle.vm_cli.specs.Exits.{IsJob}
+use Rattle.vm_cli.specs.Exits.{IsJob, Tells, file_text, refused_text}
 use Rattle.vm_cli.specs.Keeps.{Keeps}
 use Rattle.vm_cli.specs.Places.{KeepsOthers, PlaceState}
 use Rattle.vm_cli.specs.Words.{Wanted}
 use Rattle.vm_cli.specs.Words.Wanted.{create, run}
 use Rattle.vm_cli.specs.declared.program.Exit.{Exit}
-use Rattle.vm_cli.specs.declared.program.Exit.TheVariants.{Done}
+use Rattle.vm_cli.specs.declared.program.Exit.TheVariants.{Done, Refused, Stopped}
 
 -- every file is as it was
 abbrev pub KeepsAll : PlaceState → PlaceState → Type 0
@@ -32,14 +34,24 @@ pub record LaysOut (name : List ℕ) (blocks : ℕ) (new : PlaceState) : Type 0 
   pub moments : Throughout start end (IsFormatting start.now)
   pub holds : new.files name ≡ Some end.now.contents
 
--- a file of this name was to be made, with a new store of so many blocks
-pub record Makes (name : List ℕ) (blocks : ℕ) (exit : Exit) (old new : PlaceState) : Type 0 where
+-- a file of this name was to be made, with a new store of so many blocks. `Denied` says that the place gave no disk; the last two are the
+-- faults before and after
+pub record Makes (Denied : Type 0) (name : List ℕ) (blocks : ℕ) (exit : Exit) (old new : PlaceState) (faults faults' : Option (List ℕ)) : Type 0 where
   -- at Done there was none, and now it shows the new store
   pub made : exit ≡ Done → (old.files name ≡ None) × ((m : Medium) × (new.files name ≡ Some m.contents) × IsFormatted blocks m)
-  pub lays : LaysOut name blocks new ⊎ (exit ≢ Done)
+  -- its disk was made, and laid out, or it is said that it could not be made
+  pub lays : LaysOut name blocks new ⊎ (Denied × Tells Refused exit faults faults' (file_text (codes "altctl: cannot create ") name))
   -- a file that was there is as it was
   pub stays : (contents : Contents) → old.files name ≡ Some contents → new.files name ≡ Some contents
   pub others : KeepsOthers name old new
+
+-- lines were to be answered over the file of this name, and no file changed: it is said that it could not be opened, or why it shows no
+-- store
+pub record Declines (Denied : Type 0) (name : List ℕ) (exit : Exit) (old new : PlaceState) (faults faults' : Option (List ℕ)) : Type 0 where
+  pub same : KeepsAll old new
+  pub told : (Denied × Tells Refused exit faults faults' (file_text (codes "altctl: cannot open ") name))
+      ⊎ ((contents : Contents) × (refusal : Refusal) × (old.files name ≡ Some contents) × IsRefusedDisk contents refusal
+      × Tells Refused exit faults faults' (refused_text refusal))
 
 module _ {D : Type 0} (members : Ghosts D) (cached : Ghosts (CachedDisk D members)) where
   -- the lines of an input were answered over the file of this name, of which up to so many blocks stayed in memory
@@ -59,12 +71,14 @@ module _ {D : Type 0} (members : Ghosts D) (cached : Ghosts (CachedDisk D member
         → Keeps (members.state found) (members.state back) (opened tree)
         (commands_told members cached served (opened tree)) (answers_told members cached served (opened tree))
 
-  -- what a run of the program does to the files
-  pub record Does (words : List Text) (exit : Exit) (old new : PlaceState) (input before after : Option (List ℕ)) : Type 0 where
+  -- what a run of the program does to the files, where `Untouched` says that no call of the place was made, and `Denied` that one gave no
+  -- disk. Only want of memory for the words leaves a job undone without a call
+  pub record Does (Untouched Denied : Type 0) (words : List Text) (exit : Exit) (old new : PlaceState) (input before after faults faults' : Option (List ℕ)) : Type 0 where
     -- words that ask for a new store make its file
-    pub creates : (name : Text) (blocks : ℕ) → IsJob words (create name blocks) → Makes name blocks exit old new
-    -- words that ask that lines are answered have them answered over the file, or no file changes, and not all was done
+    pub creates : (name : Text) (blocks : ℕ) → IsJob words (create name blocks)
+        → Makes Denied name blocks exit old new faults faults' ⊎ ((exit ≡ Stopped) × Untouched)
+    -- words that ask that lines are answered have them answered over the file, or it is said why not
     pub runs : (name : Text) (cache : ℕ) → IsJob words (run name cache)
-        → Answers name cache exit old new input before after ⊎ ((exit ≢ Done) × KeepsAll old new)
-    -- words that ask for no job change no file
-    pub none : ((job : Wanted) → IsJob words job → ⊥) → KeepsAll old new
+        → Answers name cache exit old new input before after ⊎ (Declines Denied name exit old new faults faults' ⊎ ((exit ≡ Stopped) × Untouched))
+    -- words that ask for no job touch no file
+    pub none : ((job : Wanted) → IsJob words job → ⊥) → Untouched

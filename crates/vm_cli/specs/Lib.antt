@@ -19,3 +19,4 @@ pub mod Caching
 pub mod Places
 pub mod Files
 pub mod RealFiles
+pub mod MemFiles

@@ -6,8 +6,10 @@ use Rattle.vm_disk.specs.Past.{noted}
 use Rattle.vm_disk.specs.System.{name_of, opening_of, system_state}
 use Rattle.vm_disk.specs.declared.file.FileDisk.{FileDisk}
 use Rattle.vm_disk.specs.declared.system.SystemFile.{SystemFile}
+use Rattle.vm_cli.specs.Places.{PlaceState}
 use Rattle.vm_cli.specs.declared.place.Event.{Event}
 use Rattle.vm_cli.specs.declared.place.Event.TheVariants.{Found, Made, Given}
+use Rattle.vm_cli.specs.declared.place.RealFiles.{RealFiles}
 
 -- the whole blocks of these bytes, as many as a disk may have
 abbrev pub whole_blocks : List ℕ → Contents
@@ -59,3 +61,7 @@ module _ {W : Type 0} (held : ℕ → List ℕ → Option (List ℕ)) (torn : �
   honest_after (Made file ∷ events) = is_absent (files_after events (name_of file.value)) && honest_after events
   honest_after (Given given disk ∷ events) =
       (real_disk disk.value).honest && (bytes_eq (disk_name disk.value) (reverse (noted given)) && honest_after events)
+
+  -- what is known of the files of the system
+  abbrev pub real_state : {R : Type 0} → RealFiles R W → PlaceState
+  real_state place = record { honest = honest_after (noted place.events); files = files_after (noted place.events) }

@@ -11,6 +11,7 @@ mod escape;
 mod help;
 mod line;
 mod listing;
+mod mem_files;
 mod number;
 mod pieces;
 mod place;
@@ -24,6 +25,7 @@ mod text;
 mod words;
 mod writing;
 
+pub use mem_files::MemFiles;
 pub use place::{Place, RealFiles};
 pub use program::{refuse_words, run_words, stop};
 pub use talk::{ServeFault, serve};

@@ -1,5 +1,6 @@
 //! Where disks are found by name.
-ghost use Rattle.std.specs.Prelude.{◌≡◌, true, option_map};
+ghost use Rattle.std.specs.Prelude.{◌≡◌, ◌+◌, ℕ, true, None, IfSome, length, option_map};
+ghost use Rattle.vm_disk.specs.Past.{noted};
 ghost use Rattle.vm_cli.specs.Places.{PlaceState, Creates, Finds, TakesBack};
 
 use std::fs::File;
@@ -19,20 +20,28 @@ pub trait Place {
     /// What is known of it, for contracts alone.
     ghost state: { Self → PlaceState };
 
+    /// How often it gave no disk, for contracts alone.
+    ghost denied: { Self → ℕ };
+
     /// Makes a disk that is not there yet, of this many zero blocks.
     fn create(&mut self, file: &str, blocks: u32) -> Option<Self::D>
+        ensures none { result ≡ None → denied self.new ≡ denied self.old + 1 }
+        ensures some { IfSome result (λ disk. denied self.new ≡ denied self.old) }
         ensures earlier { (state self.new).honest ≡ true → (state self.old).honest ≡ true }
         ensures honest { (state self.new).honest ≡ true
             → Creates file.now blocks (option_map Self.D.state result) (state self.old) (state self.new) };
 
     /// A disk that is there.
     fn find(&mut self, file: &str) -> Option<Self::D>
+        ensures none { result ≡ None → denied self.new ≡ denied self.old + 1 }
+        ensures some { IfSome result (λ disk. denied self.new ≡ denied self.old) }
         ensures earlier { (state self.new).honest ≡ true → (state self.old).honest ≡ true }
         ensures honest { (state self.new).honest ≡ true
             → Finds file.now (option_map Self.D.state result) (state self.old) (state self.new) };
 
     /// Takes a disk back that it gave.
     fn give_back(&mut self, file: &str, disk: Self::D)
+        ensures denied { denied self.new ≡ denied self.old }
         ensures earlier { (state self.new).honest ≡ true → (state self.old).honest ≡ true }
         ensures honest { (state self.new).honest ≡ true
             → TakesBack file.now (Self.D.state disk) (state self.old) (state self.new) };
@@ -61,6 +70,7 @@ pub struct RealFiles<'a, R, W> {
     folders: [Option<File>; 3],
     opened: History<()>,
     events: History<Event<W>>,
+    denied: History<()>,
     world: PhantomData<W>,
 }
 
@@ -82,34 +92,65 @@ impl<'a, R: Files<File = File>, W> RealFiles<'a, R, W> {
             folders,
             opened: History::new(),
             events: History::new(),
+            denied: History::new(),
             world: PhantomData,
         })
     }
 }
 
-impl<R: Files<File = File>, W: World> Place for RealFiles<'_, R, W> {
-    type D = FileDisk<SystemFile<W>>;
+impl<R: Files<File = File>, W: World> RealFiles<'_, R, W> {
+    ghost use Rattle.vm_cli.specs.RealFiles.{real_disk, real_state};
 
-    ghost use Rattle.vm_disk.specs.Past.{noted};
-    ghost use Rattle.vm_cli.specs.RealFiles.{files_after, honest_after};
-
-    ghost state = { λ place. record {
-      honest = honest_after W.held W.torn (noted place.events);
-      files = files_after W.held W.torn (noted place.events);
-    } };
-
-    fn create(&mut self, file: &str, blocks: u32) -> Option<FileDisk<SystemFile<W>>> {
+    // Makes a file that is not there yet, and a disk of it.
+    fn made(&mut self, file: &str, blocks: u32) -> Option<FileDisk<SystemFile<W>>>
+        ensures denied { noted self.new.denied ≡ noted self.old.denied }
+        ensures earlier { (real_state W.held W.torn self.new).honest ≡ true → (real_state W.held W.torn self.old).honest ≡ true }
+        ensures honest { (real_state W.held W.torn self.new).honest ≡ true
+            → Creates file.now blocks (option_map (real_disk W.held W.torn) result) (real_state W.held W.torn self.old) (real_state W.held W.torn self.new) }
+    {
         let made = SystemFile::create(self.rt, file, &self.opened)?;
         self.opened.note(&());
         self.events.note(&Event::Made(Snapshot::of(&made)));
         FileDisk::create(made, blocks)
     }
 
-    fn find(&mut self, file: &str) -> Option<FileDisk<SystemFile<W>>> {
+    // Opens a file that is there, as a disk.
+    fn found(&mut self, file: &str) -> Option<FileDisk<SystemFile<W>>>
+        ensures denied { noted self.new.denied ≡ noted self.old.denied }
+        ensures earlier { (real_state W.held W.torn self.new).honest ≡ true → (real_state W.held W.torn self.old).honest ≡ true }
+        ensures honest { (real_state W.held W.torn self.new).honest ≡ true
+            → Finds file.now (option_map (real_disk W.held W.torn) result) (real_state W.held W.torn self.old) (real_state W.held W.torn self.new) }
+    {
         let found = SystemFile::open(self.rt, file, &self.opened)?;
         self.opened.note(&());
         self.events.note(&Event::Found(Snapshot::of(&found)));
         FileDisk::open(found)
+    }
+}
+
+impl<R: Files<File = File>, W: World> Place for RealFiles<'_, R, W> {
+    type D = FileDisk<SystemFile<W>>;
+
+    ghost use Rattle.vm_cli.specs.RealFiles.{real_state};
+
+    ghost state = { real_state W.held W.torn };
+
+    ghost denied = { λ place. length (noted place.denied) };
+
+    fn create(&mut self, file: &str, blocks: u32) -> Option<FileDisk<SystemFile<W>>> {
+        let made = self.made(file, blocks);
+        if made.is_none() {
+            self.denied.note(&());
+        }
+        made
+    }
+
+    fn find(&mut self, file: &str) -> Option<FileDisk<SystemFile<W>>> {
+        let found = self.found(file);
+        if found.is_none() {
+            self.denied.note(&());
+        }
+        found
     }
 
     fn give_back(&mut self, file: &str, disk: FileDisk<SystemFile<W>>) {

@@ -43,7 +43,7 @@ impl Exit {
     }
 }
 
-ghost use Rattle.std.specs.Prelude.{◌≡◌, ◌≢◌, ◌≤◌, ◌⊎◌, ◌++◌, ◌∷◌, ℕ, List, [], true, OnErr, OnOk, codes, map};
+ghost use Rattle.std.specs.Prelude.{◌≡◌, ◌≢◌, ◌+◌, ◌≤◌, ◌⊎◌, ◌++◌, ◌∷◌, ℕ, List, [], true, OnErr, OnOk, codes, map};
 ghost use Rattle.std.specs.Io.KnownBytes.{Appends};
 ghost use Rattle.std.specs.String.{string_bytes};
 ghost use Rattle.clap.specs.Words.{kind_of};
@@ -52,7 +52,7 @@ ghost use Rattle.vm_types.specs.declared.refusal.Refusal.{Refusal as RefusalValu
 ghost use Rattle.vm_disk.specs.Disk.{Goes};
 ghost use Rattle.vm_disk.specs.Moments.{Throughout};
 ghost use Rattle.vm_store.specs.Formatting.{IsFormatting};
-ghost use Rattle.vm_cli.specs.Files.{Answers, Does, KeepsAll, Makes};
+ghost use Rattle.vm_cli.specs.Files.{Answers, Declines, Does, Makes};
 ghost use Rattle.vm_cli.specs.Sessions.{HasMade, HasMadeNone, HasRefused, HasServed};
 ghost use Rattle.vm_cli.specs.Exits.{Ends, IsDone, IsHelp, MayRefuse, IsRefused, IsStopped, IsCutShort, IsWrong, SaysRefused, Tells, created_text, file_text, refused_text, status_of, stopped_text, unreadable_text};
 ghost use Rattle.vm_cli.specs.Words.Wanted.{create as create_wanted, run as run_wanted};
@@ -72,10 +72,12 @@ pub fn run_words<P: Place, R: Read, W: Write, F: Write>(
     ensures refused { result ≡ 1 → IsRefused W.contents F.contents (map string_bytes words.now) output.old output.new faults.old faults.new }
     ensures wrong { result ≡ 2 → IsWrong W.contents F.contents (map string_bytes words.now) output.old output.new faults.old faults.new }
     ensures stopped { result ≡ 3 → IsStopped W.contents F.contents (map string_bytes words.now) output.old output.new faults.old faults.new }
-    // As long as the place has kept its rules, and its disks theirs, the files are what the job makes of them.
-    ensures files { (P.state place.new).honest ≡ true → ((exit : Exit) × (result ≡ status_of exit)
-        × Does P.D.Disk ⟦<CachedDisk<P::D> as Disk>⟧ (map string_bytes words.now) exit (P.state place.old) (P.state place.new)
-        (R.remaining input.old) (W.contents output.old) (W.contents output.new)) }
+    // As long as the place has kept its rules, and its disks theirs, the files are what the job makes of them. Where the program stopped
+    // that is said to the faults behind what the job said.
+    ensures files { (P.state place.new).honest ≡ true
+        → ((exit : Exit) × (said : F) × (result ≡ status_of exit) × (exit ≢ Exit.Stopped → said ≡ faults.new)
+        × Does P.D.Disk ⟦<CachedDisk<P::D> as Disk>⟧ (place.new ≡ place.old) (P.denied place.new ≡ P.denied place.old + 1) (map string_bytes words.now) exit (P.state place.old) (P.state place.new)
+        (R.remaining input.old) (W.contents output.old) (W.contents output.new) (F.contents faults.old) (F.contents said)) }
 {
     match carry_out(alloc, words, place, input, output, faults) {
         Exit::Stopped => stop(faults),
@@ -114,8 +116,9 @@ fn carry_out<P: Place, R: Read, W: Write, F: Write>(
     faults: &mut F,
 ) -> Exit
     ensures ends { Ends W.contents F.contents result (map string_bytes words.now) output.old output.new faults.old faults.new }
-    ensures files { (P.state place.new).honest ≡ true → Does P.D.Disk ⟦<CachedDisk<P::D> as Disk>⟧ (map string_bytes words.now) result (P.state place.old) (P.state place.new)
-        (R.remaining input.old) (W.contents output.old) (W.contents output.new) }
+    ensures files { (P.state place.new).honest ≡ true
+        → Does P.D.Disk ⟦<CachedDisk<P::D> as Disk>⟧ (place.new ≡ place.old) (P.denied place.new ≡ P.denied place.old + 1) (map string_bytes words.now) result (P.state place.old) (P.state place.new)
+        (R.remaining input.old) (W.contents output.old) (W.contents output.new) (F.contents faults.old) (F.contents faults.new) }
 {
     match job(alloc, words) {
         Ok(Job::Create { file, blocks }) => create(file, blocks, place, output, faults),
@@ -135,7 +138,8 @@ fn create<P: Place, W: Write, F: Write>(
     ensures says { ((faults.new ≡ faults.old) × Tells Exit.Done result (W.contents output.old) (W.contents output.new) (created_text blocks))
         ⊎ ((output.new ≡ output.old) × ((text : List ℕ) × SaysRefused (create_wanted file.now blocks) text
         × Tells Exit.Refused result (F.contents faults.old) (F.contents faults.new) text)) }
-    ensures files { (P.state place.new).honest ≡ true → Makes file.now blocks result (P.state place.old) (P.state place.new) }
+    ensures files { (P.state place.new).honest ≡ true
+        → Makes (P.denied place.new ≡ P.denied place.old + 1) file.now blocks result (P.state place.old) (P.state place.new) (F.contents faults.old) (F.contents faults.new) }
 {
     let Some(disk) = place.create(file, blocks) else {
         return no_file(b"altctl: cannot create ", file, faults);
@@ -183,7 +187,7 @@ fn run<P: Place, R: Read, W: Write, F: Write>(
     ensures files { (P.state place.new).honest ≡ true
         → Answers P.D.Disk ⟦<CachedDisk<P::D> as Disk>⟧ file.now cache result (P.state place.old) (P.state place.new)
         (R.remaining input.old) (W.contents output.old) (W.contents output.new)
-        ⊎ ((result ≢ Exit.Done) × KeepsAll (P.state place.old) (P.state place.new)) }
+        ⊎ Declines (P.denied place.new ≡ P.denied place.old + 1) file.now result (P.state place.old) (P.state place.new) (F.contents faults.old) (F.contents faults.new) }
 {
     let Some(disk) = place.find(file) else {
         return no_file(b"altctl: cannot open ", file, faults);

@@ -38,8 +38,10 @@ pub fn data_at<D: Disk>(
     ensures memory { result ≢ Err TreeFault.Memory }
     ensures once { ReadsOne blocks block (D.state disk.old).reads (D.state disk.new).reads }
     ensures reads { (D.state disk.new).honest ≡ true → OnlyReads (D.state disk.old) (D.state disk.new) }
-    ensures found { (D.state disk.new).honest ≡ true → IfOk result (λ done. IsDataAt (D.state disk.old).now.contents blocks block bytes.new) }
-    ensures only { (D.state disk.new).honest ≡ true → IsData blocks block → OkOrDevice result (λ done. bytes.new ≡ bytes_at (D.state disk.old).now.contents block) }
+    ensures found { (D.state disk.new).honest ≡ true
+        → IfOk result (λ done. IsDataAt (D.state disk.old).now.contents blocks block bytes.new) }
+    ensures only { (D.state disk.new).honest ≡ true → IsData blocks block
+        → OkOrDevice result (λ done. bytes.new ≡ bytes_at (D.state disk.old).now.contents block) }
 {
     if !is_data(blocks, block) {
         return Err(TreeFault::Damaged(block));
@@ -141,9 +143,10 @@ pub fn leaf_at<D: Disk>(
     ensures once { ReadsOne blocks block (D.state disk.old).reads (D.state disk.new).reads }
     ensures count { IfOk result (λ records. (0 < length records.items) × (length records.items ≤ 16)) }
     ensures reads { (D.state disk.new).honest ≡ true → OnlyReads (D.state disk.old) (D.state disk.new) }
-    ensures found { (D.state disk.new).honest ≡ true → IfOk result (λ records. IsLeafAt (D.state disk.old).now.contents blocks block records.items) }
-    ensures only { (D.state disk.new).honest ≡ true → (rs : List Record) → IsLeafAt (D.state disk.old).now.contents blocks block rs
-        → OkOrDevice result (λ records. records.items ≡ rs) }
+    ensures found { (D.state disk.new).honest ≡ true
+        → IfOk result (λ records. IsLeafAt (D.state disk.old).now.contents blocks block records.items) }
+    ensures only { (D.state disk.new).honest ≡ true → (rs : List Record)
+        → IsLeafAt (D.state disk.old).now.contents blocks block rs → OkOrDevice result (λ records. records.items ≡ rs) }
 {
     let mut bytes = [0; 4096];
     data_at(disk, blocks, block, &mut bytes)?;
@@ -168,9 +171,10 @@ pub fn node_at<D: Disk>(
     ensures count { IfOk result (λ children. (0 < length children.items) × (length children.items ≤ 256)) }
     ensures low { IfOk result (λ children. level ≤ 7) }
     ensures reads { (D.state disk.new).honest ≡ true → OnlyReads (D.state disk.old) (D.state disk.new) }
-    ensures found { (D.state disk.new).honest ≡ true → IfOk result (λ children. IsNodeAt (D.state disk.old).now.contents blocks level block children.items) }
-    ensures only { (D.state disk.new).honest ≡ true → (cs : List Child) → IsNodeAt (D.state disk.old).now.contents blocks level block cs
-        → OkOrDevice result (λ children. children.items ≡ cs) }
+    ensures found { (D.state disk.new).honest ≡ true
+        → IfOk result (λ children. IsNodeAt (D.state disk.old).now.contents blocks level block children.items) }
+    ensures only { (D.state disk.new).honest ≡ true → (cs : List Child)
+        → IsNodeAt (D.state disk.old).now.contents blocks level block cs → OkOrDevice result (λ children. children.items ≡ cs) }
 {
     let mut bytes = [0; 4096];
     data_at(disk, blocks, block, &mut bytes)?;

@@ -1,10 +1,10 @@
 //! An input and an output that fail.
-use super::{CREATE, Shelf};
+use super::CREATE;
 use std::alloc::Global;
 use std::io::{self, ErrorKind, Read, Write};
 use std::process::Abort;
 use std::test::Fail;
-use vm_cli::{ServeFault, run_words, serve};
+use vm_cli::{MemFiles, Place, ServeFault, run_words, serve};
 use vm_disk::{FuseDisk, MemDisk};
 use vm_store::{Store, format, open};
 
@@ -95,7 +95,7 @@ fn stops_where_the_output_fails(rt: HostRuntime) -> Result<(), Fail> {
 
 #[test]
 fn stops_where_a_text_cannot_be_written(rt: HostRuntime) -> Result<(), Fail> {
-    let mut shelf = Shelf::new(rt.alloc());
+    let mut files = MemFiles::new(rt.alloc());
     let mut words = Vec::new(rt.alloc());
     for word in CREATE {
         words.push(String::from_str(rt.alloc(), word)?)?;
@@ -110,14 +110,14 @@ fn stops_where_a_text_cannot_be_written(rt: HostRuntime) -> Result<(), Fail> {
     let status = run_words(
         rt.alloc(),
         words,
-        &mut shelf,
+        &mut files,
         &mut input,
         &mut output,
         &mut faults,
     );
     assert_eq!(rt; status, 3);
     assert_eq!(rt; faults.as_slice(), b"altctl: stopped\n".as_slice());
-    assert!(rt; shelf.has("f"));
+    assert!(rt; files.find("f").is_some());
     Ok(())
 }
 

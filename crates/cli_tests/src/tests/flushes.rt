@@ -1,11 +1,11 @@
 //! A writer that is flushed, and whose flush fails.
 use super::faults::new_store;
-use super::{CREATE, Outcome, Shelf};
+use super::{CREATE, Outcome};
 use std::alloc::Global;
 use std::io::{self, ErrorKind, Write};
 use std::process::Abort;
 use std::test::Fail;
-use vm_cli::{ServeFault, refuse_words, run_words, serve, stop};
+use vm_cli::{MemFiles, ServeFault, refuse_words, run_words, serve, stop};
 
 /// A writer that keeps what it takes, with a bar for each flush. From some flush on they fail.
 #[derive(Drop)]
@@ -93,7 +93,7 @@ fn flushed(alloc: Global, words: &[&str], output: usize, faults: usize) -> Resul
     let status = run_words(
         alloc,
         owned.as_slice(),
-        &mut Shelf::new(alloc),
+        &mut MemFiles::new(alloc),
         &mut b"".as_slice(),
         &mut output,
         &mut faults,

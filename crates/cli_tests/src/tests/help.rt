@@ -1,7 +1,8 @@
 //! Help, the sessions that it shows, and words that are wrong.
-use super::{Shelf, ran};
+use super::ran;
 use std::process::Abort;
 use std::test::Fail;
+use vm_cli::MemFiles;
 
 /// The session of the program's help, each line with its answer.
 const SHORT_SESSION: [(&str, &str); 6] = [
@@ -28,8 +29,8 @@ const LONG_SESSION: [(&str, &str); 9] = [
 
 /// The text that is shown to one who asks for help, on the output alone and with status 0.
 fn shown<R: AllocGlobal + Abort>(rt: &R, words: &[&str]) -> Result<String, Fail> {
-    let mut shelf = Shelf::new(rt.alloc());
-    let help = ran(rt.alloc(), &mut shelf, words, b"")?;
+    let mut files = MemFiles::new(rt.alloc());
+    let help = ran(rt.alloc(), &mut files, words, b"")?;
     assert_eq!(rt; help.status, 0);
     assert!(rt; help.faults.is_empty());
     Ok(String::from_utf8(help.output)?)
@@ -50,9 +51,9 @@ fn session_text<R: AllocGlobal>(rt: &R, session: &[(&str, &str)]) -> Result<Stri
 
 /// What the lines of a session are answered, over a new store of 1,024 blocks.
 fn answered<R: AllocGlobal + Abort>(rt: &R, session: &[(&str, &str)]) -> Result<String, Fail> {
-    let mut shelf = Shelf::new(rt.alloc());
+    let mut files = MemFiles::new(rt.alloc());
     let create = ["altctl", "create", "map.alt", "1024"];
-    let made = ran(rt.alloc(), &mut shelf, create.as_slice(), b"")?;
+    let made = ran(rt.alloc(), &mut files, create.as_slice(), b"")?;
     made.expect(rt, 0, b"created 1024\n", b"");
     let mut text = String::new(rt.alloc());
     for (line, _) in session {
@@ -60,7 +61,7 @@ fn answered<R: AllocGlobal + Abort>(rt: &R, session: &[(&str, &str)]) -> Result<
         text.push_str("\n")?;
     }
     let run = ["altctl", "run", "map.alt"];
-    let answers = ran(rt.alloc(), &mut shelf, run.as_slice(), text.as_bytes())?;
+    let answers = ran(rt.alloc(), &mut files, run.as_slice(), text.as_bytes())?;
     assert_eq!(rt; answers.status, 0);
     Ok(String::from_utf8(answers.output)?)
 }
@@ -173,7 +174,7 @@ fn shows_help_in_eighty_columns(rt: HostRuntime) -> Result<(), Fail> {
 
 #[test]
 fn refuses_wrong_words(rt: HostRuntime) -> Result<(), Fail> {
-    let mut shelf = Shelf::new(rt.alloc());
+    let mut files = MemFiles::new(rt.alloc());
     for words in [
         ["altctl"].as_slice(),
         ["altctl", "make", "f"].as_slice(),
@@ -184,7 +185,7 @@ fn refuses_wrong_words(rt: HostRuntime) -> Result<(), Fail> {
         ["altctl", "run", "f", "g"].as_slice(),
         ["altctl", "run", "--fast", "f"].as_slice(),
     ] {
-        let refused = ran(rt.alloc(), &mut shelf, words, b"")?;
+        let refused = ran(rt.alloc(), &mut files, words, b"")?;
         assert_eq!(rt; refused.status, 2);
         assert!(rt; refused.output.is_empty() && !refused.faults.is_empty());
     }

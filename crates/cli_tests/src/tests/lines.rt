@@ -1,13 +1,14 @@
 //! What lines are answered.
-use super::{CREATE, Outcome, RUN, Shelf, ran};
+use super::{CREATE, Outcome, RUN, ran};
 use std::alloc::Global;
 use std::test::Fail;
+use vm_cli::MemFiles;
 
 /// Runs the lines on a new store.
 fn answered(alloc: Global, lines: &[u8]) -> Result<Outcome, Fail> {
-    let mut shelf = Shelf::new(alloc);
-    let _made = ran(alloc, &mut shelf, CREATE.as_slice(), b"")?;
-    ran(alloc, &mut shelf, RUN.as_slice(), lines)
+    let mut files = MemFiles::new(alloc);
+    let _made = ran(alloc, &mut files, CREATE.as_slice(), b"")?;
+    ran(alloc, &mut files, RUN.as_slice(), lines)
 }
 
 /// Lines, and below them what each is answered.

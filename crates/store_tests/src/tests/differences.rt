@@ -1,8 +1,10 @@
 //! What an alternative changed since its base, and its conflicts with its parent.
 use super::commands::{DONE, FIRST, SECOND, THIRD, changes_of, conflicts_of, new};
 use super::removing::remove_from;
-use super::{expect, expect_list, fresh_store, put, put_in};
+use super::{OverMemory, expect, expect_list, fresh_over, fresh_store, put, put_in};
+use std::process::Abort;
 use std::test::Fail;
+use vm_disk::{CachedDisk, MemDisk};
 use vm_types::{Change, Conflict, Key, Refusal, Value};
 
 // The value of these bytes. No bytes stand for no value.
@@ -33,9 +35,10 @@ pub(super) fn conflict(number: u64, base: &[u8], parent: &[u8], mine: &[u8]) -> 
     }
 }
 
-#[test]
-fn value_that_is_written_again_is_no_change(rt: HostRuntime) -> Result<(), Fail> {
-    let mut store = fresh_store(rt.alloc())?;
+fn value_that_is_written_again_is_no_change_over<M: OverMemory, R: AllocGlobal + Abort>(
+    rt: &R,
+) -> Result<(), Fail> {
+    let mut store = fresh_over::<M>(rt.alloc())?;
     let answers = [
         (put(&mut store, FIRST, b"x"), DONE),
         (put(&mut store, FIRST, b"x"), DONE),
@@ -44,9 +47,15 @@ fn value_that_is_written_again_is_no_change(rt: HostRuntime) -> Result<(), Fail>
     ];
     let changes = changes_of(rt.alloc(), &mut store, b"a");
     let _disk = store.close();
-    expect(&rt, &answers);
-    expect_list(&rt, &changes, &[]);
+    expect(rt, &answers);
+    expect_list(rt, &changes, &[]);
     Ok(())
+}
+
+#[test]
+fn value_that_is_written_again_is_no_change(rt: HostRuntime) -> Result<(), Fail> {
+    value_that_is_written_again_is_no_change_over::<MemDisk, _>(&rt)?;
+    value_that_is_written_again_is_no_change_over::<CachedDisk<MemDisk>, _>(&rt)
 }
 
 // The base of `top` has no records.

@@ -2,31 +2,45 @@
 use super::commands::{DONE, FIRST, changes_of, conflicts_of, merge, new, post};
 use super::differences::{change, conflict};
 use super::settling::conflict_disk;
-use super::{DUCT, commit, duct_disk, expect, expect_list, fresh_store, get, get_in, open_on, put};
+use super::{
+    DUCT, OverMemory, commit, duct_disk, duct_over, expect, expect_list, fresh_store, get, get_in,
+    open_on, put,
+};
 use std::alloc::Global;
+use std::process::Abort;
 use std::test::Fail;
-use vm_disk::{FuseDisk, MemDisk};
+use vm_disk::{CachedDisk, FuseDisk, MemDisk};
 use vm_store::{Store, format, open};
 use vm_types::{Answer, Refusal, Side, Value};
 
 // More calls than any test makes.
 pub(super) const NEVER: u32 = 1000;
 
+pub(super) fn open_fused_over<M: OverMemory>(
+    alloc: Global,
+    disk: MemDisk,
+    passes: u32,
+) -> Result<Store<FuseDisk<M>>, Refusal> {
+    if passes > NEVER {
+        return Err(Refusal::TooMany);
+    }
+    let disk = M::over(alloc, disk)?;
+    open(alloc, FuseDisk::once(disk, passes, [9; 4096])).map_err(|refused| refused.1)
+}
+
 pub(super) fn open_fused(
     alloc: Global,
     disk: MemDisk,
     passes: u32,
 ) -> Result<Store<FuseDisk<MemDisk>>, Refusal> {
-    if passes > NEVER {
-        return Err(Refusal::TooMany);
-    }
-    open(alloc, FuseDisk::once(disk, passes, [9; 4096])).map_err(|refused| refused.1)
+    open_fused_over::<MemDisk>(alloc, disk, passes)
 }
 
 // Opening the store of `duct` makes five device calls: a sync, and four reads.
-#[test]
-fn get_goes_on_after_a_failed_read(rt: HostRuntime) -> Result<(), Fail> {
-    let mut store = open_fused(rt.alloc(), duct_disk(rt.alloc())?, 5)?;
+fn get_goes_on_after_a_failed_read_over<M: OverMemory, R: AllocGlobal + Abort>(
+    rt: &R,
+) -> Result<(), Fail> {
+    let mut store = open_fused_over::<M>(rt.alloc(), duct_over::<M>(rt.alloc())?, 5)?;
     assert_eq!(rt; get(&mut store, DUCT), Err(Refusal::Device));
     assert_eq!(rt; get(&mut store, DUCT), Ok(Value::new(b"duct")));
     let _disk = store.close();
@@ -34,21 +48,34 @@ fn get_goes_on_after_a_failed_read(rt: HostRuntime) -> Result<(), Fail> {
 }
 
 #[test]
-fn store_fails_after_a_failed_write(rt: HostRuntime) -> Result<(), Fail> {
-    let mut store = open_fused(rt.alloc(), duct_disk(rt.alloc())?, 6)?;
+fn get_goes_on_after_a_failed_read(rt: HostRuntime) -> Result<(), Fail> {
+    get_goes_on_after_a_failed_read_over::<MemDisk, _>(&rt)?;
+    get_goes_on_after_a_failed_read_over::<CachedDisk<MemDisk>, _>(&rt)
+}
+
+fn store_fails_after_a_failed_write_over<M: OverMemory, R: AllocGlobal + Abort>(
+    rt: &R,
+) -> Result<(), Fail> {
+    let mut store = open_fused_over::<M>(rt.alloc(), duct_over::<M>(rt.alloc())?, 6)?;
     let answers = [
         (put(&mut store, DUCT, b"pipe"), Err(Refusal::Device)),
         (put(&mut store, DUCT, b"pipe"), Err(Refusal::Failed)),
         (commit(&mut store), Err(Refusal::Failed)),
     ];
-    expect(&rt, &answers);
+    expect(rt, &answers);
     assert_eq!(rt; get(&mut store, DUCT), Err(Refusal::Failed));
     let disk = store.close();
     assert_eq!(rt; disk.calls(), 7);
-    let mut store = open_fused(rt.alloc(), disk.into_inner(), NEVER)?;
+    let mut store = open_fused_over::<M>(rt.alloc(), disk.into_inner().below(), NEVER)?;
     assert_eq!(rt; get(&mut store, DUCT), Ok(Value::new(b"duct")));
     let _disk = store.close();
     Ok(())
+}
+
+#[test]
+fn store_fails_after_a_failed_write(rt: HostRuntime) -> Result<(), Fail> {
+    store_fails_after_a_failed_write_over::<MemDisk, _>(&rt)?;
+    store_fails_after_a_failed_write_over::<CachedDisk<MemDisk>, _>(&rt)
 }
 
 #[test]

@@ -5,14 +5,18 @@ use super::commands::{
 use super::differences::{change, conflict};
 use super::removing::{remove, remove_from};
 use super::{
-    expect, expect_list, expect_records, fresh_store, get, get_in, list, list_of, put, put_in,
+    OverMemory, expect, expect_list, expect_records, fresh_over, fresh_store, get, get_in, list,
+    list_of, put, put_in,
 };
+use std::process::Abort;
 use std::test::Fail;
+use vm_disk::{CachedDisk, MemDisk};
 use vm_types::{Answer, Refusal, Side, Value};
 
-#[test]
-fn conflict_is_settled_by_the_parents_value(rt: HostRuntime) -> Result<(), Fail> {
-    let mut store = fresh_store(rt.alloc())?;
+fn conflict_is_settled_by_the_parents_value_over<M: OverMemory, R: AllocGlobal + Abort>(
+    rt: &R,
+) -> Result<(), Fail> {
+    let mut store = fresh_over::<M>(rt.alloc())?;
     let unsettled = [
         (new(&mut store, b"a", b"top"), DONE),
         (put(&mut store, FIRST, b"x"), DONE),
@@ -31,15 +35,22 @@ fn conflict_is_settled_by_the_parents_value(rt: HostRuntime) -> Result<(), Fail>
     let posted = (post(&mut store, b"a"), DONE);
     let shown = (get(&mut store, FIRST), Ok(Value::new(b"x")));
     let _disk = store.close();
-    expect(&rt, &unsettled);
-    expect(&rt, &[settled, posted]);
-    expect(&rt, &[kept, taken, shown]);
+    expect(rt, &unsettled);
+    expect(rt, &[settled, posted]);
+    expect(rt, &[kept, taken, shown]);
     Ok(())
 }
 
 #[test]
-fn conflict_is_settled_by_ones_own_value(rt: HostRuntime) -> Result<(), Fail> {
-    let mut store = fresh_store(rt.alloc())?;
+fn conflict_is_settled_by_the_parents_value(rt: HostRuntime) -> Result<(), Fail> {
+    conflict_is_settled_by_the_parents_value_over::<MemDisk, _>(&rt)?;
+    conflict_is_settled_by_the_parents_value_over::<CachedDisk<MemDisk>, _>(&rt)
+}
+
+fn conflict_is_settled_by_ones_own_value_over<M: OverMemory, R: AllocGlobal + Abort>(
+    rt: &R,
+) -> Result<(), Fail> {
+    let mut store = fresh_over::<M>(rt.alloc())?;
     let made = [
         (put(&mut store, FIRST, b"x"), DONE),
         (new(&mut store, b"a", b"top"), DONE),
@@ -55,17 +66,24 @@ fn conflict_is_settled_by_ones_own_value(rt: HostRuntime) -> Result<(), Fail> {
     let posted = (post(&mut store, b"a"), DONE);
     let shown = (get(&mut store, FIRST), Ok(Value::new(b"y")));
     let _disk = store.close();
-    expect(&rt, &made);
-    expect_list(&rt, &conflicts, &[conflict(1, b"x", b"", b"y")]);
-    expect(&rt, &[settled, posted]);
-    expect(&rt, &[kept, shown]);
+    expect(rt, &made);
+    expect_list(rt, &conflicts, &[conflict(1, b"x", b"", b"y")]);
+    expect(rt, &[settled, posted]);
+    expect(rt, &[kept, shown]);
     Ok(())
 }
 
-// Both sides give one record the same value, and take another one out.
 #[test]
-fn equal_changes_are_in_no_conflict(rt: HostRuntime) -> Result<(), Fail> {
-    let mut store = fresh_store(rt.alloc())?;
+fn conflict_is_settled_by_ones_own_value(rt: HostRuntime) -> Result<(), Fail> {
+    conflict_is_settled_by_ones_own_value_over::<MemDisk, _>(&rt)?;
+    conflict_is_settled_by_ones_own_value_over::<CachedDisk<MemDisk>, _>(&rt)
+}
+
+// Both sides give one record the same value, and take another one out.
+fn equal_changes_are_in_no_conflict_over<M: OverMemory, R: AllocGlobal + Abort>(
+    rt: &R,
+) -> Result<(), Fail> {
+    let mut store = fresh_over::<M>(rt.alloc())?;
     let made = [
         (put(&mut store, FIRST, b"x"), DONE),
         (put(&mut store, SECOND, b"x"), DONE),
@@ -86,17 +104,24 @@ fn equal_changes_are_in_no_conflict(rt: HostRuntime) -> Result<(), Fail> {
     let top = list(rt.alloc(), &mut store);
     let own = list_of(rt.alloc(), &mut store, b"a");
     let _disk = store.close();
-    expect(&rt, &made);
-    expect(&rt, &answers);
-    expect_list(&rt, &conflicts, &[]);
-    expect_records(&rt, &top?, &[(FIRST, b"z")]);
-    expect_records(&rt, &own?, &[(FIRST, b"z")]);
+    expect(rt, &made);
+    expect(rt, &answers);
+    expect_list(rt, &conflicts, &[]);
+    expect_records(rt, &top?, &[(FIRST, b"z")]);
+    expect_records(rt, &own?, &[(FIRST, b"z")]);
     Ok(())
 }
 
 #[test]
-fn back_restores_the_base_too(rt: HostRuntime) -> Result<(), Fail> {
-    let mut store = fresh_store(rt.alloc())?;
+fn equal_changes_are_in_no_conflict(rt: HostRuntime) -> Result<(), Fail> {
+    equal_changes_are_in_no_conflict_over::<MemDisk, _>(&rt)?;
+    equal_changes_are_in_no_conflict_over::<CachedDisk<MemDisk>, _>(&rt)
+}
+
+fn back_restores_the_base_too_over<M: OverMemory, R: AllocGlobal + Abort>(
+    rt: &R,
+) -> Result<(), Fail> {
+    let mut store = fresh_over::<M>(rt.alloc())?;
     let answers = [
         (new(&mut store, b"a", b"top"), DONE),
         (check(&mut store, b"a", b"c"), DONE),
@@ -111,17 +136,24 @@ fn back_restores_the_base_too(rt: HostRuntime) -> Result<(), Fail> {
     let posted = (post(&mut store, b"a"), Err(Refusal::NotMerged));
     let kept = (get(&mut store, FIRST), Ok(Value::new(b"x")));
     let _disk = store.close();
-    expect(&rt, &answers);
-    expect(&rt, &[posted]);
-    expect(&rt, &[absent, kept]);
+    expect(rt, &answers);
+    expect(rt, &[posted]);
+    expect(rt, &[absent, kept]);
     Ok(())
 }
 
-// Two settlements of one key come after the tests of the alternative.
 #[test]
-fn merge_and_post_want_an_alternative_with_a_parent(rt: HostRuntime) -> Result<(), Fail> {
+fn back_restores_the_base_too(rt: HostRuntime) -> Result<(), Fail> {
+    back_restores_the_base_too_over::<MemDisk, _>(&rt)?;
+    back_restores_the_base_too_over::<CachedDisk<MemDisk>, _>(&rt)
+}
+
+// Two settlements of one key come after the tests of the alternative.
+fn merge_and_post_want_an_alternative_with_a_parent_over<M: OverMemory, R: AllocGlobal + Abort>(
+    rt: &R,
+) -> Result<(), Fail> {
     let twice = [(FIRST, Side::Mine), (FIRST, Side::Mine)];
-    let mut store = fresh_store(rt.alloc())?;
+    let mut store = fresh_over::<M>(rt.alloc())?;
     let answers = [
         (new(&mut store, b"a", b"top"), DONE),
         (new(&mut store, b"b", b"a"), DONE),
@@ -145,8 +177,14 @@ fn merge_and_post_want_an_alternative_with_a_parent(rt: HostRuntime) -> Result<(
         (post(&mut store, b"nope"), Err(Refusal::NoSuchAlternative)),
     ];
     let _disk = store.close();
-    expect(&rt, &answers);
+    expect(rt, &answers);
     Ok(())
+}
+
+#[test]
+fn merge_and_post_want_an_alternative_with_a_parent(rt: HostRuntime) -> Result<(), Fail> {
+    merge_and_post_want_an_alternative_with_a_parent_over::<MemDisk, _>(&rt)?;
+    merge_and_post_want_an_alternative_with_a_parent_over::<CachedDisk<MemDisk>, _>(&rt)
 }
 
 #[test]

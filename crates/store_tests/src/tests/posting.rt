@@ -1,16 +1,19 @@
 //! What a Post answers, and what it leaves in both alternatives.
 use super::commands::{DONE, FIRST, SECOND, THIRD, changes_of, merge, new, post};
 use super::{
-    commit, expect, expect_list, expect_records, fresh_store, get, get_in, list, list_of, open_on,
-    put, put_in,
+    OverMemory, commit, expect, expect_list, expect_records, fresh_over, fresh_store, get, get_in,
+    list, list_of, open_on, put, put_in,
 };
+use std::process::Abort;
 use std::test::Fail;
+use vm_disk::{CachedDisk, MemDisk};
 use vm_types::{Answer, Refusal, Value};
 
 // The parent has the records of the base again, in another block.
-#[test]
-fn parent_that_went_back_to_the_base_is_merged(rt: HostRuntime) -> Result<(), Fail> {
-    let mut store = fresh_store(rt.alloc())?;
+fn parent_that_went_back_to_the_base_is_merged_over<M: OverMemory, R: AllocGlobal + Abort>(
+    rt: &R,
+) -> Result<(), Fail> {
+    let mut store = fresh_over::<M>(rt.alloc())?;
     let answers = [
         (put(&mut store, FIRST, b"x"), DONE),
         (new(&mut store, b"a", b"top"), DONE),
@@ -23,10 +26,16 @@ fn parent_that_went_back_to_the_base_is_merged(rt: HostRuntime) -> Result<(), Fa
     let records = list(rt.alloc(), &mut store);
     let changes = changes_of(rt.alloc(), &mut store, b"a");
     let _disk = store.close();
-    expect(&rt, &answers);
-    expect_records(&rt, &records?, &[(FIRST, b"x"), (SECOND, b"y")]);
-    expect_list(&rt, &changes, &[]);
+    expect(rt, &answers);
+    expect_records(rt, &records?, &[(FIRST, b"x"), (SECOND, b"y")]);
+    expect_list(rt, &changes, &[]);
     Ok(())
+}
+
+#[test]
+fn parent_that_went_back_to_the_base_is_merged(rt: HostRuntime) -> Result<(), Fail> {
+    parent_that_went_back_to_the_base_is_merged_over::<MemDisk, _>(&rt)?;
+    parent_that_went_back_to_the_base_is_merged_over::<CachedDisk<MemDisk>, _>(&rt)
 }
 
 #[test]

@@ -1,19 +1,30 @@
 //! Blocks that no version needs.
 use super::commands::new;
 use super::removing::remove;
-use super::{DUCT, commit, duct_disk, expect, fresh_store, get, get_in, list_of, open_on, put};
+use super::{
+    DUCT, OverMemory, commit, duct_disk, expect, fresh_over, fresh_store, get, get_in, list_of,
+    open_on, put,
+};
 use std::alloc::Global;
+use std::process::Abort;
 use std::test::Fail;
-use vm_disk::{Disk, FuseDisk, MemDisk};
+use vm_disk::{CachedDisk, Disk, FuseDisk, MemDisk};
 use vm_store::{Store, open};
 use vm_types::{Answer, Command, Key, Refusal, Value};
 
-#[test]
-fn new_store_of_64_blocks_has_30_free(rt: HostRuntime) -> Result<(), Fail> {
-    let store = fresh_store(rt.alloc())?;
+fn new_store_of_64_blocks_has_30_free_over<M: OverMemory, R: AllocGlobal + Abort>(
+    rt: &R,
+) -> Result<(), Fail> {
+    let store = fresh_over::<M>(rt.alloc())?;
     assert_eq!(rt; store.free(), Ok(30));
     let _disk = store.close();
     Ok(())
+}
+
+#[test]
+fn new_store_of_64_blocks_has_30_free(rt: HostRuntime) -> Result<(), Fail> {
+    new_store_of_64_blocks_has_30_free_over::<MemDisk, _>(&rt)?;
+    new_store_of_64_blocks_has_30_free_over::<CachedDisk<MemDisk>, _>(&rt)
 }
 
 #[test]
@@ -110,9 +121,10 @@ pub(super) fn put_record<D: Disk>(store: &mut Store<D>, number: u64) -> Result<A
 
 // The seventeenth record splits the leaf: two leaves and a root are written. The Remove of the eleventh
 // record marks, and that of the tenth leaves nine records, which are the first leaf: it writes no block.
-#[test]
-fn leaf_is_split_and_takes_the_place_of_the_root_again(rt: HostRuntime) -> Result<(), Fail> {
-    let mut store = fresh_store(rt.alloc())?;
+fn leaf_is_split_and_takes_the_place_of_the_root_again_over<M: OverMemory, R: AllocGlobal + Abort>(
+    rt: &R,
+) -> Result<(), Fail> {
+    let mut store = fresh_over::<M>(rt.alloc())?;
     for number in 1..18 {
         assert_eq!(rt;
             put_record(&mut store, number),
@@ -138,12 +150,9 @@ fn leaf_is_split_and_takes_the_place_of_the_root_again(rt: HostRuntime) -> Resul
     }
     let collapsed = store.free();
     let second = store.apply(&Command::Reclaim);
+    expect(rt, &[(first, Ok(Answer::Done)), (second, Ok(Answer::Done))]);
     expect(
-        &rt,
-        &[(first, Ok(Answer::Done)), (second, Ok(Answer::Done))],
-    );
-    expect(
-        &rt,
+        rt,
         &[
             (split, Ok(25)),
             (reclaimed, Ok(27)),
@@ -158,6 +167,12 @@ fn leaf_is_split_and_takes_the_place_of_the_root_again(rt: HostRuntime) -> Resul
     }
     let _disk = store.close();
     Ok(())
+}
+
+#[test]
+fn leaf_is_split_and_takes_the_place_of_the_root_again(rt: HostRuntime) -> Result<(), Fail> {
+    leaf_is_split_and_takes_the_place_of_the_root_again_over::<MemDisk, _>(&rt)?;
+    leaf_is_split_and_takes_the_place_of_the_root_again_over::<CachedDisk<MemDisk>, _>(&rt)
 }
 
 // A disk on which `top` has seventeen records, and `spur` under it the same map.

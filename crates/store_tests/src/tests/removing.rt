@@ -1,12 +1,13 @@
 //! Taking records out.
-use super::failing::{NEVER, open_fused};
+use super::failing::{NEVER, open_fused, open_fused_over};
 use super::{
-    DUCT, commit, duct_disk, every_block_filled, expect, expect_records, fresh_store, get, list,
-    open_on, put,
+    DUCT, OverMemory, commit, duct_disk, duct_over, every_block_filled, expect, expect_records,
+    fresh_over, get, list, open_on, open_over, put,
 };
 use std::alloc::Global;
+use std::process::Abort;
 use std::test::Fail;
-use vm_disk::{Disk, MemDisk};
+use vm_disk::{CachedDisk, Disk, MemDisk};
 use vm_store::Store;
 use vm_types::{Answer, Command, Key, Name, Refusal, Value};
 
@@ -56,50 +57,61 @@ fn removed_on(
 }
 
 // Opening the store of `duct` makes five device calls, the Put two, and the Commit four.
-#[test]
-fn what_was_removed_and_not_committed_leaves_no_trace_after_a_stop(
-    rt: HostRuntime,
-) -> Result<(), Fail> {
-    let mut store = open_fused(rt.alloc(), duct_disk(rt.alloc())?, 10)?;
+fn what_was_removed_and_not_committed_leaves_no_trace_after_a_stop_over<
+    M: OverMemory,
+    R: AllocGlobal + Abort,
+>(rt: &R) -> Result<(), Fail> {
+    let mut store = open_fused_over::<M>(rt.alloc(), duct_over::<M>(rt.alloc())?, 10)?;
     let stopped = [
         (put(&mut store, DUCT, b"pipe"), Ok(Answer::Done)),
         (commit(&mut store), Err(Refusal::Device)),
     ];
-    expect(&rt, &stopped);
+    expect(rt, &stopped);
     assert_eq!(rt; get(&mut store, DUCT), Err(Refusal::Failed));
-    let mut store = open_on(rt.alloc(), store.close().into_inner())?;
+    let mut store = open_over::<M>(rt.alloc(), store.close().into_inner().below())?;
     let shown = (get(&mut store, DUCT), Ok(Value::new(b"pipe")));
     let answers = [
         (put(&mut store, NEXT, b"x"), Ok(Answer::Done)),
         (remove(&mut store, NEXT), Ok(Answer::Done)),
     ];
     let removed = (get(&mut store, NEXT), Ok(None));
-    expect(&rt, &answers);
-    expect(&rt, &[shown, removed]);
-    let disk = store.close();
+    expect(rt, &answers);
+    expect(rt, &[shown, removed]);
+    let disk = store.close().below();
     assert!(rt; disk.is_dirty(34));
     assert!(rt; !disk.is_dirty(35));
     let filling = every_block_filled(rt.alloc(), 0xFF)?;
-    let mut store = open_on(rt.alloc(), disk.crash(&filling))?;
+    let mut store = open_over::<M>(rt.alloc(), disk.crash(&filling))?;
     let left = [
         (get(&mut store, DUCT), Ok(Value::new(b"pipe"))),
         (get(&mut store, NEXT), Ok(None)),
     ];
     let _disk = store.close();
-    expect(&rt, &left);
+    expect(rt, &left);
     Ok(())
 }
 
 #[test]
-fn record_that_is_absent_is_refused(rt: HostRuntime) -> Result<(), Fail> {
+fn what_was_removed_and_not_committed_leaves_no_trace_after_a_stop(
+    rt: HostRuntime,
+) -> Result<(), Fail> {
+    what_was_removed_and_not_committed_leaves_no_trace_after_a_stop_over::<MemDisk, _>(&rt)?;
+    what_was_removed_and_not_committed_leaves_no_trace_after_a_stop_over::<CachedDisk<MemDisk>, _>(
+        &rt,
+    )
+}
+
+fn record_that_is_absent_is_refused_over<M: OverMemory, R: AllocGlobal + Abort>(
+    rt: &R,
+) -> Result<(), Fail> {
     let none = Key {
         table: 0,
         number: 0,
     };
-    let mut store = fresh_store(rt.alloc())?;
+    let mut store = fresh_over::<M>(rt.alloc())?;
     let empty = (remove(&mut store, none), Err(Refusal::NoSuchRecord));
     let _disk = store.close();
-    let mut store = open_on(rt.alloc(), duct_disk(rt.alloc())?)?;
+    let mut store = open_over::<M>(rt.alloc(), duct_over::<M>(rt.alloc())?)?;
     let answers = [
         empty,
         (remove(&mut store, none), Err(Refusal::NoSuchRecord)),
@@ -109,10 +121,16 @@ fn record_that_is_absent_is_refused(rt: HostRuntime) -> Result<(), Fail> {
             Err(Refusal::NoSuchAlternative),
         ),
     ];
-    expect(&rt, &answers);
+    expect(rt, &answers);
     assert_eq!(rt; get(&mut store, DUCT), Ok(Value::new(b"duct")));
     let _disk = store.close();
     Ok(())
+}
+
+#[test]
+fn record_that_is_absent_is_refused(rt: HostRuntime) -> Result<(), Fail> {
+    record_that_is_absent_is_refused_over::<MemDisk, _>(&rt)?;
+    record_that_is_absent_is_refused_over::<CachedDisk<MemDisk>, _>(&rt)
 }
 
 #[test]

@@ -1,11 +1,13 @@
 //! Alternatives and checkpoints, by hand.
 use super::commands::{DONE, FIRST, back, check, drop_alt, name, new, uncheck};
 use super::{
-    DUCT, commit, duct_disk, expect, fresh_disk, fresh_store, get_in, open_on, put, put_in,
+    DUCT, OverMemory, commit, duct_disk, expect, formatted_over, fresh_disk, fresh_over,
+    fresh_store, get_in, open_on, open_over, put, put_in,
 };
 use std::alloc::Global;
+use std::process::Abort;
 use std::test::Fail;
-use vm_disk::{Disk, FuseDisk};
+use vm_disk::{CachedDisk, Disk, FuseDisk, MemDisk};
 use vm_store::{Store, open};
 use vm_types::{Refusal, Value};
 
@@ -47,9 +49,10 @@ fn are_checkpoints<D: Disk>(
     Ok(list.len() == expected.len() && same)
 }
 
-#[test]
-fn commands_on_alternatives_are_refused_in_their_order(rt: HostRuntime) -> Result<(), Fail> {
-    let mut store = fresh_store(rt.alloc())?;
+fn commands_on_alternatives_are_refused_in_their_order_over<M: OverMemory, R: AllocGlobal + Abort>(
+    rt: &R,
+) -> Result<(), Fail> {
+    let mut store = fresh_over::<M>(rt.alloc())?;
     let answers = [
         (new(&mut store, b"a", b"top"), DONE),
         (new(&mut store, b"b", b"a"), DONE),
@@ -70,7 +73,7 @@ fn commands_on_alternatives_are_refused_in_their_order(rt: HostRuntime) -> Resul
         (drop_alt(&mut store, b"b"), DONE),
         (drop_alt(&mut store, b"a"), DONE),
     ];
-    expect(&rt, &answers);
+    expect(rt, &answers);
     assert_eq!(rt;
         get_in(&mut store, b"a", FIRST),
         Err(Refusal::NoSuchAlternative)
@@ -80,8 +83,15 @@ fn commands_on_alternatives_are_refused_in_their_order(rt: HostRuntime) -> Resul
 }
 
 #[test]
-fn commands_on_checkpoints_are_refused_in_their_order(rt: HostRuntime) -> Result<(), Fail> {
-    let mut store = fresh_store(rt.alloc())?;
+fn commands_on_alternatives_are_refused_in_their_order(rt: HostRuntime) -> Result<(), Fail> {
+    commands_on_alternatives_are_refused_in_their_order_over::<MemDisk, _>(&rt)?;
+    commands_on_alternatives_are_refused_in_their_order_over::<CachedDisk<MemDisk>, _>(&rt)
+}
+
+fn commands_on_checkpoints_are_refused_in_their_order_over<M: OverMemory, R: AllocGlobal + Abort>(
+    rt: &R,
+) -> Result<(), Fail> {
+    let mut store = fresh_over::<M>(rt.alloc())?;
     let answers = [
         (new(&mut store, b"a", b"top"), DONE),
         (back(&mut store, b"a", b"q"), Err(Refusal::NoSuchCheckpoint)),
@@ -102,7 +112,7 @@ fn commands_on_checkpoints_are_refused_in_their_order(rt: HostRuntime) -> Result
         ),
         (back(&mut store, b"top", b"c"), DONE),
     ];
-    expect(&rt, &answers);
+    expect(rt, &answers);
     for refused in [
         check(&mut store, b"c", b"c"),
         uncheck(&mut store, b"c", b"c"),
@@ -112,6 +122,12 @@ fn commands_on_checkpoints_are_refused_in_their_order(rt: HostRuntime) -> Result
     }
     let _disk = store.close();
     Ok(())
+}
+
+#[test]
+fn commands_on_checkpoints_are_refused_in_their_order(rt: HostRuntime) -> Result<(), Fail> {
+    commands_on_checkpoints_are_refused_in_their_order_over::<MemDisk, _>(&rt)?;
+    commands_on_checkpoints_are_refused_in_their_order_over::<CachedDisk<MemDisk>, _>(&rt)
 }
 
 #[test]
@@ -205,9 +221,10 @@ fn versions_are_there_after_opening(rt: HostRuntime) -> Result<(), Fail> {
 }
 
 // 30 blocks are for data. Each of the 15 checkpoints keeps one, so 15 are spare for the next Put.
-#[test]
-fn checkpoints_keep_their_blocks(rt: HostRuntime) -> Result<(), Fail> {
-    let mut store = fresh_store(rt.alloc())?;
+fn checkpoints_keep_their_blocks_over<M: OverMemory, R: AllocGlobal + Abort>(
+    rt: &R,
+) -> Result<(), Fail> {
+    let mut store = fresh_over::<M>(rt.alloc())?;
     for n in 1..16 {
         assert_eq!(rt; put_in(&mut store, b"top", FIRST, b"v"), DONE);
         assert_eq!(rt; check(&mut store, b"top", &numbered(n)), DONE);
@@ -221,15 +238,22 @@ fn checkpoints_keep_their_blocks(rt: HostRuntime) -> Result<(), Fail> {
         (commit(&mut store), DONE),
         (put_in(&mut store, b"top", FIRST, b"v"), DONE),
     ];
-    expect(&rt, &answers);
+    expect(rt, &answers);
     assert_eq!(rt; store.free(), Ok(15));
     let _disk = store.close();
     Ok(())
 }
 
 #[test]
-fn five_hundred_and_eleven_entries_are_the_most(rt: HostRuntime) -> Result<(), Fail> {
-    let disk = FuseDisk::once(fresh_disk(rt.alloc())?, 1000, [9; 4096]);
+fn checkpoints_keep_their_blocks(rt: HostRuntime) -> Result<(), Fail> {
+    checkpoints_keep_their_blocks_over::<MemDisk, _>(&rt)?;
+    checkpoints_keep_their_blocks_over::<CachedDisk<MemDisk>, _>(&rt)
+}
+
+fn five_hundred_and_eleven_entries_are_the_most_over<M: OverMemory, R: AllocGlobal + Abort>(
+    rt: &R,
+) -> Result<(), Fail> {
+    let disk = FuseDisk::once(formatted_over::<M>(rt.alloc())?, 1000, [9; 4096]);
     let mut store = open(rt.alloc(), disk).map_err(|refused| refused.1)?;
     for n in 1..511 {
         assert_eq!(rt; check(&mut store, b"top", &numbered(n)), DONE, "{n}");
@@ -239,10 +263,10 @@ fn five_hundred_and_eleven_entries_are_the_most(rt: HostRuntime) -> Result<(), F
         (new(&mut store, b"a", b"top"), Err(Refusal::TooMany)),
         (commit(&mut store), DONE),
     ];
-    expect(&rt, &last);
+    expect(rt, &last);
     let disk = store.close();
     assert_eq!(rt; disk.calls(), 23, "4 for opening, and 19 for Commit");
-    let mut store = open_on(rt.alloc(), disk.into_inner())?;
+    let mut store = open_over::<M>(rt.alloc(), disk.into_inner().below())?;
     let answers = [
         (
             check(&mut store, b"top", &numbered(510)),
@@ -251,9 +275,15 @@ fn five_hundred_and_eleven_entries_are_the_most(rt: HostRuntime) -> Result<(), F
         (uncheck(&mut store, b"top", &numbered(77)), DONE),
         (new(&mut store, b"a", b"top"), DONE),
     ];
-    expect(&rt, &answers);
+    expect(rt, &answers);
     let _disk = store.close();
     Ok(())
+}
+
+#[test]
+fn five_hundred_and_eleven_entries_are_the_most(rt: HostRuntime) -> Result<(), Fail> {
+    five_hundred_and_eleven_entries_are_the_most_over::<MemDisk, _>(&rt)?;
+    five_hundred_and_eleven_entries_are_the_most_over::<CachedDisk<MemDisk>, _>(&rt)
 }
 
 #[test]
@@ -284,9 +314,10 @@ fn calls_that_change_entries_alone_make_no_device_call(rt: HostRuntime) -> Resul
     Ok(())
 }
 
-#[test]
-fn alternatives_are_listed_in_order_of_creation(rt: HostRuntime) -> Result<(), Fail> {
-    let mut store = fresh_store(rt.alloc())?;
+fn alternatives_are_listed_in_order_of_creation_over<M: OverMemory, R: AllocGlobal + Abort>(
+    rt: &R,
+) -> Result<(), Fail> {
+    let mut store = fresh_over::<M>(rt.alloc())?;
     let first = are_alternatives(rt.alloc(), &store, &[(b"top", b"")]);
     let made = [
         (new(&mut store, b"b", b"top"), DONE),
@@ -303,13 +334,19 @@ fn alternatives_are_listed_in_order_of_creation(rt: HostRuntime) -> Result<(), F
     let all: [(&[u8], &[u8]); 4] = [(b"top", b""), (b"b", b"top"), (b"d", b"top"), (b"a", b"d")];
     let third = are_alternatives(rt.alloc(), &store, &all);
     let _disk = store.close();
-    expect(&rt, &made);
-    expect(&rt, &moved);
+    expect(rt, &made);
+    expect(rt, &moved);
     expect(
-        &rt,
+        rt,
         &[(first, Ok(true)), (second, Ok(true)), (third, Ok(true))],
     );
     Ok(())
+}
+
+#[test]
+fn alternatives_are_listed_in_order_of_creation(rt: HostRuntime) -> Result<(), Fail> {
+    alternatives_are_listed_in_order_of_creation_over::<MemDisk, _>(&rt)?;
+    alternatives_are_listed_in_order_of_creation_over::<CachedDisk<MemDisk>, _>(&rt)
 }
 
 #[test]

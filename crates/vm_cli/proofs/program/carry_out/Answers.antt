@@ -4,7 +4,7 @@ use Rattle.clap.specs.Words.{kind_of}
 use Rattle.vm_cli.specs.Exits.{IsJob}
 use Rattle.vm_cli.specs.Words.Wanted.{create, run}
 use Rattle.vm_cli.proofs.ExitLemmas.{help_or_mistake, helped, made, mistaken, no_memory, talked}
-use Rattle.vm_cli.proofs.FilesLemmas.{did_create, did_nothing, did_run, no_fault, stopped_short}
+use Rattle.vm_cli.proofs.FilesLemmas.{did_create, did_nothing, did_run, no_fault}
 use Rattle.vm_cli.proofs.program.carry_out.Goals as goal
 
 pub returns-in-Ok-Create-clause-ends : goal.returns-in-Ok-Create-clause-ends
@@ -37,19 +37,19 @@ returns-in-Ok-Create-clause-files g c honest =
     let words = map string_bytes c.args.words.now in
     let e = rw c.in-Ok-Create.field-0-is at c.in-Ok-Create.ensures in
     let job : IsJob words (create c.in-Ok-Create.file.now c.in-Ok-Create.blocks) = (e.faults, e.ok) in
-    did_create g.P.D.Disk _ words _ _ _ _ _ _ _ _ job (c.create.ensures.files honest)
+    did_create g.P.D.Disk _ _ _ words _ _ _ _ _ _ _ _ _ _ job (c.create.ensures.files honest)
 
 pub returns-in-Ok-Run-clause-files : goal.returns-in-Ok-Run-clause-files
 returns-in-Ok-Run-clause-files g c honest =
     let words = map string_bytes c.args.words.now in
     let e = rw c.in-Ok-Run.field-0-is at c.in-Ok-Run.ensures in
     let job : IsJob words (run c.in-Ok-Run.file.now c.in-Ok-Run.cache) = (e.faults, e.ok) in
-    did_run g.P.D.Disk _ words _ _ _ _ _ _ c.in-Ok-Run.file.now c.in-Ok-Run.cache job (c.run.ensures.files honest)
+    did_run g.P.D.Disk _ _ _ words _ _ _ _ _ _ _ _ c.in-Ok-Run.file.now c.in-Ok-Run.cache job (c.run.ensures.files honest)
 
 pub returns-in-Err-clause-files : goal.returns-in-Err-clause-files
 returns-in-Err-clause-files g c honest =
     let words = map string_bytes c.args.words.now in
-    did_nothing g.P.D.Disk _ words _ _ _ _ _ _ (λ name. refl) (λ job asked. elim c.in-Err.ensures.faults [
-      | inl memory ↦ stopped_short _ (c.explain.ensures.memory memory).0
+    did_nothing g.P.D.Disk _ _ _ words _ _ _ _ _ _ _ _ refl (λ job asked. elim c.in-Err.ensures.faults [
+      | inl memory ↦ (c.explain.ensures.memory memory).0
       | inr among ↦ absurd (no_fault (kind_of c.in-Err.error) words job asked among)
     ])

@@ -22,3 +22,13 @@ returns-clause-files g c honest =
       stays = λ contents there. let no : None ≡ Some contents = sym made.absent ∙ there in absurd cc;
       others = λ other apart. back.others other apart ∙ made.others other apart;
     }
+
+pub returns-in_default-clause-files : goal.returns-in_default-clause-files
+returns-in_default-clause-files g c honest =
+    let denied = c.create.ensures.honest honest in
+    record {
+      made = λ done. absurd (not_done _ _ _ _ c.no_file.ensures done);
+      lays = inr (c.create.ensures.none c.in_default.is, c.no_file.ensures);
+      stays = denied.stays;
+      others = denied.others;
+    }

@@ -1,6 +1,6 @@
 use Rattle.std.proofs.Common.{◌≡◌, ◌∙◌, ap, inl, inr, refl, sym, Some}
 use Rattle.vm_cli.specs.Places.{KeepsOthers}
-use Rattle.vm_cli.proofs.FilesLemmas.{keeps_all, kept_told, not_done, synced_alone, was_honest}
+use Rattle.vm_cli.proofs.FilesLemmas.{keeps_all, kept_told, synced_alone, was_honest}
 use Rattle.vm_cli.proofs.program.run.Goals as goal
 
 pub returns-clause-files : goal.returns-clause-files
@@ -27,5 +27,11 @@ returns-clause-files g c honest =
       | inr refused ↦
           let held = found.held (refused.1.goes.earlier back.honest) in
           let same = back.holds ∙ ap Some (synced_alone _ _ (refused.1.moments back.honest)) ∙ sym held.0 in
-          inr (not_done _ _ _ _ refused.2, keeps_all c.args.file.now before after others same)
+          inr (record {
+            same = keeps_all c.args.file.now before after others same;
+            told = inr (_, refused.0, held.0, refused.1.why back.honest, refused.2);
+          })
     ]
+
+pub returns-in_default-clause-files : goal.returns-in_default-clause-files
+returns-in_default-clause-files g c honest = inr (record { same = (c.find.ensures.honest honest).same; told = inl (c.find.ensures.none c.in_default.is, c.no_file.ensures) })

@@ -1,5 +1,5 @@
 use Rattle.vm_cli.proofs.RealFilesLemmas.{creates}
-use Rattle.vm_cli.proofs.place.RealFilesPlace.create.Goals as goal
+use Rattle.vm_cli.proofs.place.RealFiles.made.Goals as goal
 
 pub returns-clause-honest : goal.returns-clause-honest
 returns-clause-honest g c honest =

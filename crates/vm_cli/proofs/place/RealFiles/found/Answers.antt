@@ -1,5 +1,5 @@
 use Rattle.vm_cli.proofs.RealFilesLemmas.{finds}
-use Rattle.vm_cli.proofs.place.RealFilesPlace.find.Goals as goal
+use Rattle.vm_cli.proofs.place.RealFiles.found.Goals as goal
 
 pub returns-clause-honest : goal.returns-clause-honest
 returns-clause-honest g c honest =

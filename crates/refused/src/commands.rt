@@ -1,0 +1,107 @@
+//! The list of commands, and the same as lines.
+use crate::wanting::Wrong;
+use std::alloc::Global;
+use vm_types::{Answer, Command, Key, Name, Refusal, Settled, Value};
+
+/// What a command is answered.
+pub type Reply = Result<Answer, Refusal>;
+
+/// How many commands there are.
+pub const COMMANDS: usize = 13;
+
+/// Which of them is the merge, counted from 0.
+pub const MERGE: usize = 6;
+
+/// The commands as lines, and the queries behind them.
+pub const LINES: [&str; COMMANDS + 5] = [
+    "put top 1 1 a",
+    "new x top",
+    "put x 1 1 b",
+    "checkpoint x c",
+    "commit",
+    "put top 1 2 d",
+    "merge x",
+    "post x",
+    "uncheck x c",
+    "commit",
+    "put top 1 3 e",
+    "remove top 1 1",
+    "commit",
+    "list x",
+    "changes x",
+    "conflicts x",
+    "alts",
+    "checks x",
+];
+
+fn top() -> Name {
+    let Some(name) = Name::new(b"top") else {
+        unreachable!();
+    };
+    name
+}
+
+// A name, or `top` where the bytes are none.
+fn name(bytes: &[u8]) -> Name {
+    Name::new(bytes).unwrap_or(top())
+}
+
+fn key(number: u64) -> Key {
+    Key { table: 1, number }
+}
+
+fn put(alt: Name, number: u64, bytes: &[u8]) -> Command {
+    Command::Put {
+        alt,
+        key: key(number),
+        value: Value::new(bytes).unwrap_or_default(),
+    }
+}
+
+/// The command of this number, from 0. It takes no memory.
+pub(crate) fn command(alloc: Global, n: usize) -> Command {
+    let (x, c) = (name(b"x"), name(b"c"));
+    match n {
+        0 => put(top(), 1, b"a"),
+        1 => Command::New {
+            name: x,
+            parent: top(),
+        },
+        2 => put(x, 1, b"b"),
+        3 => Command::Checkpoint { alt: x, name: c },
+        5 => put(top(), 2, b"d"),
+        MERGE => Command::Merge {
+            alt: x,
+            settled: Settled::from_vec(Vec::new(alloc)),
+        },
+        7 => Command::Post { alt: x },
+        8 => Command::Uncheck { alt: x, name: c },
+        10 => put(top(), 3, b"e"),
+        11 => Command::Remove {
+            alt: top(),
+            key: key(1),
+        },
+        _ => Command::Commit,
+    }
+}
+
+/// All of them, or all but the merge.
+pub(crate) fn commands(alloc: Global, merges: bool) -> Result<Vec<Command>, Wrong> {
+    let mut commands = Vec::new(alloc);
+    for n in 0..COMMANDS {
+        if merges || n != MERGE {
+            commands.push(command(alloc, n)).map_err(|_| Wrong::Again)?;
+        }
+    }
+    Ok(commands)
+}
+
+/// Writes an answer in one word, or two.
+pub(crate) fn write_reply(text: &mut String, reply: Reply) -> Result<(), Wrong> {
+    match reply {
+        Ok(Answer::Done) => text.push_str("ok\n")?,
+        Ok(Answer::Merged(count)) => writeln!(text, "ok {count}")?,
+        Err(refusal) => writeln!(text, "error {refusal}")?,
+    }
+    Ok(())
+}

@@ -1,0 +1,85 @@
+//! The commands as one list.
+use crate::commands::{MERGE, Reply, commands, write_reply};
+use crate::opening::{new_store, reopen};
+use crate::sight::{expect, look};
+use crate::wanting::{Wanting, Wrong};
+use std::alloc::Global;
+use vm_disk::MemDisk;
+use vm_store::{Stop, Store};
+use vm_types::{Command, Refusal};
+
+// Runs a list. Where there is no memory for the answers, nothing has changed, and it is run once more.
+fn run(
+    alloc: Global,
+    store: &mut Store<MemDisk>,
+    list: &[Command],
+    wanting: &mut Wanting,
+) -> Result<Vec<Reply>, Wrong> {
+    let before = look(alloc, store, wanting)?;
+    let (mut answers, mut stop) = store.run(alloc, list);
+    if stop == Some(Stop::Memory) {
+        wanting.note("run");
+        if !answers.is_empty() {
+            return Err(Wrong::Found("a refused list has answers"));
+        }
+        expect(
+            alloc,
+            store,
+            before.as_str(),
+            "a refused list has changed the store",
+        )?;
+        (answers, stop) = store.run(alloc, list);
+    }
+    match stop {
+        None => Ok(answers),
+        Some(_) => Err(Wrong::Found("a list has stopped")),
+    }
+}
+
+// Runs a list on a new store, and gives the answers and all that is shown then, opened again too.
+fn run_whole(
+    alloc: Global,
+    list: &[Command],
+    wanting: &mut Wanting,
+) -> Result<(Vec<Reply>, String), Wrong> {
+    let mut store = new_store(alloc, wanting)?;
+    let answers = run(alloc, &mut store, list, wanting);
+    let shown = look(alloc, &mut store, wanting);
+    let disk = store.close();
+    Ok((answers?, reopen(alloc, disk, shown?, wanting)?))
+}
+
+// Whether a list whose merge was refused was answered, and has left, what the list without it does.
+fn is_without_merge(
+    alloc: Global,
+    answers: &[Reply],
+    shown: &str,
+    wanting: &mut Wanting,
+) -> Result<bool, Wrong> {
+    let list = commands(alloc, false)?;
+    let (due, due_shown) = run_whole(alloc, list.as_slice(), wanting)?;
+    let others = answers.iter().enumerate().filter(|it| it.0 != MERGE);
+    Ok(
+        answers.len() == due.len().saturating_add(1)
+            && others.zip(&due).all(|(answer, due)| answer.1 == due)
+            && shown == due_shown.as_str(),
+    )
+}
+
+pub(crate) fn carry_out(alloc: Global, wanting: &mut Wanting) -> Result<String, Wrong> {
+    let list = commands(alloc, true)?;
+    let (answers, shown) = run_whole(alloc, list.as_slice(), wanting)?;
+    if matches!(answers.get(MERGE), Some(Err(Refusal::Memory))) {
+        wanting.note("merge in a list");
+        if !is_without_merge(alloc, answers.as_slice(), shown.as_str(), wanting)? {
+            return Err(Wrong::Found("a refused merge in a list has changed the store"));
+        }
+        return Err(Wrong::Again);
+    }
+    let mut text = String::from_str(alloc, "as a list:\n")?;
+    for answer in &answers {
+        write_reply(&mut text, *answer)?;
+    }
+    text.push_str(shown.as_str())?;
+    Ok(text)
+}

@@ -1,0 +1,71 @@
+//! The program `refused`: one list of commands, carried out where an allocation is refused.
+//!
+//! It carries the commands out over disks in memory, by a call for each, as one list, and as lines, and prints
+//! what is answered and what the store shows. Where it meets a refusal, it looks whether anything was lost,
+//! asks once more, and says on its standard error what was refused; its output is the same each time.
+//! `tools/refuse_allocations.sh` refuses it one allocation after another.
+#![tactic(auto)]
+
+mod calls;
+mod closing;
+mod commands;
+mod lines;
+mod lists;
+mod opening;
+mod sight;
+mod wanting;
+
+use std::alloc::Global;
+use std::io::{self, ErrorKind};
+use wanting::{Wanting, Wrong};
+
+/// How the commands are carried out.
+#[derive(Clone, Copy)]
+enum Way {
+    Calls,
+    List,
+    Lines,
+    Closing,
+}
+
+const WAYS: [Way; 4] = [Way::Calls, Way::List, Way::Lines, Way::Closing];
+
+fn try_way(alloc: Global, way: Way, wanting: &mut Wanting) -> Result<String, Wrong> {
+    match way {
+        Way::Calls => calls::carry_out(alloc, wanting),
+        Way::List => lists::carry_out(alloc, wanting),
+        Way::Lines => lines::carry_out(alloc, wanting),
+        Way::Closing => closing::carry_out(alloc, wanting),
+    }
+}
+
+// Begins anew where that is asked for, as where the memory that was refused is this program's own.
+fn carry_out(alloc: Global, way: Way, wanting: &mut Wanting) -> Result<String, Wrong> {
+    match try_way(alloc, way, wanting) {
+        Err(Wrong::Again) => {
+            if wanting.is_none() {
+                wanting.note("memory of the test");
+            }
+            try_way(alloc, way, wanting)
+        }
+        carried_out => carried_out,
+    }
+}
+
+fn main(rt: HostRuntime) -> io::Result<()> {
+    for way in WAYS {
+        let mut wanting = Wanting::default();
+        let trace = match carry_out(rt.alloc(), way, &mut wanting) {
+            Ok(trace) => trace,
+            Err(wrong) => {
+                eprintln!(rt; "{wrong:?}, after {wanting:?}")?;
+                return Err(io::Error::from(ErrorKind::Other));
+            }
+        };
+        print!(rt; "{trace}")?;
+        if !wanting.is_none() {
+            eprintln!(rt; "refused: {}, {}", wanting.what, wanting.times)?;
+        }
+    }
+    Ok(())
+}

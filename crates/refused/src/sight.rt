@@ -1,0 +1,137 @@
+//! What a store shows, as a text.
+use crate::wanting::{Wanting, Wrong};
+use std::alloc::{AllocError, Global};
+use std::str;
+use vm_disk::MemDisk;
+use vm_store::Store;
+use vm_types::{Name, Refusal, Value};
+
+/// Why nothing is shown.
+#[derive(Clone, Copy)]
+enum Blind {
+    /// A query was refused for want of memory.
+    Wanting(&'static str),
+    /// Another reason.
+    Other(Wrong),
+}
+
+impl From<AllocError> for Blind {
+    fn from(_: AllocError) -> Blind {
+        Blind::Other(Wrong::Again)
+    }
+}
+
+// What a query gives. It may only want memory.
+fn given<T>(query: &'static str, answer: Result<T, Refusal>) -> Result<T, Blind> {
+    match answer {
+        Ok(value) => Ok(value),
+        Err(Refusal::Memory) => Err(Blind::Wanting(query)),
+        Err(_) => Err(Blind::Other(Wrong::Found(query))),
+    }
+}
+
+// A value as a text, `~` for none.
+fn text_of(value: Option<&Value>) -> &str {
+    match value {
+        Some(value) => str::from_utf8(value.as_bytes()).unwrap_or("?"),
+        None => "~",
+    }
+}
+
+// Writes the records of an alternative, its changes, and its checkpoints.
+fn write_maps(
+    alloc: Global,
+    store: &mut Store<MemDisk>,
+    alt: &Name,
+    text: &mut String,
+) -> Result<(), Blind> {
+    for (key, value) in &given("list", store.list(alloc, alt))? {
+        writeln!(text, "{alt}: record {key} {}", text_of(Some(value)))?;
+    }
+    for change in &given("changes", store.changes(alloc, alt))? {
+        let (before, after) = (
+            text_of(change.before.as_ref()),
+            text_of(change.after.as_ref()),
+        );
+        writeln!(text, "{alt}: change {} {before} {after}", change.key)?;
+    }
+    for name in &given("checkpoints", store.checkpoints(alloc, alt))? {
+        writeln!(text, "{alt}: checkpoint {name}")?;
+    }
+    Ok(())
+}
+
+// Writes what an alternative has in conflict with its parent.
+fn write_conflicts(
+    alloc: Global,
+    store: &mut Store<MemDisk>,
+    alt: &Name,
+    text: &mut String,
+) -> Result<(), Blind> {
+    for conflict in &given("conflicts", store.conflicts(alloc, alt))? {
+        let (base, parent) = (
+            text_of(conflict.base.as_ref()),
+            text_of(conflict.parent.as_ref()),
+        );
+        let mine = text_of(conflict.mine.as_ref());
+        writeln!(
+            text,
+            "{alt}: conflict {} {base} {parent} {mine}",
+            conflict.key
+        )?;
+    }
+    Ok(())
+}
+
+fn see(alloc: Global, store: &mut Store<MemDisk>) -> Result<String, Blind> {
+    let mut text = String::new(alloc);
+    for (alt, parent) in &given("alternatives", store.alternatives(alloc))? {
+        match parent {
+            Some(parent) => writeln!(text, "alternative {alt} {parent}")?,
+            None => writeln!(text, "alternative {alt} ~")?,
+        }
+        write_maps(alloc, store, alt, &mut text)?;
+        if parent.is_some() {
+            write_conflicts(alloc, store, alt, &mut text)?;
+        }
+    }
+    match store.free() {
+        Ok(free) => writeln!(text, "free {free}")?,
+        Err(_) => return Err(Blind::Other(Wrong::Found("free"))),
+    }
+    Ok(text)
+}
+
+/// All that a store shows: alternatives, records, changes, conflicts, checkpoints, and how many blocks
+/// are free. Where a query is refused for want of memory, all is asked once more.
+pub(crate) fn look(
+    alloc: Global,
+    store: &mut Store<MemDisk>,
+    wanting: &mut Wanting,
+) -> Result<String, Wrong> {
+    let seen = match see(alloc, store) {
+        Err(Blind::Wanting(query)) => {
+            wanting.note(query);
+            see(alloc, store)
+        }
+        seen => seen,
+    };
+    match seen {
+        Ok(text) => Ok(text),
+        Err(Blind::Wanting(query)) => Err(Wrong::Found(query)),
+        Err(Blind::Other(wrong)) => Err(wrong),
+    }
+}
+
+/// Looks whether the store shows this.
+pub(crate) fn expect(
+    alloc: Global,
+    store: &mut Store<MemDisk>,
+    before: &str,
+    found: &'static str,
+) -> Result<(), Wrong> {
+    match see(alloc, store) {
+        Ok(text) if text.as_str() == before => Ok(()),
+        _ => Err(Wrong::Found(found)),
+    }
+}
