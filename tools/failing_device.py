@@ -50,7 +50,7 @@ def try_calls(folder, fails_on, torn):
 def read_queries(altctl, file, variables=None):
     """What each record is answered, and the list."""
     lines = [f"get top 1 {number}" for number in range(1, RECORDS + 1)] + ["list top", "free"]
-    return start(altctl, ["run", file], lines, variables=variables)
+    return start(altctl, ["run", "--cache", "0", file], lines, variables=variables)
 
 
 def try_blocks(folder):
