@@ -1,5 +1,7 @@
 //! What each disk holds after a few calls, by hand.
-use crate::{CachedDisk, DeviceFault, Disk, FileDisk, FuseDisk, MemDisk, Positional, SystemFile};
+use crate::{
+    CachedDisk, DeviceFault, Disk, FileDisk, FuseDisk, History, MemDisk, Positional, SystemFile,
+};
 use std::alloc::{AllocError, Global};
 use std::fs;
 use std::marker::Brand;
@@ -291,7 +293,8 @@ fn file_that_fails(rt: HostRuntime) -> Result<(), Fail> {
 fn system_file_holds_what_was_written(rt: HostRuntime) -> Result<(), Fail> {
     let path = "vm_disk_system_file_test";
     let _ = fs::remove_file(&rt, path);
-    let Some(file) = SystemFile::<Brand>::create(&rt, path) else {
+    let mut opened = History::new();
+    let Some(file) = SystemFile::<Brand>::create(&rt, path, &opened) else {
         panic!(rt; "not made");
     };
     let Some(mut disk) = FileDisk::create(file, 17) else {
@@ -301,7 +304,8 @@ fn system_file_holds_what_was_written(rt: HostRuntime) -> Result<(), Fail> {
     disk.sync()?;
     let _ = disk.into_file();
 
-    let Some(file) = SystemFile::<Brand>::open(&rt, path) else {
+    opened.note(&());
+    let Some(file) = SystemFile::<Brand>::open(&rt, path, &opened) else {
         panic!(rt; "not opened");
     };
     let Some(mut disk) = FileDisk::open(file) else {

@@ -1,9 +1,9 @@
 //! How many blocks of a file are kept in memory.
-use super::{CREATE, RUN, Shelf, ran};
+use super::{CREATE, RUN, ran};
 use std::alloc::Global;
 use std::process::Abort;
 use std::test::Fail;
-use vm_cli::{Job, job};
+use vm_cli::{Job, MemFiles, Place, job};
 
 fn owned(alloc: Global, words: &[&str]) -> Result<Vec<String>, Fail> {
     let mut owned = Vec::new(alloc);
@@ -53,14 +53,14 @@ fn answers_are_the_same_whatever_is_kept(rt: HostRuntime) -> Result<(), Fail> {
         ["altctl", "run", "--cache", "65536", "f"].as_slice(),
         ["altctl", "run", "f", "--cache=4"].as_slice(),
     ] {
-        let mut shelf = Shelf::new(rt.alloc());
-        let made = ran(rt.alloc(), &mut shelf, CREATE.as_slice(), b"")?;
+        let mut files = MemFiles::new(rt.alloc());
+        let made = ran(rt.alloc(), &mut files, CREATE.as_slice(), b"")?;
         made.expect(&rt, 0, b"created 64\n", b"");
         let lines = b"put top 7 1 duct\ncommit\nput top 7 1 pipe\nget top 7 1\nlist top\n";
-        let first = ran(rt.alloc(), &mut shelf, words, lines)?;
+        let first = ran(rt.alloc(), &mut files, words, lines)?;
         let answers = b"ok\nok\nok\nvalue pipe\nrecord 7 1 pipe\nend 1\n";
         first.expect(&rt, 0, answers, b"");
-        let again = ran(rt.alloc(), &mut shelf, words, b"get top 7 1\nfree\n")?;
+        let again = ran(rt.alloc(), &mut files, words, b"get top 7 1\nfree\n")?;
         again.expect(&rt, 0, b"value duct\nfree 29\n", b"");
     }
     Ok(())
@@ -68,8 +68,8 @@ fn answers_are_the_same_whatever_is_kept(rt: HostRuntime) -> Result<(), Fail> {
 
 #[test]
 fn refuses_a_number_that_is_none_or_too_large(rt: HostRuntime) -> Result<(), Fail> {
-    let mut shelf = Shelf::new(rt.alloc());
-    let _made = ran(rt.alloc(), &mut shelf, CREATE.as_slice(), b"")?;
+    let mut files = MemFiles::new(rt.alloc());
+    let _made = ran(rt.alloc(), &mut files, CREATE.as_slice(), b"")?;
     for words in [
         ["altctl", "run", "--cache", "65537", "f"].as_slice(),
         ["altctl", "run", "f", "--cache=65537"].as_slice(),
@@ -83,10 +83,14 @@ fn refuses_a_number_that_is_none_or_too_large(rt: HostRuntime) -> Result<(), Fai
         ["altctl", "--cache", "4", "run", "f"].as_slice(),
         ["altctl", "create", "--cache", "4", "g", "64"].as_slice(),
     ] {
-        let refused = ran(rt.alloc(), &mut shelf, words, b"free\n")?;
+        let refused = ran(rt.alloc(), &mut files, words, b"free\n")?;
         assert_eq!(rt; refused.status, 2);
         assert!(rt; refused.output.is_empty() && !refused.faults.is_empty());
-        assert!(rt; shelf.has("f") && !shelf.has("g"));
+        assert!(rt; files.find("g").is_none());
+        let Some(disk) = files.find("f") else {
+            panic!(rt; "not there");
+        };
+        files.give_back("f", disk);
     }
     Ok(())
 }
