@@ -72,7 +72,7 @@ module _ {D : Type 0} (members : Ghosts D) (cached : Ghosts (CachedDisk D member
         (commands_told members cached served (opened tree)) (answers_told members cached served (opened tree))
 
   -- what a run of the program does to the files, where `Untouched` says that no call of the place was made, and `Denied` that one gave no
-  -- disk. Only want of memory for the words leaves a job undone without a call
+  -- disk. A job is left undone without a call only where the program stops, as where memory for the words is wanting
   pub record Does (Untouched Denied : Type 0) (words : List Text) (exit : Exit) (old new : PlaceState) (input before after faults faults' : Option (List ℕ)) : Type 0 where
     -- words that ask for a new store make its file
     pub creates : (name : Text) (blocks : ℕ) → IsJob words (create name blocks)
