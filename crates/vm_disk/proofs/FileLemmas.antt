@@ -143,27 +143,27 @@ module _ {F : Type 0} (state : F → FileState) where
       ap (λ fs. map (file_medium now.blocks) (map state fs)) called.past ∙ ap (λ k. map (file_medium k) (map state (was.file ∷ noted was.past))) called.blocks
 
   -- a read of the file, as a read of the disk
-  pub disk_reads : {T : Type 0} (result answer : Result T DeviceFault) (n offset : ℕ) (bytes : List ℕ) (was now : FileDisk F) (file : F)
-      → IsCalled was now file → result ≡ answer → n < was.blocks → offset ≡ 4096 * n → length bytes ≡ 4096
+  pub disk_reads : {T : Type 0} (answer : Result T DeviceFault) (n offset : ℕ) (bytes : List ℕ) (was now : FileDisk F) (file : F)
+      → IsCalled was now file → n < was.blocks → offset ≡ 4096 * n → length bytes ≡ 4096
       → ((state file).honest ≡ true → ReadsAt offset bytes answer (state was.file) (state file))
       → (file_state state now).honest ≡ true
-      → Reads n bytes result (file_state state was) (file_state state now)
-  disk_reads result answer n offset bytes was now file called said inside at full law honest =
+      → Reads n bytes answer (file_state state was) (file_state state now)
+  disk_reads answer n offset bytes was now file called inside at full law honest =
       let good = file_is_honest was.blocks (state file) (state was.file ∷ map state (noted was.past)) (still_honest was now file called honest) in
       let reads = law good in
-      let R : Result _ DeviceFault → Type 0 = λ r. OnOk r (bytes ≡ block (file_blocks was.blocks (state was.file).bytes) n) in record {
-        bytes_are = subst R (sym said) (read_is answer was.blocks n offset bytes (state was.file).bytes inside at full reads.bytes_are);
+      record {
+        bytes_are = read_is answer was.blocks n offset bytes (state was.file).bytes inside at full reads.bytes_are;
         same = now_shown was now file called ∙ same_shown was.blocks (state was.file) (state file) reads.same reads.same_waiting;
         time = record { step = inl (past_shown was now file called) };
       }
 
   -- a write to the file, as a write to the disk
-  pub disk_writes : {T : Type 0} (result answer : Result T DeviceFault) (n offset : ℕ) (bytes : List ℕ) (was now : FileDisk F) (file : F)
-      → IsCalled was now file → result ≡ answer → n < was.blocks → offset ≡ 4096 * n → length bytes ≡ 4096
+  pub disk_writes : {T : Type 0} (answer : Result T DeviceFault) (n offset : ℕ) (bytes : List ℕ) (was now : FileDisk F) (file : F)
+      → IsCalled was now file → n < was.blocks → offset ≡ 4096 * n → length bytes ≡ 4096
       → ((state file).honest ≡ true → offset ≤ length (state was.file).bytes → WritesAt offset bytes answer (state was.file) (state file))
       → (file_state state now).honest ≡ true
-      → Writes n bytes result (file_state state was) (file_state state now)
-  disk_writes result answer n offset bytes was now file called said inside at full law honest =
+      → Writes n bytes answer (file_state state was) (file_state state now)
+  disk_writes answer n offset bytes was now file called inside at full law honest =
       let known = still_honest was now file called honest in
       let before = map state (noted was.past) in
       let count = was.blocks in
@@ -175,9 +175,8 @@ module _ {F : Type 0} (state : F → FileState) where
       let some = some_written answer offset bytes old new writes in
       let torn = subst (λ k. IsTorn offset k old.bytes new.bytes) full some in
       let is = now_shown was now file called in
-      let R : Result _ DeviceFault → Type 0 = λ r. OnOk r (block (file_state state now).now.contents n ≡ bytes) in
       let W : Medium → Type 0 = λ m. OnOk answer (block m.contents n ≡ bytes) in record {
-        written = subst R (sym said) (subst W (sym is) (write_is answer count n offset bytes old.bytes new.bytes inside at full within writes.written));
+        written = subst W (sym is) (write_is answer count n offset bytes old.bytes new.bytes inside at full within writes.written);
         dirty = ap (λ m. m.dirty n) is ∙ ap (λ ws. is_touched ws n) writes.waiting ∙ touched_itself n offset (length bytes) old.waiting at full;
         count = ap (λ m. length m.contents) is ∙ length-map-range_with_len (file_block new.bytes) 0 count ∙ sym (length-map-range_with_len (file_block old.bytes) 0 count);
         others = λ k apart. ap (λ m. block m.contents k) is ∙ same_block count k old.bytes new.bytes (others_are count n k offset old.bytes new.bytes at within apart torn);
@@ -186,13 +185,12 @@ module _ {F : Type 0} (state : F → FileState) where
       }
 
   -- a sync of the file, as a sync of the disk
-  pub disk_syncs : (result answer : Result (Unit {0}) DeviceFault) (was now : FileDisk F) (file : F)
-      → IsCalled was now file → result ≡ answer
+  pub disk_syncs : (answer : Result (Unit {0}) DeviceFault) (was now : FileDisk F) (file : F)
+      → IsCalled was now file
       → ((state file).honest ≡ true → SyncsFile answer (state was.file) (state file))
       → (file_state state now).honest ≡ true
-      → Syncs result (file_state state was) (file_state state now)
-  disk_syncs result answer was now file called said law honest =
-      subst (λ r. Syncs r (file_state state was) (file_state state now)) (sym said) (by_answer answer (law good))
+      → Syncs answer (file_state state was) (file_state state now)
+  disk_syncs answer was now file called law honest = by_answer answer (law good)
     where
       good : (state file).honest ≡ true
       good = file_is_honest was.blocks (state file) (state was.file ∷ map state (noted was.past)) (still_honest was now file called honest)

@@ -1,7 +1,6 @@
 -- What a disk over a file shows.
-use Rattle.std.specs.Prelude.{◌≡◌, ℕ, ◌+◌, ◌-◌, ◌*◌, ◌/◌, ◌^◌, min, nat_lt, nat_le, ◌&&◌, ◌||◌, Bool, true, false, List, [], ◌∷◌, length, map, replicate, take, drop, Result, OnOk, OnErr}
+use Rattle.std.specs.Prelude.{◌≡◌, ℕ, ◌+◌, ◌-◌, ◌*◌, ◌/◌, ◌^◌, min, nat_lt, nat_le, ◌&&◌, ◌||◌, Bool, true, false, List, [], ◌∷◌, length, map, replicate, take, drop, Result, Ok, Err}
 use Rattle.std.specs.List.{range_with_len}
-use Rattle.vm_disk.specs.declared.disk.DeviceFault.{DeviceFault}
 use Rattle.vm_disk.specs.declared.file.FileDisk.{FileDisk}
 use Rattle.vm_disk.specs.Disk.{Contents, Medium, State}
 use Rattle.vm_disk.specs.Past.{noted}
@@ -38,7 +37,7 @@ pub record IsOver (count : ℕ) (file : FileState) (s : State) : Type 0 where
   pub blocks : s.blocks ≡ count
   pub honest : s.honest ≡ (file.honest && was_whole count (file ∷ []))
   pub reads : s.reads ≡ 0
-  pub failures : s.failures ≡ 0
+  pub failures : s.failures ≡ file.failures
   pub now : s.now ≡ file_medium count file
   pub past : s.past ≡ []
 
@@ -59,7 +58,12 @@ module _ {F : Type 0} where
   abbrev pub file_of : FileDisk F → F
   file_of disk = disk.file
 
-  -- honest as long as its file is, and is long enough for the disk's blocks
+  -- the file below the disk that was made of it, or the file that came back
+  abbrev pub file_left : Result (FileDisk F) F → F
+  file_left (Ok disk) = file_of disk
+  file_left (Err file) = file
+
+  -- honest as long as its file is, and is long enough for the disk's blocks; its failures are the file's
   abbrev pub file_state : (F → FileState) → FileDisk F → State
   file_state state disk =
       let now = state disk.file in
@@ -67,19 +71,10 @@ module _ {F : Type 0} where
         blocks = disk.blocks;
         honest = now.honest && was_whole disk.blocks (now ∷ past);
         reads = length (noted disk.reads);
-        failures = length (noted disk.failed);
+        failures = now.failures;
         now = file_medium disk.blocks now;
         past = map (file_medium disk.blocks) past;
       }
-
-  -- the answer is counted where it is a fault, and the rest is as it was
-  pub record IsCounted {T : Type 0} (answer : Result T DeviceFault) (old new : FileDisk F) : Type 0 where
-    pub file : new.file ≡ old.file
-    pub blocks : new.blocks ≡ old.blocks
-    pub past : noted new.past ≡ noted old.past
-    pub reads : noted new.reads ≡ noted old.reads
-    pub failed : OnErr answer (length (noted new.failed) ≡ length (noted old.failed) + 1)
-    pub fine : OnOk answer (length (noted new.failed) ≡ length (noted old.failed))
 
   -- a call that its file is honest after leaves an honest disk honest
   abbrev pub StaysHonest : (F → FileState) → FileDisk F → FileDisk F → Type 0

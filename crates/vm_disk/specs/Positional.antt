@@ -1,5 +1,5 @@
 -- What a file holds that is read and written at places, and what its calls do to it.
-use Rattle.std.specs.Prelude.{◌≡◌, ℕ, ◌+◌, ◌≤◌, Bool, List, [], ◌∷◌, ◌++◌, length, take, drop, Result, IfOk, OnOk, OnErr}
+use Rattle.std.specs.Prelude.{◌≡◌, ℕ, ◌+◌, ◌<◌, ◌≤◌, Bool, true, List, [], ◌∷◌, ◌++◌, length, take, drop, Result, IfOk, OnOk, OnErr}
 use Rattle.vm_disk.specs.declared.disk.DeviceFault.{DeviceFault}
 
 -- what is known of a file
@@ -9,6 +9,8 @@ pub record FileState : Type 0 where
   pub bytes : List ℕ
   -- the writes that no sync has made last yet, the newest first: where each begins, and how many bytes it has
   pub waiting : List (ℕ × ℕ)
+  -- how many calls failed
+  pub failures : ℕ
 
 -- the file's bytes, with these written over them from the offset on
 abbrev pub overwritten : ℕ → List ℕ → List ℕ → List ℕ
@@ -19,6 +21,13 @@ pub record IsTorn (offset count : ℕ) (old new : List ℕ) : Type 0 where
   pub bytes : List ℕ
   pub few : length bytes ≤ count
   pub written : new ≡ overwritten offset bytes old
+
+-- what each call does, on any file: one that is honest after it was so before, and the count of failures rises just where it fails
+pub record CountsFailures {T E : Type 0} (result : Result T E) (old new : FileState) : Type 0 where
+  pub earlier : new.honest ≡ true → old.honest ≡ true
+  pub rising : old.failures ≤ new.failures
+  pub fault : OnErr result (old.failures < new.failures)
+  pub fine : OnOk result (new.failures ≡ old.failures)
 
 -- what a read does, on a file that is honest after it
 pub record ReadsAt {T : Type 0} (offset : ℕ) (bytes : List ℕ) (result : Result T DeviceFault) (old new : FileState) : Type 0 where

@@ -1,7 +1,7 @@
 -- What a file of the system shows, by the calls that were made of it.
-use Rattle.std.specs.Prelude.{ℕ, ◌==◌, ◌&&◌, Bool, true, List, [], ◌∷◌, Option, Some, None, length, reverse, take, drop, replicate, bytes_eq}
+use Rattle.std.specs.Prelude.{ℕ, ◌+◌, ◌==◌, ◌&&◌, Bool, true, List, [], ◌∷◌, Option, Some, None, length, reverse, take, drop, replicate, bytes_eq}
 use Rattle.vm_disk.specs.declared.system.Call.{Call}
-use Rattle.vm_disk.specs.declared.system.Call.TheVariants.{Created, Measured, Read, Written, Zeroed, Torn, Synced}
+use Rattle.vm_disk.specs.declared.system.Call.TheVariants.{Created, Measured, Read, Written, Zeroed, Torn, Synced, Failed}
 use Rattle.vm_disk.specs.declared.system.SystemFile.{SystemFile}
 use Rattle.vm_disk.specs.Past.{noted}
 use Rattle.vm_disk.specs.Positional.{FileState, overwritten}
@@ -16,6 +16,7 @@ bytes_after first torn (Written offset bytes ∷ calls) = overwritten offset byt
 bytes_after first torn (Zeroed offset count ∷ calls) = overwritten offset (replicate count 0) (bytes_after first torn calls)
 bytes_after first torn (Torn offset count ∷ calls) = overwritten offset (take count (torn (length calls))) (bytes_after first torn calls)
 bytes_after first torn (Synced ∷ calls) = bytes_after first torn calls
+bytes_after first torn (Failed ∷ calls) = bytes_after first torn calls
 
 -- each read gave the bytes that stood there, and each count of them was theirs
 abbrev pub agrees : List ℕ → (ℕ → List ℕ) → List Call → Bool
@@ -28,6 +29,7 @@ agrees first torn (Written offset bytes ∷ calls) = agrees first torn calls
 agrees first torn (Zeroed offset count ∷ calls) = agrees first torn calls
 agrees first torn (Torn offset count ∷ calls) = agrees first torn calls
 agrees first torn (Synced ∷ calls) = agrees first torn calls
+agrees first torn (Failed ∷ calls) = agrees first torn calls
 
 -- the writes since the last sync that succeeded, the newest first
 abbrev pub waiting_after : List Call → List (ℕ × ℕ)
@@ -39,10 +41,23 @@ waiting_after (Written offset bytes ∷ calls) = (offset, length bytes.value) �
 waiting_after (Zeroed offset count ∷ calls) = (offset, count) ∷ waiting_after calls
 waiting_after (Torn offset count ∷ calls) = (offset, count) ∷ waiting_after calls
 waiting_after (Synced ∷ calls) = []
+waiting_after (Failed ∷ calls) = waiting_after calls
+
+-- how many calls failed
+abbrev pub failures_after : List Call → ℕ
+failures_after [] = 0
+failures_after (Created ∷ calls) = failures_after calls
+failures_after (Measured count ∷ calls) = failures_after calls
+failures_after (Read offset bytes ∷ calls) = failures_after calls
+failures_after (Written offset bytes ∷ calls) = failures_after calls
+failures_after (Zeroed offset count ∷ calls) = failures_after calls
+failures_after (Torn offset count ∷ calls) = failures_after calls + 1
+failures_after (Synced ∷ calls) = failures_after calls
+failures_after (Failed ∷ calls) = failures_after calls + 1
 
 -- a file with these bytes, of which no call was made so far
 abbrev pub fresh : List ℕ → FileState
-fresh bytes = record { honest = true; bytes = bytes; waiting = [] }
+fresh bytes = record { honest = true; bytes = bytes; waiting = []; failures = 0 }
 
 -- a file after these calls
 abbrev pub state_after : List ℕ → (ℕ → List ℕ) → List Call → FileState
@@ -51,6 +66,7 @@ state_after first torn calls =
       honest = agrees first torn calls;
       bytes = bytes_after first torn calls;
       waiting = waiting_after calls;
+      failures = failures_after calls;
     }
 
 -- the bytes that a file held, none where there was none

@@ -1,6 +1,7 @@
 //! A file as a disk.
-ghost use Rattle.std.specs.Prelude.{◌≡◌, ◌<◌, ◌^◌, ◌/◌, ◌*◌, true, [], replicate, IfSome, OnSome};
+ghost use Rattle.std.specs.Prelude.{◌≡◌, ◌<◌, ◌^◌, ◌/◌, ◌*◌, true, [], replicate, IfOk, OnOk};
 ghost use Rattle.vm_disk.specs.Disk.{Counts, Reads, Writes, Syncs};
+ghost use Rattle.vm_disk.specs.Positional.{CountsFailures};
 
 use crate::disk::{DeviceFault, Disk};
 use crate::history::History;
@@ -19,7 +20,6 @@ pub struct FileDisk<F> {
     blocks: u32,
     past: History<F>,
     reads: History<()>,
-    failed: History<()>,
     ghost small: { blocks < 2 ^ 32 },
 }
 
@@ -31,59 +31,57 @@ fn offset_of(n: u32) -> u64
 }
 
 // Writes zero blocks to a file with no bytes, several at once.
-fn write_zeros<F: Positional>(file: &mut F, blocks: u32) -> Option<()>
-    ensures earlier { (F.state file.new).honest ≡ true → (F.state file.old).honest ≡ true }
+fn write_zeros<F: Positional>(file: &mut F, blocks: u32) -> Result<(), DeviceFault>
+    ensures any { CountsFailures result (F.state file.old) (F.state file.new) }
     ensures zeros { (F.state file.new).honest ≡ true
         → (F.state file.old).bytes ≡ []
-        → OnSome result ((F.state file.new).bytes ≡ replicate (4096 * blocks) 0) }
+        → OnOk result ((F.state file.new).bytes ≡ replicate (4096 * blocks) 0) }
 {
     let mut done = 0;
     while done < blocks {
         let more = (blocks - done).min(AT_ONCE);
-        let Ok(()) = file.write_zeros_at(more as usize * 4096, offset_of(done)) else {
-            return None;
-        };
+        file.write_zeros_at(more as usize * 4096, offset_of(done))?;
         done += more;
     }
-    Some(())
+    Ok(())
 }
 
-impl<F: Positional + Drop> FileDisk<F> {
-    ghost use Rattle.vm_disk.specs.File.{file_of, file_state, IsOver, IsOpened, IsZero};
+impl<F: Positional> FileDisk<F> {
+    ghost use Rattle.vm_disk.specs.File.{file_left, file_of, file_state, IsOver, IsOpened, IsZero};
 
-    /// The whole blocks of a file, at most 4,294,967,295. None where the file does not tell how many
-    /// bytes it has.
-    pub fn open(mut file: F) -> Option<FileDisk<F>>
-        ensures over { IfSome result (λ disk.
+    /// The whole blocks of a file, at most 4,294,967,295. Where the file does not tell how many bytes it
+    /// has, it comes back.
+    pub fn open(mut file: F) -> Result<FileDisk<F>, F>
+        ensures any { CountsFailures result (F.state file) (F.state (file_left result)) }
+        ensures over { IfOk result (λ disk.
             IsOver disk.blocks (F.state (file_of disk)) (file_state F.state disk)) }
-        ensures opened { IfSome result (λ disk.
+        ensures opened { IfOk result (λ disk.
             (F.state (file_of disk)).honest ≡ true
             → IsOpened (F.state file) (file_state F.state disk)) }
     {
         let Ok(len) = file.len() else {
-            return None;
+            return Err(file);
         };
         let blocks = (len / BLOCK).min(u64::from(u32::MAX)) as u32;
-        Some(FileDisk::over(file, blocks))
+        Ok(FileDisk::over(file, blocks))
     }
 
-    /// Writes zero blocks to a file with no bytes, and makes it a disk of them. None where they could
-    /// not all be written.
-    pub fn create(mut file: F, blocks: u32) -> Option<FileDisk<F>>
-        ensures over { IfSome result (λ disk.
+    /// Writes zero blocks to a file with no bytes, and makes it a disk of them. Where they could not all
+    /// be written, the file comes back.
+    pub fn create(mut file: F, blocks: u32) -> Result<FileDisk<F>, F>
+        ensures any { CountsFailures result (F.state file) (F.state (file_left result)) }
+        ensures over { IfOk result (λ disk.
             IsOver blocks (F.state (file_of disk)) (file_state F.state disk)) }
-        ensures created { IfSome result (λ disk.
+        ensures created { IfOk result (λ disk.
             (F.state (file_of disk)).honest ≡ true
             → (F.state file).bytes ≡ []
             → IsZero (file_state F.state disk)) }
     {
-        write_zeros(&mut file, blocks)?;
-        Some(FileDisk::over(file, blocks))
+        match write_zeros(&mut file, blocks) {
+            Ok(()) => Ok(FileDisk::over(file, blocks)),
+            Err(DeviceFault) => Err(file),
+        }
     }
-}
-
-impl<F: Positional> FileDisk<F> {
-    ghost use Rattle.vm_disk.specs.File.{file_of, file_state, IsOver, IsCounted};
 
     /// The first blocks of a file, which may be fewer than it has.
     pub fn over(file: F, blocks: u32) -> FileDisk<F>
@@ -95,19 +93,7 @@ impl<F: Positional> FileDisk<F> {
             blocks,
             past: History::new(),
             reads: History::new(),
-            failed: History::new(),
         }
-    }
-
-    // Hands an answer on, and counts it where it is a fault.
-    fn counted(&mut self, answer: Result<(), DeviceFault>) -> Result<(), DeviceFault>
-        ensures answer { result ≡ answer }
-        ensures counted { IsCounted answer self.old self.new }
-    {
-        if answer.is_err() {
-            self.failed.note(&());
-        }
-        answer
     }
 
     /// The file below.
@@ -142,8 +128,7 @@ impl<F: Positional> Disk for FileDisk<F> {
     {
         self.reads.note(&());
         self.past.note(&self.file);
-        let answer = self.file.read_at(into, offset_of(n));
-        self.counted(answer)
+        self.file.read_at(into, offset_of(n))
     }
 
     fn write(&mut self, n: u32, from: &[u8; 4096]) -> Result<(), DeviceFault>
@@ -155,8 +140,7 @@ impl<F: Positional> Disk for FileDisk<F> {
         ensures stays { StaysHonest F.state self.old self.new }
     {
         self.past.note(&self.file);
-        let answer = self.file.write_at(from, offset_of(n));
-        self.counted(answer)
+        self.file.write_at(from, offset_of(n))
     }
 
     fn sync(&mut self) -> Result<(), DeviceFault>
@@ -167,7 +151,6 @@ impl<F: Positional> Disk for FileDisk<F> {
         ensures stays { StaysHonest F.state self.old self.new }
     {
         self.past.note(&self.file);
-        let answer = self.file.sync();
-        self.counted(answer)
+        self.file.sync()
     }
 }

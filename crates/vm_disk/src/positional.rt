@@ -1,32 +1,32 @@
 //! The trait of a file that is read and written at places.
 ghost use Rattle.std.specs.Prelude.{◌≡◌, ◌≤◌, true, length, replicate};
-ghost use Rattle.vm_disk.specs.Positional.{FileState, ReadsAt, WritesAt, SyncsFile, Measures};
+ghost use Rattle.vm_disk.specs.Positional.{FileState, CountsFailures, ReadsAt, WritesAt, SyncsFile, Measures};
 
 use crate::disk::DeviceFault;
 
 /// A file that is read and written at places. An offset counts bytes from the file's start.
 ///
-/// Of a file that is not honest nothing is said: what it holds is then unknown.
+/// Of a file that is not honest only the clauses `any` say something: what it holds is then unknown.
 pub trait Positional {
     /// What is known of it, for contracts alone.
     ghost state: { Self → FileState };
 
     /// How many bytes it has.
     fn len(&mut self) -> Result<u64, DeviceFault>
-        ensures earlier { (state self.new).honest ≡ true → (state self.old).honest ≡ true }
+        ensures any { CountsFailures result (state self.old) (state self.new) }
         ensures honest { (state self.new).honest ≡ true
             → Measures result (state self.old) (state self.new) };
 
     /// Reads 4,096 bytes from an offset on. Where it fails, `into` may hold any bytes.
     fn read_at(&mut self, into: &mut [u8; 4096], offset: u64) -> Result<(), DeviceFault>
-        ensures earlier { (state self.new).honest ≡ true → (state self.old).honest ≡ true }
+        ensures any { CountsFailures result (state self.old) (state self.new) }
         ensures honest { (state self.new).honest ≡ true
             → ReadsAt offset into.new result (state self.old) (state self.new) };
 
     /// Writes 4,096 bytes from an offset on, which lies in the file or at its end. Past the end, the
     /// file gets longer.
     fn write_at(&mut self, from: &[u8; 4096], offset: u64) -> Result<(), DeviceFault>
-        ensures earlier { (state self.new).honest ≡ true → (state self.old).honest ≡ true }
+        ensures any { CountsFailures result (state self.old) (state self.new) }
         ensures honest { (state self.new).honest ≡ true
             → offset ≤ length (state self.old).bytes
             → WritesAt offset from.now result (state self.old) (state self.new) };
@@ -34,14 +34,14 @@ pub trait Positional {
     /// Writes so many zeros as `write_at` writes bytes, at most 65,536.
     fn write_zeros_at(&mut self, count: usize, offset: u64) -> Result<(), DeviceFault>
         requires { count ≤ 65536 }
-        ensures earlier { (state self.new).honest ≡ true → (state self.old).honest ≡ true }
+        ensures any { CountsFailures result (state self.old) (state self.new) }
         ensures honest { (state self.new).honest ≡ true
             → offset ≤ length (state self.old).bytes
             → WritesAt offset (replicate count 0) result (state self.old) (state self.new) };
 
     /// Makes each write so far last.
     fn sync(&mut self) -> Result<(), DeviceFault>
-        ensures earlier { (state self.new).honest ≡ true → (state self.old).honest ≡ true }
+        ensures any { CountsFailures result (state self.old) (state self.new) }
         ensures honest { (state self.new).honest ≡ true
             → SyncsFile result (state self.old) (state self.new) };
 }

@@ -33,7 +33,8 @@ impl World for Brand {
     ghost torn = { λ opened name calls. [] };
 }
 
-// A call that was made of a file. A read that failed, and a sync that failed, did nothing.
+// A call that was made of a file. Torn is a write that failed, and Failed any other call that did, which
+// did nothing.
 #[derive(Drop)]
 enum Call {
     Created,
@@ -43,6 +44,7 @@ enum Call {
     Zeroed(u64, usize),
     Torn(u64, usize),
     Synced,
+    Failed,
 }
 
 /// A file of the system. It holds what the world says that it held when it was opened, with the writes
@@ -162,6 +164,7 @@ impl<W: World> Positional for SystemFile<W> {
 
     fn len(&mut self) -> Result<u64, DeviceFault> {
         let Ok(metadata) = self.file.metadata() else {
+            self.calls.note(&Call::Failed);
             return Err(DeviceFault);
         };
         let count = metadata.len();
@@ -171,6 +174,7 @@ impl<W: World> Positional for SystemFile<W> {
 
     fn read_at(&mut self, into: &mut [u8; 4096], offset: u64) -> Result<(), DeviceFault> {
         if self.file.read_exact_at(into, offset).is_err() {
+            self.calls.note(&Call::Failed);
             return Err(DeviceFault);
         }
         self.calls.note(&Call::Read(offset, Snapshot::of(into)));
@@ -198,6 +202,7 @@ impl<W: World> Positional for SystemFile<W> {
 
     fn sync(&mut self) -> Result<(), DeviceFault> {
         if self.file.sync_all().is_err() {
+            self.calls.note(&Call::Failed);
             return Err(DeviceFault);
         }
         self.calls.note(&Call::Synced);

@@ -162,72 +162,89 @@ fn cache_writes_through(rt: HostRuntime) -> Result<(), Fail> {
     Ok(())
 }
 
-// A file in memory, of which no contract says anything. Where it is to fail, each call of it does.
+// A file in memory, of which contracts know how many calls failed, and no more. Where it is to fail,
+// each call of it does.
 #[derive(Drop)]
 struct Bytes {
     bytes: Vec<u8>,
     fails: bool,
+    failed: History<()>,
+}
+
+// Copies bytes from an offset on, unless they end before.
+fn copy_from(bytes: &[u8], offset: u64, into: &mut [u8; 4096]) -> Result<(), DeviceFault> {
+    for (k, to) in into.iter_mut().enumerate() {
+        *to = *bytes
+            .get((offset as usize).saturating_add(k))
+            .ok_or(DeviceFault)?;
+    }
+    Ok(())
+}
+
+// Sets a byte, or adds it at the end.
+fn set(bytes: &mut Vec<u8>, at: usize, byte: u8) -> Result<(), DeviceFault> {
+    if at < bytes.len() {
+        bytes[at] = byte;
+        return Ok(());
+    }
+    bytes.push(byte).map_err(|_| DeviceFault)
+}
+
+// Sets bytes from an offset on, or adds them at the end.
+fn set_all(bytes: &mut Vec<u8>, from: &[u8], offset: u64) -> Result<(), DeviceFault> {
+    for (k, byte) in from.iter().enumerate() {
+        set(bytes, (offset as usize).saturating_add(k), *byte)?;
+    }
+    Ok(())
 }
 
 impl Bytes {
-    // Sets a byte, or adds it at the end.
-    fn set(&mut self, at: usize, byte: u8) -> Result<(), DeviceFault> {
-        if at < self.bytes.len() {
-            self.bytes[at] = byte;
-            return Ok(());
+    ghost use Rattle.std.specs.Prelude.{◌≡◌, ◌<◌, length, OnErr, OnOk};
+    ghost use Rattle.vm_disk.specs.Past.{noted};
+
+    // Hands an answer on, or a fault where each call is to fail. A fault is noted.
+    fn told(&mut self, answer: Result<(), DeviceFault>) -> Result<(), DeviceFault>
+        ensures fault { OnErr result (length (noted self.old.failed) < length (noted self.new.failed)) }
+        ensures fine { OnOk result (noted self.new.failed ≡ noted self.old.failed) }
+    {
+        if self.fails || answer.is_err() {
+            self.failed.note(&());
+            return Err(DeviceFault);
         }
-        self.bytes.push(byte).map_err(|_| DeviceFault)
+        Ok(())
     }
 }
 
 impl Positional for Bytes {
-    ghost use Rattle.std.specs.Prelude.{false, []};
+    ghost use Rattle.std.specs.Prelude.{false, [], length};
+    ghost use Rattle.vm_disk.specs.Past.{noted};
 
-    ghost state = { λ file. record { honest = false; bytes = []; waiting = [] } };
+    ghost state = { λ file. record { honest = false; bytes = []; waiting = []; failures = length (noted file.failed) } };
 
     fn len(&mut self) -> Result<u64, DeviceFault> {
-        if self.fails {
-            return Err(DeviceFault);
-        }
+        self.told(Ok(()))?;
         Ok(self.bytes.len() as u64)
     }
 
     fn read_at(&mut self, into: &mut [u8; 4096], offset: u64) -> Result<(), DeviceFault> {
-        let start = offset as usize;
-        for (k, to) in into.iter_mut().enumerate() {
-            match self.bytes.get(start.saturating_add(k)) {
-                Some(byte) if !self.fails => *to = *byte,
-                _ => return Err(DeviceFault),
-            }
-        }
-        Ok(())
+        let answer = copy_from(&self.bytes, offset, into);
+        self.told(answer)
     }
 
     fn write_at(&mut self, from: &[u8; 4096], offset: u64) -> Result<(), DeviceFault> {
-        if self.fails {
-            return Err(DeviceFault);
-        }
-        for (k, byte) in from.iter().enumerate() {
-            self.set((offset as usize).saturating_add(k), *byte)?;
-        }
-        Ok(())
+        self.told(Ok(()))?;
+        let answer = set_all(&mut self.bytes, from, offset);
+        self.told(answer)
     }
 
     fn write_zeros_at(&mut self, count: usize, offset: u64) -> Result<(), DeviceFault> {
-        if self.fails {
-            return Err(DeviceFault);
-        }
-        for k in 0..count {
-            self.set((offset as usize).saturating_add(k), 0)?;
-        }
-        Ok(())
+        self.told(Ok(()))?;
+        let answer = set_all(&mut self.bytes, &[0; 65536][..count], offset);
+        self.told(answer)
     }
 
     fn sync(&mut self) -> Result<(), DeviceFault> {
-        if self.fails {
-            return Err(DeviceFault);
-        }
-        Ok(())
+        self.told(Ok(()))
     }
 }
 
@@ -240,12 +257,13 @@ fn numbered(alloc: Global, count: usize) -> Result<Bytes, AllocError> {
     Ok(Bytes {
         bytes,
         fails: false,
+        failed: History::new(),
     })
 }
 
 #[test]
 fn file_reads_and_writes_at_its_offsets(rt: HostRuntime) -> Result<(), Fail> {
-    let Some(mut disk) = FileDisk::open(numbered(rt.alloc(), 12298)?) else {
+    let Ok(mut disk) = FileDisk::open(numbered(rt.alloc(), 12298)?) else {
         panic!(rt; "no disk");
     };
     assert_eq!(rt; disk.blocks(), 3);
@@ -265,7 +283,7 @@ fn file_reads_and_writes_at_its_offsets(rt: HostRuntime) -> Result<(), Fail> {
 
 #[test]
 fn file_is_made_of_zero_blocks(rt: HostRuntime) -> Result<(), Fail> {
-    let Some(disk) = FileDisk::create(numbered(rt.alloc(), 0)?, 17) else {
+    let Ok(disk) = FileDisk::create(numbered(rt.alloc(), 0)?, 17) else {
         panic!(rt; "no disk");
     };
     assert_eq!(rt; disk.blocks(), 17);
@@ -285,7 +303,10 @@ fn file_that_fails(rt: HostRuntime) -> Result<(), Fail> {
     assert_eq!(rt; disk.sync(), Err(DeviceFault));
     let file = disk.into_file();
     assert_eq!(rt; file.bytes.get(0).copied(), Some(1));
-    assert!(rt; FileDisk::open(file).is_none());
+    let Err(file) = FileDisk::open(file) else {
+        panic!(rt; "a disk");
+    };
+    assert!(rt; FileDisk::create(file, 17).is_err());
     Ok(())
 }
 
@@ -297,7 +318,7 @@ fn system_file_holds_what_was_written(rt: HostRuntime) -> Result<(), Fail> {
     let Some(file) = SystemFile::<Brand>::create(&rt, path, &opened) else {
         panic!(rt; "not made");
     };
-    let Some(mut disk) = FileDisk::create(file, 17) else {
+    let Ok(mut disk) = FileDisk::create(file, 17) else {
         panic!(rt; "not written");
     };
     fill(&mut disk, 16, 7)?;
@@ -308,7 +329,7 @@ fn system_file_holds_what_was_written(rt: HostRuntime) -> Result<(), Fail> {
     let Some(file) = SystemFile::<Brand>::open(&rt, path, &opened) else {
         panic!(rt; "not opened");
     };
-    let Some(mut disk) = FileDisk::open(file) else {
+    let Ok(mut disk) = FileDisk::open(file) else {
         panic!(rt; "not measured");
     };
     assert_eq!(rt; disk.blocks(), 17);
@@ -328,7 +349,7 @@ fn system_file_opened_to_read_is_never_written(rt: HostRuntime) -> Result<(), Fa
     let Some(file) = SystemFile::<Brand>::open_to_read(&rt, path, &opened) else {
         panic!(rt; "not opened");
     };
-    let Some(mut disk) = FileDisk::open(file) else {
+    let Ok(mut disk) = FileDisk::open(file) else {
         panic!(rt; "not measured");
     };
     assert_eq!(rt; disk.blocks(), 2);
