@@ -1,7 +1,8 @@
 -- The files of the system keep the rules of a place.
-use Rattle.std.proofs.Common.{◌≡◌, ◌≢◌, ℕ, Bool, true, false, List, [], ◌∷◌, Option, Some, None, IfSome, map, replicate, reverse, option_map, refl, sym, ap, ◌∙◌, subst}
+use Rattle.std.proofs.Common.{◌≡◌, ◌≢◌, ℕ, Bool, true, false, List, [], ◌∷◌, Option, Some, None, IfSome, Result, Ok, Err, IfOk, map, replicate, reverse, option_map, refl, sym, ap, ◌∙◌, subst}
 use Rattle.std.proofs.lemmas.Bool.{and_parts}
 use Rattle.std.proofs.lemmas.Slice.Eq.{bytes_eq-Decides}
+use Rattle.std.specs.Result.{result_ok}
 use Rattle.std.specs.Str.{bytes_eq}
 use Rattle.std.specs.declared.snapshot.Snapshot.{Snapshot}
 use Rattle.vm_disk.specs.Disk.{Contents, IsClean, Medium, State}
@@ -66,58 +67,60 @@ module _ {W : Type 0} (held : ℕ → List ℕ → Option (List ℕ)) (torn : �
 
   -- a file was opened, and made a disk of
   module _ (file : SystemFile W) (noted_file : Snapshot (SystemFile W)) (is : noted_file.value ≡ file) (name : name_of file ≡ path) where
-    pub finds : (opened : ℕ) → opening_of file ≡ opened → new ≡ Found noted_file ∷ old → system_state held torn file ≡ fresh (held_bytes (held opened path)) → (result : Option (FileDisk (SystemFile W)))
-        → IfSome result (λ disk. (system_state held torn (file_of disk)).honest ≡ true → IsOpened (system_state held torn file) (real_disk held torn disk))
-        → honest_after held torn new ≡ true → Finds path (option_map (real_disk held torn) result) (known old) (known new)
-    finds opened opening more state result told honest =
+    pub finds : (opened : ℕ) → opening_of file ≡ opened → new ≡ Found noted_file ∷ old → system_state held torn file ≡ fresh (held_bytes (held opened path)) → (result : Result (FileDisk (SystemFile W)) (SystemFile W))
+        → IfOk result (λ disk. (system_state held torn (file_of disk)).honest ≡ true → IsOpened (system_state held torn file) (real_disk held torn disk))
+        → (found : Option (FileDisk (SystemFile W))) → found ≡ result_ok result
+        → honest_after held torn new ≡ true → Finds path (option_map (real_disk held torn) found) (known old) (known new)
+    finds opened opening more state result told found said honest =
         let all : honest_after held torn (Found noted_file ∷ old) ≡ true = rw more at honest in
         let raw : is_as_left (blocks_held held (opening_of noted_file.value) (name_of noted_file.value)) (files_after held torn old (name_of noted_file.value)) ≡ true = (and_parts _ _ all).0 in
         let was : is_as_left (blocks_held held opened path) (files_after held torn old path) ≡ true = rw (is, opening, name) at raw in
         let left = as_left (blocks_held held opened path) (files_after held torn old path) was in
         let there : files_after held torn old path ≡ Some (whole_blocks (held_bytes (held opened path))) = left.2 ∙ ap Some (blocks_are (held opened path) left.0 left.1) in
         record {
-          held = go there result told;
+          held = rw said (go there result told);
           same = λ other. rw more refl;
         }
       where
-        go : files_after held torn old path ≡ Some (whole_blocks (held_bytes (held opened path))) → (result : Option (FileDisk (SystemFile W)))
-            → IfSome result (λ disk. (system_state held torn (file_of disk)).honest ≡ true → IsOpened (system_state held torn file) (real_disk held torn disk))
-            → IfSome (option_map (real_disk held torn) result) (λ s. s.honest ≡ true → (files_after held torn old path ≡ Some s.now.contents) × IsClean s.now)
-        go there None told = tt
-        go there (Some disk) told = λ honest.
+        go : files_after held torn old path ≡ Some (whole_blocks (held_bytes (held opened path))) → (result : Result (FileDisk (SystemFile W)) (SystemFile W))
+            → IfOk result (λ disk. (system_state held torn (file_of disk)).honest ≡ true → IsOpened (system_state held torn file) (real_disk held torn disk))
+            → IfSome (option_map (real_disk held torn) (result_ok result)) (λ s. s.honest ≡ true → (files_after held torn old path ≡ Some s.now.contents) × IsClean s.now)
+        go there (Err back) told = tt
+        go there (Ok disk) told = λ honest.
             let over = told (file_is_honest disk.blocks (system_state held torn (file_of disk)) (map (system_state held torn) (noted disk.past)) honest) in
             let clean = opened_clean (held_bytes (held opened path)) (system_state held torn file) (real_disk held torn disk) state over in
             (there ∙ ap Some (sym clean.0), clean.1)
 
     -- a file was made, and zeros written to it
-    pub creates : (blocks : ℕ) → new ≡ Made noted_file ∷ old → system_state held torn file ≡ fresh [] → (result : Option (FileDisk (SystemFile W)))
-        → IfSome result (λ disk. IsOver blocks (system_state held torn (file_of disk)) (real_disk held torn disk))
-        → IfSome result (λ disk. (system_state held torn (file_of disk)).honest ≡ true → (system_state held torn file).bytes ≡ [] → IsZero (real_disk held torn disk))
-        → honest_after held torn new ≡ true → Creates path blocks (option_map (real_disk held torn) result) (known old) (known new)
-    creates blocks more state result over zeros honest =
+    pub creates : (blocks : ℕ) → new ≡ Made noted_file ∷ old → system_state held torn file ≡ fresh [] → (result : Result (FileDisk (SystemFile W)) (SystemFile W))
+        → IfOk result (λ disk. IsOver blocks (system_state held torn (file_of disk)) (real_disk held torn disk))
+        → IfOk result (λ disk. (system_state held torn (file_of disk)).honest ≡ true → (system_state held torn file).bytes ≡ [] → IsZero (real_disk held torn disk))
+        → (made : Option (FileDisk (SystemFile W))) → made ≡ result_ok result
+        → honest_after held torn new ≡ true → Creates path blocks (option_map (real_disk held torn) made) (known old) (known new)
+    creates blocks more state result over zeros made said honest =
         let all : honest_after held torn (Made noted_file ∷ old) ≡ true = rw more at honest in
         let raw : is_absent (files_after held torn old (name_of noted_file.value)) ≡ true = (and_parts _ _ all).0 in
         let was : is_absent (files_after held torn old path) ≡ true = rw (is, name) at raw in
         let none = not_there (files_after held torn old path) was in
         record {
-          absent = go_absent none result;
-          zero = go_zero result over zeros;
+          absent = rw said (go_absent none result);
+          zero = rw said (go_zero result over zeros);
           stays = λ contents there. let no : None ≡ Some contents = sym none ∙ there in absurd cc;
           others = λ other differ.
               let step : files_after held torn (Made noted_file ∷ old) other ≡ files_after held torn old other = rw (is, name, apart other path differ) refl in
               rw more step;
         }
       where
-        go_absent : files_after held torn old path ≡ None → (result : Option (FileDisk (SystemFile W))) → IfSome (option_map (real_disk held torn) result) (λ s. files_after held torn old path ≡ None)
-        go_absent none None = tt
-        go_absent none (Some disk) = none
+        go_absent : files_after held torn old path ≡ None → (result : Result (FileDisk (SystemFile W)) (SystemFile W)) → IfSome (option_map (real_disk held torn) (result_ok result)) (λ s. files_after held torn old path ≡ None)
+        go_absent none (Err back) = tt
+        go_absent none (Ok disk) = none
 
-        go_zero : (result : Option (FileDisk (SystemFile W)))
-            → IfSome result (λ disk. IsOver blocks (system_state held torn (file_of disk)) (real_disk held torn disk))
-            → IfSome result (λ disk. (system_state held torn (file_of disk)).honest ≡ true → (system_state held torn file).bytes ≡ [] → IsZero (real_disk held torn disk))
-            → IfSome (option_map (real_disk held torn) result) (λ s. s.honest ≡ true → (s.blocks ≡ blocks) × (s.now.contents ≡ replicate blocks (replicate 4096 0)))
-        go_zero None over zeros = tt
-        go_zero (Some disk) over zeros = λ honest.
+        go_zero : (result : Result (FileDisk (SystemFile W)) (SystemFile W))
+            → IfOk result (λ disk. IsOver blocks (system_state held torn (file_of disk)) (real_disk held torn disk))
+            → IfOk result (λ disk. (system_state held torn (file_of disk)).honest ≡ true → (system_state held torn file).bytes ≡ [] → IsZero (real_disk held torn disk))
+            → IfSome (option_map (real_disk held torn) (result_ok result)) (λ s. s.honest ≡ true → (s.blocks ≡ blocks) × (s.now.contents ≡ replicate blocks (replicate 4096 0)))
+        go_zero (Err back) over zeros = tt
+        go_zero (Ok disk) over zeros = λ honest.
             let whole = file_is_honest disk.blocks (system_state held torn (file_of disk)) (map (system_state held torn) (noted disk.past)) honest in
             let empty : (system_state held torn file).bytes ≡ [] = ap (λ (f : FileState). f.bytes) state in
             let zero = (zeros whole empty).zero in

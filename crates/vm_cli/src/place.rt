@@ -111,7 +111,7 @@ impl<R: Files<File = File>, W: World> RealFiles<'_, R, W> {
         let made = SystemFile::create(self.rt, file, &self.opened)?;
         self.opened.note(&());
         self.events.note(&Event::Made(Snapshot::of(&made)));
-        FileDisk::create(made, blocks)
+        FileDisk::create(made, blocks).ok()
     }
 
     // Opens a file that is there, as a disk.
@@ -124,7 +124,7 @@ impl<R: Files<File = File>, W: World> RealFiles<'_, R, W> {
         let found = SystemFile::open(self.rt, file, &self.opened)?;
         self.opened.note(&());
         self.events.note(&Event::Found(Snapshot::of(&found)));
-        FileDisk::open(found)
+        FileDisk::open(found).ok()
     }
 }
 
