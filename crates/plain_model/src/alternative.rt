@@ -1,5 +1,5 @@
 //! An alternative and its checkpoints, with whole copies of their maps.
-ghost use Rattle.std.specs.Prelude.{◌≡◌, [], ◌∷◌, ◌++◌, length, find, Some, None, is_some, IfSome, IfNone, IfOk, OnOk, OnErr, bytes_eq};
+ghost use Rattle.std.specs.Prelude.{◌≡◌, [], ◌∷◌, ◌++◌, length, find, Some, None, is_some, option_map, IfSome, IfNone, IfOk, OnOk, OnErr, bytes_eq};
 ghost use Rattle.std.specs.Option.{option_eq};
 ghost use Rattle.vm_types.specs.Firsts.{IsFirst, without_first};
 ghost use Rattle.vm_types.specs.Map.{get, with_value, without, same_map, delta, conflicts, merge};
@@ -104,13 +104,44 @@ impl Alternative {
 
     /// A new alternative under this one, which shows its records.
     pub(super) fn child(&self, alloc: Global, name: &Name) -> Result<Alternative, AllocError>
-        ensures { IfOk result (λ child. child ≡ new_alternative name.now self.now) }
+        ensures { IfOk result (λ child. child ≡ new_alternative name.now self.now self.now.current) }
+    {
+        self.child_with(alloc, name, &self.current)
+    }
+
+    /// A new alternative under this one, which shows the records of the checkpoint of this name, if there
+    /// is one.
+    pub(super) fn child_at(
+        &self,
+        alloc: Global,
+        name: &Name,
+        checkpoint: &Name,
+    ) -> Result<Option<Alternative>, AllocError>
+        ensures { IfOk result (λ child. child ≡ option_map (λ c. new_alternative name.now self.now c.current) (saved_as self.now checkpoint.now)) }
+    {
+        match position_of(&self.saved, checkpoint) {
+            Some(i) => {
+                let child = self.child_with(alloc, name, &self.saved[i].current)?;
+                Ok(Some(child))
+            }
+            None => Ok(None),
+        }
+    }
+
+    // A new alternative under this one, which shows these records.
+    fn child_with(
+        &self,
+        alloc: Global,
+        name: &Name,
+        records: &[(Key, Value)],
+    ) -> Result<Alternative, AllocError>
+        ensures { IfOk result (λ child. child ≡ new_alternative name.now self.now records.now) }
     {
         Ok(Alternative {
             name: *name,
             parent: Some(self.name),
-            current: Vec::from_slice(alloc, &self.current)?,
-            base: Vec::from_slice(alloc, &self.current)?,
+            current: Vec::from_slice(alloc, records)?,
+            base: Vec::from_slice(alloc, records)?,
             saved: Vec::new(alloc),
         })
     }

@@ -95,6 +95,11 @@ impl Plain {
             Command::New { name, parent } => {
                 reply_of(steps::new_alternative(alloc, tree, name, parent))
             }
+            Command::NewAt {
+                name,
+                parent,
+                checkpoint,
+            } => reply_of(steps::new_alternative_at(alloc, tree, name, parent, checkpoint)),
             Command::Drop { alt } => steps::drop_alternative(tree, alt),
             Command::Put { alt, key, value } => {
                 reply_of(steps::put(alloc, tree, alt, *key, value))

@@ -98,6 +98,32 @@ pub(super) fn new_alternative(
     Ok(Ok(Answer::Done))
 }
 
+pub(super) fn new_alternative_at(
+    alloc: Global,
+    tree: &mut Vec<Alternative>,
+    name: &Name,
+    parent: &Name,
+    checkpoint: &Name,
+) -> Result<Reply, AllocError>
+    ensures ok { IfOk result (IsOutcome (step tree.old.items (Command.NewAt name.now parent.now checkpoint.now)) tree.old.items tree.new.items) }
+    ensures err { OnErr result (tree.new.items ≡ tree.old.items) }
+{
+    let Some(i) = position_of(tree, parent) else {
+        return Ok(Err(Refusal::NoSuchAlternative));
+    };
+    if is_there(tree, name) {
+        return Ok(Err(Refusal::AlternativeExists));
+    }
+    let Some(child) = tree[i].child_at(alloc, name, checkpoint)? else {
+        return Ok(Err(Refusal::NoSuchCheckpoint));
+    };
+    if is_full(tree) {
+        return Ok(Err(Refusal::TooMany));
+    }
+    tree.push(child)?;
+    Ok(Ok(Answer::Done))
+}
+
 pub(super) fn drop_alternative(tree: &mut Vec<Alternative>, alt: &Name) -> Reply
     ensures { IsOutcome (step tree.old.items (Command.Drop alt.now)) tree.old.items tree.new.items result }
 {

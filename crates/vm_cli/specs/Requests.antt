@@ -3,7 +3,7 @@ use Rattle.std.specs.Prelude.{◌≡◌, ◌==◌, ◌&&◌, ◌||◌, ℕ, Bool
 use Rattle.std.specs.List.{list_all}
 use Rattle.std.specs.Str.{bytes_eq}
 use Rattle.vm_types.specs.declared.command.Command.{Command}
-use Rattle.vm_types.specs.declared.command.Command.TheVariants.{New, Drop, Put, Remove, Checkpoint, Uncheck, Back, Merge, Post, Commit, Reclaim}
+use Rattle.vm_types.specs.declared.command.Command.TheVariants.{New, NewAt, Drop, Put, Remove, Checkpoint, Uncheck, Back, Merge, Post, Commit, Reclaim}
 use Rattle.vm_types.specs.declared.key.Key.{Key}
 use Rattle.vm_cli.specs.Escapes.{value_of}
 use Rattle.vm_cli.specs.Numbers.{key_of}
@@ -35,6 +35,13 @@ abbrev pub names_of : List (List ℕ) → Option (List ℕ × List ℕ)
 names_of (first ∷ second ∷ []) = option_and_then (λ a. option_map (λ b. (a, b)) (name_of second)) (name_of first)
 names_of _ = None
 
+-- `new NAME PARENT`, or `new NAME PARENT CHECKPOINT`
+abbrev pub new_of : List (List ℕ) → Option Command
+new_of (name ∷ parent ∷ []) = option_and_then (λ n. option_map (λ p. New n p) (name_of parent)) (name_of name)
+new_of (name ∷ parent ∷ checkpoint ∷ []) =
+    option_and_then (λ n. option_and_then (λ p. option_map (λ c. NewAt n p c) (name_of checkpoint)) (name_of parent)) (name_of name)
+new_of _ = None
+
 -- `put ALT TABLE NUMBER VALUE`
 abbrev pub put_of : List (List ℕ) → Option Command
 put_of (alt ∷ table ∷ number ∷ value ∷ []) =
@@ -54,10 +61,9 @@ alone x _ = None
 -- the command that two names complete
 abbrev pub two_named : List ℕ → List ℕ → List ℕ → Option Command
 two_named verb first second =
-    if bytes_eq verb (codes "new") then Some (New first second)
-    else (if bytes_eq verb (codes "checkpoint") then Some (Checkpoint first second)
+    if bytes_eq verb (codes "checkpoint") then Some (Checkpoint first second)
     else (if bytes_eq verb (codes "uncheck") then Some (Uncheck first second)
-    else (if bytes_eq verb (codes "back") then Some (Back first second) else None)))
+    else (if bytes_eq verb (codes "back") then Some (Back first second) else None))
 
 -- the command that the words after the first complete, but for a merge
 abbrev pub command_of : List ℕ → List (List ℕ) → Option Command
@@ -68,7 +74,8 @@ command_of verb words =
     else (if bytes_eq verb (codes "reclaim") then alone Reclaim words
     else (if bytes_eq verb (codes "drop") then option_map Drop (named_of words)
     else (if bytes_eq verb (codes "post") then option_map Post (named_of words)
-    else option_and_then (λ names. two_named verb names.0 names.1) (names_of words))))))
+    else (if bytes_eq verb (codes "new") then new_of words
+    else option_and_then (λ names. two_named verb names.0 names.1) (names_of words)))))))
 
 -- the query that the words after the first complete
 abbrev pub query_of : List ℕ → List (List ℕ) → Option Request

@@ -89,6 +89,7 @@ Lines, by what they are about, each with what it does and its answer:
 
   Alternatives
     new NAME PARENT             adds an alternative under a parent: ok
+    new NAME PARENT CHECKPOINT  adds one from a checkpoint of its parent: ok
     drop ALT                    takes an alternative out: ok
 
   Checkpoints

@@ -31,7 +31,7 @@ pub enum Request {
 }
 
 ghost use Rattle.std.specs.Prelude.{◌≡◌, ◌∷◌, [], ℕ, List, codes, IfOk, MatchOption, OnErr};
-ghost use Rattle.vm_cli.specs.Requests.{IsLongMerge, asked_by, command_of, merge_of, name_of, named_of, names_of, put_of, query_of, record_of, request_of, two_named};
+ghost use Rattle.vm_cli.specs.Requests.{IsLongMerge, asked_by, command_of, merge_of, name_of, named_of, names_of, new_of, put_of, query_of, record_of, request_of, two_named};
 ghost use Rattle.vm_cli.specs.Spaces.{words_of};
 
 /// Reads a line, given without the bytes that end it.
@@ -106,6 +106,9 @@ fn command(verb: &[u8], rest: &[u8]) -> Option<Command>
         let alt = one_name(rest)?;
         return Some(Command::Post { alt });
     }
+    if verb == b"new".as_slice() {
+        return new_alternative(rest);
+    }
     let (first, second) = two_names(rest)?;
     of_two_names(verb, first, second)
 }
@@ -114,12 +117,6 @@ fn command(verb: &[u8], rest: &[u8]) -> Option<Command>
 fn of_two_names(verb: &[u8], first: Name, second: Name) -> Option<Command>
     ensures { result ≡ two_named verb.now first second }
 {
-    if verb == b"new".as_slice() {
-        return Some(Command::New {
-            name: first,
-            parent: second,
-        });
-    }
     if verb == b"checkpoint".as_slice() {
         return Some(Command::Checkpoint {
             alt: first,
@@ -189,6 +186,29 @@ fn put(rest: &[u8]) -> Option<Command>
     let key = key(table, number)?;
     let value = escape::value(value)?;
     Some(Command::Put { alt, key, value })
+}
+
+// `new NAME PARENT`, or `new NAME PARENT CHECKPOINT`
+fn new_alternative(rest: &[u8]) -> Option<Command>
+    ensures { result ≡ new_of (words_of rest.now) }
+{
+    let (first, rest) = first_word(rest)?;
+    let (second, rest) = first_word(rest)?;
+    let child = name(first)?;
+    let parent = name(second)?;
+    let Some((third, rest)) = first_word(rest) else {
+        return Some(Command::New {
+            name: child,
+            parent,
+        });
+    };
+    ends(rest)?;
+    let checkpoint = name(third)?;
+    Some(Command::NewAt {
+        name: child,
+        parent,
+        checkpoint,
+    })
 }
 
 // `ALT TABLE NUMBER`

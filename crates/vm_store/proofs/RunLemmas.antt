@@ -3,7 +3,7 @@ use Rattle.std.proofs.Common.{◌≡◌, ◌≢◌, ◌↔◌, ℕ, zero, suc, �
 use Rattle.std.proofs.lemmas.List.{drop-append-le, drop_all, length-append, take-append-le, take_all, take_more}
 use Rattle.vm_types.specs.declared.answer.Answer.{Answer}
 use Rattle.vm_types.specs.declared.command.Command.{Command}
-use Rattle.vm_types.specs.declared.command.Command.TheVariants.{New, Drop, Put, Remove, Checkpoint, Uncheck, Back, Merge, Post, Commit, Reclaim}
+use Rattle.vm_types.specs.declared.command.Command.TheVariants.{New, NewAt, Drop, Put, Remove, Checkpoint, Uncheck, Back, Merge, Post, Commit, Reclaim}
 use Rattle.vm_types.specs.declared.refusal.Refusal.{Refusal}
 use Rattle.vm_types.specs.declared.refusal.Refusal.TheVariants.{Device}
 use Rattle.vm_types.specs.Kept.{LeftBy}
@@ -53,6 +53,7 @@ module _ {D : Type 0} {members : _} (old new : Store D members) (s : State) (hol
   -- what is answered is told by the disk of the store and its size
   pub answers_on : (other : Store D members) (command : Command) → members.state other.disk ≡ members.state new.disk → other.blocks ≡ new.blocks → Answers old new s holds command r → Answers old other s holds command r
   answers_on other (New name parent) same size answer = answer
+  answers_on other (NewAt name parent checkpoint) same size answer = answer
   answers_on other (Drop alt) same size answer = answer
   answers_on other (Put alt key value) same size answer = answer
   answers_on other (Remove alt key) same size answer = answer

@@ -1,11 +1,12 @@
 -- What a store stands for, through the commands that change its entries alone.
-use Rattle.std.proofs.Common.{◌≡◌, inl, inr, ℕ, ◌+◌, ◌<◌, ◌≤◌, ◌*◌, nat_le, nat_lt, Bool, true, false, ◌&&◌, cond, List, [], ◌∷◌, ◌++◌, map, filter, find, length, Option, Some, None, is_some, not, option_map, get_or, set, remove, Result, Ok, Err, IfSome, IfNone, IfOk, IfErr, refl, sym, ap, ◌∙◌, subst, arith}
+use Rattle.std.proofs.Common.{◌≡◌, inl, inr, ℕ, ◌+◌, ◌<◌, ◌≤◌, ◌*◌, ◌^◌, nat_le, nat_lt, Bool, true, false, ◌&&◌, cond, List, [], ◌∷◌, ◌++◌, map, filter, find, length, Option, Some, None, is_some, not, option_map, get_or, set, remove, Result, Ok, Err, IfSome, IfNone, IfOk, IfErr, refl, sym, ap, ◌∙◌, subst, arith}
 use Rattle.std.specs.List.{list_any}
 use Rattle.std.specs.Str.{bytes_eq}
 use Rattle.std.proofs.lemmas.Bool.{false≢true, true≢false}
 use Rattle.std.proofs.lemmas.Bool.Decides.{nat_tests}
 use Rattle.std.proofs.lemmas.Slice.Eq.{bytes_eq-Decides}
 use Rattle.vm_types.specs.Name.{IsName}
+use Rattle.vm_types.specs.Map.{Map}
 use Rattle.vm_types.specs.Firsts.{IsFirst, change_first, without_first}
 use Rattle.vm_types.specs.Shape.{shape, saved_names}
 use Rattle.vm_types.specs.Tree.{Tree, Alternative, named, saved_as, changed, has_children, entry_count, is_full}
@@ -15,12 +16,12 @@ use Rattle.vm_types.specs.Kept.{LeftBy}
 use Rattle.vm_types.specs.declared.answer.Answer.{Answer}
 use Rattle.vm_types.specs.declared.answer.Answer.TheVariants.{Done}
 use Rattle.vm_types.specs.declared.command.Command.{Command}
-use Rattle.vm_types.specs.declared.command.Command.TheVariants.{New, Drop, Checkpoint, Uncheck, Back, Reclaim}
+use Rattle.vm_types.specs.declared.command.Command.TheVariants.{New, NewAt, Drop, Checkpoint, Uncheck, Back, Reclaim}
 use Rattle.vm_types.specs.declared.refusal.Refusal.{Refusal}
 use Rattle.vm_types.specs.declared.refusal.Refusal.TheVariants.{NoSuchAlternative, AlternativeExists, NoSuchCheckpoint, CheckpointExists, IsTop, HasChildren, TooMany, Device}
 use Rattle.vm_types.proofs.FirstsLemmas.{find_passes}
 use Rattle.vm_types.proofs.SoundLemmas.{each_found}
-use Rattle.vm_types.proofs.Steps.{or_refuse-none, or_refuse-some, refuse_if-true, refuse_if-false, new_accepted, drop_accepted, checkpoint_accepted, uncheck_accepted, back_accepted}
+use Rattle.vm_types.proofs.Steps.{or_refuse-none, or_refuse-some, refuse_if-true, refuse_if-false, new_accepted, new_at_accepted, drop_accepted, checkpoint_accepted, uncheck_accepted, back_accepted}
 use Rattle.vm_disk.specs.Disk as disk
 use Rattle.vm_disk.specs.Disk.{Contents, Medium}
 use Rattle.vm_disk.specs.Moments.{Throughout, Leaves}
@@ -30,9 +31,12 @@ use Rattle.vm_block.specs.Slot as slot
 use Rattle.vm_block.specs.Slot.{EntryFits, SlotFits, IsLedger, Follows, MayFollow, is_alternative, is_called_as}
 use Rattle.vm_block.specs.declared.slot.Entry.{Entry}
 use Rattle.vm_block.specs.declared.slot.Kind.TheVariants as kind
+use Rattle.vm_tree.specs.Root.{Grown}
+use Rattle.vm_tree.specs.declared.root.Root.{Root}
+use Rattle.vm_store.specs.Sizes.{sizes}
 use Rattle.vm_store.specs.declared.versions.Version.{Version}
 use Rattle.vm_store.specs.Answers.{IsDue, IsAnswer}
-use Rattle.vm_store.specs.Versions.{entry_of, slot_entries, is_alternative_of, is_checkpoint_under, is_checkpoint_of, is_child_of, is_apart, alternatives_among, checkpoints_among, with_tops}
+use Rattle.vm_store.specs.Versions.{entry_of, slot_entries, is_alternative_of, is_checkpoint_under, is_checkpoint_of, is_child_of, is_apart, alternative_under, alternatives_among, checkpoints_among, with_tops}
 use Rattle.vm_types.specs.Queries.{checkpoints_of, checkpoints_in}
 use Rattle.vm_store.specs.Filed.{Filed, StandsAs, Standing, saved_of, bare, with_saved, grown, tree_of}
 use Rattle.vm_store.specs.Resting.{Rests}
@@ -240,23 +244,31 @@ module _ (m : Medium) (limit : ℕ) (slot_b : Bool) (bits : List Bool) (committe
       pub new_full : find (is_alternative_of name) working ≡ None → 511 ≤ length working → step s.working (New name parent) ≡ Err TooMany
       new_full free many = or_refuse-some _ _ _ _ (there parent p found).is ∙ refuse_if-false _ _ _ (ap is_some (absent name free)) ∙ refuse_if-true _ _ _ (full many)
 
-      pub new_step : find (is_alternative_of name) working ≡ None → length working < 511 → step s.working (New name parent) ≡ done (s.working ++ new_alternative name (whole parent rests.new (there parent p found).filed) ∷ [])
+      pub new_step : find (is_alternative_of name) working ≡ None → length working < 511 → step s.working (New name parent) ≡ done (s.working ++ new_alternative name (whole parent rests.new (there parent p found).filed) (there parent p found).filed.current ∷ [])
       new_step free few = new_accepted s.working name parent _ (there parent p found).is (ap is_some (absent name free)) (room few)
 
-      pub new_rests : find (is_alternative_of name) working ≡ None → length working < 511 → IsName name
-          → Rests m limit slot_b bits committed (working ++ record { kind = kind.Alternative; name = name; owner = Some parent; current = p.current; base = p.current } ∷ []) (next s (New name parent) (Ok Done))
-      new_rests free few is_name =
+      -- an alternative more under the parent, with the root of these records for both of its trees
+      pub added_rests : (command : Command) (root : Root) (records : Map) → is_commit command ≡ false → Grown sizes (IsHeld bits) m.contents limit root records → root.block < 2 ^ 32
+          → find (is_alternative_of name) working ≡ None → length working < 511 → IsName name → step s.working command ≡ done (s.working ++ new_alternative name (whole parent rests.new (there parent p found).filed) records ∷ [])
+          → Rests m limit slot_b bits committed (working ++ alternative_under parent name root ∷ []) (next s command (Ok Done))
+      added_rests command root records plain stands small free few is_name is =
           let at = there parent p found in
-          let e : Version = record { kind = kind.Alternative; name = name; owner = Some parent; current = p.current; base = p.current } in
-          let f : Filed = record { kind = kind.Alternative; name = name; owner = Some parent; current = at.filed.current; base = at.filed.current } in
+          let e : Version = alternative_under parent name root in
+          let f : Filed = record { kind = kind.Alternative; name = name; owner = Some parent; current = records; base = records } in
           let same : parent ≡ at.filed.name = sym (name_of parent at.filed at.found) in
           let own = fits_of (is_alternative_of parent) (slot.is_alternative_of parent) (λ v. refl) p found in
-          stepped (New name parent) (working ++ e ∷ []) (rests.new ++ f ∷ []) _ refl (new_step free few)
+          stepped command (working ++ e ∷ []) (rests.new ++ f ∷ []) _ plain is
           (subst (SlotFits limit) (sym (slot_more working e))
-          (fits_more limit (slot_entries working) (entry_of e) rests.fits (few_entries few) (record { name = is_name; owner = subst IsName (sym (same ∙ at.stands.name)) own.name; current = own.current; base = own.current })
+          (fits_more limit (slot_entries working) (entry_of e) rests.fits (few_entries few) (record { name = is_name; owner = subst IsName (sym (same ∙ at.stands.name)) own.name; current = small; base = small })
           (alternative_follows (slot_entries working) (entry_of e) (entry_of p) parent refl refl (entry_found parent p found) (slot_none (is_alternative_of name) (slot.is_alternative_of name) (λ v. refl) working free))))
-          (standing_join (IsHeld bits) m.contents limit working rests.new e f rests.stands (record { kind = refl; name = refl; owner = refl; current = at.stands.current; base = at.stands.current }))
-          (grown_more [] rests.new f ∙ ap (λ (t : Tree). t ++ bare f ∷ []) rests.gives_new ∙ ap (λ n. s.working ++ record { name = name; parent = Some n; current = at.filed.current; base = at.filed.current; saved = [] } ∷ []) same)
+          (standing_join (IsHeld bits) m.contents limit working rests.new e f rests.stands (record { kind = refl; name = refl; owner = refl; current = stands; base = stands }))
+          (grown_more [] rests.new f ∙ ap (λ (t : Tree). t ++ bare f ∷ []) rests.gives_new ∙ ap (λ n. s.working ++ record { name = name; parent = Some n; current = records; base = records; saved = [] } ∷ []) same)
+
+      pub new_rests : find (is_alternative_of name) working ≡ None → length working < 511 → IsName name
+          → Rests m limit slot_b bits committed (working ++ alternative_under parent name p.current ∷ []) (next s (New name parent) (Ok Done))
+      new_rests free few is_name =
+          let own = fits_of (is_alternative_of parent) (slot.is_alternative_of parent) (λ v. refl) p found in
+          added_rests (New name parent) p.current (there parent p found).filed.current refl (there parent p found).stands.current own.current free few is_name (new_step free few)
 
   -- ---- Drop
 
@@ -379,6 +391,36 @@ module _ (m : Medium) (limit : ℕ) (slot_b : Bool) (bits : List Bool) (committe
             (standing_first (IsHeld bits) m.contents limit (is_alternative_of alt) (is_filed alt) (agree_alternative (IsHeld bits) m.contents limit alt) (with_tops c.current c.base) (refiled_both (λ _. at.filed.current) (λ _. at.filed.base)) working rests.new rests.stands
             (λ d f stands. record { kind = stands.kind; name = stands.name; owner = stands.owner; current = at.stands.current; base = at.stands.base }))
             (grown_turned alt (λ _. at.filed.current) (λ _. at.filed.base) [] rests.new refl ∙ ap (λ (t : Tree). changed t alt (with_maps (λ _. at.filed.current) (λ _. at.filed.base))) rests.gives_new)
+
+  -- ---- NewAt
+
+  module _ (name parent checkpoint : List ℕ) where
+    pub new_at_absent : find (is_alternative_of parent) working ≡ None → step s.working (NewAt name parent checkpoint) ≡ Err NoSuchAlternative
+    new_at_absent none = or_refuse-none _ _ _ (absent parent none)
+
+    module _ (p : Version) (found : find (is_alternative_of parent) working ≡ Some p) where
+      pub new_at_exists : (e : Version) → find (is_alternative_of name) working ≡ Some e → step s.working (NewAt name parent checkpoint) ≡ Err AlternativeExists
+      new_at_exists e old = or_refuse-some _ _ _ _ (there parent p found).is ∙ refuse_if-true _ _ _ (ap is_some (there name e old).is)
+
+      module _ (free : find (is_alternative_of name) working ≡ None) where
+        pub new_at_none : find (is_checkpoint_of parent checkpoint) working ≡ None → step s.working (NewAt name parent checkpoint) ≡ Err NoSuchCheckpoint
+        new_at_none none =
+            or_refuse-some _ _ _ _ (there parent p found).is ∙ refuse_if-false _ _ _ (ap is_some (absent name free)) ∙ or_refuse-none _ _ _ (saved_absent parent checkpoint (there parent p found).filed none)
+
+        module _ (c : Version) (old : find (is_checkpoint_of parent checkpoint) working ≡ Some c) where
+          pub new_at_full : 511 ≤ length working → step s.working (NewAt name parent checkpoint) ≡ Err TooMany
+          new_at_full many =
+              or_refuse-some _ _ _ _ (there parent p found).is ∙ refuse_if-false _ _ _ (ap is_some (absent name free)) ∙ or_refuse-some _ _ _ _ (saved_there parent checkpoint (there parent p found).filed c old).is ∙ refuse_if-true _ _ _ (full many)
+
+          pub new_at_step : length working < 511 → step s.working (NewAt name parent checkpoint)
+              ≡ done (s.working ++ new_alternative name (whole parent rests.new (there parent p found).filed) (saved_there parent checkpoint (there parent p found).filed c old).filed.current ∷ [])
+          new_at_step few = new_at_accepted s.working name parent checkpoint _ _ (there parent p found).is (ap is_some (absent name free)) (saved_there parent checkpoint (there parent p found).filed c old).is (room few)
+
+          pub new_at_rests : length working < 511 → IsName name → Rests m limit slot_b bits committed (working ++ alternative_under parent name c.current ∷ []) (next s (NewAt name parent checkpoint) (Ok Done))
+          new_at_rests few is_name =
+              let at = saved_there parent checkpoint (there parent p found).filed c old in
+              let own = fits_of (is_checkpoint_of parent checkpoint) (entry.is_checkpoint_of parent checkpoint) (λ v. refl) c old in
+              added_rests name parent p found (NewAt name parent checkpoint) c.current at.filed.current refl at.stands.current own.current free few is_name (new_at_step few)
 
   -- ---- queries
 

@@ -4,7 +4,7 @@ use Rattle.vm_types.specs.declared.answer.Answer.{Answer}
 use Rattle.vm_types.specs.declared.change.Change.{Change}
 use Rattle.vm_types.specs.declared.command.Command.{Command}
 use Rattle.vm_types.specs.declared.command.Side.{Side}
-use Rattle.vm_types.specs.declared.command.Command.TheVariants.{New, Drop, Put, Checkpoint, Uncheck, Back, Merge}
+use Rattle.vm_types.specs.declared.command.Command.TheVariants.{New, NewAt, Drop, Put, Checkpoint, Uncheck, Back, Merge}
 use Rattle.vm_types.specs.declared.key.Key.{Key}
 use Rattle.vm_types.specs.declared.refusal.Refusal.{Refusal}
 use Rattle.vm_types.specs.declared.refusal.Refusal.TheVariants.{Full, Deep, Device, Memory, Damaged}
@@ -63,6 +63,7 @@ IsEarly refusal = Unit {0}
 -- the commands that make, drop or go back to alternatives and checkpoints: they change entries alone
 abbrev pub ChangesEntriesAlone : Command → Type 0
 ChangesEntriesAlone (New name parent) = Unit {0}
+ChangesEntriesAlone (NewAt name parent checkpoint) = Unit {0}
 ChangesEntriesAlone (Drop alt) = Unit {0}
 ChangesEntriesAlone (Checkpoint alt name) = Unit {0}
 ChangesEntriesAlone (Uncheck alt name) = Unit {0}

@@ -5,6 +5,7 @@ use Rattle.std.specs.Option.{option_eq}
 use Rattle.std.specs.Str.{bytes_eq}
 use Rattle.vm_block.specs.Slot.{is_alternative}
 use Rattle.vm_block.specs.declared.slot.Entry.{Entry}
+use Rattle.vm_block.specs.declared.slot.Kind.TheVariants.{Alternative}
 use Rattle.vm_tree.specs.declared.root.Root.{Root}
 use Rattle.vm_store.specs.declared.versions.Version.{Version}
 
@@ -55,6 +56,10 @@ alternatives_among vs = map (λ v. (v.name, v.owner)) (filter (λ v. is_alternat
 -- the names of an alternative's checkpoints
 abbrev pub checkpoints_among : List Version → List ℕ → List (List ℕ)
 checkpoints_among vs alt = map (λ v. v.name) (filter (is_checkpoint_under alt) vs)
+
+-- a new alternative under a parent, with this root for both of its trees
+abbrev pub alternative_under : List ℕ → List ℕ → Root → Version
+alternative_under parent name root = record { kind = Alternative; name = name; owner = Some parent; current = root; base = root }
 
 -- the version with another current root, with another base root, or with two others
 abbrev pub with_current : Root → Version → Version

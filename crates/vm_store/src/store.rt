@@ -139,6 +139,11 @@ impl<D: Disk> Store<D> {
             Command::Put { alt, key, value } => self.put(alt, *key, value),
             Command::Remove { alt, key } => self.remove(alt, *key),
             Command::New { name, parent } => self.make_alternative(name, parent),
+            Command::NewAt {
+                name,
+                parent,
+                checkpoint,
+            } => self.make_alternative_at(name, parent, checkpoint),
             Command::Drop { alt } => self.drop_alternative(alt),
             Command::Checkpoint { alt, name } => self.make_checkpoint(alt, name),
             Command::Uncheck { alt, name } => self.uncheck(alt, name),

@@ -10,7 +10,7 @@ ghost use Rattle.vm_tree.specs.Answers.{OkOrDevice};
 ghost use Rattle.vm_check.specs.Marking.{IsClosed, MarksMore};
 ghost use Rattle.vm_store.specs.Marking.{AreReached};
 ghost use Rattle.vm_store.specs.Pairs.{IsPair, LacksPair};
-ghost use Rattle.vm_store.specs.Versions.{entry_of, numbers_of, slot_entries, versions_of, is_alternative_of, is_checkpoint_under, is_checkpoint_of, is_child_of, is_apart, alternatives_among, checkpoints_among, with_current, with_base};
+ghost use Rattle.vm_store.specs.Versions.{entry_of, numbers_of, slot_entries, versions_of, is_alternative_of, is_checkpoint_under, is_checkpoint_of, is_child_of, is_apart, alternative_under, alternatives_among, checkpoints_among, with_current, with_base};
 
 use std::alloc::Global;
 use vm_alloc::Marks;
@@ -168,6 +168,24 @@ pub fn add_version(versions: &mut Vec<Version>, version: Version)
     let Ok(()) = versions.extend_from_slice(&[version]) else {
         unreachable!();
     };
+}
+
+/// Adds an alternative under the parent, with this root for both of its trees. There has to be room, so
+/// it takes no memory.
+pub fn add_alternative(versions: &mut Vec<Version>, name: &Name, parent: &Name, root: Root)
+    requires { length versions.old.items < vec_capacity versions.old }
+    ensures items { versions.new.items ≡ versions.old.items ++ alternative_under parent.now name.now root ∷ [] }
+    ensures room { vec_capacity versions.old ≤ vec_capacity versions.new }
+    ensures name { IsName name.now }
+{
+    let version = Version {
+        kind: Kind::Alternative,
+        name: *name,
+        owner: Some(*parent),
+        current: root,
+        base: root,
+    };
+    add_version(versions, version);
 }
 
 /// Takes out the alternative of this name and its checkpoints.

@@ -5,8 +5,9 @@ use Rattle.std.proofs.lemmas.Slice.Eq.{bytes_eq-Decides}
 use Rattle.std.proofs.lemmas.List.Folds.{find-append}
 use Rattle.vm_types.specs.declared.answer.Answer.{Answer}
 use Rattle.vm_types.specs.declared.command.Command.{Command}
-use Rattle.vm_types.specs.declared.command.Command.TheVariants.{New, Drop, Put, Remove, Checkpoint, Uncheck, Back, Merge, Post, Commit, Reclaim}
+use Rattle.vm_types.specs.declared.command.Command.TheVariants.{New, NewAt, Drop, Put, Remove, Checkpoint, Uncheck, Back, Merge, Post, Commit, Reclaim}
 use Rattle.vm_types.specs.declared.refusal.Refusal.{Refusal}
+use Rattle.vm_types.specs.Map.{Map}
 use Rattle.vm_types.specs.Firsts.{without_first}
 use Rattle.vm_types.specs.Tree.{Alternative, Tree, named, changed}
 use Rattle.vm_types.specs.Step.{Outcome, or_refuse, refuse_found, refuse_if, new_alternative, step}
@@ -73,9 +74,13 @@ module _ (name : List ℕ) where
     changed_keeps : (alt : List ℕ) (f : Alternative → Alternative) (answer : Answer) → bytes_eq alt name ≡ false → ((x : Alternative) → (f x).name ≡ x.name) → Keeps tree name (Ok (changed tree alt f, answer))
     changed_keeps alt f answer h same = record { kept = named_changed tree alt f h same }
 
+    new_keeps : (alt : List ℕ) (parent : Alternative) (records : Map) (answer : Answer) → bytes_eq alt name ≡ false → Keeps tree name (Ok (tree ++ new_alternative alt parent records ∷ [], answer))
+    new_keeps alt parent records answer h = record { kept = named_added tree (new_alternative alt parent records) h }
+
     -- a command that doesn't work on the alternative, and is no Post of a child of it, leaves it as it was
     pub isolated_step : (command : Command) → target command name ≡ false → posts_into tree command name ≡ false → Keeps tree name (step tree command)
-    isolated_step (New alt parent) h p = or_refuse_keeps _ _ _ (λ a _. refuse_if_keeps _ _ _ (refuse_if_keeps _ _ _ (record { kept = named_added tree (new_alternative alt a) h })))
+    isolated_step (New alt parent) h p = or_refuse_keeps _ _ _ (λ a _. refuse_if_keeps _ _ _ (refuse_if_keeps _ _ _ (new_keeps alt a a.current _ h)))
+    isolated_step (NewAt alt parent checkpoint) h p = or_refuse_keeps _ _ _ (λ a _. refuse_if_keeps _ _ _ (or_refuse_keeps _ _ _ (λ c _. refuse_if_keeps _ _ _ (new_keeps alt a c.current _ h))))
     isolated_step (Drop alt) h p = or_refuse_keeps _ _ _ (λ a _. or_refuse_keeps _ _ _ (λ _ _. refuse_if_keeps _ _ _ (record { kept = named_without tree alt h })))
     isolated_step (Put alt key value) h p = or_refuse_keeps _ _ _ (λ a _. changed_keeps alt _ _ h (λ x. refl))
     isolated_step (Remove alt key) h p = or_refuse_keeps _ _ _ (λ a _. or_refuse_keeps _ _ _ (λ _ _. changed_keeps alt _ _ h (λ x. refl)))

@@ -6,7 +6,7 @@ use Rattle.vm_types.specs.declared.answer.Answer.TheVariants.{Done, Merged}
 use Rattle.vm_types.specs.declared.command.Side.{Side}
 use Rattle.vm_types.specs.declared.command.Side.TheVariants.{Mine, Theirs}
 use Rattle.vm_types.specs.declared.command.Command.{Command}
-use Rattle.vm_types.specs.declared.command.Command.TheVariants.{New, Drop, Put, Remove, Checkpoint, Back, Merge, Post, Reclaim}
+use Rattle.vm_types.specs.declared.command.Command.TheVariants.{New, NewAt, Drop, Put, Remove, Checkpoint, Uncheck, Back, Merge, Post, Reclaim}
 use Rattle.vm_types.specs.declared.refusal.Refusal.{Refusal}
 use Rattle.vm_types.specs.declared.refusal.Refusal.TheVariants.{NoSuchAlternative, AlternativeExists, NoSuchCheckpoint, CheckpointExists, NoSuchRecord, IsTop, HasChildren, NotMerged, Unsettled, NotInConflict, SettledTwice}
 use Rattle.vm_types.specs.declared.change.Change.{Change}
@@ -149,6 +149,33 @@ back_takes_the_base_too = refl
 back_shows_the_checkpoint : get (records back a) (key 1 1) ≡ None
 unfolding or_refuse refuse_if refuse_found
 back_shows_the_checkpoint = refl
+
+-- an alternative from a checkpoint shows what the parent was then, has no changes, and merges what the parent changed since
+abbrev from_checkpoint : List Command
+from_checkpoint = Put top (key 1 1) x ∷ Checkpoint top c ∷ Put top (key 1 1) z ∷ NewAt a top c ∷ []
+
+abbrev merged_and_posted : List Command
+merged_and_posted = from_checkpoint ++ Post a ∷ Merge a no_sides ∷ Post a ∷ NewAt b top q ∷ NewAt a top q ∷ NewAt b nope c ∷ Uncheck top c ∷ Reclaim ∷ []
+
+from_checkpoint_is_answered : answers merged_and_posted ≡ ok ∷ ok ∷ ok ∷ ok ∷ Err NotMerged ∷ Ok (Merged 1) ∷ ok ∷ Err NoSuchCheckpoint ∷ Err AlternativeExists ∷ Err NoSuchAlternative ∷ ok ∷ ok ∷ []
+unfolding or_refuse refuse_if refuse_found
+from_checkpoint_is_answered = refl
+
+from_checkpoint_is_shown : get (records from_checkpoint a) (key 1 1) ≡ Some x
+unfolding or_refuse refuse_if refuse_found
+from_checkpoint_is_shown = refl
+
+from_checkpoint_has_no_changes : changes from_checkpoint a ≡ []
+unfolding or_refuse refuse_if refuse_found
+from_checkpoint_has_no_changes = refl
+
+what_came_since_is_merged : get (records (from_checkpoint ++ Merge a no_sides ∷ []) a) (key 1 1) ≡ Some z
+unfolding or_refuse refuse_if refuse_found
+what_came_since_is_merged = refl
+
+lists_stay_without_the_checkpoint : records merged_and_posted top ++ records merged_and_posted a ≡ (key 1 1, z) ∷ (key 1 1, z) ∷ []
+unfolding or_refuse refuse_if refuse_found
+lists_stay_without_the_checkpoint = refl
 
 -- one refusal after another
 refusals_of_two_alternatives :

@@ -6,6 +6,7 @@ use Rattle.std.proofs.lemmas.Bool.{or_parts, or_cases}
 use Rattle.std.proofs.lemmas.List.{map-append}
 use Rattle.std.proofs.lemmas.List.Folds.{list_any-append}
 use Rattle.std.proofs.lemmas.Slice.Eq.{bytes_eq-Decides}
+use Rattle.vm_types.specs.Map.{Map}
 use Rattle.vm_types.specs.Firsts.{without_first}
 use Rattle.vm_types.specs.Tree.{Alternative, Tree, named, has_children, changed}
 use Rattle.vm_types.specs.Shape.{is_among, shape, HasGrown, HasShape}
@@ -66,14 +67,14 @@ HasGrown-more earlier (e ∷ es) name parent grown new old =
     (grown.0, grown.1, HasGrown-more (earlier ++ e.0 ∷ []) es name parent grown.2 (subst (λ ns. is_among ns name ≡ false) same new) (subst (λ ns. is_among ns parent ≡ true) same old))
 
 -- a new alternative under one that is there
-pub HasShape-new : (tree : Tree) (name parent : List ℕ) (p : Alternative) → HasShape (shape tree) → named tree parent ≡ Some p → is_some (named tree name) ≡ false → HasShape (shape (tree ++ new_alternative name p ∷ []))
-HasShape-new [] name parent p has found free = absurd has
-HasShape-new (x ∷ tree) name parent p has found free =
+pub HasShape-new : (tree : Tree) (name parent : List ℕ) (p : Alternative) (records : Map) → HasShape (shape tree) → named tree parent ≡ Some p → is_some (named tree name) ≡ false → HasShape (shape (tree ++ new_alternative name p records ∷ []))
+HasShape-new [] name parent p records has found free = absurd has
+HasShape-new (x ∷ tree) name parent p records has found free =
     let same : map (λ (e : Entry). e.0) (shape (x ∷ tree)) ≡ map (λ a. a.name) (x ∷ tree) = names_of_shape (x ∷ tree) in
     let new : is_among (map (λ (e : Entry). e.0) (shape (x ∷ tree))) name ≡ false = ap (λ ns. is_among ns name) same ∙ is_among-named (x ∷ tree) name ∙ free in
     let old : is_among (map (λ (e : Entry). e.0) (shape (x ∷ tree))) p.name ≡ true =
     ap (λ ns. is_among ns p.name) same ∙ is_among-named (x ∷ tree) p.name ∙ ap (λ n. is_some (named (x ∷ tree) n)) (name_of_found (x ∷ tree) parent p found) ∙ ap is_some found in
-    (has.0, has.1, subst (HasGrown (x.name ∷ [])) (sym (map-append (λ (a : Alternative). (a.name, a.parent)) tree (new_alternative name p ∷ []))) (HasGrown-more (x.name ∷ []) (shape tree) name p.name has.2 new old))
+    (has.0, has.1, subst (HasGrown (x.name ∷ [])) (sym (map-append (λ (a : Alternative). (a.name, a.parent)) tree (new_alternative name p records ∷ []))) (HasGrown-more (x.name ∷ []) (shape tree) name p.name has.2 new old))
 
 -- ---- an entry that is no parent is left out
 

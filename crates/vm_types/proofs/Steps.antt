@@ -4,7 +4,7 @@ use Rattle.vm_types.specs.declared.key.Key.{Key}
 use Rattle.vm_types.specs.declared.answer.Answer.{Answer}
 use Rattle.vm_types.specs.declared.answer.Answer.TheVariants.{Done, Merged}
 use Rattle.vm_types.specs.declared.command.Side.{Side}
-use Rattle.vm_types.specs.declared.command.Command.TheVariants.{New, Drop, Put, Remove, Checkpoint, Uncheck, Back, Merge, Post}
+use Rattle.vm_types.specs.declared.command.Command.TheVariants.{New, NewAt, Drop, Put, Remove, Checkpoint, Uncheck, Back, Merge, Post}
 use Rattle.vm_types.specs.declared.refusal.Refusal.{Refusal}
 use Rattle.vm_types.specs.Map.{get, with_value, without, delta, conflicts, merge, same_map}
 use Rattle.vm_types.specs.Firsts.{without_first, IsFirst}
@@ -49,8 +49,12 @@ refuse_found-some o r rest h = ap (λ found. refuse_found found rest) h
 -- ---- each command that is accepted
 
 module _ (tree : Tree) where
-  pub new_accepted : (name parent : List ℕ) (p : Alternative) → named tree parent ≡ Some p → is_some (named tree name) ≡ false → is_full tree ≡ false → step tree (New name parent) ≡ done (tree ++ new_alternative name p ∷ [])
+  pub new_accepted : (name parent : List ℕ) (p : Alternative) → named tree parent ≡ Some p → is_some (named tree name) ≡ false → is_full tree ≡ false → step tree (New name parent) ≡ done (tree ++ new_alternative name p p.current ∷ [])
   new_accepted name parent p found free room = or_refuse-some _ p _ _ found ∙ refuse_if-false _ _ _ free ∙ refuse_if-false _ _ _ room
+
+  pub new_at_accepted : (name parent checkpoint : List ℕ) (p : Alternative) (c : Saved) → named tree parent ≡ Some p → is_some (named tree name) ≡ false → saved_as p checkpoint ≡ Some c → is_full tree ≡ false
+      → step tree (NewAt name parent checkpoint) ≡ done (tree ++ new_alternative name p c.current ∷ [])
+  new_at_accepted name parent checkpoint p c found free there room = or_refuse-some _ p _ _ found ∙ refuse_if-false _ _ _ free ∙ or_refuse-some _ c _ _ there ∙ refuse_if-false _ _ _ room
 
   module _ (alt : List ℕ) (a : Alternative) (found : named tree alt ≡ Some a) where
     pub drop_accepted : (parent : List ℕ) → a.parent ≡ Some parent → has_children tree alt ≡ false → step tree (Drop alt) ≡ done (without_first (λ x. bytes_eq x.name alt) tree)

@@ -2,12 +2,12 @@
 use Rattle.std.proofs.Common.{◌≡◌, ℕ, Bool, true, false, cond, List, [], ◌∷◌, ◌++◌, Option, Some, None, is_some, option_map, Result, Ok, Err, bytes_eq, refl, sym, ap, ◌∙◌, subst}
 use Rattle.vm_types.specs.declared.answer.Answer.{Answer}
 use Rattle.vm_types.specs.declared.command.Command.{Command}
-use Rattle.vm_types.specs.declared.command.Command.TheVariants.{New, Drop, Put, Remove, Checkpoint, Uncheck, Back, Merge, Post, Commit, Reclaim}
+use Rattle.vm_types.specs.declared.command.Command.TheVariants.{New, NewAt, Drop, Put, Remove, Checkpoint, Uncheck, Back, Merge, Post, Commit, Reclaim}
 use Rattle.vm_types.specs.declared.refusal.Refusal.{Refusal}
-use Rattle.vm_types.specs.Map.{Map, with_value, without, merge}
+use Rattle.vm_types.specs.Map.{Map, IsMap, with_value, without, merge}
 use Rattle.vm_types.specs.Firsts.{without_first}
 use Rattle.vm_types.specs.Tree.{Alternative, Tree, named, has_children, changed, fresh}
-use Rattle.vm_types.specs.Shape.{HasShape, IsSound, IsWellFormed}
+use Rattle.vm_types.specs.Shape.{HasShape, IsRisingSaved, IsSound, IsWellFormed}
 use Rattle.vm_types.specs.Step.{Outcome, or_refuse, refuse_found, refuse_if, new_alternative, step}
 use Rattle.vm_types.specs.State.{State, tree_after, next, after, is_commit}
 use Rattle.vm_types.proofs.Keys.{IsMap-with_value, IsMap-without}
@@ -66,13 +66,12 @@ module _ (tree : Tree) (well : IsWellFormed tree) where
   changed_stays : (alt : List ℕ) (f : Alternative → Alternative) (answer : Answer) (a : Alternative) → KeepsPlace f → named tree alt ≡ Some a → IsSound (f a) → Stays tree (Ok (changed tree alt f, answer))
   changed_stays alt f answer a keeps found new = record { well = IsWellFormed-changed tree alt f a well keeps found new }
 
-  new_stays : (name parent : List ℕ) (p : Alternative) (answer : Answer) → named tree parent ≡ Some p → is_some (named tree name) ≡ false → Stays tree (Ok (tree ++ new_alternative name p ∷ [], answer))
-  new_stays name parent p answer found free =
-      let rising = (sound_at tree parent p well found).rising in
+  new_stays : (name parent : List ℕ) (p : Alternative) (records : Map) (answer : Answer) → named tree parent ≡ Some p → is_some (named tree name) ≡ false → IsMap records → Stays tree (Ok (tree ++ new_alternative name p records ∷ [], answer))
+  new_stays name parent p records answer found free rising =
       record {
         well = record {
-          shape = HasShape-new tree name parent p well.shape found free;
-          each = each_append IsSound tree (new_alternative name p) well.each (record { rising = (rising.0, rising.0, tt); distinct = tt; unbased = λ none. cc });
+          shape = HasShape-new tree name parent p records well.shape found free;
+          each = each_append IsSound tree (new_alternative name p records) well.each (record { rising = (rising, rising, tt); distinct = tt; unbased = λ none. cc });
         };
       }
 
@@ -102,7 +101,9 @@ module _ (tree : Tree) (well : IsWellFormed tree) where
 
   -- a step of any command, accepted or refused, leaves a well formed tree
   pub step_stays : (command : Command) → Stays tree (step tree command)
-  step_stays (New name parent) = or_refuse_stays _ _ _ (λ p found. refuse_if_stays _ _ _ (λ free. refuse_if_stays _ _ _ (λ _. new_stays name parent p _ found free)))
+  step_stays (New name parent) = or_refuse_stays _ _ _ (λ p found. refuse_if_stays _ _ _ (λ free. refuse_if_stays _ _ _ (λ _. new_stays name parent p p.current _ found free (sound_at tree parent p well found).rising.0)))
+  step_stays (NewAt name parent checkpoint) = or_refuse_stays _ _ _ (λ p found. refuse_if_stays _ _ _ (λ free. or_refuse_stays _ _ _ (λ c there. refuse_if_stays _ _ _ (λ _.
+      new_stays name parent p c.current _ found free (each_found IsRisingSaved (λ k. bytes_eq k.name checkpoint) p.saved c (sound_at tree parent p well found).rising.2 there).0))))
   step_stays (Drop alt) = or_refuse_stays _ _ _ (λ a found. or_refuse_stays _ _ _ (λ parent under. refuse_if_stays _ _ _ (λ alone. drop_stays alt parent a _ found under alone)))
   step_stays (Put alt key value) = or_refuse_stays _ _ _ (λ a found.
       let sound = sound_at tree alt a well found in

@@ -3,7 +3,7 @@ use Rattle.std.specs.Prelude.{◌≡◌, ℕ, Bool, false, List, ◌∷◌, Some
 use Rattle.std.specs.Option.{option_eq}
 use Rattle.vm_types.specs.declared.answer.Answer.{Answer}
 use Rattle.vm_types.specs.declared.command.Command.{Command}
-use Rattle.vm_types.specs.declared.command.Command.TheVariants.{New, Drop, Put, Remove, Checkpoint, Uncheck, Back, Merge, Post, Commit, Reclaim}
+use Rattle.vm_types.specs.declared.command.Command.TheVariants.{New, NewAt, Drop, Put, Remove, Checkpoint, Uncheck, Back, Merge, Post, Commit, Reclaim}
 use Rattle.vm_types.specs.declared.refusal.Refusal.{Refusal}
 use Rattle.vm_types.specs.Tree.{Tree, named}
 use Rattle.vm_types.specs.State.{State, next}
@@ -11,6 +11,7 @@ use Rattle.vm_types.specs.State.{State, next}
 -- whether a command works on the alternative
 abbrev pub target : Command → List ℕ → Bool
 target (New alt parent) name = bytes_eq alt name
+target (NewAt alt parent checkpoint) name = bytes_eq alt name
 target (Drop alt) name = bytes_eq alt name
 target (Put alt key value) name = bytes_eq alt name
 target (Remove alt key) name = bytes_eq alt name

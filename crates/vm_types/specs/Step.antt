@@ -7,10 +7,10 @@ use Rattle.vm_types.specs.declared.answer.Answer.{Answer}
 use Rattle.vm_types.specs.declared.answer.Answer.TheVariants.{Done, Merged}
 use Rattle.vm_types.specs.declared.command.Side.{Side}
 use Rattle.vm_types.specs.declared.command.Command.{Command}
-use Rattle.vm_types.specs.declared.command.Command.TheVariants.{New, Drop, Put, Remove, Checkpoint, Uncheck, Back, Merge, Post, Commit, Reclaim}
+use Rattle.vm_types.specs.declared.command.Command.TheVariants.{New, NewAt, Drop, Put, Remove, Checkpoint, Uncheck, Back, Merge, Post, Commit, Reclaim}
 use Rattle.vm_types.specs.declared.refusal.Refusal.{Refusal}
 use Rattle.vm_types.specs.declared.refusal.Refusal.TheVariants.{NoSuchAlternative, AlternativeExists, NoSuchCheckpoint, CheckpointExists, NoSuchRecord, IsTop, HasChildren, NotMerged, Unsettled, NotInConflict, SettledTwice, TooMany}
-use Rattle.vm_types.specs.Map.{same_key, get, with_value, without, delta, conflicts, side_of, merge, same_map}
+use Rattle.vm_types.specs.Map.{Map, same_key, get, with_value, without, delta, conflicts, side_of, merge, same_map}
 use Rattle.vm_types.specs.Firsts.{without_first}
 use Rattle.vm_types.specs.Tree.{Alternative, Tree, named, saved_as, has_children, is_full, changed}
 
@@ -50,9 +50,9 @@ settled_refusal settled in_conflict =
     option_or (option_map NotInConflict (find (λ key. not (list_any (same_key key) in_conflict)) keys)) (
     if nat_lt 0 unsettled then Some (Unsettled unsettled) else None))
 
--- an alternative that shows the parent's current records
-abbrev pub new_alternative : List ℕ → Alternative → Alternative
-new_alternative name parent = record { name = name; parent = Some parent.name; current = parent.current; base = parent.current; saved = [] }
+-- an alternative under the parent that shows these records, and has them as its base
+abbrev pub new_alternative : List ℕ → Alternative → Map → Alternative
+new_alternative name parent records = record { name = name; parent = Some parent.name; current = records; base = records; saved = [] }
 
 -- a Merge into the alternative a, whose parent is p
 abbrev pub merge_step : Tree → List ℕ → Alternative → Alternative → List (Key × Side) → Outcome
@@ -67,7 +67,13 @@ step tree (New name parent) =
     or_refuse (named tree parent) NoSuchAlternative (λ p.
     refuse_if (is_some (named tree name)) AlternativeExists (
     refuse_if (is_full tree) TooMany (
-    done (tree ++ new_alternative name p ∷ []))))
+    done (tree ++ new_alternative name p p.current ∷ []))))
+step tree (NewAt name parent checkpoint) =
+    or_refuse (named tree parent) NoSuchAlternative (λ p.
+    refuse_if (is_some (named tree name)) AlternativeExists (
+    or_refuse (saved_as p checkpoint) NoSuchCheckpoint (λ c.
+    refuse_if (is_full tree) TooMany (
+    done (tree ++ new_alternative name p c.current ∷ [])))))
 step tree (Drop alt) =
     or_refuse (named tree alt) NoSuchAlternative (λ a.
     or_refuse a.parent IsTop (λ _.

@@ -53,23 +53,55 @@ impl Settled {
 #[derive(Debug, Drop)]
 pub enum Command {
     /// A new alternative under the parent, which shows the parent's current records.
-    New { name: Name, parent: Name },
+    New {
+        name: Name,
+        parent: Name,
+    },
+    /// A new alternative under the parent, which shows the current records of a checkpoint of the parent.
+    NewAt {
+        name: Name,
+        parent: Name,
+        checkpoint: Name,
+    },
     /// Takes out an alternative that has no children, and its checkpoints.
-    Drop { alt: Name },
+    Drop {
+        alt: Name,
+    },
     /// Gives a record of the alternative a value.
-    Put { alt: Name, key: Key, value: Value },
+    Put {
+        alt: Name,
+        key: Key,
+        value: Value,
+    },
     /// Takes a record out of the alternative.
-    Remove { alt: Name, key: Key },
+    Remove {
+        alt: Name,
+        key: Key,
+    },
     /// Names the present state of the alternative.
-    Checkpoint { alt: Name, name: Name },
+    Checkpoint {
+        alt: Name,
+        name: Name,
+    },
     /// Takes a checkpoint out.
-    Uncheck { alt: Name, name: Name },
+    Uncheck {
+        alt: Name,
+        name: Name,
+    },
     /// Goes back to a checkpoint, which stays.
-    Back { alt: Name, name: Name },
+    Back {
+        alt: Name,
+        name: Name,
+    },
     /// Brings in what changed in the parent since the base.
-    Merge { alt: Name, settled: Settled },
+    Merge {
+        alt: Name,
+        settled: Settled,
+    },
     /// Makes the alternative's state the parent's.
-    Post { alt: Name },
+    Post {
+        alt: Name,
+    },
     /// Makes the working state the committed one.
     Commit,
     /// Frees each block that neither state needs.

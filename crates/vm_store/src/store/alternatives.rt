@@ -10,10 +10,9 @@ ghost use Rattle.vm_store.specs.Shown.{Shows};
 
 use super::Store;
 use crate::versions::{
-    Version, add_version, alternatives_among, has_children, position_of, take_out,
+    add_alternative, alternatives_among, checkpoint_position, has_children, position_of, take_out,
 };
 use std::alloc::Global;
-use vm_block::Kind;
 use vm_catalog::MAX_ENTRIES;
 use vm_disk::Disk;
 use vm_types::{Answer, Command, Name, Refusal};
@@ -45,15 +44,46 @@ impl<D: Disk> Store<D> {
         if self.working.len() >= MAX_ENTRIES {
             return Err(Refusal::TooMany);
         }
-        let root = self.working[i].current;
-        let version = Version {
-            kind: Kind::Alternative,
-            name: *name,
-            owner: Some(*parent),
-            current: root,
-            base: root,
+        let current = self.working[i].current;
+        add_alternative(&mut self.working, name, parent, current);
+        Ok(Answer::Done)
+    }
+
+    // Makes a new alternative, whose current and base records are the current ones of a checkpoint of the
+    // parent.
+    pub(super) fn make_alternative_at(
+        &mut self,
+        name: &Name,
+        parent: &Name,
+        checkpoint: &Name,
+    ) -> Result<Answer, Refusal>
+        ensures any { Goes (result ≡ Err Refusal.Device) (D.state (disk_of self.old)) (D.state (disk_of self.new)) }
+        ensures disk { disk_of self.new ≡ disk_of self.old }
+        ensures held { held_of self.new ≡ held_of self.old }
+        ensures failed { has_failed self.new ≡ has_failed self.old }
+        ensures never { (result ≢ Err Refusal.Failed) × (result ≢ Err Refusal.Memory) }
+        ensures same { OnErr result (entries_of self.new ≡ entries_of self.old) }
+        ensures unchanged { IfErr result (λ refusal. IsEarly refusal → IsSameButDisk self.old self.new) }
+        ensures answer { (D.state (disk_of self.new)).honest ≡ true → (s : State) (holds : Holds self.old s)
+            → Answers self.old self.new s holds (Command.NewAt name.now parent.now checkpoint.now) result }
+        ensures state { (D.state (disk_of self.new)).honest ≡ true → (s : State) → Holds self.old s → Holds self.new (next s (Command.NewAt name.now parent.now checkpoint.now) result) }
+        ensures crash { (D.state (disk_of self.new)).honest ≡ true → (s : State) → Holds self.old s
+            → Throughout (D.state (disk_of self.old)) (D.state (disk_of self.new)) (Leaves (LeftBy Shows s (Command.NewAt name.now parent.now checkpoint.now))) }
+    {
+        if position_of(&self.working, parent).is_none() {
+            return Err(Refusal::NoSuchAlternative);
+        }
+        if position_of(&self.working, name).is_some() {
+            return Err(Refusal::AlternativeExists);
+        }
+        let Some(j) = checkpoint_position(&self.working, parent, checkpoint) else {
+            return Err(Refusal::NoSuchCheckpoint);
         };
-        add_version(&mut self.working, version);
+        if self.working.len() >= MAX_ENTRIES {
+            return Err(Refusal::TooMany);
+        }
+        let saved = self.working[j].current;
+        add_alternative(&mut self.working, name, parent, saved);
         Ok(Answer::Done)
     }
 

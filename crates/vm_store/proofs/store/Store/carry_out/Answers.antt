@@ -23,6 +23,11 @@ returns-in-New-clause-answer g c honest s holds =
     let answers = λ (command : Command). Answers c.args.self.now c.make_alternative.new.self s holds command c.make_alternative.result in
     subst answers (sym c.in-New.is) (c.make_alternative.ensures.answer honest s holds)
 
+pub returns-in-NewAt-clause-answer : goal.returns-in-NewAt-clause-answer
+returns-in-NewAt-clause-answer g c honest s holds =
+    let answers = λ (command : Command). Answers c.args.self.now c.make_alternative_at.new.self s holds command c.make_alternative_at.result in
+    subst answers (sym c.in-NewAt.is) (c.make_alternative_at.ensures.answer honest s holds)
+
 pub returns-in-Drop-clause-answer : goal.returns-in-Drop-clause-answer
 returns-in-Drop-clause-answer g c honest s holds =
     let answers = λ (command : Command). Answers c.args.self.now c.drop_alternative.new.self s holds command c.drop_alternative.result in
@@ -48,6 +53,12 @@ returns-in-New-clause-guarded g c honest s holds =
     let Q = IsGuarded c.make_alternative.new.self.held in
     subst (λ d. Throughout (g.D.Disk.state d) (g.D.Disk.state c.make_alternative.new.self.disk) Q) c.make_alternative.ensures.disk
     (started _ Q (guarded_at_rest _ _ _ _ _ _ _ (c.make_alternative.ensures.state honest s holds)))
+
+pub returns-in-NewAt-clause-guarded : goal.returns-in-NewAt-clause-guarded
+returns-in-NewAt-clause-guarded g c honest s holds =
+    let Q = IsGuarded c.make_alternative_at.new.self.held in
+    subst (λ d. Throughout (g.D.Disk.state d) (g.D.Disk.state c.make_alternative_at.new.self.disk) Q) c.make_alternative_at.ensures.disk
+    (started _ Q (guarded_at_rest _ _ _ _ _ _ _ (c.make_alternative_at.ensures.state honest s holds)))
 
 pub returns-in-Drop-clause-guarded : goal.returns-in-Drop-clause-guarded
 returns-in-Drop-clause-guarded g c honest s holds =

@@ -45,7 +45,7 @@ returns-clause-state g c honest s rests =
     let found = found_in (is_alternative_of c.args.parent.now) _ c.args.self.now.working.items c.deref.ensures.value c.in-Some.i c.index.result.now c.in-Some.ensures.found ∙ ap (λ e. Some e) (sym c.index.ensures) in
     let free = none_in (is_alternative_of c.args.name.now) _ c.args.self.now.working.items c.deref-2.ensures.value _ _ c.position_of-2.ensures.none c.is_some.ensures c.if-is_some.false in
     let few : length c.args.self.now.working.items < 511 = grind (arith, common_steps) in
-    rests_as _ _ _ _ _ _ _ _ (sym c.add_version.ensures.items) (new_rests _ _ _ _ _ _ s rests c.args.name.now c.args.parent.now c.index.result.now found free few c.add_version.ensures.name)
+    rests_as _ _ _ _ _ _ _ _ (sym c.add_alternative.ensures.items) (new_rests _ _ _ _ _ _ s rests c.args.name.now c.args.parent.now c.index.result.now found free few c.add_alternative.ensures.name)
 
 pub returns-clause-crash : goal.returns-clause-crash
 returns-clause-crash g c honest s rests = quiet _ _ _ _ _ _ s rests (New c.args.name.now c.args.parent.now)
