@@ -1,8 +1,9 @@
 //! What a block of a tree is, read from a disk.
-ghost use Rattle.std.specs.Prelude.{◌≡◌, ◌≢◌, ℕ, ◌≤◌, true, List, IfOk};
+ghost use Rattle.std.specs.Prelude.{◌≡◌, ◌≢◌, ℕ, ◌≤◌, true, List, length, IfOk};
 ghost use Rattle.vm_disk.specs.Disk.{Goes, block as bytes_at};
 ghost use Rattle.vm_disk.specs.Moments.{OnlyReads};
 ghost use Rattle.vm_block.specs.Leaf.{Record};
+ghost use Rattle.vm_block.specs.Node.{IsNode};
 ghost use Rattle.vm_block.specs.declared.node.Child.{Child};
 ghost use Rattle.vm_tree.specs.Answers.{OkOrDevice};
 ghost use Rattle.vm_tree.specs.Reading.{IsLeafAt, IsNodeAt, ReadsOne};
@@ -49,5 +50,32 @@ pub(crate) fn form_at<D: Disk>(
             Some((level, count)) => Ok(Form::Node(level, count)),
             None => Err(TreeFault::Damaged(block)),
         },
+    }
+}
+
+/// Reads an inner block of this level into these bytes, and tells how many children it has.
+pub(crate) fn node_at<D: Disk>(
+    disk: &mut D,
+    blocks: u32,
+    level: u8,
+    block: u32,
+    bytes: &mut [u8; 4096],
+) -> Result<usize, TreeFault>
+    requires { blocks ≤ (D.state disk.old).blocks }
+    ensures any { Goes (result ≡ Err TreeFault.Device) (D.state disk.old) (D.state disk.new) }
+    ensures deep { result ≢ Err TreeFault.Deep }
+    ensures memory { result ≢ Err TreeFault.Memory }
+    ensures once { ReadsOne blocks block (D.state disk.old).reads (D.state disk.new).reads }
+    ensures reads { (D.state disk.new).honest ≡ true → OnlyReads (D.state disk.old) (D.state disk.new) }
+    ensures few { IfOk result (λ count. count ≤ 256) }
+    ensures form { IfOk result (λ count. (cs : List Child) × IsNode bytes.new level cs × (length cs ≡ count)) }
+    ensures found { (D.state disk.new).honest ≡ true → IfOk result (λ count. bytes.new ≡ bytes_at (D.state disk.old).now.contents block) }
+    ensures only { (D.state disk.new).honest ≡ true → (cs : List Child)
+        → IsNodeAt (D.state disk.old).now.contents blocks level block cs → OkOrDevice result (λ count. Unit {0}) }
+{
+    data_at(disk, blocks, block, bytes)?;
+    match node_size(bytes) {
+        Some((found, count)) if found == level => Ok(count),
+        _ => Err(TreeFault::Damaged(block)),
     }
 }
