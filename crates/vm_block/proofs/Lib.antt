@@ -7,5 +7,6 @@ pub mod Pieces
 pub mod RecordLemmas
 pub mod Rows
 pub mod SlotLemmas
+pub mod TellingLemmas
 pub mod TreeLemmas
 pub mod WayLemmas

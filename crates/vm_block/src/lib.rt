@@ -6,7 +6,9 @@
 //! that it spells; and what is written is read again. A descent to a key, and a change of one child
 //! or record, go by the bytes alone: of a block that is of its form they say and make what reading,
 //! changing and writing it would. Of other bytes they answer that they are none where their first
-//! sixteen are no head, and behind a head they take what stands there. No call takes memory.
+//! sixteen are no head, and behind a head they take what stands there. Whether a block is a leaf or
+//! an inner block is told by its bytes, each of which counts, and nothing is copied out for it. No
+//! call takes memory.
 #![tactic(auto)]
 
 mod changing;
@@ -19,6 +21,7 @@ mod node;
 mod selector;
 mod slot;
 mod spelling;
+mod telling;
 #[cfg(test)]
 mod tests;
 mod way;
@@ -33,4 +36,5 @@ pub use slot::{
     Entry, Kind, MAX_BLOCKS, MAX_ENTRIES, MIN_BLOCKS, SlotHead, read_entry, read_slot_head,
     write_entry, write_slot_head,
 };
-pub use way::{Way, find_child, find_record, lowest_key};
+pub use telling::{leaf_size, node_size, record_key};
+pub use way::{Way, child_at, find_child, find_record, lowest_key};

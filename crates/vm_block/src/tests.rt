@@ -1,9 +1,10 @@
 //! Blocks byte for byte, and bytes that are no form.
 use crate::spelling::is_framed;
 use crate::{
-    Child, Entry, Kind, Placed, SlotHead, find_child, find_record, lowest_key, put_record,
-    read_entry, read_header, read_leaf, read_node, read_selector, read_slot_head, set_child,
-    write_entry, write_header, write_leaf, write_node, write_selector, write_slot_head,
+    Child, Entry, Kind, Placed, SlotHead, child_at, find_child, find_record, leaf_size, lowest_key,
+    node_size, put_record, read_entry, read_header, read_leaf, read_node, read_selector,
+    read_slot_head, record_key, set_child, write_entry, write_header, write_leaf, write_node,
+    write_selector, write_slot_head,
 };
 use std::process::Abort;
 use vm_types::{Key, Name, Value};
@@ -70,6 +71,9 @@ fn a_leaf_is_spelled_and_read(rt: HostRuntime) {
         None => assert!(rt; false, "a leaf"),
     }
     assert!(rt; read_node(&block).is_none());
+    assert!(rt; leaf_size(&block) == Some(1));
+    assert!(rt; node_size(&block).is_none());
+    assert!(rt; record_key(&block, 0) == key(7, 1));
 }
 
 /// Whether the leaf of two records is none once this byte is put at this place.
@@ -81,7 +85,9 @@ fn leaf_refuses(rt: &impl Abort, at: usize, byte: u8) -> bool {
         return false;
     }
     block[at] = byte;
-    read_leaf(&block).is_none()
+    let refused = read_leaf(&block).is_none();
+    assert!(rt; leaf_size(&block).is_none() == refused);
+    refused
 }
 
 #[test]
@@ -130,6 +136,9 @@ fn an_inner_block_is_spelled_and_read(rt: HostRuntime) {
         None => assert!(rt; false, "an inner block"),
     }
     assert!(rt; read_leaf(&block).is_none());
+    assert!(rt; node_size(&block) == Some((1, 2)));
+    assert!(rt; leaf_size(&block).is_none());
+    assert!(rt; child_at(&block, 1) == children[1]);
 }
 
 #[test]
@@ -150,7 +159,7 @@ fn an_inner_block_with_one_child_is_read(rt: HostRuntime) {
 }
 
 /// Whether the inner block of two children is none once this byte is put at this place.
-fn node_refuses(at: usize, byte: u8) -> bool {
+fn node_refuses(rt: &impl Abort, at: usize, byte: u8) -> bool {
     let children = [
         Child {
             low: key(1, 1),
@@ -167,22 +176,27 @@ fn node_refuses(at: usize, byte: u8) -> bool {
         return false;
     }
     block[at] = byte;
-    read_node(&block).is_none()
+    let refused = read_node(&block).is_none();
+    assert!(rt; node_size(&block).is_none() == refused);
+    refused
 }
 
 #[test]
 fn bytes_that_are_no_inner_block_are_refused(rt: HostRuntime) {
-    assert!(rt; !node_refuses(26, 0), "a block of 0 is a form all the same");
-    assert!(rt; node_refuses(0, b'L'), "other letters");
-    assert!(rt; node_refuses(4, 0), "level 0");
-    assert!(rt; node_refuses(4, 8), "level 8");
-    assert!(rt; node_refuses(8, 0), "no child");
-    assert!(rt; node_refuses(9, 2), "too many children");
-    assert!(rt; node_refuses(12, 1), "a byte of the head");
-    assert!(rt; node_refuses(32, 1), "a key twice");
-    assert!(rt; node_refuses(16, 2), "keys that fall");
-    assert!(rt; node_refuses(44, 1), "a byte behind the children");
-    assert!(rt; node_refuses(4095, 1), "the last byte");
+    assert!(rt;
+        !node_refuses(&rt, 26, 0),
+        "a block of 0 is a form all the same"
+    );
+    assert!(rt; node_refuses(&rt, 0, b'L'), "other letters");
+    assert!(rt; node_refuses(&rt, 4, 0), "level 0");
+    assert!(rt; node_refuses(&rt, 4, 8), "level 8");
+    assert!(rt; node_refuses(&rt, 8, 0), "no child");
+    assert!(rt; node_refuses(&rt, 9, 2), "too many children");
+    assert!(rt; node_refuses(&rt, 12, 1), "a byte of the head");
+    assert!(rt; node_refuses(&rt, 32, 1), "a key twice");
+    assert!(rt; node_refuses(&rt, 16, 2), "keys that fall");
+    assert!(rt; node_refuses(&rt, 44, 1), "a byte behind the children");
+    assert!(rt; node_refuses(&rt, 4095, 1), "the last byte");
 }
 
 #[test]

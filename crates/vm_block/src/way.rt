@@ -50,7 +50,7 @@ pub(crate) fn choose(bytes: &[u8; 4096], size: usize, count: usize, place: u128)
 }
 
 /// The child at i, where an inner block has it.
-fn child_at(bytes: &[u8; 4096], i: usize) -> Child
+pub fn child_at(bytes: &[u8; 4096], i: usize) -> Child
     requires { i < 256 }
     ensures fits { ChildFits result }
     ensures spelled { take 14 (drop (16 + 14 * i) bytes.now) ≡ child_bytes result }

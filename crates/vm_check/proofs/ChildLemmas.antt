@@ -22,11 +22,12 @@ use Rattle.vm_tree.proofs.Splitting.{split_at, children_join, child_alone}
 use Rattle.vm_tree.specs.Reading.{IsLeafAt, IsNodeAt}
 use Rattle.vm_check.specs.Visiting.{IsHighest, Adds, Visited, VisitedAll}
 use Rattle.vm_check.specs.declared.verifying.Span.{Span}
+use Rattle.vm_check.specs.declared.verifying.Met.{Met}
 use Rattle.vm_check.proofs.SpanLemmas.{begins_one, highest_join, lowest_highest, rises_join, highest_below}
 use Rattle.vm_check.proofs.KnownLemmas.{children_begin}
 
 -- what is new after two steps
-pub adds_then : (most : ℕ) (bs cs : List ℕ) (a b c : List Bool) (s t u : List Span) → Adds most bs a s b t → Adds most cs b t c u → Adds most (bs ++ cs) a s c u
+pub adds_then : (most : ℕ) (bs cs : List ℕ) (a b c : List Bool) (s t u : List Met) → Adds most bs a s b t → Adds most cs b t c u → Adds most (bs ++ cs) a s c u
 adds_then most bs cs a b c s t u first then = record {
   grows = holds_more_then a b c first.grows then.grows;
   kept = λ n is. then.kept n (first.grows.still n is) ∙ first.kept n is;
@@ -54,7 +55,7 @@ module _ (T : ℕ → List Record → List ℕ → Type 0) where
 
 module _ (sizes : Sizes) (x : Contents) (limit level : ℕ) where
   -- one child more
-  pub child_more : (i : ℕ) (cs : List Child) (d : Child) (high : Key) (span : Span) (a b c : List Bool) (s t u : List Span) → i < length cs
+  pub child_more : (i : ℕ) (cs : List Child) (d : Child) (high : Key) (span : Span) (a b c : List Bool) (s t u : List Met) → i < length cs
       → span.low ≡ (get_or cs i d).low → (0 < i → i < length cs → place high < slice_index_or (lows cs) i 0)
       → VisitedAll sizes x limit level (take i cs) high a s b t → Visited sizes x limit level level (get_or cs i d).block span b t c u
       → VisitedAll sizes x limit level (take (i + 1) cs) span.high a s c u
@@ -113,7 +114,7 @@ module _ (sizes : Sizes) (x : Contents) (limit level : ℕ) where
     pub low : span.low ≡ (get_or cs i d).low
     pub below : i + 1 < length cs → place span.high < slice_index_or (lows cs) (i + 1) 0
 
-  pub child_agrees : (cs : List Child) (i : ℕ) (d : Child) (span : Span) (a b : List Bool) (s t : List Span) → ChildOf cs i d → Visited sizes x limit level level (get_or cs i d).block span a s b t → Agrees cs i d span
+  pub child_agrees : (cs : List Child) (i : ℕ) (d : Child) (span : Span) (a b : List Bool) (s t : List Met) → ChildOf cs i d → Visited sizes x limit level level (get_or cs i d).block span a s b t → Agrees cs i d span
   child_agrees cs i d span a b s t at v =
       let one = subtree_one sizes x limit span.level level (get_or cs i d).block v.whole.records at.records v.whole.blocks at.blocks v.whole.subtree at.subtree in
       record {

@@ -15,7 +15,7 @@ use Rattle.vm_tree.specs.Root.{IsRooted}
 use Rattle.vm_tree.specs.declared.root.Root.{Root}
 use Rattle.vm_check.specs.Verifying.{AreRoots, HaveTrees}
 use Rattle.vm_check.specs.Visiting.{Known, RootVisited}
-use Rattle.vm_check.specs.declared.verifying.Span.{Span}
+use Rattle.vm_check.specs.declared.verifying.Met.{Met}
 
 -- what holds of each element holds of the one at i
 pub each_at : {X : Type 0} (P : X → Type 0) (xs : List X) (i : ℕ) (d : X) → i < length xs → AllByRecursion P xs → P (get_or xs i d)
@@ -34,7 +34,7 @@ module _ (sizes : Sizes) (x : Contents) (limit : ℕ) where
       (are.0, are.1, are.2 ++ own, are.3, are.4, roots_more ns roots are.2 n root m own are.5 named rooted, ap (λ z. z ++ own) are.6 ∙ append_assoc are.1 are.2 own)
 
   -- under the number of a bare root lies nothing
-  pub bare_visited : (root : Root) (n : ℕ) (marks : List Bool) (spans : List Span) → root.block ≡ n → n ≡ 0 → Known sizes x limit (sizes.levels - 1) marks spans → RootVisited sizes x limit n root marks spans marks spans
+  pub bare_visited : (root : Root) (n : ℕ) (marks : List Bool) (spans : List Met) → root.block ≡ n → n ≡ 0 → Known sizes x limit (sizes.levels - 1) marks spans → RootVisited sizes x limit n root marks spans marks spans
   bare_visited root n marks spans named none known = record {
     records = [];
     blocks = [];
@@ -46,7 +46,7 @@ module _ (sizes : Sizes) (x : Contents) (limit : ℕ) where
   }
 
   -- what was found under the first numbers, and is known then
-  pub record FoundSoFar (ns : List ℕ) (roots : List Root) (marks : List Bool) (spans : List Span) : Type 0 where
+  pub record FoundSoFar (ns : List ℕ) (roots : List Root) (marks : List Bool) (spans : List Met) : Type 0 where
     pub blocks : List ℕ
     pub are : AreRoots sizes x limit ns roots blocks
     pub each : AllByRecursion (IsMarked marks) blocks
@@ -54,7 +54,7 @@ module _ (sizes : Sizes) (x : Contents) (limit : ℕ) where
     pub known : Known sizes x limit (sizes.levels - 1) marks spans
 
   -- before the first number, with no mark
-  none_found : (spans : List Span) → FoundSoFar [] [] (replicate limit false) spans
+  none_found : (spans : List Met) → FoundSoFar [] [] (replicate limit false) spans
   none_found spans = record {
     blocks = [];
     are = refl;
@@ -66,11 +66,11 @@ module _ (sizes : Sizes) (x : Contents) (limit : ℕ) where
     };
   }
 
-  pub first_found : (roots : List Root) (marks : List Bool) (spans : List Span) → roots ≡ [] → marks ≡ replicate limit false → FoundSoFar [] roots marks spans
+  pub first_found : (roots : List Root) (marks : List Bool) (spans : List Met) → roots ≡ [] → marks ≡ replicate limit false → FoundSoFar [] roots marks spans
   first_found roots marks spans none clear =
       subst (λ (rs : List Root). FoundSoFar [] rs marks spans) (sym none) (subst (λ (z : List Bool). FoundSoFar [] [] z spans) (sym clear) (none_found spans))
 
-  one_found : (ns : List ℕ) (roots : List Root) (n : ℕ) (root : Root) (marks later : List Bool) (spans now : List Span) → FoundSoFar ns roots marks spans → RootVisited sizes x limit n root marks spans later now
+  one_found : (ns : List ℕ) (roots : List Root) (n : ℕ) (root : Root) (marks later : List Bool) (spans now : List Met) → FoundSoFar ns roots marks spans → RootVisited sizes x limit n root marks spans later now
       → FoundSoFar (ns ++ n ∷ []) (roots ++ root ∷ []) later now
   one_found ns roots n root marks later spans now found v = record {
     blocks = found.blocks ++ v.blocks;
@@ -85,7 +85,7 @@ module _ (sizes : Sizes) (x : Contents) (limit : ℕ) where
 
 module _ (sizes : Sizes) (limit : ℕ) where
   -- one number more
-  pub number_more : (old mid : Medium) (ns : List ℕ) (i : ℕ) (roots pushed : List Root) (root : Root) (marks later : List Bool) (spans now : List Span) → mid ≡ old → i < length ns → pushed ≡ roots ++ root ∷ []
+  pub number_more : (old mid : Medium) (ns : List ℕ) (i : ℕ) (roots pushed : List Root) (root : Root) (marks later : List Bool) (spans now : List Met) → mid ≡ old → i < length ns → pushed ≡ roots ++ root ∷ []
       → FoundSoFar sizes old.contents limit (take i ns) roots marks spans
       → (Known sizes mid.contents limit (sizes.levels - 1) marks spans → RootVisited sizes mid.contents limit (get_or ns i 0) root marks spans later now)
       → FoundSoFar sizes old.contents limit (take (i + 1) ns) pushed later now
@@ -96,7 +96,7 @@ module _ (sizes : Sizes) (limit : ℕ) where
       (one_found sizes old.contents limit (take i ns) roots (get_or ns i 0) root marks later spans now found (here found.known)))
 
   -- a fault under a number, where each has a tree
-  pub number_fault : (old mid : Medium) (ns : List ℕ) (i : ℕ) (roots : List Root) (marks : List Bool) (spans : List Span) (F : Type 0) → mid ≡ old → i < length ns
+  pub number_fault : (old mid : Medium) (ns : List ℕ) (i : ℕ) (roots : List Root) (marks : List Bool) (spans : List Met) (F : Type 0) → mid ≡ old → i < length ns
       → FoundSoFar sizes old.contents limit (take i ns) roots marks spans → HaveTrees sizes old.contents limit ns
       → (Known sizes mid.contents limit (sizes.levels - 1) marks spans → (m : Map) (bs : List ℕ) → IsTree sizes mid.contents limit (get_or ns i 0) m bs → F) → F
   number_fault old mid ns i roots marks spans F same lt found trees step =

@@ -1,5 +1,5 @@
 -- What is known of the blocks that were met: how it grows by a leaf, and by an inner block.
-use Rattle.std.proofs.Common.{◌≡◌, ◌⊎◌, inl, inr, ℕ, zero, suc, ◌-◌, ◌<◌, ◌≤◌, Bool, true, List, [], ◌∷◌, ◌++◌, length, get_or, refl, sym, ◌∙◌, subst, arith}
+use Rattle.std.proofs.Common.{◌≡◌, ◌⊎◌, inl, inr, ℕ, zero, suc, ◌-◌, ◌<◌, ◌≤◌, Bool, true, List, [], ◌∷◌, ◌++◌, length, get_or, refl, sym, ap, ◌∙◌, subst, arith}
 use Rattle.std.specs.Prelude.{slice_set, Contains}
 use Rattle.std.proofs.lemmas.Bool.{cases_eq}
 use Rattle.std.proofs.lemmas.List.{get_or-set_same, get_or-set_other}
@@ -15,8 +15,9 @@ use Rattle.vm_block.proofs.EachLemmas.{each_so}
 use Rattle.vm_block.proofs.FormLemmas.{leaf_or_node}
 use Rattle.vm_block.proofs.NodeLemmas.{node_one}
 use Rattle.vm_block.proofs.TreeLemmas.{leaf_closes, node_closes}
-use Rattle.vm_check.specs.Visiting.{IsHighest, HasLevel, span_at, Whole, Known, Adds, Visited, VisitedAll}
+use Rattle.vm_check.specs.Visiting.{IsHighest, HasLevel, span_of, met_of, no_met, span_at, Whole, Known, Adds, Visited, VisitedAll}
 use Rattle.vm_check.specs.declared.verifying.Span.{Span}
+use Rattle.vm_check.specs.declared.verifying.Met.{Met}
 use Rattle.vm_check.proofs.MarkLemmas.{is_first, is_other}
 
 -- # Levels
@@ -43,11 +44,11 @@ leaf_level bytes (suc l) rs low leaf = absurd (omega arith)
 
 -- # The span of a block
 
-span_here : (spans : List Span) (b : ℕ) (span : Span) → b < length spans → span_at (slice_set spans b span) b ≡ span
-span_here spans b span inside = get_or-set_same spans b span _ inside
+span_here : (spans : List Met) (b : ℕ) (span : Span) → b < length spans → span_at (slice_set spans b (met_of span)) b ≡ span
+span_here spans b span inside = ap (λ (m : Met). span_of m) (get_or-set_same spans b (met_of span) no_met inside)
 
-span_there : (spans : List Span) (b n : ℕ) (span : Span) → (n ≡ b → ⊥) → span_at (slice_set spans b span) n ≡ span_at spans n
-span_there spans b n span other = get_or-set_other spans b n span _ other
+span_there : (spans : List Met) (b n : ℕ) (span : Span) → (n ≡ b → ⊥) → span_at (slice_set spans b (met_of span)) n ≡ span_at spans n
+span_there spans b n span other = ap (λ (m : Met). span_of m) (get_or-set_other spans b n (met_of span) no_met other)
 
 -- children begin with the lowest key of the first one
 begins_join : (low : _) (xs ys : List Record) → Begins low xs → Begins low (xs ++ ys)
@@ -91,25 +92,25 @@ module _ (sizes : Sizes) (x : Contents) (limit : ℕ) where
   }
 
   -- one block more is whole, and no other is new
-  module _ (most b : ℕ) (span : Span) (marks : List Bool) (spans : List Span) (inside : b < length marks) (room : b < length spans) (fresh : IsMarked marks b → ⊥) where
-    alone_adds : span.level ≤ most → Adds most (b ∷ []) marks spans (slice_set marks b true) (slice_set spans b span)
+  module _ (most b : ℕ) (span : Span) (marks : List Bool) (spans : List Met) (inside : b < length marks) (room : b < length spans) (fresh : IsMarked marks b → ⊥) where
+    alone_adds : span.level ≤ most → Adds most (b ∷ []) marks spans (slice_set marks b true) (slice_set spans b (met_of span))
     alone_adds low = record {
       grows = taken_holds_more marks b;
       kept = λ n is. span_there spans b n span (λ same. fresh (subst (IsMarked marks) same is));
       fresh = λ n is. elim (cases_eq n b) [
-        | inl same ↦ inr (subst (Contains (b ∷ [])) (sym same) (is_first b []), subst (λ k. (span_at (slice_set spans b span) k).level ≤ most) (sym same) (subst (λ (s : Span). s.level ≤ most) (sym (span_here spans b span room)) low))
+        | inl same ↦ inr (subst (Contains (b ∷ [])) (sym same) (is_first b []), subst (λ k. (span_at (slice_set spans b (met_of span)) k).level ≤ most) (sym same) (subst (λ (s : Span). s.level ≤ most) (sym (span_here spans b span room)) low))
         | inr other ↦ inl (sym (others_as_before marks b n other) ∙ is)
       ];
     }
 
-    alone_known : HasLevel (block x b) span.level → Whole sizes x limit (slice_set marks b true) b span → Known sizes x limit most marks spans → Known sizes x limit most (slice_set marks b true) (slice_set spans b span)
+    alone_known : HasLevel (block x b) span.level → Whole sizes x limit (slice_set marks b true) b span → Known sizes x limit most marks spans → Known sizes x limit most (slice_set marks b true) (slice_set spans b (met_of span))
     alone_known form whole known = record {
       formed = λ n is. elim (cases_eq n b) [
-        | inl same ↦ subst (λ k. HasLevel (block x k) (span_at (slice_set spans b span) k).level) (sym same) (subst (λ (s : Span). HasLevel (block x b) s.level) (sym (span_here spans b span room)) form)
+        | inl same ↦ subst (λ k. HasLevel (block x k) (span_at (slice_set spans b (met_of span)) k).level) (sym same) (subst (λ (s : Span). HasLevel (block x b) s.level) (sym (span_here spans b span room)) form)
         | inr other ↦ subst (λ (s : Span). HasLevel (block x n) s.level) (sym (span_there spans b n span other)) (known.formed n (sym (others_as_before marks b n other) ∙ is))
       ];
       whole = λ n is le. elim (cases_eq n b) [
-        | inl same ↦ subst (λ k. Whole sizes x limit (slice_set marks b true) k (span_at (slice_set spans b span) k)) (sym same) (subst (λ (s : Span). Whole sizes x limit (slice_set marks b true) b s) (sym (span_here spans b span room)) whole)
+        | inl same ↦ subst (λ k. Whole sizes x limit (slice_set marks b true) k (span_at (slice_set spans b (met_of span)) k)) (sym same) (subst (λ (s : Span). Whole sizes x limit (slice_set marks b true) b s) (sym (span_here spans b span room)) whole)
         | inr other ↦
             let was = sym (others_as_before marks b n other) ∙ is in
             let still = span_there spans b n span other in
@@ -117,7 +118,7 @@ module _ (sizes : Sizes) (x : Contents) (limit : ℕ) where
       ];
     }
 
-    pub leaf_visited : (least : ℕ) (rs : List Record) → least ≡ 0 → LeafFound b rs span → Known sizes x limit most marks spans → Visited sizes x limit least most b span marks spans (slice_set marks b true) (slice_set spans b span)
+    pub leaf_visited : (least : ℕ) (rs : List Record) → least ≡ 0 → LeafFound b rs span → Known sizes x limit most marks spans → Visited sizes x limit least most b span marks spans (slice_set marks b true) (slice_set spans b (met_of span))
     unfolding leaf_whole
     leaf_visited least rs none at known =
         let whole = leaf_whole b rs span (slice_set marks b true) (taken_is_held marks b inside) at in
@@ -130,16 +131,16 @@ module _ (sizes : Sizes) (x : Contents) (limit : ℕ) where
         }
 
     -- what is known while the blocks under an inner block are visited
-    pub known_first : (cs : List Child) → span.level ≤ most → IsNode (block x b) span.level cs → Known sizes x limit most marks spans → Known sizes x limit (span.level - 1) (slice_set marks b true) (slice_set spans b span)
+    pub known_first : (cs : List Child) → span.level ≤ most → IsNode (block x b) span.level cs → Known sizes x limit most marks spans → Known sizes x limit (span.level - 1) (slice_set marks b true) (slice_set spans b (met_of span))
     known_first cs le node known = record {
       formed = λ n is. elim (cases_eq n b) [
-        | inl same ↦ subst (λ k. HasLevel (block x k) (span_at (slice_set spans b span) k).level) (sym same)
+        | inl same ↦ subst (λ k. HasLevel (block x k) (span_at (slice_set spans b (met_of span)) k).level) (sym same)
             (subst (λ (s : Span). HasLevel (block x b) s.level) (sym (span_here spans b span room)) (node_level (block x b) span.level cs node))
         | inr other ↦ subst (λ (s : Span). HasLevel (block x n) s.level) (sym (span_there spans b n span other)) (known.formed n (sym (others_as_before marks b n other) ∙ is))
       ];
       whole = λ n is low. elim (cases_eq n b) [
         | inl same ↦
-            let here : span_at (slice_set spans b span) n ≡ span = subst (λ k. span_at (slice_set spans b span) k ≡ span) (sym same) (span_here spans b span room) in
+            let here : span_at (slice_set spans b (met_of span)) n ≡ span = subst (λ k. span_at (slice_set spans b (met_of span)) k ≡ span) (sym same) (span_here spans b span room) in
             let high : span.level ≤ span.level - 1 = subst (λ (s : Span). s.level ≤ span.level - 1) here low in
             absurd (omega (arith, high, node.above))
         | inr other ↦
@@ -154,16 +155,16 @@ module _ (sizes : Sizes) (x : Contents) (limit : ℕ) where
   -- # An inner block
 
   -- an inner block, when the blocks under it were visited: `first` is what was known of it then, and `span` what is known now
-  pub record NodeFound (least most b : ℕ) (cs : List Child) (d : Child) (first span : Span) (marks : List Bool) (spans : List Span) (later : List Bool) (now : List Span) : Type 0 where
+  pub record NodeFound (least most b : ℕ) (cs : List Child) (d : Child) (first span : Span) (marks : List Bool) (spans : List Met) (later : List Bool) (now : List Met) : Type 0 where
     pub inside : IsData limit b
     pub node : IsNode (block x b) span.level cs
     pub few : length cs ≤ sizes.fan
     pub at_least : least ≤ span.level
     pub at_most : span.level ≤ most
     pub low : span.low ≡ (get_or cs 0 d).low
-    pub under : VisitedAll sizes x limit (span.level - 1) cs span.high (slice_set marks b true) (slice_set spans b first) later now
+    pub under : VisitedAll sizes x limit (span.level - 1) cs span.high (slice_set marks b true) (slice_set spans b (met_of first)) later now
 
-  module _ (least most b : ℕ) (cs : List Child) (d : Child) (first span : Span) (marks : List Bool) (spans : List Span) (later : List Bool) (now : List Span)
+  module _ (least most b : ℕ) (cs : List Child) (d : Child) (first span : Span) (marks : List Bool) (spans : List Met) (later : List Bool) (now : List Met)
       (inside : b < length marks) (room : b < length now) (fresh : IsMarked marks b → ⊥) (at : NodeFound least most b cs d first span marks spans later now) where
     node_whole : Whole sizes x limit later b span
     node_whole =
@@ -191,12 +192,12 @@ module _ (sizes : Sizes) (x : Contents) (limit : ℕ) where
     -- what a block that is marked now is: the inner block, or one that was marked before it, or one under it
     pub record Before (n : ℕ) : Type 0 where
       pub was : IsMarked marks n
-      pub same : span_at (slice_set now b span) n ≡ span_at spans n
+      pub same : span_at (slice_set now b (met_of span)) n ≡ span_at spans n
 
     pub record Under (n : ℕ) : Type 0 where
       pub among : Contains at.under.blocks n
       pub low : (span_at now n).level ≤ span.level - 1
-      pub same : span_at (slice_set now b span) n ≡ span_at now n
+      pub same : span_at (slice_set now b (met_of span)) n ≡ span_at now n
 
     before : (n : ℕ) → (n ≡ b → ⊥) → IsMarked marks n → Before n
     before n other was = record {
@@ -210,14 +211,14 @@ module _ (sizes : Sizes) (x : Contents) (limit : ℕ) where
       | inr new ↦ inr (record { among = new.0; low = new.1; same = span_there now b n span other })
     ]
 
-    node_adds : Adds most (b ∷ at.under.blocks) marks spans later (slice_set now b span)
+    node_adds : Adds most (b ∷ at.under.blocks) marks spans later (slice_set now b (met_of span))
     node_adds = record {
       grows = holds_more_then marks (slice_set marks b true) later (taken_holds_more marks b) at.under.adds.grows;
       kept = λ n is. (before n (λ same. fresh (subst (IsMarked marks) same is)) is).same;
       fresh = λ n is. elim (cases_eq n b) [
         | inl same ↦ inr (
           subst (Contains (b ∷ at.under.blocks)) (sym same) (is_first b at.under.blocks),
-          subst (λ k. (span_at (slice_set now b span) k).level ≤ most) (sym same) (subst (λ (s : Span). s.level ≤ most) (sym (span_here now b span room)) at.at_most),
+          subst (λ k. (span_at (slice_set now b (met_of span)) k).level ≤ most) (sym same) (subst (λ (s : Span). s.level ≤ most) (sym (span_here now b span room)) at.at_most),
         )
         | inr other ↦ elim (before_or_under n is other) [
           | inl old ↦ inl old.was
@@ -226,15 +227,15 @@ module _ (sizes : Sizes) (x : Contents) (limit : ℕ) where
       ];
     }
 
-    node_known : Known sizes x limit most marks spans → Known sizes x limit most later (slice_set now b span)
+    node_known : Known sizes x limit most marks spans → Known sizes x limit most later (slice_set now b (met_of span))
     node_known known = record {
       formed = λ n is. elim (cases_eq n b) [
-        | inl same ↦ subst (λ k. HasLevel (block x k) (span_at (slice_set now b span) k).level) (sym same)
+        | inl same ↦ subst (λ k. HasLevel (block x k) (span_at (slice_set now b (met_of span)) k).level) (sym same)
             (subst (λ (s : Span). HasLevel (block x b) s.level) (sym (span_here now b span room)) (node_level (block x b) span.level cs at.node))
         | inr other ↦ subst (λ (s : Span). HasLevel (block x n) s.level) (sym (span_there now b n span other)) (at.under.known.formed n is)
       ];
       whole = λ n is le. elim (cases_eq n b) [
-        | inl same ↦ subst (λ k. Whole sizes x limit later k (span_at (slice_set now b span) k)) (sym same) (subst (Whole sizes x limit later b) (sym (span_here now b span room)) node_whole)
+        | inl same ↦ subst (λ k. Whole sizes x limit later k (span_at (slice_set now b (met_of span)) k)) (sym same) (subst (Whole sizes x limit later b) (sym (span_here now b span room)) node_whole)
         | inr other ↦ elim (before_or_under n is other) [
           | inl old ↦ subst (Whole sizes x limit later n) (sym old.same)
               (whole_more marks later n (span_at spans n) node_adds.grows (known.whole n old.was (subst (λ (s : Span). s.level ≤ most) old.same le)))
@@ -243,6 +244,6 @@ module _ (sizes : Sizes) (x : Contents) (limit : ℕ) where
       ];
     }
 
-    pub node_visited : Known sizes x limit most marks spans → Visited sizes x limit least most b span marks spans later (slice_set now b span)
+    pub node_visited : Known sizes x limit most marks spans → Visited sizes x limit least most b span marks spans later (slice_set now b (met_of span))
     unfolding node_whole
     node_visited known = record { at_least = at.at_least; at_most = at.at_most; whole = node_whole; adds = node_adds; known = node_known known }

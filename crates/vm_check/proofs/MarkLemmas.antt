@@ -216,26 +216,34 @@ module _ (sizes : Sizes) (limit l : ℕ) where
       let more = before s.before s.front closed in
       record { last = s; so_far = more; closed = closed_more x l s.before first now (joined_sealed x (take i cs) s.before s.front) closed more }
 
+  child_below : (old mid : Medium) (cs : List Child) (i : ℕ) (d : Child) (rs : List Record) (ds : List ℕ) → mid ≡ old → get_or cs i d ≡ d → Subtree sizes old.contents limit l (get_or cs i d).block rs ds → Subtree sizes mid.contents limit l d.block rs ds
+  child_below old mid cs i d rs ds same is sub =
+      subst (λ (m : Medium). Subtree sizes m.contents limit l d.block rs ds) (sym same) (subst (λ (e : Child). Subtree sizes old.contents limit l e.block rs ds) is sub)
+
   -- one child more
-  pub child_more : (old mid : Medium) (cs : List Child) (i : ℕ) (d : Child) (first now new : List Bool) → mid ≡ old → i < length cs → MarkedSoFar old.contents cs i first now
-      → ((rs : List Record) (ds : List ℕ) → Subtree sizes mid.contents limit l (get_or cs i d).block rs ds → ClosedTo mid.contents l now → MarksMore ds now new)
+  pub child_more : (old mid : Medium) (cs : List Child) (i : ℕ) (d : Child) (first now new : List Bool) → mid ≡ old → i < length cs → get_or cs i d ≡ d → MarkedSoFar old.contents cs i first now
+      → ((rs : List Record) (ds : List ℕ) → Subtree sizes mid.contents limit l d.block rs ds → ClosedTo mid.contents l now → MarksMore ds now new)
       → MarkedSoFar old.contents cs (i + 1) first new
-  child_more old mid cs i d first now new same lt before step bs joined closed =
+  child_more old mid cs i d first now new same lt is before step bs joined closed =
       let at = child_at old.contents cs i d bs first now lt joined closed before in
       let s = at.last in
-      let sub = subst (λ (m : Medium). Subtree sizes m.contents limit l (get_or cs i d).block s.last.0 s.own) (sym same) s.last.1 in
+      let sub = child_below old mid cs i d s.last.0 s.own same is s.last.1 in
       let here = subst (λ (m : Medium). ClosedTo m.contents l now) (sym same) at.closed in
       subst (λ (ds : List ℕ). MarksMore ds first new) (sym s.blocks) (more_then s.before s.own first now new at.so_far (step s.last.0 s.own sub here))
 
   -- a fault under a child
-  pub child_fault : (old mid : Medium) (cs : List Child) (i : ℕ) (d : Child) (first now : List Bool) (F : Type 0) → mid ≡ old → i < length cs → MarkedSoFar old.contents cs i first now
-      → ((rs : List Record) (ds : List ℕ) → Subtree sizes mid.contents limit l (get_or cs i d).block rs ds → ClosedTo mid.contents l now → F)
+  pub child_fault : (old mid : Medium) (cs : List Child) (i : ℕ) (d : Child) (first now : List Bool) (F : Type 0) → mid ≡ old → i < length cs → get_or cs i d ≡ d → MarkedSoFar old.contents cs i first now
+      → ((rs : List Record) (ds : List ℕ) → Subtree sizes mid.contents limit l d.block rs ds → ClosedTo mid.contents l now → F)
       → (bs : List ℕ) → Joined (IsBelow sizes old.contents limit l) cs bs → ClosedTo old.contents l first → F
-  child_fault old mid cs i d first now F same lt before step bs joined closed =
+  child_fault old mid cs i d first now F same lt is before step bs joined closed =
       let front = joined_front (IsBelow sizes old.contents limit l) cs (i + 1) bs joined in
       let at = child_at old.contents cs i d front.0 first now lt front.1 closed before in
       let s = at.last in
-      step s.last.0 s.own (subst (λ (m : Medium). Subtree sizes m.contents limit l (get_or cs i d).block s.last.0 s.own) (sym same) s.last.1) (subst (λ (m : Medium). ClosedTo m.contents l now) (sym same) at.closed)
+      step s.last.0 s.own (child_below old mid cs i d s.last.0 s.own same is s.last.1) (subst (λ (m : Medium). ClosedTo m.contents l now) (sym same) at.closed)
+
+-- bytes that are the same have the same children
+pub same_children : (bytes now : List ℕ) (level : ℕ) (cs ds : List Child) → now ≡ bytes → IsNode now level cs → IsNode bytes level ds → cs ≡ ds
+same_children bytes now level cs ds same a b = (node_one bytes level level cs ds (subst (λ (z : List ℕ). IsNode z level cs) same a) b).1
 
 -- an inner block of a tree that was read
 pub record NodeStart (sizes : Sizes) (x : Contents) (limit level b : ℕ) (bs : List ℕ) (cs : List Child) : Type 0 where
@@ -276,8 +284,8 @@ leaf_marked sizes x limit level b rs bs marks new none inside is tree =
 
 -- a fault under an inner block
 pub node_fault : (sizes : Sizes) (old mid : Medium) (limit level b i : ℕ) (bs : List ℕ) (cs : List Child) (d : Child) (marks first now : List Bool) (F : Type 0) → mid ≡ old → b < length marks → first ≡ slice_set marks b true
-    → 0 < level → i < length cs → NodeStart sizes old.contents limit level b bs cs → ClosedTo old.contents level marks → MarkedSoFar sizes limit (level - 1) old.contents cs i first now
-    → ((rs : List Record) (ds : List ℕ) → Subtree sizes mid.contents limit (level - 1) (get_or cs i d).block rs ds → ClosedTo mid.contents (level - 1) now → F) → F
-node_fault sizes old mid limit level b i bs cs d marks first now F same inside is above lt start closed done step =
+    → 0 < level → i < length cs → get_or cs i d ≡ d → NodeStart sizes old.contents limit level b bs cs → ClosedTo old.contents level marks → MarkedSoFar sizes limit (level - 1) old.contents cs i first now
+    → ((rs : List Record) (ds : List ℕ) → Subtree sizes mid.contents limit (level - 1) d.block rs ds → ClosedTo mid.contents (level - 1) now → F) → F
+node_fault sizes old mid limit level b i bs cs d marks first now F same inside is above lt at start closed done step =
     let here : ClosedTo old.contents (level - 1) first = subst (ClosedTo old.contents (level - 1)) (sym is) (closed_first old.contents level (level - 1) b cs marks inside (omega arith) start.node closed) in
-    child_fault sizes limit (level - 1) old mid cs i d first now F same lt done step start.under start.joined here
+    child_fault sizes limit (level - 1) old mid cs i d first now F same lt at done step start.under start.joined here

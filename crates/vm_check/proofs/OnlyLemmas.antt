@@ -97,24 +97,27 @@ only_top b under bs marks first now set is rest =
     subst (λ (ds : List ℕ). MarksOnly ds marks now) (sym is) (only_then (b ∷ []) under marks first now (only_set b (b ∷ []) marks first set (is_first b [])) rest)
 
 -- the children of an inner block of a tree, of which the present one is visited on the same disk
-module _ (sizes : Sizes) (limit l : ℕ) (old mid : Medium) (cs : List Child) (i : ℕ) (d : Child) (same : mid ≡ old) (lt : i < length cs) where
+module _ (sizes : Sizes) (limit l : ℕ) (old mid : Medium) (cs : List Child) (i : ℕ) (d : Child) (same : mid ≡ old) (lt : i < length cs) (is : get_or cs i d ≡ d) where
+  child_below : (rs : List Record) (ds : List ℕ) → Subtree sizes old.contents limit l (get_or cs i d).block rs ds → Subtree sizes mid.contents limit l d.block rs ds
+  child_below rs ds sub = subst (λ (m : Medium). Subtree sizes m.contents limit l d.block rs ds) (sym same) (subst (λ (e : Child). Subtree sizes old.contents limit l e.block rs ds) is sub)
+
   pub child_sound : (bs : List ℕ) (F : Type 0) → Joined (IsBelow sizes old.contents limit l) cs bs
-      → ((rs : List Record) (ds : List ℕ) → Subtree sizes mid.contents limit l (get_or cs i d).block rs ds → F) → F
+      → ((rs : List Record) (ds : List ℕ) → Subtree sizes mid.contents limit l d.block rs ds → F) → F
   child_sound bs F joined step =
       let at = joined_at (IsBelow sizes old.contents limit l) cs i d bs lt joined in
-      step at.1.0 at.0 (subst (λ (m : Medium). Subtree sizes m.contents limit l (get_or cs i d).block at.1.0 at.0) (sym same) at.1.1)
+      step at.1.0 at.0 (child_below at.1.0 at.0 at.1.1)
 
-  child_step : (now new : List Bool) → ((rs : List Record) (ds : List ℕ) → Subtree sizes mid.contents limit l (get_or cs i d).block rs ds → MarksOnly ds now new)
+  child_step : (now new : List Bool) → ((rs : List Record) (ds : List ℕ) → Subtree sizes mid.contents limit l d.block rs ds → MarksOnly ds now new)
       → (ds : List ℕ) → IsBelow sizes old.contents limit l (get_or cs i d) ds → MarksOnly ds now new
-  child_step now new step ds below = step below.0 ds (subst (λ (m : Medium). Subtree sizes m.contents limit l (get_or cs i d).block below.0 ds) (sym same) below.1)
+  child_step now new step ds below = step below.0 ds (child_below below.0 ds below.1)
 
   pub child_only_more : (first now new : List Bool) → OnlySoFar (IsBelow sizes old.contents limit l) cs i first now
-      → ((rs : List Record) (ds : List ℕ) → Subtree sizes mid.contents limit l (get_or cs i d).block rs ds → MarksOnly ds now new)
+      → ((rs : List Record) (ds : List ℕ) → Subtree sizes mid.contents limit l d.block rs ds → MarksOnly ds now new)
       → OnlySoFar (IsBelow sizes old.contents limit l) cs (i + 1) first new
   child_only_more first now new before step = only_more (IsBelow sizes old.contents limit l) cs i d first now new lt before (child_step now new step)
 
   pub child_only_fault : (first now new : List Bool) → OnlySoFar (IsBelow sizes old.contents limit l) cs i first now
-      → ((rs : List Record) (ds : List ℕ) → Subtree sizes mid.contents limit l (get_or cs i d).block rs ds → MarksOnly ds now new)
+      → ((rs : List Record) (ds : List ℕ) → Subtree sizes mid.contents limit l d.block rs ds → MarksOnly ds now new)
       → (bs : List ℕ) → Joined (IsBelow sizes old.contents limit l) cs bs → MarksOnly bs first new
   child_only_fault first now new before step = only_fault (IsBelow sizes old.contents limit l) cs i d first now new lt before (child_step now new step)
 

@@ -1,36 +1,46 @@
 -- What a visit answers at its exits, where the blocks under it were visited after a read.
-use Rattle.std.proofs.Common.{◌≡◌, ℕ, ◌+◌, ◌-◌, ◌<◌, ◌≤◌, Bool, true, List, length, get_or, take, sym, subst, arith}
+use Rattle.std.proofs.Common.{◌≡◌, ℕ, ◌+◌, ◌-◌, ◌<◌, ◌≤◌, Bool, true, List, [], ◌∷◌, inl, length, get_or, take, refl, sym, ap, ◌∙◌, subst, arith}
 use Rattle.std.specs.Prelude.{slice_set, slice_index_or}
+use Rattle.std.proofs.lemmas.List.{take_all}
 use Rattle.vm_types.specs.declared.key.Key.{Key}
 use Rattle.vm_types.specs.Places.{RisesFrom, place, places}
 use Rattle.vm_disk.specs.Disk.{Contents, Medium, block}
 use Rattle.vm_alloc.specs.Marks.{IsMarked}
+use Rattle.vm_alloc.proofs.HeldLemmas.{holds_same}
 use Rattle.vm_block.specs.Leaf.{Record, IsLeaf}
 use Rattle.vm_block.specs.Node.{IsNode, lows}
 use Rattle.vm_block.specs.Tree.{Sizes, IsData, Children, Subtree}
+use Rattle.vm_block.specs.Way.{Lowest}
 use Rattle.vm_block.specs.declared.node.Child.{Child}
-use Rattle.vm_check.specs.Visiting.{Known, Visited, VisitedAll}
+use Rattle.vm_check.specs.Visiting.{Known, Visited, VisitedAll, met_of}
 use Rattle.vm_check.specs.declared.verifying.Span.{Span}
+use Rattle.vm_check.specs.declared.verifying.Met.{Met}
 use Rattle.vm_check.proofs.KnownLemmas.{LeafFound, leaf_visited, known_first, node_visited}
-use Rattle.vm_check.proofs.ChildLemmas.{child_of, child_more, Agrees, child_agrees, node_top}
+use Rattle.vm_check.proofs.ChildLemmas.{child_of, child_more, child_agrees, node_top}
 
--- the same form, where the records or the children have another name
-pub leaf_as : (bytes : List ℕ) (rs qs : List Record) → qs ≡ rs → IsLeaf bytes rs → IsLeaf bytes qs
-leaf_as bytes rs qs same leaf = subst (IsLeaf bytes) (sym same) leaf
+-- the same form, where the bytes have another name
+pub leaf_as : (bytes now : List ℕ) (rs : List Record) → now ≡ bytes → IsLeaf now rs → IsLeaf bytes rs
+leaf_as bytes now rs same leaf = subst (λ (z : List ℕ). IsLeaf z rs) same leaf
 
-pub node_as : (bytes : List ℕ) (level : ℕ) (cs ds : List Child) → ds ≡ cs → IsNode bytes level cs → IsNode bytes level ds
-node_as bytes level cs ds same node = subst (IsNode bytes level) (sym same) node
+pub node_as : (bytes now : List ℕ) (level : ℕ) (cs : List Child) → now ≡ bytes → IsNode now level cs → IsNode bytes level cs
+node_as bytes now level cs same node = subst (λ (z : List ℕ). IsNode z level cs) same node
+
+-- the lowest key of children is that of the first
+pub lowest_first : (key : Key) (cs : List Child) (d : Child) → Lowest key cs → key ≡ (get_or cs 0 d).low
+lowest_first key [] d lowest = absurd lowest
+lowest_first key (c ∷ cs) d lowest = sym lowest
 
 module _ (sizes : Sizes) (limit : ℕ) where
   -- a leaf that was not met before
-  pub leaf_exit : (x : Contents) (least most b : ℕ) (rs : List Record) (span : Span) (marks : List Bool) (spans : List Span) (new : List Bool) → new ≡ slice_set marks b true → b < length marks → b < length spans
-      → (IsMarked marks b → ⊥) → least ≡ 0 → LeafFound sizes x limit b rs span → Known sizes x limit most marks spans → Visited sizes x limit least most b span marks spans new (slice_set spans b span)
-  leaf_exit x least most b rs span marks spans new is inside room fresh none at known =
-      subst (λ (z : List Bool). Visited sizes x limit least most b span marks spans z (slice_set spans b span)) (sym is)
-      (leaf_visited sizes x limit most b span marks spans inside room fresh least rs none at known)
+  pub leaf_exit : (x : Contents) (least most b : ℕ) (rs : List Record) (span : Span) (met : Met) (marks : List Bool) (spans : List Met) (new : List Bool) → met ≡ met_of span → new ≡ slice_set marks b true → b < length marks → b < length spans
+      → (IsMarked marks b → ⊥) → least ≡ 0 → LeafFound sizes x limit b rs span → Known sizes x limit most marks spans → Visited sizes x limit least most b span marks spans new (slice_set spans b met)
+  leaf_exit x least most b rs span met marks spans new keeps is inside room fresh none at known =
+      subst (λ (m : Met). Visited sizes x limit least most b span marks spans new (slice_set spans b m)) (sym keeps)
+      (subst (λ (z : List Bool). Visited sizes x limit least most b span marks spans z (slice_set spans b (met_of span))) (sym is)
+      (leaf_visited sizes x limit most b span marks spans inside room fresh least rs none at known))
 
   -- an inner block that was read, and was not met before: `first` is what is known of it then
-  pub record NodeRead (x : Contents) (least most b : ℕ) (cs : List Child) (first : Span) (marks : List Bool) (spans : List Span) (new : List Bool) : Type 0 where
+  pub record NodeRead (x : Contents) (least most b : ℕ) (cs : List Child) (first : Span) (marks : List Bool) (spans : List Met) (new : List Bool) : Type 0 where
     pub is : new ≡ slice_set marks b true
     pub inside : b < length marks
     pub room : b < length spans
@@ -41,22 +51,23 @@ module _ (sizes : Sizes) (limit : ℕ) where
     pub at_least : least ≤ first.level
     pub at_most : first.level ≤ most
 
-  node_known : (old mid : Medium) (least most b : ℕ) (cs : List Child) (first : Span) (marks : List Bool) (spans : List Span) (new : List Bool) → mid ≡ old → NodeRead old.contents least most b cs first marks spans new
-      → Known sizes old.contents limit most marks spans → Known sizes mid.contents limit (first.level - 1) new (slice_set spans b first)
+  node_known : (old mid : Medium) (least most b : ℕ) (cs : List Child) (first : Span) (marks : List Bool) (spans : List Met) (new : List Bool) → mid ≡ old → NodeRead old.contents least most b cs first marks spans new
+      → Known sizes old.contents limit most marks spans → Known sizes mid.contents limit (first.level - 1) new (slice_set spans b (met_of first))
   node_known old mid least most b cs first marks spans new same at known =
       let here = known_first sizes old.contents limit most b first marks spans at.inside at.room at.fresh cs at.at_most at.node known in
-      subst (λ (m : Medium). Known sizes m.contents limit (first.level - 1) new (slice_set spans b first)) (sym same)
-      (subst (λ (z : List Bool). Known sizes old.contents limit (first.level - 1) z (slice_set spans b first)) (sym at.is) here)
+      subst (λ (m : Medium). Known sizes m.contents limit (first.level - 1) new (slice_set spans b (met_of first))) (sym same)
+      (subst (λ (z : List Bool). Known sizes old.contents limit (first.level - 1) z (slice_set spans b (met_of first))) (sym at.is) here)
 
-  pub node_exit : (old mid : Medium) (least most b : ℕ) (cs : List Child) (d : Child) (first span : Span) (marks : List Bool) (spans : List Span) (new later : List Bool) (now : List Span) → mid ≡ old
+  pub node_exit : (old mid : Medium) (least most b : ℕ) (cs : List Child) (d : Child) (first span : Span) (met : Met) (marks : List Bool) (spans : List Met) (new later : List Bool) (now : List Met) → met ≡ met_of span → mid ≡ old
       → NodeRead old.contents least most b cs first marks spans new → length now ≡ length spans → span.level ≡ first.level → span.low ≡ (get_or cs 0 d).low
-      → (Known sizes mid.contents limit (first.level - 1) new (slice_set spans b first) → VisitedAll sizes mid.contents limit (first.level - 1) cs span.high new (slice_set spans b first) later now)
-      → Known sizes old.contents limit most marks spans → Visited sizes old.contents limit least most b span marks spans later (slice_set now b span)
-  node_exit old mid least most b cs d first span marks spans new later now same at many level low visit known =
+      → (Known sizes mid.contents limit (first.level - 1) new (slice_set spans b (met_of first)) → VisitedAll sizes mid.contents limit (first.level - 1) cs span.high new (slice_set spans b (met_of first)) later now)
+      → Known sizes old.contents limit most marks spans → Visited sizes old.contents limit least most b span marks spans later (slice_set now b met)
+  node_exit old mid least most b cs d first span met marks spans new later now keeps same at many level low visit known =
       let all = visit (node_known old mid least most b cs first marks spans new same at known) in
-      let here = subst (λ (m : Medium). VisitedAll sizes m.contents limit (first.level - 1) cs span.high new (slice_set spans b first) later now) same all in
-      let there = subst (λ (z : List Bool). VisitedAll sizes old.contents limit (first.level - 1) cs span.high z (slice_set spans b first) later now) at.is here in
-      node_visited sizes old.contents limit least most b cs d first span marks spans later now at.inside (omega (arith, at.room, many)) at.fresh
+      let here = subst (λ (m : Medium). VisitedAll sizes m.contents limit (first.level - 1) cs span.high new (slice_set spans b (met_of first)) later now) same all in
+      let there = subst (λ (z : List Bool). VisitedAll sizes old.contents limit (first.level - 1) cs span.high z (slice_set spans b (met_of first)) later now) at.is here in
+      subst (λ (m : Met). Visited sizes old.contents limit least most b span marks spans later (slice_set now b m)) (sym keeps)
+      (node_visited sizes old.contents limit least most b cs d first span marks spans later now at.inside (omega (arith, at.room, many)) at.fresh
       (record {
         inside = at.data_block;
         node = subst (λ l. IsNode (block old.contents b) l cs) (sym level) at.node;
@@ -64,14 +75,14 @@ module _ (sizes : Sizes) (limit : ℕ) where
         at_least = omega (arith, at.at_least, level);
         at_most = omega (arith, at.at_most, level);
         low = low;
-        under = subst (λ l. VisitedAll sizes old.contents limit (l - 1) cs span.high (slice_set marks b true) (slice_set spans b first) later now) (sym level) there;
+        under = subst (λ l. VisitedAll sizes old.contents limit (l - 1) cs span.high (slice_set marks b true) (slice_set spans b (met_of first)) later now) (sym level) there;
       })
-      known
+      known)
 
   -- a fault under an inner block of a tree
-  pub node_fault : (old mid : Medium) (least most b l : ℕ) (cs : List Child) (first : Span) (marks : List Bool) (spans : List Span) (new : List Bool) (rs : List Record) (bs : List ℕ) (F : Type 0) → mid ≡ old
+  pub node_fault : (old mid : Medium) (least most b l : ℕ) (cs : List Child) (first : Span) (marks : List Bool) (spans : List Met) (new : List Bool) (rs : List Record) (bs : List ℕ) (F : Type 0) → mid ≡ old
       → NodeRead old.contents least most b cs first marks spans new → Known sizes old.contents limit most marks spans → Subtree sizes old.contents limit l b rs bs
-      → ((ds : List ℕ) → Known sizes mid.contents limit (first.level - 1) new (slice_set spans b first) → Children (Subtree sizes mid.contents limit (first.level - 1)) cs rs ds → F) → F
+      → ((ds : List ℕ) → Known sizes mid.contents limit (first.level - 1) new (slice_set spans b (met_of first)) → Children (Subtree sizes mid.contents limit (first.level - 1)) cs rs ds → F) → F
   node_fault old mid least most b l cs first marks spans new rs bs F same at known tree step =
       let top = node_top sizes old.contents limit l first.level b cs rs bs at.node tree in
       step top.blocks (node_known old mid least most b cs first marks spans new same at known)
@@ -79,33 +90,57 @@ module _ (sizes : Sizes) (limit : ℕ) where
 
   -- # Children
 
-  child_visited : (old mid : Medium) (level : ℕ) (c : Child) (span : Span) (b later : List Bool) (t now : List Span) → mid ≡ old
+  child_visited : (old mid : Medium) (level : ℕ) (c : Child) (span : Span) (b later : List Bool) (t now : List Met) → mid ≡ old
       → (Known sizes mid.contents limit level b t → Visited sizes mid.contents limit level level c.block span b t later now)
       → Known sizes old.contents limit level b t → Visited sizes old.contents limit level level c.block span b t later now
   child_visited old mid level c span b later t now same visit =
       subst (λ (m : Medium). Known sizes m.contents limit level b t → Visited sizes m.contents limit level level c.block span b t later now) same visit
 
-  pub child_step : (old mid : Medium) (level i : ℕ) (cs : List Child) (d : Child) (high : Key) (span : Span) (a b later : List Bool) (s t now : List Span) → mid ≡ old → i < length cs
-      → span.low ≡ (get_or cs i d).low → (0 < i → i < length cs → place high < slice_index_or (lows cs) i 0) → VisitedAll sizes old.contents limit level (take i cs) high a s b t
-      → (Known sizes mid.contents limit level b t → Visited sizes mid.contents limit level level (get_or cs i d).block span b t later now)
+  -- nothing was visited yet
+  pub children_none : (x : Contents) (level : ℕ) (high : Key) (a : List Bool) (s : List Met) → Known sizes x limit level a s → VisitedAll sizes x limit level [] high a s a s
+  children_none x level high a s known = record {
+    records = [];
+    blocks = [];
+    under = (refl, refl);
+    rising = tt;
+    highest = λ some. absurd (omega arith);
+    each = tt;
+    adds = record { grows = holds_same a; kept = λ n is. refl; fresh = λ n is. inl is };
+    known = known;
+  }
+
+  -- all of them were visited
+  pub children_done : (x : Contents) (level i : ℕ) (cs : List Child) (high : Key) (a b : List Bool) (s t : List Met) → length cs ≤ i → VisitedAll sizes x limit level (take i cs) high a s b t → VisitedAll sizes x limit level cs high a s b t
+  children_done x level i cs high a b s t all visited = subst (λ (ds : List Child). VisitedAll sizes x limit level ds high a s b t) (take_all i cs all) visited
+
+  -- `c` is the child at i
+  pub child_step : (old mid : Medium) (level i : ℕ) (cs : List Child) (c : Child) (high : Key) (span : Span) (a b later : List Bool) (s t now : List Met) → mid ≡ old → i < length cs → get_or cs i c ≡ c
+      → span.low ≡ c.low → (0 < i → i < length cs → place high < slice_index_or (lows cs) i 0) → VisitedAll sizes old.contents limit level (take i cs) high a s b t
+      → (Known sizes mid.contents limit level b t → Visited sizes mid.contents limit level level c.block span b t later now)
       → VisitedAll sizes old.contents limit level (take (i + 1) cs) span.high a s later now
-  child_step old mid level i cs d high span a b later s t now same lt low below all visit =
-      child_more sizes old.contents limit level i cs d high span a b later s t now lt low below all (child_visited old mid level (get_or cs i d) span b later t now same visit all.known)
+  child_step old mid level i cs c high span a b later s t now same lt is low below all visit =
+      child_more sizes old.contents limit level i cs c high span a b later s t now lt (low ∙ ap (λ (d : Child). d.low) (sym is)) below all
+      (subst (λ (d : Child). Visited sizes old.contents limit level level d.block span b t later now) (sym is) (child_visited old mid level c span b later t now same visit all.known))
 
   -- a fault under a child of a tree
-  pub child_fault : (old mid : Medium) (level i : ℕ) (cs : List Child) (d : Child) (rs : List Record) (bs : List ℕ) (high : Key) (a b : List Bool) (s t : List Span) (F : Type 0) → mid ≡ old → i < length cs
+  pub child_fault : (old mid : Medium) (level i : ℕ) (cs : List Child) (c : Child) (rs : List Record) (bs : List ℕ) (high : Key) (a b : List Bool) (s t : List Met) (F : Type 0) → mid ≡ old → i < length cs → get_or cs i c ≡ c
       → VisitedAll sizes old.contents limit level (take i cs) high a s b t → Children (Subtree sizes old.contents limit level) cs rs bs → RisesFrom 0 (places rs)
-      → ((qs : List Record) (ds : List ℕ) → Known sizes mid.contents limit level b t → Subtree sizes mid.contents limit level (get_or cs i d).block qs ds → RisesFrom 0 (places qs) → F) → F
-  child_fault old mid level i cs d rs bs high a b s t F same lt all under rises step =
-      let at = child_of sizes old.contents limit level cs i d rs bs lt under rises in
+      → ((qs : List Record) (ds : List ℕ) → Known sizes mid.contents limit level b t → Subtree sizes mid.contents limit level c.block qs ds → RisesFrom 0 (places qs) → F) → F
+  child_fault old mid level i cs c rs bs high a b s t F same lt is all under rises step =
+      let at = child_of sizes old.contents limit level cs i c rs bs lt under rises in
       step at.records at.blocks (subst (λ (m : Medium). Known sizes m.contents limit level b t) (sym same) all.known)
-      (subst (λ (m : Medium). Subtree sizes m.contents limit level (get_or cs i d).block at.records at.blocks) (sym same) at.subtree) at.rising
+      (subst (λ (m : Medium). Subtree sizes m.contents limit level c.block at.records at.blocks) (sym same) (subst (λ (d : Child). Subtree sizes old.contents limit level d.block at.records at.blocks) is at.subtree)) at.rising
 
   -- what is found under a child of a tree is as the block above says
-  pub child_fits : (old mid : Medium) (level i : ℕ) (cs : List Child) (d : Child) (rs : List Record) (bs : List ℕ) (high : Key) (span : Span) (a b later : List Bool) (s t now : List Span) → mid ≡ old → i < length cs
+  pub record Fits (cs : List Child) (i : ℕ) (c : Child) (span : Span) : Type 0 where
+    pub low : span.low ≡ c.low
+    pub below : i + 1 < length cs → place span.high < slice_index_or (lows cs) (i + 1) 0
+
+  pub child_fits : (old mid : Medium) (level i : ℕ) (cs : List Child) (c : Child) (rs : List Record) (bs : List ℕ) (high : Key) (span : Span) (a b later : List Bool) (s t now : List Met) → mid ≡ old → i < length cs → get_or cs i c ≡ c
       → VisitedAll sizes old.contents limit level (take i cs) high a s b t → Children (Subtree sizes old.contents limit level) cs rs bs → RisesFrom 0 (places rs)
-      → (Known sizes mid.contents limit level b t → Visited sizes mid.contents limit level level (get_or cs i d).block span b t later now)
-      → Agrees sizes old.contents limit level cs i d span
-  child_fits old mid level i cs d rs bs high span a b later s t now same lt all under rises visit =
-      child_agrees sizes old.contents limit level cs i d span b later t now (child_of sizes old.contents limit level cs i d rs bs lt under rises)
-      (child_visited old mid level (get_or cs i d) span b later t now same visit all.known)
+      → (Known sizes mid.contents limit level b t → Visited sizes mid.contents limit level level c.block span b t later now)
+      → Fits cs i c span
+  child_fits old mid level i cs c rs bs high span a b later s t now same lt is all under rises visit =
+      let agrees = child_agrees sizes old.contents limit level cs i c span b later t now (child_of sizes old.contents limit level cs i c rs bs lt under rises)
+      (subst (λ (d : Child). Visited sizes old.contents limit level level d.block span b t later now) (sym is) (child_visited old mid level c span b later t now same visit all.known)) in
+      record { low = agrees.low ∙ ap (λ (d : Child). d.low) is; below = agrees.below }

@@ -1,4 +1,4 @@
--- Blocks of a tree as they were read.
+-- Blocks of a tree, told by their bytes.
 use Rattle.std.specs.Prelude.{◌≡◌, ℕ, ◌<◌, ◌≤◌, List, length}
 use Rattle.vm_block.specs.Leaf.{Record, IsLeaf}
 use Rattle.vm_block.specs.Node.{IsNode}
@@ -6,22 +6,12 @@ use Rattle.vm_block.specs.declared.node.Child.{Child}
 use Rattle.vm_check.specs.declared.form.Form.{Form}
 use Rattle.vm_check.specs.declared.form.Form.TheVariants.{Leaf, Node}
 
--- these bytes are the leaf or the inner block
+-- these bytes are a leaf of so many records, or an inner block of this level with so many children
 abbrev pub IsForm : List ℕ → Form → Type 0
-IsForm bytes (Leaf records) = IsLeaf bytes records.items
-IsForm bytes (Node node) = IsNode bytes node.level node.children.items
+IsForm bytes (Leaf count) = (rs : List Record) × IsLeaf bytes rs × (length rs ≡ count)
+IsForm bytes (Node level count) = (cs : List Child) × IsNode bytes level cs × (length cs ≡ count)
 
--- it has records, or a level above that of leaves and children
+-- it has records, or a level above that of leaves and children, and no more than a block has room for
 abbrev pub IsFilled : Form → Type 0
-IsFilled (Leaf records) = 0 < length records.items
-IsFilled (Node node) = (0 < node.level) × (node.level ≤ 7) × (0 < length node.children.items)
-
--- it is a leaf of these records
-abbrev pub IsLeafOf : List Record → Form → Type 0
-IsLeafOf rs (Leaf records) = records.items ≡ rs
-IsLeafOf rs (Node node) = ⊥
-
--- it is an inner block of this level, with these children
-abbrev pub IsNodeOf : ℕ → List Child → Form → Type 0
-IsNodeOf level cs (Leaf records) = ⊥
-IsNodeOf level cs (Node node) = (node.level ≡ level) × (node.children.items ≡ cs)
+IsFilled (Leaf count) = (0 < count) × (count ≤ 16)
+IsFilled (Node level count) = (0 < level) × (level ≤ 7) × (0 < count) × (count ≤ 256)

@@ -14,6 +14,7 @@ use Rattle.vm_block.specs.declared.node.Child.{Child}
 use Rattle.vm_tree.specs.Root.{IsRooted}
 use Rattle.vm_tree.specs.declared.root.Root.{Root}
 use Rattle.vm_check.specs.declared.verifying.Span.{Span}
+use Rattle.vm_check.specs.declared.verifying.Met.{Met}
 
 -- the records have this highest key: they stand below a place exactly where it does
 pub record IsHighest (high : Key) (rs : List Record) : Type 0 where
@@ -25,9 +26,20 @@ abbrev pub HasLevel : List ℕ → ℕ → Type 0
 HasLevel bytes zero = (rs : List Record) × IsLeaf bytes rs
 HasLevel bytes (suc l) = (cs : List Child) × IsNode bytes (suc l) cs
 
+-- the span that is kept so, and how a span is kept
+abbrev pub span_of : Met → Span
+span_of met = record { level = met.level; low = record { table = met.low_table; number = met.low_number }; high = record { table = met.high_table; number = met.high_number } }
+
+abbrev pub met_of : Span → Met
+met_of span = record { low_number = span.low.number; high_number = span.high.number; low_table = span.low.table; high_table = span.high.table; level = span.level }
+
+-- what is kept of a block that was not met
+abbrev pub no_met : Met
+no_met = record { low_number = 0; high_number = 0; low_table = 0; high_table = 0; level = 0 }
+
 -- what was found at block n
-abbrev pub span_at : List Span → ℕ → Span
-span_at spans n = slice_index_or spans n (record { level = 0; low = record { table = 0; number = 0 }; high = record { table = 0; number = 0 } })
+abbrev pub span_at : List Met → ℕ → Span
+span_at spans n = span_of (slice_index_or spans n no_met)
 
 -- block n is the top of a subtree of this level, with these lowest and highest keys, all of whose blocks are marked
 pub record Whole (sizes : Sizes) (x : Contents) (limit : ℕ) (marks : List Bool) (n : ℕ) (span : Span) : Type 0 where
@@ -40,18 +52,18 @@ pub record Whole (sizes : Sizes) (x : Contents) (limit : ℕ) (marks : List Bool
   pub each : AllByRecursion (IsMarked marks) blocks
 
 -- of each marked block the level is known, and where it is at most this one, the block was found whole
-pub record Known (sizes : Sizes) (x : Contents) (limit most : ℕ) (marks : List Bool) (spans : List Span) : Type 0 where
+pub record Known (sizes : Sizes) (x : Contents) (limit most : ℕ) (marks : List Bool) (spans : List Met) : Type 0 where
   pub formed : (n : ℕ) → IsMarked marks n → HasLevel (block x n) (span_at spans n).level
   pub whole : (n : ℕ) → IsMarked marks n → (span_at spans n).level ≤ most → Whole sizes x limit marks n (span_at spans n)
 
 -- what is new since: nothing is said anew of a block that was marked, and each block marked since is one of these, of at most this level
-pub record Adds (most : ℕ) (bs : List ℕ) (marks : List Bool) (spans : List Span) (later : List Bool) (now : List Span) : Type 0 where
+pub record Adds (most : ℕ) (bs : List ℕ) (marks : List Bool) (spans : List Met) (later : List Bool) (now : List Met) : Type 0 where
   pub grows : HoldsMore marks later
   pub kept : (n : ℕ) → IsMarked marks n → span_at now n ≡ span_at spans n
   pub fresh : (n : ℕ) → IsMarked later n → IsMarked marks n ⊎ (Contains bs n × ((span_at now n).level ≤ most))
 
 -- a visit found this at block n
-pub record Visited (sizes : Sizes) (x : Contents) (limit least most n : ℕ) (span : Span) (marks : List Bool) (spans : List Span) (later : List Bool) (now : List Span) : Type 0 where
+pub record Visited (sizes : Sizes) (x : Contents) (limit least most n : ℕ) (span : Span) (marks : List Bool) (spans : List Met) (later : List Bool) (now : List Met) : Type 0 where
   pub at_least : least ≤ span.level
   pub at_most : span.level ≤ most
   pub whole : Whole sizes x limit later n span
@@ -59,7 +71,7 @@ pub record Visited (sizes : Sizes) (x : Contents) (limit least most n : ℕ) (sp
   pub known : Known sizes x limit most later now
 
 -- visits found this under children of this level, with this highest key
-pub record VisitedAll (sizes : Sizes) (x : Contents) (limit level : ℕ) (cs : List Child) (high : Key) (marks : List Bool) (spans : List Span) (later : List Bool) (now : List Span) : Type 0 where
+pub record VisitedAll (sizes : Sizes) (x : Contents) (limit level : ℕ) (cs : List Child) (high : Key) (marks : List Bool) (spans : List Met) (later : List Bool) (now : List Met) : Type 0 where
   pub records : List Record
   pub blocks : List ℕ
   pub under : Children (Subtree sizes x limit level) cs records blocks
@@ -70,7 +82,7 @@ pub record VisitedAll (sizes : Sizes) (x : Contents) (limit level : ℕ) (cs : L
   pub known : Known sizes x limit level later now
 
 -- a visit found this root under number n
-pub record RootVisited (sizes : Sizes) (x : Contents) (limit n : ℕ) (root : Root) (marks : List Bool) (spans : List Span) (later : List Bool) (now : List Span) : Type 0 where
+pub record RootVisited (sizes : Sizes) (x : Contents) (limit n : ℕ) (root : Root) (marks : List Bool) (spans : List Met) (later : List Bool) (now : List Met) : Type 0 where
   pub records : Map
   pub blocks : List ℕ
   pub named : root.block ≡ n

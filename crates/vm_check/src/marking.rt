@@ -8,9 +8,11 @@ ghost use Rattle.vm_block.specs.Tree.{Sizes, Subtree};
 ghost use Rattle.vm_tree.specs.Answers.{OkOrDevice};
 ghost use Rattle.vm_check.specs.Marking.{AreUnder, ClosedTo, IsClosed, IsUnder, MarksMore, MarksOnly, unmarked};
 
+use crate::form::node_at;
 use vm_alloc::Marks;
+use vm_block::child_at;
 use vm_disk::Disk;
-use vm_tree::{Root, TreeFault, is_data, node_at};
+use vm_tree::{Root, TreeFault, is_data};
 
 /// Marks a block of this level and all blocks under it, unless it is marked. A leaf is not read.
 fn mark_below<D: Disk>(
@@ -46,9 +48,11 @@ fn mark_below<D: Disk>(
     if level == 0 {
         return Ok(());
     }
-    match node_at(disk, blocks, level, block) {
-        Ok(children) => {
-            for child in children.as_slice() {
+    let mut bytes = [0; 4096];
+    match node_at(disk, blocks, level, block, &mut bytes) {
+        Ok(count) => {
+            for i in 0..count {
+                let child = child_at(&bytes, i);
                 match mark_below(disk, blocks, level - 1, child.block, marks) {
                     Ok(()) => {}
                     Err(fault) => return Err(fault),

@@ -5,30 +5,71 @@ ghost use Rattle.vm_types.specs.Places.{RisesFrom, place, places};
 ghost use Rattle.vm_disk.specs.Disk.{Goes};
 ghost use Rattle.vm_disk.specs.Moments.{OnlyReads};
 ghost use Rattle.vm_alloc.specs.Held.{HoldsMore};
-ghost use Rattle.vm_block.specs.Leaf.{Record};
-ghost use Rattle.vm_block.specs.Node.{lows};
+ghost use Rattle.vm_block.specs.Leaf.{Record, IsLeaf};
+ghost use Rattle.vm_block.specs.Node.{IsNode, lows};
+ghost use Rattle.vm_block.specs.declared.node.Child.{Child};
 ghost use Rattle.vm_block.specs.Tree.{Begins, Subtree, Children, IsTree};
 ghost use Rattle.vm_tree.specs.Answers.{OkOrDevice, Lists};
 ghost use Rattle.vm_tree.specs.Root.{AreSizes, sizes_of};
 ghost use Rattle.vm_check.specs.Marking.{unmarked};
 ghost use Rattle.vm_check.specs.Verifying.{HaveTrees, Found};
-ghost use Rattle.vm_check.specs.Visiting.{IsHighest, Known, Visited, VisitedAll, RootVisited};
+ghost use Rattle.vm_check.specs.Visiting.{IsHighest, Known, Visited, VisitedAll, RootVisited, met_of, span_of};
 
 use crate::form::{Form, form_at};
 use std::alloc::Global;
 use vm_alloc::Marks;
-use vm_block::Child;
+use vm_block::{child_at, lowest_key, record_key};
 use vm_disk::Disk;
 use vm_tree::{Root, TreeFault, is_data};
-use vm_types::{Key, Value};
+use vm_types::Key;
 
-/// What was found at a block: its level, and the lowest and the highest key under it. While the
-/// blocks under it are visited only the level is known.
-#[derive(Clone, Copy, Debug, Default)]
+/// What was found at a block: its level, and the lowest and the highest key under it.
+#[derive(Clone, Copy, Debug)]
 pub(crate) struct Span {
     level: u8,
     low: Key,
     high: Key,
+}
+
+/// The span of a block that was met, kept in 24 bytes. While the blocks under it are visited only
+/// the level is known.
+#[derive(Clone, Copy, Debug, Default)]
+pub(crate) struct Met {
+    low_number: u64,
+    high_number: u64,
+    low_table: u16,
+    high_table: u16,
+    level: u8,
+}
+
+/// How a span is kept.
+fn keep(span: Span) -> Met
+    ensures { result ≡ met_of span }
+{
+    Met {
+        low_number: span.low.number,
+        high_number: span.high.number,
+        low_table: span.low.table,
+        high_table: span.high.table,
+        level: span.level,
+    }
+}
+
+/// The span that is kept so.
+fn span_met(met: Met) -> Span
+    ensures { result ≡ span_of met }
+{
+    Span {
+        level: met.level,
+        low: Key {
+            table: met.low_table,
+            number: met.low_number,
+        },
+        high: Key {
+            table: met.high_table,
+            number: met.high_number,
+        },
+    }
 }
 
 /// Visits a block, whose level has to lie from `least` to `most`, and all blocks under it. A block
@@ -41,7 +82,7 @@ fn visit<D: Disk, const LEAF: usize, const FAN: usize>(
     most: u8,
     block: u32,
     marks: &mut Marks,
-    spans: &mut [Span],
+    spans: &mut [Met],
 ) -> Result<Span, TreeFault>
     requires inside { blocks ≤ (D.state disk.old).blocks }
     requires bits { length marks.old ≡ blocks }
@@ -63,34 +104,41 @@ fn visit<D: Disk, const LEAF: usize, const FAN: usize>(
     }
     let at = block as usize;
     if marks.is_set(block) {
-        let span = spans[at];
+        let span = span_met(spans[at]);
         if span.level < least || span.level > most {
             return Err(TreeFault::Damaged(block));
         }
         return Ok(span);
     }
     marks.set(block);
-    match form_at(disk, blocks, block) {
-        Ok(Form::Leaf(records)) => {
-            if least > 0 || records.len() > LEAF {
+    let mut bytes = [0; 4096];
+    match form_at(disk, blocks, block, &mut bytes) {
+        Ok(Form::Leaf(count)) => {
+            if least > 0 || count > LEAF {
                 return Err(TreeFault::Damaged(block));
             }
-            let span = leaf_span(records.as_slice());
-            spans[at] = span;
+            let span = leaf_span(&bytes, count);
+            spans[at] = keep(span);
             Ok(span)
         }
-        Ok(Form::Node(node)) => {
-            let level = node.level;
-            let children = node.children.as_slice();
-            if level < least || level > most || children.len() > FAN {
+        Ok(Form::Node(level, count)) => {
+            if level < least || level > most || count > FAN {
                 return Err(TreeFault::Damaged(block));
             }
             spans[at].level = level;
-            match visit_children::<D, LEAF, FAN>(disk, blocks, level - 1, children, marks, spans) {
+            match visit_children::<D, LEAF, FAN>(
+                disk,
+                blocks,
+                level - 1,
+                &bytes,
+                count,
+                marks,
+                spans,
+            ) {
                 Ok(high) => {
-                    let low = children[0].low;
+                    let low = lowest_key(&bytes);
                     let span = Span { level, low, high };
-                    spans[at] = span;
+                    spans[at] = keep(span);
                     Ok(span)
                 }
                 Err(fault) => Err(fault),
@@ -100,51 +148,58 @@ fn visit<D: Disk, const LEAF: usize, const FAN: usize>(
     }
 }
 
-/// What a leaf of these records is.
-fn leaf_span(records: &[(Key, Value)]) -> Span
-    requires { 0 < length records.now }
+/// What a leaf of so many records is.
+fn leaf_span(bytes: &[u8; 4096], count: usize) -> Span
+    requires some { 0 < count }
+    requires few { count ≤ 16 }
     ensures level { result.level ≡ 0 }
-    ensures low { Begins result.low records.now }
-    ensures high { RisesFrom 0 (places records.now) → IsHighest result.high records.now }
+    ensures low { (rs : List Record) → IsLeaf bytes.now rs → Begins result.low rs }
+    ensures high { (rs : List Record) → IsLeaf bytes.now rs → length rs ≡ count → IsHighest result.high rs }
 {
     Span {
         level: 0,
-        low: records[0].0,
-        high: records[records.len() - 1].0,
+        low: lowest_key(bytes),
+        high: record_key(bytes, count - 1),
     }
 }
 
-/// Visits children of this level in their order, and gives the highest key under them. What lies
-/// under a child has to begin with the key of its entry, and to end below that of the next entry.
+/// Visits the children of an inner block, which are of this level, in their order, and gives the
+/// highest key under them. What lies under a child has to begin with the key of its entry, and to
+/// end below that of the next entry.
 #[cycle(walk)]
 fn visit_children<D: Disk, const LEAF: usize, const FAN: usize>(
     disk: &mut D,
     blocks: u32,
     level: u8,
-    children: &[Child],
+    bytes: &[u8; 4096],
+    count: usize,
     marks: &mut Marks,
-    spans: &mut [Span],
+    spans: &mut [Met],
 ) -> Result<Key, TreeFault>
     requires inside { blocks ≤ (D.state disk.old).blocks }
     requires bits { length marks.old ≡ blocks }
     requires room { length spans.old ≡ blocks }
+    requires few { count ≤ 256 }
     ensures any { Goes (result ≡ Err TreeFault.Device) (D.state disk.old) (D.state disk.new) }
     ensures deep { result ≢ Err TreeFault.Deep }
     ensures memory { result ≢ Err TreeFault.Memory }
     ensures once { (D.state disk.new).reads + unmarked marks.new ≡ (D.state disk.old).reads + unmarked marks.old }
     ensures growing { HoldsMore marks.old marks.new }
     ensures reads { (D.state disk.new).honest ≡ true → OnlyReads (D.state disk.old) (D.state disk.new) }
-    ensures found { (D.state disk.new).honest ≡ true → (levels : ℕ) → Known (sizes_of LEAF FAN levels) (D.state disk.old).now.contents blocks level marks.old spans.old
-        → IfOk result (λ high. VisitedAll (sizes_of LEAF FAN levels) (D.state disk.old).now.contents blocks level children.now high marks.old spans.old marks.new spans.new) }
-    ensures only { (D.state disk.new).honest ≡ true → (levels : ℕ) (rs : List Record) (bs : List ℕ) → Known (sizes_of LEAF FAN levels) (D.state disk.old).now.contents blocks level marks.old spans.old
-        → Children (Subtree (sizes_of LEAF FAN levels) (D.state disk.old).now.contents blocks level) children.now rs bs → RisesFrom 0 (places rs)
+    ensures found { (D.state disk.new).honest ≡ true → (levels above : ℕ) (cs : List Child) → IsNode bytes.now above cs → length cs ≡ count
+        → Known (sizes_of LEAF FAN levels) (D.state disk.old).now.contents blocks level marks.old spans.old
+        → IfOk result (λ high. VisitedAll (sizes_of LEAF FAN levels) (D.state disk.old).now.contents blocks level cs high marks.old spans.old marks.new spans.new) }
+    ensures only { (D.state disk.new).honest ≡ true → (levels above : ℕ) (cs : List Child) (rs : List Record) (bs : List ℕ) → IsNode bytes.now above cs → length cs ≡ count
+        → Known (sizes_of LEAF FAN levels) (D.state disk.old).now.contents blocks level marks.old spans.old
+        → Children (Subtree (sizes_of LEAF FAN levels) (D.state disk.old).now.contents blocks level) cs rs bs → RisesFrom 0 (places rs)
         → OkOrDevice result (λ _. Unit {0}) }
 {
     let mut high = Key::default();
-    for (i, child) in children.iter().enumerate() {
+    for i in 0..count {
+        let child = child_at(bytes, i);
         match visit::<D, LEAF, FAN>(disk, blocks, level, level, child.block, marks, spans) {
             Ok(span) => {
-                if span.low != child.low || !is_below_next(span.high, children, i) {
+                if span.low != child.low || !is_below_next(span.high, bytes, count, i) {
                     return Err(TreeFault::Damaged(child.block));
                 }
                 high = span.high;
@@ -156,11 +211,16 @@ fn visit_children<D: Disk, const LEAF: usize, const FAN: usize>(
 }
 
 /// Whether a key stands below the lowest key of the child after the one at i, if there is one.
-fn is_below_next(high: Key, children: &[Child], i: usize) -> bool
-    requires { i < length children.now }
-    ensures { IsTrue result ↔ (i + 1 < length children.now → place high < slice_index_or (lows children.now) (i + 1) 0) }
+fn is_below_next(high: Key, bytes: &[u8; 4096], count: usize, i: usize) -> bool
+    requires within { i < count }
+    requires few { count ≤ 256 }
+    ensures { (above : ℕ) (cs : List Child) → IsNode bytes.now above cs → length cs ≡ count
+        → IsTrue result ↔ (i + 1 < length cs → place high < slice_index_or (lows cs) (i + 1) 0) }
 {
-    i + 1 >= children.len() || high.place() < children[i + 1].low.place()
+    if i + 1 >= count {
+        return true;
+    }
+    high.place() < child_at(bytes, i + 1).low.place()
 }
 
 /// Walks the trees under the numbers, in their order, and gives the root of each, and marks on just
@@ -169,7 +229,7 @@ fn is_below_next(high: Key, children: &[Child], i: usize) -> bool
 ///
 /// Where a number has no tree it answers Damaged, with the first block of the walk that is wrong;
 /// Device, where the device failed; and Memory, where none was found for the roots, the marks, and
-/// 40 bytes or so for each block of the store. It never answers Deep.
+/// 24 bytes for each block of the store. It never answers Deep.
 pub fn verify<D: Disk, const LEAF: usize, const FAN: usize, const LEVELS: usize>(
     alloc: Global,
     disk: &mut D,
@@ -202,7 +262,7 @@ pub fn verify<D: Disk, const LEAF: usize, const FAN: usize, const LEVELS: usize>
 {
     let (Ok(mut marks), Ok(mut spans)) = (
         Marks::new(alloc, blocks),
-        vec![in alloc; Span::default(); blocks as usize],
+        vec![in alloc; Met::default(); blocks as usize],
     ) else {
         return Err(TreeFault::Memory);
     };
@@ -226,7 +286,7 @@ fn visit_root<D: Disk, const LEAF: usize, const FAN: usize, const LEVELS: usize>
     blocks: u32,
     number: u32,
     marks: &mut Marks,
-    spans: &mut [Span],
+    spans: &mut [Met],
 ) -> Result<Root, TreeFault>
     requires sizes { AreSizes LEAF FAN LEVELS }
     requires inside { blocks ≤ (D.state disk.old).blocks }

@@ -1,11 +1,11 @@
-use Rattle.std.proofs.Common.{List, inl, sym, subst, ◌∙◌, arith}
+use Rattle.std.proofs.Common.{◌<◌, List, length, inl, sym, subst, ◌∙◌, arith}
 use Rattle.std.proofs.lemmas.Bool.{false≢true}
 use Rattle.vm_disk.proofs.MomentLemmas.{reads_then, same_medium}
 use Rattle.vm_alloc.proofs.HeldLemmas.{holds_more_then, taken_holds_more}
 use Rattle.vm_alloc.specs.Held.{HoldsMore}
 use Rattle.vm_tree.proofs.Descent.{subtree_top, node_read}
 use Rattle.vm_check.specs.Marking.{MarksMore}
-use Rattle.vm_check.proofs.MarkLemmas.{IsBelow, top_within, same_more, under_marked, set_less, leaf_marked, node_start, node_marked, node_fault, child_more}
+use Rattle.vm_check.proofs.MarkLemmas.{IsBelow, top_within, same_more, under_marked, set_less, leaf_marked, same_children, node_start, node_marked, node_fault, child_more}
 use Rattle.vm_check.proofs.OnlyLemmas.{only_set, only_top, only_all, child_sound, child_only_more, child_only_fault}
 use Rattle.vm_check.proofs.marking.+mark_below.Goals as goal
 
@@ -34,8 +34,8 @@ returns-in-Err-clause-once g t c =
       set_less _ _ _ _ c.set.ensures c.requires.bits (c.is_data.ensures.0 c.if-not-is_data.false) (λ is. false≢true (sym c.if-is_set.false ∙ c.is_set.ensures.1 is)),
     )
 
-pub loop-child-init : goal.loop-child-init
-loop-child-init g t c =
+pub loop-i-init : goal.loop-i-init
+loop-i-init g t c =
     let any = c.node_at.ensures.any in
     let inside = c.is_data.ensures.0 c.if-not-is_data.false in
     let less = set_less _ _ _ _ c.set.ensures c.requires.bits inside (λ is. false≢true (sym c.if-is_set.false ∙ c.is_set.ensures.1 is)) in
@@ -49,21 +49,24 @@ loop-child-init g t c =
       once = omega (arith, c.node_at.ensures.once.most, less);
       growing = grows;
       reads = λ honest. c.node_at.ensures.reads honest;
-      marked = λ honest sizes bs none closed. subst (λ (ds : List _). MarksMore ds c.set.new.self c.set.new.self) (sym none) (same_more _ c.set.new.self tt);
-      only = λ honest sizes bs none n is. inl is;
+      marked = λ honest sizes cs node count bs none closed. subst (λ (ds : List _). MarksMore ds c.set.new.self c.set.new.self) (sym none) (same_more _ c.set.new.self tt);
+      only = λ honest sizes cs node count bs none n is. inl is;
     }
 
 pub returns-in-Err-mark_below-clause-marked : goal.returns-in-Err-mark_below-clause-marked
 returns-in-Err-mark_below-clause-marked g t c honest sizes rs bs tree closed =
-    let so_far = c.loop-child.invariant in
+    let so_far = c.loop-i.invariant in
     let inside = subtree_top sizes _ _ _ _ rs bs tree in
-    let start = node_start sizes _ _ _ _ rs bs _ (omega (arith, c.if-level-eq0.false)) tree (λ ds node. c.as_slice-child-items.ensures.value ∙ c.in-Ok.ensures.only (so_far.since (c.in-Err-mark_below.ensures.any.earlier honest)) ds node) in
-    node_fault sizes _ _ _ _ _ _ bs _ _ _ _ _ _ (same_medium _ _ (so_far.reads (c.in-Err-mark_below.ensures.any.earlier honest))) (omega (arith, inside.1, c.requires.bits)) c.set.ensures (omega (arith, c.if-level-eq0.false))
-    c.loop-child-test.true start closed (so_far.marked (c.in-Err-mark_below.ensures.any.earlier honest) sizes) (λ qs ds. c.in-Err-mark_below.ensures.marked honest sizes qs ds)
+    let form = c.in-Ok.ensures.form in
+    let start = node_start sizes _ _ _ _ rs bs form.0 (omega (arith, c.if-level-eq0.false)) tree (λ ds at. same_children _ _ _ form.0 ds (c.in-Ok.ensures.found (so_far.since (c.in-Err-mark_below.ensures.any.earlier honest))) form.1 at.node) in
+    let lt : c.loop-i.i < length form.0 = omega (arith, c.loop-i-test.true, form.2) in
+    let is = c.child_at-child.ensures.child _ form.0 form.1 lt in
+    node_fault sizes _ _ _ _ _ _ bs form.0 c.child_at-child.result _ _ _ _ (same_medium _ _ (so_far.reads (c.in-Err-mark_below.ensures.any.earlier honest))) (omega (arith, inside.1, c.requires.bits)) c.set.ensures (omega (arith, c.if-level-eq0.false))
+    lt is start closed (so_far.marked (c.in-Err-mark_below.ensures.any.earlier honest) sizes form.0 form.1 form.2) (λ qs ds. c.in-Err-mark_below.ensures.marked honest sizes qs ds)
 
-pub loop-child-preserved : goal.loop-child-preserved
-loop-child-preserved g t c =
-    let so_far = c.loop-child.invariant in
+pub loop-i-preserved : goal.loop-i-preserved
+loop-i-preserved g t c =
+    let so_far = c.loop-i.invariant in
     let any = c.mark_below.ensures.any in
     let grows = c.mark_below.ensures.growing in
     record {
@@ -75,18 +78,25 @@ loop-child-preserved g t c =
       once = omega (arith, c.mark_below.ensures.once, so_far.once);
       growing = holds_more_then _ _ _ so_far.growing grows;
       reads = λ honest. reads_then _ _ _ (so_far.reads (c.mark_below.ensures.any.earlier honest)) (c.mark_below.ensures.reads honest);
-      marked = λ honest sizes. child_more sizes _ _ _ _ _ _ _ _ _ _ (same_medium _ _ (so_far.reads (c.mark_below.ensures.any.earlier honest))) c.loop-child-test.true (so_far.marked (c.mark_below.ensures.any.earlier honest) sizes)
+      marked = λ honest sizes cs node count.
+          let lt : c.loop-i.i < length cs = omega (arith, c.loop-i-test.true, count) in
+          child_more sizes _ _ _ _ cs _ c.child_at-child.result _ _ _ (same_medium _ _ (so_far.reads (c.mark_below.ensures.any.earlier honest))) lt (c.child_at-child.ensures.child _ cs node lt)
+          (so_far.marked (c.mark_below.ensures.any.earlier honest) sizes cs node count)
           (λ rs ds. c.in-Ok-mark_below.ensures.marked honest sizes rs ds);
-      only = λ honest sizes. child_only_more sizes _ _ _ _ _ _ _ (same_medium _ _ (so_far.reads (c.mark_below.ensures.any.earlier honest))) c.loop-child-test.true _ _ _ (so_far.only (c.mark_below.ensures.any.earlier honest) sizes)
+      only = λ honest sizes cs node count.
+          let lt : c.loop-i.i < length cs = omega (arith, c.loop-i-test.true, count) in
+          child_only_more sizes _ _ _ _ cs _ c.child_at-child.result (same_medium _ _ (so_far.reads (c.mark_below.ensures.any.earlier honest))) lt (c.child_at-child.ensures.child _ cs node lt) _ _ _
+          (so_far.only (c.mark_below.ensures.any.earlier honest) sizes cs node count)
           (λ rs ds. c.mark_below.ensures.only honest sizes rs ds);
     }
 
-pub returns-after-loop-child-clause-marked : goal.returns-after-loop-child-clause-marked
-returns-after-loop-child-clause-marked g t c honest sizes rs bs tree closed =
+pub returns-after-loop-i-clause-marked : goal.returns-after-loop-i-clause-marked
+returns-after-loop-i-clause-marked g t c honest sizes rs bs tree closed =
     let inside = subtree_top sizes _ _ _ _ rs bs tree in
-    let start = node_start sizes _ _ _ _ rs bs _ (omega (arith, c.if-level-eq0.false)) tree (λ ds node. c.as_slice-child-items.ensures.value ∙ c.in-Ok.ensures.only (c.loop-child.invariant.since honest) ds node) in
-    node_marked sizes _ _ _ _ _ bs _ _ _ _ (omega (arith, inside.1, c.requires.bits)) c.set.ensures (omega (arith, c.if-level-eq0.false)) c.loop-child-test.false start closed
-    (c.loop-child.invariant.marked honest sizes)
+    let form = c.in-Ok.ensures.form in
+    let start = node_start sizes _ _ _ _ rs bs form.0 (omega (arith, c.if-level-eq0.false)) tree (λ ds at. same_children _ _ _ form.0 ds (c.in-Ok.ensures.found (c.loop-i.invariant.since honest)) form.1 at.node) in
+    node_marked sizes _ _ _ _ _ bs _ _ _ _ (omega (arith, inside.1, c.requires.bits)) c.set.ensures (omega (arith, c.if-level-eq0.false)) (omega (arith, c.loop-i-test.false, form.2)) start closed
+    (c.loop-i.invariant.marked honest sizes form.0 form.1 form.2)
 
 pub returns-in-Err-clause-marked : goal.returns-in-Err-clause-marked
 returns-in-Err-clause-marked g t c honest sizes rs bs tree closed =
@@ -95,7 +105,7 @@ returns-in-Err-clause-marked g t c honest sizes rs bs tree closed =
 
 pub returns-in-Err-mark_below-clause-reads : goal.returns-in-Err-mark_below-clause-reads
 returns-in-Err-mark_below-clause-reads g t c honest =
-    let so_far = c.loop-child.invariant in
+    let so_far = c.loop-i.invariant in
     reads_then _ _ _ (so_far.reads (c.mark_below.ensures.any.earlier honest)) (c.mark_below.ensures.reads honest)
 
 pub returns-then-not-is_data-clause-sound : goal.returns-then-not-is_data-clause-sound
@@ -109,9 +119,12 @@ returns-in-Err-clause-sound g t c honest sizes rs bs tree =
 
 pub returns-in-Err-mark_below-clause-sound : goal.returns-in-Err-mark_below-clause-sound
 returns-in-Err-mark_below-clause-sound g t c honest sizes rs bs tree =
-    let so_far = c.loop-child.invariant in
-    let start = node_start sizes _ _ _ _ rs bs _ (omega (arith, c.if-level-eq0.false)) tree (λ ds node. c.as_slice-child-items.ensures.value ∙ c.in-Ok.ensures.only (so_far.since (c.in-Err-mark_below.ensures.any.earlier honest)) ds node) in
-    child_sound sizes _ _ _ _ _ _ _ (same_medium _ _ (so_far.reads (c.in-Err-mark_below.ensures.any.earlier honest))) c.loop-child-test.true _ _ start.joined (λ qs ds. c.in-Err-mark_below.ensures.sound honest sizes qs ds)
+    let so_far = c.loop-i.invariant in
+    let form = c.in-Ok.ensures.form in
+    let start = node_start sizes _ _ _ _ rs bs form.0 (omega (arith, c.if-level-eq0.false)) tree (λ ds at. same_children _ _ _ form.0 ds (c.in-Ok.ensures.found (so_far.since (c.in-Err-mark_below.ensures.any.earlier honest))) form.1 at.node) in
+    let lt : c.loop-i.i < length form.0 = omega (arith, c.loop-i-test.true, form.2) in
+    let is = c.child_at-child.ensures.child _ form.0 form.1 lt in
+    child_sound sizes _ _ _ _ form.0 _ c.child_at-child.result (same_medium _ _ (so_far.reads (c.in-Err-mark_below.ensures.any.earlier honest))) lt is _ _ start.joined (λ qs ds. c.in-Err-mark_below.ensures.sound honest sizes qs ds)
 
 pub returns-then-level-eq0-clause-only : goal.returns-then-level-eq0-clause-only
 returns-then-level-eq0-clause-only g t c honest sizes rs bs tree = only_set _ bs _ _ c.set.ensures (top_within sizes _ _ _ _ rs bs tree)
@@ -121,13 +134,17 @@ returns-in-Err-clause-only g t c honest sizes rs bs tree = only_set _ bs _ _ c.s
 
 pub returns-in-Err-mark_below-clause-only : goal.returns-in-Err-mark_below-clause-only
 returns-in-Err-mark_below-clause-only g t c honest sizes rs bs tree =
-    let so_far = c.loop-child.invariant in
-    let start = node_start sizes _ _ _ _ rs bs _ (omega (arith, c.if-level-eq0.false)) tree (λ ds node. c.as_slice-child-items.ensures.value ∙ c.in-Ok.ensures.only (so_far.since (c.in-Err-mark_below.ensures.any.earlier honest)) ds node) in
+    let so_far = c.loop-i.invariant in
+    let form = c.in-Ok.ensures.form in
+    let start = node_start sizes _ _ _ _ rs bs form.0 (omega (arith, c.if-level-eq0.false)) tree (λ ds at. same_children _ _ _ form.0 ds (c.in-Ok.ensures.found (so_far.since (c.in-Err-mark_below.ensures.any.earlier honest))) form.1 at.node) in
+    let lt : c.loop-i.i < length form.0 = omega (arith, c.loop-i-test.true, form.2) in
+    let is = c.child_at-child.ensures.child _ form.0 form.1 lt in
     only_top _ start.under bs _ _ _ c.set.ensures start.first
-    (child_only_fault sizes _ _ _ _ _ _ _ (same_medium _ _ (so_far.reads (c.in-Err-mark_below.ensures.any.earlier honest))) c.loop-child-test.true _ _ _ (so_far.only (c.in-Err-mark_below.ensures.any.earlier honest) sizes)
+    (child_only_fault sizes _ _ _ _ form.0 _ c.child_at-child.result (same_medium _ _ (so_far.reads (c.in-Err-mark_below.ensures.any.earlier honest))) lt is _ _ _ (so_far.only (c.in-Err-mark_below.ensures.any.earlier honest) sizes form.0 form.1 form.2)
     (λ qs ds. c.in-Err-mark_below.ensures.only honest sizes qs ds) start.under start.joined)
 
-pub returns-after-loop-child-clause-only : goal.returns-after-loop-child-clause-only
-returns-after-loop-child-clause-only g t c honest sizes rs bs tree =
-    let start = node_start sizes _ _ _ _ rs bs _ (omega (arith, c.if-level-eq0.false)) tree (λ ds node. c.as_slice-child-items.ensures.value ∙ c.in-Ok.ensures.only (c.loop-child.invariant.since honest) ds node) in
-    only_top _ start.under bs _ _ _ c.set.ensures start.first (only_all (IsBelow sizes _ _ _) _ _ start.under _ _ c.loop-child-test.false (c.loop-child.invariant.only honest sizes) start.joined)
+pub returns-after-loop-i-clause-only : goal.returns-after-loop-i-clause-only
+returns-after-loop-i-clause-only g t c honest sizes rs bs tree =
+    let form = c.in-Ok.ensures.form in
+    let start = node_start sizes _ _ _ _ rs bs form.0 (omega (arith, c.if-level-eq0.false)) tree (λ ds at. same_children _ _ _ form.0 ds (c.in-Ok.ensures.found (c.loop-i.invariant.since honest)) form.1 at.node) in
+    only_top _ start.under bs _ _ _ c.set.ensures start.first (only_all (IsBelow sizes _ _ _) form.0 _ start.under _ _ (omega (arith, c.loop-i-test.false, form.2)) (c.loop-i.invariant.only honest sizes form.0 form.1 form.2) start.joined)

@@ -1,7 +1,9 @@
-use Rattle.std.proofs.Common.{◌≡◌, ◌+◌, ◌-◌, ◌≤◌, true, length}
+use Rattle.std.proofs.Common.{◌≡◌, ◌+◌, ◌-◌, ◌≤◌, true, List, length}
 use Rattle.vm_disk.specs.Moments.{OnlyReads}
 use Rattle.vm_alloc.specs.Held.{HoldsMore}
+use Rattle.vm_block.specs.Node.{IsNode}
 use Rattle.vm_block.specs.Tree.{Sizes}
+use Rattle.vm_block.specs.declared.node.Child.{Child}
 use Rattle.vm_check.specs.Marking.{unmarked}
 use Rattle.vm_check.proofs.MarkLemmas.{IsBelow, MarkedSoFar}
 use Rattle.vm_check.proofs.OnlyLemmas.{OnlySoFar}
@@ -10,8 +12,8 @@ use Rattle.vm_check.proofs.marking.+mark_below.Given as goal
 abbrev pub decreases-mark_below : goal.decreases-mark_below
 decreases-mark_below g l = l.level
 
-abbrev pub invariant-loop-child : goal.invariant-loop-child
-invariant-loop-child g l =
+abbrev pub invariant-loop-i : goal.invariant-loop-i
+invariant-loop-i g l =
     let old = g.D.Disk.state l.fn.disk in
     let now = g.D.Disk.state l.disk in record {
       blocks : now.blocks ≡ old.blocks;
@@ -22,6 +24,6 @@ invariant-loop-child g l =
       once : now.reads + unmarked l.marks ≤ old.reads + unmarked l.fn.marks;
       growing : HoldsMore l.fn.marks l.marks;
       reads : now.honest ≡ true → OnlyReads old now;
-      marked : now.honest ≡ true → (sizes : Sizes) → MarkedSoFar sizes l.blocks (l.level - 1) old.now.contents l.child-items l.child-index l.initial.marks l.marks;
-      only : now.honest ≡ true → (sizes : Sizes) → OnlySoFar (IsBelow sizes old.now.contents l.blocks (l.level - 1)) l.child-items l.child-index l.initial.marks l.marks;
+      marked : now.honest ≡ true → (sizes : Sizes) (cs : List Child) → IsNode l.bytes l.level cs → length cs ≡ l.count → MarkedSoFar sizes l.blocks (l.level - 1) old.now.contents cs l.i l.initial.marks l.marks;
+      only : now.honest ≡ true → (sizes : Sizes) (cs : List Child) → IsNode l.bytes l.level cs → length cs ≡ l.count → OnlySoFar (IsBelow sizes old.now.contents l.blocks (l.level - 1)) cs l.i l.initial.marks l.marks;
     }

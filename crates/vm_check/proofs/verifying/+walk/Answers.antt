@@ -1,19 +1,21 @@
-use Rattle.std.proofs.Common.{refl, sym, ap, ◌∙◌, arith, length}
+use Rattle.std.proofs.Common.{◌<◌, refl, sym, ap, ◌∙◌, arith, length}
 use Rattle.std.proofs.Math.ListN.{length-set}
 use Rattle.std.proofs.lemmas.Bool.{false≢true}
-use Rattle.vm_disk.proofs.MomentLemmas.{reads_then, same_medium}
+use Rattle.vm_disk.proofs.MomentLemmas.{started, reads_then, same_medium}
 use Rattle.vm_tree.proofs.Descent.{subtree_top}
-use Rattle.vm_check.specs.Visiting.{span_at}
-use Rattle.vm_alloc.proofs.HeldLemmas.{holds_more_then}
+use Rattle.vm_check.specs.Visiting.{span_at, met_of}
+use Rattle.vm_check.specs.declared.verifying.Span.{Span}
+use Rattle.vm_block.specs.declared.node.Child.{Child}
+use Rattle.vm_alloc.proofs.HeldLemmas.{holds_same, holds_more_then}
 use Rattle.vm_check.proofs.MarkLemmas.{set_less}
 use Rattle.vm_check.proofs.KnownLemmas.{level_one, subtree_level}
 use Rattle.vm_check.proofs.ChildLemmas.{leaf_top, node_top, top_form}
 use Rattle.vm_check.proofs.SpanLemmas.{keys_same, keys_differ}
-use Rattle.vm_check.proofs.WalkLemmas.{leaf_as, node_as, leaf_exit, node_exit, node_fault, child_step, child_fault, child_fits}
+use Rattle.vm_check.proofs.WalkLemmas.{leaf_as, node_as, lowest_first, leaf_exit, node_exit, node_fault, children_none, children_done, child_step, child_fault, child_fits}
 use Rattle.vm_check.proofs.verifying.+walk.Goals as goal
 use Rattle.vm_check.proofs.verifying.+walk.Goals.{visit-then-span-least-via-then-span-least, visit-then-span-least-via-else-span-least+then-span-most}
-use Rattle.vm_check.proofs.verifying.+walk.Goals.{visit-then-least-gt0-via-then-least-gt0, visit-then-least-gt0-via-else-least-gt0+then-len}
-use Rattle.vm_check.proofs.verifying.+walk.Goals.{visit-then-level-least-via-then-level-least, visit-then-level-least-via-else-level-least+then-level-most, visit-then-level-least-via-else-level-least+else-level-most+then-children}
+use Rattle.vm_check.proofs.verifying.+walk.Goals.{visit-then-least-gt0-via-then-least-gt0, visit-then-least-gt0-via-else-least-gt0+then-count}
+use Rattle.vm_check.proofs.verifying.+walk.Goals.{visit-then-level-least-via-then-level-least, visit-then-level-least-via-else-level-least+then-level-most, visit-then-level-least-via-else-level-least+else-level-most+then-count-2}
 use Rattle.vm_check.proofs.verifying.+walk.Goals.{visit_children-then-ne-via-then-ne, visit_children-then-ne-via-else-ne+then-not-is_below_next}
 
 pub visit-returns-then-least-gt0-clause-once : goal.visit-returns-then-least-gt0-clause-once
@@ -24,8 +26,8 @@ pub visit-returns-then-level-least-clause-once : goal.visit-returns-then-level-l
 visit-returns-then-level-least-clause-once g t c =
     omega (arith, c.form_at.ensures.once.one (c.is_data.ensures.0 c.if-not-is_data.false), set_less _ _ _ _ c.set.ensures c.requires.bits (c.is_data.ensures.0 c.if-not-is_data.false) (λ is. false≢true (sym c.if-is_set.false ∙ c.is_set.ensures.1 is)))
 
-pub visit-returns-else-len-clause-once : goal.visit-returns-else-len-clause-once
-visit-returns-else-len-clause-once g t c =
+pub visit-returns-else-count-clause-once : goal.visit-returns-else-count-clause-once
+visit-returns-else-count-clause-once g t c =
     omega (arith, c.form_at.ensures.once.one (c.is_data.ensures.0 c.if-not-is_data.false), set_less _ _ _ _ c.set.ensures c.requires.bits (c.is_data.ensures.0 c.if-not-is_data.false) (λ is. false≢true (sym c.if-is_set.false ∙ c.is_set.ensures.1 is)))
 
 pub visit-returns-in-Err-clause-once : goal.visit-returns-in-Err-clause-once
@@ -48,40 +50,42 @@ pub visit-returns-then-span-least-clause-only : goal.visit-returns-then-span-lea
 visit-returns-then-span-least-clause-only g t c honest levels l rs bs known least most tree rises =
     let same = level_one _ l _ (subtree_level _ _ _ l _ rs bs tree) (known.formed _ (c.is_set.ensures.0 c.if-is_set.true)) in
     elim c.then-span-least.branch [
-      | visit-then-span-least-via-then-span-least w ↦ absurd (omega (arith, same, w.if-span-least.true, least))
-      | visit-then-span-least-via-else-span-least+then-span-most w ↦ absurd (omega (arith, same, w.if-span-most.true, most))
+      | visit-then-span-least-via-then-span-least w ↦ absurd (omega (arith, same, ap (λ (s : Span). s.level) c.span_met-span.ensures, w.if-span-least.true, least))
+      | visit-then-span-least-via-else-span-least+then-span-most w ↦ absurd (omega (arith, same, ap (λ (s : Span). s.level) c.span_met-span.ensures, w.if-span-most.true, most))
     ]
 
 pub visit-returns-then-least-gt0-clause-only : goal.visit-returns-then-least-gt0-clause-only
 visit-returns-then-least-gt0-clause-only g t c honest levels l rs bs known least most tree rises =
-    let top = leaf_top _ _ _ l _ _ rs bs (rw c.in-Ok-Leaf.field-0-is at c.in-Ok-Leaf.ensures.found honest) tree in
+    let form = rw c.in-Ok-Leaf.field-0-is at c.in-Ok-Leaf.ensures.form in
+    let top = leaf_top _ _ _ l _ form.0 rs bs (leaf_as _ _ form.0 (c.in-Ok-Leaf.ensures.found honest) form.1) tree in
     elim c.then-least-gt0.branch [
       | visit-then-least-gt0-via-then-least-gt0 w ↦ absurd (omega (arith, top.level, w.if-least-gt0.true, least))
-      | visit-then-least-gt0-via-else-least-gt0+then-len w ↦ absurd (omega (arith, top.few, w.if-len.true, w.len.ensures.value))
+      | visit-then-least-gt0-via-else-least-gt0+then-count w ↦ absurd (omega (arith, top.few, w.if-count.true, form.2))
     ]
 
 pub visit-returns-then-level-least-clause-only : goal.visit-returns-then-level-least-clause-only
 visit-returns-then-level-least-clause-only g t c honest levels l rs bs known least most tree rises =
-    let top = node_top _ _ _ l _ _ _ rs bs (rw c.in-Ok-Node.field-0-is at c.in-Ok-Node.ensures.found honest) tree in
+    let form = rw c.in-Ok-Node.field-0-is at c.in-Ok-Node.ensures.form in
+    let top = node_top _ _ _ l _ _ form.0 rs bs (node_as _ _ _ form.0 (c.in-Ok-Node.ensures.found honest) form.1) tree in
     elim c.then-level-least.branch [
       | visit-then-level-least-via-then-level-least w ↦ absurd (omega (arith, top.same_level, w.if-level-least.true, least))
       | visit-then-level-least-via-else-level-least+then-level-most w ↦ absurd (omega (arith, top.same_level, w.if-level-most.true, most))
-      | visit-then-level-least-via-else-level-least+else-level-most+then-children w ↦ absurd (omega (arith, top.few, w.if-children.true, ap length c.as_slice-children.ensures.value))
+      | visit-then-level-least-via-else-level-least+else-level-most+then-count-2 w ↦ absurd (omega (arith, top.few, w.if-count-2.true, form.2))
     ]
 
-pub visit-returns-else-len-clause-found : goal.visit-returns-else-len-clause-found
-visit-returns-else-len-clause-found g t c honest levels known =
+pub visit-returns-else-count-clause-found : goal.visit-returns-else-count-clause-found
+visit-returns-else-count-clause-found g t c honest levels known =
     let inside = c.is_data.ensures.0 c.if-not-is_data.false in
-    let leaf = leaf_as _ _ _ c.as_slice.ensures.value (rw c.in-Ok-Leaf.field-0-is at c.in-Ok-Leaf.ensures.found honest) in
-    leaf_exit _ _ _ _ _ _ c.as_slice.result.now _ _ _ _ c.set.ensures (omega (arith, inside.1, c.requires.bits)) (omega (arith, inside.1, c.requires.room))
+    let form = rw c.in-Ok-Leaf.field-0-is at c.in-Ok-Leaf.ensures.form in
+    leaf_exit _ _ _ _ _ _ form.0 _ _ _ _ _ c.keep.ensures c.set.ensures (omega (arith, inside.1, c.requires.bits)) (omega (arith, inside.1, c.requires.room))
     (λ is. false≢true (sym c.if-is_set.false ∙ c.is_set.ensures.1 is)) (omega (arith, c.if-least-gt0.false))
     (record {
       inside = inside;
-      leaf = leaf;
-      few = omega (arith, c.if-len.false, c.len.ensures.value, ap length c.as_slice.ensures.value);
+      leaf = leaf_as _ _ form.0 (c.in-Ok-Leaf.ensures.found honest) form.1;
+      few = omega (arith, c.if-count.false, form.2);
       level = c.leaf_span-span.ensures.level;
-      lowest = c.leaf_span-span.ensures.low;
-      highest = c.leaf_span-span.ensures.high leaf.rising;
+      lowest = c.leaf_span-span.ensures.low form.0 form.1;
+      highest = c.leaf_span-span.ensures.high form.0 form.1 form.2;
     }) known
 
 pub visit-returns-in-Ok-clause-reads : goal.visit-returns-in-Ok-clause-reads
@@ -95,40 +99,41 @@ visit-returns-in-Err-visit_children-clause-reads g t c honest =
 pub visit-returns-in-Ok-clause-found : goal.visit-returns-in-Ok-clause-found
 visit-returns-in-Ok-clause-found g t c honest levels known =
     let inside = c.is_data.ensures.0 c.if-not-is_data.false in
-    let node = rw c.in-Ok-Node.field-0-is at c.in-Ok-Node.ensures.found (c.in-Ok.ensures.any.earlier honest) in
-    let first = record (span_at c.args.spans.now c.args.block) { level = c.in-Ok-Node.node.level } in
-    node_exit _ _ _ _ _ _ _ c.as_slice-children.result.now _ first _ _ _ _ _ _ (same_medium _ _ (c.form_at.ensures.reads (c.in-Ok.ensures.any.earlier honest)))
+    let form = rw c.in-Ok-Node.field-0-is at c.in-Ok-Node.ensures.form in
+    let first = record (span_at c.args.spans.now c.args.block) { level = c.in-Ok-Node.level } in
+    let lowest : Child = record { low = c.lowest_key-low.result; block = 0 } in
+    node_exit _ _ _ _ _ _ _ form.0 lowest first _ _ _ _ _ _ _ c.keep-in-Ok.ensures (same_medium _ _ (c.form_at.ensures.reads (c.in-Ok.ensures.any.earlier honest)))
     (record {
       is = c.set.ensures;
       inside = omega (arith, inside.1, c.requires.bits);
       room = omega (arith, inside.1, c.requires.room);
       fresh = λ is. false≢true (sym c.if-is_set.false ∙ c.is_set.ensures.1 is);
       data_block = inside;
-      node = node_as _ _ _ _ c.as_slice-children.ensures.value node;
-      few = c.if-children.false;
+      node = node_as _ _ _ form.0 (c.in-Ok-Node.ensures.found (c.in-Ok.ensures.any.earlier honest)) form.1;
+      few = omega (arith, c.if-count-2.false, form.2);
       at_least = c.if-level-least.false;
       at_most = c.if-level-most.false;
     })
-    (c.visit_children.auto.spans ∙ length-set c.args.spans.now c.args.block first) refl refl (λ here. c.in-Ok.ensures.found honest levels here) known
+    (c.visit_children.auto.spans ∙ length-set c.args.spans.now c.args.block (met_of first)) refl (lowest_first _ form.0 lowest (c.lowest_key-low.ensures.node _ form.0 form.1)) (λ here. c.in-Ok.ensures.found honest levels _ form.0 form.1 form.2 here) known
 
 pub visit-returns-in-Err-visit_children-clause-only : goal.visit-returns-in-Err-visit_children-clause-only
 visit-returns-in-Err-visit_children-clause-only g t c honest levels l rs bs known least most tree rises =
     let inside = c.is_data.ensures.0 c.if-not-is_data.false in
-    let node = rw c.in-Ok-Node.field-0-is at c.in-Ok-Node.ensures.found (c.in-Err-visit_children.ensures.any.earlier honest) in
-    let first = record (span_at c.args.spans.now c.args.block) { level = c.in-Ok-Node.node.level } in
-    node_fault _ _ _ _ _ _ _ l c.as_slice-children.result.now first _ _ _ rs bs _ (same_medium _ _ (c.form_at.ensures.reads (c.in-Err-visit_children.ensures.any.earlier honest)))
+    let form = rw c.in-Ok-Node.field-0-is at c.in-Ok-Node.ensures.form in
+    let first = record (span_at c.args.spans.now c.args.block) { level = c.in-Ok-Node.level } in
+    node_fault _ _ _ _ _ _ _ l form.0 first _ _ _ rs bs _ (same_medium _ _ (c.form_at.ensures.reads (c.in-Err-visit_children.ensures.any.earlier honest)))
     (record {
       is = c.set.ensures;
       inside = omega (arith, inside.1, c.requires.bits);
       room = omega (arith, inside.1, c.requires.room);
       fresh = λ is. false≢true (sym c.if-is_set.false ∙ c.is_set.ensures.1 is);
       data_block = inside;
-      node = node_as _ _ _ _ c.as_slice-children.ensures.value node;
-      few = c.if-children.false;
+      node = node_as _ _ _ form.0 (c.in-Ok-Node.ensures.found (c.in-Err-visit_children.ensures.any.earlier honest)) form.1;
+      few = omega (arith, c.if-count-2.false, form.2);
       at_least = c.if-level-least.false;
       at_most = c.if-level-most.false;
     })
-    known tree (λ ds here under. c.in-Err-visit_children.ensures.only honest levels rs ds here under rises)
+    known tree (λ ds here under. c.in-Err-visit_children.ensures.only honest levels _ form.0 rs ds form.1 form.2 here under rises)
 
 pub visit-returns-in-Err-clause-only : goal.visit-returns-in-Err-clause-only
 visit-returns-in-Err-clause-only g t c honest levels l rs bs known least most tree rises =
@@ -143,20 +148,37 @@ visit_children-returns-then-ne-clause-reads g t c honest =
     let so_far = c.loop-i.invariant in reads_then _ _ _ (so_far.reads (c.visit.ensures.any.earlier honest)) (c.visit.ensures.reads honest)
 
 pub visit_children-returns-in-Err-clause-only : goal.visit_children-returns-in-Err-clause-only
-visit_children-returns-in-Err-clause-only g t c honest levels rs bs known under rises =
+visit_children-returns-in-Err-clause-only g t c honest levels above cs rs bs node count known under rises =
     let so_far = c.loop-i.invariant in
-    child_fault _ _ _ _ _ _ _ _ rs bs _ _ _ _ _ _ (same_medium _ _ (so_far.reads (c.in-Err.ensures.any.earlier honest))) c.loop-i-test.true (so_far.found (c.in-Err.ensures.any.earlier honest) levels known) under rises
+    let lt : c.loop-i.i < length cs = omega (arith, c.loop-i-test.true, count) in
+    child_fault _ _ _ _ _ _ cs c.child_at-child.result rs bs _ _ _ _ _ _ (same_medium _ _ (so_far.reads (c.in-Err.ensures.any.earlier honest))) lt (c.child_at-child.ensures.child above cs node lt)
+    (so_far.found (c.in-Err.ensures.any.earlier honest) levels above cs node count known) under rises
     (λ qs ds here sub up. c.in-Err.ensures.only honest levels _ qs ds here (omega arith) (omega arith) sub up)
 
 pub visit_children-returns-then-ne-clause-only : goal.visit_children-returns-then-ne-clause-only
-visit_children-returns-then-ne-clause-only g t c honest levels rs bs known under rises =
+visit_children-returns-then-ne-clause-only g t c honest levels above cs rs bs node count known under rises =
     let so_far = c.loop-i.invariant in
-    let fits = child_fits _ _ _ _ _ _ _ _ rs bs _ _ _ _ _ _ _ _ (same_medium _ _ (so_far.reads (c.in-Ok.ensures.any.earlier honest))) c.loop-i-test.true (so_far.found (c.in-Ok.ensures.any.earlier honest) levels known) under rises
+    let lt : c.loop-i.i < length cs = omega (arith, c.loop-i-test.true, count) in
+    let fits = child_fits _ _ _ _ _ _ cs c.child_at-child.result rs bs _ _ _ _ _ _ _ _ (same_medium _ _ (so_far.reads (c.in-Ok.ensures.any.earlier honest))) lt (c.child_at-child.ensures.child above cs node lt)
+    (so_far.found (c.in-Ok.ensures.any.earlier honest) levels above cs node count known) under rises
     (λ here. c.in-Ok.ensures.found honest levels here) in
     elim c.then-ne.branch [
       | visit_children-then-ne-via-then-ne w ↦ absurd (keys_differ _ _ _ c.ne.ensures w.if-ne.true fits.low)
-      | visit_children-then-ne-via-else-ne+then-not-is_below_next w ↦ absurd (false≢true (sym w.if-not-is_below_next.true ∙ w.is_below_next.ensures.1 fits.below))
+      | visit_children-then-ne-via-else-ne+then-not-is_below_next w ↦ absurd (false≢true (sym w.if-not-is_below_next.true ∙ (w.is_below_next.ensures above cs node count).1 fits.below))
     ]
+
+pub visit_children-loop-i-init : goal.visit_children-loop-i-init
+visit_children-loop-i-init g t c = record {
+  same_blocks = refl;
+  earlier = λ honest. honest;
+  rising = omega arith;
+  many = c.requires.bits;
+  once = refl;
+  growing = holds_same _;
+  reads = λ honest. started _ _ refl;
+  found = λ honest levels above cs node count known. children_none _ _ _ _ _ _ _ known;
+  below = λ above cs node count some more. absurd (omega (arith, some));
+}
 
 pub visit_children-loop-i-preserved : goal.visit_children-loop-i-preserved
 visit_children-loop-i-preserved g t c =
@@ -171,7 +193,14 @@ visit_children-loop-i-preserved g t c =
       once = omega (arith, c.visit.ensures.once, so_far.once);
       growing = holds_more_then _ _ _ so_far.growing grows;
       reads = λ honest. reads_then _ _ _ (so_far.reads (c.in-Ok.ensures.any.earlier honest)) (c.visit.ensures.reads honest);
-      found = λ honest levels known. child_step _ _ _ _ _ _ _ _ _ _ _ _ _ _ _ _ (same_medium _ _ (so_far.reads (c.in-Ok.ensures.any.earlier honest))) c.loop-i-test.true (keys_same _ _ _ c.ne.ensures c.if-ne.false) so_far.below (so_far.found (c.in-Ok.ensures.any.earlier honest) levels known)
+      found = λ honest levels above cs node count known.
+          let lt : c.loop-i.i < length cs = omega (arith, c.loop-i-test.true, count) in
+          child_step _ _ _ _ _ _ cs c.child_at-child.result _ _ _ _ _ _ _ _ (same_medium _ _ (so_far.reads (c.in-Ok.ensures.any.earlier honest))) lt (c.child_at-child.ensures.child above cs node lt)
+          (keys_same _ _ _ c.ne.ensures c.if-ne.false) (so_far.below above cs node count) (so_far.found (c.in-Ok.ensures.any.earlier honest) levels above cs node count known)
           (λ here. c.in-Ok.ensures.found honest levels here);
-      below = λ some more. c.is_below_next.ensures.0 c.if-not-is_below_next.false more;
+      below = λ above cs node count some more. (c.is_below_next.ensures above cs node count).0 c.if-not-is_below_next.false more;
     }
+
+pub visit_children-returns-clause-found : goal.visit_children-returns-clause-found
+visit_children-returns-clause-found g t c honest levels above cs node count known =
+    children_done _ _ _ _ _ cs _ _ _ _ _ (omega (arith, c.loop-i-test.false, count)) (c.loop-i.invariant.found honest levels above cs node count known)
