@@ -1,5 +1,5 @@
 -- Two walks from the roots of two trees to their ends.
-use Rattle.std.proofs.Common.{◌≡◌, ◌≢◌, ℕ, zero, suc, ◌+◌, ◌<◌, ◌≤◌, true, List, [], ◌∷◌, ◌++◌, length, Result, Ok, Err, inl, inr, refl, sym, ap, ◌∙◌, subst, arith, append_assoc, append-nil, length-append}
+use Rattle.std.proofs.Common.{◌≡◌, ◌≢◌, ℕ, zero, suc, ◌+◌, ◌<◌, ◌≤◌, true, List, [], ◌∷◌, ◌++◌, length, Result, Ok, Err, inl, inr, refl, sym, ap, ap₂, ◌∙◌, subst, arith, append_assoc, append-nil, length-append}
 use Rattle.vm_types.specs.declared.change.Change.{Change}
 use Rattle.vm_types.specs.Map.{Map, delta}
 use Rattle.vm_disk.specs.Disk.{State, Contents, Medium, Goes}
@@ -7,6 +7,7 @@ use Rattle.vm_disk.specs.Moments.{OnlyReads}
 use Rattle.vm_disk.proofs.GoesLemmas.{goes_then}
 use Rattle.vm_disk.proofs.MomentLemmas.{reads_then, same_medium}
 use Rattle.vm_block.specs.Tree.{Sizes, Subtree}
+use Rattle.vm_block.proofs.TreeLemmas.{subtree_one}
 use Rattle.vm_tree.specs.Root.{IsRooted}
 use Rattle.vm_tree.specs.declared.root.Root.{Root}
 use Rattle.vm_tree.specs.declared.root.TreeFault.{TreeFault}
@@ -19,6 +20,7 @@ use Rattle.vm_diff.specs.Differ.{AreRising, Differ}
 use Rattle.vm_diff.specs.Steps.{StepsBy}
 use Rattle.vm_diff.specs.declared.front.Step.{Step}
 use Rattle.vm_diff.specs.declared.front.Step.TheVariants.{Done, Moved, Found}
+use Rattle.vm_diff.proofs.DeltaLemmas.{shared_front}
 
 -- ---- from the roots
 
@@ -44,6 +46,22 @@ module _ (sizes : Sizes) (x : Contents) (limit : ℕ) (root : Root) (m : Map) (b
   pub root_low : IsRooted sizes x limit root m bs → (root.block ≢ 0) × (7 < root.level) → ⊥
   root_low (inl bare) high = high.0 bare.none
   root_low (inr top) high = omega (arith, level_low root.level top.subtree, high.1)
+
+-- under one root lies one map, so nothing differs
+pub one_root : (sizes : Sizes) (x : Contents) (limit : ℕ) (first second : Root) (m n : Map) (bs cs : List ℕ) → first.block ≡ second.block → IsRooted sizes x limit first m bs → IsRooted sizes x limit second n cs → delta m n ≡ []
+one_root sizes x limit first second m n bs cs shared (inl a) (inl b) = ap₂ delta a.empty b.empty
+one_root sizes x limit first second m n bs cs shared (inl a) (inr b) =
+    let inside = subtree_top sizes x limit second.level second.block n cs b.subtree in
+    absurd (omega (arith, a.none, shared, inside.0))
+one_root sizes x limit first second m n bs cs shared (inr a) (inl b) =
+    let inside = subtree_top sizes x limit first.level first.block m bs a.subtree in
+    absurd (omega (arith, b.none, shared, inside.0))
+one_root sizes x limit first second m n bs cs shared (inr a) (inr b) =
+    let there = subst (λ k. Subtree sizes x limit first.level k m bs) shared a.subtree in
+    let same = subtree_one sizes x limit first.level second.level second.block m n bs cs there b.subtree in
+    let whole = append-nil m in
+    let rising = subst AreRising (sym whole) (root_rising sizes x limit first m bs (inr a)) in
+    ap (delta m) (sym same.0) ∙ ap₂ delta (sym whole) (sym whole) ∙ shared_front m [] [] rising rising
 
 -- ---- step by step
 

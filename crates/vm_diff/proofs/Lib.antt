@@ -6,6 +6,7 @@ pub mod ApartLemmas
 pub mod StartLemmas
 pub mod PayLemmas
 pub mod StepLemmas
+pub mod SkipLemmas
 pub mod CompareLemmas
 pub mod MergingLemmas
 pub mod SettledLemmas

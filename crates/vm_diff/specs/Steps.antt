@@ -1,8 +1,14 @@
 -- What the steps of two walks answer.
-use Rattle.std.specs.Prelude.{◌≡◌, ℕ, ◌<◌, List, [], ◌∷◌, Result, Ok, Err, ⊤}
+use Rattle.std.specs.Prelude.{◌≡◌, ℕ, ◌<◌, true, List, [], ◌∷◌, Result, Ok, Err, ⊤}
+use Rattle.std.specs.Str.{bytes_eq}
+use Rattle.vm_types.specs.declared.key.Key.{Key}
+use Rattle.vm_types.specs.Places.{place}
 use Rattle.vm_types.specs.declared.change.Change.{Change}
+use Rattle.vm_tree.specs.declared.root.Root.{Root}
 use Rattle.vm_tree.specs.declared.root.TreeFault.{TreeFault}
 use Rattle.vm_tree.specs.declared.root.TreeFault.TheVariants.{Device}
+use Rattle.vm_diff.specs.declared.front.Front.{Front}
+use Rattle.vm_diff.specs.declared.front.Front.TheVariants.{Pair, Top}
 use Rattle.vm_diff.specs.declared.front.Step.{Step}
 use Rattle.vm_diff.specs.declared.front.Step.TheVariants.{Done, Moved, Found}
 
@@ -24,3 +30,22 @@ Falls (Err e) old new = Unit {0}
 abbrev pub moved_by : Result ⊤ TreeFault → Result Step TreeFault
 moved_by (Ok x) = Ok Moved
 moved_by (Err e) = Err e
+
+-- two walks that stand here stand before records with one key and one value
+pub record AtOneRecord (here there : Front) : Type 0 where
+  pub key : Key
+  pub low : Key
+  pub value : List ℕ
+  pub other : List ℕ
+  pub first : here ≡ Pair key value
+  pub second : there ≡ Pair low other
+  pub level : place key ≡ place low
+  pub equal : bytes_eq value other ≡ true
+
+-- or before one subtree
+pub record AtOneTop (here there : Front) : Type 0 where
+  pub top : Root
+  pub other : Root
+  pub first : here ≡ Top top
+  pub second : there ≡ Top other
+  pub shared : top.block ≡ other.block

@@ -41,6 +41,9 @@ pub fn changed<D: Disk>(
         → IsRooted sizes (D.state disk.old).now.contents blocks first m bs → IsRooted sizes (D.state disk.old).now.contents blocks second n cs
         → (D.state disk.new).reads ≤ (D.state disk.old).reads + unshared bs cs }
 {
+    if first.block == second.block && first.level == second.level {
+        return Ok(Vec::new(alloc));
+    }
     let Some(mut one) = Cursor::new(first) else {
         return Err(TreeFault::Damaged(first.block));
     };
@@ -85,6 +88,9 @@ pub fn same<D: Disk>(
         → IsRooted sizes (D.state disk.old).now.contents blocks first m bs → IsRooted sizes (D.state disk.old).now.contents blocks second n cs
         → (D.state disk.new).reads ≤ (D.state disk.old).reads + unshared bs cs }
 {
+    if first.block == second.block && first.level == second.level {
+        return Ok(true);
+    }
     let Some(mut one) = Cursor::new(first) else {
         return Err(TreeFault::Damaged(first.block));
     };

@@ -70,6 +70,28 @@ impl Cursor {
         }
     }
 
+    /// The record that the walk stands before, if it is one.
+    pub(crate) fn record(&self) -> Option<&(Key, Value)>
+        ensures { IfSome result (λ pair. front_of self.now ≡ Front.Pair pair.now.0 pair.now.1) }
+    {
+        if self.at < self.records.len() {
+            Some(&self.records[self.at])
+        } else {
+            None
+        }
+    }
+
+    /// The subtree that the walk stands before, if it is one.
+    pub(crate) fn top(&self) -> Option<&Root>
+        ensures { IfSome result (λ top. front_of self.now ≡ Front.Top top.now) }
+    {
+        if self.at < self.records.len() {
+            None
+        } else {
+            self.tops.as_slice().last()
+        }
+    }
+
     /// Goes past a record.
     pub(crate) fn take(&mut self)
         ensures { self.new ≡ record { pending = drop 1 self.old.pending; tops = self.old.tops } }

@@ -12,6 +12,7 @@ mod cursor;
 mod front;
 mod merging;
 mod opening;
+mod skipping;
 mod stepping;
 #[cfg(test)]
 mod tests;

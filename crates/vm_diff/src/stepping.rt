@@ -14,6 +14,7 @@ ghost use Rattle.vm_diff.specs.Steps.{Falls, StepsBy, moved_by};
 use crate::cursor::Cursor;
 use crate::front::{Front, Step};
 use crate::opening::{open, pass};
+use crate::skipping::skip_shared;
 use vm_disk::Disk;
 use vm_tree::{Root, TreeFault};
 use vm_types::{Change, Key, Value};
@@ -57,6 +58,7 @@ fn meet_tops<D: Disk>(
     if first.block == second.block && first.level == second.level {
         one.skip();
         other.skip();
+        skip_shared(one, other);
         return Ok(Step::Moved);
     }
     if first.level < second.level {
@@ -78,6 +80,7 @@ fn meet_pairs(one: &mut Cursor, other: &mut Cursor, key: Key, before: Value, aft
     one.take();
     other.take();
     if before == after {
+        skip_shared(one, other);
         Step::Moved
     } else {
         Step::Found(Change {

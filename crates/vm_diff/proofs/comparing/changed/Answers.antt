@@ -1,9 +1,13 @@
-use Rattle.std.proofs.Common.{List, sym, subst}
+use Rattle.std.proofs.Common.{List, sym, ◌∙◌, subst}
 use Rattle.vm_types.specs.declared.change.Change.{Change}
 use Rattle.vm_types.specs.Map.{delta}
 use Rattle.vm_tree.proofs.ScanLemmas.{device_lists}
-use Rattle.vm_diff.proofs.CompareLemmas.{Compares, root_low, roots_differ, compares_more, compares_found, compares_reads, compares_bound, all_found, step_failed}
+use Rattle.vm_diff.proofs.CompareLemmas.{Compares, one_root, root_low, roots_differ, compares_more, compares_found, compares_reads, compares_bound, all_found, step_failed}
 use Rattle.vm_diff.proofs.comparing.changed.Goals as goal
+
+pub returns-then-first-second-2-clause-changes : goal.returns-then-first-second-2-clause-changes
+returns-then-first-second-2-clause-changes g c honest sizes m n bs cs first second =
+    c.new.ensures.items ∙ sym (one_root sizes (g.D.Disk.state c.args.disk.now).now.contents c.args.blocks c.args.first c.args.second m n bs cs c.if-first-second.true first second)
 
 pub returns-in_default-clause-changes : goal.returns-in_default-clause-changes
 returns-in_default-clause-changes g c honest sizes m n bs cs first second =

@@ -1,8 +1,12 @@
 use Rattle.std.proofs.Common.{[], refl, sym}
 use Rattle.std.proofs.lemmas.Bool.{false≢true}
 use Rattle.vm_types.specs.Map.{delta}
-use Rattle.vm_diff.proofs.CompareLemmas.{root_low, roots_differ, compares_more, compares_reads, compares_bound, all_found, some_found, step_failed}
+use Rattle.vm_diff.proofs.CompareLemmas.{one_root, root_low, roots_differ, compares_more, compares_reads, compares_bound, all_found, some_found, step_failed}
 use Rattle.vm_diff.proofs.comparing.same.Goals as goal
+
+pub returns-then-first-second-2-clause-equal : goal.returns-then-first-second-2-clause-equal
+returns-then-first-second-2-clause-equal g c honest sizes m n bs cs first second =
+    (λ _. one_root sizes (g.D.Disk.state c.args.disk.now).now.contents c.args.blocks c.args.first c.args.second m n bs cs c.if-first-second.true first second, λ _. refl)
 
 pub returns-in_default-clause-equal : goal.returns-in_default-clause-equal
 returns-in_default-clause-equal g c honest sizes m n bs cs first second =

@@ -8,12 +8,13 @@ use Rattle.vm_diff.proofs.stepping.meet_tops.Goals.{else-first-second-via-then-f
 
 pub returns-then-first-second-2-clause-falls : goal.returns-then-first-second-2-clause-falls
 returns-then-first-second-2-clause-falls g c =
-    omega (arith, skip_falls c.args.one.now c.skip.new.self c.args.first c.requires.first c.skip.ensures, skip_falls c.args.other.now c.skip-then-first-second-2.new.self c.args.second c.requires.second c.skip-then-first-second-2.ensures)
+    omega (arith, skip_falls c.args.one.now c.skip.new.self c.args.first c.requires.first c.skip.ensures, skip_falls c.args.other.now c.skip-then-first-second-2.new.self c.args.second c.requires.second c.skip-then-first-second-2.ensures, c.skip_shared.ensures.most)
 
 pub returns-then-first-second-2-clause-steps : goal.returns-then-first-second-2-clause-steps
 returns-then-first-second-2-clause-steps g c honest sizes most changes differ =
-    both_skipped sizes (g.D.Disk.state c.args.disk.now).now.contents c.args.blocks (g.D.Disk.state c.args.disk.now).reads most c.args.one.now c.args.other.now c.skip.new.self c.skip-then-first-second-2.new.self c.args.first c.args.second changes
-    c.requires.first c.requires.second c.if-first-second.true c.skip.ensures c.skip-then-first-second-2.ensures differ
+    c.skip_shared.ensures.differ sizes (g.D.Disk.state c.args.disk.now).now.contents c.args.blocks (g.D.Disk.state c.args.disk.now).reads most changes
+    (both_skipped sizes (g.D.Disk.state c.args.disk.now).now.contents c.args.blocks (g.D.Disk.state c.args.disk.now).reads most c.args.one.now c.args.other.now c.skip.new.self c.skip-then-first-second-2.new.self c.args.first c.args.second changes
+    c.requires.first c.requires.second c.if-first-second.true c.skip.ensures c.skip-then-first-second-2.ensures differ)
 
 pub returns-then-first-second-3-clause-bound : goal.returns-then-first-second-3-clause-bound
 returns-then-first-second-3-clause-bound g c honest sizes most changes differ =

@@ -1,0 +1,11 @@
+use Rattle.std.proofs.Common.{◌+◌}
+use Rattle.vm_diff.specs.Walk.{size}
+use Rattle.vm_diff.proofs.SkipLemmas.{Skips}
+use Rattle.vm_diff.proofs.skipping.skip_shared.Given as goal
+
+abbrev pub decreases-shared : goal.decreases-shared
+decreases-shared l = size l.one + size l.other
+
+-- what differs is as it was
+abbrev pub invariant-shared : goal.invariant-shared
+invariant-shared l = Skips l.initial.one l.initial.other l.one l.other
