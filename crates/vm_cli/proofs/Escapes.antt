@@ -1,10 +1,11 @@
 -- What a word spells, from its front.
-use Rattle.std.proofs.Common.{◌≡◌, ◌<◌, ◌≤◌, ◌-◌, ◌==◌, ℕ, false, List, [], ◌∷◌, Option, Some, None, length, take, drop, get_or, set, ◌++◌, ◌+◌, ◌∙◌, suc, option_map, option_and_then, refl, ap, sym, arith, add-one, append_assoc, length-append, length-take-le}
+use Rattle.std.proofs.Common.{◌≡◌, ◌<◌, ◌≤◌, ◌-◌, ◌==◌, ◌↔◌, ℕ, Bool, true, false, List, [], ◌∷◌, Option, Some, None, length, take, drop, get_or, set, ◌++◌, ◌+◌, ◌∙◌, suc, option_map, option_and_then, refl, ap, sym, arith, rules, add-one, append_assoc, length-append, length-take-le}
 use Rattle.std.proofs.lemmas.Bool.Decides.{nat_tests}
 use Rattle.std.proofs.Math.Seq.{take-suc-set}
-use Rattle.std.specs.Prelude.{codes, nat_le}
+use Rattle.std.specs.Prelude.{IfSome, IsNone, IsSome, codes, nat_le}
 use Rattle.std.specs.Str.{bytes_eq}
 use Rattle.std.proofs.lemmas.List.{take_rest}
+use Rattle.memchr.specs.Find.{IsFirstByte, is_byte}
 use Rattle.vm_cli.specs.Escapes.{byte_of, hex_digit, short_enough, unescaped, value_of, with_front}
 
 -- a byte that stands for itself
@@ -24,6 +25,35 @@ unescaped-escape [] e long = absurd (omega arith)
 unescaped-escape (b ∷ []) e long = absurd (omega arith)
 unescaped-escape (b ∷ c ∷ []) e long = absurd (omega arith)
 unescaped-escape (b ∷ c ∷ d ∷ rest) e long = rw (take_rest (b ∷ c ∷ d ∷ rest) 3, e) refl
+
+-- no byte of a word is `%`
+pub unescaped-plain : (word : List ℕ) → ((i : ℕ) → i < length word → ¬ (get_or word i 0 == 37) ≡ true) → unescaped word ≡ Some word
+unescaped-plain [] none = refl
+unescaped-plain (b ∷ []) none = let e : (b == 37) ≡ false = grind (arith, nat_tests, none 0 (omega arith)) in rw e refl
+unescaped-plain (b ∷ c ∷ []) none =
+    let e : (b == 37) ≡ false = grind (arith, nat_tests, none 0 (omega arith)) in
+    rw (e, unescaped-plain (c ∷ []) (λ i lt. none (suc i) (omega (arith, lt)))) refl
+unescaped-plain (b ∷ c ∷ d ∷ rest) none =
+    let e : (b == 37) ≡ false = grind (arith, nat_tests, none 0 (omega arith)) in
+    rw (e, unescaped-plain (c ∷ d ∷ rest) (λ i lt. none (suc i) (omega (arith, lt)))) refl
+
+-- a word without `%` is the value, where it is short enough
+pub value_of-plain : (word : List ℕ) (found : Option ℕ) (value : Option (List ℕ)) → bytes_eq word (codes "-") ≡ false
+    → IsFirstByte (is_byte 37) word found → IsNone found → (IsSome value ↔ (length word ≤ 240)) → IfSome value (λ v. v ≡ word)
+    → value ≡ value_of word
+value_of-plain word (Some place) value full first none short is = cc
+value_of-plain word None value full first none short is = rw (full, unescaped-plain word (λ i lt. first i (omega arith) lt)) (go value short is)
+  where
+    go : (o : Option (List ℕ)) → (IsSome o ↔ (length word ≤ 240)) → IfSome o (λ v. v ≡ word) → o ≡ short_enough word
+    go None lacks is = test (nat_le (length word) 240) refl
+      where
+        test : (t : Bool) → nat_le (length word) 240 ≡ t → None ≡ short_enough word
+        test true e = let few : length word ≤ 240 = grind (arith, nat_tests, e) in let bad = lacks.1 few in cc
+        test false e = rw e refl
+    go (Some v) has is =
+        let few : length word ≤ 240 = has.0 (search rules) in
+        let e : nat_le (length word) 240 ≡ true = grind (arith, nat_tests) in
+        rw (e, is) refl
 
 -- nothing read so far
 pub spelled-start : (held word : List ℕ) → unescaped word ≡ option_map (λ more. take 0 held ++ more) (unescaped word)

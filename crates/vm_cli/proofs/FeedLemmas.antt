@@ -1,8 +1,10 @@
 -- Lines that are answered one after another, and bytes that are fed to a talk.
-use Rattle.std.proofs.Common.{◌≡◌, ◌==◌, ◌++◌, ◌∙◌, ℕ, Bool, true, false, List, [], ◌∷◌, Option, Some, None, Result, Ok, Err, OnOk, refl, ap, sym, subst, arith, append-nil, append_assoc, ◌<◌, ◌+◌, length, take, drop, slice_index, take-append-drop}
-use Rattle.std.proofs.lemmas.List.{take_more}
+use Rattle.std.proofs.Common.{◌≡◌, ◌≢◌, ◌==◌, ◌≤◌, ◌++◌, ◌∙◌, ℕ, zero, suc, add-one, Bool, true, false, List, [], ◌∷◌, Option, Some, None, Result, Ok, Err, OnOk, refl, ap, sym, subst, arith, append-nil, append_assoc, ◌<◌, ◌+◌, length, take, drop, slice_index, take-append-drop}
+use Rattle.std.proofs.lemmas.List.{take_all, take_more}
 use Rattle.std.proofs.lemmas.Bool.Decides.{nat_tests}
 use Rattle.std.specs.Io.KnownBytes.{Appends}
+use Rattle.std.specs.Prelude.{IsNone}
+use Rattle.memchr.specs.Find.{IsFirstByte, is_byte}
 use Rattle.vm_types.specs.declared.answer.Answer.{Answer}
 use Rattle.vm_types.specs.declared.command.Command.{Command}
 use Rattle.vm_types.specs.declared.refusal.Refusal.{Refusal}
@@ -17,6 +19,7 @@ use Rattle.vm_cli.specs.declared.talk.ServeFault.{ServeFault}
 use Rattle.vm_cli.specs.declared.talk.ServeFault.TheVariants as fault
 use Rattle.vm_cli.proofs.HandledLemmas.{handled_stops}
 use Rattle.vm_cli.proofs.Known.{Appends-nil, Appends-then}
+use Rattle.vm_cli.proofs.Parts.{IsPart-append}
 
 after-with : (s : State) (done : Done) (later : List Command) (others : List (Result Answer Refusal)) → after s (with_command done later) (with_answer done others) ≡ after (after_line s done) later others
 after-with s None later others = refl
@@ -182,15 +185,35 @@ module _ {D : Type 0} {members : _} where
     serves-line (Err fault.Store) a b others none (text, handled, written) = (text, ends-line true text others handled, written)
     serves-line (Err fault.Write) a b others none (text, ends, handled, written) = (text, ends, ends-line ends text others handled, written)
 
--- one byte more
-pub one-more : (bytes : List ℕ) (i : ℕ) → i < length bytes → take (i + 1) bytes ≡ take i bytes ++ slice_index bytes i ∷ []
-one-more bytes i lt = take_more bytes i 0 lt
+-- no line feed stands before a place
+pub part_before : (bytes : List ℕ) (n : ℕ) → n ≤ length bytes → ((k : ℕ) → k < n → ¬ (slice_index bytes k == 10) ≡ true) → IsPart (take n bytes)
+part_before bytes zero le none = tt
+part_before bytes (suc n) le none =
+    let lt : n < length bytes = omega (arith, le) in
+    let here : slice_index bytes n ≢ 10 = grind (arith, nat_tests, none n (omega arith)) in
+    let front = part_before bytes n (omega (arith, le)) (λ k below. none k (omega (arith, below))) in
+    let more : take (n + 1) bytes ≡ take n bytes ++ slice_index bytes n ∷ [] = take_more bytes n 0 lt in
+    rw (← add-one n, more) (IsPart-append (take n bytes) (slice_index bytes n ∷ []) front (here, tt))
+
+-- no line feed stands in the bytes
+pub whole_part : (bytes : List ℕ) (found : Option ℕ) → IsFirstByte (is_byte 10) bytes found → IsNone found → IsPart bytes
+whole_part bytes (Some place) first none = cc
+whole_part bytes None first none =
+    subst IsPart (take_all (length bytes) bytes (omega arith)) (part_before bytes (length bytes) (omega arith) (λ k lt. first k (omega arith) lt))
+
+-- a line feed stands at a place: the bytes up to it
+pub line_is : (bytes : List ℕ) (n : ℕ) → n < length bytes → (slice_index bytes n == 10) ≡ true → take (n + 1) bytes ≡ take n bytes ++ 10 ∷ []
+line_is bytes n lt is =
+    let here : slice_index bytes n ≡ 10 = grind (arith, nat_tests, is) in
+    take_more bytes n 0 lt ∙ ap (λ (b : ℕ). take n bytes ++ b ∷ []) here
 
 -- and those after it
-pub one-more-left : (bytes more : List ℕ) (i : ℕ) → i < length bytes → bytes ++ more ≡ (take i bytes ++ slice_index bytes i ∷ []) ++ (drop (i + 1) bytes ++ more)
-one-more-left bytes more i lt =
-    ap (λ bs. bs ++ more) (sym (take-append-drop (i + 1) bytes) ∙ ap (λ bs. bs ++ drop (i + 1) bytes) (one-more bytes i lt))
-    ∙ append_assoc (take i bytes ++ slice_index bytes i ∷ []) (drop (i + 1) bytes) more
+pub line_split : (bytes done rest more : List ℕ) (n : ℕ) → bytes ≡ done ++ rest → n < length rest → (slice_index rest n == 10) ≡ true
+    → bytes ++ more ≡ (done ++ (take n rest ++ 10 ∷ [])) ++ (drop (n + 1) rest ++ more)
+line_split bytes done rest more n split lt is =
+    let line : List ℕ = take n rest ++ 10 ∷ [] in
+    let rest_is : rest ≡ line ++ drop (n + 1) rest = sym (take-append-drop (n + 1) rest) ∙ ap (λ bs. bs ++ drop (n + 1) rest) (line_is rest n lt is) in
+    ap (λ bs. bs ++ more) (split ∙ ap (λ bs. done ++ bs) rest_is ∙ sym (append_assoc done line (drop (n + 1) rest))) ∙ append_assoc (done ++ line) (drop (n + 1) rest) more
 
 -- a line ends
 pub lines-end : (from more : List ℕ) → IsPart from → lines_of (from ++ 10 ∷ more) ≡ from ∷ lines_of more
@@ -211,31 +234,35 @@ module _ {D : Type 0} {members : _} where
       written = Appends-nil a;
     }
 
-    -- a byte of the line
-    pub fed-byte : (b : ℕ) (a : Option (List ℕ)) → Fed store store s (b ∷ []) from (from ++ b ∷ []) a a
-    fed-byte b a = record {
+    -- bytes of the line
+    pub fed-part : (bytes : List ℕ) (a : Option (List ℕ)) → Fed store store s bytes from (from ++ bytes) a a
+    fed-part bytes a = record {
       lines = [];
       text = [];
-      cut = λ more. ap lines_of (sym (append_assoc from (b ∷ []) more));
+      cut = λ more. ap lines_of (sym (append_assoc from bytes more));
       talked = talked-none store s;
       written = Appends-nil a;
     }
 
-  -- the end of the line
-  module _ (old new : Store D members) (s : State) (from : List ℕ) (part : IsPart from) (a b : Option (List ℕ)) where
-    pub fed-line : {T : Type 0} (t : T) → Writes {T = T} (HandlesLine old new s from) (Ok t) a b → Fed old new s (10 ∷ []) from [] a b
+  -- the last bytes of the line, and its line feed
+  module _ (old new : Store D members) (s : State) (from bytes : List ℕ) (part : IsPart (from ++ bytes)) (a b : Option (List ℕ)) where
+    cut-line : (more : List ℕ) → lines_of (from ++ ((bytes ++ 10 ∷ []) ++ more)) ≡ (from ++ bytes) ∷ lines_of more
+    cut-line more =
+        ap (λ bs. lines_of (from ++ bs)) (append_assoc bytes (10 ∷ []) more) ∙ ap lines_of (sym (append_assoc from bytes (10 ∷ more))) ∙ lines-end (from ++ bytes) more part
+
+    pub fed-line : {T : Type 0} (t : T) → Writes {T = T} (HandlesLine old new s (from ++ bytes)) (Ok t) a b → Fed old new s (bytes ++ 10 ∷ []) from [] a b
     fed-line t (text, handled, written) = record {
-      lines = from ∷ [];
+      lines = (from ++ bytes) ∷ [];
       text = text;
-      cut = λ more. lines-end from more part;
-      talked = talked-line old new s from text handled;
+      cut = cut-line;
+      talked = talked-line old new s (from ++ bytes) text handled;
       written = written;
     }
 
-    pub ended-line : (T : Type 0) (why : ServeFault) (more : List ℕ) → Writes {T = T} (HandlesLine old new s from) (Err why) a b
-        → ServesLines {T = T} old new s (Err why) a b (lines_of (from ++ ((10 ∷ []) ++ more)))
+    pub ended-line : (T : Type 0) (why : ServeFault) (more : List ℕ) → Writes {T = T} (HandlesLine old new s (from ++ bytes)) (Err why) a b
+        → ServesLines {T = T} old new s (Err why) a b (lines_of (from ++ ((bytes ++ 10 ∷ []) ++ more)))
     ended-line T why more writes =
-        subst (λ ls. ServesLines {T = T} old new s (Err why) a b ls) (sym (lines-end from more part)) (serves-line old new s from {T = T} (Err why) a b (lines_of more) tt writes)
+        subst (λ ls. ServesLines {T = T} old new s (Err why) a b ls) (sym (cut-line more)) (serves-line old new s (from ++ bytes) {T = T} (Err why) a b (lines_of more) tt writes)
 
   -- further bytes
   module _ (old mid new : Store D members) (s : State) (bytes then from middle : List ℕ) (a b c : Option (List ℕ)) (first : Fed old mid s bytes from middle a b) where

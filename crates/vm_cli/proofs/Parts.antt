@@ -1,55 +1,51 @@
--- A line that grows by a byte.
-use Rattle.std.proofs.Common.{◌≡◌, ◌≢◌, ◌<◌, ◌≤◌, ◌+◌, ℕ, List, [], ◌∷◌, ◌++◌, false, length, refl, arith, length-append, subst, sym}
+-- A line that grows by some bytes.
+use Rattle.std.proofs.Common.{◌≡◌, ◌<◌, ◌≤◌, ◌+◌, ℕ, List, [], ◌∷◌, ◌++◌, false, length, refl, arith, length-append, append-nil, subst, sym}
 use Rattle.vm_cli.specs.Reading.{Holds, KindHolds, is_nil}
 use Rattle.vm_cli.specs.Lines.{IsPart}
 use Rattle.vm_cli.specs.declared.line.Kind.TheVariants.{Kept, Long, NoMemory}
 use Rattle.vm_cli.specs.declared.line.Line.{Line}
 
-IsPart-append : (part : List ℕ) (b : ℕ) → IsPart part → b ≢ 10 → IsPart (part ++ b ∷ [])
-IsPart-append [] b h ne = (ne, tt)
-IsPart-append (x ∷ part) b h ne = (h.0, IsPart-append part b h.1 ne)
+pub IsPart-append : (part more : List ℕ) → IsPart part → IsPart more → IsPart (part ++ more)
+IsPart-append [] more h k = k
+IsPart-append (x ∷ part) more h k = (h.0, IsPart-append part more h.1 k)
 
-is_nil-append : (part : List ℕ) (b : ℕ) → is_nil (part ++ b ∷ []) ≡ false
-is_nil-append [] b = refl
-is_nil-append (x ∷ part) b = refl
+is_nil-append : (part more : List ℕ) → 0 < length more → is_nil (part ++ more) ≡ false
+is_nil-append [] [] lt = absurd (omega (arith, lt))
+is_nil-append [] (b ∷ more) lt = refl
+is_nil-append (x ∷ part) more lt = refl
 
-length-one_more : (part : List ℕ) (b : ℕ) → length (part ++ b ∷ []) ≡ length part + 1
-length-one_more part b = length-append part (b ∷ [])
+-- no byte
+pub holds-none : (part more : List ℕ) (line : Line) → length more ≡ 0 → Holds line part → Holds line (part ++ more)
+holds-none part [] line none h = subst (λ bytes. Holds line bytes) (sym (append-nil part)) h
+holds-none part (b ∷ more) line none h = absurd (omega (arith, none))
 
-holds : (part : List ℕ) (b : ℕ) (old new : Line) → b ≢ 10 → Holds old part → new.is_empty ≡ false
-    → KindHolds new.kind new.bytes.items (part ++ b ∷ []) → Holds new (part ++ b ∷ [])
-holds part b old new ne h e k =
-    record { unbroken = IsPart-append part b h.unbroken ne; kind = k; empty = subst (λ v. new.is_empty ≡ v) (sym (is_nil-append part b)) e }
+module _ (part more : List ℕ) (old new : Line) (unbroken : IsPart more) (some : 0 < length more) (h : Holds old part) (e : new.is_empty ≡ false) where
+  holds : KindHolds new.kind new.bytes.items (part ++ more) → Holds new (part ++ more)
+  holds k =
+      record { unbroken = IsPart-append part more h.unbroken unbroken; kind = k; empty = subst (λ v. new.is_empty ≡ v) (sym (is_nil-append part more some)) e }
 
--- a byte that is kept
-pub holds-kept : (part : List ℕ) (b : ℕ) (old new : Line) → b ≢ 10 → Holds old part → new.is_empty ≡ false
-    → old.kind ≡ Kept → length old.bytes.items < 1048576 → new.kind ≡ Kept → new.bytes.items ≡ old.bytes.items ++ b ∷ []
-    → Holds new (part ++ b ∷ [])
-holds-kept part b old new ne h e was room is items =
-    let kept : KindHolds Kept old.bytes.items part = rw was at h.kind in
-    let now : KindHolds Kept new.bytes.items (part ++ b ∷ []) = (rw (items, kept.0) refl, rw (length-one_more part b) (ap_length kept.0 room)) in
-    holds part b old new ne h e (rw is now)
-  where
-    ap_length : old.bytes.items ≡ part → length old.bytes.items < 1048576 → length part + 1 ≤ 1048576
-    ap_length p lt = let lt2 : length part < 1048576 = rw p at lt in omega arith
+  -- bytes that are kept
+  pub holds-kept : old.kind ≡ Kept → length old.bytes.items + length more ≤ 1048576 → new.kind ≡ Kept → new.bytes.items ≡ old.bytes.items ++ more → Holds new (part ++ more)
+  holds-kept was room is items =
+      let kept : KindHolds Kept old.bytes.items part = rw was at h.kind in
+      let room2 : length part + length more ≤ 1048576 = rw kept.0 at room in
+      let now : KindHolds Kept new.bytes.items (part ++ more) = (rw (items, kept.0) refl, rw (length-append part more) room2) in
+      holds (rw is now)
 
--- a byte past the limit
-pub holds-long : (part : List ℕ) (b : ℕ) (old new : Line) → b ≢ 10 → Holds old part → new.is_empty ≡ false
-    → old.kind ≡ Kept → 1048576 ≤ length old.bytes.items → new.kind ≡ Long → Holds new (part ++ b ∷ [])
-holds-long part b old new ne h e was full is =
-    let kept : KindHolds Kept old.bytes.items part = rw was at h.kind in
-    let full2 : 1048576 ≤ length part = rw kept.0 at full in
-    let now : KindHolds Long new.bytes.items (part ++ b ∷ []) = rw (length-one_more part b) (omega arith) in
-    holds part b old new ne h e (rw is now)
+  -- bytes past the limit
+  pub holds-long : old.kind ≡ Kept → 1048576 < length old.bytes.items + length more → new.kind ≡ Long → Holds new (part ++ more)
+  holds-long was full is =
+      let kept : KindHolds Kept old.bytes.items part = rw was at h.kind in
+      let full2 : 1048576 < length part + length more = rw kept.0 at full in
+      let now : KindHolds Long new.bytes.items (part ++ more) = rw (length-append part more) full2 in
+      holds (rw is now)
 
-pub holds-longer : (part : List ℕ) (b : ℕ) (old new : Line) → b ≢ 10 → Holds old part → new.is_empty ≡ false
-    → old.kind ≡ Long → new.kind ≡ Long → Holds new (part ++ b ∷ [])
-holds-longer part b old new ne h e was is =
-    let long : 1048576 < length part = rw was at h.kind in
-    let now : KindHolds Long new.bytes.items (part ++ b ∷ []) = rw (length-one_more part b) (omega arith) in
-    holds part b old new ne h e (rw is now)
+  pub holds-longer : old.kind ≡ Long → new.kind ≡ Long → Holds new (part ++ more)
+  holds-longer was is =
+      let long : 1048576 < length part = rw was at h.kind in
+      let now : KindHolds Long new.bytes.items (part ++ more) = rw (length-append part more) (omega (arith, long)) in
+      holds (rw is now)
 
--- a byte for which there is no memory
-pub holds-no_memory : (part : List ℕ) (b : ℕ) (old new : Line) → b ≢ 10 → Holds old part → new.is_empty ≡ false
-    → new.kind ≡ NoMemory → Holds new (part ++ b ∷ [])
-holds-no_memory part b old new ne h e is = holds part b old new ne h e (rw is tt)
+  -- bytes for which there is no memory
+  pub holds-no_memory : new.kind ≡ NoMemory → Holds new (part ++ more)
+  holds-no_memory is = holds (rw is tt)

@@ -4,7 +4,7 @@ use Rattle.std.proofs.lemmas.Bool.Decides.{nat_tests}
 use Rattle.std.proofs.lemmas.Slice.Eq.{bytes_eq-Decides}
 use Rattle.std.specs.Prelude.{nat_le, nat_lt}
 use Rattle.std.specs.Str.{bytes_eq}
-use Rattle.vm_cli.specs.Escapes.{byte_text, escaped, hex_digit, hex_text, is_plain, unescaped, value_of, value_text}
+use Rattle.vm_cli.specs.Escapes.{ArePlain, byte_text, escaped, hex_digit, hex_text, is_plain, unescaped, value_of, value_text}
 
 pub escaped-more : (bytes : List ℕ) (i : ℕ) → i < length bytes → escaped (take (i + 1) bytes) ≡ escaped (take i bytes) ++ byte_text (get_or bytes i 0)
 escaped-more [] i lt = absurd (omega arith)
@@ -12,6 +12,30 @@ escaped-more (b ∷ bytes) zero lt = append-nil (byte_text b)
 escaped-more (b ∷ bytes) (suc i) lt =
     let rest : escaped (take (suc i) bytes) ≡ escaped (take i bytes) ++ byte_text (get_or bytes i 0) = rw (← add-one i) (escaped-more bytes i (omega arith)) in
     rw (add-one (suc i), rest) (sym (append_assoc (byte_text b) (escaped (take i bytes)) (byte_text (get_or bytes i 0))))
+
+-- bytes that are written as themselves
+pub ArePlain-more : (bytes : List ℕ) (i : ℕ) → i < length bytes → ArePlain (take i bytes) → is_plain (get_or bytes i 0) ≡ true → ArePlain (take (i + 1) bytes)
+ArePlain-more [] i lt so_far here = absurd (omega (arith, lt))
+ArePlain-more (b ∷ bytes) zero lt so_far here = (here, tt)
+ArePlain-more (b ∷ bytes) (suc i) lt so_far here =
+    let rest : ArePlain (take (suc i) bytes) = rw (← add-one i) (ArePlain-more bytes i (omega (arith, lt)) so_far.1 here) in
+    rw (add-one (suc i)) (so_far.0, rest)
+
+escaped-plain : (bytes : List ℕ) → ArePlain bytes → escaped bytes ≡ bytes
+escaped-plain [] plain = refl
+escaped-plain (b ∷ bytes) plain = rw (plain.0, escaped-plain bytes plain.1) refl
+
+pub value_text-plain : (bytes : List ℕ) → 0 < length bytes → bytes_eq bytes (codes "-") ≡ false → ArePlain bytes → value_text bytes ≡ bytes
+value_text-plain [] some other plain = absurd (omega (arith, some))
+value_text-plain (b ∷ bytes) some other plain = rw other (escaped-plain (b ∷ bytes) plain)
+
+plain-below : (b : ℕ) → is_plain b ≡ true → b < 256
+plain-below b e = grind (arith, nat_tests, e)
+
+pub plain-small : (bytes : List ℕ) → ArePlain bytes → (i : ℕ) → i < length bytes → get_or bytes i 0 < 256
+plain-small [] plain i lt = absurd (omega (arith, lt))
+plain-small (b ∷ bytes) plain zero lt = plain-below b plain.0
+plain-small (b ∷ bytes) plain (suc i) lt = plain-small bytes plain.1 i (omega (arith, lt))
 
 pub byte_text-short : (b : ℕ) → length (byte_text b) ≤ 3
 byte_text-short b = go (is_plain b) refl

@@ -1,5 +1,5 @@
 -- Values as they are written in lines.
-use Rattle.std.specs.Prelude.{◌+◌, ◌-◌, ◌*◌, ◌/◌, ◌%◌, ◌==◌, ◌&&◌, ◌++◌, ℕ, Bool, not, List, [], ◌∷◌, Option, Some, None, codes, if◌then◌else◌, length, nat_le, nat_lt, option_and_then, option_map}
+use Rattle.std.specs.Prelude.{◌≡◌, ◌+◌, ◌-◌, ◌*◌, ◌/◌, ◌%◌, ◌==◌, ◌&&◌, ◌++◌, ℕ, Bool, true, not, List, [], ◌∷◌, Option, Some, None, codes, if◌then◌else◌, length, nat_le, nat_lt, option_and_then, option_map}
 use Rattle.std.specs.Str.{bytes_eq}
 
 -- what a hexadecimal digit of either case stands for
@@ -41,6 +41,11 @@ value_of word = if bytes_eq word (codes "-") then Some [] else option_and_then s
 -- a byte that is written as itself: 0x21 to 0x7D, but not `%`
 abbrev pub is_plain : ℕ → Bool
 is_plain b = nat_le 33 b && (nat_le b 125 && not (b == 37))
+
+-- each byte is written as itself
+abbrev pub ArePlain : List ℕ → Type 0
+ArePlain [] = Unit {0}
+ArePlain (b ∷ bytes) = (is_plain b ≡ true) × ArePlain bytes
 
 -- a hexadecimal digit, in upper case
 abbrev pub hex_text : ℕ → ℕ

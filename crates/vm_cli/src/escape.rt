@@ -1,8 +1,9 @@
 //! Values as they are written in lines.
-ghost use Rattle.std.specs.Prelude.{◌≡◌, ◌+◌, ◌<◌, ◌≤◌, ◌++◌, ◌∷◌, length, MatchOption, None, Some, option_map};
-ghost use Rattle.vm_cli.specs.Escapes.{byte_text, hex_digit, hex_text, unescaped, value_of, value_text};
+ghost use Rattle.std.specs.Prelude.{◌≡◌, ◌+◌, ◌<◌, ◌≤◌, ◌++◌, ◌∷◌, length, MatchOption, None, Some, option_map, true};
+ghost use Rattle.vm_cli.specs.Escapes.{ArePlain, byte_text, hex_digit, hex_text, is_plain as is_plain_byte, unescaped, value_of, value_text};
 
 use crate::text::Text;
+use memchr::memchr;
 use vm_types::Value;
 
 /// The value that a word spells: `-` is the empty one, `%` and two hexadecimal digits are one
@@ -12,6 +13,9 @@ pub fn value(word: &[u8]) -> Option<Value>
 {
     if word == b"-".as_slice() {
         return Value::new(&[]);
+    }
+    if memchr(b'%', word).is_none() {
+        return Value::new(word);
     }
     let mut bytes = [0; Value::MAX_LEN];
     let mut len = 0;
@@ -85,9 +89,33 @@ fn push_spelled(text: &mut Text, bytes: &[u8])
         text.push_bytes(b"%2D");
         return;
     }
+    if are_plain(bytes) {
+        text.push_bytes(bytes);
+        return;
+    }
     for byte in bytes {
         push_escaped(text, *byte);
     }
+}
+
+// Whether each byte is written as itself.
+fn are_plain(bytes: &[u8]) -> bool
+    ensures { result ≡ true → ArePlain bytes.now }
+{
+    let mut plain = true;
+    for byte in bytes {
+        if !is_plain(*byte) {
+            plain = false;
+        }
+    }
+    plain
+}
+
+// Whether a byte is written as itself.
+fn is_plain(byte: u8) -> bool
+    ensures { result ≡ is_plain_byte byte }
+{
+    byte >= 0x21 && byte <= 0x7d && byte != b'%'
 }
 
 // Writes one byte of a value.
@@ -95,7 +123,7 @@ fn push_escaped(text: &mut Text, byte: u8)
     requires { length text.old + 3 ≤ 4096 }
     ensures { text.new ≡ text.old ++ byte_text byte }
 {
-    if byte >= 0x21 && byte <= 0x7d && byte != b'%' {
+    if is_plain(byte) {
         text.push(byte);
         return;
     }

@@ -24,7 +24,8 @@ pub struct Line {
 }
 
 impl Line {
-    ghost use Rattle.std.specs.Prelude.{◌≡◌, ◌≢◌, ℕ, List, ◌++◌, ◌∷◌, []};
+    ghost use Rattle.std.specs.Prelude.{◌≡◌, ℕ, List, ◌++◌, []};
+    ghost use Rattle.vm_cli.specs.Lines.{IsPart};
     ghost use Rattle.vm_cli.specs.Reading.{Holds, without_return};
 
     /// A line without bytes.
@@ -38,17 +39,20 @@ impl Line {
         }
     }
 
-    /// Takes one more byte of the line.
-    pub fn push(&mut self, byte: u8)
-        requires { byte ≢ 10 }
-        ensures { (part : List ℕ) → Holds self.old part → Holds self.new (part ++ byte ∷ []) }
+    /// Takes more bytes of the line.
+    pub fn extend(&mut self, bytes: &[u8])
+        requires { IsPart bytes.now }
+        ensures { (part : List ℕ) → Holds self.old part → Holds self.new (part ++ bytes.now) }
     {
+        if bytes.is_empty() {
+            return;
+        }
         self.is_empty = false;
         match self.kind {
             Kind::Kept => {
-                if self.bytes.len() >= MOST_BYTES {
+                if self.bytes.len() + bytes.len() > MOST_BYTES {
                     self.kind = Kind::Long;
-                } else if self.bytes.push(byte).is_err() {
+                } else if self.bytes.extend_from_slice(bytes).is_err() {
                     self.kind = Kind::NoMemory;
                 }
             }

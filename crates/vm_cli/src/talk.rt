@@ -3,7 +3,7 @@ ghost use Rattle.std.specs.Prelude.{◌≡◌, ◌≢◌, ◌⊎◌, ◌+◌, �
 ghost use Rattle.std.specs.Io.KnownBytes.{Appends, IsAtEnd};
 ghost use Rattle.vm_cli.specs.Carried.{Begins, Carries};
 ghost use Rattle.vm_cli.specs.Feeding.{Fed, HandlesRequest, Replies, Writes};
-ghost use Rattle.vm_cli.specs.Lines.{lines_of};
+ghost use Rattle.vm_cli.specs.Lines.{IsPart, lines_of};
 ghost use Rattle.vm_cli.specs.Reading.{Holds as HoldsLine};
 ghost use Rattle.vm_cli.specs.Replies.{ends_talk, reply_text};
 ghost use Rattle.vm_cli.specs.Talk.{Failing, HandlesLine, Serves, ServesLines, answer_text, error_text};
@@ -17,6 +17,7 @@ use crate::reply::Reply;
 use crate::request::{Request, read_request};
 use crate::text::Text;
 use crate::writing::{WriteFault, flush, put_all};
+use memchr::memchr;
 use std::alloc::{AllocError, Global};
 use std::io::{Read, Write};
 use thiserror::Error;
@@ -106,39 +107,40 @@ fn feed<W: Write, D: Disk>(
         → (from : List ℕ) → HoldsLine line.old from → (more : List ℕ)
         → OnErr result (ServesLines store.old store.new s result (W.contents writer.old) (W.contents writer.new) (lines_of (from ++ (bytes.now ++ more)))) }
 {
-    for byte in bytes {
-        match feed_byte(alloc, *byte, line, text, writer, store) {
+    let mut rest = bytes;
+    while let Some(end) = memchr(b'\n', rest) {
+        match feed_line(alloc, &rest[..end], line, text, writer, store) {
             Ok(()) => {}
             Err(fault) => return Err(fault),
         }
+        rest = &rest[end + 1..];
     }
+    line.extend(rest);
     Ok(())
 }
 
-// Takes one more byte of the input.
-fn feed_byte<W: Write, D: Disk>(
+// Takes the last bytes of a line, without its line feed, and answers it.
+fn feed_line<W: Write, D: Disk>(
     alloc: Global,
-    byte: u8,
+    bytes: &[u8],
     line: &mut Line,
     text: &mut Text,
     writer: &mut W,
     store: &mut Store<D>,
 ) -> Result<(), ServeFault>
+    requires { IsPart bytes.now }
     ensures goes { Goes ⊥ (D.state (disk_of store.old)) (D.state (disk_of store.new)) }
     ensures ok { has_failed store.old ≡ false → OnOk result (has_failed store.new ≡ false) }
     ensures err { has_failed store.old ≡ false → IfErr result (λ fault. (fault ≡ ServeFault.Write) ⊎ ((fault ≡ ServeFault.Store) × (has_failed store.new ≡ true) × Failing store.old store.new)) }
     ensures left { has_failed store.old ≡ true → store.new ≡ store.old }
     ensures fed { (s : State)
         → (from : List ℕ) → HoldsLine line.old from
-        → OnOk result ((to : List ℕ) × HoldsLine line.new to × Fed store.old store.new s (byte ∷ []) from to (W.contents writer.old) (W.contents writer.new)) }
+        → OnOk result ((to : List ℕ) × HoldsLine line.new to × Fed store.old store.new s (bytes.now ++ 10 ∷ []) from to (W.contents writer.old) (W.contents writer.new)) }
     ensures ended { (s : State)
         → (from : List ℕ) → HoldsLine line.old from → (more : List ℕ)
-        → OnErr result (ServesLines store.old store.new s result (W.contents writer.old) (W.contents writer.new) (lines_of (from ++ ((byte ∷ []) ++ more)))) }
+        → OnErr result (ServesLines store.old store.new s result (W.contents writer.old) (W.contents writer.new) (lines_of (from ++ ((bytes.now ++ 10 ∷ []) ++ more)))) }
 {
-    if byte != b'\n' {
-        line.push(byte);
-        return Ok(());
-    }
+    line.extend(bytes);
     match answer(alloc, line, text, writer, store) {
         Ok(()) => {
             line.clear();

@@ -1,7 +1,12 @@
 use Rattle.std.proofs.Common.{[], ◌≡◌, ◌<◌, false, codes, arith, rules, sym}
 use Rattle.std.specs.Str.{bytes_eq}
-use Rattle.vm_cli.proofs.Escapes.{spelled-long, spelled-next, spelled-start, value_of-none}
+use Rattle.vm_cli.proofs.Escapes.{spelled-long, spelled-next, spelled-start, value_of-none, value_of-plain}
 use Rattle.vm_cli.proofs.escape.value.Goals as goal
+
+pub returns-then-is_none : goal.returns-then-is_none
+returns-then-is_none c =
+    let no : bytes_eq c.args.word.now (codes "-") ≡ false = search rules in
+    value_of-plain c.args.word.now c.memchr.result c.new-then-is_none.result no c.memchr.ensures (search rules) c.new-then-is_none.ensures.short c.new-then-is_none.ensures.value
 
 pub loop-rest-init : goal.loop-rest-init
 loop-rest-init c = record { spelled = spelled-start [] c.args.word.now; room = search rules; held = search rules }

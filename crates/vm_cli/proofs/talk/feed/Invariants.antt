@@ -1,4 +1,4 @@
-use Rattle.std.proofs.Common.{◌≡◌, ℕ, List, true, false, take}
+use Rattle.std.proofs.Common.{◌≡◌, ◌++◌, ℕ, List, true, false, length}
 use Rattle.vm_disk.specs.Disk.{Goes}
 use Rattle.vm_types.specs.State.{State}
 use Rattle.vm_store.specs.Store.{disk_of, has_failed}
@@ -7,11 +7,16 @@ use Rattle.vm_cli.specs.Reading.{Holds as HoldsLine}
 use Rattle.vm_cli.proofs.talk.feed.Given as goal
 
 -- the bytes so far were fed
-abbrev pub invariant-loop-byte : goal.invariant-loop-byte
-invariant-loop-byte g l = record {
+abbrev pub invariant-loop-end : goal.invariant-loop-end
+invariant-loop-end g l = record {
+  done : List ℕ;
+  split : l.fn.bytes ≡ done ++ l.rest;
   goes : Goes ⊥ (g.D.Disk.state (disk_of l.fn.store)) (g.D.Disk.state (disk_of l.store));
   sound : has_failed l.fn.store ≡ false → has_failed l.store ≡ false;
   left : has_failed l.fn.store ≡ true → l.store ≡ l.fn.store;
   fed : (s : State) → (from : List ℕ) → HoldsLine l.fn.line from
-      → (to : List ℕ) × HoldsLine l.line to × Fed l.fn.store l.store s (take l.byte-index l.fn.bytes) from to (g.W.Write.contents l.fn.writer) (g.W.Write.contents l.writer);
+      → (to : List ℕ) × HoldsLine l.line to × Fed l.fn.store l.store s done from to (g.W.Write.contents l.fn.writer) (g.W.Write.contents l.writer);
 }
+
+abbrev pub decreases-loop-end : goal.decreases-loop-end
+decreases-loop-end g l = length l.rest
