@@ -25,7 +25,7 @@ TOP = Path(__file__).resolve().parent.parent
 DOCUMENTS = [TOP / "README.md", *sorted((TOP / "docs").glob("*.md"))]
 BLOCK = re.compile(r"^```(\w+)\n(.*?)^```$", re.M | re.S)
 COUNT = re.compile(r"^(\| `(crates/[\w/.]+)` \| )(\d+)( \|)", re.M)
-LINK = re.compile(r"\]\(([^)#]+)[^)]*\)|`(docs/[A-Z]+\.md|tools/\w+\.\w+|clients/[\w/]+\.py)`")
+LINK = re.compile(r"\]\(([^)#]+)[^)]*\)|^\[.+\]: (\S+)$|`(docs/[A-Z]+\.md|tools/\w+\.\w+|clients/[\w/]+\.py)`", re.M)
 
 
 class Run:
@@ -104,8 +104,8 @@ def is_tested(code):
 
 def dead_links(document):
     for found in LINK.finditer(document.read_text()):
-        name = found[1] or found[2]
-        file = (document.parent / name) if found[1] else TOP / name
+        name = found[1] or found[2] or found[3]
+        file = TOP / name if found[3] else document.parent / name
         if "://" not in name and not file.exists():
             yield f"{document.relative_to(TOP)}: no file {name}"
 
