@@ -15,7 +15,6 @@ writes these anew.
 import difflib
 import os
 import re
-import shutil
 import subprocess
 import sys
 import tempfile
@@ -91,7 +90,6 @@ def run_blocks(document, altctl):
             elif kind != "text" and not (kind == "rust" and is_tested(body)):
                 run.compare(where, [f"a block that can be run, and no {kind}"], [])
             count += kind in ("console", "sh", "python")
-        shutil.rmtree(f"{folder}/bin")
     return count, run.differences
 
 

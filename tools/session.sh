@@ -579,13 +579,17 @@ altctl: high could not be built
 END
 builds refused 1
 
-sed -n 1,2p faults >faults.interrupted
+{
+    sed -n 1,2p faults
+    echo 'altctl: interrupted: the next start goes on with high'
+} >faults.interrupted
 mv faults.interrupted faults
 builds interrupted 143
 
 session_stops=
 echo 'started with --help' >output
 echo 'altctl run -- --help' >>calls
+sed -i '$d' faults
 cat >>faults <<'END'
 altctl: 3 of 3: altctl .., TIME gone
 altctl: built, TIME gone
