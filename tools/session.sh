@@ -579,6 +579,13 @@ altctl: high could not be built
 END
 builds refused 1
 
+printf '%s\n' 'altctl: it is not built yet, and rt, the command of the Rattle toolchain that builds it, is not found' >faults.due
+mkdir built/tools
+for name in dirname readlink find; do ln -s "$(command -v "$name")" built/tools/; done
+came=0
+PATH=$work/built/tools /bin/sh built/altctl --help >output.came 2>faults.came || came=$?
+compare 'no rt: standard error' faults.due faults.came
+
 {
     sed -n 1,2p faults
     echo 'altctl: interrupted: the next start goes on with high'

@@ -141,6 +141,7 @@ class StoreTests(unittest.TestCase):
     def test_one_process_at_a_time(self):
         with self.open():
             self.assertRaises(BlockingIOError, self.open)
+            self.assertEqual(1, subprocess.run(["flock", "-n", self.file, "true"]).returncode)
         self.open().close()
 
     def test_the_example(self):
