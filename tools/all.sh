@@ -24,7 +24,10 @@ try() {
 # The program is built before the time of a script is taken.
 "$tools/../altctl" --help >/dev/null || { echo 'all: altctl could not be built'; exit 1; }
 try 120 uncited.py
+try 60 pictures.py --check
+try 300 documents.py
 try 300 session.sh
+try 120 ../clients/python/test_altctl.py
 try 300 space.py
 try 600 failing_device.py
 try 600 compare.py -n 60

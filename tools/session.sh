@@ -514,38 +514,126 @@ cp spelled before
 program 'run over a limit' 3 run spelled
 compare 'run over a limit: the file' before spelled
 
-# A build that fails, and one that is interrupted: `rt` is a script here, which waits and then fails.
-mkdir -p built/crates/altctl built/bin built/tmp
+# A build that is refused, one that is interrupted, and one that goes on from there: `rt` is a script here, which stops
+# at a crate until it may go on, and is refused there then.
+mkdir -p built/crates/low built/crates/high built/crates/altctl built/bin built/tmp
 cp "$script" built/altctl
-: >built/crates.txt
+printf 'altctl: high clap # the program\nhigh: low\nlow:\nother: low\n' >built/crates.txt
 cat >built/bin/rt <<'END'
 #!/bin/sh
-: >"$session_begun"
-until [ -e "$session_go" ]; do sleep 1; done
-exit 1
+crate=$(basename "$PWD")
+echo "$crate $*" >>"$session_calls"
+if [ "$crate" = "$session_stops" ]; then
+    echo $$ >"$session_pid"
+    mktemp >/dev/null
+    : >"$session_begun"
+    until [ -e "$session_go" ]; do sleep 1; done
+    echo 'a proof is missing'
+    exit 1
+fi
+if [ "$crate" = altctl ]; then
+    mkdir -p out
+    printf '#!/bin/sh\necho "started with $*"\n' >out/altctl
+    chmod +x out/altctl
+fi
 END
 chmod +x built/bin/rt
-export session_begun="$work/built/begun" session_go="$work/built/go"
+export session_begun="$work/built/begun" session_go="$work/built/go" session_pid="$work/built/pid"
+export session_calls="$work/built/calls" session_stops=high
 
-# Starts that script, and interrupts it where the first word says so. Compares its status with the second.
+# Starts that script, and interrupts it where the first word says so. Compares its status with the second, its output
+# with `output`, its standard error with `faults`, and the calls of `rt` with `calls`. Nothing of the build may be left.
 builds() {
-    rm -f "$session_begun" "$session_go"
-    PATH=$work/built/bin:$PATH TMPDIR=$work/built/tmp built/altctl --help >output.came 2>faults.came &
-    until [ -e "$session_begun" ]; do sleep 1; done
-    [ "$1" != interrupted ] || kill -TERM $!
-    : >"$session_go"
+    rm -f "$session_begun" "$session_go" "$session_calls" "$session_pid"
+    PATH=$work/built/bin:$PATH TMPDIR=$work/built/tmp built/altctl --help >output.came 2>faults.all &
+    if [ "$session_stops" = high ]; then
+        until [ -e "$session_begun" ]; do sleep 1; done
+        [ "$1" != interrupted ] || kill -TERM $!
+        [ "$1" = interrupted ] || : >"$session_go"
+    fi
     echo "$2" >status
     came=0
     wait $! || came=$?
     echo "$came" >status.came
     compare "a build that is $1: status" status status.came
+    compare "a build that is $1: output" output output.came
+    sed 's/[0-9]*:[0-9][0-9] gone/TIME gone/; /^altctl: building/d' faults.all >faults.came
+    compare "a build that is $1: standard error" faults faults.came
+    compare "a build that is $1: calls of rt" calls "$session_calls"
     : >none
     ls built/tmp >left
     compare "a build that is $1: temporary files" none left
+    if [ -e "$session_pid" ] && kill -0 "$(cat "$session_pid")" 2>/dev/null; then
+        echo "a build that is $1: rt still runs"
+        differences=$((differences + 1))
+    fi
 }
 
+: >output
+printf 'low lib\nhigh lib\n' >calls
+cat >faults <<'END'
+altctl: 1 of 3: low .., TIME gone
+altctl: 2 of 3: high .., TIME gone
+a proof is missing
+altctl: high could not be built
+END
 builds refused 1
+
+printf '%s\n' 'altctl: it is not built yet, and rt, the command of the Rattle toolchain that builds it, is not found' >faults.due
+mkdir built/tools
+for name in dirname readlink find; do ln -s "$(command -v "$name")" built/tools/; done
+came=0
+PATH=$work/built/tools /bin/sh built/altctl --help >output.came 2>faults.came || came=$?
+compare 'no rt: standard error' faults.due faults.came
+
+{
+    sed -n 1,2p faults
+    echo 'altctl: interrupted: the next start goes on with high'
+} >faults.interrupted
+mv faults.interrupted faults
 builds interrupted 143
+
+session_stops=
+echo 'started with --help' >output
+echo 'altctl run -- --help' >>calls
+sed -i '$d' faults
+cat >>faults <<'END'
+altctl: 3 of 3: altctl .., TIME gone
+altctl: built, TIME gone
+END
+builds whole 0
+
+: >calls
+: >faults
+: >"$session_calls"
+PATH=$work/built/bin:$PATH built/altctl --help >output.came 2>faults.came
+compare 'a start after the build: output' output output.came
+compare 'a start after the build: standard error' faults faults.came
+compare 'a start after the build: calls of rt' calls "$session_calls"
+
+# --- the script that installs ------------------------------------------------------------------------
+
+for prefix in installed 'installed here/too'; do
+    printf 'install: %s\n' "$prefix/bin/altctl" "$prefix/share/man/man1/altctl.1" "$prefix/bin is not in PATH yet" >output
+    came=0
+    "$tools/install.sh" "$prefix" >output.came || came=$?
+    compare "install into $prefix: output" output output.came
+    compare "install into $prefix: the program" "$tools/../crates/altctl/out/altctl" "$prefix/bin/altctl"
+    compare "install into $prefix: the page" "$tools/../docs/altctl.1" "$prefix/share/man/man1/altctl.1"
+    ls "$prefix/bin" "$prefix/share/man/man1" | grep -c 'new$' >left || :
+    echo 0 >none
+    compare "install into $prefix: temporary files" none left
+done
+altctl=installed/bin/altctl
+create made 64
+session 'the installed program' made <<'END'
+> free
+free 30
+END
+came=0
+"$tools/install.sh" one two >output.came 2>&1 || came=$?
+echo 'usage: tools/install.sh [PREFIX]' >output
+compare 'install with two words' output output.came
 
 if [ "$differences" -gt 0 ]; then
     echo "session: $differences differences"

@@ -1,0 +1,234 @@
+"""A store of Zonegrater from Python: `Store` starts `altctl run FILE`, writes lines to it and reads its answers.
+
+    with Store("map.alt") as store:
+        store.new("north", "top")
+        store.put("north", 7, 1, b"duct")
+        store.commit()
+
+Values are bytes, names are texts, and a key is a table and a number. What was not committed is gone at the end of
+the `with`. docs/FORMATS.md has the lines and their answers, docs/OPERATING.md what helps where one is refused.
+"""
+import fcntl
+import re
+import subprocess
+import tempfile
+from collections import deque
+from typing import NamedTuple, Optional
+
+
+class Refusal(Exception):
+    """A line that was refused: `error NUMBER NAME`, and behind it a count, a block or a key, where it has one."""
+
+    def __init__(self, number, name, detail=""):
+        super().__init__(f"{number} {name} {detail}".rstrip())
+        self.number, self.name, self.detail = number, name, detail
+
+
+class Ended(Exception):
+    """The program ended before its input did, or with a status other than 0. What was committed is in the file."""
+
+    def __init__(self, status, said):
+        super().__init__(f"altctl ended with status {status}: {said.strip()}")
+        self.status, self.said = status, said
+
+
+class Record(NamedTuple):
+    table: int
+    number: int
+    value: bytes
+
+
+class Change(NamedTuple):
+    """A record that an alternative has changed since its base. None stands for no value."""
+
+    table: int
+    number: int
+    before: Optional[bytes]
+    after: Optional[bytes]
+
+
+class Conflict(NamedTuple):
+    """A record that an alternative and its parent changed to different values."""
+
+    table: int
+    number: int
+    base: Optional[bytes]
+    parent: Optional[bytes]
+    mine: Optional[bytes]
+
+
+class Alternative(NamedTuple):
+    name: str
+    parent: Optional[str]
+
+
+def encode(value):
+    """A value as a word of a line."""
+    if value in (b"", b"-"):
+        return "%2D" if value else "-"
+    return "".join(chr(it) if 0x21 <= it <= 0x7D and it != 0x25 else f"%{it:02X}" for it in value)
+
+
+def decode(word):
+    """The value that a word of an answer spells, or None for `~`."""
+    if word in ("~", "-"):
+        return None if word == "~" else b""
+    return re.sub(rb"%([0-9A-F]{2})", lambda it: bytes([int(it[1], 16)]), word.encode("ascii"))
+
+
+class Rows:
+    """The rows of one answer. They are read as they are asked for; before the next line is written, the rest is."""
+
+    def __init__(self, read, first, make):
+        self._read, self._make, self._waiting, self._is_whole = read, make, deque(), False
+        self._take(first)
+
+    def _take(self, words):
+        if words[0] == "end":
+            self._is_whole = True
+        else:
+            self._waiting.append(self._make(words[1:]))
+
+    def read_rest(self):
+        while not self._is_whole:
+            self._take(self._read())
+
+    def __iter__(self):
+        return self
+
+    def __next__(self):
+        if not self._waiting and not self._is_whole:
+            self._take(self._read())
+        if not self._waiting:
+            raise StopIteration
+        return self._waiting.popleft()
+
+
+class Store:
+    """An open store. Its file is locked (`flock`) as long as the program runs: a second one raises BlockingIOError."""
+
+    def __init__(self, file, program="altctl", cache=None):
+        words = [program, "run", *([] if cache is None else ["--cache", str(cache)]), str(file)]
+        self._rows = None
+        with open(file, "rb") as lock:
+            fcntl.flock(lock, fcntl.LOCK_EX | fcntl.LOCK_NB)
+            self._faults = tempfile.TemporaryFile("w+")
+            how = {"pass_fds": [lock.fileno()], "stderr": self._faults, "encoding": "ascii"}
+            self._program = subprocess.Popen(words, stdin=subprocess.PIPE, stdout=subprocess.PIPE, **how)
+        try:
+            self.free()
+        except BaseException:
+            self.close(quietly=True)
+            raise
+
+    def __enter__(self):
+        return self
+
+    def __exit__(self, kind, *_):
+        self.close(quietly=kind is not None)
+
+    def close(self, quietly=False):
+        """Ends the program. Raises Ended where its status is not 0, unless that is to be ignored."""
+        if self._faults.closed:
+            return
+        try:
+            self._program.communicate()
+        finally:
+            self._faults.seek(0)
+            said = self._faults.read()
+            self._faults.close()
+        if self._program.returncode and not quietly:
+            raise Ended(self._program.returncode, said)
+
+    def _read(self):
+        line = self._program.stdout.readline()
+        if line.endswith("\n"):
+            return line.split()
+        self.close()
+        raise Ended(self._program.returncode, "its output ended")
+
+    def _ask(self, *words):
+        """Writes a line, and gives the words of the first line of its answer."""
+        words = [str(it) for it in words]
+        if self._faults.closed or not all(re.fullmatch("[!-~]+", it) for it in words):
+            raise ValueError("the store is closed" if self._faults.closed else f"not the words of a line: {words}")
+        if self._rows:
+            self._rows.read_rest()
+            self._rows = None
+        try:
+            self._program.stdin.write(" ".join(words) + "\n")
+            self._program.stdin.flush()
+        except BrokenPipeError:
+            pass  # The program has ended, which the read below tells.
+        answer = self._read()
+        if answer[0] == "error":
+            raise Refusal(int(answer[1]), answer[2], " ".join(answer[3:]))
+        return answer
+
+    def _list(self, make, *words):
+        self._rows = Rows(self._read, self._ask(*words), make)
+        return self._rows
+
+    def put(self, alt, table, number, value):
+        self._ask("put", alt, table, number, encode(value))
+
+    def get(self, alt, table, number):
+        """The value of a record, or None."""
+        answer = self._ask("get", alt, table, number)
+        return decode(answer[1]) if answer[0] == "value" else None
+
+    def remove(self, alt, table, number):
+        self._ask("remove", alt, table, number)
+
+    def list(self, alt):
+        """All records of an alternative, by table and then by number."""
+        return self._list(lambda words: Record(*map(int, words[:2]), decode(words[2])), "list", alt)
+
+    def new(self, name, parent):
+        self._ask("new", name, parent)
+
+    def drop(self, alt):
+        self._ask("drop", alt)
+
+    def checkpoint(self, alt, name):
+        self._ask("checkpoint", alt, name)
+
+    def uncheck(self, alt, name):
+        self._ask("uncheck", alt, name)
+
+    def back(self, alt, name):
+        self._ask("back", alt, name)
+
+    def changes(self, alt):
+        """What the alternative has changed since its base, as Change rows."""
+        return self._list(lambda words: Change(*map(int, words[:2]), *map(decode, words[2:])), "changes", alt)
+
+    def conflicts(self, alt):
+        """What a merge of the alternative has to settle, as Conflict rows."""
+        return self._list(lambda words: Conflict(*map(int, words[:2]), *map(decode, words[2:])), "conflicts", alt)
+
+    def merge(self, alt, settlements=None):
+        """Brings in what changed in the parent, and gives how many records that changed. Settlements are a dict from
+        (table, number) to "mine" or "theirs", one for each conflict."""
+        words = [f"{table}:{number}={side}" for (table, number), side in (settlements or {}).items()]
+        return int(self._ask("merge", alt, *words)[1])
+
+    def post(self, alt):
+        self._ask("post", alt)
+
+    def commit(self):
+        self._ask("commit")
+
+    def reclaim(self):
+        self._ask("reclaim")
+
+    def free(self):
+        """The number of free blocks."""
+        return int(self._ask("free")[1])
+
+    def alternatives(self):
+        return self._list(lambda words: Alternative(words[0], None if words[1] == "~" else words[1]), "alts")
+
+    def checkpoints(self, alt):
+        """The names of an alternative's checkpoints."""
+        return self._list(lambda words: words[0], "checks", alt)

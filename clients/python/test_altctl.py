@@ -1,0 +1,163 @@
+#!/usr/bin/env python3
+"""Tests of the module `altctl` over real files: `test_altctl.py`, with the program's path in the variable ALTCTL, or
+else with the one that `./altctl` at the top builds."""
+import io
+import os
+import subprocess
+import sys
+import tempfile
+import unittest
+from contextlib import redirect_stdout
+from pathlib import Path
+
+sys.dont_write_bytecode = True
+HERE = Path(__file__).resolve().parent
+sys.path.insert(0, str(HERE))
+import example
+from altctl import Alternative, Change, Conflict, Ended, Record, Refusal, Store, decode, encode
+
+ALTCTL = os.environ.get("ALTCTL", str(HERE.parent.parent / "altctl"))
+
+
+class StoreTests(unittest.TestCase):
+    def setUp(self):
+        folder = tempfile.TemporaryDirectory()
+        self.addCleanup(folder.cleanup)
+        self.file = os.path.join(folder.name, "map.alt")
+        subprocess.run([ALTCTL, "create", self.file, "64"], check=True, stdout=subprocess.DEVNULL)
+
+    def open(self, **how):
+        return Store(self.file, ALTCTL, **how)
+
+    def refused(self, number, name, detail, call, *words):
+        with self.assertRaises(Refusal) as came:
+            call(*words)
+        self.assertEqual((number, name, detail), (came.exception.number, came.exception.name, came.exception.detail))
+
+    def test_a_record_is_there_after_a_commit(self):
+        with self.open() as store:
+            store.put("top", 7, 1, b"duct")
+            store.commit()
+            store.put("top", 7, 2, b"pipe")
+        with self.open(cache=0) as store:
+            self.assertEqual(b"duct", store.get("top", 7, 1))
+            self.assertIsNone(store.get("top", 7, 2))
+            self.assertEqual(29, store.free())
+
+    def test_each_byte_comes_back(self):
+        values = [bytes(range(240)), bytes(range(16, 256)), b"", b"-", b"%2D", b"~", "Straße 7".encode(), b" a b "]
+        with self.open() as store:
+            for number, value in enumerate(values):
+                store.put("top", 65535, 2**64 - 1 - number, value)
+            self.assertEqual(values[::-1], [it.value for it in store.list("top")])
+            self.refused(22, "BadLine", "", store.put, "top", 1, 1, bytes(241))
+
+    def test_words_of_values(self):
+        words = {b"": "-", b"-": "%2D", b"~": "%7E", b"a}": "a}", b"%": "%25", b"a A": "a%20A", b"\xff\n": "%FF%0A"}
+        self.assertEqual(words, {value: encode(value) for value in words})
+        self.assertEqual(list(words), [decode(word) for word in words.values()])
+        self.assertIsNone(decode("~"))
+
+    def test_a_design_is_settled_and_posted(self):
+        with self.open() as store:
+            store.put("top", 7, 1, b"duct")
+            store.new("a", "top")
+            store.put("top", 7, 1, b"pipe")
+            store.put("a", 7, 1, b"cable A")
+            store.put("top", 7, 2, b"hose")
+            self.assertEqual([Alternative("top", None), Alternative("a", "top")], list(store.alternatives()))
+            self.assertEqual([Change(7, 1, b"duct", b"cable A")], list(store.changes("a")))
+            self.assertEqual([Conflict(7, 1, b"duct", b"pipe", b"cable A")], list(store.conflicts("a")))
+            self.refused(8, "NotMerged", "", store.post, "a")
+            self.refused(9, "Unsettled", "1", store.merge, "a")
+            self.refused(10, "NotInConflict", "7:2", store.merge, "a", {(7, 2): "mine"})
+            # One change asks for 16 spare blocks, and 1 record changes here: the one that came in from top.
+            self.assertEqual(1, store.merge("a", {(7, 1): "mine"}))
+            store.post("a")
+            self.assertEqual([Record(7, 1, b"cable A"), Record(7, 2, b"hose")], list(store.list("top")))
+            self.assertEqual([], list(store.changes("a")))
+
+    def test_a_checkpoint_is_gone_back_to(self):
+        with self.open() as store:
+            store.put("top", 1, 1, b"a")
+            store.checkpoint("top", "before")
+            store.remove("top", 1, 1)
+            self.assertEqual([], list(store.list("top")))
+            store.back("top", "before")
+            self.assertEqual(b"a", store.get("top", 1, 1))
+            self.assertEqual(["before"], list(store.checkpoints("top")))
+            store.uncheck("top", "before")
+            self.refused(3, "NoSuchCheckpoint", "", store.back, "top", "before")
+            self.refused(5, "NoSuchRecord", "", store.remove, "top", 1, 2)
+
+    def test_alternatives_come_and_go(self):
+        with self.open() as store:
+            store.new("a", "top")
+            self.refused(2, "AlternativeExists", "", store.new, "a", "top")
+            store.new("b", "a")
+            self.refused(7, "HasChildren", "", store.drop, "a")
+            store.drop("b")
+            store.drop("a")
+            self.refused(1, "NoSuchAlternative", "", store.list, "a")
+            self.refused(6, "IsTop", "", store.conflicts, "top")
+            store.reclaim()
+            self.assertEqual(30, store.free())
+
+    def test_rows_stay_whole_where_other_lines_come_between(self):
+        with self.open() as store:
+            for number in range(40):
+                store.put("top", 1, number, b"%d" % number)
+            seen = []
+            for record in store.list("top"):
+                store.put("top", 1, record.number, b"new")
+                seen.append(record)
+            self.assertEqual([Record(1, number, b"%d" % number) for number in range(40)], seen)
+            self.assertEqual({b"new"}, {it.value for it in store.list("top")})
+
+    def test_what_is_no_word_is_not_written(self):
+        with self.open() as store:
+            for name in ("", "a b", "a\ncommit", "ä"):
+                self.assertRaises(ValueError, store.new, name, "top")
+            self.assertEqual(30, store.free())
+        self.assertRaises(ValueError, store.free)
+
+    def test_a_program_that_ends_early_is_an_error(self):
+        with self.assertRaises(Ended) as came, self.open() as store:
+            store.put("top", 1, 1, b"a")
+            store._program.kill()
+            store.commit()
+        self.assertEqual(-9, came.exception.status)
+        with self.open() as store:
+            self.assertEqual([], list(store.list("top")))
+
+    def test_a_file_that_is_no_store_is_an_error(self):
+        with open(self.file, "wb") as it:
+            it.write(bytes(64 * 4096))
+        with self.assertRaises(Ended) as came:
+            self.open()
+        self.assertEqual((1, "altctl: 19 NotAStore\n"), (came.exception.status, came.exception.said))
+        self.assertRaises(FileNotFoundError, Store, self.file + ".none", ALTCTL)
+
+    def test_one_process_at_a_time(self):
+        with self.open():
+            self.assertRaises(BlockingIOError, self.open)
+            self.assertEqual(1, subprocess.run(["flock", "-n", self.file, "true"]).returncode)
+        self.open().close()
+
+    def test_the_example(self):
+        due = [
+            "refused: 9 Unsettled 1",
+            "7:1 is b'duct 160 PVC' here, and b'duct 125 PVC' in the parent",
+            "merged: 1 record changed",
+            "7 1 duct 160 PVC",
+            "7 2 duct 110 PVC",
+            "7 3 duct 50 HDPE",
+        ]
+        came, sys.argv = io.StringIO(), ["example.py", self.file, ALTCTL]
+        with redirect_stdout(came):
+            example.main()
+        self.assertEqual(due, came.getvalue().splitlines())
+
+
+if __name__ == "__main__":
+    unittest.main()

@@ -1,0 +1,156 @@
+#!/usr/bin/env python3
+"""Runs the sessions and programs that the documents show, and compares what comes with what they say:
+`tools/documents.py [--counts] [ALTCTL]`. Where something differs, it says what was expected and what came, and ends
+with status 1.
+
+In a block `console`, a line after `$ ` is a command of the shell; the lines after `> ` below it are its input, and all
+others are what it prints. A block `sh` or `python` is a program as it stands, and the block `text` right below it is
+what it prints. The blocks of one document run in one folder, one after another, with the program as `altctl` and
+`./altctl`.
+
+It also looks whether links lead to files, whether each refusal has a row of advice, whether the README shows the
+library's function as it is tested, and whether a row `| FILE | COUNT |` tells how many lines that file has. `--counts`
+writes these anew.
+"""
+import difflib
+import os
+import re
+import subprocess
+import sys
+import tempfile
+from pathlib import Path
+
+TOP = Path(__file__).resolve().parent.parent
+DOCUMENTS = [TOP / "README.md", *sorted((TOP / "docs").glob("*.md"))]
+BLOCK = re.compile(r"^```(\w+)\n(.*?)^```$", re.M | re.S)
+COUNT = re.compile(r"^(\| `(crates/[\w/.]+)` \| )(\d+)( \|)", re.M)
+LINK = re.compile(r"\]\(([^)#]+)[^)]*\)|^\[.+\]: (\S+)$|`(docs/[A-Z]+\.md|tools/\w+\.\w+|clients/[\w/]+\.py)`", re.M)
+
+
+class Run:
+    """The folder of one document, and the commands that run in it."""
+
+    def __init__(self, altctl, folder):
+        self.folder, self.status, self.differences = folder, 0, 0
+        os.mkdir(f"{folder}/bin")
+        for link in (f"{folder}/bin/altctl", f"{folder}/altctl"):
+            os.symlink(altctl, link)
+        path = f"{folder}/bin{os.pathsep}{os.environ['PATH']}"
+        python = {"PYTHONPATH": str(TOP / "clients" / "python"), "PYTHONDONTWRITEBYTECODE": "1"}
+        self.environment = {**os.environ, **python, "PATH": path, "LC_ALL": "C.UTF-8"}
+
+    def start(self, words, lines):
+        text = "".join(f"{it}\n" for it in lines)
+        how = {"stdout": subprocess.PIPE, "stderr": subprocess.STDOUT, "text": True, "timeout": 300}
+        ran = subprocess.run(words, input=text, cwd=self.folder, env=self.environment, **how)
+        self.status = ran.returncode
+        return ran.stdout.splitlines()
+
+    def compare(self, what, due, came):
+        if due != came:
+            self.differences += 1
+            print(f"{what}: expected (-) and came (+):")
+            print(*(f"    {it}" for it in list(difflib.unified_diff(due, came, lineterm="", n=1))[2:42]), sep="\n")
+
+    def session(self, where, text):
+        """A block `console`."""
+        commands = []
+        for line in text.splitlines():
+            if line.startswith("$ "):
+                commands.append((line[2:], [], []))
+            elif line == ">" or line.startswith("> "):
+                commands[-1][1].append(line[2:])
+            else:
+                commands[-1][2].append(line)
+        for command, lines, due in commands:
+            came = self.start(["sh", "-c", f"(exit {self.status}); {command}"], lines)
+            self.compare(f"{where}: $ {command}", due, came)
+
+    def program(self, where, kind, text, due):
+        file = f"{self.folder}/program.{kind}"
+        Path(file).write_text(text)
+        came = self.start([sys.executable if kind == "python" else "sh", file], [])
+        self.compare(where, due, came)
+
+
+def run_blocks(document, altctl):
+    """Runs the blocks of a document, and gives how many there are, and how many outputs differ."""
+    text = document.read_text()
+    blocks = [(it[1], it[2], text.count("\n", 0, it.start()) + 1, it.start(), it.end()) for it in BLOCK.finditer(text)]
+    count = 0
+    with tempfile.TemporaryDirectory() as folder:
+        run = Run(altctl, folder)
+        for n, (kind, body, line, _, end) in enumerate(blocks):
+            where = f"{document.relative_to(TOP)}:{line}"
+            if kind == "console":
+                run.session(where, body)
+            elif kind in ("sh", "python"):
+                shown = n + 1 < len(blocks) and blocks[n + 1][0] == "text" and not text[end : blocks[n + 1][3]].strip()
+                run.program(where, kind, body, blocks[n + 1][1].splitlines() if shown else [])
+            elif kind != "text" and not (kind == "rust" and is_tested(body)):
+                run.compare(where, [f"a block that can be run, and no {kind}"], [])
+            count += kind in ("console", "sh", "python")
+    return count, run.differences
+
+
+def is_tested(code):
+    """Whether a test of the repository has just these lines."""
+    lines = [it for it in code.splitlines() if not it.startswith("use ")]
+    tests = (TOP / "crates/store_tests/src/tests/library.rt").read_text()
+    return "\n".join(lines).strip() in tests
+
+
+def dead_links(document):
+    for found in LINK.finditer(document.read_text()):
+        name = found[1] or found[2] or found[3]
+        file = TOP / name if found[3] else document.parent / name
+        if "://" not in name and not file.exists():
+            yield f"{document.relative_to(TOP)}: no file {name}"
+
+
+def wrong_counts(document, writes):
+    """The rows whose count of lines is wrong. They are mended where that is asked for."""
+    text, wrong = document.read_text(), []
+
+    def mended(found):
+        file = TOP / found[2]
+        count = len(file.read_text().splitlines()) if file.exists() else 0
+        if count != int(found[3]):
+            wrong.append(f"{document.relative_to(TOP)}: {found[2]} has {count} lines, and not {found[3]}")
+        return f"{found[1]}{count}{found[4]}"
+
+    whole = COUNT.sub(mended, text)
+    if writes and wrong:
+        document.write_text(whole)
+        return []
+    return wrong
+
+
+def missing_refusals():
+    """The refusals, 1 to 23, that have no row of advice in docs/OPERATING.md."""
+    rows = [it for it in (TOP / "docs" / "OPERATING.md").read_text().splitlines() if it.startswith("| `")]
+    told = {int(it) for row in rows for it in re.findall(r"`(\d+) [A-Z]\w+", row.split(" | ")[0])}
+    return [f"docs/OPERATING.md: no advice on refusal {it}" for it in range(1, 24) if it not in told]
+
+
+def main():
+    words = [it for it in sys.argv[1:] if it != "--counts"]
+    altctl = os.path.abspath((words or [TOP / "altctl"])[0])
+    faults = [*missing_refusals()]
+    for document in DOCUMENTS:
+        faults += [*dead_links(document), *wrong_counts(document, "--counts" in sys.argv[1:])]
+    for it in faults:
+        print(it)
+    count = differences = 0
+    for document in DOCUMENTS:
+        here, different = run_blocks(document, altctl)
+        count, differences = count + here, differences + different
+    if faults or differences:
+        print(f"documents: {len(faults)} faults, and {differences} differences in {count} blocks")
+        return 1
+    print(f"documents: {count} blocks ran as they are shown")
+    return 0
+
+
+if __name__ == "__main__":
+    sys.exit(main())
