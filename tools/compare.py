@@ -246,7 +246,10 @@ class Store:
             parent = self.find(rest[1])
             if any(it.tag == b"A" and it.name == rest[0] for it in self.working):
                 raise Refused(2)
-            self.add(b"A", rest[0], rest[1], parent.current, parent.current)
+            shown = self.checkpoint_of(rest[1], rest[2]) if rest[2:] else parent
+            if not shown:
+                raise Refused(3)
+            self.add(b"A", rest[0], rest[1], shown.current, shown.current)
         elif verb == "drop":
             it = self.find(rest[0])
             if rest[0] == "top":
@@ -519,7 +522,7 @@ class Editor:
 
     def odd(self):
         bad = ["PUT top 1 1 a", "get top x 1", "get top 65536 1", "get top 1 18446744073709551616", "commit now", "put top 1 1", "put top 1 1 %z1"]
-        bad += ["put top 1 1 " + "x" * 241, "new a", "new a~ top", "new " + "n" * 33 + " top", "merge", "merge top 1:1=ours", "get\ttop 1 1", "free\r\r"]
+        bad += ["put top 1 1 " + "x" * 241, "new a", "new a~ top", "new a top c!", "new a top c d", "new " + "n" * 33 + " top", "merge", "merge top 1:1=ours", "get\ttop 1 1", "free\r\r"]
         if self.rng.random() < 0.3:
             return self.rng.choice(["", "# note", "   ", "  #x"]) + "\n", None
         return self.rng.choice(bad) + "\n", "error 22 BadLine"
@@ -537,7 +540,7 @@ class Editor:
             verb = self.rng.choice(["remove", "remove", "get"])
             return self.spaced([verb, name, str(key[0]), str(key[1])]), [verb, name, key]
         if draw < 0.70:
-            words = ["new", self.rng.choice(self.names), name]
+            words = ["new", self.rng.choice(self.names), name, *self.rng.sample(self.marks, self.rng.randrange(2))]
         elif draw < 0.72:
             words = ["drop", name]
         elif draw < 0.79:

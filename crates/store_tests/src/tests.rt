@@ -7,6 +7,7 @@ mod failing;
 mod library;
 mod listing;
 mod merging;
+mod new_at;
 mod posting;
 mod reclaiming;
 mod removing;

@@ -118,6 +118,7 @@ fn shows_all_lines(rt: HostRuntime) -> Result<(), Fail> {
     }
     for line in [
         "new NAME PARENT",
+        "new NAME PARENT CHECKPOINT",
         "drop ALT",
         "put ALT TABLE NUMBER VALUE",
         "remove ALT TABLE NUMBER",

@@ -259,6 +259,63 @@ fn lists_changes_and_merges(rt: HostRuntime) -> Result<(), Fail> {
     Ok(())
 }
 
+/// Lines of an alternative that begins at a checkpoint of its parent.
+const CHECKPOINTED: &[u8] = b"\
+put top 1 1 x\n\
+checkpoint top c\n\
+put top 1 1 z\n\
+new a top c\n\
+get a 1 1\n\
+changes a\n\
+post a\n\
+merge a\n\
+get a 1 1\n\
+post a\n\
+new b top q\n\
+new a top q\n\
+new b nope c\n\
+list top\n\
+list a\n\
+uncheck top c\n\
+reclaim\n\
+list top\n\
+list a\n\
+alts\n";
+
+const CHECKPOINTED_ANSWERS: &[u8] = b"\
+ok\n\
+ok\n\
+ok\n\
+ok\n\
+value x\n\
+end 0\n\
+error 8 NotMerged\n\
+ok 1\n\
+value z\n\
+ok\n\
+error 3 NoSuchCheckpoint\n\
+error 2 AlternativeExists\n\
+error 1 NoSuchAlternative\n\
+record 1 1 z\n\
+end 1\n\
+record 1 1 z\n\
+end 1\n\
+ok\n\
+ok\n\
+record 1 1 z\n\
+end 1\n\
+record 1 1 z\n\
+end 1\n\
+alternative top ~\n\
+alternative a top\n\
+end 2\n";
+
+#[test]
+fn alternative_begins_at_a_checkpoint_of_its_parent(rt: HostRuntime) -> Result<(), Fail> {
+    answered(rt.alloc(), CHECKPOINTED)?.expect(&rt, 0, CHECKPOINTED_ANSWERS, b"");
+    Ok(())
+}
+
 /// Lines of merges and posts that are refused.
 const REFUSED: &[u8] = b"\
 new a top\n\
@@ -328,7 +385,8 @@ fn refuses_merges_and_posts(rt: HostRuntime) -> Result<(), Fail> {
 fn refuses_lines_with_too_few_or_too_many_words(rt: HostRuntime) -> Result<(), Fail> {
     for line in [
         b"new a\n".as_slice(),
-        b"new a top x\n",
+        b"new a top x y\n",
+        b"new a top x!\n",
         b"new a! top\n",
         b"drop\n",
         b"drop a b\n",
