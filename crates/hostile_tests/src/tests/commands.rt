@@ -1,12 +1,18 @@
-//! The list of commands that each run carries out.
+//! The lists of commands that runs carry out.
 use super::{Reply, name, top};
 use std::alloc::Global;
 use vm_types::{Answer, Command, Key, Settled, Value};
 
-/// How many commands there are. The last one is a Commit.
-pub const COMMANDS: u32 = 13;
+/// Which commands a run carries out. The last one is a Commit.
+#[derive(Clone, Copy, Debug, PartialEq, Eq)]
+pub enum Script {
+    /// `x` is made, changed, merged and posted, and `top` is changed after that.
+    Posted,
+    /// The same, and directly before the second Commit `y` begins at a checkpoint of `top`.
+    Branched,
+}
 
-/// How many device calls `format`, `open` and the commands make.
+/// How many device calls `format`, `open` and the commands make, whichever these are.
 pub const CALLS: u32 = 7 + 4 + 1 + 2 + 4 + 2 + 6 + 4 + 2 + 3 + 4;
 
 /// How many of these are writes or syncs.
@@ -34,8 +40,8 @@ pub(super) fn merge(alloc: Global) -> Command {
     }
 }
 
-/// The command of this number, from 0.
-pub(super) fn command(alloc: Global, n: u32) -> Command {
+// The command of this number, from 0, without those that make `y`.
+fn posted(alloc: Global, n: u32) -> Command {
     let (x, c) = (name(b"x"), name(b"c"));
     match n {
         0 => put(b"top", 1, b"a"),
@@ -58,26 +64,68 @@ pub(super) fn command(alloc: Global, n: u32) -> Command {
     }
 }
 
-/// Its answer.
-pub(super) fn answer(n: u32) -> Reply {
-    Ok(if n == 6 {
-        Answer::Merged(1)
-    } else {
-        Answer::Done
-    })
-}
-
-/// Whether it is a Commit.
-pub(super) fn is_commit(n: u32) -> bool {
-    matches!(n, 4 | 9 | 12)
-}
-
-/// How many commands are committed before it.
-pub(super) fn committed(n: u32) -> u32 {
+// The command of this number, from 0, with those that make `y`.
+fn branched(alloc: Global, n: u32) -> Command {
+    let k = name(b"k");
     match n {
-        0..=4 => 0,
-        5..=9 => 5,
-        10..=12 => 10,
-        _ => COMMANDS,
+        0..=8 => posted(alloc, n),
+        9 => Command::Checkpoint {
+            alt: top(),
+            name: k,
+        },
+        10 => Command::NewAt {
+            name: name(b"y"),
+            parent: top(),
+            checkpoint: k,
+        },
+        _ => posted(alloc, n.saturating_sub(2)),
+    }
+}
+
+impl Script {
+    /// How many commands are committed at first, and after each Commit.
+    pub(super) fn kept(self) -> [u32; 4] {
+        match self {
+            Script::Posted => [0, 5, 10, 13],
+            Script::Branched => [0, 5, 12, 15],
+        }
+    }
+
+    /// How many commands there are.
+    pub(super) fn count(self) -> u32 {
+        self.kept()[3]
+    }
+
+    /// The command of this number, from 0.
+    pub(super) fn command(self, alloc: Global, n: u32) -> Command {
+        match self {
+            Script::Posted => posted(alloc, n),
+            Script::Branched => branched(alloc, n),
+        }
+    }
+
+    /// The answer to the command of this number.
+    pub(super) fn answer(self, n: u32) -> Reply {
+        Ok(if n == 6 {
+            Answer::Merged(1)
+        } else {
+            Answer::Done
+        })
+    }
+
+    /// Whether the command of this number is a Commit.
+    pub(super) fn is_commit(self, n: u32) -> bool {
+        self.kept().contains(&n.saturating_add(1))
+    }
+
+    /// How many commands are committed before the one of this number.
+    pub(super) fn committed(self, n: u32) -> u32 {
+        let mut committed = 0;
+        for count in self.kept() {
+            if count <= n {
+                committed = count;
+            }
+        }
+        committed
     }
 }

@@ -1,5 +1,5 @@
 //! Runs of the commands on a device that fails one call, or stops, or both.
-use super::commands::{COMMANDS, answer, command, committed, is_commit};
+use super::commands::Script;
 use super::image::Image;
 use super::layers::Layer;
 use super::states::{Shown, shows};
@@ -40,9 +40,10 @@ pub struct Fault {
     pub then: Option<Shown>,
 }
 
-/// Where a run starts, and in which call the device fails.
+/// Which commands are run, from where on, and in which call the device fails.
 #[derive(Drop)]
 pub struct Scene {
+    pub script: Script,
     pub image: Image,
     pub from: Shown,
     pub fault: Option<Fault>,
@@ -61,26 +62,27 @@ pub struct Left {
 fn apply_from<D: Disk>(
     alloc: Global,
     store: &mut Store<D>,
+    script: Script,
     from: u32,
 ) -> Result<Option<Due>, Wrong> {
-    for n in from..COMMANDS {
-        let given = store.apply(&command(alloc, n));
+    for n in from..script.count() {
+        let given = store.apply(&script.command(alloc, n));
         if given == Err(Refusal::Device) {
             let after = store.apply(&Command::Commit);
             if after != Err(Refusal::Failed) {
                 return Err(Wrong::NotFailed(after));
             }
-            let last = Shown::After(committed(n));
+            let last = Shown::After(script.committed(n));
             return Ok(Some(Due {
                 last,
-                next: if is_commit(n) {
+                next: if script.is_commit(n) {
                     Shown::After(n.saturating_add(1))
                 } else {
                     last
                 },
             }));
         }
-        if given != answer(n) {
+        if given != script.answer(n) {
             return Err(Wrong::Answer(n, given));
         }
     }
@@ -91,10 +93,11 @@ fn apply_from<D: Disk>(
 fn look_and_apply<D: Disk>(
     alloc: Global,
     store: &mut Store<D>,
+    script: Script,
     from: u32,
 ) -> Result<Option<Due>, Wrong> {
-    match shows(alloc, store, from) {
-        Ok(true) => apply_from(alloc, store, from),
+    match shows(alloc, store, script, from) {
+        Ok(true) => apply_from(alloc, store, script, from),
         Ok(false) => Err(Wrong::State(from)),
         Err(Refusal::Device) => Ok(Some(Due::of(Shown::After(from)))),
         Err(refusal) => Err(Wrong::Refused(refusal)),
@@ -105,11 +108,12 @@ fn look_and_apply<D: Disk>(
 fn open_and_apply<D: Disk + Drop>(
     alloc: Global,
     disk: D,
+    script: Script,
     from: u32,
 ) -> Result<(D, Option<Due>), Wrong> {
     match open(alloc, disk) {
         Ok(mut store) => {
-            let due = look_and_apply(alloc, &mut store, from);
+            let due = look_and_apply(alloc, &mut store, script, from);
             let disk = store.close();
             Ok((disk, due?))
         }
@@ -119,13 +123,18 @@ fn open_and_apply<D: Disk + Drop>(
 }
 
 // Carries out the commands on a disk that shows this, and formats it where it is no store.
-fn go_on<D: Disk + Drop>(alloc: Global, disk: D, from: Shown) -> Result<(D, Option<Due>), Wrong> {
+fn go_on<D: Disk + Drop>(
+    alloc: Global,
+    disk: D,
+    script: Script,
+    from: Shown,
+) -> Result<(D, Option<Due>), Wrong> {
     let commands = match from {
-        Shown::After(commands) => return open_and_apply(alloc, disk, commands),
+        Shown::After(commands) => return open_and_apply(alloc, disk, script, commands),
         Shown::NoStore => 0,
     };
     match format(disk, BLOCKS) {
-        Ok(disk) => open_and_apply(alloc, disk, commands),
+        Ok(disk) => open_and_apply(alloc, disk, script, commands),
         Err((disk, Refusal::Device)) => {
             let last = Shown::NoStore;
             let next = Shown::After(0);
@@ -136,16 +145,21 @@ fn go_on<D: Disk + Drop>(alloc: Global, disk: D, from: Shown) -> Result<(D, Opti
 }
 
 // Opens a disk anew after a call failed, and goes on.
-fn resume<D: Disk + Drop>(alloc: Global, disk: D, from: Shown) -> Result<(D, Option<Due>), Wrong> {
+fn resume<D: Disk + Drop>(
+    alloc: Global,
+    disk: D,
+    script: Script,
+    from: Shown,
+) -> Result<(D, Option<Due>), Wrong> {
     if let Shown::After(_) = from {
-        return go_on(alloc, disk, from);
+        return go_on(alloc, disk, script, from);
     }
     match open(alloc, disk) {
         Ok(store) => {
             let _disk = store.close();
             Err(Wrong::Store)
         }
-        Err((disk, Refusal::NotAStore)) => go_on(alloc, disk, from),
+        Err((disk, Refusal::NotAStore)) => go_on(alloc, disk, script, from),
         Err((disk, Refusal::Device)) => Ok((disk, Some(Due::of(Shown::NoStore)))),
         Err((_, refusal)) => Err(Wrong::Refused(refusal)),
     }
@@ -165,10 +179,10 @@ pub(super) fn run<D: Layer>(
         None => FuseDisk::once(stopping, NEVER, *torn),
     };
     let disk = D::over(alloc, failing).ok_or(Wrong::Memory)?;
-    let (disk, due) = go_on(alloc, disk, scene.from)?;
+    let (disk, due) = go_on(alloc, disk, scene.script, scene.from)?;
     let then = scene.fault.and_then(|fault| fault.then);
     let (disk, due) = match then {
-        Some(then) => resume(alloc, disk, then)?,
+        Some(then) => resume(alloc, disk, scene.script, then)?,
         None => (disk, due),
     };
     let stopped = disk.below().into_inner();

@@ -1,5 +1,5 @@
-//! What the list of commands commits, and whether a store shows it.
-use super::commands::{key, merge, put};
+//! What a list of commands commits, and whether a store shows it.
+use super::commands::{Script, key, merge, put};
 use super::{Wrong, name, top};
 use std::alloc::Global;
 use vm_disk::{Disk, MemDisk};
@@ -9,7 +9,7 @@ use vm_types::{Answer, Change, Command, Key, Refusal, Value};
 /// The records of table 1.
 type Map = &'static [(u64, &'static [u8])];
 
-/// The alternative `x` under `top`, and whether it has a checkpoint `c` with the same two maps.
+/// An alternative under `top`, and whether it has a checkpoint `c` with the same two maps.
 #[derive(Clone, Copy)]
 struct Own {
     current: Map,
@@ -17,11 +17,13 @@ struct Own {
     saved: bool,
 }
 
-/// What is committed, and how many blocks are free once it was opened.
+/// What is committed of `top`, `x` and `y`, and how many blocks are free once it was opened. Where there
+/// is a `y`, `top` has the checkpoint `k`.
 #[derive(Clone, Copy)]
 struct State {
     top: Map,
     own: Option<Own>,
+    branch: Option<Own>,
     free: u32,
 }
 
@@ -55,14 +57,24 @@ const SAME: Own = Own {
 };
 
 // What this number of commands has committed.
-fn committed_by(commands: u32) -> State {
+fn committed_by(script: Script, commands: u32) -> State {
+    let [_, first, second, last] = script.kept();
     let (top, own, free) = match commands {
-        0 => (EMPTY, None, 30),
-        5 => (FIRST, Some(OWN), 28),
-        10 => (POSTED, Some(SAME), 29),
+        _ if commands < first => (EMPTY, None, 30),
+        _ if commands < second => (FIRST, Some(OWN), 28),
+        _ if commands < last => (POSTED, Some(SAME), 29),
         _ => (LAST, Some(SAME), 28),
     };
-    State { top, own, free }
+    let branch = match script {
+        Script::Branched if commands >= second => Some(SAME),
+        _ => None,
+    };
+    State {
+        top,
+        own,
+        branch,
+        free,
+    }
 }
 
 fn value_at(map: Map, number: u64) -> Option<Value> {
@@ -94,31 +106,65 @@ fn are_changes(changes: &[Change], before: Map, after: Map) -> bool {
     due.next().is_none()
 }
 
-// Whether `x` has these two maps, and is in no conflict with its parent.
-fn has_maps<D: Disk>(alloc: Global, store: &mut Store<D>, own: Own) -> Result<bool, Refusal> {
-    let x = name(b"x");
+// Whether an alternative has these two maps, and is in no conflict with its parent.
+fn has_maps<D: Disk>(
+    alloc: Global,
+    store: &mut Store<D>,
+    alt: &[u8],
+    own: Own,
+) -> Result<bool, Refusal> {
+    let alt = name(alt);
     Ok(
-        are_records(&store.list(alloc, &x)?, own.current)
-            && are_changes(&store.changes(alloc, &x)?, own.base, own.current)
-            && store.conflicts(alloc, &x)?.is_empty(),
+        are_records(&store.list(alloc, &alt)?, own.current)
+            && are_changes(&store.changes(alloc, &alt)?, own.base, own.current)
+            && store.conflicts(alloc, &alt)?.is_empty(),
     )
 }
 
+// Whether an alternative has just this checkpoint, or none.
+fn has_checkpoint<D: Disk>(
+    alloc: Global,
+    store: &Store<D>,
+    alt: &[u8],
+    saved: Option<&[u8]>,
+) -> Result<bool, Refusal> {
+    let checkpoints = store.checkpoints(alloc, &name(alt))?;
+    Ok(match saved {
+        Some(saved) => checkpoints.as_slice() == [name(saved)].as_slice(),
+        None => checkpoints.is_empty(),
+    })
+}
+
 // Whether the store lists just these alternatives and checkpoints.
-fn has_names<D: Disk>(alloc: Global, store: &Store<D>, own: Option<Own>) -> Result<bool, Refusal> {
-    let x = name(b"x");
+fn has_names<D: Disk>(alloc: Global, store: &Store<D>, state: State) -> Result<bool, Refusal> {
+    let all = [
+        (top(), None),
+        (name(b"x"), Some(top())),
+        (name(b"y"), Some(top())),
+    ];
     let alternatives = store.alternatives(alloc)?;
-    if !store.checkpoints(alloc, &top())?.is_empty() {
+    let Some(own) = state.own else {
+        return Ok(
+            alternatives.as_slice() == &all[..1] && has_checkpoint(alloc, store, b"top", None)?,
+        );
+    };
+    let saved = if own.saved {
+        Some(b"c".as_slice())
+    } else {
+        None
+    };
+    if !has_checkpoint(alloc, store, b"x", saved)? {
         return Ok(false);
     }
-    let Some(own) = own else {
-        return Ok(alternatives.as_slice() == [(top(), None)].as_slice());
-    };
-    let checkpoints = store.checkpoints(alloc, &x)?;
+    if state.branch.is_none() {
+        return Ok(
+            alternatives.as_slice() == &all[..2] && has_checkpoint(alloc, store, b"top", None)?,
+        );
+    }
     Ok(
-        alternatives.as_slice() == [(top(), None), (x, Some(top()))].as_slice()
-            && (own.saved || checkpoints.is_empty())
-            && (!own.saved || checkpoints.as_slice() == [name(b"c")].as_slice()),
+        alternatives.as_slice() == all.as_slice()
+            && has_checkpoint(alloc, store, b"top", Some(b"k"))?
+            && has_checkpoint(alloc, store, b"y", None)?,
     )
 }
 
@@ -127,15 +173,24 @@ fn has_names<D: Disk>(alloc: Global, store: &Store<D>, own: Option<Own>) -> Resu
 pub(super) fn shows<D: Disk>(
     alloc: Global,
     store: &mut Store<D>,
+    script: Script,
     commands: u32,
 ) -> Result<bool, Refusal> {
-    let state = committed_by(commands);
-    let same = has_names(alloc, store, state.own)?
-        && are_records(&store.list(alloc, &top())?, state.top)
-        && store.free() == Ok(state.free);
-    match state.own {
-        Some(own) if same => has_maps(alloc, store, own),
-        _ => Ok(same),
+    let state = committed_by(script, commands);
+    if !has_names(alloc, store, state)?
+        || !are_records(&store.list(alloc, &top())?, state.top)
+        || store.free() != Ok(state.free)
+    {
+        return Ok(false);
+    }
+    if let Some(own) = state.own
+        && !has_maps(alloc, store, b"x", own)?
+    {
+        return Ok(false);
+    }
+    match state.branch {
+        Some(branch) => has_maps(alloc, store, b"y", branch),
+        None => Ok(true),
     }
 }
 
@@ -147,7 +202,7 @@ fn goes_back<D: Disk>(alloc: Global, store: &mut Store<D>, own: Own) -> Result<b
     };
     store.apply(&put(b"top", 9, b"z"))?;
     let merged = store.apply(&merge(alloc))?;
-    let changed = !has_maps(alloc, store, own)?;
+    let changed = !has_maps(alloc, store, b"x", own)?;
     store.apply(&back)?;
     let x = name(b"x");
     Ok(
@@ -159,12 +214,16 @@ fn goes_back<D: Disk>(alloc: Global, store: &mut Store<D>, own: Own) -> Result<b
 }
 
 // What a store shows that was just opened.
-fn find_state<D: Disk>(alloc: Global, store: &mut Store<D>) -> Result<Shown, Wrong> {
-    for commands in [0, 5, 10, 13] {
-        if !shows(alloc, store, commands)? {
+fn find_state<D: Disk>(
+    alloc: Global,
+    store: &mut Store<D>,
+    script: Script,
+) -> Result<Shown, Wrong> {
+    for commands in script.kept() {
+        if !shows(alloc, store, script, commands)? {
             continue;
         }
-        return match committed_by(commands).own {
+        return match committed_by(script, commands).own {
             Some(own) if own.saved && !goes_back(alloc, store, own)? => Err(Wrong::NoState),
             _ => Ok(Shown::After(commands)),
         };
@@ -173,10 +232,10 @@ fn find_state<D: Disk>(alloc: Global, store: &mut Store<D>) -> Result<Shown, Wro
 }
 
 /// What a disk shows, checkpoints and all.
-pub(super) fn look(alloc: Global, disk: MemDisk) -> Result<Shown, Wrong> {
+pub(super) fn look(alloc: Global, disk: MemDisk, script: Script) -> Result<Shown, Wrong> {
     match open(alloc, disk) {
         Ok(mut store) => {
-            let shown = find_state(alloc, &mut store);
+            let shown = find_state(alloc, &mut store, script);
             let _disk = store.close();
             shown
         }

@@ -1,6 +1,6 @@
 //! The commands on a device that stops or fails at each of its calls in turn, and once more after that.
 use super::Wrong;
-use super::commands::{CALLS, COMMANDS, WRITES_AND_SYNCS};
+use super::commands::{CALLS, Script, WRITES_AND_SYNCS};
 use super::halting::{FILLS, Fill, Halt};
 use super::image::Image;
 use super::layers::{Device, Layer};
@@ -30,8 +30,9 @@ fn expect(due: Due, shown: Shown) -> Result<(), Wrong> {
 }
 
 // A run from a new disk on.
-fn whole(alloc: Global, fault: Option<Fault>) -> Result<Scene, Wrong> {
+fn whole(alloc: Global, script: Script, fault: Option<Fault>) -> Result<Scene, Wrong> {
     Ok(Scene {
+        script,
         image: Image::blank(alloc)?,
         from: Shown::NoStore,
         fault,
@@ -54,7 +55,7 @@ fn stop_each<D: Layer>(
         let due = if passes == first { before } else { due };
         for fill in FILLS {
             let disk = halt.crash::<D>(alloc, scene, fill)?;
-            expect(due, look(alloc, disk)?)?;
+            expect(due, look(alloc, disk, scene.script)?)?;
         }
         halt = halt.next::<D>(alloc, scene)?;
     }
@@ -72,12 +73,16 @@ fn stop_at<D: Layer>(
 ) -> Result<(), Wrong> {
     let mut disk = halt.crash::<D>(alloc, scene, fill)?;
     let image = Image::of(alloc, &mut disk)?;
-    let from = look(alloc, disk)?;
+    let from = look(alloc, disk, scene.script)?;
     expect(due, from)?;
     if again {
         let synced = image.copy(alloc)?;
-        let fault = None;
-        let rest = Scene { image, from, fault };
+        let rest = Scene {
+            script: scene.script,
+            image,
+            from,
+            fault: None,
+        };
         stop_each::<D>(alloc, &rest, 0, synced, Due::of(from))?;
     }
     Ok(())
@@ -86,6 +91,7 @@ fn stop_at<D: Layer>(
 // Fails a call. The rest of the commands, from what is shown on, ends as usual, or may be stopped.
 fn fail_at<D: Layer>(
     alloc: Global,
+    script: Script,
     halt: &Halt,
     due: Due,
     fill: Fill,
@@ -96,11 +102,16 @@ fn fail_at<D: Layer>(
         torn: halt.filling(alloc, fill)?.torn,
         then: None,
     };
-    let left = run::<D>(alloc, &whole(alloc, Some(fault))?, NEVER, &[0; 4096])?;
-    let shown = look(alloc, left.disk)?;
+    let left = run::<D>(
+        alloc,
+        &whole(alloc, script, Some(fault))?,
+        NEVER,
+        &[0; 4096],
+    )?;
+    let shown = look(alloc, left.disk, script)?;
     expect(due, shown)?;
     let then = Some(shown);
-    let scene = whole(alloc, Some(Fault { then, ..fault }))?;
+    let scene = whole(alloc, script, Some(Fault { then, ..fault }))?;
     if again {
         let synced = halt.synced.copy(alloc)?;
         return stop_each::<D>(alloc, &scene, left.calls, synced, due);
@@ -109,7 +120,8 @@ fn fail_at<D: Layer>(
     if left.due.is_some() {
         return Err(Wrong::Device);
     }
-    expect(Due::of(Shown::After(COMMANDS)), look(alloc, left.disk)?)
+    let end = Due::of(Shown::After(script.count()));
+    expect(end, look(alloc, left.disk, script)?)
 }
 
 fn try_at<D: Layer>(
@@ -123,16 +135,16 @@ fn try_at<D: Layer>(
         match trial {
             Trial::Stop => stop_at::<D>(alloc, scene, halt, due, fill, false)?,
             Trial::StopTwice => stop_at::<D>(alloc, scene, halt, due, fill, true)?,
-            Trial::Fail => fail_at::<D>(alloc, halt, due, fill, false)?,
-            Trial::FailThenStop => fail_at::<D>(alloc, halt, due, fill, true)?,
+            Trial::Fail => fail_at::<D>(alloc, scene.script, halt, due, fill, false)?,
+            Trial::FailThenStop => fail_at::<D>(alloc, scene.script, halt, due, fill, true)?,
         }
     }
     Ok(())
 }
 
 // Does this at each device call. Gives the number of calls, or the one at which something is wrong.
-fn try_each<D: Layer>(alloc: Global, trial: Trial) -> Result<u32, (Wrong, u32)> {
-    let scene = whole(alloc, None).map_err(|wrong| (wrong, 0))?;
+fn try_script<D: Layer>(alloc: Global, script: Script, trial: Trial) -> Result<u32, (Wrong, u32)> {
+    let scene = whole(alloc, script, None).map_err(|wrong| (wrong, 0))?;
     let synced = Image::blank(alloc).map_err(|wrong| (wrong, 0))?;
     let mut halt = Halt::at::<D>(alloc, &scene, 0, synced).map_err(|wrong| (wrong, 0))?;
     for passes in 0..NEVER {
@@ -145,6 +157,15 @@ fn try_each<D: Layer>(alloc: Global, trial: Trial) -> Result<u32, (Wrong, u32)> 
             .map_err(|wrong| (wrong, passes))?;
     }
     Ok(NEVER)
+}
+
+fn try_each<D: Layer>(alloc: Global, trial: Trial) -> Result<u32, (Wrong, u32)> {
+    try_script::<D>(alloc, Script::Posted, trial)
+}
+
+// The same, where an alternative begins at a checkpoint.
+fn try_branched<D: Layer>(alloc: Global, trial: Trial) -> Result<u32, (Wrong, u32)> {
+    try_script::<D>(alloc, Script::Branched, trial)
 }
 
 #[test]
@@ -196,5 +217,55 @@ fn commands_over_a_cache_end_as_usual_after_each_fault(rt: HostRuntime) {
 #[test]
 fn each_stop_after_a_fault_below_a_cache_shows_what_was_acknowledged(rt: HostRuntime) {
     let found = try_each::<CachedDisk<Device>>(rt.alloc(), Trial::FailThenStop);
+    assert!(rt; are_cached_calls(found), "{found:?}");
+}
+
+#[test]
+fn each_stop_shows_the_alternative_from_a_checkpoint(rt: HostRuntime) {
+    assert_eq!(rt; try_branched::<Device>(rt.alloc(), Trial::Stop), Ok(CALLS));
+}
+
+#[test]
+fn each_stop_after_a_stop_shows_the_alternative_from_a_checkpoint(rt: HostRuntime) {
+    assert_eq!(rt;
+        try_branched::<Device>(rt.alloc(), Trial::StopTwice),
+        Ok(CALLS)
+    );
+}
+
+#[test]
+fn alternative_from_a_checkpoint_ends_as_usual_after_each_fault(rt: HostRuntime) {
+    assert_eq!(rt; try_branched::<Device>(rt.alloc(), Trial::Fail), Ok(CALLS));
+}
+
+#[test]
+fn each_stop_after_a_fault_shows_the_alternative_from_a_checkpoint(rt: HostRuntime) {
+    assert_eq!(rt;
+        try_branched::<Device>(rt.alloc(), Trial::FailThenStop),
+        Ok(CALLS)
+    );
+}
+
+#[test]
+fn each_stop_below_a_cache_shows_the_alternative_from_a_checkpoint(rt: HostRuntime) {
+    let found = try_branched::<CachedDisk<Device>>(rt.alloc(), Trial::Stop);
+    assert!(rt; are_cached_calls(found), "{found:?}");
+}
+
+#[test]
+fn each_stop_after_a_stop_below_a_cache_shows_the_alternative_from_a_checkpoint(rt: HostRuntime) {
+    let found = try_branched::<CachedDisk<Device>>(rt.alloc(), Trial::StopTwice);
+    assert!(rt; are_cached_calls(found), "{found:?}");
+}
+
+#[test]
+fn alternative_from_a_checkpoint_over_a_cache_ends_as_usual_after_each_fault(rt: HostRuntime) {
+    let found = try_branched::<CachedDisk<Device>>(rt.alloc(), Trial::Fail);
+    assert!(rt; are_cached_calls(found), "{found:?}");
+}
+
+#[test]
+fn each_stop_after_a_fault_below_a_cache_shows_the_alternative_from_a_checkpoint(rt: HostRuntime) {
+    let found = try_branched::<CachedDisk<Device>>(rt.alloc(), Trial::FailThenStop);
     assert!(rt; are_cached_calls(found), "{found:?}");
 }

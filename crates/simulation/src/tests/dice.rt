@@ -9,7 +9,7 @@ use std::alloc::{AllocError, Global};
 use vm_types::{Command, Conflict, Key, Name, Settled, Side, Value};
 
 /// How many draws make another command than a Drop, Uncheck or Remove.
-const ADDITIONS: u32 = 31;
+const ADDITIONS: u32 = 32;
 
 /// Whether no command takes anything out, some do, or most of them.
 #[derive(Clone, Copy, PartialEq, Eq)]
@@ -179,7 +179,7 @@ impl Dice {
         }
     }
 
-    // Any other command but a Merge. From 15 on it is a Put.
+    // Any other command but a Merge. From 16 on it is a Put.
     fn addition(&mut self, n: u32) -> Command {
         match n {
             0..=2 => Command::Commit,
@@ -197,6 +197,11 @@ impl Dice {
                 name: self.checkpoint(),
             },
             14 => Command::Post { alt: self.child() },
+            15 => Command::NewAt {
+                name: self.child(),
+                parent: self.alt(),
+                checkpoint: self.checkpoint(),
+            },
             _ => Command::Put {
                 alt: self.alt(),
                 key: self.key(),

@@ -169,7 +169,12 @@ impl Model {
     // What an accepted command but a Merge does to the blocks that maps lie in.
     fn follow(&mut self, command: &Command) -> Result<(), Wrong> {
         match command {
-            Command::New { name, parent } => self.follow_new(name, parent)?,
+            Command::New { name, parent } => self.follow_new(name, parent, None)?,
+            Command::NewAt {
+                name,
+                parent,
+                checkpoint,
+            } => self.follow_new(name, parent, Some(*checkpoint))?,
             Command::Drop { alt } => self.working.retain(|roots| roots.alt != *alt),
             Command::Put { alt, key, .. } => self.follow_put(alt, *key)?,
             Command::Remove { alt, key } => self.follow_remove(alt, *key)?,
@@ -191,9 +196,14 @@ impl Model {
         Ok(())
     }
 
-    // The new alternative shares the blocks of what its parent shows.
-    fn follow_new(&mut self, name: &Name, parent: &Name) -> Result<(), Wrong> {
-        if let Some(i) = position(&self.working, parent, None) {
+    // The new alternative shares the blocks of what its parent shows, or of what a checkpoint of it does.
+    fn follow_new(
+        &mut self,
+        name: &Name,
+        parent: &Name,
+        checkpoint: Option<Name>,
+    ) -> Result<(), Wrong> {
+        if let Some(i) = position(&self.working, parent, checkpoint) {
             let current = self.working[i].current;
             let roots = Roots {
                 alt: *name,

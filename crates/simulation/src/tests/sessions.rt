@@ -40,7 +40,9 @@ fn sight(model: &Model, command: &Command) -> Sight {
 fn near(alloc: Global, model: &Model, command: &Command) -> Result<Vec<Name>, Wrong> {
     let mut names = Vec::new(alloc);
     match command {
-        Command::New { name, parent } => names.extend_from_slice(&[*name, *parent])?,
+        Command::New { name, parent } | Command::NewAt { name, parent, .. } => {
+            names.extend_from_slice(&[*name, *parent])?;
+        }
         Command::Post { alt } => {
             names.extend_from_slice(&[*alt])?;
             if let Some(parent) = model.parent_of(alt)? {

@@ -4,7 +4,7 @@ use std::cmp::Ordering;
 use vm_types::{Answer, Command, Key, Name, Refusal, Side};
 
 /// How many kinds of commands there are.
-const KINDS: usize = 11;
+const KINDS: usize = 12;
 
 /// How many cases there are.
 const CASES: usize = 11;
@@ -72,6 +72,7 @@ fn kind(command: &Command) -> usize {
         Command::Post { .. } => 8,
         Command::Commit => 9,
         Command::Reclaim => 10,
+        Command::NewAt { .. } => 11,
     }
 }
 
