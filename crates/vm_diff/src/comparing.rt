@@ -44,6 +44,28 @@ pub fn changed<D: Disk>(
     if first.block == second.block && first.level == second.level {
         return Ok(Vec::new(alloc));
     }
+    changed_between(alloc, disk, blocks, first, second)
+}
+
+/// What `changed` answers, by two walks. They are set up as the function begins, so it is one of its own.
+fn changed_between<D: Disk>(
+    alloc: Global,
+    disk: &mut D,
+    blocks: u32,
+    first: Root,
+    second: Root,
+) -> Result<Vec<Change>, TreeFault>
+    requires { blocks ≤ (D.state disk.old).blocks }
+    ensures any { Goes (result ≡ Err TreeFault.Device) (D.state disk.old) (D.state disk.new) }
+    ensures deep { result ≢ Err TreeFault.Deep }
+    ensures reads { (D.state disk.new).honest ≡ true → OnlyReads (D.state disk.old) (D.state disk.new) }
+    ensures changes { (D.state disk.new).honest ≡ true → (sizes : Sizes) (m n : Map) (bs cs : List ℕ)
+        → IsRooted sizes (D.state disk.old).now.contents blocks first m bs → IsRooted sizes (D.state disk.old).now.contents blocks second n cs
+        → Lists result (λ changes. changes.items ≡ delta m n) }
+    ensures bound { (D.state disk.new).honest ≡ true → (sizes : Sizes) (m n : Map) (bs cs : List ℕ)
+        → IsRooted sizes (D.state disk.old).now.contents blocks first m bs → IsRooted sizes (D.state disk.old).now.contents blocks second n cs
+        → (D.state disk.new).reads ≤ (D.state disk.old).reads + unshared bs cs }
+{
     let Some(mut one) = Cursor::new(first) else {
         return Err(TreeFault::Damaged(first.block));
     };
@@ -91,6 +113,28 @@ pub fn same<D: Disk>(
     if first.block == second.block && first.level == second.level {
         return Ok(true);
     }
+    same_between(disk, blocks, first, second)
+}
+
+/// What `same` answers, by two walks.
+fn same_between<D: Disk>(
+    disk: &mut D,
+    blocks: u32,
+    first: Root,
+    second: Root,
+) -> Result<bool, TreeFault>
+    requires { blocks ≤ (D.state disk.old).blocks }
+    ensures any { Goes (result ≡ Err TreeFault.Device) (D.state disk.old) (D.state disk.new) }
+    ensures deep { result ≢ Err TreeFault.Deep }
+    ensures memory { result ≢ Err TreeFault.Memory }
+    ensures reads { (D.state disk.new).honest ≡ true → OnlyReads (D.state disk.old) (D.state disk.new) }
+    ensures equal { (D.state disk.new).honest ≡ true → (sizes : Sizes) (m n : Map) (bs cs : List ℕ)
+        → IsRooted sizes (D.state disk.old).now.contents blocks first m bs → IsRooted sizes (D.state disk.old).now.contents blocks second n cs
+        → OkOrDevice result (λ equal. IsTrue equal ↔ (delta m n ≡ [])) }
+    ensures bound { (D.state disk.new).honest ≡ true → (sizes : Sizes) (m n : Map) (bs cs : List ℕ)
+        → IsRooted sizes (D.state disk.old).now.contents blocks first m bs → IsRooted sizes (D.state disk.old).now.contents blocks second n cs
+        → (D.state disk.new).reads ≤ (D.state disk.old).reads + unshared bs cs }
+{
     let Some(mut one) = Cursor::new(first) else {
         return Err(TreeFault::Damaged(first.block));
     };

@@ -1,7 +1,7 @@
 use Rattle.std.proofs.Common.{◌+◌, []}
 use Rattle.vm_diff.specs.Walk.{size}
 use Rattle.vm_diff.proofs.CompareLemmas.{Compares}
-use Rattle.vm_diff.proofs.comparing.same.Given as goal
+use Rattle.vm_diff.proofs.comparing.same_between.Given as goal
 
 abbrev pub decreases-steps : goal.decreases-steps
 decreases-steps g l = size l.one + size l.other
