@@ -87,6 +87,26 @@ impl<W: World> SystemFile<W> {
         SystemFile::over(file, path, opened, History::new())
     }
 
+    /// Opens a file that is there, to be read alone, after so many others: each write fails, and none
+    /// reaches the file. None where it cannot be opened, is a folder, or has a standard descriptor.
+    pub fn open_to_read(
+        rt: &impl Files<File = File>,
+        path: &str,
+        opened: &History<()>,
+    ) -> Option<SystemFile<W>>
+        ensures state { IfSome result (λ file. system_state W.held W.torn file
+            ≡ fresh (held_bytes (W.held (length (noted opened.now)) path.now))) }
+        ensures name { IfSome result (λ file. name_of file ≡ path.now) }
+        ensures opening { IfSome result (λ file. opening_of file ≡ length (noted opened.now)) }
+    {
+        let file = File::open(rt, path).ok()?;
+        // A folder can be opened so, too.
+        if file.metadata().ok()?.is_dir() {
+            return None;
+        }
+        SystemFile::over(file, path, opened, History::new())
+    }
+
     /// Makes a file that is not there yet, with no bytes, to be read and written, after so many others
     /// were opened. None where it cannot be made, or has a standard descriptor.
     pub fn create(

@@ -318,3 +318,25 @@ fn system_file_holds_what_was_written(rt: HostRuntime) -> Result<(), Fail> {
     fs::remove_file(&rt, path)?;
     Ok(())
 }
+
+#[test]
+fn system_file_opened_to_read_is_never_written(rt: HostRuntime) -> Result<(), Fail> {
+    let path = "vm_disk_read_alone_test";
+    let _ = fs::remove_file(&rt, path);
+    fs::write(&rt, path, &[7; 8192])?;
+    let opened = History::new();
+    let Some(file) = SystemFile::<Brand>::open_to_read(&rt, path, &opened) else {
+        panic!(rt; "not opened");
+    };
+    let Some(mut disk) = FileDisk::open(file) else {
+        panic!(rt; "not measured");
+    };
+    assert_eq!(rt; disk.blocks(), 2);
+    assert_eq!(rt; fill(&mut disk, 1, 8), Err(DeviceFault));
+    disk.sync()?;
+    assert_eq!(rt; filling(&mut disk, 1)?, Some(7));
+    fs::remove_file(&rt, path)?;
+    assert!(rt; SystemFile::<Brand>::open_to_read(&rt, path, &opened).is_none());
+    assert!(rt; SystemFile::<Brand>::open_to_read(&rt, ".", &opened).is_none());
+    Ok(())
+}
