@@ -483,6 +483,17 @@ def opened(altctl, rng, file, disk):
 # --- random sessions
 
 
+def checked(altctl, file, store):
+    """Checks a store, and says what differs from the model."""
+    alternatives = sum(it.tag == b"A" for it in store.committed)
+    free = len(store.disk) - FIRST - len(store.reached(store.committed))
+    wanted = f"alternatives {alternatives}\ncheckpoints {len(store.committed) - alternatives}\nfree {free}\n"
+    ran = subprocess.run([altctl, "check", file], stdin=subprocess.DEVNULL, stdout=subprocess.PIPE, stderr=subprocess.PIPE)
+    if (ran.returncode, ran.stdout.decode(), ran.stderr) != (0, wanted, b""):
+        return f"a check says {ran}, and not {wanted!r}"
+    return None
+
+
 class Editor:
     """Makes random lines, each with its meaning: None for no answer, a text for an answer that never changes, or words for the store."""
 
@@ -596,6 +607,9 @@ def compared(altctl, rng, folder):
         ran = subprocess.run([altctl, "run", file], input=lines.encode("latin-1"), stdout=subprocess.PIPE, stderr=subprocess.PIPE)
         if (ran.returncode, ran.stdout.decode(), ran.stderr) != (0, "".join(answers), b""):
             return f"the answers differ: {difference(lines, answers, ran)}"
+        why = checked(altctl, file, store)
+        if why:
+            return f"{why}, after these lines:\n{lines}"
         with open(file, "rb") as it:
             found = it.read()
         for at, block in enumerate(store.disk):

@@ -337,6 +337,85 @@ echo "$came" >status.came
 compare 'a full output: status' status status.came
 compare 'a full output: standard error' faults faults.came
 
+# --- a check of a store ----------------------------------------------------------------------------
+
+# Checks a store. The lines that are expected stand here, and the file stays as it was.
+checked() {
+    cp "$2" before
+    : >lines
+    cat >output
+    : >faults
+    program "$1" 0 check "$2"
+    compare "$1: the file" before "$2"
+}
+
+create counted 64
+checked 'check of a new store' counted <<'END'
+alternatives 1
+checkpoints 0
+free 30
+END
+session 'a store to check' counted <<'END'
+> put top 7 1 duct
+ok
+> new a top
+ok
+> checkpoint a before
+ok
+> commit
+ok
+> put top 7 2 pipe
+ok
+END
+checked 'check' counted <<'END'
+alternatives 2
+checkpoints 1
+free 29
+END
+
+# Root may write a file that says otherwise, unless this is taken from it.
+able=$altctl
+if [ "$(id -u)" = 0 ]; then
+    printf '#!/bin/sh\nexec setpriv --bounding-set=-dac_override "%s" "$@"\n' "$able" >unable
+    chmod +x unable
+    if setpriv --bounding-set=-dac_override true 2>faults.came; then
+        altctl=$work/unable
+    fi
+fi
+mkdir sealed
+cp counted sealed/f
+chmod 0444 sealed/f
+chmod 0555 sealed
+if [ "$(id -u)" != 0 ] || [ "$altctl" != "$able" ]; then
+    : >lines
+    : >output
+    echo 'altctl: cannot open sealed/f' >faults
+    program 'run on a file that may not be written' 1 run sealed/f
+fi
+checked 'check of a file that may not be written' sealed/f <<'END'
+alternatives 2
+checkpoints 1
+free 29
+END
+altctl=$able
+chmod 0755 sealed
+
+for file in absent h; do
+    : >output
+    echo 'altctl: 19 NotAStore' >faults
+    [ -e $file ] || echo "altctl: cannot open $file" >faults
+    program "check of $file" 1 check $file
+done
+
+echo 3 >status
+echo 'altctl: stopped' >faults
+came=0
+"$altctl" check counted <lines >/dev/full 2>faults.came || came=$?
+echo "$came" >status.came
+compare 'check, a full output: status' status status.came
+compare 'check, a full output: standard error' faults faults.came
+rm -f faults
+
 # --- standard descriptors that are closed, or fail --------------------------------------------------
 
 # Starts the program with the words after the third, on the bytes in `lines`, with the standard descriptors closed that the
@@ -413,6 +492,13 @@ for which in 0 1 2 01 02 12 012; do
     2) compare "run, closed $which: the file" answered store ;;
     *) compare "run, closed $which: the file" spelled store ;;
     esac
+
+    printf 'alternatives 1\ncheckpoints 0\nfree 29\n' >output
+    : >faults
+    status=$(stopped_if 1 $which 0)
+    cp spelled store
+    closed check $which "$status" check store
+    compare "check, closed $which: the file" spelled store
 
     : >output
     echo 'altctl: 19 NotAStore' >faults

@@ -1,5 +1,6 @@
 //! The program over disks in memory, and over an input and an output that fail.
 mod caching;
+mod checks;
 mod faults;
 mod files;
 mod flushes;
@@ -48,3 +49,5 @@ fn ran(alloc: Global, files: &mut MemFiles, words: &[&str], input: &[u8]) -> Res
 const CREATE: [&str; 4] = ["altctl", "create", "f", "64"];
 
 const RUN: [&str; 3] = ["altctl", "run", "f"];
+
+const CHECK: [&str; 3] = ["altctl", "check", "f"];

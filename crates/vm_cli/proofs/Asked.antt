@@ -22,8 +22,8 @@ use Rattle.clap.specs.Faults.{fault_of, level_fault, values_fault}
 use Rattle.clap.specs.declared.builder.value_parser.ValueParser.TheVariants as vp
 use Rattle.clap.specs.declared.builder.value_parser.ValueParser.{ValueParser}
 use Rattle.clap.proofs.ValueTestLemmas.{Accepts-accepts, accepts-Accepts}
-use Rattle.vm_cli.specs.Words.{Wanted, altctl, asked_of, blocks_rule, cache_rule, create_app, file_rule, number_in, run_app}
-use Rattle.vm_cli.specs.Words.Wanted.{create, run}
+use Rattle.vm_cli.specs.Words.{Wanted, altctl, asked_of, blocks_rule, cache_rule, check_app, create_app, file_rule, number_in, run_app}
+use Rattle.vm_cli.specs.Words.Wanted.{check, create, run}
 use Rattle.vm_cli.proofs.FaultFree.{Every, every-found, neither, nothing_wanting}
 use Rattle.vm_cli.proofs.Levels.{IsFilled, IsKnown, each_given, given_row, has-default, held_row, level_rows, no-default}
 use Rattle.vm_cli.proofs.Entered.{entered_one}
@@ -101,6 +101,9 @@ create_level = built_leaf create_app.top
 abbrev run_level : Shape
 run_level = built_leaf run_app.top
 
+abbrev check_level : Shape
+check_level = built_leaf check_app.top
+
 -- what is known of an argument that takes one value
 abbrev valued : {c : List Rule} {a : Rule} → action_of a ≡ Set → 0 < (unwrap_or_range a.range).start_inclusive → values_fault a a.defaults ≡ [] → arg_by_id c a.id ≡ Some a → IsKnown c a
 valued sets least defaults found = inl (record { sets = sets; least = least; defaults = defaults; found = found })
@@ -114,6 +117,9 @@ create_known = (valued refl (lit< tt) refl refl, (valued refl (lit< tt) refl ref
 
 run_known : Every (IsKnown run_level.rules) run_level.rules
 run_known = (valued refl (lit< tt) refl refl, (valued refl (lit< tt) refl refl, (help refl refl, tt)))
+
+check_known : Every (IsKnown check_level.rules) check_level.rules
+check_known = (valued refl (lit< tt) refl refl, (help refl refl, tt))
 
 -- the first value of a row that is filled
 first_text : (c : List Rule) (rows : List Row) (id : Text) (r : Row) (filled : IsFilled c r) → find (λ x. bytes_eq x.id id) rows ≡ Some r → first_of id rows ≡ Some filled.first
@@ -162,6 +168,12 @@ run_rows rows filled file_given cache_held =
     let number = number_read run_level.rules cache_option 0 65536 rows cache.0 (lit< tt) refl refl refl cache.2 cache.1 cache.3 in
     (run file.2.first number.0, rw (first_text run_level.rules rows (codes "file") file.0 file.2 file.1, number.1) refl)
 
+check_rows : (rows : List Row) → Every (IsFilled check_level.rules) rows → is_given (codes "file") rows ≡ true
+    → (w : Wanted) × (asked_of (Some (codes "check", rows)) ≡ Some w)
+check_rows rows filled file_given =
+    let file = given_row check_level check_known refl rows (codes "file") filled file_given in
+    (check file.2.first, rw (first_text check_level.rules rows (codes "file") file.0 file.2 file.1) refl)
+
 -- at the end of a level the default value stands where no word said another
 cache_found : (rows : List Row) → has_row (codes "cache") (fold with_default rows run_level.rules) ≡ true
 cache_found rows =
@@ -184,6 +196,13 @@ run_asks words e =
     let given = each_given run_level run_known refl run_level.rules rows (nothing_wanting false false (list_any (λ a. a.required && not (is_given a.id rows)) run_level.rules) level.1).1 in
     run_rows rows level.0 (given.0 refl) (cache_found (settled run_level.rules (walk run_level.rules [] nothing_held words).held).rows)
 
+check_asks : Asks check_level
+check_asks words e =
+    let level = level_rows check_level check_known refl words e in
+    let rows = rows_after check_level.rules [] words in
+    let given = each_given check_level check_known refl check_level.rules rows (nothing_wanting false false (list_any (λ a. a.required && not (is_given a.id rows)) check_level.rules) level.1).1 in
+    check_rows rows level.0 (given.0 refl)
+
 -- a subcommand asks for a job, or is `help`
 abbrev AsksOrHelps : Shape → Type 0
 AsksOrHelps s = Asks s ⊎ ((name : Text) → answers_to name (label_of s) ≡ true → bytes_eq name (codes "help") ≡ true)
@@ -196,7 +215,7 @@ helps name e = go (bytes_eq (codes "help") name) refl
     go false t = let bad : ⊥ = (let f = rw t at e in cc) in absurd bad
 
 each_asks : Every AsksOrHelps (built altctl).subs
-each_asks = (inl create_asks, (inl run_asks, (inr helps, tt)))
+each_asks = (inl create_asks, (inl run_asks, (inl check_asks, (inr helps, tt))))
 
 -- where the parse of the words has no fault, they ask for a job
 pub asks : (words : List Text) → fault_of altctl words ≡ [] → (w : Wanted) × (asked_of (subcommand_of altctl words) ≡ Some w)

@@ -5,9 +5,9 @@ use Rattle.clap.specs.Words.{IsAmong, Text, fault_of}
 use Rattle.clap.specs.declared.error.kind.ErrorKind.{ErrorKind}
 use Rattle.clap.specs.declared.error.kind.ErrorKind.TheVariants.{DisplayHelp, DisplayVersion}
 use Rattle.vm_cli.specs.Carried.{Begins}
-use Rattle.vm_cli.specs.Exits.{Ends, IsHelp, IsJob, SaysRefused, Tells, created_text, file_text}
+use Rattle.vm_cli.specs.Exits.{Ends, IsHelp, IsJob, SaysRefused, Tells, check_text, created_text, file_text}
 use Rattle.vm_cli.specs.Words.{altctl}
-use Rattle.vm_cli.specs.Words.Wanted.{create, run}
+use Rattle.vm_cli.specs.Words.Wanted.{check, create, run}
 use Rattle.vm_cli.specs.declared.program.Exit.{Exit}
 use Rattle.vm_cli.specs.declared.program.Exit.TheVariants.{Done, Refused, WrongWords, Stopped}
 use Rattle.vm_cli.proofs.CarriedLemmas.{begins-more, begins-then}
@@ -36,8 +36,8 @@ module _ {W F : Type 0} (in_output : W → Option (List ℕ)) (in_faults : F →
       → ((faults' ≡ faults) × Tells Done exit (in_output output) (in_output output') (created_text blocks))
       ⊎ ((output' ≡ output) × ((text : List ℕ) × SaysRefused (create file blocks) text × Tells Refused exit (in_faults faults) (in_faults faults') text))
       → Ends in_output in_faults exit words output output' faults faults'
-  made file blocks exit job (inl (same, inl (is, written))) = rw is (same, inl (created_text blocks, inr (file, blocks, job, refl), written))
-  made file blocks exit job (inl (same, inr (is, begun))) = rw is (inl (same, inr (inl (created_text blocks, inr (file, blocks, job, refl), begun))))
+  made file blocks exit job (inl (same, inl (is, written))) = rw is (same, inl (created_text blocks, inr (inl (file, blocks, job, refl)), written))
+  made file blocks exit job (inl (same, inr (is, begun))) = rw is (inl (same, inr (inl (created_text blocks, inr (inl (file, blocks, job, refl)), begun))))
   made file blocks exit job (inr (same, (text, says, inl (is, written)))) = rw is (same, (text, (create file blocks, job, says), written))
   made file blocks exit job (inr (same, (text, says, inr (is, begun)))) = rw is (inr (same, (text, inl (create file blocks, job, says), begun)))
 
@@ -50,6 +50,18 @@ module _ {W F : Type 0} (in_output : W → Option (List ℕ)) (in_faults : F →
   talked file cache exit job (inl (same, inr is)) = rw is (inl (same, inr (inr (file, cache, job))))
   talked file cache exit job (inr (same, (text, says, inl (is, written)))) = rw is (same, (text, (run file cache, job, says), written))
   talked file cache exit job (inr (same, (text, says, inr (is, begun)))) = rw is (inr (same, (text, inl (run file cache, job, says), begun)))
+
+  -- a store was to be checked
+  pub checked : (file : Text) (exit : Exit) → IsJob words (check file)
+      → ((faults' ≡ faults) × ((alternatives : ℕ) × (checkpoints : ℕ) × (free : ℕ) × Tells Done exit (in_output output) (in_output output') (check_text alternatives checkpoints free)))
+      ⊎ ((output' ≡ output) × ((text : List ℕ) × SaysRefused (check file) text × Tells Refused exit (in_faults faults) (in_faults faults') text))
+      → Ends in_output in_faults exit words output output' faults faults'
+  checked file exit job (inl (same, (alternatives, checkpoints, free, inl (is, written)))) =
+      rw is (same, inl (check_text alternatives checkpoints free, inr (inr (file, alternatives, checkpoints, free, job, refl)), written))
+  checked file exit job (inl (same, (alternatives, checkpoints, free, inr (is, begun)))) =
+      rw is (inl (same, inr (inl (check_text alternatives checkpoints free, inr (inr (file, alternatives, checkpoints, free, job, refl)), begun))))
+  checked file exit job (inr (same, (text, says, inl (is, written)))) = rw is (same, (text, (check file, job, says), written))
+  checked file exit job (inr (same, (text, says, inr (is, begun)))) = rw is (inr (same, (text, inl (check file, job, says), begun)))
 
   -- memory was wanting
   pub no_memory : (exit : Exit) → exit ≡ Stopped → output' ≡ output → faults' ≡ faults → Ends in_output in_faults exit words output output' faults faults'

@@ -17,10 +17,10 @@ use Rattle.vm_store.specs.Shown.{Shows}
 use Rattle.vm_cli.specs.Caching.{IsServed, answers_told, commands_told}
 use Rattle.vm_cli.specs.Exits.{IsJob, Tells}
 use Rattle.vm_cli.specs.Keeps.{Keeps, answers_of, commands_of}
-use Rattle.vm_cli.specs.Files.{Answers, Declines, Does, KeepsAll, Makes}
+use Rattle.vm_cli.specs.Files.{Answers, Counts, Declines, Does, KeepsAll, Makes}
 use Rattle.vm_cli.specs.Places.{KeepsOthers, PlaceState}
 use Rattle.vm_cli.specs.Words.{Wanted, altctl}
-use Rattle.vm_cli.specs.Words.Wanted.{create, run}
+use Rattle.vm_cli.specs.Words.Wanted.{check, create, run}
 use Rattle.vm_cli.specs.declared.program.Exit.{Exit}
 use Rattle.vm_cli.specs.declared.program.Exit.TheVariants.{Done, Refused, Stopped}
 use Rattle.vm_cli.proofs.CachingLemmas.{keeps_below}
@@ -93,11 +93,11 @@ module _ {D : Type 0} (members : Ghosts D) (cached : Ghosts (CachedDisk D member
           subst (λ (d : D). Keeps (members.state found) (members.state d) (opened tree) commands answers) (sym over.given_back)
           (subst (λ (d : D). Keeps (members.state d) (members.state (inner_of over.last)) (opened tree) commands answers) over.empty.inner below)
 
-module _ {D : Type 0} (members : Ghosts D) (cached : Ghosts (CachedDisk D members)) (Untouched Denied : Type 0) (words : List Text) (exit : Exit)
+module _ {D : Type 0} (members : Ghosts D) (cached : Ghosts (CachedDisk D members)) (Untouched Reads Denied : Type 0) (words : List Text) (exit : Exit)
     (old new : PlaceState) (input before after faults faults' : Option (List ℕ)) where
   -- what was done
   abbrev Did : Type 0
-  Did = Does members cached Untouched Denied words exit old new input before after faults faults'
+  Did = Does members cached Untouched Reads Denied words exit old new input before after faults faults'
 
   -- a store was to be made
   pub did_create : (name : Text) (blocks : ℕ) → IsJob words (create name blocks) → Makes Denied name blocks exit old new faults faults' → Did
@@ -107,6 +107,7 @@ module _ {D : Type 0} (members : Ghosts D) (cached : Ghosts (CachedDisk D member
         let size_is : size ≡ blocks = cc in
         inl (rw (name_is, size_is) makes);
     runs = λ other cache asked. let same : run other cache ≡ create name blocks = one_job words (create name blocks) (run other cache) job asked in absurd (cc);
+    checks = λ other asked. let same : check other ≡ create name blocks = one_job words (create name blocks) (check other) job asked in absurd (cc);
     none = λ no. absurd (no (create name blocks) job);
   }
 
@@ -119,6 +120,7 @@ module _ {D : Type 0} (members : Ghosts D) (cached : Ghosts (CachedDisk D member
         let name_is : other ≡ name = cc in
         let size_is : size ≡ cache = cc in
         rw (name_is, size_is) (told answers);
+    checks = λ other asked. let same : check other ≡ run name cache = one_job words (run name cache) (check other) job asked in absurd (cc);
     none = λ no. absurd (no (run name cache) job);
   }
     where
@@ -127,10 +129,28 @@ module _ {D : Type 0} (members : Ghosts D) (cached : Ghosts (CachedDisk D member
       told (inl answers) = inl answers
       told (inr declines) = inr (inl declines)
 
+  -- a store was to be checked
+  pub did_check : (name : Text) → IsJob words (check name) → Reads
+      → Counts members name exit old new before after ⊎ Declines Denied name exit old new faults faults' → Did
+  did_check name job reads counts = record {
+    creates = λ other size asked. let same : create other size ≡ check name = one_job words (check name) (create other size) job asked in absurd (cc);
+    runs = λ other cache asked. let same : run other cache ≡ check name = one_job words (check name) (run other cache) job asked in absurd (cc);
+    checks = λ other asked. let same : check other ≡ check name = one_job words (check name) (check other) job asked in
+        let name_is : other ≡ name = cc in
+        rw name_is (reads, told counts);
+    none = λ no. absurd (no (check name) job);
+  }
+    where
+      told : Counts members name exit old new before after ⊎ Declines Denied name exit old new faults faults'
+          → Counts members name exit old new before after ⊎ (Declines Denied name exit old new faults faults' ⊎ ((exit ≡ Stopped) × Untouched))
+      told (inl counts) = inl counts
+      told (inr declines) = inr (inl declines)
+
   -- no call of the place was made, and it stopped, where the words ask for something
-  pub did_nothing : Untouched → ((job : Wanted) → IsJob words job → exit ≡ Stopped) → Did
-  did_nothing untouched stopped = record {
+  pub did_nothing : Untouched → Reads → ((job : Wanted) → IsJob words job → exit ≡ Stopped) → Did
+  did_nothing untouched reads stopped = record {
     creates = λ name blocks asked. inr (stopped (create name blocks) asked, untouched);
     runs = λ name cache asked. inr (inr (stopped (run name cache) asked, untouched));
+    checks = λ name asked. (reads, inr (inr (stopped (check name) asked, untouched)));
     none = λ no. untouched;
   }

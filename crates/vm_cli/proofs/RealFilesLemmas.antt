@@ -17,7 +17,7 @@ use Rattle.vm_disk.proofs.FileLemmas.{file_is_honest}
 use Rattle.vm_cli.specs.Places.{Creates, Finds, PlaceState, TakesBack}
 use Rattle.vm_cli.specs.RealFiles.{blocks_held, files_after, honest_after, is_absent, is_as_left, real_disk, same_contents, whole_blocks}
 use Rattle.vm_cli.specs.declared.place.Event.{Event}
-use Rattle.vm_cli.specs.declared.place.Event.TheVariants.{Found, Made, Given}
+use Rattle.vm_cli.specs.declared.place.Event.TheVariants.{Found, Looked, Made, Given}
 
 -- contents that are the same, block by block, are the same
 pub contents_are : (x y : Contents) → same_contents x y ≡ true → x ≡ y
@@ -142,3 +142,14 @@ module _ {W : Type 0} (held : ℕ → List ℕ → Option (List ℕ)) (torn : �
             let step : files_after held torn (Given given noted_disk ∷ old) other ≡ files_after held torn old other = rw (name, apart other path differ) refl in
             rw more step;
       }
+
+module _ {W : Type 0} (held : ℕ → List ℕ → Option (List ℕ)) (torn : ℕ → List ℕ → ℕ → List ℕ) (path : List ℕ) (old new : List (Event W)) where
+  -- a file was opened for reading alone: what is known of the files is as if it had been found
+  pub looks : (file : SystemFile W) (noted_file : Snapshot (SystemFile W)) → noted_file.value ≡ file → name_of file ≡ path → (opened : ℕ) → opening_of file ≡ opened → new ≡ Looked noted_file ∷ old
+      → system_state held torn file ≡ fresh (held_bytes (held opened path)) → (result : Option (FileDisk (SystemFile W)))
+      → IfSome result (λ disk. (system_state held torn (file_of disk)).honest ≡ true → IsOpened (system_state held torn file) (real_disk held torn disk))
+      → honest_after held torn new ≡ true → Finds path (option_map (real_disk held torn) result) (known held torn path old new old) (known held torn path old new new)
+  looks file noted_file is name opened opening more state result told honest =
+      let all : honest_after held torn (Found noted_file ∷ old) ≡ true = rw more at honest in
+      let found = finds held torn path old (Found noted_file ∷ old) file noted_file is name opened opening refl state result told all in
+      record { held = found.held; same = λ other. rw more (found.same other) }

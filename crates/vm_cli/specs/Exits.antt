@@ -10,7 +10,7 @@ use Rattle.vm_types.specs.declared.refusal.Refusal.{Refusal}
 use Rattle.vm_types.specs.declared.refusal.Refusal.TheVariants.{AlreadyAStore, BadSize, Device}
 use Rattle.vm_cli.specs.Carried.{Begins}
 use Rattle.vm_cli.specs.Words.{Wanted, altctl, asked_of}
-use Rattle.vm_cli.specs.Words.Wanted.{create, run}
+use Rattle.vm_cli.specs.Words.Wanted.{check, create, run}
 use Rattle.vm_cli.specs.declared.program.Exit.{Exit}
 use Rattle.vm_cli.specs.declared.program.Exit.TheVariants.{Done, Refused, WrongWords, Stopped}
 
@@ -26,6 +26,11 @@ status_of Stopped = 3
 -- a store was made
 abbrev pub created_text : ℕ → List ℕ
 created_text blocks = codes "created " ++ (decimal blocks ++ 10 ∷ [])
+
+-- what a store holds: so many alternatives, checkpoints and free blocks
+abbrev pub check_text : ℕ → ℕ → ℕ → List ℕ
+check_text alternatives checkpoints free =
+    codes "alternatives " ++ (decimal alternatives ++ (10 ∷ (codes "checkpoints " ++ (decimal checkpoints ++ (10 ∷ (codes "free " ++ (decimal free ++ 10 ∷ [])))))))
 
 -- a file could not be made or opened
 abbrev pub file_text : List ℕ → Text → List ℕ
@@ -69,10 +74,14 @@ MayRefuse refusal = (refusal ≡ BadSize) ⊎ ((refusal ≡ AlreadyAStore) ⊎ (
 abbrev pub SaysRefused : Wanted → List ℕ → Type 0
 SaysRefused (create file blocks) text = (text ≡ file_text (codes "altctl: cannot create ") file) ⊎ ((refusal : Refusal) × MayRefuse refusal × (text ≡ refused_text refusal))
 SaysRefused (run file cache) text = (text ≡ file_text (codes "altctl: cannot open ") file) ⊎ ((refusal : Refusal) × (text ≡ refused_text refusal))
+SaysRefused (check file) text = (text ≡ file_text (codes "altctl: cannot open ") file) ⊎ ((refusal : Refusal) × (text ≡ refused_text refusal))
 
--- a text for the output: help, or that a store was made
+-- a text for the output: help, that a store was made, or what one holds
 abbrev pub IsNews : List Text → List ℕ → Type 0
-IsNews words text = AskHelp words ⊎ ((file : Text) × (blocks : ℕ) × IsJob words (create file blocks) × (text ≡ created_text blocks))
+IsNews words text =
+    AskHelp words
+    ⊎ (((file : Text) × (blocks : ℕ) × IsJob words (create file blocks) × (text ≡ created_text blocks))
+    ⊎ ((file : Text) × (alternatives : ℕ) × (checkpoints : ℕ) × (free : ℕ) × IsJob words (check file) × (text ≡ check_text alternatives checkpoints free)))
 
 -- a text for the faults: why a job was refused
 abbrev pub IsRefusal : List Text → List ℕ → Type 0

@@ -10,14 +10,15 @@ use Rattle.vm_disk.specs.Moments.{Throughout}
 use Rattle.vm_disk.specs.declared.cached.CachedDisk.{CachedDisk}
 use Rattle.vm_disk.specs.declared.disk.Disk.{Ghosts}
 use Rattle.vm_store.specs.Formatting.{IsFormatted, IsFormatting}
-use Rattle.vm_store.specs.Refused.{IsRefused as IsRefusedDisk}
+use Rattle.vm_store.specs.Refused.{IsAtMostSynced, IsRefused as IsRefusedDisk}
 use Rattle.vm_store.specs.Shown.{Shows}
 use Rattle.vm_cli.specs.Caching.{IsServed, answers_told, commands_told}
-use Rattle.vm_cli.specs.Exits.{IsJob, Tells, file_text, refused_text}
+use Rattle.vm_cli.specs.Counting.{IsCounted}
+use Rattle.vm_cli.specs.Exits.{IsJob, Tells, check_text, file_text, refused_text}
 use Rattle.vm_cli.specs.Keeps.{Keeps}
 use Rattle.vm_cli.specs.Places.{KeepsOthers, PlaceState}
 use Rattle.vm_cli.specs.Words.{Wanted}
-use Rattle.vm_cli.specs.Words.Wanted.{create, run}
+use Rattle.vm_cli.specs.Words.Wanted.{check, create, run}
 use Rattle.vm_cli.specs.declared.program.Exit.{Exit}
 use Rattle.vm_cli.specs.declared.program.Exit.TheVariants.{Done, Refused, Stopped}
 
@@ -53,6 +54,21 @@ pub record Declines (Denied : Type 0) (name : List ℕ) (exit : Exit) (old new :
       ⊎ ((contents : Contents) × (refusal : Refusal) × (old.files name ≡ Some contents) × IsRefusedDisk contents refusal
       × Tells Refused exit faults faults' (refused_text refusal))
 
+module _ {D : Type 0} (members : Ghosts D) where
+  -- the store in the file of this name was counted, and no file changed: at each moment its disk was as it was found, at most synced,
+  -- and the numbers are those of the tree that the file showed
+  pub record Counts (name : List ℕ) (exit : Exit) (old new : PlaceState) (before after : Option (List ℕ)) : Type 0 where
+    pub same : KeepsAll old new
+    pub found : disk.State
+    pub back : disk.State
+    pub held : old.files name ≡ Some found.now.contents
+    pub moments : Throughout found back (IsAtMostSynced found.now)
+    pub alternatives : ℕ
+    pub checkpoints : ℕ
+    pub free : ℕ
+    pub counted : IsCounted members found.now.contents alternatives checkpoints free
+    pub told : Tells Done exit before after (check_text alternatives checkpoints free)
+
 module _ {D : Type 0} (members : Ghosts D) (cached : Ghosts (CachedDisk D members)) where
   -- the lines of an input were answered over the file of this name, of which up to so many blocks stayed in memory
   pub record Answers (name : List ℕ) (cache : ℕ) (exit : Exit) (old new : PlaceState) (input before after : Option (List ℕ)) : Type 0 where
@@ -71,14 +87,18 @@ module _ {D : Type 0} (members : Ghosts D) (cached : Ghosts (CachedDisk D member
         → Keeps (members.state found) (members.state back) (opened tree)
         (commands_told members cached served (opened tree)) (answers_told members cached served (opened tree))
 
-  -- what a run of the program does to the files, where `Untouched` says that no call of the place was made, and `Denied` that one gave no
-  -- disk. A job is left undone without a call only where the program stops, as where memory for the words is wanting
-  pub record Does (Untouched Denied : Type 0) (words : List Text) (exit : Exit) (old new : PlaceState) (input before after faults faults' : Option (List ℕ)) : Type 0 where
+  -- what a run of the program does to the files, where `Untouched` says that no call of the place was made, `Reads` that no file was made
+  -- or opened to be written, and `Denied` that a call gave no disk. A job is left undone without a call only where the program stops, as
+  -- where memory for the words is wanting
+  pub record Does (Untouched Reads Denied : Type 0) (words : List Text) (exit : Exit) (old new : PlaceState) (input before after faults faults' : Option (List ℕ)) : Type 0 where
     -- words that ask for a new store make its file
     pub creates : (name : Text) (blocks : ℕ) → IsJob words (create name blocks)
         → Makes Denied name blocks exit old new faults faults' ⊎ ((exit ≡ Stopped) × Untouched)
     -- words that ask that lines are answered have them answered over the file, or it is said why not
     pub runs : (name : Text) (cache : ℕ) → IsJob words (run name cache)
         → Answers name cache exit old new input before after ⊎ (Declines Denied name exit old new faults faults' ⊎ ((exit ≡ Stopped) × Untouched))
+    -- words that ask for a check have the store in the file counted, or it is said why not; either way files are only read
+    pub checks : (name : Text) → IsJob words (check name)
+        → Reads × (Counts members name exit old new before after ⊎ (Declines Denied name exit old new faults faults' ⊎ ((exit ≡ Stopped) × Untouched)))
     -- words that ask for no job touch no file
     pub none : ((job : Wanted) → IsJob words job → ⊥) → Untouched

@@ -16,6 +16,7 @@ pub mod Feeding
 pub mod Keeps
 pub mod Sessions
 pub mod Caching
+pub mod Counting
 pub mod Places
 pub mod Files
 pub mod RealFiles

@@ -8,7 +8,7 @@ use Rattle.vm_disk.specs.declared.file.FileDisk.{FileDisk}
 use Rattle.vm_disk.specs.declared.system.SystemFile.{SystemFile}
 use Rattle.vm_cli.specs.Places.{PlaceState}
 use Rattle.vm_cli.specs.declared.place.Event.{Event}
-use Rattle.vm_cli.specs.declared.place.Event.TheVariants.{Found, Made, Given}
+use Rattle.vm_cli.specs.declared.place.Event.TheVariants.{Found, Looked, Made, Given}
 use Rattle.vm_cli.specs.declared.place.RealFiles.{RealFiles}
 
 -- the whole blocks of these bytes, as many as a disk may have
@@ -50,6 +50,7 @@ module _ {W : Type 0} (held : ℕ → List ℕ → Option (List ℕ)) (torn : �
   abbrev pub files_after : List (Event W) → List ℕ → Option Contents
   files_after [] name = blocks_held held 0 name
   files_after (Found file ∷ events) name = files_after events name
+  files_after (Looked file ∷ events) name = files_after events name
   files_after (Made file ∷ events) name = if bytes_eq name (name_of file.value) then blocks_held held (opening_of file.value + 1) name else files_after events name
   files_after (Given given disk ∷ events) name = if bytes_eq name (reverse (noted given)) then Some (real_disk disk.value).now.contents else files_after events name
 
@@ -57,6 +58,8 @@ module _ {W : Type 0} (held : ℕ → List ℕ → Option (List ℕ)) (torn : �
   abbrev pub honest_after : List (Event W) → Bool
   honest_after [] = true
   honest_after (Found file ∷ events) =
+      is_as_left (blocks_held held (opening_of file.value) (name_of file.value)) (files_after events (name_of file.value)) && honest_after events
+  honest_after (Looked file ∷ events) =
       is_as_left (blocks_held held (opening_of file.value) (name_of file.value)) (files_after events (name_of file.value)) && honest_after events
   honest_after (Made file ∷ events) = is_absent (files_after events (name_of file.value)) && honest_after events
   honest_after (Given given disk ∷ events) =

@@ -7,7 +7,7 @@ use Rattle.clap.specs.Words.{App, Row, Rule, Text, first_of, one_of, new_app, ne
 use Rattle.clap.specs.Simple.{on_top}
 use Rattle.clap.specs.declared.builder.value_parser.ValueParser.TheVariants as vp
 use Rattle.vm_cli.specs.declared.task.Job.{Job}
-use Rattle.vm_cli.specs.declared.task.Job.TheVariants.{Create, Run}
+use Rattle.vm_cli.specs.declared.task.Job.TheVariants.{Check, Create, Run}
 
 -- the name of a file, which has to be there
 abbrev pub file_rule : Rule
@@ -38,23 +38,29 @@ cache_rule = record (new_rule (codes "cache")) {
 abbrev pub run_app : App
 run_app = with_rule (with_rule (new_app (codes "run")) file_rule) cache_rule
 
+-- `check FILE`
+abbrev pub check_app : App
+check_app = with_rule (new_app (codes "check")) file_rule
+
 -- the program without its tasks, one of which has to be named
 abbrev pub top_app : App
 top_app = on_top (λ s. record s { subcommand_required = true }) (new_app (codes "altctl"))
 
--- `altctl create FILE BLOCKS` and `altctl run [--cache N] FILE`
+-- `altctl create FILE BLOCKS`, `altctl run [--cache N] FILE` and `altctl check FILE`
 abbrev pub altctl : App
-altctl = with_subcommand (with_subcommand top_app create_app.top) run_app.top
+altctl = with_subcommand (with_subcommand (with_subcommand top_app create_app.top) run_app.top) check_app.top
 
 -- a job, with the file's name itself in place of a reference to it
 pub data Wanted : Type 0 where
   create : Text → ℕ → Wanted
   run : Text → ℕ → Wanted
+  check : Text → Wanted
 
 -- what a job wants
 abbrev pub wanted_of : Job → Wanted
 wanted_of (Create file blocks) = create file.now blocks
 wanted_of (Run file cache) = run file.now cache
+wanted_of (Check file) = check file.now
 
 -- the number that a text says, where it lies in the range
 abbrev pub number_in : ℕ → ℕ → Text → Option ℕ
@@ -64,7 +70,8 @@ number_in low high text = if is_unsigned_in low high text then Some (digits_valu
 abbrev pub asked_by : Text → List Row → Text → Option Wanted
 asked_by name rows file =
     if bytes_eq name (codes "create") then option_map (create file) (option_and_then (number_in 64 1048576) (one_of (codes "blocks") rows))
-    else (if bytes_eq name (codes "run") then option_map (run file) (option_and_then (number_in 0 65536) (one_of (codes "cache") rows)) else None)
+    else (if bytes_eq name (codes "run") then option_map (run file) (option_and_then (number_in 0 65536) (one_of (codes "cache") rows))
+    else (if bytes_eq name (codes "check") then Some (check file) else None))
 
 -- the job that the matches of a subcommand ask for
 abbrev pub asked_of : Option (Text × List Row) → Option Wanted

@@ -31,7 +31,8 @@ A session, where each line after > is typed, and its answer stands below it:
   ok
 
 What was not committed is gone when the input ends. altctl create --help says
-how many blocks to take, altctl run --help lists all lines and answers.
+how many blocks to take, altctl run --help lists all lines and answers, and
+altctl check --help says when to check a store.
 
 Status: 0 where all was done, though single lines may have been refused; 1 where
 the file could not be made or opened, or is refused; 2 where the words are
@@ -67,6 +68,34 @@ A session:
 
   $ altctl create map.alt 1024
   created 1024";
+
+/// What `check` does.
+pub const CHECK: &str = "\
+Opens a store for reading alone, changes nothing, and prints how many
+alternatives, checkpoints and free blocks it has.";
+
+/// The file that `check` opens.
+pub const CHECK_FILE: &str = "The file, which need not be one that may be written";
+
+/// When to check a store.
+pub const CHECK_AFTER: &str = "\
+Every block that a version needs is read and tested, just as at the beginning of
+a run, so a store that is checked without a refusal can be run. When to use it:
+
+  - after a crash of the machine, before the store is used again
+  - before a copy, so that a good copy is not replaced by one of a damaged store
+  - after a restore
+
+A refusal is printed as by altctl run: 18 Damaged BLOCK names the first block
+that is wrong, 19 NotAStore says that the file is no store. The free blocks are
+those that a run has free at its beginning.
+
+A session:
+
+  $ altctl check map.alt
+  alternatives 2
+  checkpoints 0
+  free 989";
 
 /// What `run` does.
 pub const RUN: &str = "\

@@ -7,6 +7,7 @@
 #![tactic(auto)]
 
 mod caching;
+mod counting;
 mod escape;
 mod help;
 mod line;

@@ -26,6 +26,7 @@ pub struct MemFiles {
     slots: BTreeMap<String, Slot>,
     honest: bool,
     denied: History<()>,
+    to_write: History<()>,
 }
 
 impl MemFiles {
@@ -42,6 +43,7 @@ impl MemFiles {
             slots: BTreeMap::new(alloc),
             honest: true,
             denied: History::new(),
+            to_write: History::new(),
         }
     }
 
@@ -55,6 +57,7 @@ impl MemFiles {
     // Makes a disk under a name that is not there yet.
     fn made(&mut self, file: &str, blocks: u32) -> Option<MemDisk>
         ensures denied { noted self.new.denied ≡ noted self.old.denied }
+        ensures to_write { noted self.new.to_write ≡ noted self.old.to_write }
         ensures earlier { (files_state self.new).honest ≡ true → (files_state self.old).honest ≡ true }
         ensures honest { (files_state self.new).honest ≡ true
             → Creates file.now blocks (option_map memory_state result) (files_state self.old) (files_state self.new) }
@@ -75,6 +78,7 @@ impl MemFiles {
     // Takes out a disk that is in.
     fn found(&mut self, file: &str) -> Option<MemDisk>
         ensures denied { noted self.new.denied ≡ noted self.old.denied }
+        ensures to_write { noted self.new.to_write ≡ noted self.old.to_write }
         ensures earlier { (files_state self.new).honest ≡ true → (files_state self.old).honest ≡ true }
         ensures honest { (files_state self.new).honest ≡ true
             → Finds file.now (option_map memory_state result) (files_state self.old) (files_state self.new) }
@@ -95,7 +99,10 @@ impl Place for MemFiles {
 
     ghost denied = { λ place. length (noted place.denied) };
 
+    ghost to_write = { λ place. length (noted place.to_write) };
+
     fn create(&mut self, file: &str, blocks: u32) -> Option<MemDisk> {
+        self.to_write.note(&());
         let made = self.made(file, blocks);
         if made.is_none() {
             self.denied.note(&());
@@ -104,6 +111,11 @@ impl Place for MemFiles {
     }
 
     fn find(&mut self, file: &str) -> Option<MemDisk> {
+        self.to_write.note(&());
+        self.look(file)
+    }
+
+    fn look(&mut self, file: &str) -> Option<MemDisk> {
         let found = self.found(file);
         if found.is_none() {
             self.denied.note(&());

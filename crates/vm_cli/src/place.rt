@@ -23,10 +23,14 @@ pub trait Place {
     /// How often it gave no disk, for contracts alone.
     ghost denied: { Self → ℕ };
 
+    /// How often it was asked for a disk that may be written, for contracts alone.
+    ghost to_write: { Self → ℕ };
+
     /// Makes a disk that is not there yet, of this many zero blocks.
     fn create(&mut self, file: &str, blocks: u32) -> Option<Self::D>
         ensures none { result ≡ None → denied self.new ≡ denied self.old + 1 }
         ensures some { IfSome result (λ disk. denied self.new ≡ denied self.old) }
+        ensures writes { to_write self.new ≡ to_write self.old + 1 }
         ensures earlier { (state self.new).honest ≡ true → (state self.old).honest ≡ true }
         ensures honest { (state self.new).honest ≡ true
             → Creates file.now blocks (option_map Self.D.state result) (state self.old) (state self.new) };
@@ -35,6 +39,16 @@ pub trait Place {
     fn find(&mut self, file: &str) -> Option<Self::D>
         ensures none { result ≡ None → denied self.new ≡ denied self.old + 1 }
         ensures some { IfSome result (λ disk. denied self.new ≡ denied self.old) }
+        ensures writes { to_write self.new ≡ to_write self.old + 1 }
+        ensures earlier { (state self.new).honest ≡ true → (state self.old).honest ≡ true }
+        ensures honest { (state self.new).honest ≡ true
+            → Finds file.now (option_map Self.D.state result) (state self.old) (state self.new) };
+
+    /// A disk that is there, for reading alone: it need not be one that may be written.
+    fn look(&mut self, file: &str) -> Option<Self::D>
+        ensures none { result ≡ None → denied self.new ≡ denied self.old + 1 }
+        ensures some { IfSome result (λ disk. denied self.new ≡ denied self.old) }
+        ensures reads { to_write self.new ≡ to_write self.old }
         ensures earlier { (state self.new).honest ≡ true → (state self.old).honest ≡ true }
         ensures honest { (state self.new).honest ≡ true
             → Finds file.now (option_map Self.D.state result) (state self.old) (state self.new) };
@@ -42,6 +56,7 @@ pub trait Place {
     /// Takes a disk back that it gave.
     fn give_back(&mut self, file: &str, disk: Self::D)
         ensures denied { denied self.new ≡ denied self.old }
+        ensures reads { to_write self.new ≡ to_write self.old }
         ensures earlier { (state self.new).honest ≡ true → (state self.old).honest ≡ true }
         ensures honest { (state self.new).honest ≡ true
             → TakesBack file.now (Self.D.state disk) (state self.old) (state self.new) };
@@ -51,6 +66,7 @@ pub trait Place {
 #[derive(Drop)]
 enum Event<W> {
     Found(Snapshot<SystemFile<W>>),
+    Looked(Snapshot<SystemFile<W>>),
     Made(Snapshot<SystemFile<W>>),
     Given(History<u8>, Snapshot<FileDisk<SystemFile<W>>>),
 }
@@ -71,6 +87,7 @@ pub struct RealFiles<'a, R, W> {
     opened: History<()>,
     events: History<Event<W>>,
     denied: History<()>,
+    to_write: History<()>,
     world: PhantomData<W>,
 }
 
@@ -93,6 +110,7 @@ impl<'a, R: Files<File = File>, W> RealFiles<'a, R, W> {
             opened: History::new(),
             events: History::new(),
             denied: History::new(),
+            to_write: History::new(),
             world: PhantomData,
         })
     }
@@ -104,6 +122,7 @@ impl<R: Files<File = File>, W: World> RealFiles<'_, R, W> {
     // Makes a file that is not there yet, and a disk of it.
     fn made(&mut self, file: &str, blocks: u32) -> Option<FileDisk<SystemFile<W>>>
         ensures denied { noted self.new.denied ≡ noted self.old.denied }
+        ensures to_write { noted self.new.to_write ≡ noted self.old.to_write }
         ensures earlier { (real_state W.held W.torn self.new).honest ≡ true → (real_state W.held W.torn self.old).honest ≡ true }
         ensures honest { (real_state W.held W.torn self.new).honest ≡ true
             → Creates file.now blocks (option_map (real_disk W.held W.torn) result) (real_state W.held W.torn self.old) (real_state W.held W.torn self.new) }
@@ -117,6 +136,7 @@ impl<R: Files<File = File>, W: World> RealFiles<'_, R, W> {
     // Opens a file that is there, as a disk.
     fn found(&mut self, file: &str) -> Option<FileDisk<SystemFile<W>>>
         ensures denied { noted self.new.denied ≡ noted self.old.denied }
+        ensures to_write { noted self.new.to_write ≡ noted self.old.to_write }
         ensures earlier { (real_state W.held W.torn self.new).honest ≡ true → (real_state W.held W.torn self.old).honest ≡ true }
         ensures honest { (real_state W.held W.torn self.new).honest ≡ true
             → Finds file.now (option_map (real_disk W.held W.torn) result) (real_state W.held W.torn self.old) (real_state W.held W.torn self.new) }
@@ -125,6 +145,20 @@ impl<R: Files<File = File>, W: World> RealFiles<'_, R, W> {
         self.opened.note(&());
         self.events.note(&Event::Found(Snapshot::of(&found)));
         FileDisk::open(found).ok()
+    }
+
+    // Opens a file that is there for reading alone, as a disk.
+    fn looked(&mut self, file: &str) -> Option<FileDisk<SystemFile<W>>>
+        ensures denied { noted self.new.denied ≡ noted self.old.denied }
+        ensures to_write { noted self.new.to_write ≡ noted self.old.to_write }
+        ensures earlier { (real_state W.held W.torn self.new).honest ≡ true → (real_state W.held W.torn self.old).honest ≡ true }
+        ensures honest { (real_state W.held W.torn self.new).honest ≡ true
+            → Finds file.now (option_map (real_disk W.held W.torn) result) (real_state W.held W.torn self.old) (real_state W.held W.torn self.new) }
+    {
+        let found = SystemFile::open_to_read(self.rt, file, &self.opened)?;
+        self.opened.note(&());
+        self.events.note(&Event::Looked(Snapshot::of(&found)));
+        FileDisk::open(found)
     }
 }
 
@@ -137,7 +171,10 @@ impl<R: Files<File = File>, W: World> Place for RealFiles<'_, R, W> {
 
     ghost denied = { λ place. length (noted place.denied) };
 
+    ghost to_write = { λ place. length (noted place.to_write) };
+
     fn create(&mut self, file: &str, blocks: u32) -> Option<FileDisk<SystemFile<W>>> {
+        self.to_write.note(&());
         let made = self.made(file, blocks);
         if made.is_none() {
             self.denied.note(&());
@@ -146,7 +183,16 @@ impl<R: Files<File = File>, W: World> Place for RealFiles<'_, R, W> {
     }
 
     fn find(&mut self, file: &str) -> Option<FileDisk<SystemFile<W>>> {
+        self.to_write.note(&());
         let found = self.found(file);
+        if found.is_none() {
+            self.denied.note(&());
+        }
+        found
+    }
+
+    fn look(&mut self, file: &str) -> Option<FileDisk<SystemFile<W>>> {
+        let found = self.looked(file);
         if found.is_none() {
             self.denied.note(&());
         }

@@ -1,6 +1,7 @@
 //! All that the program does.
 
 use crate::caching::answer_lines_cached;
+use crate::counting::{Counts, count};
 use crate::place::Place;
 use crate::reply::push_refusal;
 use crate::talk::serve;
@@ -52,10 +53,12 @@ ghost use Rattle.vm_types.specs.declared.refusal.Refusal.{Refusal as RefusalValu
 ghost use Rattle.vm_disk.specs.Disk.{Goes};
 ghost use Rattle.vm_disk.specs.Moments.{Throughout};
 ghost use Rattle.vm_store.specs.Formatting.{IsFormatting};
-ghost use Rattle.vm_cli.specs.Files.{Answers, Declines, Does, Makes};
+ghost use Rattle.vm_store.specs.Refused.{IsAtMostSynced, IsRefused as IsRefusedDisk};
+ghost use Rattle.vm_cli.specs.Counting.{IsCounted};
+ghost use Rattle.vm_cli.specs.Files.{Answers, Counts as CountsFile, Declines, Does, Makes};
 ghost use Rattle.vm_cli.specs.Sessions.{HasMade, HasMadeNone, HasRefused, HasServed};
-ghost use Rattle.vm_cli.specs.Exits.{Ends, IsDone, IsHelp, MayRefuse, IsRefused, IsStopped, IsCutShort, IsWrong, SaysRefused, Tells, created_text, file_text, refused_text, status_of, stopped_text, unreadable_text};
-ghost use Rattle.vm_cli.specs.Words.Wanted.{create as create_wanted, run as run_wanted};
+ghost use Rattle.vm_cli.specs.Exits.{Ends, IsDone, IsHelp, MayRefuse, IsRefused, IsStopped, IsCutShort, IsWrong, SaysRefused, Tells, check_text, created_text, file_text, refused_text, status_of, stopped_text, unreadable_text};
+ghost use Rattle.vm_cli.specs.Words.Wanted.{check as check_wanted, create as create_wanted, run as run_wanted};
 
 /// Does what the words say, of which the first is the program's name, and gives the exit status.
 /// Each disk that the place gave is given back.
@@ -76,7 +79,7 @@ pub fn run_words<P: Place, R: Read, W: Write, F: Write>(
     // that is said to the faults behind what the job said.
     ensures files { (P.state place.new).honest ≡ true
         → ((exit : Exit) × (said : F) × (result ≡ status_of exit) × (exit ≢ Exit.Stopped → said ≡ faults.new)
-        × Does P.D.Disk ⟦<CachedDisk<P::D> as Disk>⟧ (place.new ≡ place.old) (P.denied place.new ≡ P.denied place.old + 1) (map string_bytes words.now) exit (P.state place.old) (P.state place.new)
+        × Does P.D.Disk ⟦<CachedDisk<P::D> as Disk>⟧ (place.new ≡ place.old) (P.to_write place.new ≡ P.to_write place.old) (P.denied place.new ≡ P.denied place.old + 1) (map string_bytes words.now) exit (P.state place.old) (P.state place.new)
         (R.remaining input.old) (W.contents output.old) (W.contents output.new) (F.contents faults.old) (F.contents said)) }
 {
     match carry_out(alloc, words, place, input, output, faults) {
@@ -117,12 +120,13 @@ fn carry_out<P: Place, R: Read, W: Write, F: Write>(
 ) -> Exit
     ensures ends { Ends W.contents F.contents result (map string_bytes words.now) output.old output.new faults.old faults.new }
     ensures files { (P.state place.new).honest ≡ true
-        → Does P.D.Disk ⟦<CachedDisk<P::D> as Disk>⟧ (place.new ≡ place.old) (P.denied place.new ≡ P.denied place.old + 1) (map string_bytes words.now) result (P.state place.old) (P.state place.new)
+        → Does P.D.Disk ⟦<CachedDisk<P::D> as Disk>⟧ (place.new ≡ place.old) (P.to_write place.new ≡ P.to_write place.old) (P.denied place.new ≡ P.denied place.old + 1) (map string_bytes words.now) result (P.state place.old) (P.state place.new)
         (R.remaining input.old) (W.contents output.old) (W.contents output.new) (F.contents faults.old) (F.contents faults.new) }
 {
     match job(alloc, words) {
         Ok(Job::Create { file, blocks }) => create(file, blocks, place, output, faults),
         Ok(Job::Run { file, cache }) => run(alloc, file, cache, place, input, output, faults),
+        Ok(Job::Check { file }) => check(alloc, file, place, output, faults),
         Err(error) => explain(alloc, &error, output, faults),
     }
 }
@@ -224,6 +228,73 @@ pub(crate) fn answer_lines<D: Disk, R: Read, W: Write, F: Write>(
         }
         Err((disk, refusal)) => (refused(&refusal, faults), disk),
     }
+}
+
+// Opens the store in a file for reading alone, and says what it holds.
+fn check<P: Place, W: Write, F: Write>(
+    alloc: Global,
+    file: &str,
+    place: &mut P,
+    output: &mut W,
+    faults: &mut F,
+) -> Exit
+    ensures says { ((faults.new ≡ faults.old) × ((alternatives : ℕ) × (checkpoints : ℕ) × (free : ℕ)
+        × Tells Exit.Done result (W.contents output.old) (W.contents output.new) (check_text alternatives checkpoints free)))
+        ⊎ ((output.new ≡ output.old) × ((text : List ℕ) × SaysRefused (check_wanted file.now) text
+        × Tells Exit.Refused result (F.contents faults.old) (F.contents faults.new) text)) }
+    ensures reads { P.to_write place.new ≡ P.to_write place.old }
+    ensures files { (P.state place.new).honest ≡ true
+        → CountsFile P.D.Disk file.now result (P.state place.old) (P.state place.new) (W.contents output.old) (W.contents output.new)
+        ⊎ Declines (P.denied place.new ≡ P.denied place.old + 1) file.now result (P.state place.old) (P.state place.new) (F.contents faults.old) (F.contents faults.new) }
+{
+    let Some(disk) = place.look(file) else {
+        return no_file(b"altctl: cannot open ", file, faults);
+    };
+    let (exit, checked) = check_disk(alloc, disk, output, faults);
+    place.give_back(file, checked);
+    exit
+}
+
+// Opens the store on a disk, and says what it holds.
+fn check_disk<D: Disk, W: Write, F: Write>(
+    alloc: Global,
+    disk: D,
+    output: &mut W,
+    faults: &mut F,
+) -> (Exit, D)
+    ensures ends { ((faults.new ≡ faults.old) × ((alternatives : ℕ) × (checkpoints : ℕ) × (free : ℕ)
+        × Tells Exit.Done result.0 (W.contents output.old) (W.contents output.new) (check_text alternatives checkpoints free)))
+        ⊎ ((output.new ≡ output.old) × ((refusal : RefusalValue) × Tells Exit.Refused result.0 (F.contents faults.old) (F.contents faults.new) (refused_text refusal))) }
+    ensures goes { Goes ⊥ (D.state disk) (D.state result.1) }
+    // At each moment nothing has changed, or all is synced.
+    ensures moments { (D.state result.1).honest ≡ true → Throughout (D.state disk) (D.state result.1) (IsAtMostSynced (D.state disk).now) }
+    // The numbers are those of the tree that the disk shows; or it is said why it shows no store.
+    ensures told { (D.state result.1).honest ≡ true
+        → ((alternatives : ℕ) × (checkpoints : ℕ) × (free : ℕ) × IsCounted D.Disk (D.state disk).now.contents alternatives checkpoints free
+        × Tells Exit.Done result.0 (W.contents output.old) (W.contents output.new) (check_text alternatives checkpoints free))
+        ⊎ ((refusal : RefusalValue) × IsRefusedDisk (D.state disk).now.contents refusal
+        × Tells Exit.Refused result.0 (F.contents faults.old) (F.contents faults.new) (refused_text refusal)) }
+{
+    match open(alloc, disk) {
+        Ok(store) => {
+            let counts = count(alloc, &store);
+            let disk = store.close();
+            match counts {
+                Ok(counts) => (counted(&counts, output), disk),
+                Err(refusal) => (refused(&refusal, faults), disk),
+            }
+        }
+        Err((disk, refusal)) => (refused(&refusal, faults), disk),
+    }
+}
+
+// Says what a store holds.
+fn counted<W: Write>(counts: &Counts, output: &mut W) -> Exit
+    ensures { Tells Exit.Done result (W.contents output.old) (W.contents output.new) (check_text counts.now.alternatives counts.now.checkpoints counts.now.free) }
+{
+    let mut text = Text::new();
+    counts.push_onto(&mut text);
+    unless_fault(say(output, text.as_bytes()), Exit::Done)
 }
 
 // Says that a store was made.

@@ -7,4 +7,6 @@ pub enum Job<'a> {
     Create { file: &'a str, blocks: u32 },
     /// Opens the store in a file, and answers lines. Up to `cache` of its blocks are kept in memory.
     Run { file: &'a str, cache: u32 },
+    /// Opens the store in a file for reading alone, and counts what it holds.
+    Check { file: &'a str },
 }

@@ -3,7 +3,7 @@ ghost use Rattle.clap.specs.Words.{FailsBy, app_of, fault_of, kind_of, one_of, r
 ghost use Rattle.clap.specs.declared.builder.command.Command.TheViews.{out-Command};
 ghost use Rattle.std.specs.Prelude.{◌≡◌, ◌⊎◌, IfErr, IfOk, None, Some, false, map, ℕ, List, option_map, option_and_then, codes};
 ghost use Rattle.std.specs.String.{string_bytes};
-ghost use Rattle.vm_cli.specs.Words.{altctl, asked_by, asked_of, blocks_rule, cache_rule, create_app, file_rule, number_in, run_app, top_app, wanted_of};
+ghost use Rattle.vm_cli.specs.Words.{altctl, asked_by, asked_of, blocks_rule, cache_rule, check_app, create_app, file_rule, number_in, run_app, top_app, wanted_of};
 
 use crate::help;
 use crate::task::Job;
@@ -49,6 +49,7 @@ fn asked<'a>(matches: &ArgMatches<'a>) -> Option<Job<'a>>
             let cache = number_of(matches, "cache", 0, MOST_CACHE)?;
             Some(Job::Run { file, cache })
         }
+        "check" => Some(Job::Check { file }),
         _ => None,
     }
 }
@@ -73,7 +74,8 @@ fn command<'a>(alloc: Global) -> Result<Command<'a>, AllocError>
 {
     top(alloc)?
         .subcommand(create(alloc)?)?
-        .subcommand(run(alloc)?)
+        .subcommand(run(alloc)?)?
+        .subcommand(check(alloc)?)
 }
 
 fn top<'a>(alloc: Global) -> Result<Command<'a>, AllocError>
@@ -111,6 +113,17 @@ fn run<'a>(alloc: Global) -> Result<Command<'a>, AllocError>
         .after_long_help(help::RUN_AFTER)
         .arg(file(alloc, help::RUN_FILE))?
         .arg(cache(alloc))
+}
+
+fn check<'a>(alloc: Global) -> Result<Command<'a>, AllocError>
+    ensures app { IfOk result (λ c. app_of c ≡ check_app) }
+    ensures local { IfOk result (λ c. (out-Command c).has_globals ≡ false) }
+{
+    Command::new(alloc, "check")
+        .about("Opens a store, changes nothing, and prints what it holds")
+        .long_about(help::CHECK)
+        .after_long_help(help::CHECK_AFTER)
+        .arg(file(alloc, help::CHECK_FILE))
 }
 
 fn file<'a>(alloc: Global, about: &'a str) -> Arg<'a>

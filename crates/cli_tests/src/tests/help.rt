@@ -81,7 +81,12 @@ fn answers_of<R: AllocGlobal>(rt: &R, session: &[(&str, &str)]) -> Result<String
 #[test]
 fn shows_what_the_program_is(rt: HostRuntime) -> Result<(), Fail> {
     let text = shown(&rt, ["altctl", "--help"].as_slice())?;
-    for part in ["Usage: altctl <COMMAND>", "  create  ", "  run  "] {
+    for part in [
+        "Usage: altctl <COMMAND>",
+        "  create  ",
+        "  run  ",
+        "  check  ",
+    ] {
         assert!(rt; text.contains(part));
     }
     assert!(rt; text.contains("  $ altctl create map.alt 1024\n  created 1024\n"));
@@ -99,6 +104,22 @@ fn shows_how_to_choose_the_blocks(rt: HostRuntime) -> Result<(), Fail> {
         "4,096 bytes",
         "docs/OPERATING.md",
         "  $ altctl create map.alt 1024\n  created 1024\n",
+    ] {
+        assert!(rt; text.contains(part));
+    }
+    Ok(())
+}
+
+#[test]
+fn shows_when_to_check(rt: HostRuntime) -> Result<(), Fail> {
+    let text = shown(&rt, ["altctl", "check", "--help"].as_slice())?;
+    for part in [
+        "Usage: altctl check <FILE>",
+        "after a crash of the machine",
+        "before a copy",
+        "after a restore",
+        "18 Damaged BLOCK",
+        "  $ altctl check map.alt\n  alternatives 2\n  checkpoints 0\n  free 989\n",
     ] {
         assert!(rt; text.contains(part));
     }
@@ -166,6 +187,8 @@ fn shows_help_in_eighty_columns(rt: HostRuntime) -> Result<(), Fail> {
         ["altctl", "create", "--help"].as_slice(),
         ["altctl", "run", "--help"].as_slice(),
         ["altctl", "run", "-h"].as_slice(),
+        ["altctl", "help", "check"].as_slice(),
+        ["altctl", "check", "--help"].as_slice(),
     ] {
         let text = shown(&rt, words)?;
         assert!(rt; !text.is_empty() && text.lines().all(|line| line.len() <= 80));
@@ -185,6 +208,9 @@ fn refuses_wrong_words(rt: HostRuntime) -> Result<(), Fail> {
         ["altctl", "run"].as_slice(),
         ["altctl", "run", "f", "g"].as_slice(),
         ["altctl", "run", "--fast", "f"].as_slice(),
+        ["altctl", "check"].as_slice(),
+        ["altctl", "check", "f", "g"].as_slice(),
+        ["altctl", "check", "--cache", "0", "f"].as_slice(),
     ] {
         let refused = ran(rt.alloc(), &mut files, words, b"")?;
         assert_eq!(rt; refused.status, 2);

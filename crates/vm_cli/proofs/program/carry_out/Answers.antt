@@ -2,9 +2,9 @@ use Rattle.std.proofs.Common.{map, inl, inr, refl}
 use Rattle.std.specs.String.{string_bytes}
 use Rattle.clap.specs.Words.{kind_of}
 use Rattle.vm_cli.specs.Exits.{IsJob}
-use Rattle.vm_cli.specs.Words.Wanted.{create, run}
-use Rattle.vm_cli.proofs.ExitLemmas.{help_or_mistake, helped, made, mistaken, no_memory, talked}
-use Rattle.vm_cli.proofs.FilesLemmas.{did_create, did_nothing, did_run, no_fault}
+use Rattle.vm_cli.specs.Words.Wanted.{check, create, run}
+use Rattle.vm_cli.proofs.ExitLemmas.{checked, help_or_mistake, helped, made, mistaken, no_memory, talked}
+use Rattle.vm_cli.proofs.FilesLemmas.{did_check, did_create, did_nothing, did_run, no_fault}
 use Rattle.vm_cli.proofs.program.carry_out.Goals as goal
 
 pub returns-in-Ok-Create-clause-ends : goal.returns-in-Ok-Create-clause-ends
@@ -20,6 +20,13 @@ returns-in-Ok-Run-clause-ends g c =
     let e = rw c.in-Ok-Run.field-0-is at c.in-Ok-Run.ensures in
     let job : IsJob words (run c.in-Ok-Run.file.now c.in-Ok-Run.cache) = (e.faults, e.ok) in
     talked g.W.Write.contents g.F.Write.contents words _ _ _ _ c.in-Ok-Run.file.now c.in-Ok-Run.cache _ job c.run.ensures.says
+
+pub returns-in-Ok-Check-clause-ends : goal.returns-in-Ok-Check-clause-ends
+returns-in-Ok-Check-clause-ends g c =
+    let words = map string_bytes c.args.words.now in
+    let e = rw c.in-Ok-Check.field-0-is at c.in-Ok-Check.ensures in
+    let job : IsJob words (check c.in-Ok-Check.file.now) = (e.faults, e.ok) in
+    checked g.W.Write.contents g.F.Write.contents words _ _ _ _ c.in-Ok-Check.file.now _ job c.check.ensures.says
 
 pub returns-in-Err-clause-ends : goal.returns-in-Err-clause-ends
 returns-in-Err-clause-ends g c =
@@ -37,19 +44,26 @@ returns-in-Ok-Create-clause-files g c honest =
     let words = map string_bytes c.args.words.now in
     let e = rw c.in-Ok-Create.field-0-is at c.in-Ok-Create.ensures in
     let job : IsJob words (create c.in-Ok-Create.file.now c.in-Ok-Create.blocks) = (e.faults, e.ok) in
-    did_create g.P.D.Disk _ _ _ words _ _ _ _ _ _ _ _ _ _ job (c.create.ensures.files honest)
+    did_create g.P.D.Disk _ _ _ _ words _ _ _ _ _ _ _ _ _ _ job (c.create.ensures.files honest)
 
 pub returns-in-Ok-Run-clause-files : goal.returns-in-Ok-Run-clause-files
 returns-in-Ok-Run-clause-files g c honest =
     let words = map string_bytes c.args.words.now in
     let e = rw c.in-Ok-Run.field-0-is at c.in-Ok-Run.ensures in
     let job : IsJob words (run c.in-Ok-Run.file.now c.in-Ok-Run.cache) = (e.faults, e.ok) in
-    did_run g.P.D.Disk _ _ _ words _ _ _ _ _ _ _ _ c.in-Ok-Run.file.now c.in-Ok-Run.cache job (c.run.ensures.files honest)
+    did_run g.P.D.Disk _ _ _ _ words _ _ _ _ _ _ _ _ c.in-Ok-Run.file.now c.in-Ok-Run.cache job (c.run.ensures.files honest)
+
+pub returns-in-Ok-Check-clause-files : goal.returns-in-Ok-Check-clause-files
+returns-in-Ok-Check-clause-files g c honest =
+    let words = map string_bytes c.args.words.now in
+    let e = rw c.in-Ok-Check.field-0-is at c.in-Ok-Check.ensures in
+    let job : IsJob words (check c.in-Ok-Check.file.now) = (e.faults, e.ok) in
+    did_check g.P.D.Disk _ _ _ _ words _ _ _ _ _ _ _ _ c.in-Ok-Check.file.now job c.check.ensures.reads (c.check.ensures.files honest)
 
 pub returns-in-Err-clause-files : goal.returns-in-Err-clause-files
 returns-in-Err-clause-files g c honest =
     let words = map string_bytes c.args.words.now in
-    did_nothing g.P.D.Disk _ _ _ words _ _ _ _ _ _ _ _ refl (λ job asked. elim c.in-Err.ensures.faults [
+    did_nothing g.P.D.Disk _ _ _ _ words _ _ _ _ _ _ _ _ refl refl (λ job asked. elim c.in-Err.ensures.faults [
       | inl memory ↦ (c.explain.ensures.memory memory).0
       | inr among ↦ absurd (no_fault (kind_of c.in-Err.error) words job asked among)
     ])

@@ -1,0 +1,24 @@
+-- What a check of a store counts.
+use Rattle.std.specs.Prelude.{◌≡◌, ℕ, length, sum_by}
+use Rattle.vm_types.specs.Tree.{Tree}
+use Rattle.vm_disk.specs.Disk.{Contents}
+use Rattle.vm_disk.specs.declared.disk.Disk.{Ghosts}
+use Rattle.vm_store.specs.Opening.{OpensAs}
+use Rattle.vm_store.specs.Resting.{spare_of}
+use Rattle.vm_store.specs.Store.{disk_of}
+use Rattle.vm_store.specs.declared.store.Store.{Store}
+
+-- how many checkpoints the alternatives of a tree have together
+abbrev pub checkpoint_count : Tree → ℕ
+checkpoint_count tree = sum_by (λ a. length a.saved) tree
+
+module _ {D : Type 0} (members : Ghosts D) where
+  -- these contents show a tree of so many alternatives and checkpoints, and a store that stands for it on a disk that holds them has so
+  -- many spare blocks, all of which are free
+  pub record IsCounted (x : Contents) (alternatives checkpoints free : ℕ) : Type 0 where
+    pub store : Store D members
+    pub over : (members.state (disk_of store)).now.contents ≡ x
+    pub opens : OpensAs x store
+    pub alternatives_are : alternatives ≡ length opens.tree
+    pub checkpoints_are : checkpoints ≡ checkpoint_count opens.tree
+    pub free_are : free ≡ spare_of opens.holds
