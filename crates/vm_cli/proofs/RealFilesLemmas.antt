@@ -146,10 +146,11 @@ module _ {W : Type 0} (held : ℕ → List ℕ → Option (List ℕ)) (torn : �
 module _ {W : Type 0} (held : ℕ → List ℕ → Option (List ℕ)) (torn : ℕ → List ℕ → ℕ → List ℕ) (path : List ℕ) (old new : List (Event W)) where
   -- a file was opened for reading alone: what is known of the files is as if it had been found
   pub looks : (file : SystemFile W) (noted_file : Snapshot (SystemFile W)) → noted_file.value ≡ file → name_of file ≡ path → (opened : ℕ) → opening_of file ≡ opened → new ≡ Looked noted_file ∷ old
-      → system_state held torn file ≡ fresh (held_bytes (held opened path)) → (result : Option (FileDisk (SystemFile W)))
-      → IfSome result (λ disk. (system_state held torn (file_of disk)).honest ≡ true → IsOpened (system_state held torn file) (real_disk held torn disk))
-      → honest_after held torn new ≡ true → Finds path (option_map (real_disk held torn) result) (known held torn path old new old) (known held torn path old new new)
-  looks file noted_file is name opened opening more state result told honest =
+      → system_state held torn file ≡ fresh (held_bytes (held opened path)) → (result : Result (FileDisk (SystemFile W)) (SystemFile W))
+      → IfOk result (λ disk. (system_state held torn (file_of disk)).honest ≡ true → IsOpened (system_state held torn file) (real_disk held torn disk))
+      → (seen : Option (FileDisk (SystemFile W))) → seen ≡ result_ok result
+      → honest_after held torn new ≡ true → Finds path (option_map (real_disk held torn) seen) (known held torn path old new old) (known held torn path old new new)
+  looks file noted_file is name opened opening more state result told seen said honest =
       let all : honest_after held torn (Found noted_file ∷ old) ≡ true = rw more at honest in
-      let found = finds held torn path old (Found noted_file ∷ old) file noted_file is name opened opening refl state result told all in
+      let found = finds held torn path old (Found noted_file ∷ old) file noted_file is name opened opening refl state result told seen said all in
       record { held = found.held; same = λ other. rw more (found.same other) }

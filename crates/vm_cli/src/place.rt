@@ -158,7 +158,7 @@ impl<R: Files<File = File>, W: World> RealFiles<'_, R, W> {
         let found = SystemFile::open_to_read(self.rt, file, &self.opened)?;
         self.opened.note(&());
         self.events.note(&Event::Looked(Snapshot::of(&found)));
-        FileDisk::open(found)
+        FileDisk::open(found).ok()
     }
 }
 

@@ -5,4 +5,4 @@ pub returns-clause-honest : goal.returns-clause-honest
 returns-clause-honest g c honest =
     let file = c.in_ok-found in
     looks g.W.World.held g.W.World.torn c.args.file.now _ _ file.found _ c.of.ensures file.ensures.name _ file.ensures.opening
-    c.note-2.ensures file.ensures.state c.open.result c.open.ensures.opened honest
+    c.note-2.ensures file.ensures.state c.open.result c.open.ensures.opened _ c.ok.ensures.value honest
