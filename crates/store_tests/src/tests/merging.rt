@@ -1,262 +1,118 @@
 //! What a Merge answers, and what it leaves in both alternatives.
-use super::commands::{
-    DONE, FIRST, SECOND, THIRD, back, changes_of, check, conflicts_of, merge, new, post,
-};
-use super::differences::{change, conflict};
-use super::removing::{remove, remove_from};
-use super::{
-    OverMemory, expect, expect_list, expect_records, fresh_over, fresh_store, get, get_in, list,
-    list_of, put, put_in,
-};
-use std::process::Abort;
-use std::test::Fail;
-use vm_disk::{CachedDisk, MemDisk};
-use vm_types::{Answer, Refusal, Side, Value};
+use super::script::{NEW, in_memory, on_both};
 
-fn conflict_is_settled_by_the_parents_value_over<M: OverMemory, R: AllocGlobal + Abort>(
-    rt: &R,
-) -> Result<(), Fail> {
-    let mut store = fresh_over::<M>(rt.alloc())?;
-    let unsettled = [
-        (new(&mut store, b"a", b"top"), DONE),
-        (put(&mut store, FIRST, b"x"), DONE),
-        (put_in(&mut store, b"a", FIRST, b"y"), DONE),
-        (
-            merge(rt.alloc(), &mut store, b"a", &[]),
-            Err(Refusal::Unsettled(1)),
-        ),
-    ];
-    let kept = (get_in(&mut store, b"a", FIRST), Ok(Value::new(b"y")));
-    let settled = (
-        merge(rt.alloc(), &mut store, b"a", &[(FIRST, Side::Theirs)]),
-        Ok(Answer::Merged(1)),
-    );
-    let taken = (get_in(&mut store, b"a", FIRST), Ok(Value::new(b"x")));
-    let posted = (post(&mut store, b"a"), DONE);
-    let shown = (get(&mut store, FIRST), Ok(Value::new(b"x")));
-    let _disk = store.close();
-    expect(rt, &unsettled);
-    expect(rt, &[settled, posted]);
-    expect(rt, &[kept, taken, shown]);
-    Ok(())
+#[test]
+fn conflict_is_settled_by_the_parents_value(rt: HostRuntime) {
+    let row = "
+        new a top
+        put top 1:1 x
+        put a 1:1 y
+        merge a -> error 9 Unsettled 1
+        get a 1:1 -> y
+        merge a 1:1=theirs -> ok 1
+        get a 1:1 -> x
+        post a
+        get top 1:1 -> x";
+    on_both(&rt, &[NEW, row]);
 }
 
 #[test]
-fn conflict_is_settled_by_the_parents_value(rt: HostRuntime) -> Result<(), Fail> {
-    conflict_is_settled_by_the_parents_value_over::<MemDisk, _>(&rt)?;
-    conflict_is_settled_by_the_parents_value_over::<CachedDisk<MemDisk>, _>(&rt)
-}
-
-fn conflict_is_settled_by_ones_own_value_over<M: OverMemory, R: AllocGlobal + Abort>(
-    rt: &R,
-) -> Result<(), Fail> {
-    let mut store = fresh_over::<M>(rt.alloc())?;
-    let made = [
-        (put(&mut store, FIRST, b"x"), DONE),
-        (new(&mut store, b"a", b"top"), DONE),
-        (remove(&mut store, FIRST), DONE),
-        (put_in(&mut store, b"a", FIRST, b"y"), DONE),
-    ];
-    let conflicts = conflicts_of(rt.alloc(), &mut store, b"a");
-    let settled = (
-        merge(rt.alloc(), &mut store, b"a", &[(FIRST, Side::Mine)]),
-        Ok(Answer::Merged(0)),
-    );
-    let kept = (get_in(&mut store, b"a", FIRST), Ok(Value::new(b"y")));
-    let posted = (post(&mut store, b"a"), DONE);
-    let shown = (get(&mut store, FIRST), Ok(Value::new(b"y")));
-    let _disk = store.close();
-    expect(rt, &made);
-    expect_list(rt, &conflicts, &[conflict(1, b"x", b"", b"y")]);
-    expect(rt, &[settled, posted]);
-    expect(rt, &[kept, shown]);
-    Ok(())
+fn conflict_is_settled_by_ones_own_value(rt: HostRuntime) {
+    let row = "
+        put top 1:1 x
+        new a top
+        remove top 1:1
+        put a 1:1 y
+        conflicts a -> 1:1=x/~/y
+        merge a 1:1=mine -> ok 0
+        get a 1:1 -> y
+        post a
+        get top 1:1 -> y";
+    on_both(&rt, &[NEW, row]);
 }
 
 #[test]
-fn conflict_is_settled_by_ones_own_value(rt: HostRuntime) -> Result<(), Fail> {
-    conflict_is_settled_by_ones_own_value_over::<MemDisk, _>(&rt)?;
-    conflict_is_settled_by_ones_own_value_over::<CachedDisk<MemDisk>, _>(&rt)
-}
-
-// Both sides give one record the same value, and take another one out.
-fn equal_changes_are_in_no_conflict_over<M: OverMemory, R: AllocGlobal + Abort>(
-    rt: &R,
-) -> Result<(), Fail> {
-    let mut store = fresh_over::<M>(rt.alloc())?;
-    let made = [
-        (put(&mut store, FIRST, b"x"), DONE),
-        (put(&mut store, SECOND, b"x"), DONE),
-        (new(&mut store, b"a", b"top"), DONE),
-        (put(&mut store, FIRST, b"z"), DONE),
-        (remove(&mut store, SECOND), DONE),
-        (put_in(&mut store, b"a", FIRST, b"z"), DONE),
-        (remove_from(&mut store, b"a", SECOND), DONE),
-    ];
-    let conflicts = conflicts_of(rt.alloc(), &mut store, b"a");
-    let answers = [
-        (
-            merge(rt.alloc(), &mut store, b"a", &[]),
-            Ok(Answer::Merged(0)),
-        ),
-        (post(&mut store, b"a"), DONE),
-    ];
-    let top = list(rt.alloc(), &mut store);
-    let own = list_of(rt.alloc(), &mut store, b"a");
-    let _disk = store.close();
-    expect(rt, &made);
-    expect(rt, &answers);
-    expect_list(rt, &conflicts, &[]);
-    expect_records(rt, &top?, &[(FIRST, b"z")]);
-    expect_records(rt, &own?, &[(FIRST, b"z")]);
-    Ok(())
+fn equal_changes_are_in_no_conflict(rt: HostRuntime) {
+    let row = "
+        put top 1:1 x
+        put top 1:2 x
+        new a top
+        # Both sides give one record the same value, and take another one out.
+        put top 1:1 z
+        remove top 1:2
+        put a 1:1 z
+        remove a 1:2
+        conflicts a -> none
+        merge a -> ok 0
+        post a
+        list top -> 1:1=z
+        list a -> 1:1=z";
+    on_both(&rt, &[NEW, row]);
 }
 
 #[test]
-fn equal_changes_are_in_no_conflict(rt: HostRuntime) -> Result<(), Fail> {
-    equal_changes_are_in_no_conflict_over::<MemDisk, _>(&rt)?;
-    equal_changes_are_in_no_conflict_over::<CachedDisk<MemDisk>, _>(&rt)
-}
-
-fn back_restores_the_base_too_over<M: OverMemory, R: AllocGlobal + Abort>(
-    rt: &R,
-) -> Result<(), Fail> {
-    let mut store = fresh_over::<M>(rt.alloc())?;
-    let answers = [
-        (new(&mut store, b"a", b"top"), DONE),
-        (check(&mut store, b"a", b"c"), DONE),
-        (put(&mut store, FIRST, b"x"), DONE),
-        (
-            merge(rt.alloc(), &mut store, b"a", &[]),
-            Ok(Answer::Merged(1)),
-        ),
-        (back(&mut store, b"a", b"c"), DONE),
-    ];
-    let absent = (get_in(&mut store, b"a", FIRST), Ok(None));
-    let posted = (post(&mut store, b"a"), Err(Refusal::NotMerged));
-    let kept = (get(&mut store, FIRST), Ok(Value::new(b"x")));
-    let _disk = store.close();
-    expect(rt, &answers);
-    expect(rt, &[posted]);
-    expect(rt, &[absent, kept]);
-    Ok(())
-}
-
-#[test]
-fn back_restores_the_base_too(rt: HostRuntime) -> Result<(), Fail> {
-    back_restores_the_base_too_over::<MemDisk, _>(&rt)?;
-    back_restores_the_base_too_over::<CachedDisk<MemDisk>, _>(&rt)
+fn back_restores_the_base_too(rt: HostRuntime) {
+    let row = "
+        new a top
+        checkpoint a c
+        put top 1:1 x
+        merge a -> ok 1
+        back a c
+        get a 1:1 -> ~
+        post a -> error 8 NotMerged
+        get top 1:1 -> x";
+    on_both(&rt, &[NEW, row]);
 }
 
 // Two settlements of one key come after the tests of the alternative.
-fn merge_and_post_want_an_alternative_with_a_parent_over<M: OverMemory, R: AllocGlobal + Abort>(
-    rt: &R,
-) -> Result<(), Fail> {
-    let twice = [(FIRST, Side::Mine), (FIRST, Side::Mine)];
-    let mut store = fresh_over::<M>(rt.alloc())?;
-    let answers = [
-        (new(&mut store, b"a", b"top"), DONE),
-        (new(&mut store, b"b", b"a"), DONE),
-        (
-            merge(rt.alloc(), &mut store, b"a", &twice),
-            Err(Refusal::SettledTwice(FIRST)),
-        ),
-        (
-            merge(rt.alloc(), &mut store, b"a", &twice[..1]),
-            Err(Refusal::NotInConflict(FIRST)),
-        ),
-        (
-            merge(rt.alloc(), &mut store, b"top", &twice),
-            Err(Refusal::IsTop),
-        ),
-        (
-            merge(rt.alloc(), &mut store, b"nope", &twice),
-            Err(Refusal::NoSuchAlternative),
-        ),
-        (post(&mut store, b"top"), Err(Refusal::IsTop)),
-        (post(&mut store, b"nope"), Err(Refusal::NoSuchAlternative)),
-    ];
-    let _disk = store.close();
-    expect(rt, &answers);
-    Ok(())
+#[test]
+fn merge_and_post_want_an_alternative_with_a_parent(rt: HostRuntime) {
+    let row = "
+        new a top
+        new b a
+        merge a 1:1=mine 1:1=mine -> error 11 SettledTwice 1:1
+        merge a 1:1=mine -> error 10 NotInConflict 1:1
+        merge top 1:1=mine 1:1=mine -> error 6 IsTop
+        merge nope 1:1=mine 1:1=mine -> error 1 NoSuchAlternative
+        post top -> error 6 IsTop
+        post nope -> error 1 NoSuchAlternative";
+    on_both(&rt, &[NEW, row]);
 }
 
 #[test]
-fn merge_and_post_want_an_alternative_with_a_parent(rt: HostRuntime) -> Result<(), Fail> {
-    merge_and_post_want_an_alternative_with_a_parent_over::<MemDisk, _>(&rt)?;
-    merge_and_post_want_an_alternative_with_a_parent_over::<CachedDisk<MemDisk>, _>(&rt)
-}
-
-#[test]
-fn record_that_only_the_parent_took_out_goes_in_a_merge(rt: HostRuntime) -> Result<(), Fail> {
-    let mut store = fresh_store(rt.alloc())?;
-    let answers = [
-        (put(&mut store, FIRST, b"x"), DONE),
-        (put(&mut store, SECOND, b"x"), DONE),
-        (new(&mut store, b"a", b"top"), DONE),
-        (remove(&mut store, FIRST), DONE),
-        (
-            merge(rt.alloc(), &mut store, b"a", &[]),
-            Ok(Answer::Merged(1)),
-        ),
-        (remove(&mut store, SECOND), DONE),
-        (
-            merge(rt.alloc(), &mut store, b"a", &[]),
-            Ok(Answer::Merged(1)),
-        ),
-        (put_in(&mut store, b"a", THIRD, b"y"), DONE),
-        (post(&mut store, b"a"), DONE),
-    ];
-    let own = list_of(rt.alloc(), &mut store, b"a");
-    let top = list(rt.alloc(), &mut store);
-    let _disk = store.close();
-    expect(&rt, &answers);
-    expect_records(&rt, &own?, &[(THIRD, b"y")]);
-    expect_records(&rt, &top?, &[(THIRD, b"y")]);
-    Ok(())
+fn record_that_only_the_parent_took_out_goes_in_a_merge(rt: HostRuntime) {
+    let row = "
+        put top 1:1 x
+        put top 1:2 x
+        new a top
+        remove top 1:1
+        merge a -> ok 1
+        remove top 1:2
+        merge a -> ok 1
+        put a 1:3 y
+        post a
+        list a -> 1:3=y
+        list top -> 1:3=y";
+    in_memory(&rt, &[NEW, row]);
 }
 
 // What was settled stays so: the parent's value is the base's from the Merge on.
 #[test]
-fn merge_makes_the_parents_records_the_base(rt: HostRuntime) -> Result<(), Fail> {
-    let mine = [(FIRST, Side::Mine)];
-    let mut store = fresh_store(rt.alloc())?;
-    let answers = [
-        (put(&mut store, FIRST, b"x"), DONE),
-        (new(&mut store, b"a", b"top"), DONE),
-        (put(&mut store, FIRST, b"z"), DONE),
-        (put(&mut store, SECOND, b"z"), DONE),
-        (put_in(&mut store, b"a", FIRST, b"y"), DONE),
-        (
-            merge(rt.alloc(), &mut store, b"a", &mine),
-            Ok(Answer::Merged(1)),
-        ),
-    ];
-    let changes = changes_of(rt.alloc(), &mut store, b"a");
-    let none = conflicts_of(rt.alloc(), &mut store, b"a");
-    let later = [
-        (
-            merge(rt.alloc(), &mut store, b"a", &mine),
-            Err(Refusal::NotInConflict(FIRST)),
-        ),
-        (
-            merge(rt.alloc(), &mut store, b"a", &[]),
-            Ok(Answer::Merged(0)),
-        ),
-        (put(&mut store, FIRST, b"w"), DONE),
-        (
-            merge(rt.alloc(), &mut store, b"a", &[]),
-            Err(Refusal::Unsettled(1)),
-        ),
-    ];
-    let conflicts = conflicts_of(rt.alloc(), &mut store, b"a");
-    let records = list_of(rt.alloc(), &mut store, b"a");
-    let _disk = store.close();
-    expect(&rt, &answers);
-    expect_list(&rt, &changes, &[change(1, b"z", b"y")]);
-    expect_list(&rt, &none, &[]);
-    expect(&rt, &later);
-    expect_list(&rt, &conflicts, &[conflict(1, b"z", b"w", b"y")]);
-    expect_records(&rt, &records?, &[(FIRST, b"y"), (SECOND, b"z")]);
-    Ok(())
+fn merge_makes_the_parents_records_the_base(rt: HostRuntime) {
+    let row = "
+        put top 1:1 x
+        new a top
+        put top 1:1 z
+        put top 1:2 z
+        put a 1:1 y
+        merge a 1:1=mine -> ok 1
+        changes a -> 1:1=z/y
+        conflicts a -> none
+        merge a 1:1=mine -> error 10 NotInConflict 1:1
+        merge a -> ok 0
+        put top 1:1 w
+        merge a -> error 9 Unsettled 1
+        conflicts a -> 1:1=z/w/y
+        list a -> 1:1=y 1:2=z";
+    in_memory(&rt, &[NEW, row]);
 }

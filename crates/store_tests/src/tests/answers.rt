@@ -1,0 +1,240 @@
+//! What an open store answers to a step of a script, as text.
+use super::words::{Wrong, command, key, name, number, value};
+use std::alloc::Global;
+use std::fmt;
+use vm_disk::Disk;
+use vm_store::{Stop, Store};
+use vm_types::{Answer, Command, Key, Refusal, Value};
+
+/// A value, or none, as a script shows it: `~` for none, `''` for the one without bytes.
+#[derive(Clone, Copy)]
+struct Shown(Option<Value>);
+
+impl fmt::Display for Shown {
+    fn fmt<W: fmt::Write>(&self, f: &mut fmt::Formatter<W>) -> fmt::Result {
+        let Some(value) = &self.0 else {
+            return f.write_str("~");
+        };
+        if value.as_bytes().is_empty() {
+            return f.write_str("''");
+        }
+        for byte in value.as_bytes() {
+            f.write_char(char::from(*byte))?;
+        }
+        Ok(())
+    }
+}
+
+/// What a call is answered: a text, or a refusal.
+type Given = Result<Result<String, Refusal>, Wrong>;
+
+pub(super) fn refusal_text(alloc: Global, refusal: Refusal) -> Result<String, Wrong> {
+    Ok(format!(in alloc; "error {refusal}")?)
+}
+
+fn reply_text(alloc: Global, reply: Result<Answer, Refusal>) -> Result<String, Wrong> {
+    match reply {
+        Ok(Answer::Done) => Ok(String::from_str(alloc, "ok")?),
+        Ok(Answer::Merged(count)) => Ok(format!(in alloc; "ok {count}")?),
+        Err(refusal) => refusal_text(alloc, refusal),
+    }
+}
+
+fn value_at<D: Disk>(alloc: Global, store: &mut Store<D>, alt: &str, at: &str) -> Given {
+    let found = match store.get(&name(alt)?, key(at)?) {
+        Ok(found) => found,
+        Err(refusal) => return Ok(Err(refusal)),
+    };
+    let mut text = String::new(alloc);
+    write!(text, "{}", Shown(found))?;
+    Ok(Ok(text))
+}
+
+fn records<D: Disk>(alloc: Global, store: &mut Store<D>, alt: &str) -> Given {
+    let list = match store.list(alloc, &name(alt)?) {
+        Ok(list) => list,
+        Err(refusal) => return Ok(Err(refusal)),
+    };
+    let mut text = String::new(alloc);
+    for (key, value) in &list {
+        write!(text, " {key}={}", Shown(Some(*value)))?;
+    }
+    Ok(Ok(text))
+}
+
+fn changes<D: Disk>(alloc: Global, store: &mut Store<D>, alt: &str) -> Given {
+    let list = match store.changes(alloc, &name(alt)?) {
+        Ok(list) => list,
+        Err(refusal) => return Ok(Err(refusal)),
+    };
+    let mut text = String::new(alloc);
+    for change in &list {
+        let (before, after) = (Shown(change.before), Shown(change.after));
+        write!(text, " {}={before}/{after}", change.key)?;
+    }
+    Ok(Ok(text))
+}
+
+fn conflicts<D: Disk>(alloc: Global, store: &mut Store<D>, alt: &str) -> Given {
+    let list = match store.conflicts(alloc, &name(alt)?) {
+        Ok(list) => list,
+        Err(refusal) => return Ok(Err(refusal)),
+    };
+    let mut text = String::new(alloc);
+    for conflict in &list {
+        let (base, parent) = (Shown(conflict.base), Shown(conflict.parent));
+        let mine = Shown(conflict.mine);
+        write!(text, " {}={base}/{parent}/{mine}", conflict.key)?;
+    }
+    Ok(Ok(text))
+}
+
+fn alternatives<D: Disk>(alloc: Global, store: &Store<D>) -> Given {
+    let list = match store.alternatives(alloc) {
+        Ok(list) => list,
+        Err(refusal) => return Ok(Err(refusal)),
+    };
+    let mut text = String::new(alloc);
+    for (name, parent) in &list {
+        write!(text, " {name}")?;
+        if let Some(parent) = parent {
+            write!(text, "<{parent}")?;
+        }
+    }
+    Ok(Ok(text))
+}
+
+fn checkpoints<D: Disk>(alloc: Global, store: &Store<D>, alt: &str) -> Given {
+    let list = match store.checkpoints(alloc, &name(alt)?) {
+        Ok(list) => list,
+        Err(refusal) => return Ok(Err(refusal)),
+    };
+    let mut text = String::new(alloc);
+    for name in &list {
+        write!(text, " {name}")?;
+    }
+    Ok(Ok(text))
+}
+
+fn free<D: Disk>(alloc: Global, store: &Store<D>) -> Given {
+    match store.free() {
+        Ok(count) => Ok(Ok(format!(in alloc; "{count}")?)),
+        Err(refusal) => Ok(Err(refusal)),
+    }
+}
+
+fn query<D: Disk>(alloc: Global, store: &mut Store<D>, words: &[&str]) -> Given {
+    match words {
+        ["get", alt, at] => value_at(alloc, store, alt, at),
+        ["list", alt] => records(alloc, store, alt),
+        ["changes", alt] => changes(alloc, store, alt),
+        ["conflicts", alt] => conflicts(alloc, store, alt),
+        ["alts"] => alternatives(alloc, store),
+        ["checks", alt] => checkpoints(alloc, store, alt),
+        ["free"] => free(alloc, store),
+        _ => Err(Wrong::Unreadable),
+    }
+}
+
+// Puts a value into so many records, from this one on, and gives the first answer that is no `ok`.
+fn put_all<D: Disk>(
+    store: &mut Store<D>,
+    alt: &str,
+    from: Key,
+    count: u32,
+    given: &str,
+) -> Result<Result<Answer, Refusal>, Wrong> {
+    let (alt, value) = (name(alt)?, value(given)?);
+    for n in 0..u64::from(count) {
+        let key = Key {
+            table: from.table,
+            number: from.number.saturating_add(n),
+        };
+        let reply = store.apply(&Command::Put { alt, key, value });
+        if reply != Ok(Answer::Done) {
+            return Ok(reply);
+        }
+    }
+    Ok(Ok(Answer::Done))
+}
+
+// Names the state of an alternative so many times, from `k001` on, and puts a value into a record before each
+// of these, where one is given.
+fn check_all<D: Disk>(
+    alloc: Global,
+    store: &mut Store<D>,
+    alt: &str,
+    count: u32,
+    before: Option<(Key, Value)>,
+) -> Result<Result<Answer, Refusal>, Wrong> {
+    let alt = name(alt)?;
+    for n in 0..count {
+        let mut reply = Ok(Answer::Done);
+        if let Some((key, value)) = &before {
+            let (key, value) = (*key, *value);
+            reply = store.apply(&Command::Put { alt, key, value });
+        }
+        let saved = format!(in alloc; "k{:03}", n + 1)?;
+        let name = name(&saved)?;
+        reply = reply.and(store.apply(&Command::Checkpoint { alt, name }));
+        if reply != Ok(Answer::Done) {
+            return Ok(reply);
+        }
+    }
+    Ok(Ok(Answer::Done))
+}
+
+// Carries out a list of commands, with `;` between two. Behind the answers stands how the list ended.
+fn run<D: Disk>(alloc: Global, store: &mut Store<D>, words: &[&str]) -> Result<String, Wrong> {
+    let mut commands = Vec::new(alloc);
+    for part in words.split(|word| *word == ";") {
+        if !part.is_empty() {
+            let command = command(alloc, part)?.ok_or(Wrong::Unreadable)?;
+            commands.push(command).map_err(|_| Wrong::Memory)?;
+        }
+    }
+    let (replies, stop) = store.run(alloc, &commands);
+    let mut text = String::new(alloc);
+    for reply in &replies {
+        write!(text, "{} ; ", reply_text(alloc, *reply)?)?;
+    }
+    text.push_str(match stop {
+        None => "end",
+        Some(Stop::Device) => "Device",
+        Some(Stop::Memory) => "Memory",
+        Some(Stop::Failed) => "Failed",
+    })?;
+    Ok(text)
+}
+
+/// What the store answers to a step.
+pub(super) fn answer<D: Disk>(
+    alloc: Global,
+    store: &mut Store<D>,
+    words: &[&str],
+) -> Result<String, Wrong> {
+    match words {
+        ["puts", alt, from, count, given] => {
+            let reply = put_all(store, alt, key(from)?, number(count)?, given)?;
+            return reply_text(alloc, reply);
+        }
+        ["checkpoints", alt, count] => {
+            let reply = check_all(alloc, store, alt, number(count)?, None)?;
+            return reply_text(alloc, reply);
+        }
+        ["kept", alt, at, given, count] => {
+            let before = Some((key(at)?, value(given)?));
+            let reply = check_all(alloc, store, alt, number(count)?, before)?;
+            return reply_text(alloc, reply);
+        }
+        ["run", list @ ..] => return run(alloc, store, list),
+        _ => {}
+    }
+    if let Some(command) = command(alloc, words)? {
+        return reply_text(alloc, store.apply(&command));
+    }
+    match query(alloc, store, words)? {
+        Ok(text) => Ok(text),
+        Err(refusal) => refusal_text(alloc, refusal),
+    }
+}

@@ -1,0 +1,101 @@
+//! The blocks of a disk in memory, looked at and changed by steps of a script.
+use super::words::{Wrong, byte, number};
+use std::alloc::Global;
+use vm_disk::{Disk, MemDisk};
+
+fn bytes_of(disk: &mut MemDisk, n: u32) -> Result<[u8; 4096], Wrong> {
+    let mut bytes = [0; 4096];
+    if n >= disk.blocks() {
+        return Err(Wrong::Unreadable);
+    }
+    disk.read(n, &mut bytes)?;
+    Ok(bytes)
+}
+
+pub(super) fn set_block(disk: &mut MemDisk, n: u32, bytes: &[u8; 4096]) -> Result<(), Wrong> {
+    if n >= disk.blocks() {
+        return Err(Wrong::Unreadable);
+    }
+    disk.write(n, bytes)?;
+    Ok(())
+}
+
+// Sets bytes from a place on, as `0:534C` says.
+fn set_run(bytes: &mut [u8; 4096], run: &str) -> Result<(), Wrong> {
+    let (from, digits) = run.split_once(':').ok_or(Wrong::Unreadable)?;
+    let from = number(from)? as usize;
+    for (n, pair) in digits.as_bytes().chunks(2).enumerate() {
+        let at = from.saturating_add(n);
+        if at >= 4096 {
+            return Err(Wrong::Unreadable);
+        }
+        bytes[at] = byte(str::from_utf8(pair).map_err(|_| Wrong::Unreadable)?)?;
+    }
+    Ok(())
+}
+
+/// Sets bytes of a block.
+pub(super) fn set_bytes(disk: &mut MemDisk, n: u32, runs: &[&str]) -> Result<(), Wrong> {
+    let mut bytes = bytes_of(disk, n)?;
+    for run in runs {
+        set_run(&mut bytes, run)?;
+    }
+    set_block(disk, n, &bytes)
+}
+
+/// The first blocks of a disk alone.
+pub(super) fn cut(alloc: Global, mut disk: MemDisk, blocks: u32) -> Result<MemDisk, Wrong> {
+    let mut shorter = MemDisk::new(alloc, blocks)?;
+    for n in 0..blocks {
+        let bytes = bytes_of(&mut disk, n)?;
+        set_block(&mut shorter, n, &bytes)?;
+    }
+    Ok(shorter)
+}
+
+// The bytes that are not zero, behind the place of the first of each run.
+fn bytes_text(alloc: Global, bytes: &[u8; 4096]) -> Result<String, Wrong> {
+    let mut text = String::new(alloc);
+    if bytes[0] != 0 && *bytes == [bytes[0]; 4096] {
+        write!(text, "all={:02X}", bytes[0])?;
+        return Ok(text);
+    }
+    let mut before = 0;
+    for (at, byte) in bytes.iter().enumerate() {
+        if *byte != 0 {
+            if before == 0 {
+                write!(text, " {at}:")?;
+            }
+            write!(text, "{byte:02X}")?;
+        }
+        before = *byte;
+    }
+    Ok(text)
+}
+
+// The blocks that have other bytes than zeros.
+fn written(alloc: Global, disk: &mut MemDisk) -> Result<String, Wrong> {
+    let mut text = String::new(alloc);
+    for n in 0..disk.blocks() {
+        if bytes_of(disk, n)? != [0; 4096] {
+            write!(text, " {n}")?;
+        }
+    }
+    Ok(text)
+}
+
+/// What a step that looks at blocks is answered, if these words are one.
+pub(super) fn look(
+    alloc: Global,
+    disk: &mut MemDisk,
+    words: &[&str],
+) -> Result<Option<String>, Wrong> {
+    match words {
+        ["block", n] => {
+            let bytes = bytes_of(disk, number(n)?)?;
+            Ok(Some(bytes_text(alloc, &bytes)?))
+        }
+        ["written"] => Ok(Some(written(alloc, disk)?)),
+        _ => Ok(None),
+    }
+}

@@ -1,0 +1,128 @@
+//! What an opening refuses, and slots of several entries as it finds them.
+use super::script::{DUCT, from_disk, in_memory, on_both};
+use std::alloc::Global;
+use std::test::Fail;
+use vm_block::{Entry, Kind};
+use vm_catalog::write_slot;
+use vm_disk::{Disk, MemDisk};
+use vm_store::{format, open};
+use vm_types::{Command, Key, Name, Value};
+
+// Block 34 is a node of level one, whose child is itself.
+#[test]
+fn root_that_is_no_leaf_is_damage(rt: HostRuntime) {
+    let row = "
+        zero 34
+        set 34 0:4E4F444501 8:01 16:01 18:01 26:22
+        open -> error 18 Damaged 34";
+    on_both(&rt, &[DUCT, row]);
+}
+
+#[test]
+fn root_past_the_end_is_damage(rt: HostRuntime) {
+    on_both(&rt, &[DUCT, "set 18 195:40", "open -> error 18 Damaged 64"]);
+}
+
+#[test]
+fn slot_of_zeros_is_damage(rt: HostRuntime) {
+    in_memory(&rt, &["format 64", "zero 2", "open -> error 18 Damaged 2"]);
+}
+
+#[test]
+fn disk_cut_short_is_no_store(rt: HostRuntime) {
+    on_both(&rt, &[DUCT, "cut 21", "open -> error 19 NotAStore"]);
+    on_both(&rt, &["open -> error 19 NotAStore"]);
+}
+
+#[test]
+fn store_larger_than_its_disk_is_refused(rt: HostRuntime) {
+    in_memory(&rt, &[DUCT, "set 18 8:41", "open -> error 21 BadSize"]);
+}
+
+// A disk on which `duct` is committed, in block 34.
+fn duct_disk(alloc: Global) -> Result<MemDisk, Fail> {
+    let (table, number) = (7, 1);
+    let put = Command::Put {
+        alt: Name::new(b"top").ok_or("no name")?,
+        key: Key { table, number },
+        value: Value::new(b"duct").ok_or("no value")?,
+    };
+    let disk = format(MemDisk::new(alloc, 64)?, 64).map_err(|refused| refused.1)?;
+    let mut store = open(alloc, disk).map_err(|refused| refused.1)?;
+    let put = store.apply(&put);
+    let commit = store.apply(&Command::Commit);
+    let disk = store.close();
+    put.and(commit)?;
+    Ok(disk)
+}
+
+// `top` with `duct` in block 34, an alternative `a` under it and a checkpoint `c` of `a`, whose roots
+// are these.
+fn entries(alternative: (u32, u32), checkpoint: (u32, u32)) -> Option<[Entry; 3]> {
+    let (top, a, c) = (Name::new(b"top")?, Name::new(b"a")?, Name::new(b"c")?);
+    let entry = |kind: Kind, name: Name, owner: Option<Name>, roots: (u32, u32)| Entry {
+        kind,
+        name,
+        owner,
+        current: roots.0,
+        base: roots.1,
+    };
+    Some([
+        entry(Kind::Alternative, top, None, (34, 0)),
+        entry(Kind::Alternative, a, Some(top), alternative),
+        entry(Kind::Checkpoint, c, Some(a), checkpoint),
+    ])
+}
+
+// The disk of `duct` with these entries in slot B, which is in use.
+fn disk_of(
+    alloc: Global,
+    alternative: (u32, u32),
+    checkpoint: (u32, u32),
+) -> Result<MemDisk, Fail> {
+    let mut disk = duct_disk(alloc)?;
+    let entries = entries(alternative, checkpoint).ok_or("no name")?;
+    if disk.blocks() >= 34 {
+        write_slot(&mut disk, true, 64, &entries)?;
+    }
+    Ok(disk)
+}
+
+#[test]
+fn slot_of_several_entries_is_opened(rt: HostRuntime) -> Result<(), Fail> {
+    let disk = disk_of(rt.alloc(), (34, 34), (34, 0))?;
+    let row = "
+        open
+        get top 7:1 -> duct
+        get a 7:1 -> duct
+        get c 7:1 -> error 1 NoSuchAlternative";
+    from_disk(&rt, disk, &[row]);
+    Ok(())
+}
+
+// Blocks 35 to 38 are no leaves. Roots are tested entry by entry, the current one before the base.
+#[test]
+fn first_root_without_a_map_is_named(rt: HostRuntime) -> Result<(), Fail> {
+    for (alternative, checkpoint, row) in [
+        ((35, 36), (37, 38), "open -> error 18 Damaged 35"),
+        ((34, 36), (37, 38), "open -> error 18 Damaged 36"),
+        ((34, 0), (37, 36), "open -> error 18 Damaged 37"),
+        ((0, 34), (0, 38), "open -> error 18 Damaged 38"),
+        ((34, 34), (64, 35), "open -> error 18 Damaged 64"),
+    ] {
+        let disk = disk_of(rt.alloc(), alternative, checkpoint)?;
+        from_disk(&rt, disk, &[row]);
+    }
+    Ok(())
+}
+
+#[test]
+fn slot_with_a_name_twice_is_damage(rt: HostRuntime) -> Result<(), Fail> {
+    let mut disk = duct_disk(rt.alloc())?;
+    let all = entries((34, 34), (0, 0)).ok_or("no name")?;
+    if disk.blocks() >= 34 {
+        write_slot(&mut disk, true, 64, &[all[0], all[1], all[1]])?;
+    }
+    from_disk(&rt, disk, &["open -> error 18 Damaged 18"]);
+    Ok(())
+}

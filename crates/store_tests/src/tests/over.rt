@@ -1,0 +1,45 @@
+//! Disks over one in memory: the disk itself, and a cache of it.
+use std::alloc::Global;
+use vm_disk::{CachedDisk, Disk, MemDisk};
+use vm_types::Refusal;
+
+/// A disk over one in memory.
+pub(super) trait OverMemory: Disk + Drop + Sized {
+    /// The disk over this one.
+    fn over(alloc: Global, disk: MemDisk) -> Result<Self, Refusal>;
+
+    /// The one below.
+    fn below(self) -> MemDisk;
+
+    /// The one below, to look at.
+    fn memory(&self) -> &MemDisk;
+}
+
+impl OverMemory for MemDisk {
+    fn over(_alloc: Global, disk: MemDisk) -> Result<MemDisk, Refusal> {
+        Ok(disk)
+    }
+
+    fn below(self) -> MemDisk {
+        self
+    }
+
+    fn memory(&self) -> &MemDisk {
+        self
+    }
+}
+
+// Four blocks are kept.
+impl OverMemory for CachedDisk<MemDisk> {
+    fn over(alloc: Global, disk: MemDisk) -> Result<CachedDisk<MemDisk>, Refusal> {
+        CachedDisk::new(alloc, disk, 4).map_err(|_| Refusal::Memory)
+    }
+
+    fn below(self) -> MemDisk {
+        self.into_inner()
+    }
+
+    fn memory(&self) -> &MemDisk {
+        self.inner()
+    }
+}

@@ -1,0 +1,315 @@
+//! Scripts: lines of steps, each with its answer, played over a disk in memory, and over a cache of it.
+//!
+//! A line is a step, and behind ` -> ` its answer, which is `ok` where the line says none. A refusal is
+//! `error` and its text. A line that begins with `#` is a comment. A record's key is `7:1`; `''` is the
+//! value without bytes, `~` no value, and `none` an empty list.
+//!
+//! | Step, while a store is open | Answer |
+//! |---|---|
+//! | `new`, `drop`, `put`, `remove`, `checkpoint`, `uncheck`, `back`, `merge`, `post`, `commit`, `reclaim` | `ok`, and `ok 1` of a merge |
+//! | `puts top 1:1 17 v` | `ok`, where all of seventeen puts are answered so |
+//! | `checkpoints top 15` | the same of the checkpoints `k001` to `k015` |
+//! | `kept top 1:1 v 15` | the same, with a put before each |
+//! | `run put a 1:1 y ; commit` | `ok ; ok ; end`: how the list ended stands last |
+//! | `get a 1:1` | `y` |
+//! | `list a` | `1:1=y 1:2=z` |
+//! | `changes a` | `1:1=x/y`: the value before and after |
+//! | `conflicts a` | `1:1=x/z/y`: the value of the base, the parent's and one's own |
+//! | `alts` | `top a<top` |
+//! | `checks a` | `b c` |
+//! | `free` | `30` |
+//! | `close` | `ok` |
+//!
+//! | Step, while none is | Answer |
+//! |---|---|
+//! | `format 64`, `open` | `ok` |
+//! | `calls` | `5`: the device calls since the device was taken anew |
+//! | `dirty` | `34 35`: the blocks that are not synced |
+//! | `anew` | `ok`: the device is taken anew, with nothing in its cache |
+//! | `written` | the device is taken anew; `0 1 2`: the blocks that have other bytes than zeros |
+//! | `block 18` | the same; `0:534C 195:40`: its bytes but zeros, from these places on; or `all=41` |
+//! | `once 5` | `ok`: the device is taken anew, and its sixth call fails |
+//! | `stop 5 A5 00` | the same of each call from the sixth on: a write leaves A5 and then zeros in its block |
+//! | `crash`, `crash all=41`, `crash 35=FF` | `ok`: the device is taken anew after a crash that may fill blocks |
+//! | `zero 2` | the same, after a block was set to zeros |
+//! | `set 18 0:534C 195:40` | the same, after bytes of a block were set, from these places on |
+//! | `cut 21` | the same, with so many blocks of it |
+use super::answers::{answer, refusal_text};
+use super::blocks::{cut, look, set_block, set_bytes};
+use super::over::OverMemory;
+use super::words::{Wrong, byte, number};
+use std::alloc::{AllocError, Global};
+use std::process::Abort;
+use vm_disk::{CachedDisk, Disk, FuseDisk, MemDisk};
+use vm_store::{Store, format, open};
+
+/// A new store, open.
+pub(super) const NEW: &str = "
+    format 64
+    anew
+    open";
+
+/// A closed store in which `duct` is committed, in block 34. Opening it makes five device calls.
+pub(super) const DUCT: &str = "
+    format 64
+    anew
+    open
+    put top 7:1 duct
+    commit
+    close
+    anew";
+
+/// A closed store in which `top` has seventeen records, and `spur` under it the same map. Opening it makes
+/// seven device calls.
+pub(super) const SEVENTEEN: &str = "
+    format 64
+    anew
+    open
+    puts top 1:1 17 v
+    new spur top
+    commit
+    close
+    anew";
+
+/// More device calls than any script makes.
+const NEVER: u32 = 1000;
+
+/// A device, or the store that is open on it.
+enum Bench<D: Disk> {
+    Shut(D),
+    Open(Store<D>),
+}
+
+/// What a step leaves, and its answer.
+type Played<M> = Result<(Bench<FuseDisk<M>>, String), Wrong>;
+
+// A device that fails after so many calls: once, or each call from there on.
+fn device<M: OverMemory>(
+    alloc: Global,
+    disk: MemDisk,
+    passes: u32,
+    torn: Option<[u8; 4096]>,
+) -> Result<FuseDisk<M>, Wrong> {
+    if passes > NEVER {
+        return Err(Wrong::Unreadable);
+    }
+    let disk = M::over(alloc, disk).map_err(|_| Wrong::Memory)?;
+    Ok(match torn {
+        Some(torn) => FuseDisk::stop(disk, passes, torn),
+        None => FuseDisk::once(disk, passes, [9; 4096]),
+    })
+}
+
+// What a crash may leave: `all=41` fills each block with this byte, and `35=FF` one of them.
+fn filling(alloc: Global, blocks: u32, words: &[&str]) -> Result<Vec<(u32, [u8; 4096])>, Wrong> {
+    let mut filling = Vec::new(alloc);
+    for word in words {
+        let (place, fill) = word.split_once('=').ok_or(Wrong::Unreadable)?;
+        let fill = byte(fill)?;
+        if place == "all" {
+            for n in 0..blocks {
+                filling.push((n, [fill; 4096])).map_err(|_| Wrong::Memory)?;
+            }
+        } else {
+            let n = number(place)?;
+            filling.push((n, [fill; 4096])).map_err(|_| Wrong::Memory)?;
+        }
+    }
+    Ok(filling)
+}
+
+// The disk with other bytes.
+fn changed(alloc: Global, mut disk: MemDisk, words: &[&str]) -> Result<MemDisk, Wrong> {
+    match words {
+        ["anew"] => {}
+        ["crash", fills @ ..] => {
+            let filling = filling(alloc, disk.blocks(), fills)?;
+            return Ok(disk.crash(&filling));
+        }
+        ["set", block, runs @ ..] => set_bytes(&mut disk, number(block)?, runs)?,
+        ["zero", block] => set_block(&mut disk, number(block)?, &[0; 4096])?,
+        ["cut", blocks] => return cut(alloc, disk, number(blocks)?),
+        _ => return Err(Wrong::Unreadable),
+    }
+    Ok(disk)
+}
+
+// The device anew.
+fn renewed<M: OverMemory>(
+    alloc: Global,
+    disk: MemDisk,
+    words: &[&str],
+) -> Result<FuseDisk<M>, Wrong> {
+    match words {
+        ["once", passes] => device(alloc, disk, number(passes)?, None),
+        ["stop", passes, first, rest] => {
+            let mut torn = [byte(rest)?; 4096];
+            torn[0] = byte(first)?;
+            device(alloc, disk, number(passes)?, Some(torn))
+        }
+        _ => device(alloc, changed(alloc, disk, words)?, NEVER, None),
+    }
+}
+
+fn dirty_blocks(alloc: Global, disk: &MemDisk) -> Result<String, Wrong> {
+    let mut text = String::new(alloc);
+    for n in 0..disk.blocks() {
+        if disk.is_dirty(n) {
+            write!(text, " {n}")?;
+        }
+    }
+    Ok(text)
+}
+
+// Plays a step while no store is open.
+fn play_shut<M: OverMemory>(alloc: Global, disk: FuseDisk<M>, words: &[&str]) -> Played<M> {
+    let ok = String::from_str(alloc, "ok")?;
+    match words {
+        ["format", blocks] => match format(disk, number(blocks)?) {
+            Ok(disk) => Ok((Bench::Shut(disk), ok)),
+            Err((disk, refusal)) => {
+                let refused = refusal_text(alloc, refusal)?;
+                Ok((Bench::Shut(disk), refused))
+            }
+        },
+        ["open"] => match open(alloc, disk) {
+            Ok(store) => Ok((Bench::Open(store), ok)),
+            Err((disk, refusal)) => {
+                let refused = refusal_text(alloc, refusal)?;
+                Ok((Bench::Shut(disk), refused))
+            }
+        },
+        ["calls"] => {
+            let calls = format!(in alloc; "{}", disk.calls())?;
+            Ok((Bench::Shut(disk), calls))
+        }
+        ["dirty"] => {
+            let blocks = dirty_blocks(alloc, disk.inner().memory())?;
+            Ok((Bench::Shut(disk), blocks))
+        }
+        _ => {
+            let mut memory = disk.into_inner().below();
+            match look(alloc, &mut memory, words)? {
+                Some(text) => {
+                    let disk = device(alloc, memory, NEVER, None)?;
+                    Ok((Bench::Shut(disk), text))
+                }
+                None => {
+                    let disk = renewed(alloc, memory, words)?;
+                    Ok((Bench::Shut(disk), ok))
+                }
+            }
+        }
+    }
+}
+
+// Plays a step while a store is open.
+fn play_open<M: OverMemory>(
+    alloc: Global,
+    mut store: Store<FuseDisk<M>>,
+    words: &[&str],
+) -> Played<M> {
+    if matches!(words, ["close"]) {
+        let disk = store.close();
+        let ok = String::from_str(alloc, "ok")?;
+        return Ok((Bench::Shut(disk), ok));
+    }
+    match answer(alloc, &mut store, words) {
+        Ok(text) => Ok((Bench::Open(store), text)),
+        Err(wrong) => {
+            let _disk = store.close();
+            Err(wrong)
+        }
+    }
+}
+
+// Plays a step.
+fn play<M: OverMemory>(alloc: Global, bench: Bench<FuseDisk<M>>, step: &str) -> Played<M> {
+    match bench {
+        Bench::Shut(disk) => {
+            let words: Vec<&str> = step.split_whitespace().collect(alloc)?;
+            play_shut(alloc, disk, &words)
+        }
+        Bench::Open(store) => match step.split_whitespace().collect::<Vec<&str>>(alloc) {
+            Ok(words) => play_open(alloc, store, &words),
+            Err(_) => {
+                let _disk = store.close();
+                Err(Wrong::Memory)
+            }
+        },
+    }
+}
+
+// Plays the lines of a text, and compares each answer.
+fn plays<M: OverMemory, R: AllocGlobal + Abort>(
+    rt: &R,
+    on: &str,
+    mut bench: Bench<FuseDisk<M>>,
+    text: &str,
+) -> Bench<FuseDisk<M>> {
+    for (n, line) in text.lines().enumerate() {
+        let line = line.trim();
+        if line.is_empty() || line.starts_with('#') {
+            continue;
+        }
+        let (step, due) = line.split_once(" -> ").unwrap_or((line, "ok"));
+        match play(rt.alloc(), bench, step) {
+            Ok((next, given)) => {
+                let given = given.trim();
+                let given = if given.is_empty() { "none" } else { given };
+                assert_eq!(rt; given, due.trim(), "{on}, line {n}: {line}");
+                bench = next;
+            }
+            Err(wrong) => panic!(rt; "{on}, line {n}: {line}: {wrong:?}"),
+        }
+    }
+    bench
+}
+
+// Plays texts one after another on a disk.
+fn plays_all<M: OverMemory, R: AllocGlobal + Abort>(
+    rt: &R,
+    on: &str,
+    disk: Result<MemDisk, AllocError>,
+    texts: &[&str],
+) {
+    let device = match disk {
+        Ok(disk) => device::<M>(rt.alloc(), disk, NEVER, None),
+        Err(_) => Err(Wrong::Memory),
+    };
+    let mut bench = match device {
+        Ok(device) => Bench::Shut(device),
+        Err(wrong) => panic!(rt; "{wrong:?}"),
+    };
+    for text in texts {
+        bench = plays(rt, on, bench, text);
+    }
+    let _disk = match bench {
+        Bench::Shut(disk) => disk,
+        Bench::Open(store) => store.close(),
+    };
+}
+
+/// Plays texts one after another on a disk in memory.
+pub(super) fn from_disk<R: AllocGlobal + Abort>(rt: &R, disk: MemDisk, texts: &[&str]) {
+    plays_all::<MemDisk, R>(rt, "in memory", Ok(disk), texts);
+}
+
+/// The same on a blank disk of 256 blocks.
+pub(super) fn in_256_blocks<R: AllocGlobal + Abort>(rt: &R, texts: &[&str]) {
+    let blank = MemDisk::new(rt.alloc(), 256);
+    plays_all::<MemDisk, R>(rt, "in memory", blank, texts);
+}
+
+/// The same on a blank disk of 64 blocks.
+pub(super) fn in_memory<R: AllocGlobal + Abort>(rt: &R, texts: &[&str]) {
+    let blank = MemDisk::new(rt.alloc(), 64);
+    plays_all::<MemDisk, R>(rt, "in memory", blank, texts);
+}
+
+/// The same, and once more over a cache.
+pub(super) fn on_both<R: AllocGlobal + Abort>(rt: &R, texts: &[&str]) {
+    in_memory(rt, texts);
+    let blank = MemDisk::new(rt.alloc(), 64);
+    plays_all::<CachedDisk<MemDisk>, R>(rt, "over a cache", blank, texts);
+}

@@ -1,0 +1,242 @@
+//! How many blocks are free, and how many each command asks for and takes.
+use super::script::{DUCT, NEW, SEVENTEEN, in_256_blocks, in_memory, on_both};
+
+#[test]
+fn new_store_of_64_blocks_has_30_free(rt: HostRuntime) {
+    on_both(&rt, &[NEW, "free -> 30"]);
+}
+
+#[test]
+fn reclaim_frees_what_no_version_needs(rt: HostRuntime) {
+    let row = "
+        open
+        free -> 29
+        put top 7:1 pipe
+        put top 7:1 tube
+        free -> 27
+        reclaim
+        free -> 28
+        commit
+        free -> 28
+        reclaim
+        free -> 29
+        get top 7:1 -> tube";
+    in_memory(&rt, &[DUCT, row]);
+}
+
+// The Put takes one of thirty blocks. A new alternative shares its parent's, and what is refused takes none.
+#[test]
+fn what_is_refused_takes_no_block(rt: HostRuntime) {
+    let row = "
+        put top 7:1 duct
+        new a top
+        free -> 29
+        new a top -> error 2 AlternativeExists
+        new b nope -> error 1 NoSuchAlternative
+        free -> 29
+        get nope 7:1 -> error 1 NoSuchAlternative
+        free -> 29
+        list nope -> error 1 NoSuchAlternative
+        free -> 29";
+    in_memory(&rt, &[NEW, row]);
+}
+
+// Fifteen Puts take the blocks 34 to 48. The sixteenth finds fifteen free and marks: block 48 alone
+// stays held, and the Put takes block 34.
+#[test]
+fn put_marks_where_fewer_than_16_blocks_are_free(rt: HostRuntime) {
+    let row = "
+        put top 1:1 v
+        free -> 29
+        put top 1:2 v
+        free -> 28
+        put top 1:3 v
+        free -> 27
+        put top 1:4 v
+        free -> 26
+        put top 1:5 v
+        free -> 25
+        put top 1:6 v
+        free -> 24
+        put top 1:7 v
+        free -> 23
+        put top 1:8 v
+        free -> 22
+        put top 1:9 v
+        free -> 21
+        put top 1:10 v
+        free -> 20
+        put top 1:11 v
+        free -> 19
+        put top 1:12 v
+        free -> 18
+        put top 1:13 v
+        free -> 17
+        put top 1:14 v
+        free -> 16
+        put top 1:15 v
+        free -> 15
+        put top 1:16 v
+        free -> 28
+        close
+        dirty -> 34 35 36 37 38 39 40 41 42 43 44 45 46 47 48";
+    in_memory(&rt, &[NEW, row]);
+}
+
+// The seventeenth record splits the leaf: two leaves and a root are written. The Remove of the eleventh
+// record marks, and that of the tenth leaves nine records, which are the first leaf: it writes no block.
+#[test]
+fn leaf_is_split_and_takes_the_place_of_the_root_again(rt: HostRuntime) {
+    let row = "
+        puts top 1:1 17 v
+        free -> 25
+        reclaim
+        free -> 27
+        remove top 1:17
+        remove top 1:16
+        remove top 1:15
+        remove top 1:14
+        remove top 1:13
+        remove top 1:12
+        remove top 1:11
+        remove top 1:10
+        free -> 25
+        reclaim
+        free -> 29
+        get top 1:1 -> v
+        get top 1:2 -> v
+        get top 1:3 -> v
+        get top 1:4 -> v
+        get top 1:5 -> v
+        get top 1:6 -> v
+        get top 1:7 -> v
+        get top 1:8 -> v
+        get top 1:9 -> v
+        get top 1:10 -> ~
+        get top 1:11 -> ~
+        get top 1:12 -> ~
+        get top 1:13 -> ~
+        get top 1:14 -> ~
+        get top 1:15 -> ~
+        get top 1:16 -> ~
+        get top 1:17 -> ~";
+    on_both(&rt, &[NEW, row]);
+}
+
+// A root over two leaves is the current map of both alternatives, and the base of one: each of the
+// three blocks is held once. A record changed in one of them takes a leaf and a root more.
+#[test]
+fn shared_blocks_are_held_once(rt: HostRuntime) {
+    let row = "
+        open
+        free -> 27
+        put top 1:17 v
+        free -> 25";
+    in_memory(&rt, &[SEVENTEEN, row]);
+}
+
+// 30 blocks are for data. Each of the 15 checkpoints keeps one, so 15 are spare for the next Put.
+#[test]
+fn checkpoints_keep_their_blocks(rt: HostRuntime) {
+    let row = "
+        kept top 1:1 v 15
+        commit
+        put top 1:1 v -> error 13 Full
+        uncheck top k001
+        put top 1:1 v -> error 13 Full
+        commit
+        put top 1:1 v
+        free -> 15";
+    on_both(&rt, &[NEW, row]);
+}
+
+// Nine changes ask for 144 spare blocks. 28 are spare beside the two leaves.
+#[test]
+fn merge_is_refused_where_too_few_blocks_are_spare(rt: HostRuntime) {
+    let row = "
+        new a top
+        puts top 1:1 9 v
+        puts a 2:1 8 v
+        merge a -> error 13 Full
+        free -> 28
+        list top -> 1:1=v 1:2=v 1:3=v 1:4=v 1:5=v 1:6=v 1:7=v 1:8=v 1:9=v
+        list a -> 2:1=v 2:2=v 2:3=v 2:4=v 2:5=v 2:6=v 2:7=v 2:8=v
+        post a -> error 8 NotMerged
+        put a 1:1 v
+        free -> 27";
+    in_memory(&rt, &[NEW, row]);
+}
+
+// 205 of 222 blocks are free before it. The first eight changes write a leaf each, and the ninth two leaves
+// and a root.
+#[test]
+fn merge_makes_one_change_after_another(rt: HostRuntime) {
+    let row = "
+        format 256
+        open
+        new a top
+        puts top 1:1 9 v
+        puts a 2:1 8 v
+        free -> 205
+        merge a -> ok 9
+        free -> 194
+        list a -> 1:1=v 1:2=v 1:3=v 1:4=v 1:5=v 1:6=v 1:7=v 1:8=v 1:9=v \
+            2:1=v 2:2=v 2:3=v 2:4=v 2:5=v 2:6=v 2:7=v 2:8=v
+        post a
+        list top -> 1:1=v 1:2=v 1:3=v 1:4=v 1:5=v 1:6=v 1:7=v 1:8=v 1:9=v \
+            2:1=v 2:2=v 2:3=v 2:4=v 2:5=v 2:6=v 2:7=v 2:8=v";
+    in_256_blocks(&rt, &[row]);
+}
+
+// 30 blocks are for data. Each of the 15 checkpoints keeps one, so 15 are spare, and one more after an
+// Uncheck. A Merge without changes asks for none.
+#[test]
+fn merge_of_one_record_asks_for_sixteen_spare_blocks(rt: HostRuntime) {
+    let row = "
+        new a top
+        kept top 1:1 v 15
+        new b top
+        merge a -> error 13 Full
+        merge b -> ok 0
+        post b
+        uncheck top k001
+        merge a -> ok 1
+        put a 1:1 v -> error 13 Full
+        get a 1:1 -> v
+        free -> 15";
+    in_memory(&rt, &[NEW, row]);
+}
+
+// The map has two leaves under a root, so each change writes two blocks.
+#[test]
+fn merge_brings_changes_into_a_map_of_two_levels(rt: HostRuntime) {
+    let row = "
+        format 256
+        open
+        puts top 1:1 20 v
+        new a top
+        put top 1:10 t
+        remove top 1:5
+        put top 1:21 t
+        put top 1:2 t
+        put top 1:20 t
+        put a 1:30 m
+        remove a 1:12
+        put a 1:3 m
+        free -> 181
+        conflicts a -> none
+        merge a -> ok 5
+        free -> 171
+        list a -> 1:1=v 1:2=t 1:3=m 1:4=v 1:6=v 1:7=v 1:8=v 1:9=v 1:10=t 1:11=v 1:13=v \
+            1:14=v 1:15=v 1:16=v 1:17=v 1:18=v 1:19=v 1:20=t 1:21=t 1:30=m
+        list top -> 1:1=v 1:2=t 1:3=v 1:4=v 1:6=v 1:7=v 1:8=v 1:9=v 1:10=t 1:11=v 1:12=v \
+            1:13=v 1:14=v 1:15=v 1:16=v 1:17=v 1:18=v 1:19=v 1:20=t 1:21=t
+        changes a -> 1:3=v/m 1:12=v/~ 1:30=~/m
+        merge a -> ok 0
+        post a
+        list top -> 1:1=v 1:2=t 1:3=m 1:4=v 1:6=v 1:7=v 1:8=v 1:9=v 1:10=t 1:11=v 1:13=v \
+            1:14=v 1:15=v 1:16=v 1:17=v 1:18=v 1:19=v 1:20=t 1:21=t 1:30=m
+        free -> 171
+        changes a -> none";
+    in_256_blocks(&rt, &[row]);
+}

@@ -1,0 +1,127 @@
+//! What the words of a script stand for.
+use std::alloc::{AllocError, Global};
+use std::fmt;
+use vm_disk::DeviceFault;
+use vm_types::{Command, Key, Name, Settled, Side, Value};
+
+/// Why a step has no answer.
+#[derive(Clone, Copy, Debug, PartialEq, Eq)]
+pub(super) enum Wrong {
+    /// No memory for the script itself.
+    Memory,
+    /// A device call of the script itself failed.
+    Device,
+    /// The step is none.
+    Unreadable,
+}
+
+impl From<AllocError> for Wrong {
+    fn from(_: AllocError) -> Wrong {
+        Wrong::Memory
+    }
+}
+
+impl From<fmt::Error> for Wrong {
+    fn from(_: fmt::Error) -> Wrong {
+        Wrong::Memory
+    }
+}
+
+impl From<DeviceFault> for Wrong {
+    fn from(_: DeviceFault) -> Wrong {
+        Wrong::Device
+    }
+}
+
+pub(super) fn number(word: &str) -> Result<u32, Wrong> {
+    word.parse::<u32>().map_err(|_| Wrong::Unreadable)
+}
+
+// A byte of two hexadecimal digits.
+pub(super) fn byte(word: &str) -> Result<u8, Wrong> {
+    u8::from_str_radix(word, 16).map_err(|_| Wrong::Unreadable)
+}
+
+pub(super) fn name(word: &str) -> Result<Name, Wrong> {
+    Name::new(word.as_bytes()).ok_or(Wrong::Unreadable)
+}
+
+// Table and number, as in `7:1`.
+pub(super) fn key(word: &str) -> Result<Key, Wrong> {
+    let (table, number) = word.split_once(':').ok_or(Wrong::Unreadable)?;
+    let table = table.parse::<u16>().map_err(|_| Wrong::Unreadable)?;
+    let number = number.parse::<u64>().map_err(|_| Wrong::Unreadable)?;
+    Ok(Key { table, number })
+}
+
+// A value, where `''` is the one without bytes.
+pub(super) fn value(word: &str) -> Result<Value, Wrong> {
+    let text = if word == "''" { "" } else { word };
+    Value::new(text.as_bytes()).ok_or(Wrong::Unreadable)
+}
+
+// A key and a side, as in `7:1=mine`.
+fn settlement(word: &str) -> Result<(Key, Side), Wrong> {
+    let (at, side) = word.split_once('=').ok_or(Wrong::Unreadable)?;
+    let side = match side {
+        "mine" => Side::Mine,
+        "theirs" => Side::Theirs,
+        _ => return Err(Wrong::Unreadable),
+    };
+    Ok((key(at)?, side))
+}
+
+fn merge(alloc: Global, alt: &str, settlements: &[&str]) -> Result<Command, Wrong> {
+    let mut sides = Vec::new(alloc);
+    for word in settlements {
+        let side = settlement(word)?;
+        sides.push(side).map_err(|_| Wrong::Memory)?;
+    }
+    Ok(Command::Merge {
+        alt: name(alt)?,
+        settled: Settled::from_vec(sides),
+    })
+}
+
+/// The command of these words, if they are one.
+pub(super) fn command(alloc: Global, words: &[&str]) -> Result<Option<Command>, Wrong> {
+    let command = match words {
+        ["new", alt, parent] => Command::New {
+            name: name(alt)?,
+            parent: name(parent)?,
+        },
+        ["new", alt, parent, saved] => Command::NewAt {
+            name: name(alt)?,
+            parent: name(parent)?,
+            checkpoint: name(saved)?,
+        },
+        ["drop", alt] => Command::Drop { alt: name(alt)? },
+        ["put", alt, at, given] => Command::Put {
+            alt: name(alt)?,
+            key: key(at)?,
+            value: value(given)?,
+        },
+        ["remove", alt, at] => Command::Remove {
+            alt: name(alt)?,
+            key: key(at)?,
+        },
+        ["checkpoint", alt, saved] => Command::Checkpoint {
+            alt: name(alt)?,
+            name: name(saved)?,
+        },
+        ["uncheck", alt, saved] => Command::Uncheck {
+            alt: name(alt)?,
+            name: name(saved)?,
+        },
+        ["back", alt, saved] => Command::Back {
+            alt: name(alt)?,
+            name: name(saved)?,
+        },
+        ["merge", alt, settlements @ ..] => merge(alloc, alt, settlements)?,
+        ["post", alt] => Command::Post { alt: name(alt)? },
+        ["commit"] => Command::Commit,
+        ["reclaim"] => Command::Reclaim,
+        _ => return Ok(None),
+    };
+    Ok(Some(command))
+}
