@@ -112,7 +112,7 @@ class Store:
         self._rows = None
         with open(file, "rb") as lock:
             fcntl.flock(lock, fcntl.LOCK_EX | fcntl.LOCK_NB)
-            self._faults = tempfile.TemporaryFile("w+")
+            self._faults = tempfile.TemporaryFile("w+", errors="replace")
             how = {"pass_fds": [lock.fileno()], "stderr": self._faults, "encoding": "ascii"}
             self._program = subprocess.Popen(words, stdin=subprocess.PIPE, stdout=subprocess.PIPE, **how)
         try:
