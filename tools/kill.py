@@ -125,6 +125,12 @@ def step(tree, verb, words):
             if name in tree:
                 raise Refused("2 AlternativeExists")
             return "ok", {**tree, name: Alternative(parent, records, records, {})}
+        case "new", [name, parent, checkpoint]:
+            above = find(tree, parent)
+            if name in tree:
+                raise Refused("2 AlternativeExists")
+            records, _ = find_checkpoint(above, checkpoint)
+            return "ok", {**tree, name: Alternative(parent, records, records, {})}
         case "drop", [name]:
             find_below_top(tree, name)
             if any(other.parent == name for other in tree.values()):
@@ -280,7 +286,8 @@ def change(chance, tree, merges):
     if verb == "reclaim":
         return verb
     if verb == "new":
-        return f"new {chance.choice(NAMES)} {name}"
+        at = f" {chance.choice(CHECKPOINTS)}" if chance.random() < 0.5 else ""
+        return f"new {chance.choice(NAMES)} {name}{at}"
     if verb in ("drop", "merge", "post"):
         return f"{verb} {name}"
     if verb in ("checkpoint", "uncheck", "back"):

@@ -184,8 +184,9 @@ class Store:
         """All records of an alternative, by table and then by number."""
         return self._list(lambda words: Record(*map(int, words[:2]), decode(words[2])), "list", alt)
 
-    def new(self, name, parent):
-        self._ask("new", name, parent)
+    def new(self, name, parent, checkpoint=None):
+        """A new alternative, which shows what its parent shows, or what a checkpoint of the parent does."""
+        self._ask("new", name, parent, *([] if checkpoint is None else [checkpoint]))
 
     def drop(self, alt):
         self._ask("drop", alt)
