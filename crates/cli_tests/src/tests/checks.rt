@@ -53,6 +53,7 @@ fn names_the_block_that_is_damaged(rt: HostRuntime) -> Result<(), Fail> {
     let lines = b"put top 7 1 duct\ncommit\n";
     let _run = ran(rt.alloc(), &mut files, RUN.as_slice(), lines)?;
     let mut disk = files.find("f").expect(&rt, "it came back");
+    assert_eq!(rt; disk.blocks(), 64);
     assert!(rt; disk.write(34, &[0; 4096]).is_ok());
     files.give_back("f", disk);
     let checked = ran(rt.alloc(), &mut files, CHECK.as_slice(), b"")?;
