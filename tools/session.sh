@@ -329,13 +329,18 @@ printf 'error 23 LongLine\nfree 30\nfree 30\nfree 30\nerror 23 LongLine\n' >outp
 program 'lines of 1,048,577 bytes, and one of 1,048,576' 0 run f
 
 echo free >lines
-echo 3 >status
-echo 'altctl: stopped' >faults
-came=0
-"$altctl" run f <lines >/dev/full 2>faults.came || came=$?
-echo "$came" >status.came
-compare 'a full output: status' status status.came
-compare 'a full output: standard error' faults faults.came
+# A job whose output is full stops with status 3: the words.
+full_output() {
+    echo 3 >status
+    echo 'altctl: stopped' >faults
+    came=0
+    "$altctl" "$@" <lines >/dev/full 2>faults.came || came=$?
+    echo "$came" >status.came
+    compare "$1, a full output: status" status status.came
+    compare "$1, a full output: standard error" faults faults.came
+}
+
+full_output run f
 
 # --- a check of a store ----------------------------------------------------------------------------
 
@@ -407,13 +412,7 @@ for file in absent h; do
     program "check of $file" 1 check $file
 done
 
-echo 3 >status
-echo 'altctl: stopped' >faults
-came=0
-"$altctl" check counted <lines >/dev/full 2>faults.came || came=$?
-echo "$came" >status.came
-compare 'check, a full output: status' status status.came
-compare 'check, a full output: standard error' faults faults.came
+full_output check counted
 rm -f faults
 
 # --- standard descriptors that are closed, or fail --------------------------------------------------
