@@ -86,25 +86,3 @@ impl Marks {
         self.unmarked
     }
 }
-
-#[cfg(test)]
-mod tests {
-    use super::*;
-    use std::test::Fail;
-
-    #[test]
-    fn marks_and_clears(rt: HostRuntime) -> Result<(), Fail> {
-        let mut marks = Marks::new(rt.alloc(), 65)?;
-        assert_eq!(rt; marks.blocks(), 65);
-        marks.set(33);
-        marks.set(64);
-        marks.set(64);
-        assert!(rt; marks.is_set(33));
-        assert!(rt; marks.is_set(64));
-        assert!(rt; !marks.is_set(63));
-        marks.clear();
-        assert!(rt; !marks.is_set(33));
-        assert!(rt; !marks.is_set(64));
-        Ok(())
-    }
-}

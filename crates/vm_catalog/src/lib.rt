@@ -11,8 +11,6 @@ mod ledger;
 mod place;
 mod reader;
 mod selection;
-#[cfg(test)]
-mod tests;
 mod writer;
 
 pub use laws::one_catalog;

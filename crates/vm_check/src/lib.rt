@@ -8,8 +8,6 @@
 
 mod form;
 mod marking;
-#[cfg(test)]
-mod tests;
 mod verifying;
 
 pub use marking::mark;

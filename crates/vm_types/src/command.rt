@@ -107,25 +107,3 @@ pub enum Command {
     /// Frees each block that neither state needs.
     Reclaim,
 }
-
-#[cfg(test)]
-mod tests {
-    use super::*;
-
-    #[test]
-    fn settlements_come_back_in_their_order(rt: HostRuntime) {
-        let key = Key {
-            table: 1,
-            number: 1,
-        };
-        let sides = match vec![in rt.alloc(); (key, Side::Mine), (key, Side::Theirs)] {
-            Ok(sides) => sides,
-            Err(_) => panic!(rt; "no memory"),
-        };
-        let settled = Settled::from_vec(sides);
-        assert_eq!(rt; settled.as_slice().len(), 2);
-        let back = settled.into_vec();
-        assert!(rt; back[0] == (key, Side::Mine));
-        assert!(rt; back[1] == (key, Side::Theirs));
-    }
-}

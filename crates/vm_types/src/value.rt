@@ -93,27 +93,3 @@ impl Eq for Value {
 
     ghost laws = { nat_list_eq_equiv };
 }
-
-#[cfg(test)]
-mod tests {
-    use super::*;
-
-    #[test]
-    fn holds_up_to_240_bytes(rt: HostRuntime) {
-        let bytes = [7; 241];
-        let longest = Value::new(&bytes[..240]);
-        assert!(rt; longest.is_some_and(|v| v.as_bytes() == &bytes[..240]));
-        assert!(rt; Value::new(&bytes).is_none());
-        assert!(rt; Value::new(b"") == Some(Value::default()));
-    }
-
-    #[test]
-    fn pads_with_zeros(rt: HostRuntime) {
-        let Some(value) = Value::new(b"duct") else {
-            panic!(rt; "refused");
-        };
-        assert!(rt; &value.padded()[..5] == b"duct\0".as_slice());
-        assert_eq!(rt; value.padded()[239], 0);
-        assert!(rt; Value::new(b"duct") != Value::new(b"duc"));
-    }
-}

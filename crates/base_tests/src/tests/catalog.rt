@@ -1,8 +1,10 @@
 //! What stands on a disk after a publish, byte by byte, and which slots are refused.
-use crate::{LoadFault, MAX_ENTRIES, Slot, load, publish, select_slot, slot_in_use, write_slot};
 use std::alloc::Global;
 use std::test::Fail;
 use vm_block::{Entry, Kind, write_header};
+use vm_catalog::{
+    LoadFault, MAX_ENTRIES, Slot, load, publish, select_slot, slot_in_use, write_slot,
+};
 use vm_disk::{DeviceFault, Disk, FuseDisk, MemDisk};
 use vm_types::Name;
 
@@ -159,17 +161,20 @@ fn damaged_slots_are_refused(rt: HostRuntime) -> Result<(), Fail> {
     let one = family(alloc, 1).ok_or("names")?;
     let forty = family(alloc, 40).ok_or("names")?;
 
-    // No entries, and one more than a slot holds.
-    assert!(rt; !stands_after(alloc, &one, 2, 12, 0)?);
-    assert!(rt; !stands_after(alloc, &forty, 2, 13, 2)?);
-
-    // A byte of the head that has to be zero, and a tag that is none, in the second block.
-    assert!(rt; !stands_after(alloc, &one, 2, 16, 1)?);
-    assert!(rt; !stands_after(alloc, &forty, 3, 128, b'B')?);
-
-    // What stands behind the last entry is ignored.
-    assert!(rt; stands_after(alloc, &one, 2, 256, 255)?);
-    assert!(rt; stands_after(alloc, &forty, 3, 4095, 255)?);
+    for (entries, n, at, byte, stands) in [
+        // No entries, and one more than a slot holds.
+        (&one, 2, 12, 0, false),
+        (&forty, 2, 13, 2, false),
+        // A byte of the head that has to be zero, and a tag that is none, in the second block.
+        (&one, 2, 16, 1, false),
+        (&forty, 3, 128, b'B', false),
+        // What stands behind the last entry is ignored.
+        (&one, 2, 256, 255, true),
+        (&forty, 3, 4095, 255, true),
+    ] {
+        let found = stands_after(alloc, entries, n, at, byte)?;
+        assert_eq!(rt; found, stands, "byte {at} of block {n}");
+    }
     Ok(())
 }
 

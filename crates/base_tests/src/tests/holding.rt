@@ -1,0 +1,101 @@
+//! Held blocks and marks, of one word of flags and of more.
+use std::process::Abort;
+use std::test::Fail;
+use vm_alloc::{Held, Marks};
+
+// Takes all blocks for data, of so many in all.
+fn take_all(rt: &impl Abort, held: &mut Held, blocks: u32) {
+    for n in 34..blocks {
+        assert_eq!(rt; held.take(), Some(n));
+    }
+    assert_eq!(rt; held.take(), None);
+    assert_eq!(rt; held.free_count(), 0);
+}
+
+#[test]
+fn takes_every_block_of_one_word(rt: HostRuntime) -> Result<(), Fail> {
+    let mut held = Held::new(rt.alloc(), 64)?;
+    assert_eq!(rt; held.blocks(), 64);
+    assert_eq!(rt; held.free_count(), 30);
+    take_all(&rt, &mut held, 64);
+    Ok(())
+}
+
+#[test]
+fn takes_a_block_past_one_word(rt: HostRuntime) -> Result<(), Fail> {
+    let mut held = Held::new(rt.alloc(), 65)?;
+    assert_eq!(rt; held.free_count(), 31);
+    take_all(&rt, &mut held, 65);
+    Ok(())
+}
+
+// Takes the lowest free block, which is to be this one.
+fn take(rt: &impl Abort, held: &mut Held, due: u32) {
+    assert_eq!(rt; held.take(), Some(due));
+}
+
+// Marks these blocks.
+fn mark_all(rt: &impl Abort, marks: &mut Marks, blocks: &[u32]) {
+    for n in blocks {
+        assert!(rt; *n < marks.blocks());
+        marks.set(*n);
+    }
+}
+
+// Holds what is marked.
+fn hold(rt: &impl Abort, held: &mut Held, marks: &Marks) {
+    assert_eq!(rt; marks.blocks(), held.blocks());
+    held.replace(marks);
+}
+
+fn is_held(rt: &impl Abort, held: &Held, n: u32) -> bool {
+    assert!(rt; n < held.blocks());
+    held.is_held(n)
+}
+
+#[test]
+fn holds_what_is_marked(rt: HostRuntime) -> Result<(), Fail> {
+    let mut held = Held::new(rt.alloc(), 130)?;
+    take(&rt, &mut held, 34);
+    take(&rt, &mut held, 35);
+
+    // A mark of one of the store's own blocks changes nothing, nor does a second mark.
+    let mut marks = Marks::new(rt.alloc(), 130)?;
+    mark_all(&rt, &mut marks, &[7, 35, 48, 48, 129]);
+    hold(&rt, &mut held, &marks);
+
+    assert_eq!(rt; held.free_count(), 93);
+    assert!(rt; is_held(&rt, &held, 33));
+    assert!(rt; is_held(&rt, &held, 129));
+    assert!(rt; !is_held(&rt, &held, 128));
+    take(&rt, &mut held, 34);
+    take(&rt, &mut held, 36);
+    assert_eq!(rt; held.free_count(), 91);
+    Ok(())
+}
+
+#[test]
+fn holds_the_most_blocks(rt: HostRuntime) -> Result<(), Fail> {
+    let mut held = Held::new(rt.alloc(), 1_048_576)?;
+    assert_eq!(rt; held.free_count(), 1_048_542);
+    assert_eq!(rt; held.take(), Some(34));
+    assert!(rt; held.blocks() == 1_048_576);
+    assert!(rt; !held.is_held(1_048_575));
+    Ok(())
+}
+
+#[test]
+fn marks_and_clears(rt: HostRuntime) -> Result<(), Fail> {
+    let mut marks = Marks::new(rt.alloc(), 65)?;
+    assert_eq!(rt; marks.blocks(), 65);
+    marks.set(33);
+    marks.set(64);
+    marks.set(64);
+    assert!(rt; marks.is_set(33));
+    assert!(rt; marks.is_set(64));
+    assert!(rt; !marks.is_set(63));
+    marks.clear();
+    assert!(rt; !marks.is_set(33));
+    assert!(rt; !marks.is_set(64));
+    Ok(())
+}

@@ -1,0 +1,65 @@
+//! A map in a tree on a disk of its own, for rows.
+use super::words::Wrong;
+use std::alloc::Global;
+use std::mem;
+use vm_alloc::{Held, Marks};
+use vm_disk::{FuseDisk, MemDisk};
+use vm_tree::Root;
+
+/// More device calls than any row makes.
+const NEVER: u32 = 1_000_000;
+
+/// A disk in memory that counts device calls, and may fail one.
+pub(super) type Device = FuseDisk<MemDisk>;
+
+/// The sizes of trees that rows use: records of a leaf, children of an inner block, levels.
+#[derive(Clone, Copy)]
+pub(super) enum Sizes {
+    /// 16, 256 and 8, as in the store.
+    Store,
+    /// 3, 3 and 2.
+    Threes,
+    /// 2, 2 and 2.
+    Twos,
+    /// 3, 2 and 2.
+    Pairs,
+    /// 3, 3 and 1.
+    Flat,
+}
+
+#[derive(Drop)]
+pub(super) struct Bench {
+    pub(super) disk: Device,
+    pub(super) held: Held,
+    pub(super) marks: Marks,
+    pub(super) root: Root,
+    pub(super) sizes: Sizes,
+}
+
+impl Bench {
+    /// An empty map on a blank disk of so many blocks.
+    pub(super) fn new(alloc: Global, blocks: u32) -> Result<Bench, Wrong> {
+        if blocks < 64 || blocks > 1024 {
+            return Err(Wrong::Unreadable);
+        }
+        let disk = MemDisk::new(alloc, blocks)?;
+        Ok(Bench {
+            disk: FuseDisk::once(disk, NEVER, [0; 4096]),
+            held: Held::new(alloc, blocks)?,
+            marks: Marks::new(alloc, blocks)?,
+            root: Root::default(),
+            sizes: Sizes::Store,
+        })
+    }
+
+    /// Has the disk fail once, after so many device calls from now.
+    pub(super) fn fail_after(&mut self, alloc: Global, passes: u32) -> Result<(), Wrong> {
+        if passes > NEVER {
+            return Err(Wrong::Unreadable);
+        }
+        let blank = FuseDisk::once(MemDisk::new(alloc, 64)?, NEVER, [0; 4096]);
+        let disk = mem::replace(&mut self.disk, blank);
+        self.disk = FuseDisk::once(disk.into_inner(), passes, [0; 4096]);
+        Ok(())
+    }
+}

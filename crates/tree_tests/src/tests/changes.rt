@@ -1,0 +1,131 @@
+//! The calls that change a map, made by steps of a row.
+ghost use Rattle.vm_tree.specs.Root.{AreSizes};
+
+use super::bench::{Bench, Device, Sizes};
+use super::words::{Wrong, key, level, long, number, root, value};
+use std::alloc::Global;
+use vm_check::mark;
+use vm_disk::Disk;
+use vm_tree::{Root, put, remove};
+use vm_types::Value;
+
+fn put_in<const LEAF: usize, const FAN: usize, const LEVELS: usize>(
+    bench: &mut Bench,
+    number: u64,
+    value: &Value,
+) -> Result<(), Wrong>
+    requires { AreSizes LEAF FAN LEVELS }
+{
+    if bench.held.free_count() < 16 || bench.held.blocks() > bench.disk.blocks() {
+        return Err(Wrong::Unreadable);
+    }
+    bench.root = put::<Device, LEAF, FAN, LEVELS>(
+        &mut bench.disk,
+        &mut bench.held,
+        bench.root,
+        key(number),
+        value,
+    )?;
+    Ok(())
+}
+
+fn put_sized(bench: &mut Bench, number: u64, value: &Value) -> Result<(), Wrong> {
+    match bench.sizes {
+        Sizes::Store => put_in::<16, 256, 8>(bench, number, value),
+        Sizes::Threes => put_in::<3, 3, 2>(bench, number, value),
+        _ => Err(Wrong::Unreadable),
+    }
+}
+
+// Puts so many records, from a key on.
+fn put_all(bench: &mut Bench, first: u64, count: u8, given: &str) -> Result<(), Wrong> {
+    for n in 0..count {
+        put_sized(bench, first.saturating_add(u64::from(n)), &value(given)?)?;
+    }
+    Ok(())
+}
+
+// The root without the record, where it was there.
+fn removed<const LEAF: usize, const FAN: usize, const LEVELS: usize>(
+    bench: &mut Bench,
+    number: u64,
+) -> Result<Option<Root>, Wrong>
+    requires { AreSizes LEAF FAN LEVELS }
+{
+    if bench.held.free_count() < 16 || bench.held.blocks() > bench.disk.blocks() {
+        return Err(Wrong::Unreadable);
+    }
+    let root = remove::<Device, LEAF, FAN, LEVELS>(
+        &mut bench.disk,
+        &mut bench.held,
+        bench.root,
+        key(number),
+    )?;
+    Ok(root)
+}
+
+fn remove_sized(bench: &mut Bench, number: u64) -> Result<bool, Wrong> {
+    let removed = match bench.sizes {
+        Sizes::Store => removed::<16, 256, 8>(bench, number)?,
+        Sizes::Threes => removed::<3, 3, 2>(bench, number)?,
+        _ => return Err(Wrong::Unreadable),
+    };
+    match removed {
+        Some(root) => {
+            bench.root = root;
+            Ok(true)
+        }
+        None => Ok(false),
+    }
+}
+
+// Holds just the blocks that the map lies in, where a marking finds them.
+fn let_go(bench: &mut Bench) -> Result<(), Wrong> {
+    bench.marks.clear();
+    if bench.marks.blocks() > bench.disk.blocks() {
+        return Err(Wrong::Unreadable);
+    }
+    mark(&mut bench.disk, &[bench.root], &mut bench.marks)?;
+    if bench.marks.blocks() != bench.held.blocks() {
+        return Err(Wrong::Unreadable);
+    }
+    bench.held.replace(&bench.marks);
+    Ok(())
+}
+
+fn sizes(words: &[&str]) -> Result<Sizes, Wrong> {
+    match words {
+        ["3", "3", "2"] => Ok(Sizes::Threes),
+        ["2", "2", "2"] => Ok(Sizes::Twos),
+        ["3", "2", "2"] => Ok(Sizes::Pairs),
+        ["3", "3", "1"] => Ok(Sizes::Flat),
+        _ => Err(Wrong::Unreadable),
+    }
+}
+
+/// Carries out a step that changes the map. What it is answered, if these words are one.
+pub(super) fn change(bench: &mut Bench, words: &[&str]) -> Result<Option<&'static str>, Wrong> {
+    match words {
+        ["put", number, given] => put_sized(bench, long(number)?, &value(given)?)?,
+        ["puts", first, count, given] => put_all(bench, long(first)?, level(count)?, given)?,
+        ["remove", number] => {
+            let was_there = remove_sized(bench, long(number)?)?;
+            return Ok(Some(if was_there { "ok" } else { "none" }));
+        }
+        ["let", "go"] => let_go(bench)?,
+        _ => return Ok(None),
+    }
+    Ok(Some("ok"))
+}
+
+/// Carries out a step that sets what the next ones begin from. Whether these words are one.
+pub(super) fn begin(alloc: Global, bench: &mut Bench, words: &[&str]) -> Result<bool, Wrong> {
+    match words {
+        ["new", blocks] => *bench = Bench::new(alloc, number(blocks)?)?,
+        ["once", passes] => bench.fail_after(alloc, number(passes)?)?,
+        ["top", top] => bench.root = root(top)?,
+        ["sizes", numbers @ ..] => bench.sizes = sizes(numbers)?,
+        _ => return Ok(false),
+    }
+    Ok(true)
+}

@@ -1,0 +1,306 @@
+//! A hundred thousand random changes of a tree, at the sizes of the store and at small ones.
+ghost use Rattle.vm_tree.specs.Root.{AreSizes};
+
+use arrayvec::ArrayVec;
+use rand_core::{Rng, SeedableRng};
+use rand_xoshiro::Xoshiro256PlusPlus;
+use std::alloc::{AllocError, Global};
+use std::collections::BTreeMap;
+use std::test::Fail;
+use vm_alloc::{FIRST_DATA, Held, Marks};
+use vm_block::{Child, read_node};
+use vm_check::mark;
+use vm_disk::{Disk, MemDisk};
+use vm_tree::{Root, TreeFault, get, put, remove, scan};
+use vm_types::{Key, Value};
+
+const BLOCKS: u32 = 16_384;
+
+/// The most blocks that a change may take, and one.
+const NEEDED: u32 = 16;
+
+const CHANGES: u32 = 100_000;
+
+/// How many changes are made with more puts than removes, and then as many with fewer.
+const SEASON: u32 = 10_000;
+
+/// What went wrong.
+#[derive(Clone, Copy, Debug, PartialEq, Eq)]
+enum Wrong {
+    /// No memory for the test itself.
+    Memory,
+    /// A call on the tree gave no answer, where it should.
+    Tree(TreeFault),
+    /// The disk, the held blocks and the marks have not one size.
+    Sizes,
+    /// A put found no room for a key that is there, or took a block and then found none.
+    Deep(u64),
+    /// A remove found a record that isn't there, or missed one that is.
+    Removed(u64),
+    /// This key has another value than in the sorted map.
+    Got(u64),
+    /// After so many changes the records are not those of the sorted map.
+    Records(u32),
+    /// This block lies under the root, and isn't held.
+    Free(u32),
+    /// After a marking so many blocks are free, where the second number is due.
+    Count(u32, u32),
+}
+
+impl From<AllocError> for Wrong {
+    fn from(_: AllocError) -> Wrong {
+        Wrong::Memory
+    }
+}
+
+impl From<TreeFault> for Wrong {
+    fn from(fault: TreeFault) -> Wrong {
+        Wrong::Tree(fault)
+    }
+}
+
+/// A tree on a disk of its own, and the sorted map that it has to agree with.
+#[derive(Drop)]
+struct Pair {
+    disk: MemDisk,
+    held: Held,
+    marks: Marks,
+    root: Root,
+    plain: BTreeMap<u64, Value>,
+    dice: Xoshiro256PlusPlus,
+    /// How many keys there are.
+    keys: u64,
+    markings: u32,
+    deeps: u32,
+    /// The greatest level that the root had.
+    top: u8,
+}
+
+fn key(number: u64) -> Key {
+    Key { table: 1, number }
+}
+
+// The children of an inner block.
+fn children_at(disk: &mut MemDisk, block: u32) -> Result<ArrayVec<Child, 256>, Wrong> {
+    let mut bytes = [0; 4096];
+    if block >= disk.blocks() {
+        return Err(Wrong::Sizes);
+    }
+    disk.read(block, &mut bytes)
+        .map_err(|_| Wrong::Tree(TreeFault::Device))?;
+    match read_node(&bytes) {
+        Some(node) => Ok(node.children),
+        None => Err(Wrong::Tree(TreeFault::Damaged(block))),
+    }
+}
+
+// How many blocks there are from this one of this level down. Each is held.
+fn count_under(disk: &mut MemDisk, held: &Held, level: u8, block: u32) -> Result<u32, Wrong> {
+    if block >= held.blocks() || !held.is_held(block) {
+        return Err(Wrong::Free(block));
+    }
+    let mut count: u32 = 1;
+    if level > 0 {
+        for child in children_at(disk, block)?.as_slice() {
+            let under = count_under(disk, held, level - 1, child.block)?;
+            count = count.saturating_add(under);
+        }
+    }
+    Ok(count)
+}
+
+impl Pair {
+    fn new(alloc: Global, seed: u64, keys: u64) -> Result<Pair, AllocError> {
+        Ok(Pair {
+            disk: MemDisk::new(alloc, BLOCKS)?,
+            held: Held::new(alloc, BLOCKS)?,
+            marks: Marks::new(alloc, BLOCKS)?,
+            root: Root::default(),
+            plain: BTreeMap::new(alloc),
+            dice: Xoshiro256PlusPlus::seed_from_u64(seed),
+            keys,
+            markings: 0,
+            deeps: 0,
+            top: 0,
+        })
+    }
+
+    // Where too few blocks are free, holds just those of the tree.
+    fn let_go(&mut self) -> Result<(), Wrong> {
+        if self.held.free_count() >= NEEDED {
+            return Ok(());
+        }
+        self.marks.clear();
+        if self.marks.blocks() > self.disk.blocks() || self.marks.blocks() != self.held.blocks() {
+            return Err(Wrong::Sizes);
+        }
+        mark(&mut self.disk, &[self.root], &mut self.marks)?;
+        if self.marks.blocks() != self.held.blocks() {
+            return Err(Wrong::Sizes);
+        }
+        self.held.replace(&self.marks);
+        self.markings = self.markings.saturating_add(1);
+        self.check_count()
+    }
+
+    // Whether just the blocks of the tree are held, and those before the first for data.
+    fn check_count(&mut self) -> Result<(), Wrong> {
+        let mut due = BLOCKS.saturating_sub(FIRST_DATA);
+        if self.root.block != 0 {
+            let under = count_under(&mut self.disk, &self.held, self.root.level, self.root.block)?;
+            due = due.saturating_sub(under);
+        }
+        if self.held.free_count() != due {
+            return Err(Wrong::Count(self.held.free_count(), due));
+        }
+        Ok(())
+    }
+
+    fn number(&mut self) -> u64 {
+        self.dice.next_u64() % self.keys.max(1)
+    }
+
+    fn value(&mut self) -> Value {
+        let mut bytes = [0; Value::MAX_LEN];
+        self.dice.fill_bytes(&mut bytes);
+        let len = self.dice.next_u32() as usize % 241;
+        Value::new(&bytes[..len]).unwrap_or_default()
+    }
+
+    fn put<const LEAF: usize, const FAN: usize, const LEVELS: usize>(
+        &mut self,
+        number: u64,
+        value: Value,
+    ) -> Result<(), Wrong>
+        requires { AreSizes LEAF FAN LEVELS }
+    {
+        let free = self.held.free_count();
+        if free < NEEDED || self.held.blocks() > self.disk.blocks() {
+            return Err(Wrong::Sizes);
+        }
+        let changed = put::<MemDisk, LEAF, FAN, LEVELS>(
+            &mut self.disk,
+            &mut self.held,
+            self.root,
+            key(number),
+            &value,
+        );
+        match changed {
+            Ok(root) => {
+                self.root = root;
+                self.top = self.top.max(root.level);
+                self.plain.insert(number, value).map_err(|_| Wrong::Memory)?;
+                Ok(())
+            }
+            Err(TreeFault::Deep) => {
+                self.deeps = self.deeps.saturating_add(1);
+                if self.held.free_count() != free || self.plain.contains_key(&number) {
+                    return Err(Wrong::Deep(number));
+                }
+                Ok(())
+            }
+            Err(fault) => Err(Wrong::Tree(fault)),
+        }
+    }
+
+    fn remove<const LEAF: usize, const FAN: usize, const LEVELS: usize>(
+        &mut self,
+        number: u64,
+    ) -> Result<(), Wrong>
+        requires { AreSizes LEAF FAN LEVELS }
+    {
+        if self.held.free_count() < NEEDED || self.held.blocks() > self.disk.blocks() {
+            return Err(Wrong::Sizes);
+        }
+        let removed = remove::<MemDisk, LEAF, FAN, LEVELS>(
+            &mut self.disk,
+            &mut self.held,
+            self.root,
+            key(number),
+        )?;
+        if self.plain.remove(&number).is_some() != removed.is_some() {
+            return Err(Wrong::Removed(number));
+        }
+        self.root = removed.unwrap_or(self.root);
+        Ok(())
+    }
+
+    fn get(&mut self, number: u64) -> Result<Option<Value>, TreeFault> {
+        let blocks = self.disk.blocks();
+        get(&mut self.disk, blocks, self.root, key(number))
+    }
+
+    // Compares all records, and what a hundred keys have.
+    fn compare(&mut self, alloc: Global, changes: u32) -> Result<(), Wrong> {
+        let blocks = self.disk.blocks();
+        let records = scan(alloc, &mut self.disk, blocks, self.root)?;
+        if records.len() != self.plain.len() {
+            return Err(Wrong::Records(changes));
+        }
+        for ((found, value), (number, due)) in records.iter().zip(self.plain.iter()) {
+            if *found != key(*number) || value != due {
+                return Err(Wrong::Records(changes));
+            }
+        }
+        for _ in 0..100 {
+            let number = self.number();
+            if self.get(number)? != self.plain.get(&number).copied() {
+                return Err(Wrong::Got(number));
+            }
+        }
+        Ok(())
+    }
+
+    // Makes the changes, and compares after each thousand.
+    fn run<const LEAF: usize, const FAN: usize, const LEVELS: usize>(
+        &mut self,
+        alloc: Global,
+    ) -> Result<(), Wrong>
+        requires { AreSizes LEAF FAN LEVELS }
+    {
+        for change in 0..CHANGES {
+            self.let_go()?;
+            let puts = if change / SEASON % 2 == 0 { 3 } else { 1 };
+            let number = self.number();
+            if self.dice.next_u32() % 4 < puts {
+                let value = self.value();
+                self.put::<LEAF, FAN, LEVELS>(number, value)?;
+            } else {
+                self.remove::<LEAF, FAN, LEVELS>(number)?;
+            }
+            if change % 1000 == 999 {
+                self.compare(alloc, change)?;
+            }
+        }
+        Ok(())
+    }
+}
+
+#[test]
+fn agrees_at_the_sizes_of_the_store(rt: HostRuntime) -> Result<(), Fail> {
+    let mut pair = Pair::new(rt.alloc(), 1, 16_384)?;
+    pair.run::<16, 256, 8>(rt.alloc())?;
+    assert!(rt; pair.markings > 0);
+    assert_eq!(rt; pair.top, 2);
+    assert_eq!(rt; pair.deeps, 0);
+    Ok(())
+}
+
+#[test]
+fn agrees_where_small_blocks_make_a_tree_deep(rt: HostRuntime) -> Result<(), Fail> {
+    let mut pair = Pair::new(rt.alloc(), 2, 4_096)?;
+    pair.run::<3, 3, 8>(rt.alloc())?;
+    assert!(rt; pair.markings > 0);
+    assert_eq!(rt; pair.top, 7);
+    assert!(rt; pair.deeps > 0);
+    Ok(())
+}
+
+#[test]
+fn agrees_with_few_keys_in_blocks_of_four(rt: HostRuntime) -> Result<(), Fail> {
+    let mut pair = Pair::new(rt.alloc(), 3, 512)?;
+    pair.run::<4, 4, 8>(rt.alloc())?;
+    assert!(rt; pair.markings > 0);
+    assert_eq!(rt; pair.deeps, 0);
+    Ok(())
+}

@@ -1,0 +1,90 @@
+//! Scripts: lines of steps, each with its answer, played over a map in a tree on a disk in memory.
+//!
+//! A line is a step, and behind ` -> ` its answer, which is `ok` where the line says none. A fault is `error` and
+//! its name, as `error Damaged 36`. A line that begins with `#` is a comment. Keys are those of table 1, by their
+//! numbers; `''` is the value without bytes, `~` no value; `none` is an empty list, or the root of the empty map.
+//!
+//! | Step | Answer |
+//! |---|---|
+//! | `new 64` | `ok`: an empty map on a blank disk of so many blocks, of the store's sizes |
+//! | `sizes 3 3 2` | `ok`: from here on leaves, inner blocks and levels have these sizes |
+//! | `once 1` | `ok`: the disk fails the second device call from here on |
+//! | `put 5 v`, `puts 1 15 v` | `ok`: a record; fifteen from the key 1 on, where all of them are answered so |
+//! | `remove 5` | `ok`, or `none` where there is no such record |
+//! | `get 5` | `v` |
+//! | `list` | `1=v 2=v` |
+//! | `root` | `37.1.1`: its block, its level, and the lowest key |
+//! | `free` | `25`: how many blocks are |
+//! | `let go` | `ok`: just the blocks under the root are held |
+//! | `top 35.1.0` | `ok`: this is the root from here on |
+//! | `take` | `34`: the lowest free block is held |
+//!
+//! | Step | Answer |
+//! |---|---|
+//! | `mark 34.1.1 none` | `marks 34 35 by 1`: what is marked after a marking from these, and its device calls |
+//! | `verify 34 0` | `34.1.1 none marks 34 35 by 2`: what is found under these numbers |
+//! | `leaf 36`, `node 1 37` | `10=v 11=v`, `1:35 10:36`: what the reader of single blocks gives |
+//! | `data 34` | the bytes of a block for data, as those of a block |
+//!
+//! | Step | Answer |
+//! |---|---|
+//! | `write leaf 34 v 1 2` | `ok`: a leaf of these keys with one value is written into the block |
+//! | `write node 34 1 1:35 2:36` | the same of an inner block of level 1 |
+//! | `write fan 35 256` | the same with so many children: 0:34, 32:34, 64:34 and so on |
+//! | `write all 36 07`, `copy 36 35` | the same of one byte, and of the bytes of another block |
+//! | `set 36 0:4E4F` | `ok`: these bytes of the block, from this place on |
+//! | `bytes 37` | `0:4E4F444501 8:02`: its bytes but zeros, from these places on |
+//! | `count 35` | `9`: its records or children |
+//! | `child 38 2` | `32:34`: its third child |
+//! | `leaves` | `2 2 3`: the records of each leaf under a root of level 1 |
+//! | `sync` | `ok` |
+//! | `dirty` | `34 35`: the blocks that are not synced |
+use super::answers::answer;
+use super::bench::Bench;
+use super::words::Wrong;
+use std::alloc::Global;
+use std::process::Abort;
+
+/// Sixteen records in block 34, with block 48 held beside it, and the seventeenth: leaves in blocks 35 and 36, and
+/// the root in 37.
+pub(super) const SEVENTEEN: &str = "
+    new 64
+    puts 1 15 v
+    let go
+    puts 16 2 v";
+
+// Plays a step. Its answer.
+fn play(alloc: Global, bench: &mut Bench, step: &str) -> Result<String, Wrong> {
+    let words: Vec<&str> = step.split_whitespace().collect(alloc)?;
+    answer(alloc, bench, &words)
+}
+
+// Plays the lines of a text, and compares each answer.
+fn plays_lines<R: AllocGlobal + Abort>(rt: &R, bench: &mut Bench, text: &str) {
+    for (n, line) in text.lines().enumerate() {
+        let line = line.trim();
+        if line.is_empty() || line.starts_with('#') {
+            continue;
+        }
+        let (step, due) = line.split_once(" -> ").unwrap_or((line, "ok"));
+        match play(rt.alloc(), bench, step) {
+            Ok(given) => {
+                let given = given.trim();
+                let given = if given.is_empty() { "none" } else { given };
+                assert_eq!(rt; given, due.trim(), "line {n}: {line}");
+            }
+            Err(wrong) => panic!(rt; "line {n}: {line}: {wrong:?}"),
+        }
+    }
+}
+
+/// Plays texts one after another, the first over a blank disk of 64 blocks.
+pub(super) fn plays<R: AllocGlobal + Abort>(rt: &R, texts: &[&str]) {
+    let mut bench = match Bench::new(rt.alloc(), 64) {
+        Ok(blank) => blank,
+        Err(wrong) => panic!(rt; "{wrong:?}"),
+    };
+    for text in texts {
+        plays_lines(rt, &mut bench, text);
+    }
+}

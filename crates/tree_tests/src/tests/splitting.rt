@@ -1,0 +1,80 @@
+//! Where leaves and inner blocks are split, and which blocks a put takes.
+use super::script::{SEVENTEEN, plays};
+
+#[test]
+fn splits_small_leaves_until_there_is_no_room(rt: HostRuntime) {
+    // Of 222 blocks seven puts take 1, 1, 1, 3, 2, 3 and 2.
+    let row = "
+        new 256
+        sizes 3 3 2
+        puts 1 7 v
+        root -> 46.1.1
+        leaves -> 2 2 3
+        free -> 209
+        put 8 v -> error Deep
+        free -> 209
+        put 0 v
+        leaves -> 3 2 3
+        root -> 48.1.0
+        free -> 207";
+    plays(&rt, &[row]);
+}
+
+#[test]
+fn splits_at_the_seventeenth_record(rt: HostRuntime) {
+    let row = "
+        root -> 37.1.1
+        free -> 25
+        bytes 37 -> 0:4E4F444501 8:02 16:01 18:01 26:23 30:01 32:0A 40:24
+        count 35 -> 9
+        count 36 -> 8";
+    plays(&rt, &[SEVENTEEN, row]);
+}
+
+/// A leaf of every second number up to 30 in block 34, and block 35 for an inner block over it. Both are held.
+const FOREIGN: &str = "
+    new 64
+    write leaf 34 v 0 2 4 6 8 10 12 14 16 18 20 22 24 26 28 30
+    take -> 34
+    take -> 35
+    top 35.1.0
+    free -> 28";
+
+#[test]
+fn splits_a_full_inner_block_in_129_and_128(rt: HostRuntime) {
+    // Of 17 records the left leaf has 9, and of 257 children the left block has 129; the left one
+    // of each pair was written first.
+    let row = "
+        write fan 35 256
+        put 1 w
+        free -> 23
+        root -> 40.2.0
+        count 36 -> 9
+        count 37 -> 8
+        count 38 -> 129
+        count 39 -> 128
+        count 40 -> 2
+        child 38 0 -> 0:36
+        child 38 1 -> 16:37
+        child 38 2 -> 32:34
+        child 38 128 -> 4064:34
+        child 39 0 -> 4096:34
+        child 39 127 -> 8160:34
+        child 40 0 -> 0:38
+        child 40 1 -> 4096:39";
+    plays(&rt, &[FOREIGN, row]);
+}
+
+#[test]
+fn copies_a_root_of_one_child(rt: HostRuntime) {
+    let row = "
+        write fan 35 1
+        put 2 w
+        free -> 26
+        root -> 37.1.0
+        count 37 -> 1
+        child 37 0 -> 0:36
+        count 36 -> 16
+        get 2 -> w";
+    plays(&rt, &[FOREIGN, row]);
+}

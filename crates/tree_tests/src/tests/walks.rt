@@ -1,0 +1,97 @@
+//! Markings, and the walk that tells whether trees lie under numbers, made by steps of a row.
+ghost use Rattle.vm_tree.specs.Root.{AreSizes};
+
+use super::bench::{Bench, Device, Sizes};
+use super::words::{Wrong, number, root};
+use std::alloc::Global;
+use vm_alloc::Marks;
+use vm_check::{mark, verify};
+use vm_disk::Disk;
+use vm_tree::Root;
+
+/// Adds a root to a text.
+pub(super) fn add_root(text: &mut String, root: Root) -> Result<(), Wrong> {
+    if root.block == 0 {
+        write!(text, " none")?;
+    } else {
+        write!(text, " {}.{}.{}", root.block, root.level, root.low.number)?;
+    }
+    Ok(())
+}
+
+// Adds what is marked, and by how many device calls.
+fn add_marks(text: &mut String, marks: &Marks, calls: u32) -> Result<(), Wrong> {
+    write!(text, " marks")?;
+    for n in 0..marks.blocks() {
+        if marks.is_set(n) {
+            write!(text, " {n}")?;
+        }
+    }
+    write!(text, " by {calls}")?;
+    Ok(())
+}
+
+/// What a marking from these roots is answered. What was marked stays so.
+pub(super) fn marked(alloc: Global, bench: &mut Bench, words: &[&str]) -> Result<String, Wrong> {
+    let mut roots = Vec::new(alloc);
+    for word in words {
+        let root = root(word)?;
+        roots.push(root).map_err(|_| Wrong::Memory)?;
+    }
+    if bench.marks.blocks() > bench.disk.blocks() {
+        return Err(Wrong::Unreadable);
+    }
+    let before = bench.disk.calls();
+    mark(&mut bench.disk, &roots, &mut bench.marks)?;
+    let calls = bench.disk.calls().saturating_sub(before);
+    let mut text = String::new(alloc);
+    add_marks(&mut text, &bench.marks, calls)?;
+    Ok(text)
+}
+
+fn found<const LEAF: usize, const FAN: usize, const LEVELS: usize>(
+    alloc: Global,
+    bench: &mut Bench,
+    numbers: &[u32],
+) -> Result<(Vec<Root>, Marks), Wrong>
+    requires { AreSizes LEAF FAN LEVELS }
+{
+    let blocks = bench.held.blocks();
+    if blocks > bench.disk.blocks() {
+        return Err(Wrong::Unreadable);
+    }
+    let found = verify::<Device, LEAF, FAN, LEVELS>(alloc, &mut bench.disk, blocks, numbers)?;
+    Ok(found)
+}
+
+fn found_sized(
+    alloc: Global,
+    bench: &mut Bench,
+    numbers: &[u32],
+) -> Result<(Vec<Root>, Marks), Wrong> {
+    match bench.sizes {
+        Sizes::Store => found::<16, 256, 8>(alloc, bench, numbers),
+        Sizes::Threes => found::<3, 3, 2>(alloc, bench, numbers),
+        Sizes::Twos => found::<2, 2, 2>(alloc, bench, numbers),
+        Sizes::Pairs => found::<3, 2, 2>(alloc, bench, numbers),
+        Sizes::Flat => found::<3, 3, 1>(alloc, bench, numbers),
+    }
+}
+
+/// What the walk of trees under these numbers is answered.
+pub(super) fn verified(alloc: Global, bench: &mut Bench, words: &[&str]) -> Result<String, Wrong> {
+    let mut numbers = Vec::new(alloc);
+    for word in words {
+        let n = number(word)?;
+        numbers.push(n).map_err(|_| Wrong::Memory)?;
+    }
+    let before = bench.disk.calls();
+    let (roots, marks) = found_sized(alloc, bench, &numbers)?;
+    let calls = bench.disk.calls().saturating_sub(before);
+    let mut text = String::new(alloc);
+    for root in &roots {
+        add_root(&mut text, *root)?;
+    }
+    add_marks(&mut text, &marks, calls)?;
+    Ok(text)
+}
