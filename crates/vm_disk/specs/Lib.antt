@@ -7,4 +7,5 @@ pub mod Cached
 pub mod Moments
 pub mod Positional
 pub mod File
+pub mod Syncing
 pub mod System

@@ -1,12 +1,16 @@
 //! A file of the system, as contracts can know it.
-ghost use Rattle.std.specs.Prelude.{◌≡◌, ℕ, ◌<ℤ◌, pos, List, [], Option, None, length, IfSome};
+ghost use Rattle.std.specs.Prelude.{◌≡◌, ℕ, ◌<ℤ◌, pos, ◌≤◌, true, false, not, List, [], Option, None, length, replicate, IfSome};
 ghost use Rattle.std.specs.Fd.{file_raw_fd};
+ghost use Rattle.std.specs.Fs.{asks_write};
 ghost use Rattle.vm_disk.specs.Past.{noted};
+ghost use Rattle.vm_disk.specs.Positional.{CountsFailures, ReadsAt, WritesAt, SyncsFile, Measures};
+ghost use Rattle.vm_disk.specs.Syncing.{counts_as_synced};
 
 use crate::disk::DeviceFault;
 use crate::history::{History, noted_bytes};
 use crate::positional::Positional;
-use std::fs::{File, OpenOptions};
+use std::fs::{self, File, OpenOptions};
+use std::io;
 use std::marker::{Brand, PhantomData};
 use std::os::fd::{AsRawFd, RawFd};
 use std::os::unix::fs::FileExt;
@@ -15,6 +19,9 @@ use std::snapshot::Snapshot;
 
 /// The standard input, output and error have the descriptors 0, 1 and 2.
 pub const LAST_STANDARD: RawFd = 2;
+
+/// What the system answers to a sync of a file that has nothing to sync.
+const EINVAL: i32 = 22;
 
 /// What no program can know of the files of a system, said for contracts alone. It has no functions:
 /// code that is written for any world is proved for each.
@@ -33,8 +40,8 @@ impl World for Brand {
     ghost torn = { λ opened name calls. [] };
 }
 
-// A call that was made of a file. Torn is a write that failed, and Failed any other call that did, which
-// did nothing.
+// A call that was made of a file. Torn is a write that failed, Withheld one that was not made, Synced a
+// sync with what the system answered to it, and Failed any other call that failed, which did nothing.
 #[derive(Drop)]
 enum Call {
     Created,
@@ -43,8 +50,29 @@ enum Call {
     Written(u64, Snapshot<[u8; 4096]>),
     Zeroed(u64, usize),
     Torn(u64, usize),
-    Synced,
+    Withheld(u64, usize),
+    Synced(Snapshot<io::Result<()>>),
     Failed,
+}
+
+// Whether a plain file has this name: no folder, and no pipe or device, whose opening alone may wait for
+// others, or do something.
+fn is_plain(rt: &impl Files, path: &str) -> bool {
+    match fs::metadata(rt, path) {
+        Ok(metadata) => metadata.is_file(),
+        Err(_) => false,
+    }
+}
+
+// Whether all writes last after a sync that was answered so. Some file systems that cannot be written
+// answer that there is nothing to sync; that counts for a file that was opened to be read alone.
+fn is_synced(reads_alone: bool, answer: &io::Result<()>) -> bool
+    ensures { result ≡ counts_as_synced reads_alone answer.now }
+{
+    match answer {
+        Ok(()) => true,
+        Err(error) => reads_alone && error.raw_os_error() == Some(EINVAL),
+    }
 }
 
 /// A file of the system. It holds what the world says that it held when it was opened, with the writes
@@ -55,10 +83,11 @@ enum Call {
 /// between two openings.
 ///
 /// Its descriptor is none of the standard ones, so that what is read and written there never is the
-/// file.
+/// file. One that was opened to be read alone is never written.
 #[derive(Drop)]
 pub struct SystemFile<W> {
     file: File,
+    reads_alone: bool,
     name: History<u8>,
     opened: Snapshot<History<()>>,
     calls: History<Call>,
@@ -67,10 +96,10 @@ pub struct SystemFile<W> {
 }
 
 impl<W: World> SystemFile<W> {
-    ghost use Rattle.vm_disk.specs.System.{system_state, state_after, fresh, held_bytes, name_of, opening_of};
+    ghost use Rattle.vm_disk.specs.System.{system_state, state_after, fresh, held_bytes, name_of, opening_of, is_read_alone};
 
-    /// Opens a file that is there, to be read and written, after so many others. None where it cannot be
-    /// opened, or has a standard descriptor.
+    /// Opens a plain file that is there, to be read and written, after so many others. None where it
+    /// cannot be opened, is no plain file, or has a standard descriptor.
     pub fn open(
         rt: &impl Files<File = File>,
         path: &str,
@@ -78,19 +107,20 @@ impl<W: World> SystemFile<W> {
     ) -> Option<SystemFile<W>>
         ensures state { IfSome result (λ file. system_state W.held W.torn file
             ≡ fresh (held_bytes (W.held (length (noted opened.now)) path.now))) }
+        ensures mode { IfSome result (λ file. is_read_alone file ≡ false) }
         ensures name { IfSome result (λ file. name_of file ≡ path.now) }
         ensures opening { IfSome result (λ file. opening_of file ≡ length (noted opened.now)) }
     {
-        let file = OpenOptions::new()
-            .read(true)
-            .write(true)
-            .open(rt, path)
-            .ok()?;
-        SystemFile::over(file, path, opened, History::new())
+        if !is_plain(rt, path) {
+            return None;
+        }
+        let mut how = OpenOptions::new();
+        how.read(true).write(true);
+        SystemFile::opened(rt, &how, path, opened, History::new())
     }
 
-    /// Opens a file that is there, to be read alone, after so many others: each write fails, and none
-    /// reaches the file. None where it cannot be opened, is a folder, or has a standard descriptor.
+    /// Opens a plain file that is there, to be read alone, after so many others: each write fails, and
+    /// none is made. None where it cannot be opened, is no plain file, or has a standard descriptor.
     pub fn open_to_read(
         rt: &impl Files<File = File>,
         path: &str,
@@ -98,15 +128,16 @@ impl<W: World> SystemFile<W> {
     ) -> Option<SystemFile<W>>
         ensures state { IfSome result (λ file. system_state W.held W.torn file
             ≡ fresh (held_bytes (W.held (length (noted opened.now)) path.now))) }
+        ensures mode { IfSome result (λ file. is_read_alone file ≡ true) }
         ensures name { IfSome result (λ file. name_of file ≡ path.now) }
         ensures opening { IfSome result (λ file. opening_of file ≡ length (noted opened.now)) }
     {
-        let file = File::open(rt, path).ok()?;
-        // A folder can be opened so, too.
-        if file.metadata().ok()?.is_dir() {
+        if !is_plain(rt, path) {
             return None;
         }
-        SystemFile::over(file, path, opened, History::new())
+        let mut how = OpenOptions::new();
+        how.read(true);
+        SystemFile::opened(rt, &how, path, opened, History::new())
     }
 
     /// Makes a file that is not there yet, with no bytes, to be read and written, after so many others
@@ -117,39 +148,42 @@ impl<W: World> SystemFile<W> {
         opened: &History<()>,
     ) -> Option<SystemFile<W>>
         ensures state { IfSome result (λ file. system_state W.held W.torn file ≡ fresh []) }
+        ensures mode { IfSome result (λ file. is_read_alone file ≡ false) }
         ensures name { IfSome result (λ file. name_of file ≡ path.now) }
         ensures opening { IfSome result (λ file. opening_of file ≡ length (noted opened.now)) }
     {
-        let file = OpenOptions::new()
-            .read(true)
-            .write(true)
-            .create_new(true)
-            .open(rt, path)
-            .ok()?;
+        let mut how = OpenOptions::new();
+        how.read(true).write(true).create_new(true);
         let mut calls = History::new();
         calls.note(&Call::Created);
-        SystemFile::over(file, path, opened, calls)
+        SystemFile::opened(rt, &how, path, opened, calls)
     }
 
-    // An open file of this name after these calls, unless it has a standard descriptor.
-    fn over(
-        file: File,
-        name: &str,
+    // Opens a file in this way, after so many others, of which these calls are known. It is to be read
+    // alone where the way asks for no writes. None where it cannot be opened, is no plain file after
+    // all, or has a standard descriptor.
+    fn opened(
+        rt: &impl Files<File = File>,
+        how: &OpenOptions,
+        path: &str,
         opened: &History<()>,
         calls: History<Call>,
     ) -> Option<SystemFile<W>>
         ensures state { IfSome result (λ file. system_state W.held W.torn file
-            ≡ state_after (held_bytes (W.held (length (noted opened.now)) name.now))
-            (W.torn (length (noted opened.now)) name.now) (noted calls)) }
-        ensures name { IfSome result (λ file. name_of file ≡ name.now) }
+            ≡ state_after (not (asks_write how.now)) (held_bytes (W.held (length (noted opened.now)) path.now))
+            (W.torn (length (noted opened.now)) path.now) (noted calls)) }
+        ensures mode { IfSome result (λ file. is_read_alone file ≡ not (asks_write how.now)) }
+        ensures name { IfSome result (λ file. name_of file ≡ path.now) }
         ensures opening { IfSome result (λ file. opening_of file ≡ length (noted opened.now)) }
     {
-        if file.as_raw_fd() <= LAST_STANDARD {
+        let file = how.open(rt, path).ok()?;
+        if !file.metadata().ok()?.is_file() || file.as_raw_fd() <= LAST_STANDARD {
             return None;
         }
         Some(SystemFile {
             file,
-            name: noted_bytes(name.as_bytes()),
+            reads_alone: !how.asks_write(),
+            name: noted_bytes(path.as_bytes()),
             opened: Snapshot::of(opened),
             calls,
             world: PhantomData,
@@ -158,11 +192,17 @@ impl<W: World> SystemFile<W> {
 }
 
 impl<W: World> Positional for SystemFile<W> {
-    ghost use Rattle.vm_disk.specs.System.{system_state};
+    ghost use Rattle.vm_disk.specs.System.{system_state, is_read_alone, IsWithheld};
 
     ghost state = { system_state W.held W.torn };
 
-    fn len(&mut self) -> Result<u64, DeviceFault> {
+    fn len(&mut self) -> Result<u64, DeviceFault>
+        ensures any { CountsFailures result (system_state W.held W.torn self.old) (system_state W.held W.torn self.new) }
+        ensures honest { (system_state W.held W.torn self.new).honest ≡ true
+            → Measures result (system_state W.held W.torn self.old) (system_state W.held W.torn self.new) }
+
+        ensures mode { is_read_alone self.new ≡ is_read_alone self.old }
+    {
         let Ok(metadata) = self.file.metadata() else {
             self.calls.note(&Call::Failed);
             return Err(DeviceFault);
@@ -172,7 +212,13 @@ impl<W: World> Positional for SystemFile<W> {
         Ok(count)
     }
 
-    fn read_at(&mut self, into: &mut [u8; 4096], offset: u64) -> Result<(), DeviceFault> {
+    fn read_at(&mut self, into: &mut [u8; 4096], offset: u64) -> Result<(), DeviceFault>
+        ensures any { CountsFailures result (system_state W.held W.torn self.old) (system_state W.held W.torn self.new) }
+        ensures honest { (system_state W.held W.torn self.new).honest ≡ true
+            → ReadsAt offset into.new result (system_state W.held W.torn self.old) (system_state W.held W.torn self.new) }
+
+        ensures mode { is_read_alone self.new ≡ is_read_alone self.old }
+    {
         if self.file.read_exact_at(into, offset).is_err() {
             self.calls.note(&Call::Failed);
             return Err(DeviceFault);
@@ -181,7 +227,20 @@ impl<W: World> Positional for SystemFile<W> {
         Ok(())
     }
 
-    fn write_at(&mut self, from: &[u8; 4096], offset: u64) -> Result<(), DeviceFault> {
+    fn write_at(&mut self, from: &[u8; 4096], offset: u64) -> Result<(), DeviceFault>
+        ensures any { CountsFailures result (system_state W.held W.torn self.old) (system_state W.held W.torn self.new) }
+        ensures honest { (system_state W.held W.torn self.new).honest ≡ true
+            → offset ≤ length (system_state W.held W.torn self.old).bytes
+            → WritesAt offset from.now result (system_state W.held W.torn self.old) (system_state W.held W.torn self.new) }
+
+        ensures mode { is_read_alone self.new ≡ is_read_alone self.old }
+        ensures withheld { is_read_alone self.old ≡ true
+            → IsWithheld result (system_state W.held W.torn self.old) (system_state W.held W.torn self.new) }
+    {
+        if self.reads_alone {
+            self.calls.note(&Call::Withheld(offset, 4096));
+            return Err(DeviceFault);
+        }
         if self.file.write_all_at(from, offset).is_err() {
             self.calls.note(&Call::Torn(offset, 4096));
             return Err(DeviceFault);
@@ -190,7 +249,21 @@ impl<W: World> Positional for SystemFile<W> {
         Ok(())
     }
 
-    fn write_zeros_at(&mut self, count: usize, offset: u64) -> Result<(), DeviceFault> {
+    fn write_zeros_at(&mut self, count: usize, offset: u64) -> Result<(), DeviceFault>
+        requires { count ≤ 65536 }
+        ensures any { CountsFailures result (system_state W.held W.torn self.old) (system_state W.held W.torn self.new) }
+        ensures honest { (system_state W.held W.torn self.new).honest ≡ true
+            → offset ≤ length (system_state W.held W.torn self.old).bytes
+            → WritesAt offset (replicate count 0) result (system_state W.held W.torn self.old) (system_state W.held W.torn self.new) }
+
+        ensures mode { is_read_alone self.new ≡ is_read_alone self.old }
+        ensures withheld { is_read_alone self.old ≡ true
+            → IsWithheld result (system_state W.held W.torn self.old) (system_state W.held W.torn self.new) }
+    {
+        if self.reads_alone {
+            self.calls.note(&Call::Withheld(offset, count));
+            return Err(DeviceFault);
+        }
         let zeros = [0; 65536];
         if self.file.write_all_at(&zeros[..count], offset).is_err() {
             self.calls.note(&Call::Torn(offset, count));
@@ -200,12 +273,19 @@ impl<W: World> Positional for SystemFile<W> {
         Ok(())
     }
 
-    fn sync(&mut self) -> Result<(), DeviceFault> {
-        if self.file.sync_all().is_err() {
-            self.calls.note(&Call::Failed);
-            return Err(DeviceFault);
+    fn sync(&mut self) -> Result<(), DeviceFault>
+        ensures any { CountsFailures result (system_state W.held W.torn self.old) (system_state W.held W.torn self.new) }
+        ensures honest { (system_state W.held W.torn self.new).honest ≡ true
+            → SyncsFile result (system_state W.held W.torn self.old) (system_state W.held W.torn self.new) }
+
+        ensures mode { is_read_alone self.new ≡ is_read_alone self.old }
+    {
+        let answer = self.file.sync_all();
+        self.calls.note(&Call::Synced(Snapshot::of(&answer)));
+        if is_synced(self.reads_alone, &answer) {
+            Ok(())
+        } else {
+            Err(DeviceFault)
         }
-        self.calls.note(&Call::Synced);
-        Ok(())
     }
 }

@@ -358,6 +358,9 @@ fn system_file_opened_to_read_is_never_written(rt: HostRuntime) -> Result<(), Fa
     assert_eq!(rt; filling(&mut disk, 1)?, Some(7));
     fs::remove_file(&rt, path)?;
     assert!(rt; SystemFile::<Brand>::open_to_read(&rt, path, &opened).is_none());
-    assert!(rt; SystemFile::<Brand>::open_to_read(&rt, ".", &opened).is_none());
+    for path in [".", "/dev/null"] {
+        assert!(rt; SystemFile::<Brand>::open_to_read(&rt, path, &opened).is_none());
+        assert!(rt; SystemFile::<Brand>::open(&rt, path, &opened).is_none());
+    }
     Ok(())
 }
