@@ -5,6 +5,7 @@ pub mod LeafLemmas
 pub mod NodeLemmas
 pub mod Pieces
 pub mod RecordLemmas
+pub mod RowLemmas
 pub mod Rows
 pub mod SlotLemmas
 pub mod TellingLemmas

@@ -8,3 +8,4 @@ pub mod Selector
 pub mod Slot
 pub mod Tree
 pub mod Way
+pub mod Row

@@ -18,12 +18,11 @@ mod keys;
 mod laws;
 mod leaf;
 mod node;
+mod row;
 mod selector;
 mod slot;
 mod spelling;
 mod telling;
-#[cfg(test)]
-mod tests;
 mod way;
 
 pub use changing::{Placed, put_record, set_child};
@@ -31,6 +30,7 @@ pub use header::{read_header, write_header};
 pub use laws::{one_form, one_tree, written_is_a_form};
 pub use leaf::{read_leaf, write_leaf};
 pub use node::{Child, Node, read_node, spelled_children, write_node};
+pub use row::{child_row, record_row, record_value};
 pub use selector::{read_selector, write_selector};
 pub use slot::{
     Entry, Kind, MAX_BLOCKS, MAX_ENTRIES, MIN_BLOCKS, SlotHead, read_entry, read_slot_head,

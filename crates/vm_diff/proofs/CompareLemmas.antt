@@ -1,6 +1,7 @@
 -- Two walks from the roots of two trees to their ends.
-use Rattle.std.proofs.Common.{◌≡◌, ◌≢◌, ℕ, zero, suc, ◌+◌, ◌<◌, ◌≤◌, true, List, [], ◌∷◌, ◌++◌, length, Result, Ok, Err, inl, inr, refl, sym, ap, ap₂, ◌∙◌, subst, arith, append_assoc, append-nil, length-append}
+use Rattle.std.proofs.Common.{◌≡◌, ◌≢◌, ℕ, zero, suc, ◌+◌, ◌<◌, ◌≤◌, true, List, [], ◌∷◌, ◌++◌, length, Result, Ok, Err, inl, inr, refl, sym, ap, ap₂, ◌∙◌, subst, arith, append_assoc, append-nil}
 use Rattle.vm_types.specs.declared.change.Change.{Change}
+use Rattle.vm_types.specs.declared.key.Key.{Key}
 use Rattle.vm_types.specs.Map.{Map, delta}
 use Rattle.vm_disk.specs.Disk.{State, Contents, Medium, Goes}
 use Rattle.vm_disk.specs.Moments.{OnlyReads}
@@ -17,10 +18,12 @@ use Rattle.vm_tree.proofs.RootLemmas.{subtree_keys}
 use Rattle.vm_diff.specs.Walk.{Walk, IsAhead}
 use Rattle.vm_diff.specs.Shared.{unshared}
 use Rattle.vm_diff.specs.Differ.{AreRising, Differ}
-use Rattle.vm_diff.specs.Steps.{StepsBy}
+use Rattle.vm_diff.specs.Front.{front_of}
+use Rattle.vm_diff.specs.Steps.{StepsBy, FoundBy}
 use Rattle.vm_diff.specs.declared.front.Step.{Step}
 use Rattle.vm_diff.specs.declared.front.Step.TheVariants.{Done, Moved, Found}
 use Rattle.vm_diff.proofs.DeltaLemmas.{shared_front}
+use Rattle.vm_diff.proofs.StepLemmas.{some_difference}
 
 -- ---- from the roots
 
@@ -64,6 +67,10 @@ one_root sizes x limit first second m n bs cs shared (inr a) (inr b) =
     ap (delta m) (sym same.0) ∙ ap₂ delta (sym whole) (sym whole) ∙ shared_front m [] [] rising rising
 
 -- ---- step by step
+
+none_left : (xs ys : List Change) → xs ++ ys ≡ [] → ys ≡ []
+none_left [] ys e = e
+none_left (x ∷ xs) ys e = cc
 
 -- so many differences were found on the way from two walks to two others, by reads alone
 pub record Compares (old new : State) (limit : ℕ) (one_first other_first one other : Walk) (found : List Change) : Type 0 where
@@ -109,14 +116,16 @@ module _ (old mid new : State) (back : new.honest ≡ true → mid.honest ≡ tr
     left = next_step (Ok Moved) one_now other_now new.reads (step_is step Moved one_now other_now new.reads is steps);
   }
 
-  pub compares_found : (fails : Type 0) (one_now other_now : Walk) (step : Step) (change : Change) → step ≡ Found change → Goes fails mid new → (new.honest ≡ true → OnlyReads mid new) → Steps (Ok step) one_now other_now new.reads
+  pub compares_found : (fails : Type 0) (one_mid other_mid one_now other_now : Walk) (step : Step) (key : Key) (change : Change) → step ≡ Found key → Goes fails mid new → (new.honest ≡ true → OnlyReads mid new) → Steps (Ok step) one_mid other_mid new.reads
+      → ((sizes : Sizes) (x : Contents) (limit reads most : ℕ) (changes : List Change) → Differ sizes x limit one_mid other_mid reads most changes → (rest : List Change) × (changes ≡ change ∷ rest) × Differ sizes x limit one_now other_now reads most rest)
       → Compares old new limit one_first other_first one_now other_now (found ++ change ∷ [])
-  compares_found fails one_now other_now step change is goes reads steps = record {
+  compares_found fails one_mid other_mid one_now other_now step key change is goes reads steps takes = record {
     goes = goes_then ⊥ fails ⊥ old mid new so_far.goes goes (λ failed. absurd failed);
     reads = λ honest. reads_then old mid new (so_far.reads (back honest)) (reads honest);
     left = λ honest sizes most changes d.
-        let n = next_step (Ok (Found change)) one_now other_now new.reads (step_is step (Found change) one_now other_now new.reads is steps) honest sizes most changes d in
-        (n.2.0, n.1 ∙ ap (λ (cs : List Change). found ++ cs) n.2.1 ∙ sym (append_assoc found (change ∷ []) n.2.0), n.2.2);
+        let n = next_step (Ok (Found key)) one_mid other_mid new.reads (step_is step (Found key) one_mid other_mid new.reads is steps) honest sizes most changes d in
+        let t = takes sizes old.now.contents limit new.reads most n.0 n.2 in
+        (t.0, n.1 ∙ ap (λ (cs : List Change). found ++ cs) t.1 ∙ sym (append_assoc found (change ∷ []) t.0), t.2);
   }
 
   pub compares_reads : (new.honest ≡ true → OnlyReads mid new) → new.honest ≡ true → OnlyReads old new
@@ -130,12 +139,12 @@ module _ (old mid new : State) (back : new.honest ≡ true → mid.honest ≡ tr
         sym (n.1 ∙ ap (λ (cs : List Change). found ++ cs) n.2 ∙ append-nil found)
 
     -- where one more is found, there are some
-    pub some_found : (step : Step) (change : Change) → step ≡ Found change → Steps (Ok step) one_now other_now now → new.honest ≡ true → (sizes : Sizes) (most : ℕ) (changes : List Change) → Differ sizes old.now.contents limit one_first other_first old.reads most changes
+    pub some_found : (step : Step) (key : Key) → step ≡ Found key → FoundBy (Ok step) (front_of one_now) (front_of other_now) → Steps (Ok step) one_now other_now now → new.honest ≡ true → (sizes : Sizes) (most : ℕ) (changes : List Change) → Differ sizes old.now.contents limit one_first other_first old.reads most changes
         → changes ≡ [] → ⊥
-    some_found step change is steps honest sizes most changes d none =
-        let n = next_step (Ok (Found change)) one_now other_now now (step_is step (Found change) one_now other_now now is steps) honest sizes most changes d in
-        let split : changes ≡ found ++ change ∷ n.2.0 = n.1 ∙ ap (λ (cs : List Change). found ++ cs) n.2.1 in
-        omega (arith, ap (λ (cs : List Change). length cs) (sym none ∙ split), length-append found (change ∷ n.2.0))
+    some_found step key is meet steps honest sizes most changes d none =
+        let n = next_step (Ok (Found key)) one_now other_now now (step_is step (Found key) one_now other_now now is steps) honest sizes most changes d in
+        let at = subst (λ (s : Step). FoundBy (Ok s) (front_of one_now) (front_of other_now)) is meet in
+        some_difference sizes old.now.contents limit now most one_now other_now key n.0 at n.2 (none_left found n.0 (sym n.1 ∙ none))
 
     -- a fault on trees is that the device failed
     pub step_failed : (e : TreeFault) → Steps (Err e) one_now other_now now → new.honest ≡ true → (sizes : Sizes) (most : ℕ) (changes : List Change) → Differ sizes old.now.contents limit one_first other_first old.reads most changes → e ≡ Device

@@ -1,3 +1,4 @@
+pub mod RowLemmas
 pub mod CursorLemmas
 pub mod OpenLemmas
 pub mod DeltaLemmas

@@ -5,6 +5,8 @@ use Rattle.std.specs.Option.{option_and_then, unwrap_or}
 use Rattle.std.specs.Ordering.{is_lt, is_eq, ordering_reverse}
 use Rattle.std.specs.Cmp.{tied_itself}
 use Rattle.std.specs.FinMap.Entries as entries
+use Rattle.std.specs.BTreeMap.{is_at}
+use Rattle.std.specs.Map.{lookup}
 use Rattle.std.proofs.lemmas.Bool.{and_parts, or_parts}
 use Rattle.std.proofs.lemmas.Bool.Decides.{same_from_decides}
 use Rattle.std.proofs.lemmas.List.{drop_more, take_more, map-append}
@@ -326,3 +328,52 @@ module _ (settled : List (Key × Side)) (i : ℕ) (d : Key × Side) (lt : i < le
   pub first_repeated-later : is_some (side_of (take i settled) (get_or settled i d).0) ≡ false
       → first_repeated (map (λ e. e.0) (take i settled)) (map (λ e. e.0) (drop i settled)) ≡ first_repeated (map (λ e. e.0) (take (i + 1) settled)) (map (λ e. e.0) (drop (i + 1) settled))
   first_repeated-later is = first_repeated-at false is
+
+-- ---- settlements by key
+
+same_key-sym : (j k : Key) → same_key j k ≡ same_key k j
+same_key-sym j k =
+    elim (key_cmp j k) as (λ o. key_cmp j k ≡ o → is_eq o ≡ same_key k j) [
+      | Less ↦ λ is. sym (ap is_eq (keys_total.antisymm k j ∙ ap ordering_reverse is))
+      | Equal ↦ λ is. sym (ap is_eq (keys_total.antisymm k j ∙ ap ordering_reverse is))
+      | Greater ↦ λ is. sym (ap is_eq (keys_total.antisymm k j ∙ ap ordering_reverse is))
+    ] refl
+
+-- a settlement of a new key, behind others, gives its side to that key alone
+side_of-behind : (settled : List (Key × Side)) (e : Key × Side) → is_some (side_of settled e.0) ≡ false → (q : Key)
+    → side_of (settled ++ e ∷ []) q ≡ (if same_key e.0 q then Some e.1 else side_of settled q)
+side_of-behind [] e new q = ap (λ t. cond {A = Option Side} t (Some e.1) None) (same_key-sym q e.0)
+side_of-behind (x ∷ settled) e new q =
+    let first : same_key e.0 x.0 ≡ false = none_first (same_key e.0 x.0) x.1 (side_of settled e.0) new in
+    let rest : is_some (side_of settled e.0) ≡ false = sym (ap (λ t. is_some (cond {A = Option Side} t (Some x.1) (side_of settled e.0))) first) ∙ new in
+    let later = side_of-behind settled e rest q in
+    elim (key_cmp q x.0) as (λ o. key_cmp q x.0 ≡ o → cond (is_eq o) (Some x.1) (side_of (settled ++ e ∷ []) q) ≡ cond (same_key e.0 q) (Some e.1) (cond (is_eq o) (Some x.1) (side_of settled q))) [
+      | Less ↦ λ _. later
+      | Equal ↦ λ is. sym (ap (λ t. cond {A = Option Side} t (Some e.1) (Some x.1)) (ap (same_key e.0) (exact_keys q x.0 is) ∙ first))
+      | Greater ↦ λ _. later
+    ] refl
+  where
+    none_first : (t : Bool) (side : Side) (rest : Option Side) → is_some (cond {A = Option Side} t (Some side) rest) ≡ false → t ≡ false
+    none_first true side rest h = h
+    none_first false side rest h = refl
+
+-- sides with one settlement more, which is of a new key
+pub side_of-more : (settled : List (Key × Side)) (i : ℕ) (d : Key × Side) → i < length settled → is_some (side_of (take i settled) (get_or settled i d).0) ≡ false → (sides more : Key → Option Side)
+    → ((q : Key) → sides q ≡ side_of (take i settled) q) → ((q : Key) → more q ≡ (if same_key (get_or settled i d).0 q then Some (get_or settled i d).1 else sides q))
+    → (q : Key) → more q ≡ side_of (take (i + 1) settled) q
+side_of-more settled i d lt new sides more so_far one q =
+    let e = get_or settled i d in
+    one q
+    ∙ ap (λ o. cond {A = Option Side} (same_key e.0 q) (Some e.1) o) (so_far q)
+    ∙ sym (side_of-behind (take i settled) e new q)
+    ∙ ap (λ earlier. side_of earlier q) (sym (take_more settled i d lt))
+
+-- what a map by keys has at a key is what a search of its entries finds
+pub side_of-entries : (sides : List (Key × Side)) (key : Key) → side_of sides key ≡ lookup (is_at (key_cmp key)) sides
+side_of-entries [] key = refl
+side_of-entries (e ∷ sides) key = ap (λ rest. cond (same_key key e.0) (Some e.1) rest) (side_of-entries sides key)
+
+-- settlements that give each key the same side make the same merge
+pub merge-alike : (base parent own : Map) (s t : List (Key × Side)) → ((key : Key) → side_of s key ≡ side_of t key) → merge base parent own s ≡ merge base parent own t
+merge-alike base parent own s t is =
+    filter_map_alike _ _ (keys_of parent own) (λ key. ap (λ side. option_map (λ value. (key, value)) (settled_value (three (get base key) (get parent key) (get own key)) side (get parent key) (get own key))) (is key))

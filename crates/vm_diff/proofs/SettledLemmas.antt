@@ -1,14 +1,17 @@
 -- Settlements by rising keys: what is found of them beside conflicts by rising keys, and beside changes.
-use Rattle.std.proofs.Common.{◌≡◌, ℕ, suc, ◌+◌, ◌-◌, ◌↔◌, IsTrue, Bool, true, false, cond, not, if◌then◌else◌, ◌||◌, List, [], ◌∷◌, ◌++◌, map, filter, find, filter_map, length, get_or, slice_get, Option, Some, None, is_some, is_none, Less, Equal, Greater, nat_lt, option_map, refl, sym, ap, ap₂, ◌∙◌, subst, arith}
-use Rattle.std.specs.List.{list_any, cons_option, AllByRecursion, IsAllAdjacentAnswer}
-use Rattle.std.specs.List.Sorted.{IsStrictlySortedBy}
+use Rattle.std.proofs.Common.{◌≡◌, ℕ, ◌<◌, ⊎_elim, suc, ◌+◌, ◌-◌, ◌↔◌, IsTrue, Bool, true, false, cond, not, if◌then◌else◌, ◌||◌, List, [], ◌∷◌, ◌++◌, map, filter, find, filter_map, length, get_or, slice_get, Option, Some, None, is_some, is_none, Result, Ok, Err, is_ok, Less, Equal, Greater, nat_lt, option_map, refl, sym, ap, ap₂, ◌∙◌, subst, arith}
+use Rattle.std.specs.List.{list_any, cons_option, AllByRecursion, HoldsAt, IsAllAdjacentAnswer}
+use Rattle.std.specs.List.Sorted.{IsBinarySearchResult, IsNonDecreasingBy, IsPartitionPoint, IsSearchInRange, IsStrictlySortedBy}
 use Rattle.std.specs.Option.{option_or}
-use Rattle.std.specs.Ordering.{is_lt, is_eq, ordering_reverse}
+use Rattle.std.specs.Ordering.{is_lt, is_eq, ordering_index, ordering_reverse}
 use Rattle.std.specs.Cmp.{tied_itself}
 use Rattle.std.specs.FinMap.Entries as entries
 use Rattle.std.specs.FinMap.Entries.{by_order}
-use Rattle.std.proofs.lemmas.List.Folds.{list_any-append}
-use Rattle.std.proofs.lemmas.Bool.{false≢true}
+use Rattle.std.proofs.lemmas.List.{get_or-map as get_at_map}
+use Rattle.std.proofs.lemmas.List.Elements.{All-map}
+use Rattle.std.proofs.lemmas.List.Folds.{list_any-append, list_any_at, list_any_none}
+use Rattle.std.proofs.lemmas.List.Sorted.{searchable_from_sorted}
+use Rattle.std.proofs.lemmas.Bool.{cases_lt, false≢true}
 use Rattle.std.proofs.lemmas.Map.Keys.{sorted_from_all_adjacent, Less-from_sorted}
 use Rattle.std.proofs.Math.ListN.{get_or-map}
 use Rattle.vm_types.specs.declared.key.Key.{Key}
@@ -107,7 +110,7 @@ all_new [] = tt
 all_new (k ∷ ks) = (refl, all_new ks)
 
 -- rising keys repeat none
-none_repeated : (ks : List Key) → IsStrictlySortedBy key_cmp ks → first_repeated [] ks ≡ None
+pub none_repeated : (ks : List Key) → IsStrictlySortedBy key_cmp ks → first_repeated [] ks ≡ None
 none_repeated ks h = none_repeated_after [] ks (all_new ks) h
 
 -- ---- two lists of rising keys
@@ -215,14 +218,31 @@ filter-alike p q (k ∷ keys) is = ap (λ t. cond t (k ∷ filter p keys) (filte
 abbrev refusal_by : Option Key → Option Key → ℕ → Option Refusal
 refusal_by twice missing unsettled = option_or (option_map SettledTwice twice) (option_or (option_map NotInConflict missing) (if nat_lt 0 unsettled then Some (Unsettled unsettled) else None))
 
-module _ (settled : List (Key × Side)) (others : List Key) (g : IsStrictlySortedBy key_cmp (map (λ e. e.0) settled)) (h : IsStrictlySortedBy key_cmp others) where
-  -- the refusal of a key that is in no conflict
+module _ (settled : List (Key × Side)) (others : List Key) (once : first_repeated [] (map (λ e. e.0) settled) ≡ None) where
+  -- the refusal of a key that is in no conflict, where none is settled twice
   pub missing-refused : (k : Key) → find (λ key. not (list_any (same_key key) others)) (map (λ e. e.0) settled) ≡ Some k → settled_refusal settled others ≡ Some (NotInConflict k)
   missing-refused k is =
       let left = length (filter (λ key. is_none (side_of settled key)) others) in
-      ap (λ o. refusal_by o (find (is_missing others) (map (λ e. e.0) settled)) left) (none_repeated (map (λ e. e.0) settled) g)
+      ap (λ o. refusal_by o (find (is_missing others) (map (λ e. e.0) settled)) left) once
       ∙ ap (λ o. refusal_by None o left) is
 
+  -- no other refusal than the one of conflicts that are left
+  pub left-refused : (n : ℕ) → find (λ key. not (list_any (same_key key) others)) (map (λ e. e.0) settled) ≡ None → n ≡ length (filter (λ key. is_none (side_of settled key)) others)
+      → settled_refusal settled others ≡ (if nat_lt 0 n then Some (Unsettled n) else None)
+  left-refused n is same_number =
+      let left = length (filter (λ key. is_none (side_of settled key)) others) in
+      ap (λ o. refusal_by o (find (is_missing others) (map (λ e. e.0) settled)) left) once
+      ∙ ap (λ o. refusal_by None o left) is
+      ∙ ap (refusal_by None None) (sym same_number)
+
+  -- the same, where the sides are found by another look-up
+  pub looked_up-refused : (sides : Key → Option Side) (n : ℕ) → ((key : Key) → sides key ≡ side_of settled key)
+      → find (λ key. not (list_any (same_key key) others)) (map (λ e. e.0) settled) ≡ None → n ≡ length (filter (λ key. is_none (sides key)) others)
+      → settled_refusal settled others ≡ (if nat_lt 0 n then Some (Unsettled n) else None)
+  looked_up-refused sides n same_side is count =
+      left-refused n is (count ∙ ap (λ (l : List Key). length l) (filter-alike (λ key. is_none (sides key)) (λ key. is_none (side_of settled key)) others (λ key. ap is_none (same_side key))))
+
+module _ (settled : List (Key × Side)) (others : List Key) (g : IsStrictlySortedBy key_cmp (map (λ e. e.0) settled)) (h : IsStrictlySortedBy key_cmp others) where
   -- the settlements and the conflicts that are left are as many as all conflicts
   pub left-count : find (λ key. not (list_any (same_key key) others)) (map (λ e. e.0) settled) ≡ None → length (filter (λ key. is_none (side_of settled key)) others) + length settled ≡ length others
   left-count is =
@@ -231,16 +251,12 @@ module _ (settled : List (Key × Side)) (others : List Key) (g : IsStrictlySorte
       ∙ ap (λ n. length (filter (is_missing keys) others) + n) (sym (length-map (λ (e : Key × Side). e.0) settled))
       ∙ matched-count keys others g h (unmatched-find keys others g h ∙ is)
 
-  -- no other refusal than the one of conflicts that are left
+  -- so what is left is known without a search
   pub settled-refused : (n : ℕ) → find (λ key. not (list_any (same_key key) others)) (map (λ e. e.0) settled) ≡ None → n ≡ length others - length settled
       → settled_refusal settled others ≡ (if nat_lt 0 n then Some (Unsettled n) else None)
   settled-refused n is e =
-      let left = length (filter (λ key. is_none (side_of settled key)) others) in
-      let count : left + length settled ≡ length others = left-count is in
-      let same_number : left ≡ n = omega arith in
-      ap (λ o. refusal_by o (find (is_missing others) (map (λ e. e.0) settled)) left) (none_repeated (map (λ e. e.0) settled) g)
-      ∙ ap (λ o. refusal_by None o left) is
-      ∙ ap (refusal_by None None) same_number
+      let count : length (filter (λ key. is_none (side_of settled key)) others) + length settled ≡ length others = left-count is in
+      left-refused settled others (none_repeated (map (λ e. e.0) settled) g) n is (omega arith)
 
 -- ---- settlements from a key on
 
@@ -291,3 +307,40 @@ module _ (m n : Map) (all : List (Key × Side)) where
 -- beside all differences of two maps
 pub three_by_side-delta : (m n : Map) (settled : List (Key × Side)) (mine : List Change) → IsMap n → three_by_side settled (delta m n) mine ≡ side_by_side (taken settled) (delta m n) mine
 three_by_side-delta m n settled mine h = three_by_side-listed m n settled (over m n) settled mine (IsMap-over m n h) (λ q any. refl)
+
+-- ---- a search by halves
+
+-- where keys rise, each is at most level with the next, beside any key
+rising-searchable : (key : Key) (xs : List Conflict) → IsStrictlySortedBy key_cmp (map (λ c. c.key) xs) → IsNonDecreasingBy (λ c. ordering_index (key_cmp c.key key)) xs
+rising-searchable key xs rises =
+    searchable_from_sorted keys_total (λ c. c.key) xs key (λ k d _ lt.
+    let less = Less-from_sorted key_cmp (map (λ c. c.key) xs) k (k + 1) d.key rises (omega arith) (omega (arith, length-map (λ c. c.key) xs, lt)) in
+    let low : key_cmp (get_or xs k d).key (get_or xs (k + 1) d).key ≡ Less = sym (ap₂ key_cmp (at_key xs k d (omega (arith, lt))) (at_key xs (k + 1) d lt)) ∙ less in
+    ap is_lt (keys_total.antisymm (get_or xs (k + 1) d).key (get_or xs k d).key ∙ ap ordering_reverse low))
+  where
+    at_key : (xs : List Conflict) (i : ℕ) (d : Conflict) → i < length xs → get_or (map (λ c. c.key) xs) i d.key ≡ (get_or xs i d).key
+    at_key xs i d lt = get_at_map (λ c. c.key) xs i d d.key lt
+
+-- it finds a key that is there
+searched-found : (key : Key) (xs : List Conflict) (i : ℕ) → i < length xs → HoldsAt (λ c. key_cmp c.key key ≡ Equal) xs i → list_any (same_key key) (map (λ c. c.key) xs) ≡ true
+searched-found key [] i lt found = absurd (omega (arith, lt))
+searched-found key (x ∷ xs) i lt found =
+    let all = x ∷ xs in
+    list_any_at (same_key key) (map (λ c. c.key) all) i x.key (omega (arith, length-map (λ c. c.key) all, lt)) (ap (same_key key) (get_at_map (λ c. c.key) all i x x.key lt) ∙ same (get_or all i x).key key (found x))
+
+-- and no other
+searched-missing : (key : Key) (xs : List Conflict) (i : ℕ) → IsStrictlySortedBy key_cmp (map (λ c. c.key) xs)
+    → (IsNonDecreasingBy (λ c. ordering_index (key_cmp c.key key)) xs → IsPartitionPoint (λ c. key_cmp c.key key ≡ Less) (λ c. key_cmp c.key key ≡ Greater) xs i)
+    → list_any (same_key key) (map (λ c. c.key) xs) ≡ false
+searched-missing key xs i rises parted =
+    let parts = parted (rising-searchable key xs rises) in
+    list_any_none (same_key key) (map (λ c. c.key) xs) (All-map (λ k. same_key key k ≡ false) (λ c. c.key) xs (λ k d lt. ⊎_elim
+    (λ below. apart-back (get_or xs k d).key key (parts.0 k d (omega arith) below))
+    (λ above. ap is_eq (keys_total.antisymm key (get_or xs k d).key ∙ ap ordering_reverse (parts.1 k d above lt)))
+    (cases_lt k i)))
+
+-- so it answers as a search of each does
+pub searched-any : (key : Key) (xs : List Conflict) (r : Result ℕ ℕ) → IsStrictlySortedBy key_cmp (map (λ c. c.key) xs) → IsSearchInRange r (length xs) → IsBinarySearchResult (λ c. key_cmp c.key key) xs r
+    → list_any (same_key key) (map (λ c. c.key) xs) ≡ is_ok r
+searched-any key xs (Ok i) rises range found = searched-found key xs i range found
+searched-any key xs (Err i) rises range parted = searched-missing key xs i rises parted

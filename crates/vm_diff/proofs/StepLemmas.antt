@@ -1,5 +1,5 @@
 -- What is left to differ after a step of two walks.
-use Rattle.std.proofs.Common.{◌≡◌, ℕ, ◌+◌, ◌<◌, ◌≤◌, true, false, cond, List, ◌∷◌, ◌++◌, length, drop, bytes_eq, Option, Some, None, Result, Ok, Err, refl, sym, ap, ap₂, ◌∙◌, subst, arith}
+use Rattle.std.proofs.Common.{◌≡◌, ◌≢◌, inl, inr, ℕ, ◌+◌, ◌<◌, ◌≤◌, true, false, cond, List, [], ◌∷◌, ◌++◌, length, drop, bytes_eq, Option, Some, None, Result, Ok, Err, refl, sym, ap, ap₂, ◌∙◌, subst, arith}
 use Rattle.std.specs.List.{cons_option}
 use Rattle.std.specs.Prelude.{⊤}
 use Rattle.vm_types.specs.declared.key.Key.{Key}
@@ -10,20 +10,21 @@ use Rattle.vm_types.proofs.Bridge.{exact_places}
 use Rattle.vm_types.proofs.Changes.{change_of}
 use Rattle.vm_disk.specs.Disk.{Contents}
 use Rattle.vm_block.specs.Leaf.{Record}
-use Rattle.vm_block.specs.Tree.{Sizes, Subtree}
+use Rattle.vm_block.specs.Tree.{Sizes, Subtree as LiesUnder}
 use Rattle.vm_block.proofs.TreeLemmas.{subtree_one}
 use Rattle.vm_tree.specs.Answers.{OkOrDevice}
 use Rattle.vm_tree.specs.declared.root.Root.{Root}
 use Rattle.vm_tree.specs.declared.root.TreeFault.{TreeFault}
-use Rattle.vm_diff.specs.Walk.{Walk, IsAhead, Under}
-use Rattle.vm_diff.specs.Front.{front_of, place_of, opened_at}
+use Rattle.vm_diff.specs.Walk.{Walk, IsAhead, Under, size}
+use Rattle.vm_diff.specs.Front.{Front, front_of, next_of, place_of, opened_at}
 use Rattle.vm_diff.specs.Shared.{unshared}
 use Rattle.vm_diff.specs.Differ.{AreRising, Differ, Passes}
-use Rattle.vm_diff.specs.Steps.{StepsBy, moved_by}
+use Rattle.vm_diff.specs.Steps.{StepsBy, StandsAlone, Meet, moved_by}
 use Rattle.vm_diff.specs.declared.front.Step.{Step}
-use Rattle.vm_diff.specs.declared.front.Front.TheVariants.{Pair, Top}
+use Rattle.vm_diff.specs.Front.Front.{End, Pair, Top}
+use Rattle.vm_diff.specs.declared.front.Next.TheVariants.{Record as OneRecord, Subtree}
 use Rattle.vm_diff.proofs.ApartLemmas.{all_above, subtree_apart}
-use Rattle.vm_diff.proofs.OpenLemmas.{front_top, top_ahead, pair_passed}
+use Rattle.vm_diff.proofs.OpenLemmas.{front_pair, front_top, top_ahead, pair_passed}
 use Rattle.vm_diff.proofs.PayLemmas.{GoesFirst, lower_first, left_paid, right_paid}
 use Rattle.vm_diff.proofs.SharedLemmas.{skip_free}
 use Rattle.vm_diff.proofs.StartLemmas.{StartsAt, starts, above_start}
@@ -122,7 +123,7 @@ module _ (sizes : Sizes) (x : Contents) (limit reads most : ℕ) where
   both_skipped one other one_now other_now a b changes front_one front_other shared one_is other_is d =
       let s = top_ahead sizes x limit one a d.first d.first_blocks front_one d.first_ahead in
       let t = top_ahead sizes x limit other b d.second d.second_blocks front_other d.second_ahead in
-      let there = subst (λ n. Subtree sizes x limit a.level n s.sub s.own) shared s.subtree in
+      let there = subst (λ n. LiesUnder sizes x limit a.level n s.sub s.own) shared s.subtree in
       let same = subtree_one sizes x limit a.level b.level b.block s.sub t.sub s.own t.own there t.subtree in
       let second : d.second ≡ s.sub ++ t.rest = t.records ∙ ap (λ (qs : List Record). qs ++ t.rest) (sym same.0) in
       let second_blocks : d.second_blocks ≡ s.own ++ t.others = t.blocks ∙ ap (λ (ds : List ℕ). ds ++ t.others) (sym same.1) in
@@ -209,3 +210,91 @@ module _ (sizes : Sizes) (x : Contents) (limit reads most : ℕ) where
   both_differ one other one_now other_now key v w changes front_one front_other other_value one_is other_is d =
       let p = both_passed one other one_now other_now key front_other.0 v w changes front_one front_other.1 front_other.2 one_is other_is d in
       (p.0, p.1 ∙ ap (λ t. cons_option (cond {A = Option Change} t None (Some (record { key = key; before = Some v; after = Some w }))) p.0) other_value, p.2)
+
+  -- the difference that two walks stand before, and what is left past it
+  pub change_taken : (one other one_now other_now : Walk) (key : Key) (before after : Option (List ℕ)) (changes : List Change) → Meet key (front_of one) (front_of other)
+      → ((low : Key) (value : List ℕ) → front_of one ≡ Pair low value → place low ≡ place key → (before ≡ Some value) × (one_now ≡ record { pending = drop 1 one.pending; tops = one.tops }))
+      → (((low : Key) (value : List ℕ) → front_of one ≡ Pair low value → place low ≢ place key) → (before ≡ None) × (one_now ≡ one))
+      → ((low : Key) (value : List ℕ) → front_of other ≡ Pair low value → place low ≡ place key → (after ≡ Some value) × (other_now ≡ record { pending = drop 1 other.pending; tops = other.tops }))
+      → (((low : Key) (value : List ℕ) → front_of other ≡ Pair low value → place low ≢ place key) → (after ≡ None) × (other_now ≡ other))
+      → Differ sizes x limit one other reads most changes → (rest : List Change) × (changes ≡ record { key = key; before = before; after = after } ∷ rest) × Differ sizes x limit one_now other_now reads most rest
+  change_taken one other one_now other_now key before after changes (inl alone) one_there one_none other_there other_none d =
+      let t = one_there key alone.value alone.front refl in
+      let u = other_none (λ low value is same. omega (arith, alone.below, ap place_of is, same)) in
+      let p = pair_passed sizes x limit one one_now key alone.value d.first d.first_blocks alone.front t.1 d.first_ahead in
+      let lt : place_of (front_of one) < place_of (front_of other) = omega (arith, alone.below, ap place_of alone.front) in
+      let f = left_found one other one_now reads changes (key, alone.value) lt d (omega arith) (subst (λ front. Passes sizes x limit front (Some (key, alone.value)) one_now d.first d.first_blocks) (sym alone.front) p) in
+      (f.0, f.1 ∙ ap₂ (λ (b c : Option (List ℕ)). record { key = key; before = b; after = c } ∷ f.0) (sym t.0) (sym u.0), subst (λ (w : Walk). Differ sizes x limit one_now w reads most f.0) (sym u.1) f.2)
+  change_taken one other one_now other_now key before after changes (inr (inl alone)) one_there one_none other_there other_none d =
+      let t = other_there key alone.value alone.front refl in
+      let u = one_none (λ low value is same. omega (arith, alone.below, ap place_of is, same)) in
+      let p = pair_passed sizes x limit other other_now key alone.value d.second d.second_blocks alone.front t.1 d.second_ahead in
+      let lt : place_of (front_of other) < place_of (front_of one) = omega (arith, alone.below, ap place_of alone.front) in
+      let f = right_found one other other_now reads changes (key, alone.value) lt d (omega arith) (subst (λ front. Passes sizes x limit front (Some (key, alone.value)) other_now d.second d.second_blocks) (sym alone.front) p) in
+      (f.0, f.1 ∙ ap₂ (λ (b c : Option (List ℕ)). record { key = key; before = b; after = c } ∷ f.0) (sym u.0) (sym t.0), subst (λ (w : Walk). Differ sizes x limit w other_now reads most f.0) (sym u.1) f.2)
+  change_taken one other one_now other_now key before after changes (inr (inr both)) one_there one_none other_there other_none d =
+      let t = one_there key both.value both.first refl in
+      let u = other_there both.low both.other both.second (sym both.level) in
+      let f = both_differ one other one_now other_now key both.value both.other changes both.first (both.low, both.second, both.level) both.apart t.1 u.1 d in
+      (f.0, f.1 ∙ ap₂ (λ (b c : Option (List ℕ)). record { key = key; before = b; after = c } ∷ f.0) (sym t.0) (sym u.0), f.2)
+
+  -- so there is one
+  pub some_difference : (one other : Walk) (key : Key) (changes : List Change) → Meet key (front_of one) (front_of other) → Differ sizes x limit one other reads most changes → changes ≡ [] → ⊥
+  some_difference one other key changes (inl alone) d none =
+      let p = pair_passed sizes x limit one (record { pending = drop 1 one.pending; tops = one.tops }) key alone.value d.first d.first_blocks alone.front refl d.first_ahead in
+      let lt : place_of (front_of one) < place_of (front_of other) = omega (arith, alone.below, ap place_of alone.front) in
+      let f = left_found one other (record { pending = drop 1 one.pending; tops = one.tops }) reads changes (key, alone.value) lt d (omega arith) (subst (λ front. Passes sizes x limit front (Some (key, alone.value)) (record { pending = drop 1 one.pending; tops = one.tops }) d.first d.first_blocks) (sym alone.front) p) in
+      omega (arith, ap (λ (cs : List Change). length cs) (sym none ∙ f.1))
+  some_difference one other key changes (inr (inl alone)) d none =
+      let p = pair_passed sizes x limit other (record { pending = drop 1 other.pending; tops = other.tops }) key alone.value d.second d.second_blocks alone.front refl d.second_ahead in
+      let lt : place_of (front_of other) < place_of (front_of one) = omega (arith, alone.below, ap place_of alone.front) in
+      let f = right_found one other (record { pending = drop 1 other.pending; tops = other.tops }) reads changes (key, alone.value) lt d (omega arith) (subst (λ front. Passes sizes x limit front (Some (key, alone.value)) (record { pending = drop 1 other.pending; tops = other.tops }) d.second d.second_blocks) (sym alone.front) p) in
+      omega (arith, ap (λ (cs : List Change). length cs) (sym none ∙ f.1))
+  some_difference one other key changes (inr (inr both)) d none =
+      let f = both_differ one other (record { pending = drop 1 one.pending; tops = one.tops }) (record { pending = drop 1 other.pending; tops = other.tops }) key both.value both.other changes both.first (both.low, both.second, both.level) both.apart refl refl d in
+      omega (arith, ap (λ (cs : List Change). length cs) (sym none ∙ f.1))
+
+-- past a record less is ahead
+pub taken_falls : (old new : Walk) (key : Key) (value : List ℕ) → front_of old ≡ Pair key value → new ≡ record { pending = drop 1 old.pending; tops = old.tops } → size new < size old
+taken_falls old new key value front is =
+    omega (arith, ap size is, ap (λ (rs : List Record). length rs) (front_pair old.pending old.tops key value front))
+
+pub change_falls : (one other one_now other_now : Walk) (key : Key) (before after : Option (List ℕ)) → Meet key (front_of one) (front_of other)
+    → ((low : Key) (value : List ℕ) → front_of one ≡ Pair low value → place low ≡ place key → (before ≡ Some value) × (one_now ≡ record { pending = drop 1 one.pending; tops = one.tops }))
+    → (((low : Key) (value : List ℕ) → front_of one ≡ Pair low value → place low ≢ place key) → (before ≡ None) × (one_now ≡ one))
+    → ((low : Key) (value : List ℕ) → front_of other ≡ Pair low value → place low ≡ place key → (after ≡ Some value) × (other_now ≡ record { pending = drop 1 other.pending; tops = other.tops }))
+    → (((low : Key) (value : List ℕ) → front_of other ≡ Pair low value → place low ≢ place key) → (after ≡ None) × (other_now ≡ other))
+    → size one_now + size other_now < size one + size other
+change_falls one other one_now other_now key before after (inl alone) one_there one_none other_there other_none =
+    let t = one_there key alone.value alone.front refl in
+    let u = other_none (λ low value is same. omega (arith, alone.below, ap place_of is, same)) in
+    omega (arith, taken_falls one one_now key alone.value alone.front t.1, ap size u.1)
+change_falls one other one_now other_now key before after (inr (inl alone)) one_there one_none other_there other_none =
+    let t = other_there key alone.value alone.front refl in
+    let u = one_none (λ low value is same. omega (arith, alone.below, ap place_of is, same)) in
+    omega (arith, taken_falls other other_now key alone.value alone.front t.1, ap size u.1)
+change_falls one other one_now other_now key before after (inr (inr both)) one_there one_none other_there other_none =
+    let t = one_there key both.value both.first refl in
+    let u = other_there both.low both.other both.second (sym both.level) in
+    omega (arith, taken_falls one one_now key both.value both.first t.1, taken_falls other other_now both.low both.other both.second u.1)
+
+-- # What a walk stands before, told without the value
+
+pub next_top : (front : Front) (top : Root) → next_of front ≡ Subtree top → front ≡ Top top
+next_top End top e = cc
+next_top (Pair key value) top e = cc
+next_top (Top t) top e = cc
+
+pub next_pair : (front : Front) (key : Key) → next_of front ≡ OneRecord key → (value : List ℕ) × (front ≡ Pair key value)
+next_pair End key e = cc
+next_pair (Pair low value) key e = let same : low ≡ key = cc in (value, ap (λ k. Pair k value) same)
+next_pair (Top t) key e = cc
+
+-- a walk that stands before a record, lower than the other
+pub found_alone : (key : Key) (here there : Front) → next_of here ≡ OneRecord key → place_of here < place_of there → StandsAlone key here there
+found_alone key here there is lt =
+    let p = next_pair here key is in
+    record { value = p.0; front = p.1; below = omega (arith, lt, ap place_of p.1) }
+
+pub record_or_top : (front : Front) (key : Key) (top : Root) → OneRecord key ≡ next_of front → front ≡ Top top → ⊥
+record_or_top front key top is at = let both : OneRecord key ≡ Subtree top = is ∙ ap next_of at in cc

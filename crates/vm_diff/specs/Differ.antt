@@ -6,10 +6,9 @@ use Rattle.vm_types.specs.Places.{FitKeys, RisesFrom, places}
 use Rattle.vm_disk.specs.Disk.{Contents}
 use Rattle.vm_block.specs.Leaf.{Record}
 use Rattle.vm_block.specs.Tree.{Sizes}
-use Rattle.vm_diff.specs.Front.{opened_at}
+use Rattle.vm_diff.specs.Front.{Front, opened_at}
 use Rattle.vm_diff.specs.Shared.{unshared}
 use Rattle.vm_diff.specs.Walk.{Walk, IsAhead}
-use Rattle.vm_diff.specs.declared.front.Front.{Front}
 
 -- records with rising keys
 pub record AreRising (rs : List Record) : Type 0 where

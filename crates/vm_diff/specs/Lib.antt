@@ -1,4 +1,6 @@
 pub mod Walk
+pub mod Rows
+pub mod Ahead
 pub mod Front
 pub mod Shared
 pub mod Differ

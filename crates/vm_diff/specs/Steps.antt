@@ -1,14 +1,13 @@
 -- What the steps of two walks answer.
-use Rattle.std.specs.Prelude.{◌≡◌, ℕ, ◌<◌, true, List, [], ◌∷◌, Result, Ok, Err, ⊤}
+use Rattle.std.specs.Prelude.{◌≡◌, ℕ, ◌<◌, ◌≤◌, ◌⊎◌, false, List, [], Result, Ok, Err, ⊤}
 use Rattle.std.specs.Str.{bytes_eq}
 use Rattle.vm_types.specs.declared.key.Key.{Key}
 use Rattle.vm_types.specs.Places.{place}
 use Rattle.vm_types.specs.declared.change.Change.{Change}
-use Rattle.vm_tree.specs.declared.root.Root.{Root}
 use Rattle.vm_tree.specs.declared.root.TreeFault.{TreeFault}
 use Rattle.vm_tree.specs.declared.root.TreeFault.TheVariants.{Device}
-use Rattle.vm_diff.specs.declared.front.Front.{Front}
-use Rattle.vm_diff.specs.declared.front.Front.TheVariants.{Pair, Top}
+use Rattle.vm_diff.specs.Front.{Front, place_of}
+use Rattle.vm_diff.specs.Front.Front.{Pair}
 use Rattle.vm_diff.specs.declared.front.Step.{Step}
 use Rattle.vm_diff.specs.declared.front.Step.TheVariants.{Done, Moved, Found}
 
@@ -16,36 +15,44 @@ use Rattle.vm_diff.specs.declared.front.Step.TheVariants.{Done, Moved, Found}
 abbrev pub StepsBy : Result Step TreeFault → List Change → (List Change → Type 0) → Type 0
 StepsBy (Ok Done) changes P = changes ≡ []
 StepsBy (Ok Moved) changes P = P changes
-StepsBy (Ok (Found change)) changes P = (rest : List Change) × (changes ≡ change ∷ rest) × P rest
+StepsBy (Ok (Found key)) changes P = P changes
 StepsBy (Err e) changes P = e ≡ Device
 
--- each step but the last makes less of what is ahead
+-- a step that goes on makes less of what is ahead, and no other makes more of it
 abbrev pub Falls : Result Step TreeFault → ℕ → ℕ → Type 0
 Falls (Ok Done) old new = Unit {0}
 Falls (Ok Moved) old new = new < old
-Falls (Ok (Found change)) old new = new < old
+Falls (Ok (Found key)) old new = new ≤ old
 Falls (Err e) old new = Unit {0}
+
+-- a walk stands before a record of this key, and the other one above it
+pub record StandsAlone (key : Key) (here there : Front) : Type 0 where
+  pub value : List ℕ
+  pub front : here ≡ Pair key value
+  pub below : place key < place_of there
+
+-- both stand before records of this key, with two values
+pub record StandApart (key : Key) (here there : Front) : Type 0 where
+  pub value : List ℕ
+  pub low : Key
+  pub other : List ℕ
+  pub first : here ≡ Pair key value
+  pub second : there ≡ Pair low other
+  pub level : place key ≡ place low
+  pub apart : bytes_eq value other ≡ false
+
+-- two walks that stand here stand before a difference at this key
+abbrev pub Meet : Key → Front → Front → Type 0
+Meet key here there = StandsAlone key here there ⊎ (StandsAlone key there here ⊎ StandApart key here there)
+
+-- what was found is a difference that they stand before
+abbrev pub FoundBy : Result Step TreeFault → Front → Front → Type 0
+FoundBy (Ok Done) here there = Unit {0}
+FoundBy (Ok Moved) here there = Unit {0}
+FoundBy (Ok (Found key)) here there = Meet key here there
+FoundBy (Err e) here there = Unit {0}
 
 -- a subtree was opened, which is a step, or could not be
 abbrev pub moved_by : Result ⊤ TreeFault → Result Step TreeFault
 moved_by (Ok x) = Ok Moved
 moved_by (Err e) = Err e
-
--- two walks that stand here stand before records with one key and one value
-pub record AtOneRecord (here there : Front) : Type 0 where
-  pub key : Key
-  pub low : Key
-  pub value : List ℕ
-  pub other : List ℕ
-  pub first : here ≡ Pair key value
-  pub second : there ≡ Pair low other
-  pub level : place key ≡ place low
-  pub equal : bytes_eq value other ≡ true
-
--- or before one subtree
-pub record AtOneTop (here there : Front) : Type 0 where
-  pub top : Root
-  pub other : Root
-  pub first : here ≡ Top top
-  pub second : there ≡ Top other
-  pub shared : top.block ≡ other.block

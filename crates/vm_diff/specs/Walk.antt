@@ -1,5 +1,5 @@
 -- Walks through trees: what lies ahead of one, and how much that is.
-use Rattle.std.specs.Prelude.{◌≡◌, ℕ, zero, suc, ◌+◌, ◌*◌, ◌≤◌, List, [], ◌∷◌, ◌++◌, length, map}
+use Rattle.std.specs.Prelude.{◌≡◌, ℕ, zero, suc, ◌+◌, ◌*◌, List, [], ◌∷◌, ◌++◌, length, map}
 use Rattle.vm_disk.specs.Disk.{Contents}
 use Rattle.vm_block.specs.Leaf.{Record}
 use Rattle.vm_block.specs.Tree.{Sizes, Begins, Subtree}
@@ -16,11 +16,6 @@ pub record Walk : Type 0 where
 -- the tops of subtrees of this level
 abbrev pub tops_of : ℕ → List Child → List Root
 tops_of level cs = map (λ c. record { block = c.block; level = level; low = c.low }) cs
-
--- opening one after another, of levels up to 7, never makes more than 1786 of them
-abbrev pub IsRoomy : List Root → Type 0
-IsRoomy [] = Unit {0}
-IsRoomy (t ∷ ts) = (length ts + 255 * t.level ≤ 1785) × IsRoomy ts
 
 -- more than all that a top of this level is opened into, whatever the blocks hold
 unfoldable pub weight : ℕ → ℕ

@@ -10,7 +10,7 @@ ghost use Rattle.vm_diff.specs.Shared.{unshared};
 
 use crate::cursor::Cursor;
 use crate::front::Step;
-use crate::stepping::step;
+use crate::stepping::{step, take_change};
 use std::alloc::Global;
 use vm_disk::Disk;
 use vm_tree::{Root, TreeFault};
@@ -77,10 +77,13 @@ fn changed_between<D: Disk>(
         match step(disk, blocks, &mut one, &mut other) {
             Ok(Step::Done) => return Ok(changes),
             Ok(Step::Moved) => {}
-            Ok(Step::Found(change)) => match changes.extend_from_slice(&[change]) {
-                Ok(()) => {}
-                Err(_) => return Err(TreeFault::Memory),
-            },
+            Ok(Step::Found(key)) => {
+                let change = take_change(&mut one, &mut other, key);
+                match changes.extend_from_slice(&[change]) {
+                    Ok(()) => {}
+                    Err(_) => return Err(TreeFault::Memory),
+                }
+            }
             Err(fault) => return Err(fault),
         }
     }

@@ -1,38 +1,61 @@
 //! A walk through a tree, by rising keys.
-ghost use Rattle.std.specs.Prelude.{◌≡◌, ◌≢◌, ◌+◌, ◌-◌, ◌<◌, ◌≤◌, List, [], ◌∷◌, ◌++◌, length, drop, reverse, IfSome, IfNone};
+ghost use Rattle.std.specs.Prelude.{◌≡◌, ◌≢◌, ℕ, ◌+◌, ◌*◌, ◌-◌, ◌^◌, ◌<◌, ◌≤◌, true, List, [], ◌∷◌, ◌++◌, length, drop, Some, None, IsTrue, IfSome, IfNone, OnOk};
+ghost use Rattle.vm_types.specs.declared.key.Key.{Key};
+ghost use Rattle.vm_types.specs.Places.{place};
+ghost use Rattle.vm_disk.specs.Disk.{Goes};
+ghost use Rattle.vm_disk.specs.Moments.{OnlyReads};
+ghost use Rattle.vm_block.specs.Leaf.{Record};
 ghost use Rattle.vm_block.specs.declared.node.Child.{Child};
+ghost use Rattle.vm_tree.specs.Answers.{OkOrDevice};
+ghost use Rattle.vm_tree.specs.Reading.{IsLeafAt, IsNodeAt};
 ghost use Rattle.vm_diff.specs.Walk.{Walk, tops_of};
-ghost use Rattle.vm_diff.specs.Front.{front_of};
+ghost use Rattle.vm_diff.specs.Ahead.{PassedBoth, first_top, tops_in};
+ghost use Rattle.vm_diff.specs.Front.{front_of, next_of, place_of};
+ghost use Rattle.vm_diff.specs.Front.Front.{Pair, Top};
 
-use crate::front::Front;
-use arrayvec::ArrayVec;
+use crate::children::Children;
+use crate::front::Next;
+use crate::records::Records;
 use std::marker::Model;
-use vm_block::Child;
-use vm_tree::Root;
+use vm_disk::Disk;
+use vm_tree::{Root, TreeFault};
 use vm_types::{Key, Value};
 
-/// How many subtrees are ahead of a walk at most: the root, and 255 more for each of the 7 levels
-/// of inner blocks.
-const MOST_TOPS: usize = 1786;
-
-/// A walk through a tree: the records of the leaf that is open, from `at` on, and then the subtrees
-/// that are not open yet, the next one last.
+/// A walk through a tree: the records of the leaf that is open, and then the subtrees that are not
+/// open yet, those of each level in the inner block one level above. The root is the one child at its own level.
 #[derive(Drop)]
 pub(crate) struct Cursor {
-    records: ArrayVec<(Key, Value), 16>,
-    at: usize,
-    tops: ArrayVec<Root, MOST_TOPS>,
+    records: Records,
+    levels: [Children; 8],
 }
 
 impl Model for Cursor {
-    ghost use Rattle.std.specs.Prelude.{drop, reverse};
-    ghost use Rattle.vm_diff.specs.Walk.{Walk, IsRoomy};
+    ghost use Rattle.vm_diff.specs.Walk.{Walk};
+    ghost use Rattle.vm_diff.specs.Ahead.{tops_in};
 
     ghost Value = { Walk };
 
-    ghost view = { λ c. record { pending = drop c.at c.records.items; tops = reverse c.tops.items } };
+    ghost use Rattle.std.specs.Prelude.{◌≡◌, length};
 
-    ghost invariant = { λ c. IsRoomy (reverse c.tops.items) };
+    ghost view = { λ c. record { pending = c.records; tops = tops_in 0 c.levels } };
+
+    ghost invariant = { λ c. length c.levels ≡ 8 };
+}
+
+/// The top of the next subtree, of those at each level.
+fn next_top(levels: &[Children; 8]) -> Option<Root>
+    ensures { result ≡ first_top (tops_in 0 levels.now) }
+{
+    'levels: for level in 0..8 {
+        if let Some(child) = levels[level].first() {
+            return Some(Root {
+                block: child.block,
+                level: level as u8,
+                low: child.low,
+            });
+        }
+    }
+    None
 }
 
 impl Cursor {
@@ -42,106 +65,167 @@ impl Cursor {
         ensures empty { root.block ≡ 0 → IfSome result (λ walk. walk ≡ record { pending = []; tops = [] }) }
         ensures some { root.block ≢ 0 → IfSome result (λ walk. walk ≡ record { pending = []; tops = root ∷ [] }) }
     {
-        let mut tops = ArrayVec::new();
+        let mut levels = [
+            Children::new(),
+            Children::new(),
+            Children::new(),
+            Children::new(),
+            Children::new(),
+            Children::new(),
+            Children::new(),
+            Children::new(),
+        ];
         if root.block != 0 {
             if root.level > 7 {
                 return None;
             }
-            tops.push(root);
+            levels[root.level as usize].hold(root.low, root.block);
         }
         Some(Cursor {
-            records: ArrayVec::new(),
-            at: 0,
-            tops,
+            records: Records::new(),
+            levels,
         })
     }
 
     /// What the walk stands before.
-    pub(crate) fn front(&self) -> Front
-        ensures { result ≡ front_of self.now }
+    pub(crate) fn next(&self) -> Next
+        ensures { result ≡ next_of (front_of self.now) }
     {
-        if self.at < self.records.len() {
-            let (key, value) = self.records[self.at];
-            return Front::Pair(key, value);
+        if let Some(key) = self.records.key() {
+            return Next::Record(key);
         }
-        match self.tops.as_slice().last() {
-            Some(top) => Front::Top(*top),
-            None => Front::End,
+        match next_top(&self.levels) {
+            Some(top) => Next::Subtree(top),
+            None => Next::End,
         }
     }
 
-    /// The record that the walk stands before, if it is one.
-    pub(crate) fn record(&self) -> Option<&(Key, Value)>
-        ensures { IfSome result (λ pair. front_of self.now ≡ Front.Pair pair.now.0 pair.now.1) }
+    /// Where the first key that is ahead stands: at the end above all keys.
+    pub(crate) fn place(&self) -> u128
+        ensures place { result ≡ place_of (front_of self.now) }
+        ensures most { result ≤ 2 ^ 80 }
     {
-        if self.at < self.records.len() {
-            Some(&self.records[self.at])
-        } else {
-            None
+        match self.next() {
+            Next::End => 1 << 80,
+            Next::Record(key) => key.place(),
+            Next::Subtree(top) => top.low.place(),
         }
     }
 
-    /// The subtree that the walk stands before, if it is one.
-    pub(crate) fn top(&self) -> Option<&Root>
-        ensures { IfSome result (λ top. front_of self.now ≡ Front.Top top.now) }
+    /// The bytes of the value of the record that the walk stands before.
+    pub(crate) fn value(&self) -> &[u8]
+        ensures value { (key : Key) (value : List ℕ) → front_of self.now ≡ Pair key value → result.now ≡ value }
+        ensures short { length result.now ≤ 240 }
     {
-        if self.at < self.records.len() {
-            None
-        } else {
-            self.tops.as_slice().last()
-        }
+        self.records.value()
     }
 
     /// Goes past a record.
     pub(crate) fn take(&mut self)
         ensures { self.new ≡ record { pending = drop 1 self.old.pending; tops = self.old.tops } }
     {
-        if self.at < self.records.len() {
-            self.at += 1;
+        self.records.pass();
+    }
+
+    /// The value of the key, where the walk stands before its record, past which it goes then.
+    pub(crate) fn take_at(&mut self, key: Key) -> Option<Value>
+        ensures there { (low : Key) (value : List ℕ) → front_of self.old ≡ Pair low value → place low ≡ place key
+            → (result ≡ Some value) × (self.new ≡ record { pending = drop 1 self.old.pending; tops = self.old.tops }) }
+        ensures none { ((low : Key) (value : List ℕ) → front_of self.old ≡ Pair low value → place low ≢ place key)
+            → (result ≡ None) × (self.new ≡ self.old) }
+    {
+        match self.records.key() {
+            Some(low) if low.place() == key.place() => {
+                let value = Value::new(self.records.value());
+                self.records.pass();
+                value
+            }
+            _ => None,
         }
     }
 
     /// Goes past a subtree.
-    pub(crate) fn skip(&mut self)
+    pub(crate) fn skip(&mut self, top: Root)
+        requires { front_of self.old ≡ Top top }
         ensures { self.new ≡ record { pending = self.old.pending; tops = drop 1 self.old.tops } }
     {
-        self.tops.pop();
+        self.levels[top.level as usize].pass();
     }
 
-    /// Opens a leaf: its records come next.
-    pub(crate) fn load(&mut self, records: ArrayVec<(Key, Value), 16>)
-        ensures { self.new ≡ record { pending = records.items; tops = drop 1 self.old.tops } }
+    /// Opens the leaf that the walk stands before: its records come next.
+    pub(crate) fn open_leaf<D: Disk>(
+        &mut self,
+        disk: &mut D,
+        blocks: u32,
+        top: Root,
+    ) -> Result<(), TreeFault>
+        requires blocks { blocks ≤ (D.state disk.old).blocks }
+        requires front { front_of self.old ≡ Top top }
+        requires level { top.level ≡ 0 }
+        ensures any { Goes (result ≡ Err TreeFault.Device) (D.state disk.old) (D.state disk.new) }
+        ensures deep { result ≢ Err TreeFault.Deep }
+        ensures memory { result ≢ Err TreeFault.Memory }
+        ensures once { (D.state disk.new).reads ≤ (D.state disk.old).reads + 1 }
+        ensures reads { (D.state disk.new).honest ≡ true → OnlyReads (D.state disk.old) (D.state disk.new) }
+        ensures few { OnOk result ((length self.new.pending ≤ 16) × (self.new.tops ≡ drop 1 self.old.tops)) }
+        ensures only { (D.state disk.new).honest ≡ true → (rs : List Record)
+            → IsLeafAt (D.state disk.old).now.contents blocks top.block rs
+            → OkOrDevice result (λ _. self.new ≡ record { pending = rs; tops = drop 1 self.old.tops }) }
     {
-        self.tops.pop();
-        self.records = records;
-        self.at = 0;
+        self.levels[top.level as usize].pass();
+        self.records.read(disk, blocks, top.block)
     }
 
-    /// Opens an inner block: the subtrees under it take its place.
-    pub(crate) fn descend(&mut self, children: &[Child])
-        requires { length children.now ≤ 256 }
-        ensures { (top : Root) (rest : List Root) → self.old.tops ≡ top ∷ rest → 0 < top.level
-            → self.new ≡ record { pending = self.old.pending; tops = tops_of (top.level - 1) children.now ++ rest } }
+    /// Opens the inner block that the walk stands before: the subtrees under it take its place.
+    pub(crate) fn open_node<D: Disk>(
+        &mut self,
+        disk: &mut D,
+        blocks: u32,
+        top: Root,
+    ) -> Result<(), TreeFault>
+        requires blocks { blocks ≤ (D.state disk.old).blocks }
+        requires front { front_of self.old ≡ Top top }
+        requires level { 0 < top.level }
+        ensures any { Goes (result ≡ Err TreeFault.Device) (D.state disk.old) (D.state disk.new) }
+        ensures deep { result ≢ Err TreeFault.Deep }
+        ensures memory { result ≢ Err TreeFault.Memory }
+        ensures once { (D.state disk.new).reads ≤ (D.state disk.old).reads + 1 }
+        ensures reads { (D.state disk.new).honest ≡ true → OnlyReads (D.state disk.old) (D.state disk.new) }
+        ensures few { OnOk result ((cs : List Child) × (length cs ≤ 256)
+            × (self.new ≡ record { pending = self.old.pending; tops = tops_of (top.level - 1) cs ++ drop 1 self.old.tops })) }
+        ensures only { (D.state disk.new).honest ≡ true → (cs : List Child)
+            → IsNodeAt (D.state disk.old).now.contents blocks top.level top.block cs
+            → OkOrDevice result (λ _. self.new ≡ record { pending = self.old.pending; tops = tops_of (top.level - 1) cs ++ drop 1 self.old.tops }) }
     {
-        if let Some(top) = self.tops.pop() {
-            if top.level > 0 {
-                push_reversed(&mut self.tops, children, top.level - 1);
-            }
-        }
+        self.levels[top.level as usize].pass();
+        self.levels[top.level as usize - 1].read(disk, blocks, top.level, top.block)
     }
 }
 
-/// Pushes the tops of subtrees of this level, the last one first.
-fn push_reversed(tops: &mut ArrayVec<Root, MOST_TOPS>, children: &[Child], level: u8)
-    requires { length tops.old.items + length children.now ≤ MOST_TOPS }
-    ensures { reverse tops.new.items ≡ tops_of level children.now ++ reverse tops.old.items }
+/// Goes past the records that both walks stand before, as far as their bytes are equal, and tells
+/// whether both have none left then.
+pub(crate) fn pass_records(one: &mut Cursor, other: &mut Cursor) -> bool
+    ensures passed { PassedBoth one.old.pending other.old.pending one.new.pending other.new.pending }
+    ensures tops { (one.new.tops ≡ one.old.tops) × (other.new.tops ≡ other.old.tops) }
+    ensures none { IsTrue result → (one.new.pending ≡ []) × (other.new.pending ≡ []) }
 {
-    for i in 0..children.len() {
-        let child = children[children.len() - 1 - i];
-        tops.push(Root {
-            block: child.block,
-            level,
-            low: child.low,
-        });
+    one.records.pass_shared(&mut other.records);
+    one.records.key().is_none() && other.records.key().is_none()
+}
+
+/// Goes past the subtrees with which what is ahead of both walks begins, as far as they stand in one
+/// inner block of either, and tells whether there are any.
+pub(crate) fn pass_tops(one: &mut Cursor, other: &mut Cursor) -> bool
+    ensures passed { PassedBoth one.old.tops other.old.tops one.new.tops other.new.tops }
+    ensures pending { (one.new.pending ≡ one.old.pending) × (other.new.pending ≡ other.old.pending) }
+    ensures some { IsTrue result → length one.new.tops < length one.old.tops }
+{
+    let (Some(here), Some(there)) = (next_top(&one.levels), next_top(&other.levels)) else {
+        return false;
+    };
+    if here.level != there.level {
+        return false;
     }
+    let level = here.level as usize;
+    one.levels[level].pass_shared(&mut other.levels[level])
 }

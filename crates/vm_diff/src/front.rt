@@ -1,30 +1,13 @@
 //! What a walk stands before, and what a step of two walks comes to.
 use vm_tree::Root;
-use vm_types::{Change, Key, Value};
+use vm_types::Key;
 
-/// What a walk stands before.
+/// What a walk stands before: a record with this key, or a subtree.
 #[derive(Clone, Copy, Debug)]
-pub(crate) enum Front {
+pub(crate) enum Next {
     End,
-    Pair(Key, Value),
-    Top(Root),
-}
-
-impl Front {
-    ghost use Rattle.std.specs.Prelude.{◌≡◌, ◌≤◌, ◌^◌};
-    ghost use Rattle.vm_diff.specs.Front.{place_of};
-
-    /// Where its first key stands: at the end above all keys.
-    pub(crate) fn place(&self) -> u128
-        ensures place { result ≡ place_of self.now }
-        ensures most { result ≤ 2 ^ 80 }
-    {
-        match self {
-            Front::End => 1 << 80,
-            Front::Pair(key, _) => key.place(),
-            Front::Top(top) => top.low.place(),
-        }
-    }
+    Record(Key),
+    Subtree(Root),
 }
 
 /// What a step of two walks comes to.
@@ -34,6 +17,6 @@ pub(crate) enum Step {
     Done,
     /// They went on, and what is ahead differs as before.
     Moved,
-    /// They went past the first difference.
-    Found(Change),
+    /// They stand before the first difference, which is at this key.
+    Found(Key),
 }

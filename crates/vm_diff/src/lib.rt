@@ -7,11 +7,13 @@
 //! together: they give the conflicts, and what a merge changes.
 #![tactic(auto)]
 
+mod children;
 mod comparing;
 mod cursor;
 mod front;
 mod merging;
 mod opening;
+mod records;
 mod skipping;
 mod stepping;
 #[cfg(test)]

@@ -1,16 +1,18 @@
 //! What a merge brings into an alternative: conflicts, the changes that it makes, and the refusals of
 //! settlements.
-ghost use Rattle.std.specs.Prelude.{◌≡◌, ◌↔◌, IsTrue, List, [], not, nat_lt, if◌then◌else◌, map, length, filter, Some, None, is_none, find, IfOk, IfErr};
+ghost use Rattle.std.specs.Prelude.{◌≡◌, ◌↔◌, IsTrue, List, [], not, nat_lt, if◌then◌else◌, map, length, filter, Some, None, is_none, find, IfOk, IfErr, IfSome};
 ghost use Rattle.std.specs.List.{list_any};
 ghost use Rattle.std.specs.List.Sorted.{IsStrictlySortedBy};
+ghost use Rattle.std.specs.BTreeMap as tree;
 ghost use Rattle.std.specs.Option.{option_copied};
 ghost use Rattle.vm_types.specs.declared.refusal.Refusal.TheVariants.{Unsettled};
 ghost use Rattle.vm_types.specs.Map.{Map, IsMap, key_cmp, same_key, delta, conflicts, side_of, merge};
 ghost use Rattle.vm_types.specs.Step.{settled_refusal, first_repeated};
 ghost use Rattle.vm_diff.specs.Merging.{from_key, first_at, settled_from, clash, taken};
 
-use std::alloc::Global;
+use std::alloc::{AllocError, Global};
 use std::cmp::Ordering;
+use std::collections::BTreeMap;
 use vm_types::{Change, Conflict, Key, Refusal, Side};
 
 /// The change at a key, if there is one, and the changes from the key on, of changes by rising keys.
@@ -112,8 +114,8 @@ pub fn conflicts_between(
 
 /// What a merge changes in the alternative, by rising keys. It answers `Memory` where there is none for
 /// the list. Where the settlements have rising keys, too, and settle each conflict, it goes through all
-/// three lists once.
-pub fn changes_by_merge(
+/// three lists once; else a conflict's key is searched in them.
+fn changes_in_turn(
     alloc: Global,
     theirs: &[Change],
     mine: &[Change],
@@ -237,14 +239,77 @@ fn rising_refusal(settled: &[(Key, Side)], conflicts: &[Conflict]) -> Option<Ref
     unsettled_refusal(conflicts.len() - settled.len())
 }
 
-/// Why these settlements are refused, where they are. `conflicts` is the list of all conflicts. Where the
-/// keys of both rise, it goes through them once; else each key is searched in the other list.
-pub fn settled_refusal(settled: &[(Key, Side)], conflicts: &[Conflict]) -> Option<Refusal>
+/// The side that settlements give to each key, or the first key that is settled twice.
+fn sides_by_key(
+    alloc: Global,
+    settled: &[(Key, Side)],
+) -> Result<Result<BTreeMap<Key, Side>, Key>, AllocError>
+    ensures sides { IfOk result (λ found. IfOk found (λ sides. (first_repeated [] (map (λ e. e.0) settled.now) ≡ None)
+        × ((key : Key) → tree.get key_cmp sides key ≡ side_of settled.now key))) }
+    ensures twice { IfOk result (λ found. IfErr found (λ key. first_repeated [] (map (λ e. e.0) settled.now) ≡ Some key)) }
+{
+    let mut sides = BTreeMap::new(alloc);
+    for (key, side) in settled {
+        if sides.insert(*key, *side)?.is_some() {
+            return Ok(Err(*key));
+        }
+    }
+    Ok(Ok(sides))
+}
+
+/// Whether a key is in conflict, where the conflicts' keys rise.
+fn is_in_rising(conflicts: &[Conflict], key: Key) -> bool
+    requires { IsStrictlySortedBy key_cmp (map (λ c. c.key) conflicts.now) }
+    ensures { result ≡ list_any (same_key key) (map (λ c. c.key) conflicts.now) }
+{
+    conflicts
+        .binary_search_by(|conflict| conflict.key.cmp(&key))
+        .is_ok()
+}
+
+/// The first settlement's key that is in no conflict, where the conflicts' keys rise.
+fn not_in_rising(settled: &[(Key, Side)], conflicts: &[Conflict]) -> Option<Key>
+    requires { IsStrictlySortedBy key_cmp (map (λ c. c.key) conflicts.now) }
+    ensures { result ≡ find (λ key. not (list_any (same_key key) (map (λ c. c.key) conflicts.now))) (map (λ e. e.0) settled.now) }
+{
+    settled
+        .iter()
+        .map(|(key, _)| *key)
+        .find(|key| !is_in_rising(conflicts, *key))
+}
+
+/// How many conflicts have no side.
+fn unsettled_by_key(sides: &BTreeMap<Key, Side>, conflicts: &[Conflict]) -> usize
+    ensures { result ≡ length (filter (λ key. is_none (tree.get key_cmp sides.now key)) (map (λ c. c.key) conflicts.now)) }
+{
+    conflicts
+        .iter()
+        .map(|conflict| conflict.key)
+        .filter(|key| sides.get(key).is_none())
+        .count()
+}
+
+/// Why settlements are refused, where they are, none is settled twice, and the conflicts' keys rise.
+fn refusal_by_key(
+    sides: &BTreeMap<Key, Side>,
+    settled: &[(Key, Side)],
+    conflicts: &[Conflict],
+) -> Option<Refusal>
+    requires once { first_repeated [] (map (λ e. e.0) settled.now) ≡ None }
+    requires sides { (key : Key) → tree.get key_cmp sides.now key ≡ side_of settled.now key }
+    requires conflicts { IsStrictlySortedBy key_cmp (map (λ c. c.key) conflicts.now) }
     ensures { result ≡ settled_refusal settled.now (map (λ c. c.key) conflicts.now) }
 {
-    if settled_rise(settled) && conflicts_rise(conflicts) {
-        return rising_refusal(settled, conflicts);
+    if let Some(key) = not_in_rising(settled, conflicts) {
+        return Some(Refusal::NotInConflict(key));
     }
+    unsettled_refusal(unsettled_by_key(sides, conflicts))
+}
+
+/// Why settlements are refused, where they are: each key is searched in the other list.
+fn searched_refusal(settled: &[(Key, Side)], conflicts: &[Conflict]) -> Option<Refusal>
+    ensures { result ≡ settled_refusal settled.now (map (λ c. c.key) conflicts.now) }
+{
     if let Some(key) = settled_twice(settled) {
         return Some(Refusal::SettledTwice(key));
     }
@@ -252,4 +317,68 @@ pub fn settled_refusal(settled: &[(Key, Side)], conflicts: &[Conflict]) -> Optio
         return Some(Refusal::NotInConflict(key));
     }
     unsettled_refusal(unsettled(settled, conflicts))
+}
+
+/// Why these settlements are refused, where they are. `conflicts` is the list of all conflicts. Where the
+/// keys of both rise, it goes through them once. Settlements in another order are put into a map by their
+/// keys, and where there is no memory for it, each key is searched in the other list.
+pub fn settled_refusal(
+    alloc: Global,
+    settled: &[(Key, Side)],
+    conflicts: &[Conflict],
+) -> Option<Refusal>
+    ensures { result ≡ settled_refusal settled.now (map (λ c. c.key) conflicts.now) }
+{
+    if !conflicts_rise(conflicts) {
+        return searched_refusal(settled, conflicts);
+    }
+    if settled_rise(settled) {
+        return rising_refusal(settled, conflicts);
+    }
+    match sides_by_key(alloc, settled) {
+        Ok(Ok(sides)) => refusal_by_key(&sides, settled, conflicts),
+        Ok(Err(key)) => Some(Refusal::SettledTwice(key)),
+        Err(AllocError) => searched_refusal(settled, conflicts),
+    }
+}
+
+/// The entries of a map, by rising keys.
+fn entries_of(alloc: Global, sides: BTreeMap<Key, Side>) -> Result<Vec<(Key, Side)>, AllocError>
+    ensures { IfOk result (λ list. list.items ≡ sides.entries) }
+{
+    sides.into_iter().collect(alloc)
+}
+
+/// The settlements by rising keys, where none is settled twice and there is memory for them.
+fn by_rising_keys(alloc: Global, settled: &[(Key, Side)]) -> Option<Vec<(Key, Side)>>
+    ensures { IfSome result (λ sorted. (key : Key) → side_of sorted.items key ≡ side_of settled.now key) }
+{
+    let Ok(Ok(sides)) = sides_by_key(alloc, settled) else {
+        return None;
+    };
+    match entries_of(alloc, sides) {
+        Ok(sorted) => Some(sorted),
+        Err(AllocError) => None,
+    }
+}
+
+/// What a merge changes in the alternative, by rising keys. It answers `Memory` where there is none for
+/// the list. Settlements in another order are sorted first, and where there is no memory for it, the key
+/// of each conflict is searched in them.
+pub fn changes_by_merge(
+    alloc: Global,
+    theirs: &[Change],
+    mine: &[Change],
+    settled: &[(Key, Side)],
+) -> Result<Vec<Change>, Refusal>
+    ensures only { IfErr result (λ refusal. refusal ≡ Refusal.Memory) }
+    ensures list { (base parent own : Map) → IsMap base → IsMap parent → IsMap own → theirs.now ≡ delta base parent → mine.now ≡ delta base own
+        → IfOk result (λ list. list.items ≡ delta own (merge base parent own settled.now)) }
+{
+    if !settled_rise(settled)
+        && let Some(sorted) = by_rising_keys(alloc, settled)
+    {
+        return changes_in_turn(alloc, theirs, mine, &sorted);
+    }
+    changes_in_turn(alloc, theirs, mine, settled)
 }

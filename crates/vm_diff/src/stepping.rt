@@ -1,5 +1,5 @@
 //! Two walks, step by step.
-ghost use Rattle.std.specs.Prelude.{◌≡◌, ◌≢◌, ℕ, ◌+◌, ◌≤◌, true, List};
+ghost use Rattle.std.specs.Prelude.{◌≡◌, ◌≢◌, ℕ, ◌+◌, ◌<◌, ◌≤◌, ◌∷◌, true, List};
 ghost use Rattle.vm_types.specs.declared.change.Change.{Change};
 ghost use Rattle.vm_types.specs.declared.key.Key.{Key};
 ghost use Rattle.vm_types.specs.Places.{place};
@@ -7,17 +7,18 @@ ghost use Rattle.vm_disk.specs.Disk.{Contents, Goes};
 ghost use Rattle.vm_disk.specs.Moments.{OnlyReads};
 ghost use Rattle.vm_block.specs.Tree.{Sizes};
 ghost use Rattle.vm_diff.specs.Walk.{size};
-ghost use Rattle.vm_diff.specs.Front.{front_of, place_of};
+ghost use Rattle.vm_diff.specs.Front.{front_of, next_of, place_of};
+ghost use Rattle.vm_diff.specs.Front.Front.{Top};
 ghost use Rattle.vm_diff.specs.Differ.{Differ};
-ghost use Rattle.vm_diff.specs.Steps.{Falls, StepsBy, moved_by};
+ghost use Rattle.vm_diff.specs.Steps.{Falls, FoundBy, Meet, StepsBy, moved_by};
 
 use crate::cursor::Cursor;
-use crate::front::{Front, Step};
-use crate::opening::{open, pass};
+use crate::front::{Next, Step};
+use crate::opening::open;
 use crate::skipping::skip_shared;
 use vm_disk::Disk;
 use vm_tree::{Root, TreeFault};
-use vm_types::{Change, Key, Value};
+use vm_types::{Change, Key};
 
 /// The step of opening a subtree.
 fn moved(opened: Result<(), TreeFault>) -> Result<Step, TreeFault>
@@ -40,14 +41,15 @@ fn meet_tops<D: Disk>(
     second: Root,
 ) -> Result<Step, TreeFault>
     requires blocks { blocks ≤ (D.state disk.old).blocks }
-    requires first { front_of one.old ≡ Front.Top first }
-    requires second { front_of other.old ≡ Front.Top second }
+    requires first { front_of one.old ≡ Top first }
+    requires second { front_of other.old ≡ Top second }
     requires level { place first.low ≡ place second.low }
     ensures any { Goes (result ≡ Err TreeFault.Device) (D.state disk.old) (D.state disk.new) }
     ensures deep { result ≢ Err TreeFault.Deep }
     ensures memory { result ≢ Err TreeFault.Memory }
     ensures reads { (D.state disk.new).honest ≡ true → OnlyReads (D.state disk.old) (D.state disk.new) }
     ensures falls { Falls result (size one.old + size other.old) (size one.new + size other.new) }
+    ensures found { FoundBy result (front_of one.new) (front_of other.new) }
     ensures bound { (D.state disk.new).honest ≡ true → (sizes : Sizes) (most : ℕ) (changes : List Change)
         → Differ sizes (D.state disk.old).now.contents blocks one.old other.old (D.state disk.old).reads most changes
         → (D.state disk.new).reads ≤ most }
@@ -56,8 +58,8 @@ fn meet_tops<D: Disk>(
         → StepsBy result changes (Differ sizes (D.state disk.old).now.contents blocks one.new other.new (D.state disk.new).reads most) }
 {
     if first.block == second.block && first.level == second.level {
-        one.skip();
-        other.skip();
+        one.skip(first);
+        other.skip(second);
         skip_shared(one, other);
         return Ok(Step::Moved);
     }
@@ -68,26 +70,23 @@ fn meet_tops<D: Disk>(
     }
 }
 
-/// The step past two records of one key.
-fn meet_pairs(one: &mut Cursor, other: &mut Cursor, key: Key, before: Value, after: Value) -> Step
-    requires first { front_of one.old ≡ Front.Pair key before }
-    requires second { (low : Key) × (front_of other.old ≡ Front.Pair low after) × (place key ≡ place low) }
+/// The step where both walks stand before records of one key.
+fn meet_pairs(one: &mut Cursor, other: &mut Cursor, key: Key) -> Step
+    requires first { next_of (front_of one.old) ≡ Next.Record key }
+    requires second { (low : Key) × (next_of (front_of other.old) ≡ Next.Record low) × (place key ≡ place low) }
     ensures falls { Falls (Ok result) (size one.old + size other.old) (size one.new + size other.new) }
+    ensures found { FoundBy (Ok result) (front_of one.new) (front_of other.new) }
     ensures steps { (sizes : Sizes) (x : Contents) (limit reads most : ℕ) (changes : List Change)
         → Differ sizes x limit one.old other.old reads most changes
         → StepsBy (Ok result) changes (Differ sizes x limit one.new other.new reads most) }
 {
-    one.take();
-    other.take();
-    if before == after {
+    if one.value() == other.value() {
+        one.take();
+        other.take();
         skip_shared(one, other);
         Step::Moved
     } else {
-        Step::Found(Change {
-            key,
-            before: Some(before),
-            after: Some(after),
-        })
+        Step::Found(key)
     }
 }
 
@@ -105,6 +104,7 @@ fn meet<D: Disk>(
     ensures memory { result ≢ Err TreeFault.Memory }
     ensures reads { (D.state disk.new).honest ≡ true → OnlyReads (D.state disk.old) (D.state disk.new) }
     ensures falls { Falls result (size one.old + size other.old) (size one.new + size other.new) }
+    ensures found { FoundBy result (front_of one.new) (front_of other.new) }
     ensures bound { (D.state disk.new).honest ≡ true → (sizes : Sizes) (most : ℕ) (changes : List Change)
         → Differ sizes (D.state disk.old).now.contents blocks one.old other.old (D.state disk.old).reads most changes
         → (D.state disk.new).reads ≤ most }
@@ -112,25 +112,25 @@ fn meet<D: Disk>(
         → Differ sizes (D.state disk.old).now.contents blocks one.old other.old (D.state disk.old).reads most changes
         → StepsBy result changes (Differ sizes (D.state disk.old).now.contents blocks one.new other.new (D.state disk.new).reads most) }
 {
-    match one.front() {
-        Front::Top(first) => match other.front() {
-            Front::Top(second) => meet_tops(disk, blocks, one, other, first, second),
+    match one.next() {
+        Next::Subtree(first) => match other.next() {
+            Next::Subtree(second) => meet_tops(disk, blocks, one, other, first, second),
             _ => moved(open(disk, blocks, one, first)),
         },
-        Front::Pair(key, before) => match other.front() {
-            Front::Top(second) => moved(open(disk, blocks, other, second)),
-            Front::Pair(_, after) => Ok(meet_pairs(one, other, key, before, after)),
-            Front::End => Ok(Step::Done),
+        Next::Record(key) => match other.next() {
+            Next::Subtree(second) => moved(open(disk, blocks, other, second)),
+            Next::Record(_) => Ok(meet_pairs(one, other, key)),
+            Next::End => Ok(Step::Done),
         },
-        Front::End => match other.front() {
-            Front::Top(second) => moved(open(disk, blocks, other, second)),
+        Next::End => match other.next() {
+            Next::Subtree(second) => moved(open(disk, blocks, other, second)),
             _ => Ok(Step::Done),
         },
     }
 }
 
-/// The next step of two walks: the one whose next key is lower goes on. A record that it goes past
-/// is a difference.
+/// The next step of two walks: the one whose next key is lower goes on. A record that it stands
+/// before is a difference.
 pub(crate) fn step<D: Disk>(
     disk: &mut D,
     blocks: u32,
@@ -143,6 +143,7 @@ pub(crate) fn step<D: Disk>(
     ensures memory { result ≢ Err TreeFault.Memory }
     ensures reads { (D.state disk.new).honest ≡ true → OnlyReads (D.state disk.old) (D.state disk.new) }
     ensures falls { Falls result (size one.old + size other.old) (size one.new + size other.new) }
+    ensures found { FoundBy result (front_of one.new) (front_of other.new) }
     ensures bound { (D.state disk.new).honest ≡ true → (sizes : Sizes) (most : ℕ) (changes : List Change)
         → Differ sizes (D.state disk.old).now.contents blocks one.old other.old (D.state disk.old).reads most changes
         → (D.state disk.new).reads ≤ most }
@@ -150,28 +151,33 @@ pub(crate) fn step<D: Disk>(
         → Differ sizes (D.state disk.old).now.contents blocks one.old other.old (D.state disk.old).reads most changes
         → StepsBy result changes (Differ sizes (D.state disk.old).now.contents blocks one.new other.new (D.state disk.new).reads most) }
 {
-    let (here, there) = (one.front().place(), other.front().place());
+    let (here, there) = (one.place(), other.place());
     if here < there {
-        return match pass(disk, blocks, one) {
-            Ok(Some((key, value))) => Ok(Step::Found(Change {
-                key,
-                before: Some(value),
-                after: None,
-            })),
-            Ok(None) => Ok(Step::Moved),
-            Err(fault) => Err(fault),
+        return match one.next() {
+            Next::Record(key) => Ok(Step::Found(key)),
+            Next::Subtree(top) => moved(open(disk, blocks, one, top)),
+            Next::End => Ok(Step::Done),
         };
     }
     if there < here {
-        return match pass(disk, blocks, other) {
-            Ok(Some((key, value))) => Ok(Step::Found(Change {
-                key,
-                before: None,
-                after: Some(value),
-            })),
-            Ok(None) => Ok(Step::Moved),
-            Err(fault) => Err(fault),
+        return match other.next() {
+            Next::Record(key) => Ok(Step::Found(key)),
+            Next::Subtree(top) => moved(open(disk, blocks, other, top)),
+            Next::End => Ok(Step::Done),
         };
     }
     meet(disk, blocks, one, other)
+}
+
+/// The difference that both walks stand before, past which they go.
+pub(crate) fn take_change(one: &mut Cursor, other: &mut Cursor, key: Key) -> Change
+    requires { Meet key (front_of one.old) (front_of other.old) }
+    ensures falls { size one.new + size other.new < size one.old + size other.old }
+    ensures change { (sizes : Sizes) (x : Contents) (limit reads most : ℕ) (changes : List Change)
+        → Differ sizes x limit one.old other.old reads most changes
+        → (rest : List Change) × (changes ≡ result ∷ rest) × Differ sizes x limit one.new other.new reads most rest }
+{
+    let before = one.take_at(key);
+    let after = other.take_at(key);
+    Change { key, before, after }
 }

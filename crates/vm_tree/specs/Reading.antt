@@ -1,5 +1,5 @@
 -- Blocks of a tree as they are read.
-use Rattle.std.specs.Prelude.{◌≡◌, ℕ, zero, suc, ◌+◌, ◌*◌, ◌<◌, ◌≤◌, List, take, drop}
+use Rattle.std.specs.Prelude.{◌≡◌, ℕ, zero, suc, ◌+◌, ◌*◌, ◌<◌, ◌≤◌, List, length, take, drop}
 use Rattle.vm_types.specs.declared.key.Key.{Key}
 use Rattle.vm_disk.specs.Disk.{Contents, block}
 use Rattle.vm_block.specs.Head.{IsLeafHead, IsNodeHead}
@@ -34,6 +34,18 @@ pub record IsLeafAt (x : Contents) (limit b : ℕ) (rs : List Record) : Type 0 w
 pub record IsNodeAt (x : Contents) (limit level b : ℕ) (cs : List Child) : Type 0 where
   pub inside : IsData limit b
   pub node : IsNode (block x b) level cs
+
+-- these bytes are a leaf of so many records
+pub record IsLeafOf (bytes : List ℕ) (count : ℕ) : Type 0 where
+  pub records : List Record
+  pub leaf : IsLeaf bytes records
+  pub many : count ≡ length records
+
+-- these bytes are an inner block of this level with so many children
+pub record IsNodeOf (bytes : List ℕ) (level count : ℕ) : Type 0 where
+  pub children : List Child
+  pub node : IsNode bytes level children
+  pub many : count ≡ length children
 
 -- this block is for data, has the head of a leaf, and begins with this key
 pub record EndsAt (x : Contents) (limit b : ℕ) (low : Key) : Type 0 where

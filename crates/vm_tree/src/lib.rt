@@ -17,13 +17,11 @@ mod removing;
 mod root;
 mod scanning;
 mod splicing;
-#[cfg(test)]
-mod tests;
 mod writing;
 
 pub use getting::get;
 pub use putting::put;
-pub use reading::{data_at, is_data, leaf_at, node_at};
+pub use reading::{data_at, is_data, leaf_at, leaf_into, node_at, node_into};
 pub use removing::remove;
 pub use root::{Root, TreeFault};
 pub use scanning::scan;

@@ -9,12 +9,12 @@ ghost use Rattle.vm_block.specs.Tree.{IsData, Begins};
 ghost use Rattle.vm_block.specs.Way.{Lowest, Takes};
 ghost use Rattle.vm_block.specs.declared.node.Child.{Child};
 ghost use Rattle.vm_tree.specs.Answers.{OkOrDevice};
-ghost use Rattle.vm_tree.specs.Reading.{EndsAt, IsBlockAt, IsDataAt, IsLeafAt, IsNodeAt, ReadsOne, StepsTo};
+ghost use Rattle.vm_tree.specs.Reading.{EndsAt, IsBlockAt, IsDataAt, IsLeafAt, IsLeafOf, IsNodeAt, IsNodeOf, ReadsOne, StepsTo};
 
 use crate::root::TreeFault;
 use arrayvec::ArrayVec;
 use vm_alloc::FIRST_DATA;
-use vm_block::{Child, Way, find_child, lowest_key, read_leaf, read_node};
+use vm_block::{Child, Way, find_child, leaf_size, lowest_key, node_size, read_leaf, read_node};
 use vm_disk::Disk;
 use vm_types::{Key, Value};
 
@@ -180,6 +180,59 @@ pub fn node_at<D: Disk>(
     data_at(disk, blocks, block, &mut bytes)?;
     match read_node(&bytes) {
         Some(node) if node.level == level => Ok(node.children),
+        _ => Err(TreeFault::Damaged(block)),
+    }
+}
+
+/// Reads a leaf into these bytes, and tells how many records it has.
+pub fn leaf_into<D: Disk>(
+    disk: &mut D,
+    blocks: u32,
+    block: u32,
+    bytes: &mut [u8; 4096],
+) -> Result<usize, TreeFault>
+    requires { blocks ≤ (D.state disk.old).blocks }
+    ensures any { Goes (result ≡ Err TreeFault.Device) (D.state disk.old) (D.state disk.new) }
+    ensures deep { result ≢ Err TreeFault.Deep }
+    ensures memory { result ≢ Err TreeFault.Memory }
+    ensures once { ReadsOne blocks block (D.state disk.old).reads (D.state disk.new).reads }
+    ensures count { IfOk result (λ count. IsLeafOf bytes.new count) }
+    ensures reads { (D.state disk.new).honest ≡ true → OnlyReads (D.state disk.old) (D.state disk.new) }
+    ensures found { (D.state disk.new).honest ≡ true
+        → IfOk result (λ count. IsDataAt (D.state disk.old).now.contents blocks block bytes.new) }
+    ensures only { (D.state disk.new).honest ≡ true → (rs : List Record)
+        → IsLeafAt (D.state disk.old).now.contents blocks block rs → OkOrDevice result (λ count. IsLeaf bytes.new rs × (count ≡ length rs)) }
+{
+    data_at(disk, blocks, block, bytes)?;
+    match leaf_size(bytes) {
+        Some(count) => Ok(count),
+        None => Err(TreeFault::Damaged(block)),
+    }
+}
+
+/// Reads an inner block of this level into these bytes, and tells how many children it has.
+pub fn node_into<D: Disk>(
+    disk: &mut D,
+    blocks: u32,
+    level: u8,
+    block: u32,
+    bytes: &mut [u8; 4096],
+) -> Result<usize, TreeFault>
+    requires { blocks ≤ (D.state disk.old).blocks }
+    ensures any { Goes (result ≡ Err TreeFault.Device) (D.state disk.old) (D.state disk.new) }
+    ensures deep { result ≢ Err TreeFault.Deep }
+    ensures memory { result ≢ Err TreeFault.Memory }
+    ensures once { ReadsOne blocks block (D.state disk.old).reads (D.state disk.new).reads }
+    ensures count { IfOk result (λ count. IsNodeOf bytes.new level count) }
+    ensures reads { (D.state disk.new).honest ≡ true → OnlyReads (D.state disk.old) (D.state disk.new) }
+    ensures found { (D.state disk.new).honest ≡ true
+        → IfOk result (λ count. IsDataAt (D.state disk.old).now.contents blocks block bytes.new) }
+    ensures only { (D.state disk.new).honest ≡ true → (cs : List Child)
+        → IsNodeAt (D.state disk.old).now.contents blocks level block cs → OkOrDevice result (λ count. IsNode bytes.new level cs × (count ≡ length cs)) }
+{
+    data_at(disk, blocks, block, bytes)?;
+    match node_size(bytes) {
+        Some((found, count)) if found == level => Ok(count),
         _ => Err(TreeFault::Damaged(block)),
     }
 }

@@ -35,44 +35,64 @@ fn mixed() -> [Conflict; 3] {
 #[test]
 fn takes_a_settlement_of_each_conflict(rt: HostRuntime) {
     let settled = [mine(2), theirs(4), mine(6)];
-    assert!(rt; settled_refusal(&settled, &rising()).is_none());
-    assert!(rt; settled_refusal(&settled, &mixed()).is_none());
+    assert!(rt; settled_refusal(rt.alloc(), &settled, &rising()).is_none());
+    assert!(rt; settled_refusal(rt.alloc(), &settled, &mixed()).is_none());
     let unsorted = [theirs(4), mine(6), mine(2)];
-    assert!(rt; settled_refusal(&unsorted, &rising()).is_none());
-    assert!(rt; settled_refusal(&unsorted, &mixed()).is_none());
-    assert!(rt; settled_refusal(&[], &[]).is_none());
+    assert!(rt; settled_refusal(rt.alloc(), &unsorted, &rising()).is_none());
+    assert!(rt; settled_refusal(rt.alloc(), &unsorted, &mixed()).is_none());
+    assert!(rt; settled_refusal(rt.alloc(), &[], &[]).is_none());
 }
 
 #[test]
 fn counts_the_conflicts_without_a_settlement(rt: HostRuntime) {
     let one = Some(Refusal::Unsettled(1));
-    assert!(rt; settled_refusal(&[mine(2), mine(4)], &rising()) == one);
-    assert!(rt; settled_refusal(&[mine(2), mine(6)], &rising()) == one);
-    assert!(rt; settled_refusal(&[mine(4), mine(6)], &rising()) == one);
-    assert!(rt; settled_refusal(&[mine(6), mine(4)], &rising()) == one);
-    assert!(rt; settled_refusal(&[mine(4), mine(6)], &mixed()) == one);
-    assert!(rt; settled_refusal(&[theirs(6)], &rising()) == Some(Refusal::Unsettled(2)));
-    assert!(rt; settled_refusal(&[], &rising()) == Some(Refusal::Unsettled(3)));
+    assert!(rt; settled_refusal(rt.alloc(), &[mine(2), mine(4)], &rising()) == one);
+    assert!(rt; settled_refusal(rt.alloc(), &[mine(2), mine(6)], &rising()) == one);
+    assert!(rt; settled_refusal(rt.alloc(), &[mine(4), mine(6)], &rising()) == one);
+    assert!(rt; settled_refusal(rt.alloc(), &[mine(6), mine(4)], &rising()) == one);
+    assert!(rt; settled_refusal(rt.alloc(), &[mine(4), mine(6)], &mixed()) == one);
+    assert!(rt;
+        settled_refusal(rt.alloc(), &[theirs(6)], &rising()) == Some(Refusal::Unsettled(2))
+    );
+    assert!(rt; settled_refusal(rt.alloc(), &[], &rising()) == Some(Refusal::Unsettled(3)));
 }
 
 #[test]
 fn names_the_first_settlement_that_is_in_no_conflict(rt: HostRuntime) {
     let refused = |number| Some(Refusal::NotInConflict(key(number)));
-    assert!(rt; settled_refusal(&[mine(2), mine(3), mine(4), mine(5)], &rising()) == refused(3));
-    assert!(rt; settled_refusal(&[mine(5), mine(4), mine(3), mine(2)], &rising()) == refused(5));
-    assert!(rt; settled_refusal(&[mine(2), mine(3), mine(4), mine(5)], &mixed()) == refused(3));
-    assert!(rt; settled_refusal(&[mine(1), mine(2)], &rising()) == refused(1));
-    assert!(rt; settled_refusal(&[mine(2), mine(4), mine(6), mine(7)], &rising()) == refused(7));
-    assert!(rt; settled_refusal(&[mine(2)], &[]) == refused(2));
+    assert!(rt;
+        settled_refusal(rt.alloc(), &[mine(2), mine(3), mine(4), mine(5)], &rising()) == refused(3)
+    );
+    assert!(rt;
+        settled_refusal(rt.alloc(), &[mine(5), mine(4), mine(3), mine(2)], &rising()) == refused(5)
+    );
+    assert!(rt;
+        settled_refusal(rt.alloc(), &[mine(2), mine(3), mine(4), mine(5)], &mixed()) == refused(3)
+    );
+    assert!(rt; settled_refusal(rt.alloc(), &[mine(1), mine(2)], &rising()) == refused(1));
+    assert!(rt;
+        settled_refusal(rt.alloc(), &[mine(2), mine(4), mine(6), mine(7)], &rising()) == refused(7)
+    );
+    assert!(rt; settled_refusal(rt.alloc(), &[mine(2)], &[]) == refused(2));
 }
 
 #[test]
 fn names_the_first_key_that_is_settled_twice(rt: HostRuntime) {
     let refused = Some(Refusal::SettledTwice(key(4)));
-    assert!(rt; settled_refusal(&[mine(2), mine(4), mine(4), mine(6)], &rising()) == refused);
-    assert!(rt; settled_refusal(&[mine(2), mine(4), theirs(4), mine(6)], &rising()) == refused);
-    assert!(rt; settled_refusal(&[mine(4), mine(6), mine(2), mine(4)], &rising()) == refused);
-    assert!(rt; settled_refusal(&[mine(3), mine(4), mine(4)], &mixed()) == refused);
+    assert!(rt;
+        settled_refusal(rt.alloc(), &[mine(2), mine(4), mine(4), mine(6)], &rising()) == refused
+    );
+    assert!(rt;
+        settled_refusal(
+            rt.alloc(),
+            &[mine(2), mine(4), theirs(4), mine(6)],
+            &rising()
+        ) == refused
+    );
+    assert!(rt;
+        settled_refusal(rt.alloc(), &[mine(4), mine(6), mine(2), mine(4)], &rising()) == refused
+    );
+    assert!(rt; settled_refusal(rt.alloc(), &[mine(3), mine(4), mine(4)], &mixed()) == refused);
 }
 
 #[test]
@@ -104,7 +124,7 @@ fn merges_by_settlements_in_any_order(rt: HostRuntime) -> Result<(), Fail> {
         [mine(6), theirs(4), theirs(2)],
         [theirs(4), mine(6), theirs(2)],
     ] {
-        assert!(rt; settled_refusal(&settled, &conflicts).is_none());
+        assert!(rt; settled_refusal(rt.alloc(), &settled, &conflicts).is_none());
         let changes = changes_by_merge(rt.alloc(), &parent, &own, &settled)?;
         assert!(rt; changes.as_slice() == taken.as_slice());
     }

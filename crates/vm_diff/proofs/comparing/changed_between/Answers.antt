@@ -31,9 +31,10 @@ steps-preserved-in-Ok-Moved g c =
 
 pub steps-preserved : goal.steps-preserved
 steps-preserved g c =
-    let R : List Change → Type 0 = λ cs. Compares (g.D.Disk.state c.args.disk.now) (g.D.Disk.state c.step.new.disk) c.args.blocks c.in-Some.one c.in-Some-new.other c.step.new.one c.step.new.other cs in
+    let R : List Change → Type 0 = λ cs. Compares (g.D.Disk.state c.args.disk.now) (g.D.Disk.state c.step.new.disk) c.args.blocks c.in-Some.one c.in-Some-new.other c.take_change-change.new.one c.take_change-change.new.other cs in
     subst R (sym c.in-Ok.ensures.items)
-    (compares_found (g.D.Disk.state c.args.disk.now) (g.D.Disk.state c.steps.disk) (g.D.Disk.state c.step.new.disk) c.step.ensures.any.earlier c.args.blocks c.in-Some.one c.in-Some-new.other c.steps.one c.steps.other c.steps.changes.items c.steps.invariant _ c.step.new.one c.step.new.other c.in-Ok-Found.field-0 c.in-Ok-Found.change c.in-Ok-Found.field-0-is c.in-Ok-Found.ensures.any c.in-Ok-Found.ensures.reads c.in-Ok-Found.ensures.steps)
+    (compares_found (g.D.Disk.state c.args.disk.now) (g.D.Disk.state c.steps.disk) (g.D.Disk.state c.step.new.disk) c.step.ensures.any.earlier c.args.blocks c.in-Some.one c.in-Some-new.other c.steps.one c.steps.other c.steps.changes.items c.steps.invariant _ c.step.new.one c.step.new.other c.take_change-change.new.one c.take_change-change.new.other c.in-Ok-Found.field-0 c.in-Ok-Found.key c.take_change-change.result c.in-Ok-Found.field-0-is c.in-Ok-Found.ensures.any c.in-Ok-Found.ensures.reads c.in-Ok-Found.ensures.steps
+    c.take_change-change.ensures.change)
 
 pub returns-in-Err-extend_from_slice-clause-reads : goal.returns-in-Err-extend_from_slice-clause-reads
 returns-in-Err-extend_from_slice-clause-reads g c honest = compares_reads (g.D.Disk.state c.args.disk.now) (g.D.Disk.state c.steps.disk) (g.D.Disk.state c.step.new.disk) c.step.ensures.any.earlier c.args.blocks c.in-Some.one c.in-Some-new.other c.steps.one c.steps.other c.steps.changes.items c.steps.invariant c.in-Ok-Found.ensures.reads honest

@@ -36,7 +36,7 @@ pub returns-in-Ok-Found-clause-equal : goal.returns-in-Ok-Found-clause-equal
 returns-in-Ok-Found-clause-equal g c honest sizes m n bs cs first second =
     let differ = roots_differ sizes (g.D.Disk.state c.args.disk.now).now.contents c.args.blocks (g.D.Disk.state c.args.disk.now).reads c.args.first c.args.second c.in-Some.one c.in-Some-new.other m n bs cs
     c.in-Some.ensures.empty c.in-Some.ensures.some c.in-Some-new.ensures.empty c.in-Some-new.ensures.some first second in
-    (λ equal. absurd (false≢true equal), λ none. absurd (some_found (g.D.Disk.state c.args.disk.now) (g.D.Disk.state c.steps.disk) (g.D.Disk.state c.step.new.disk) c.step.ensures.any.earlier c.args.blocks c.in-Some.one c.in-Some-new.other c.steps.one c.steps.other [] c.steps.invariant c.step.new.one c.step.new.other (g.D.Disk.state c.step.new.disk).reads c.in-Ok-Found.field-0 _ c.in-Ok-Found.field-0-is c.in-Ok-Found.ensures.steps honest sizes _ (delta m n) differ none))
+    (λ equal. absurd (false≢true equal), λ none. absurd (some_found (g.D.Disk.state c.args.disk.now) (g.D.Disk.state c.steps.disk) (g.D.Disk.state c.step.new.disk) c.step.ensures.any.earlier c.args.blocks c.in-Some.one c.in-Some-new.other c.steps.one c.steps.other [] c.steps.invariant c.step.new.one c.step.new.other (g.D.Disk.state c.step.new.disk).reads c.in-Ok-Found.field-0 _ c.in-Ok-Found.field-0-is c.in-Ok-Found.ensures.found c.in-Ok-Found.ensures.steps honest sizes _ (delta m n) differ none))
 
 pub returns-in-Err-clause-equal : goal.returns-in-Err-clause-equal
 returns-in-Err-clause-equal g c honest sizes m n bs cs first second =

@@ -1,6 +1,6 @@
 use Rattle.std.proofs.Common.{◌+◌}
 use Rattle.vm_diff.specs.Walk.{size}
-use Rattle.vm_diff.proofs.SkipLemmas.{Skips}
+use Rattle.vm_diff.proofs.SkipLemmas.{SkipsOn}
 use Rattle.vm_diff.proofs.skipping.skip_shared.Given as goal
 
 abbrev pub decreases-shared : goal.decreases-shared
@@ -8,4 +8,4 @@ decreases-shared l = size l.one + size l.other
 
 -- what differs is as it was
 abbrev pub invariant-shared : goal.invariant-shared
-invariant-shared l = Skips l.initial.one l.initial.other l.one l.other
+invariant-shared l = SkipsOn l.fn.one l.fn.other l.one l.other

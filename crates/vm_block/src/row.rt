@@ -1,0 +1,40 @@
+//! The rows of a block as they stand in its bytes, of which nothing is copied out.
+ghost use Rattle.std.specs.Prelude.{◌≡◌, ◌<◌, ◌≤◌, List, length, slice_index_or};
+ghost use Rattle.vm_block.specs.Leaf.{Record, IsLeaf};
+ghost use Rattle.vm_block.specs.Row.{leaf_row, node_row, record_of};
+
+use byteorder::{ByteOrder, LittleEndian};
+use vm_types::Value;
+
+/// The bytes of the value of the record at i, where a leaf has it.
+pub fn record_value(bytes: &[u8; 4096], i: usize) -> &[u8]
+    requires { i < 16 }
+    ensures short { length result.now ≤ 240 }
+    ensures stands { result.now ≡ (record_of (leaf_row bytes.now i)).1 }
+    ensures value { (rs : List Record) (d : Record) → IsLeaf bytes.now rs → i < length rs → (slice_index_or rs i d).1 ≡ result.now }
+{
+    let row = record_row(bytes, i);
+    let len = usize::from(LittleEndian::read_u16(&row[10..]));
+    if len > Value::MAX_LEN {
+        return &row[12..];
+    }
+    &row[12..12 + len]
+}
+
+/// The bytes in which the record at i stands, where a leaf has it.
+pub fn record_row(bytes: &[u8; 4096], i: usize) -> &[u8]
+    requires { i < 16 }
+    ensures whole { length result.now ≡ 252 }
+    ensures row { result.now ≡ leaf_row bytes.now i }
+{
+    &bytes[16 + 252 * i..268 + 252 * i]
+}
+
+/// The bytes in which the child at i stands, where an inner block has it.
+pub fn child_row(bytes: &[u8; 4096], i: usize) -> &[u8]
+    requires { i < 256 }
+    ensures whole { length result.now ≡ 14 }
+    ensures row { result.now ≡ node_row bytes.now i }
+{
+    &bytes[16 + 14 * i..30 + 14 * i]
+}
