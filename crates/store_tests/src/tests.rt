@@ -19,5 +19,6 @@ mod running;
 mod script;
 mod settling;
 mod space;
+mod tallies;
 mod versions;
 mod words;

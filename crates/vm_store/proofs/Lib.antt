@@ -27,5 +27,6 @@ pub mod SpareLemmas
 pub mod SpareTests
 pub mod StandingLemmas
 pub mod TakenLemmas
+pub mod TallyLemmas
 pub mod TopLemmas
 pub mod VersionLemmas

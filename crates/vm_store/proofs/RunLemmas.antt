@@ -1,11 +1,11 @@
 -- A run so far: what it answered, and what a crash leaves at each moment of it.
-use Rattle.std.proofs.Common.{◌≡◌, ◌≢◌, ◌↔◌, ℕ, zero, suc, ◌+◌, ◌<◌, ◌≤◌, Bool, true, false, List, [], ◌∷◌, ◌++◌, drop, length, take, get_or, Result, Err, OnErr, OnOk, refl, sym, ap, ◌∙◌, subst, arith}
+use Rattle.std.proofs.Common.{◌≡◌, ◌≢◌, ◌↔◌, ℕ, zero, suc, ◌+◌, ◌<◌, ◌≤◌, Bool, true, false, List, [], ◌∷◌, ◌++◌, drop, length, take, get_or, Result, Err, IfErr, OnErr, OnOk, refl, sym, ap, ◌∙◌, subst, arith}
 use Rattle.std.proofs.lemmas.List.{drop-append-le, drop_all, length-append, take-append-le, take_all, take_more}
 use Rattle.vm_types.specs.declared.answer.Answer.{Answer}
 use Rattle.vm_types.specs.declared.command.Command.{Command}
 use Rattle.vm_types.specs.declared.command.Command.TheVariants.{New, NewAt, Drop, Put, Remove, Checkpoint, Uncheck, Back, Merge, Post, Commit, Reclaim}
 use Rattle.vm_types.specs.declared.refusal.Refusal.{Refusal}
-use Rattle.vm_types.specs.declared.refusal.Refusal.TheVariants.{Device}
+use Rattle.vm_types.specs.declared.refusal.Refusal.TheVariants.{Device, Failed, Memory}
 use Rattle.vm_types.specs.Kept.{LeftBy}
 use Rattle.vm_types.specs.State.{State, next, after}
 use Rattle.vm_types.specs.Tree.{current_of}
@@ -16,9 +16,9 @@ use Rattle.vm_disk.specs.Disk.{Contents, Medium}
 use Rattle.vm_disk.specs.Moments.{Throughout, Leaves}
 use Rattle.vm_disk.proofs.MomentLemmas.{started, and_then, weaken, past_stays, moment_rises, leaves_only, spares_itself}
 use Rattle.vm_store.specs.declared.versions.Version.{Version}
-use Rattle.vm_store.specs.Answers.{IsMergeAnswer, merge_changes}
+use Rattle.vm_store.specs.Answers.{ChangesEntriesAlone, IsEarly, IsMerge, IsMergeAnswer, merge_changes}
 use Rattle.vm_store.specs.Changing.{MeetsFullPath}
-use Rattle.vm_store.specs.Store.{Answers, Holds, entries_of, free_of, has_failed, held_of}
+use Rattle.vm_store.specs.Store.{Answers, Holds, IsSameButDisk, disk_of, entries_of, free_of, has_failed, held_of}
 use Rattle.vm_store.specs.declared.store.Store.{Store}
 use Rattle.vm_tree.specs.Free.{is_free}
 use Rattle.vm_store.specs.Guarded.{IsGuarded}
@@ -80,15 +80,21 @@ module _ {D : Type 0} {members : _} where
   -- what `apply` promises of one command
   pub carried_out : (old new : Store D members) (s : State) (c : Command) (a : Result Answer Refusal) → ((members.state new.disk).honest ≡ true → (holds : Holds old s) → Answers old new s holds c a)
       → disk.Goes (a ≡ Err Device) (members.state old.disk) (members.state new.disk) → (has_failed new ≡ true ↔ a ≡ Err Device)
-      → OnErr a (a ≢ Err Device → entries_of new ≡ entries_of old) → ((members.state new.disk).honest ≡ true → Holds old s → a ≢ Err Device → Holds new (next s c a))
+      → a ≢ Err Failed → (a ≡ Err Memory → IsMerge c)
+      → OnErr a (a ≢ Err Device → entries_of new ≡ entries_of old) → IfErr a (λ refusal. IsEarly refusal → IsSameButDisk old new)
+      → (ChangesEntriesAlone c → (disk_of new ≡ disk_of old) × (held_of new ≡ held_of old)) → ((members.state new.disk).honest ≡ true → Holds old s → a ≢ Err Device → Holds new (next s c a))
       → ((members.state new.disk).honest ≡ true → Holds old s → Throughout (members.state old.disk) (members.state new.disk) (Leaves (LeftBy Shows s c)))
       → ((members.state new.disk).honest ≡ true → Holds old s → Throughout (members.state old.disk) (members.state new.disk) (IsGuarded (held_of new)))
       → ((members.state new.disk).honest ≡ true → c ≡ Reclaim → (holds : Holds old s) → OnOk a (free_of new ≡ spare_of holds)) → CarriesOut old new s c a
-  carried_out old new s c a answers goes failed same holds crash guarded reclaimed = record {
+  carried_out old new s c a answers goes failed only_then memory same unchanged blocks holds crash guarded reclaimed = record {
     answers = answers;
     goes = goes;
     failed = failed;
+    only_then = only_then;
+    memory = memory;
     same = same;
+    unchanged = unchanged;
+    blocks = blocks;
     holds = holds;
     crash = crash;
     guarded = guarded;

@@ -17,4 +17,5 @@ pub mod Sides
 pub mod Sizes
 pub mod Spare
 pub mod Store
+pub mod Tallies
 pub mod Versions

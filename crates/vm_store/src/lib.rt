@@ -11,10 +11,12 @@ mod faults;
 mod laws;
 mod sides;
 mod store;
+mod tally;
 mod versions;
 
 pub use laws::one_tree_shown;
 pub use store::{Stop, Store, format, open};
+pub use tally::Tally;
 
 /// How many records a leaf has at most.
 const LEAF: usize = 16;

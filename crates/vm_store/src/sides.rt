@@ -7,8 +7,10 @@ ghost use Rattle.vm_tree.specs.Root.{IsRooted};
 ghost use Rattle.vm_diff.specs.Shared.{unshared};
 ghost use Rattle.vm_store.specs.Sides.{ReadsOr, refusal_in};
 ghost use Rattle.vm_store.specs.Sizes.{sizes};
+ghost use Rattle.vm_store.specs.Tallies.{tally_between};
 
 use crate::faults::refusal_of;
+use crate::tally::Tally;
 use std::alloc::Global;
 use vm_diff::{changed, changes_by_merge, conflicts_between, settled_refusal};
 use vm_disk::Disk;
@@ -88,6 +90,38 @@ pub fn conflicts_of<D: Disk>(
     conflicts_between(alloc, &sides.theirs, &sides.mine)
 }
 
+/// How many records both sides changed of their base, and how many are in conflict.
+pub fn tally_of<D: Disk>(
+    alloc: Global,
+    disk: &mut D,
+    blocks: u32,
+    roots: ThreeRoots,
+) -> Result<Tally, Refusal>
+    requires { blocks ≤ (D.state disk.old).blocks }
+    ensures any { Goes (result ≡ Err Refusal.Device) (D.state disk.old) (D.state disk.new) }
+    ensures never { result ≢ Err Refusal.Failed }
+    ensures reads { (D.state disk.new).honest ≡ true → OnlyReads (D.state disk.old) (D.state disk.new) }
+    ensures tally { (D.state disk.new).honest ≡ true → (base parent own : Map) (bs ps os : List ℕ)
+        → IsRooted sizes (D.state disk.old).now.contents blocks roots.base base bs
+        → IsRooted sizes (D.state disk.old).now.contents blocks roots.parent parent ps
+        → IsRooted sizes (D.state disk.old).now.contents blocks roots.own own os
+        → ReadsOr result (λ tally. tally ≡ tally_between base parent own) (λ r. ⊥) }
+    ensures bound { (D.state disk.new).honest ≡ true → (base parent own : Map) (bs ps os : List ℕ)
+        → IsRooted sizes (D.state disk.old).now.contents blocks roots.base base bs
+        → IsRooted sizes (D.state disk.old).now.contents blocks roots.parent parent ps
+        → IsRooted sizes (D.state disk.old).now.contents blocks roots.own own os
+        → (D.state disk.new).reads ≤ (D.state disk.old).reads + (unshared bs ps + unshared bs os) }
+{
+    let sides = read_sides(alloc, disk, blocks, roots)?;
+    let conflicts = conflicts_between(alloc, &sides.theirs, &sides.mine)?;
+    Ok(Tally {
+        changed: sides.mine.len(),
+        unmerged: sides.theirs.len(),
+        conflicts: conflicts.len(),
+        can_post: sides.theirs.is_empty(),
+    })
+}
+
 /// What a merge changes in the map of the alternative, by rising keys, or why its settlements are refused.
 pub fn changes_of_merge<D: Disk>(
     alloc: Global,
@@ -109,7 +143,7 @@ pub fn changes_of_merge<D: Disk>(
 {
     let sides = read_sides(alloc, disk, blocks, roots)?;
     let conflicts = conflicts_between(alloc, &sides.theirs, &sides.mine)?;
-    match settled_refusal(settled, &conflicts) {
+    match settled_refusal(alloc, settled, &conflicts) {
         Some(refusal) => Err(refusal),
         None => changes_by_merge(alloc, &sides.theirs, &sides.mine, settled),
     }

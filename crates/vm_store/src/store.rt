@@ -22,6 +22,7 @@ mod posting;
 mod reclaiming;
 mod removing;
 mod running;
+mod tallying;
 
 use crate::faults::refusal_of;
 use crate::versions::{Version, copy_versions, mark_versions, position_of, write_entries};

@@ -89,6 +89,16 @@ fn conflicts<D: Disk>(alloc: Global, store: &mut Store<D>, alt: &str) -> Given {
     Ok(Ok(text))
 }
 
+fn tally<D: Disk>(alloc: Global, store: &mut Store<D>, alt: &str) -> Given {
+    let tally = match store.tally(alloc, &name(alt)?) {
+        Ok(tally) => tally,
+        Err(refusal) => return Ok(Err(refusal)),
+    };
+    let (changed, unmerged, conflicts) = (tally.changed, tally.unmerged, tally.conflicts);
+    let post = if tally.can_post { "yes" } else { "no" };
+    Ok(Ok(format!(in alloc; "{changed} {unmerged} {conflicts} {post}")?))
+}
+
 fn alternatives<D: Disk>(alloc: Global, store: &Store<D>) -> Given {
     let list = match store.alternatives(alloc) {
         Ok(list) => list,
@@ -129,6 +139,7 @@ fn query<D: Disk>(alloc: Global, store: &mut Store<D>, words: &[&str]) -> Given 
         ["list", alt] => records(alloc, store, alt),
         ["changes", alt] => changes(alloc, store, alt),
         ["conflicts", alt] => conflicts(alloc, store, alt),
+        ["tally", alt] => tally(alloc, store, alt),
         ["alts"] => alternatives(alloc, store),
         ["checks", alt] => checkpoints(alloc, store, alt),
         ["free"] => free(alloc, store),

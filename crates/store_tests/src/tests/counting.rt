@@ -73,6 +73,7 @@ fn each_block_is_read_and_written_once(rt: HostRuntime) {
         ("reclaim", "calls -> 8"),
         ("changes spur -> none", "calls -> 7"),
         ("conflicts spur -> none", "calls -> 7"),
+        ("tally spur -> 0 0 0 yes", "calls -> 7"),
         ("merge spur -> ok 0", "calls -> 7"),
         ("post spur", "calls -> 7"),
     ];

@@ -15,6 +15,7 @@
 //! | `list a` | `1:1=y 1:2=z` |
 //! | `changes a` | `1:1=x/y`: the value before and after |
 //! | `conflicts a` | `1:1=x/z/y`: the value of the base, the parent's and one's own |
+//! | `tally a` | `2 3 1 no`: records changed since the base, by the parent since then, in conflict, and whether it can be posted |
 //! | `alts` | `top a<top` |
 //! | `checks a` | `b c` |
 //! | `free` | `30` |

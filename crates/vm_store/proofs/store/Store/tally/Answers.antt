@@ -1,0 +1,34 @@
+use Rattle.std.proofs.Common.{inr, sym, subst, arith}
+use Rattle.vm_store.specs.Pairs.{IsPair, LacksPair}
+use Rattle.vm_store.proofs.PairLemmas.{own_there, parent_there}
+use Rattle.vm_store.proofs.RestingLemmas.{read_rests}
+use Rattle.vm_store.proofs.SharedLemmas.{base_rooted, current_rooted, pair_counts}
+use Rattle.vm_store.proofs.TallyLemmas.{tallied, tally_lacking}
+use Rattle.vm_store.proofs.store.Store.tally.Goals as goal
+
+pub returns-in-Err-clause-value : goal.returns-in-Err-clause-value
+returns-in-Err-clause-value g c honest well s rests =
+    let lacks = subst (λ vs. LacksPair vs c.args.alt.now c.in-Err.refusal) c.deref.ensures.value c.in-Err.ensures.none in
+    inr (inr (sym (tally_lacking _ _ _ _ _ _ s rests c.args.alt.now c.in-Err.refusal lacks)))
+
+pub returns-clause-value : goal.returns-clause-value
+returns-clause-value g c honest well s rests =
+    let alt = c.args.alt.now in
+    let is = subst (λ vs. IsPair vs alt c.in-Ok.pair) c.deref.ensures.value c.in-Ok.ensures.found in
+    let own = own_there _ _ _ _ _ _ s rests alt c.in-Ok.pair is in
+    let parent = parent_there _ _ _ _ _ _ s rests alt c.in-Ok.pair is in
+    tallied _ _ _ _ _ _ s rests alt c.in-Ok.pair is _
+    (c.tally_of.ensures.tally honest _ _ _ _ _ _ own.stands.base.rooted parent.stands.current.rooted own.stands.current.rooted)
+
+pub returns-clause-state : goal.returns-clause-state
+returns-clause-state g c honest s rests = read_rests _ _ _ _ _ _ _ s (c.tally_of.ensures.reads honest) rests
+
+pub returns-clause-bound : goal.returns-clause-bound
+returns-clause-bound g c honest s rests =
+    let alt = c.args.alt.now in
+    let is = subst (λ vs. IsPair vs alt c.in-Ok.pair) c.deref.ensures.value c.in-Ok.ensures.found in
+    let base = base_rooted _ _ _ _ _ _ s rests alt c.in-Ok.pair.0 is.own in
+    let current = current_rooted _ _ _ _ _ _ s rests alt c.in-Ok.pair.0 is.own in
+    let parent = current_rooted _ _ _ _ _ _ s rests c.in-Ok.pair.1.name c.in-Ok.pair.1 is.parent in
+    let bound = c.tally_of.ensures.bound honest base.0 parent.0 current.0 _ _ _ base.1 parent.1 current.1 in
+    omega (arith, bound, pair_counts _ _ _ _ _ _ s rests alt c.in-Ok.pair is)
