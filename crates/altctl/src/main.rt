@@ -6,21 +6,20 @@ use std::marker::Brand;
 use std::process::ExitCode;
 use std::rt::Env;
 use std::{env, io};
-use vm_cli::{RealFiles, refuse_words, run_words, stop};
+use vm_cli::{Cleared, Progress, RealFiles, refuse_words, run_words, stop};
 
 fn main(rt: HostRuntime) -> ExitCode {
-    let mut faults = rt.stderr();
+    let progress = Progress::new(&rt);
+    let mut faults = Cleared::new(rt.stderr(), &progress);
     // Before anything is opened.
-    let Ok(mut files) = RealFiles::<_, Brand>::new(&rt) else {
-        return ExitCode::from(stop(&mut faults));
-    };
+    let mut files = RealFiles::<_, Brand>::new(&rt, &progress);
     let status = match words(&rt) {
         Ok(words) => run_words(
             rt.alloc(),
             words.as_slice(),
             &mut files,
-            &mut rt.stdin(),
-            &mut rt.stdout(),
+            &mut Cleared::new(rt.stdin(), &progress),
+            &mut Cleared::new(rt.stdout(), &progress),
             &mut faults,
         ),
         Err(error) if error.kind() == ErrorKind::OutOfMemory => stop(&mut faults),

@@ -1,4 +1,5 @@
 //! The program over disks in memory, and over an input and an output that fail.
+mod batches;
 mod caching;
 mod checks;
 mod faults;

@@ -5,7 +5,7 @@ use crate::sight::{expect, look};
 use crate::wanting::{Wanting, Wrong};
 use std::alloc::Global;
 use std::str;
-use vm_cli::serve;
+use vm_cli::{OnRefusal, serve};
 use vm_disk::MemDisk;
 use vm_store::Store;
 
@@ -21,8 +21,8 @@ fn serve_lines(
     mut lines: &[u8],
 ) -> Result<Vec<u8>, Wrong> {
     let mut output = Vec::with_capacity(alloc, ROOM)?;
-    match serve(alloc, &mut lines, &mut output, store) {
-        Ok(()) => Ok(output),
+    match serve(alloc, &mut lines, &mut output, store, OnRefusal::Ignore) {
+        Ok(_) => Ok(output),
         Err(_) => Err(Wrong::Found("lines are not answered to their end")),
     }
 }

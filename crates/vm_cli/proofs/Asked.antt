@@ -13,7 +13,7 @@ use Rattle.clap.specs.Values.{IsSignedIn, refused_kind}
 use Rattle.clap.specs.ValueTests.{accepts, is_unsigned_in}
 use Rattle.std.specs.List.{list_any}
 use Rattle.clap.specs.Facts.{unwrap_or_range}
-use Rattle.clap.specs.declared.builder.action.ArgAction.TheVariants.{Set, Help}
+use Rattle.clap.specs.declared.builder.action.ArgAction.TheVariants.{Append, Set, SetTrue, Help}
 use Rattle.clap.specs.declared.builder.value_parser.Reading.TheVariants.{WithoutMinus}
 use Rattle.clap.specs.Walk.{Row, Rule, Text, action_of, answers_to, arg_by_id, first_of, has_row, nothing_held, one_of, rows_after, settled, walk, with_default}
 use Rattle.clap.specs.Simple.{Shape, argument_words, built, built_leaf, filled, help_rule, label_of, with_index, subcommand_of}
@@ -22,10 +22,12 @@ use Rattle.clap.specs.Faults.{fault_of, level_fault, values_fault}
 use Rattle.clap.specs.declared.builder.value_parser.ValueParser.TheVariants as vp
 use Rattle.clap.specs.declared.builder.value_parser.ValueParser.{ValueParser}
 use Rattle.clap.proofs.ValueTestLemmas.{Accepts-accepts, accepts-Accepts}
-use Rattle.vm_cli.specs.Words.{Wanted, altctl, asked_of, blocks_rule, cache_rule, check_app, create_app, file_rule, number_in, run_app}
-use Rattle.vm_cli.specs.Words.Wanted.{check, create, run}
+use Rattle.vm_cli.specs.Words.{Wanted, altctl, asked_of, blocks_rule, cache_rule, check_app, create_app, do_app, file_rule, line_rule, number_in, refusal_by, run_app, strict_rule}
+use Rattle.vm_cli.specs.Given.{input_of}
+use Rattle.vm_cli.specs.Words.Wanted.{check, create, do_lines, run}
+use Rattle.vm_cli.specs.declared.talk.OnRefusal.TheVariants.{Ignore, Tell}
 use Rattle.vm_cli.proofs.FaultFree.{Every, every-found, neither, nothing_wanting}
-use Rattle.vm_cli.proofs.Levels.{IsFilled, IsKnown, each_given, given_row, has-default, held_row, level_rows, no-default}
+use Rattle.vm_cli.proofs.Levels.{IsFilled, IsKnown, each_given, given_row, has-default, has-stays, held_row, level_rows, no-default}
 use Rattle.vm_cli.proofs.Entered.{entered_one}
 
 -- ---- a number in a range
@@ -101,6 +103,9 @@ create_level = built_leaf create_app.top
 abbrev run_level : Shape
 run_level = built_leaf run_app.top
 
+abbrev do_level : Shape
+do_level = built_leaf do_app.top
+
 abbrev check_level : Shape
 check_level = built_leaf check_app.top
 
@@ -108,15 +113,26 @@ check_level = built_leaf check_app.top
 abbrev valued : {c : List Rule} {a : Rule} → action_of a ≡ Set → 0 < (unwrap_or_range a.range).start_inclusive → values_fault a a.defaults ≡ [] → arg_by_id c a.id ≡ Some a → IsKnown c a
 valued sets least defaults found = inl (record { sets = sets; least = least; defaults = defaults; found = found })
 
+-- of a flag
+abbrev flag : {c : List Rule} {a : Rule} (missing : Text) → action_of a ≡ SetTrue → a.missing ≡ missing ∷ [] → values_fault a a.defaults ≡ [] → arg_by_id c a.id ≡ Some a → IsKnown c a
+flag missing sets stands defaults found = inr (inl (record { sets = sets; missing = missing; stands = stands; defaults = defaults; found = found }))
+
+-- of an argument that takes more with each use
+abbrev listed : {c : List Rule} {a : Rule} → action_of a ≡ Append → 0 < (unwrap_or_range a.range).start_inclusive → a.defaults ≡ [] → arg_by_id c a.id ≡ Some a → IsKnown c a
+listed appends least bare found = inr (inr (inl (record { appends = appends; least = least; bare = bare; found = found })))
+
 -- and of the flag that asks for help
 abbrev help : {c : List Rule} {a : Rule} → action_of a ≡ Help → a.defaults ≡ [] → IsKnown c a
-help asks bare = inr (record { asks = asks; bare = bare })
+help asks bare = inr (inr (inr (record { asks = asks; bare = bare })))
 
 create_known : Every (IsKnown create_level.rules) create_level.rules
 create_known = (valued refl (lit< tt) refl refl, (valued refl (lit< tt) refl refl, (help refl refl, tt)))
 
 run_known : Every (IsKnown run_level.rules) run_level.rules
-run_known = (valued refl (lit< tt) refl refl, (valued refl (lit< tt) refl refl, (help refl refl, tt)))
+run_known = (valued refl (lit< tt) refl refl, (valued refl (lit< tt) refl refl, (flag (codes "true") refl refl refl refl, (help refl refl, tt))))
+
+do_known : Every (IsKnown do_level.rules) do_level.rules
+do_known = (valued refl (lit< tt) refl refl, (listed refl (lit< tt) refl refl, (valued refl (lit< tt) refl refl, (flag (codes "true") refl refl refl refl, (help refl refl, tt)))))
 
 check_known : Every (IsKnown check_level.rules) check_level.rules
 check_known = (valued refl (lit< tt) refl refl, (help refl refl, tt))
@@ -166,7 +182,18 @@ run_rows rows filled file_given cache_held =
     let file = given_row run_level run_known refl rows (codes "file") filled file_given in
     let cache = held_row run_level run_known refl rows (codes "cache") filled cache_held in
     let number = number_read run_level.rules cache_option 0 65536 rows cache.0 (lit< tt) refl refl refl cache.2 cache.1 cache.3 in
-    (run file.2.first number.0, rw (first_text run_level.rules rows (codes "file") file.0 file.2 file.1, number.1) refl)
+    (run file.2.first number.0 (refusal_by Ignore rows), rw (first_text run_level.rules rows (codes "file") file.0 file.2 file.1, number.1) refl)
+
+do_rows : (rows : List Row) → Every (IsFilled do_level.rules) rows → is_given (codes "file") rows ≡ true → is_given (codes "line") rows ≡ true → has_row (codes "cache") rows ≡ true
+    → (w : Wanted) × (asked_of (Some (codes "do", rows)) ≡ Some w)
+do_rows rows filled file_given line_given cache_held =
+    let file = given_row do_level do_known refl rows (codes "file") filled file_given in
+    let line = given_row do_level do_known refl rows (codes "line") filled line_given in
+    let cache = held_row do_level do_known refl rows (codes "cache") filled cache_held in
+    let number = number_read do_level.rules cache_option 0 65536 rows cache.0 (lit< tt) refl refl refl cache.2 cache.1 cache.3 in (
+      do_lines file.2.first (input_of line.0.values) number.0 (refusal_by Tell rows),
+      rw (first_text do_level.rules rows (codes "file") file.0 file.2 file.1, line.1, number.1) refl,
+    )
 
 check_rows : (rows : List Row) → Every (IsFilled check_level.rules) rows → is_given (codes "file") rows ≡ true
     → (w : Wanted) × (asked_of (Some (codes "check", rows)) ≡ Some w)
@@ -175,12 +202,19 @@ check_rows rows filled file_given =
     (check file.2.first, rw (first_text check_level.rules rows (codes "file") file.0 file.2 file.1) refl)
 
 -- at the end of a level the default value stands where no word said another
+cache_ends : (rows : List Row) → has_row (codes "cache") (with_default (with_default (with_default rows cache_option) (filled strict_rule)) (filled help_rule)) ≡ true
+cache_ends rows =
+    let with_cache = with_default rows cache_option in
+    let with_strict = with_default with_cache (filled strict_rule) in
+    let here : has_row (codes "cache") with_cache ≡ true = has-default cache_option rows (codes "256") [] refl in
+    let there : has_row (codes "cache") with_strict ≡ true = has-stays (codes "cache") (filled strict_rule) with_cache here in
+    subst (λ ends. has_row (codes "cache") ends ≡ true) (sym (no-default (filled help_rule) with_strict refl)) there
+
 cache_found : (rows : List Row) → has_row (codes "cache") (fold with_default rows run_level.rules) ≡ true
-cache_found rows =
-    let without_file = with_default rows (with_index 1 (filled file_rule)) in
-    let with_cache = with_default without_file cache_option in
-    let here : has_row (codes "cache") with_cache ≡ true = has-default cache_option without_file (codes "256") [] refl in
-    subst (λ ends. has_row (codes "cache") ends ≡ true) (sym (no-default (filled help_rule) with_cache refl)) here
+cache_found rows = cache_ends (with_default rows (with_index 1 (filled file_rule)))
+
+cache_beside : (rows : List Row) → has_row (codes "cache") (fold with_default rows do_level.rules) ≡ true
+cache_beside rows = cache_ends (with_default (with_default rows (with_index 1 (filled file_rule))) (with_index 2 (filled line_rule)))
 
 create_asks : Asks create_level
 create_asks words e =
@@ -195,6 +229,13 @@ run_asks words e =
     let rows = rows_after run_level.rules [] words in
     let given = each_given run_level run_known refl run_level.rules rows (nothing_wanting false false (list_any (λ a. a.required && not (is_given a.id rows)) run_level.rules) level.1).1 in
     run_rows rows level.0 (given.0 refl) (cache_found (settled run_level.rules (walk run_level.rules [] nothing_held words).held).rows)
+
+do_asks : Asks do_level
+do_asks words e =
+    let level = level_rows do_level do_known refl words e in
+    let rows = rows_after do_level.rules [] words in
+    let given = each_given do_level do_known refl do_level.rules rows (nothing_wanting false false (list_any (λ a. a.required && not (is_given a.id rows)) do_level.rules) level.1).1 in
+    do_rows rows level.0 (given.0 refl) (given.1.0 refl) (cache_beside (settled do_level.rules (walk do_level.rules [] nothing_held words).held).rows)
 
 check_asks : Asks check_level
 check_asks words e =
@@ -215,7 +256,7 @@ helps name e = go (bytes_eq (codes "help") name) refl
     go false t = let bad : ⊥ = (let f = rw t at e in cc) in absurd bad
 
 each_asks : Every AsksOrHelps (built altctl).subs
-each_asks = (inl create_asks, (inl run_asks, (inl check_asks, (inr helps, tt))))
+each_asks = (inl create_asks, (inl run_asks, (inl do_asks, (inl check_asks, (inr helps, tt)))))
 
 -- where the parse of the words has no fault, they ask for a job
 pub asks : (words : List Text) → fault_of altctl words ≡ [] → (w : Wanted) × (asked_of (subcommand_of altctl words) ≡ Some w)

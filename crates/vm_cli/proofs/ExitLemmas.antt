@@ -1,15 +1,16 @@
 -- How the program ends, from what its parts did.
-use Rattle.std.proofs.Common.{◌≡◌, ◌⊎◌, ◌++◌, ℕ, List, [], ◌∷◌, Option, refl, inl, inr}
+use Rattle.std.proofs.Common.{◌≡◌, ◌≤◌, ◌⊎◌, ◌++◌, arith, ℕ, List, [], ◌∷◌, Option, refl, inl, inr}
 use Rattle.std.specs.Io.KnownBytes.{Appends}
 use Rattle.clap.specs.Words.{IsAmong, Text, fault_of}
 use Rattle.clap.specs.declared.error.kind.ErrorKind.{ErrorKind}
 use Rattle.clap.specs.declared.error.kind.ErrorKind.TheVariants.{DisplayHelp, DisplayVersion}
 use Rattle.vm_cli.specs.Carried.{Begins}
-use Rattle.vm_cli.specs.Exits.{Ends, IsHelp, IsJob, SaysRefused, Tells, check_text, created_text, file_text}
-use Rattle.vm_cli.specs.Words.{altctl}
-use Rattle.vm_cli.specs.Words.Wanted.{check, create, run}
+use Rattle.vm_cli.specs.Exits.{AskTalk, Ends, IsHelp, IsJob, MayEnd, SaysRefused, Tells, check_text, created_text, file_text, status_of}
+use Rattle.vm_cli.specs.Words.{Wanted, altctl}
+use Rattle.vm_cli.specs.Words.Wanted.{check, create}
 use Rattle.vm_cli.specs.declared.program.Exit.{Exit}
-use Rattle.vm_cli.specs.declared.program.Exit.TheVariants.{Done, Refused, WrongWords, Stopped}
+use Rattle.vm_cli.specs.declared.program.Exit.TheVariants.{Done, LineRefused, Refused, WrongWords, Stopped}
+use Rattle.vm_cli.specs.declared.talk.OnRefusal.{OnRefusal}
 use Rattle.vm_cli.proofs.CarriedLemmas.{begins-more, begins-then}
 
 -- ---- a line with the name of a file
@@ -21,6 +22,50 @@ file_first a b what file h = begins-more a b what (file ++ 10 ∷ []) h
 -- they were written whole, and of the rest a beginning
 pub file_then : (a b c : Option (List ℕ)) (what rest : List ℕ) → Appends a b what → Begins b c rest → Begins a c (what ++ rest)
 file_then a b c what rest p h = begins-then a b c rest (what ++ rest) (record { sent = what; split = refl; written = p }) h
+
+-- ---- the end of a status
+
+pub is_done : (exit : Exit) → status_of exit ≡ 0 → exit ≡ Done
+is_done Done is = refl
+is_done Refused is = let no : 1 ≡ 0 = is in absurd (omega arith)
+is_done WrongWords is = let no : 2 ≡ 0 = is in absurd (omega arith)
+is_done Stopped is = let no : 3 ≡ 0 = is in absurd (omega arith)
+is_done LineRefused is = let no : 4 ≡ 0 = is in absurd (omega arith)
+
+pub is_refused : (exit : Exit) → status_of exit ≡ 1 → exit ≡ Refused
+is_refused Done is = let no : 0 ≡ 1 = is in absurd (omega arith)
+is_refused Refused is = refl
+is_refused WrongWords is = let no : 2 ≡ 1 = is in absurd (omega arith)
+is_refused Stopped is = let no : 3 ≡ 1 = is in absurd (omega arith)
+is_refused LineRefused is = let no : 4 ≡ 1 = is in absurd (omega arith)
+
+pub is_wrong : (exit : Exit) → status_of exit ≡ 2 → exit ≡ WrongWords
+is_wrong Done is = let no : 0 ≡ 2 = is in absurd (omega arith)
+is_wrong Refused is = let no : 1 ≡ 2 = is in absurd (omega arith)
+is_wrong WrongWords is = refl
+is_wrong Stopped is = let no : 3 ≡ 2 = is in absurd (omega arith)
+is_wrong LineRefused is = let no : 4 ≡ 2 = is in absurd (omega arith)
+
+pub is_stopped : (exit : Exit) → status_of exit ≡ 3 → exit ≡ Stopped
+is_stopped Done is = let no : 0 ≡ 3 = is in absurd (omega arith)
+is_stopped Refused is = let no : 1 ≡ 3 = is in absurd (omega arith)
+is_stopped WrongWords is = let no : 2 ≡ 3 = is in absurd (omega arith)
+is_stopped Stopped is = refl
+is_stopped LineRefused is = let no : 4 ≡ 3 = is in absurd (omega arith)
+
+pub is_line_refused : (exit : Exit) → status_of exit ≡ 4 → exit ≡ LineRefused
+is_line_refused Done is = let no : 0 ≡ 4 = is in absurd (omega arith)
+is_line_refused Refused is = let no : 1 ≡ 4 = is in absurd (omega arith)
+is_line_refused WrongWords is = let no : 2 ≡ 4 = is in absurd (omega arith)
+is_line_refused Stopped is = let no : 3 ≡ 4 = is in absurd (omega arith)
+is_line_refused LineRefused is = refl
+
+pub small_status : (exit : Exit) → status_of exit ≤ 4
+small_status Done = omega arith
+small_status Refused = omega arith
+small_status WrongWords = omega arith
+small_status Stopped = omega arith
+small_status LineRefused = omega arith
 
 -- ---- the end
 
@@ -42,14 +87,15 @@ module _ {W F : Type 0} (in_output : W → Option (List ℕ)) (in_faults : F →
   made file blocks exit job (inr (same, (text, says, inr (is, begun)))) = rw is (inr (same, (text, inl (create file blocks, job, says), begun)))
 
   -- lines were to be answered
-  pub talked : (file : Text) (cache : ℕ) (exit : Exit) → IsJob words (run file cache)
-      → ((faults' ≡ faults) × ((exit ≡ Done) ⊎ (exit ≡ Stopped)))
-      ⊎ ((output' ≡ output) × ((text : List ℕ) × SaysRefused (run file cache) text × Tells Refused exit (in_faults faults) (in_faults faults') text))
+  pub talked : (job : Wanted) (on : OnRefusal) (exit : Exit) → IsJob words job → AskTalk words on
+      → ((faults' ≡ faults) × MayEnd on exit)
+      ⊎ ((output' ≡ output) × ((text : List ℕ) × SaysRefused job text × Tells Refused exit (in_faults faults) (in_faults faults') text))
       → Ends in_output in_faults exit words output output' faults faults'
-  talked file cache exit job (inl (same, inl is)) = rw is (same, inr (file, cache, job))
-  talked file cache exit job (inl (same, inr is)) = rw is (inl (same, inr (inr (file, cache, job))))
-  talked file cache exit job (inr (same, (text, says, inl (is, written)))) = rw is (same, (text, (run file cache, job, says), written))
-  talked file cache exit job (inr (same, (text, says, inr (is, begun)))) = rw is (inr (same, (text, inl (run file cache, job, says), begun)))
+  talked job on exit asked asks (inl (same, inl is)) = rw is (same, inr (on, asks))
+  talked job on exit asked asks (inl (same, inr (inl is))) = rw is (inl (same, inr (inr (on, asks))))
+  talked job on exit asked asks (inl (same, inr (inr (is, told)))) = rw is (same, (on, told, asks))
+  talked job on exit asked asks (inr (same, (text, says, inl (is, written)))) = rw is (same, (text, (job, asked, says), written))
+  talked job on exit asked asks (inr (same, (text, says, inr (is, begun)))) = rw is (inr (same, (text, inl (job, asked, says), begun)))
 
   -- a store was to be checked
   pub checked : (file : Text) (exit : Exit) → IsJob words (check file)

@@ -1,5 +1,5 @@
 -- Lines that are answered one after another, and bytes that are fed to a talk.
-use Rattle.std.proofs.Common.{◌≡◌, ◌≢◌, ◌==◌, ◌≤◌, ◌++◌, ◌∙◌, ℕ, zero, suc, add-one, Bool, true, false, List, [], ◌∷◌, Option, Some, None, Result, Ok, Err, OnOk, refl, ap, sym, subst, arith, append-nil, append_assoc, ◌<◌, ◌+◌, length, take, drop, slice_index, take-append-drop}
+use Rattle.std.proofs.Common.{◌≡◌, ◌≢◌, ◌==◌, ◌||◌, ◌≤◌, ◌++◌, ◌∙◌, ℕ, zero, suc, add-one, Bool, true, false, List, [], ◌∷◌, Option, Some, None, Result, Ok, Err, OnOk, refl, ap, sym, subst, arith, append-nil, append_assoc, ◌<◌, ◌+◌, length, take, drop, slice_index, take-append-drop}
 use Rattle.std.proofs.lemmas.List.{take_all, take_more}
 use Rattle.std.proofs.lemmas.Bool.Decides.{nat_tests}
 use Rattle.std.specs.Io.KnownBytes.{Appends}
@@ -15,13 +15,16 @@ use Rattle.vm_cli.specs.Carried.{Begins}
 use Rattle.vm_cli.specs.Feeding.{Fed, Writes}
 use Rattle.vm_cli.specs.Lines.{IsPart, lines_of, onto_first}
 use Rattle.vm_cli.specs.Talk.{Done, EndsTalk, HandlesLine, HasTalked, ServesLines, Stood, Stops, Talks, after_line, with_answer, with_command}
+use Rattle.vm_cli.specs.Replies.{is_error}
+use Rattle.vm_cli.specs.declared.talk.OnRefusal.{OnRefusal}
+use Rattle.vm_cli.specs.declared.talk.OnRefusal.TheVariants.{Stop}
 use Rattle.vm_cli.specs.declared.talk.ServeFault.{ServeFault}
 use Rattle.vm_cli.specs.declared.talk.ServeFault.TheVariants as fault
 use Rattle.vm_cli.proofs.HandledLemmas.{handled_stops}
 use Rattle.vm_cli.proofs.Known.{Appends-nil, Appends-then}
 use Rattle.vm_cli.proofs.Parts.{IsPart-append}
 
-after-with : (s : State) (done : Done) (later : List Command) (others : List (Result Answer Refusal)) → after s (with_command done later) (with_answer done others) ≡ after (after_line s done) later others
+pub after-with : (s : State) (done : Done) (later : List Command) (others : List (Result Answer Refusal)) → after s (with_command done later) (with_answer done others) ≡ after (after_line s done) later others
 after-with s None later others = refl
 after-with s (Some (command, answer)) later others = refl
 
@@ -33,29 +36,49 @@ answer-append : (done : Done) (others more : List (Result Answer Refusal)) → w
 answer-append None others more = refl
 answer-append (Some (command, answer)) others more = refl
 
+or-assoc : (a b c : Bool) → ((a || b) || c) ≡ (a || (b || c))
+or-assoc true b c = refl
+or-assoc false b c = refl
+
+pub or-false : (a : Bool) → (a || false) ≡ a
+or-false true = refl
+or-false false = refl
+
+-- neither was refused
+neither : (a b : Bool) → a ≡ false → b ≡ false → (a || b) ≡ false
+neither a b e f = rw (e, f) refl
+
+-- what is told of lines after others, of which some were refused or none
+abbrev pub joined : Bool → Result Bool ServeFault → Result Bool ServeFault
+joined refused (Ok again) = Ok (refused || again)
+joined refused (Err fault) = Err fault
+
 module _ {D : Type 0} {members : _} where
   -- the state after further commands
-  after-join : (old new : Store D members) (s : State) (lines : List (List ℕ)) (text : List ℕ) (commands later : List Command) (answers others : List (Result Answer Refusal)) → Talks old new s lines text commands answers
+  after-join : (old new : Store D members) (s : State) (lines : List (List ℕ)) (text : List ℕ) (commands later : List Command) (answers others : List (Result Answer Refusal)) (refused : Bool) → Talks old new s lines text commands answers refused
       → after s (commands ++ later) (answers ++ others) ≡ after (after s commands answers) later others
-  after-join old new s [] text commands later answers others (d, e, f, g) = rw (f, g) refl
-  after-join old new s (line ∷ lines) text commands later answers others (mid, first, rest, later1, others1, step, e, f, g, talks) =
+  after-join old new s [] text commands later answers others refused (d, e, f, g, h) = rw (f, g) refl
+  after-join old new s (line ∷ lines) text commands later answers others refused (mid, first, rest, later1, others1, step, e, f, g, again, h, talks) =
       rw (f, g, command-append step.done later1 later, answer-append step.done others1 others, after-with s step.done (later1 ++ later) (others1 ++ others), after-with s step.done later1 others1)
-      (after-join mid new (after_line s step.done) lines rest later1 later others1 others talks)
+      (after-join mid new (after_line s step.done) lines rest later1 later others1 others again talks)
 
   -- further lines
-  talks-join : (old mid new : Store D members) (s : State) (lines more : List (List ℕ)) (text second : List ℕ) (commands later : List Command) (answers others : List (Result Answer Refusal))
-      → Talks old mid s lines text commands answers → Talks mid new (after s commands answers) more second later others → Talks old new s (lines ++ more) (text ++ second) (commands ++ later) (answers ++ others)
-  talks-join old mid new s [] more text second commands later answers others (d, e, f, g) q =
+  talks-join : (old mid new : Store D members) (s : State) (lines more : List (List ℕ)) (text second : List ℕ) (commands later : List Command) (answers others : List (Result Answer Refusal)) (refused again : Bool)
+      → Talks old mid s lines text commands answers refused → Talks mid new (after s commands answers) more second later others again
+      → Talks old new s (lines ++ more) (text ++ second) (commands ++ later) (answers ++ others) (refused || again)
+  talks-join old mid new s [] more text second commands later answers others refused again (d, e, f, g, h) q =
       let text_is : second ≡ text ++ second = rw e refl in
       let commands_are : later ≡ commands ++ later = rw f refl in
       let answers_are : others ≡ answers ++ others = rw g refl in
       let state : after s commands answers ≡ s = rw f refl in
-      let from_old : Talks old new (after s commands answers) more second later others = subst (λ (t : Store D members). Talks t new (after s commands answers) more second later others) d q in
-      let from_here : Talks old new s more second later others = subst (λ t. Talks old new t more second later others) state from_old in
-      let a : Talks old new s more (text ++ second) later others = subst (λ t. Talks old new s more t later others) text_is from_here in
-      let b : Talks old new s more (text ++ second) (commands ++ later) others = subst (λ t. Talks old new s more (text ++ second) t others) commands_are a in
-      subst (λ t. Talks old new s more (text ++ second) (commands ++ later) t) answers_are b
-  talks-join old mid new s (line ∷ lines) more text second commands later answers others (next, first, rest, later1, others1, step, e, f, g, talks) q =
+      let refusals_are : again ≡ (refused || again) = rw h refl in
+      let from_old : Talks old new (after s commands answers) more second later others again = subst (λ (t : Store D members). Talks t new (after s commands answers) more second later others again) d q in
+      let from_here : Talks old new s more second later others again = subst (λ t. Talks old new t more second later others again) state from_old in
+      let a : Talks old new s more (text ++ second) later others again = subst (λ t. Talks old new s more t later others again) text_is from_here in
+      let b : Talks old new s more (text ++ second) (commands ++ later) others again = subst (λ t. Talks old new s more (text ++ second) t others again) commands_are a in
+      let c : Talks old new s more (text ++ second) (commands ++ later) (answers ++ others) again = subst (λ t. Talks old new s more (text ++ second) (commands ++ later) t again) answers_are b in
+      subst (λ t. Talks old new s more (text ++ second) (commands ++ later) (answers ++ others) t) refusals_are c
+  talks-join old mid new s (line ∷ lines) more text second commands later answers others refused again (next, first, rest, later1, others1, step, e, f, g, rest_refused, h, talks) q =
       let state : after s commands answers ≡ after (after_line s step.done) later1 others1 = rw (f, g) (after-with s step.done later1 others1) in (
         next,
         first,
@@ -66,64 +89,73 @@ module _ {D : Type 0} {members : _} where
         rw e (append_assoc first rest second),
         rw f (command-append step.done later1 later),
         rw g (answer-append step.done others1 others),
-        talks-join next mid new (after_line s step.done) lines more rest second later1 later others1 others talks (subst (λ t. Talks mid new t more second later others) state q),
+        rest_refused || again,
+        rw h (or-assoc (is_error first) rest_refused again),
+        talks-join next mid new (after_line s step.done) lines more rest second later1 later others1 others rest_refused again talks (subst (λ t. Talks mid new t more second later others again) state q),
       )
 
   -- a disk that is honest after a talk was so before it
-  talks-back : (old new : Store D members) (s : State) (lines : List (List ℕ)) (text : List ℕ) (commands : List Command) (answers : List (Result Answer Refusal)) → Talks old new s lines text commands answers
+  talks-back : (old new : Store D members) (s : State) (lines : List (List ℕ)) (text : List ℕ) (commands : List Command) (answers : List (Result Answer Refusal)) (refused : Bool) → Talks old new s lines text commands answers refused
       → (members.state new.disk).honest ≡ true → (members.state old.disk).honest ≡ true
-  talks-back old new s [] text commands answers (d, e, f, g) honest = subst (λ (t : Store D members). (members.state t.disk).honest ≡ true) d honest
-  talks-back old new s (line ∷ lines) text commands answers (mid, first, rest, later, others, step, e, f, g, talks) honest =
-      step.passes.goes.earlier (talks-back mid new (after_line s step.done) lines rest later others talks honest)
+  talks-back old new s [] text commands answers refused (d, e, f, g, h) honest = subst (λ (t : Store D members). (members.state t.disk).honest ≡ true) d honest
+  talks-back old new s (line ∷ lines) text commands answers refused (mid, first, rest, later, others, step, e, f, g, again, h, talks) honest =
+      step.passes.goes.earlier (talks-back mid new (after_line s step.done) lines rest later others again talks honest)
 
   -- no line
-  abbrev pub talked-none : (store : Store D members) (s : State) → HasTalked store store s [] []
-  talked-none store s = record {
+  abbrev pub talked-none : (store : Store D members) (s : State) (on : OnRefusal) → HasTalked store store s on [] []
+  talked-none store s on = record {
     commands = [];
     answers = [];
-    talks = (refl, refl, refl, refl);
+    refused = false;
+    talks = (refl, refl, refl, refl, refl);
+    goes_on = λ stop. refl;
     still = refl;
     holds = λ stood fine. stood.holds;
   }
 
   -- one line
-  pub talked-line : (old new : Store D members) (s : State) (part text : List ℕ) → HandlesLine old new s part text false → HasTalked old new s (part ∷ []) text
-  talked-line old new s part text handled = record {
+  abbrev pub talked-line : (old new : Store D members) (s : State) (on : OnRefusal) (part text : List ℕ) → HandlesLine old new s part text false
+      → (on ≡ Stop → is_error text ≡ false) → HasTalked old new s on (part ∷ []) text
+  talked-line old new s on part text handled goes_on = record {
     commands = with_command handled.done [];
     answers = with_answer handled.done [];
-    talks = (new, text, [], [], [], handled, sym (append-nil text), refl, refl, (refl, refl, refl, refl));
+    refused = is_error text;
+    talks = (new, text, [], [], [], handled, sym (append-nil text), refl, refl, false, sym (or-false (is_error text)), (refl, refl, refl, refl, refl));
+    goes_on = goes_on;
     still = handled.still refl;
     holds = λ stood fine. subst (λ t. Holds new t) (sym (after-with s handled.done [] [])) (handled.holds stood fine);
   }
 
   -- further lines
-  module _ (old mid new : Store D members) (s : State) (lines : List (List ℕ)) (text : List ℕ) (first : HasTalked old mid s lines text) where
-    state-then : (more : List (List ℕ)) (second : List ℕ) (then : HasTalked mid new (after s first.commands first.answers) more second) → after s (first.commands ++ then.commands) (first.answers ++ then.answers) ≡ after (after s first.commands first.answers) then.commands then.answers
-    state-then more second then = after-join old mid s lines text first.commands then.commands first.answers then.answers first.talks
+  module _ (old mid new : Store D members) (s : State) (on : OnRefusal) (lines : List (List ℕ)) (text : List ℕ) (first : HasTalked old mid s on lines text) where
+    state-then : (more : List (List ℕ)) (second : List ℕ) (then : HasTalked mid new (after s first.commands first.answers) on more second) → after s (first.commands ++ then.commands) (first.answers ++ then.answers) ≡ after (after s first.commands first.answers) then.commands then.answers
+    state-then more second then = after-join old mid s lines text first.commands then.commands first.answers then.answers first.refused first.talks
 
     -- the store between stood for what the first lines leave, where this one did for what came before
-    stood-then : (more : List (List ℕ)) (second : List ℕ) (then : HasTalked mid new (after s first.commands first.answers) more second) → Stood old new s → has_failed new ≡ false → Stood mid new (after s first.commands first.answers)
+    stood-then : (more : List (List ℕ)) (second : List ℕ) (then : HasTalked mid new (after s first.commands first.answers) on more second) → Stood old new s → has_failed new ≡ false → Stood mid new (after s first.commands first.answers)
     stood-then more second then stood fine =
-        let back = talks-back mid new (after s first.commands first.answers) more second then.commands then.answers then.talks stood.honest in
+        let back = talks-back mid new (after s first.commands first.answers) more second then.commands then.answers then.refused then.talks stood.honest in
         record { honest = stood.honest; holds = first.holds (record { honest = back; holds = stood.holds }) (sym then.still ∙ fine) }
 
-    pub talked-join : (more : List (List ℕ)) (second : List ℕ) → HasTalked mid new (after s first.commands first.answers) more second → HasTalked old new s (lines ++ more) (text ++ second)
+    pub talked-join : (more : List (List ℕ)) (second : List ℕ) → HasTalked mid new (after s first.commands first.answers) on more second → HasTalked old new s on (lines ++ more) (text ++ second)
     talked-join more second then = record {
       commands = first.commands ++ then.commands;
       answers = first.answers ++ then.answers;
-      talks = talks-join old mid new s lines more text second first.commands then.commands first.answers then.answers first.talks then.talks;
+      refused = first.refused || then.refused;
+      talks = talks-join old mid new s lines more text second first.commands then.commands first.answers then.answers first.refused then.refused first.talks then.talks;
+      goes_on = λ stop. neither first.refused then.refused (first.goes_on stop) (then.goes_on stop);
       still = then.still ∙ first.still;
       holds = λ stood fine. subst (λ t. Holds new t) (sym (state-then more second then)) (then.holds (stood-then more second then stood fine) fine);
     }
 
   -- a talk that ends after further lines
-  module _ (old mid new : Store D members) (s : State) (lines : List (List ℕ)) (text : List ℕ) (first : HasTalked old mid s lines text) where
-    ends-after : (ends : Bool) (all : List (List ℕ)) (second : List ℕ) → EndsTalk mid new (after s first.commands first.answers) ends all second → EndsTalk old new s ends (lines ++ all) (text ++ second)
+  module _ (old mid new : Store D members) (s : State) (on : OnRefusal) (lines : List (List ℕ)) (text : List ℕ) (first : HasTalked old mid s on lines text) where
+    ends-after : (ends : Bool) (all : List (List ℕ)) (second : List ℕ) → EndsTalk mid new (after s first.commands first.answers) on ends all second → EndsTalk old new s on ends (lines ++ all) (text ++ second)
     unfolding talked-join
     ends-after ends all second e =
         let then = e.talked in
         let state : after s (first.commands ++ then.commands) (first.answers ++ then.answers) ≡ after (after s first.commands first.answers) then.commands then.answers =
-        after-join old mid s lines text first.commands then.commands first.answers then.answers first.talks in
+        after-join old mid s lines text first.commands then.commands first.answers then.answers first.refused first.talks in
         record {
           mid = e.mid;
           lines = lines ++ e.lines;
@@ -133,7 +165,7 @@ module _ {D : Type 0} {members : _} where
           last = e.last;
           cut = ap (λ ls. lines ++ ls) e.cut ∙ sym (append_assoc lines e.lines (e.line ∷ e.others));
           texts = ap (λ bs. text ++ bs) e.texts ∙ sym (append_assoc text e.earlier e.last);
-          talked = talked-join old mid e.mid s lines text first e.lines e.earlier then;
+          talked = talked-join old mid e.mid s on lines text first e.lines e.earlier then;
           handled = subst (λ t. HandlesLine e.mid new t e.line e.last ends) (sym state) e.handled;
           stops = λ last. subst (λ t. Stops e.mid new t) (sym state) (e.stops last);
         }
@@ -149,20 +181,23 @@ module _ {D : Type 0} {members : _} where
     }
 
     -- how a talk goes on after lines
-    pub serves-after : {T : Type 0} (result : Result T ServeFault) (a b c : Option (List ℕ)) (all : List (List ℕ)) → Appends a b text
-        → ServesLines mid new (after s first.commands first.answers) result b c all → ServesLines old new s result a c (lines ++ all)
-    serves-after (Ok t) a b c all written (second, talked, more) =
-        (text ++ second, talked-join old mid new s lines text first all second talked, Appends-then a b c text second written more)
+    pub serves-after : (result : Result Bool ServeFault) (a b c : Option (List ℕ)) (all : List (List ℕ)) → Appends a b text
+        → ServesLines mid new (after s first.commands first.answers) on result b c all → ServesLines old new s on (joined first.refused result) a c (lines ++ all)
+    unfolding talked-join ends-after
+    serves-after (Ok again) a b c all written (second, talked, same, more) =
+        (text ++ second, talked-join old mid new s on lines text first all second talked, ap (λ (r : Bool). first.refused || r) same, Appends-then a b c text second written more)
     serves-after (Err fault.Read) a b c all written (second, then, others, cut, talked, more) =
-        (text ++ second, lines ++ then, others, ap (λ ls. lines ++ ls) cut ∙ sym (append_assoc lines then others), talked-join old mid new s lines text first then second talked, Appends-then a b c text second written more)
+        (text ++ second, lines ++ then, others, ap (λ ls. lines ++ ls) cut ∙ sym (append_assoc lines then others), talked-join old mid new s on lines text first then second talked, Appends-then a b c text second written more)
     serves-after (Err fault.Store) a b c all written (second, ended, more) =
         (text ++ second, ends-after true all second ended, Appends-then a b c text second written more)
+    serves-after (Err fault.Refused) a b c all written (second, ended, error, stop, more) =
+        (text ++ second, ends-after false all second ended, error, stop, Appends-then a b c text second written more)
     serves-after (Err fault.Write) a b c all written (second, ends, ended, more) =
         (text ++ second, ends, ends-after ends all second ended, begins-after a b c second written more)
 
   -- a talk of one line
-  module _ (old new : Store D members) (s : State) (line : List ℕ) where
-    ends-line : (ends : Bool) (text : List ℕ) (others : List (List ℕ)) → HandlesLine old new s line text ends → EndsTalk old new s ends (line ∷ others) text
+  module _ (old new : Store D members) (s : State) (on : OnRefusal) (line : List ℕ) where
+    abbrev ends-line : (ends : Bool) (text : List ℕ) (others : List (List ℕ)) → HandlesLine old new s line text ends → EndsTalk old new s on ends (line ∷ others) text
     ends-line ends text others handled = record {
       mid = old;
       lines = [];
@@ -172,17 +207,19 @@ module _ {D : Type 0} {members : _} where
       last = text;
       cut = refl;
       texts = refl;
-      talked = talked-none old s;
+      talked = talked-none old s on;
       handled = handled;
       stops = handled_stops old new s line text ends handled;
     }
 
-    pub serves-line : {T : Type 0} (result : Result T ServeFault) (a b : Option (List ℕ)) (others : List (List ℕ)) → OnOk result (others ≡ [])
-        → Writes (HandlesLine old new s line) result a b → ServesLines old new s result a b (line ∷ others)
-    serves-line (Ok t) a b others none (text, handled, written) =
-        (text, subst (λ ls. HasTalked old new s (line ∷ ls) text) (sym none) (talked-line old new s line text handled), written)
+    pub serves-line : (result : Result Bool ServeFault) (a b : Option (List ℕ)) (others : List (List ℕ)) → OnOk result (others ≡ [])
+        → Writes on (HandlesLine old new s line) result a b → ServesLines old new s on result a b (line ∷ others)
+    serves-line (Ok refused) a b others none (text, handled, same, goes_on, written) =
+        subst (λ ls. ServesLines old new s on (Ok refused) a b (line ∷ ls)) (sym none)
+        (text, talked-line old new s on line text handled (λ stop. sym same ∙ goes_on stop), same, written)
     serves-line (Err fault.Read) a b others none writes = absurd writes
     serves-line (Err fault.Store) a b others none (text, handled, written) = (text, ends-line true text others handled, written)
+    serves-line (Err fault.Refused) a b others none (text, handled, error, stop, written) = (text, ends-line false text others handled, error, stop, written)
     serves-line (Err fault.Write) a b others none (text, ends, handled, written) = (text, ends, ends-line ends text others handled, written)
 
 -- no line feed stands before a place
@@ -223,63 +260,69 @@ lines-end (b ∷ from) more part =
     rw other (ap (onto_first b) (lines-end from more part.1))
 
 module _ {D : Type 0} {members : _} where
-  module _ (store : Store D members) (s : State) (from : List ℕ) where
+  module _ (store : Store D members) (s : State) (on : OnRefusal) (from : List ℕ) where
     -- no byte
-    pub fed-nothing : (a : Option (List ℕ)) → Fed store store s [] from from a a
+    pub fed-nothing : (a : Option (List ℕ)) → Fed store store s on false [] from from a a
     fed-nothing a = record {
       lines = [];
       text = [];
       cut = λ more. refl;
-      talked = talked-none store s;
+      talked = talked-none store s on;
+      told = refl;
       written = Appends-nil a;
     }
 
     -- bytes of the line
-    pub fed-part : (bytes : List ℕ) (a : Option (List ℕ)) → Fed store store s bytes from (from ++ bytes) a a
+    pub fed-part : (bytes : List ℕ) (a : Option (List ℕ)) → Fed store store s on false bytes from (from ++ bytes) a a
     fed-part bytes a = record {
       lines = [];
       text = [];
       cut = λ more. ap lines_of (sym (append_assoc from bytes more));
-      talked = talked-none store s;
+      talked = talked-none store s on;
+      told = refl;
       written = Appends-nil a;
     }
 
   -- the last bytes of the line, and its line feed
-  module _ (old new : Store D members) (s : State) (from bytes : List ℕ) (part : IsPart (from ++ bytes)) (a b : Option (List ℕ)) where
+  module _ (old new : Store D members) (s : State) (on : OnRefusal) (from bytes : List ℕ) (part : IsPart (from ++ bytes)) (a b : Option (List ℕ)) where
     cut-line : (more : List ℕ) → lines_of (from ++ ((bytes ++ 10 ∷ []) ++ more)) ≡ (from ++ bytes) ∷ lines_of more
     cut-line more =
         ap (λ bs. lines_of (from ++ bs)) (append_assoc bytes (10 ∷ []) more) ∙ ap lines_of (sym (append_assoc from bytes (10 ∷ more))) ∙ lines-end (from ++ bytes) more part
 
-    pub fed-line : {T : Type 0} (t : T) → Writes {T = T} (HandlesLine old new s (from ++ bytes)) (Ok t) a b → Fed old new s (bytes ++ 10 ∷ []) from [] a b
-    fed-line t (text, handled, written) = record {
+    pub fed-line : (refused : Bool) → Writes on (HandlesLine old new s (from ++ bytes)) (Ok refused) a b → Fed old new s on refused (bytes ++ 10 ∷ []) from [] a b
+    fed-line refused (text, handled, same, goes_on, written) = record {
       lines = (from ++ bytes) ∷ [];
       text = text;
       cut = cut-line;
-      talked = talked-line old new s (from ++ bytes) text handled;
+      talked = talked-line old new s on (from ++ bytes) text handled (λ stop. sym same ∙ goes_on stop);
+      told = same;
       written = written;
     }
 
-    pub ended-line : (T : Type 0) (why : ServeFault) (more : List ℕ) → Writes {T = T} (HandlesLine old new s (from ++ bytes)) (Err why) a b
-        → ServesLines {T = T} old new s (Err why) a b (lines_of (from ++ ((bytes ++ 10 ∷ []) ++ more)))
-    ended-line T why more writes =
-        subst (λ ls. ServesLines {T = T} old new s (Err why) a b ls) (sym (cut-line more)) (serves-line old new s (from ++ bytes) {T = T} (Err why) a b (lines_of more) tt writes)
+    pub ended-line : (why : ServeFault) (more : List ℕ) → Writes on (HandlesLine old new s (from ++ bytes)) (Err why) a b
+        → ServesLines old new s on (Err why) a b (lines_of (from ++ ((bytes ++ 10 ∷ []) ++ more)))
+    ended-line why more writes =
+        subst (λ ls. ServesLines old new s on (Err why) a b ls) (sym (cut-line more)) (serves-line old new s on (from ++ bytes) (Err why) a b (lines_of more) tt writes)
 
   -- further bytes
-  module _ (old mid new : Store D members) (s : State) (bytes then from middle : List ℕ) (a b c : Option (List ℕ)) (first : Fed old mid s bytes from middle a b) where
+  module _ (old mid new : Store D members) (s : State) (on : OnRefusal) (refused : Bool) (bytes then from middle : List ℕ) (a b c : Option (List ℕ)) (first : Fed old mid s on refused bytes from middle a b) where
     cut-join : (more : List ℕ) → lines_of (from ++ ((bytes ++ then) ++ more)) ≡ first.lines ++ lines_of (middle ++ (then ++ more))
     cut-join more = ap (λ bs. lines_of (from ++ bs)) (append_assoc bytes then more) ∙ first.cut (then ++ more)
 
-    pub fed-join : (to : List ℕ) → Fed mid new (after s first.talked.commands first.talked.answers) then middle to b c → Fed old new s (bytes ++ then) from to a c
-    fed-join to second = record {
+    pub fed-join : (again : Bool) (to : List ℕ) → Fed mid new (after s first.talked.commands first.talked.answers) on again then middle to b c
+        → Fed old new s on (refused || again) (bytes ++ then) from to a c
+    unfolding talked-join
+    fed-join again to second = record {
       lines = first.lines ++ second.lines;
       text = first.text ++ second.text;
       cut = λ more. cut-join more ∙ ap (λ ls. first.lines ++ ls) (second.cut more) ∙ sym (append_assoc first.lines second.lines (lines_of (to ++ more)));
-      talked = talked-join old mid new s first.lines first.text first.talked second.lines second.text second.talked;
+      talked = talked-join old mid new s on first.lines first.text first.talked second.lines second.text second.talked;
+      told = rw (first.told, second.told) refl;
       written = Appends-then a b c first.text second.text first.written second.written;
     }
 
     -- the talk ended there
-    pub ended-join : {T : Type 0} (result : Result T ServeFault) (more : List ℕ) → ServesLines mid new (after s first.talked.commands first.talked.answers) result b c (lines_of (middle ++ (then ++ more)))
-        → ServesLines old new s result a c (lines_of (from ++ ((bytes ++ then) ++ more)))
-    ended-join result more ended =
-        subst (λ ls. ServesLines old new s result a c ls) (sym (cut-join more)) (serves-after old mid new s first.lines first.text first.talked result a b c (lines_of (middle ++ (then ++ more))) first.written ended)
+    pub ended-join : (why : ServeFault) (more : List ℕ) → ServesLines mid new (after s first.talked.commands first.talked.answers) on (Err why) b c (lines_of (middle ++ (then ++ more)))
+        → ServesLines old new s on (Err why) a c (lines_of (from ++ ((bytes ++ then) ++ more)))
+    ended-join why more ended =
+        subst (λ ls. ServesLines old new s on (Err why) a c ls) (sym (cut-join more)) (serves-after old mid new s on first.lines first.text first.talked (Err why) a b c (lines_of (middle ++ (then ++ more))) first.written ended)

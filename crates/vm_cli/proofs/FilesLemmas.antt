@@ -1,5 +1,6 @@
 -- What a run of the program does to the files of its place, from what its parts did.
-use Rattle.std.proofs.Common.{◌≡◌, ◌≢◌, ◌⊎◌, ℕ, Bool, true, false, List, Option, Some, refl, sym, ◌∙◌, subst, inl, inr}
+use Rattle.std.proofs.Common.{◌≡◌, ◌≢◌, ◌⊎◌, ◌≤◌, ℕ, Bool, true, false, List, Option, Some, refl, sym, ◌∙◌, subst, inl, inr, arith}
+use Rattle.std.proofs.lemmas.Bool.{cases_lt}
 use Rattle.std.proofs.lemmas.Slice.Eq.{bytes_eq-Decides}
 use Rattle.std.specs.Str.{bytes_eq}
 use Rattle.clap.specs.Words.{IsAmong, Text, fault_of}
@@ -12,6 +13,7 @@ use Rattle.vm_disk.specs.Moments.{Leaves, Throughout}
 use Rattle.vm_disk.specs.declared.cached.CachedDisk.{CachedDisk}
 use Rattle.vm_disk.specs.declared.disk.Disk.{Ghosts}
 use Rattle.vm_disk.proofs.MomentLemmas.{at_end}
+use Rattle.vm_store.specs.Formatting.{IsBadSize}
 use Rattle.vm_store.specs.Refused.{IsAtMostSynced}
 use Rattle.vm_store.specs.Shown.{Shows}
 use Rattle.vm_cli.specs.Caching.{IsServed, answers_told, commands_told}
@@ -20,9 +22,10 @@ use Rattle.vm_cli.specs.Keeps.{Keeps, answers_of, commands_of}
 use Rattle.vm_cli.specs.Files.{Answers, Counts, Declines, Does, KeepsAll, Makes}
 use Rattle.vm_cli.specs.Places.{KeepsOthers, PlaceState}
 use Rattle.vm_cli.specs.Words.{Wanted, altctl}
-use Rattle.vm_cli.specs.Words.Wanted.{check, create, run}
+use Rattle.vm_cli.specs.Words.Wanted.{check, create, do_lines, run}
 use Rattle.vm_cli.specs.declared.program.Exit.{Exit}
 use Rattle.vm_cli.specs.declared.program.Exit.TheVariants.{Done, Refused, Stopped}
+use Rattle.vm_cli.specs.declared.talk.OnRefusal.{OnRefusal}
 use Rattle.vm_cli.proofs.CachingLemmas.{keeps_below}
 use Rattle.vm_cli.proofs.SessionLemmas.{clean_leaves}
 
@@ -31,6 +34,16 @@ pub synced_alone : (old new : State) → Throughout old new (IsAtMostSynced old.
 synced_alone old new moments = elim (at_end old new (IsAtMostSynced old.now) moments) [
   | inl same ↦ rw same refl
   | inr synced ↦ synced.same
+]
+
+-- where a size is not bad there are blocks enough for a store
+pub enough_blocks : (blocks available count : ℕ) → (IsBadSize blocks available → ⊥) → count ≡ available → 64 ≤ count
+enough_blocks blocks available count fine same = elim (cases_lt blocks 64) [
+  | inl few ↦ absurd (fine (inl few))
+  | inr enough ↦ elim (cases_lt available blocks) [
+    | inl small ↦ absurd (fine (inr (inr small)))
+    | inr within ↦ omega (arith, same, enough, within)
+  ]
 ]
 
 -- a refusal, or a stop on the way to it, is not that all was done
@@ -56,12 +69,12 @@ no_fault kind words job asked among = subst (IsAmong kind) asked.0 among
 
 -- lines that were answered over a disk, or over a cache of its blocks, whose state is that of the disk but for its reads
 module _ {D : Type 0} (members : Ghosts D) (cached : Ghosts (CachedDisk D members)) (same : (cache : CachedDisk D members) → cached.state cache ≡ cached_state members.state cache)
-    (cache : ℕ) (found back : D) (exit : Exit) (input before after : Option (List ℕ)) (served : IsServed members cached cache found back exit input before after) (honest : (members.state back).honest ≡ true) where
+    (cache : ℕ) (on : OnRefusal) (found back : D) (exit : Exit) (input before after : Option (List ℕ)) (served : IsServed members cached cache on found back exit input before after) (honest : (members.state back).honest ≡ true) where
   -- the disk was honest when it was found
   pub was_honest : (members.state found).honest ≡ true
   was_honest = go served
     where
-      go : IsServed members cached cache found back exit input before after → (members.state found).honest ≡ true
+      go : IsServed members cached cache on found back exit input before after → (members.state found).honest ≡ true
       go (inl served) = served.found.earlier (served.goes.earlier honest)
       go (inr over) =
           let last : (members.state (inner_of over.last)).honest ≡ true = subst (λ (d : D). (members.state d).honest ≡ true) over.given_back honest in
@@ -75,7 +88,7 @@ module _ {D : Type 0} (members : Ghosts D) (cached : Ghosts (CachedDisk D member
       → Keeps (members.state found) (members.state back) (opened tree) (commands_told members cached served (opened tree)) (answers_told members cached served (opened tree))
   kept_told clean tree shows = go served
     where
-      go : (served : IsServed members cached cache found back exit input before after)
+      go : (served : IsServed members cached cache on found back exit input before after)
           → Keeps (members.state found) (members.state back) (opened tree) (commands_told members cached served (opened tree)) (answers_told members cached served (opened tree))
       go (inl served) = served.kept honest tree (clean_leaves (λ x. Shows x tree) (members.state found).now clean shows)
       go (inr over) =
@@ -100,49 +113,74 @@ module _ {D : Type 0} (members : Ghosts D) (cached : Ghosts (CachedDisk D member
   Did = Does members cached Untouched Reads Denied words exit old new input before after faults faults'
 
   -- a store was to be made
-  pub did_create : (name : Text) (blocks : ℕ) → IsJob words (create name blocks) → Makes Denied name blocks exit old new faults faults' → Did
+  pub did_create : (name : Text) (blocks : ℕ) → IsJob words (create name blocks) → Makes members Denied name blocks exit old new before after faults faults' → Did
   did_create name blocks job makes = record {
     creates = λ other size asked. let same : create other size ≡ create name blocks = one_job words (create name blocks) (create other size) job asked in
         let name_is : other ≡ name = cc in
         let size_is : size ≡ blocks = cc in
         inl (rw (name_is, size_is) makes);
-    runs = λ other cache asked. let same : run other cache ≡ create name blocks = one_job words (create name blocks) (run other cache) job asked in absurd (cc);
+    runs = λ other cache on asked. let same : run other cache on ≡ create name blocks = one_job words (create name blocks) (run other cache on) job asked in absurd (cc);
+    does = λ other lines cache on asked. let same : do_lines other lines cache on ≡ create name blocks = one_job words (create name blocks) (do_lines other lines cache on) job asked in absurd (cc);
     checks = λ other asked. let same : check other ≡ create name blocks = one_job words (create name blocks) (check other) job asked in absurd (cc);
     none = λ no. absurd (no (create name blocks) job);
   }
 
   -- lines were to be answered
-  pub did_run : (name : Text) (cache : ℕ) → IsJob words (run name cache)
-      → Answers members cached name cache exit old new input before after ⊎ Declines Denied name exit old new faults faults' → Did
-  did_run name cache job answers = record {
-    creates = λ other size asked. let same : create other size ≡ run name cache = one_job words (run name cache) (create other size) job asked in absurd (cc);
-    runs = λ other size asked. let same : run other size ≡ run name cache = one_job words (run name cache) (run other size) job asked in
+  pub did_run : (name : Text) (cache : ℕ) (on : OnRefusal) → IsJob words (run name cache on)
+      → Answers members cached name cache on exit old new input before after ⊎ Declines members Denied name exit old new faults faults' → Did
+  did_run name cache on job answers = record {
+    creates = λ other size asked. let same : create other size ≡ run name cache on = one_job words (run name cache on) (create other size) job asked in absurd (cc);
+    runs = λ other size refusal asked. let same : run other size refusal ≡ run name cache on = one_job words (run name cache on) (run other size refusal) job asked in
         let name_is : other ≡ name = cc in
         let size_is : size ≡ cache = cc in
-        rw (name_is, size_is) (told answers);
-    checks = λ other asked. let same : check other ≡ run name cache = one_job words (run name cache) (check other) job asked in absurd (cc);
-    none = λ no. absurd (no (run name cache) job);
+        let on_is : refusal ≡ on = cc in
+        rw (name_is, size_is, on_is) (told answers);
+    does = λ other lines size refusal asked. let same : do_lines other lines size refusal ≡ run name cache on = one_job words (run name cache on) (do_lines other lines size refusal) job asked in absurd (cc);
+    checks = λ other asked. let same : check other ≡ run name cache on = one_job words (run name cache on) (check other) job asked in absurd (cc);
+    none = λ no. absurd (no (run name cache on) job);
   }
     where
-      told : Answers members cached name cache exit old new input before after ⊎ Declines Denied name exit old new faults faults'
-          → Answers members cached name cache exit old new input before after ⊎ (Declines Denied name exit old new faults faults' ⊎ ((exit ≡ Stopped) × Untouched))
+      told : Answers members cached name cache on exit old new input before after ⊎ Declines members Denied name exit old new faults faults'
+          → Answers members cached name cache on exit old new input before after ⊎ (Declines members Denied name exit old new faults faults' ⊎ ((exit ≡ Stopped) × Untouched))
+      told (inl answers) = inl answers
+      told (inr declines) = inr (inl declines)
+
+  -- lines that were given were to be answered
+  pub did_lines : (name : Text) (lines : List ℕ) (cache : ℕ) (on : OnRefusal) → IsJob words (do_lines name lines cache on)
+      → Answers members cached name cache on exit old new (Some lines) before after ⊎ Declines members Denied name exit old new faults faults' → Did
+  did_lines name lines cache on job answers = record {
+    creates = λ other size asked. let same : create other size ≡ do_lines name lines cache on = one_job words (do_lines name lines cache on) (create other size) job asked in absurd (cc);
+    runs = λ other size refusal asked. let same : run other size refusal ≡ do_lines name lines cache on = one_job words (do_lines name lines cache on) (run other size refusal) job asked in absurd (cc);
+    does = λ other given size refusal asked. let same : do_lines other given size refusal ≡ do_lines name lines cache on = one_job words (do_lines name lines cache on) (do_lines other given size refusal) job asked in
+        let name_is : other ≡ name = cc in
+        let lines_are : given ≡ lines = cc in
+        let size_is : size ≡ cache = cc in
+        let on_is : refusal ≡ on = cc in
+        rw (name_is, lines_are, size_is, on_is) (told answers);
+    checks = λ other asked. let same : check other ≡ do_lines name lines cache on = one_job words (do_lines name lines cache on) (check other) job asked in absurd (cc);
+    none = λ no. absurd (no (do_lines name lines cache on) job);
+  }
+    where
+      told : Answers members cached name cache on exit old new (Some lines) before after ⊎ Declines members Denied name exit old new faults faults'
+          → Answers members cached name cache on exit old new (Some lines) before after ⊎ (Declines members Denied name exit old new faults faults' ⊎ ((exit ≡ Stopped) × Untouched))
       told (inl answers) = inl answers
       told (inr declines) = inr (inl declines)
 
   -- a store was to be checked
   pub did_check : (name : Text) → IsJob words (check name) → Reads
-      → Counts members name exit old new before after ⊎ Declines Denied name exit old new faults faults' → Did
+      → Counts members name exit old new before after ⊎ Declines members Denied name exit old new faults faults' → Did
   did_check name job reads counts = record {
     creates = λ other size asked. let same : create other size ≡ check name = one_job words (check name) (create other size) job asked in absurd (cc);
-    runs = λ other cache asked. let same : run other cache ≡ check name = one_job words (check name) (run other cache) job asked in absurd (cc);
+    runs = λ other cache on asked. let same : run other cache on ≡ check name = one_job words (check name) (run other cache on) job asked in absurd (cc);
+    does = λ other lines cache on asked. let same : do_lines other lines cache on ≡ check name = one_job words (check name) (do_lines other lines cache on) job asked in absurd (cc);
     checks = λ other asked. let same : check other ≡ check name = one_job words (check name) (check other) job asked in
         let name_is : other ≡ name = cc in
         rw name_is (reads, told counts);
     none = λ no. absurd (no (check name) job);
   }
     where
-      told : Counts members name exit old new before after ⊎ Declines Denied name exit old new faults faults'
-          → Counts members name exit old new before after ⊎ (Declines Denied name exit old new faults faults' ⊎ ((exit ≡ Stopped) × Untouched))
+      told : Counts members name exit old new before after ⊎ Declines members Denied name exit old new faults faults'
+          → Counts members name exit old new before after ⊎ (Declines members Denied name exit old new faults faults' ⊎ ((exit ≡ Stopped) × Untouched))
       told (inl counts) = inl counts
       told (inr declines) = inr (inl declines)
 
@@ -150,7 +188,8 @@ module _ {D : Type 0} (members : Ghosts D) (cached : Ghosts (CachedDisk D member
   pub did_nothing : Untouched → Reads → ((job : Wanted) → IsJob words job → exit ≡ Stopped) → Did
   did_nothing untouched reads stopped = record {
     creates = λ name blocks asked. inr (stopped (create name blocks) asked, untouched);
-    runs = λ name cache asked. inr (inr (stopped (run name cache) asked, untouched));
+    runs = λ name cache on asked. inr (inr (stopped (run name cache on) asked, untouched));
+    does = λ name lines cache on asked. inr (inr (stopped (do_lines name lines cache on) asked, untouched));
     checks = λ name asked. (reads, inr (inr (stopped (check name) asked, untouched)));
     none = λ no. untouched;
   }

@@ -27,12 +27,12 @@ use Rattle.vm_cli.proofs.PassLemmas.{failed_or, goes_any, never_both, passes_com
 
 -- a reply that is the whole answer
 pub replied_whole : (P : List ℕ → Bool → Type 0) (reply : Reply) (a : Option (List ℕ)) (rest : List ℕ) → rest ≡ [] → P (reply_text reply) (ends_talk reply) → Replied P reply a a rest
-replied_whole P reply a rest none p = record { whole = []; says = p; carries = rw none (carries-nothing a []) }
+replied_whole P reply a rest none p = record { whole = []; says = p; tells = refl; carries = rw none (carries-nothing a []) }
 
 -- what is said of each answer
 pub replies_as : (P Q : List ℕ → Bool → Type 0) → ((text : List ℕ) (ends : Bool) → P text ends → Q text ends) → (r : Result Reply WriteFault) (a b : Option (List ℕ)) (rest : List ℕ) → Replies P r a b rest
     → Replies Q r a b rest
-replies_as P Q f (Ok reply) a b rest p = record { whole = p.whole; says = f _ _ p.says; carries = p.carries }
+replies_as P Q f (Ok reply) a b rest p = record { whole = p.whole; says = f _ _ p.says; tells = p.tells; carries = p.carries }
 replies_as P Q f (Err fault) a b rest p = record { whole = p.whole; ends = p.ends; says = f _ _ p.says; begins = p.begins }
 
 module _ {D : Type 0} {members : _} (store : Store D members) (s : State) where

@@ -1,4 +1,4 @@
--- One level of a parse without fault, of a command whose arguments take one value or more, or ask for help: each row has a first value, and its values passed.
+-- One level of a parse without fault, of a command whose arguments take one value or more, are flags or ask for help: each row has a first value, and its values passed.
 use Rattle.std.proofs.Common.{◌≡◌, ◌⊎◌, ◌<◌, ◌&&◌, ◌||◌, ◌++◌, ◌∙◌, ℕ, Bool, true, false, not, zero, suc, List, [], ◌∷◌, Option, Some, None, is_some, cond, find, fold, drop, length, refl, sym, ap, subst, inl, inr, append-nil, lt-ltb}
 use Rattle.std.specs.Prelude.{encode_utf8, slice_get}
 use Rattle.std.specs.List.{list_any}
@@ -6,13 +6,14 @@ use Rattle.std.specs.Option.{option_map_or}
 use Rattle.std.specs.Str.{bytes_eq, chars}
 use Rattle.std.proofs.lemmas.Slice.Eq.{bytes_eq-Decides}
 use Rattle.clap.specs.Lexer.{long_of, short_of}
-use Rattle.clap.specs.Facts.{unwrap_or_range}
-use Rattle.clap.specs.Kinds.{Kinds, or_else, range_kinds}
-use Rattle.clap.specs.Walk.{Held, Outcome, done, waits, plain, refused, Row, Rule, Step, next, trailing, subcommand, value, Text, Waiting, idle, option, positional, Walk, default_rows, used_by_id, action_of, after_flag, after_step, arg_by_id, arg_by_index, arg_by_long, arg_by_short, at_row, attached_value, bundle, bundle_met, bundle_step, finished, flag_met, has_long, has_row, has_short, is_pending, long_met, long_or_other, more_values, most_values, nothing_held, option_met, option_word, plain_word, reacted, reading_by, rows_after, settled, settled_rows, short_met, short_or_plain, takes_several, takes_values, to_positional, used, values_or_missing, walk, walk_from, walked, walked_from, with_default, word_met}
+use Rattle.clap.specs.Facts.{parser_of_value, unwrap_or_range}
+use Rattle.clap.specs.Kinds.{Kinds, or_else, range_kinds, value_kinds, values_kinds}
+use Rattle.clap.specs.declared.builder.value_parser.ValueParser.{ValueParser}
+use Rattle.clap.specs.Walk.{Held, Outcome, done, waits, plain, refused, Row, Rule, Step, next, trailing, subcommand, value, Text, Waiting, idle, option, positional, Walk, default_rows, used_by_id, action_of, after_flag, after_step, arg_by_id, arg_by_index, arg_by_long, arg_by_short, at_row, attached_value, bundle, bundle_met, bundle_step, finished, flag_met, has_long, has_row, has_short, is_pending, long_met, long_or_other, more_values, most_values, nothing_held, option_met, option_word, plain_word, reacted, reading_by, rows_after, settled, settled_rows, short_met, short_or_plain, stronger, takes_several, takes_values, to_positional, used, values_or_missing, walk, walk_from, walked, walked_from, with_default, word_met}
 use Rattle.clap.specs.Simple.{Shape}
 use Rattle.clap.specs.Takes.{is_given}
 use Rattle.clap.specs.Faults.{action_fault, bundle_fault, bundle_step_fault, check_fault, defaults_fault, flag_word_fault, flags_fault, level_fault, long_fault, option_fault, positional_fault, react_fault, repeat_fault, set_fault, settle_fault, short_fault, step_fault, turn_fault, use_fault, values_fault, walk_fault, word_fault}
-use Rattle.clap.specs.declared.builder.action.ArgAction.TheVariants.{Set, Help}
+use Rattle.clap.specs.declared.builder.action.ArgAction.TheVariants.{Append, Set, SetTrue, Help}
 use Rattle.clap.specs.declared.error.kind.ErrorKind.TheVariants.{TooManyValues}
 use Rattle.clap.specs.declared.parser.matches.ValueSource.{ValueSource}
 use Rattle.clap.specs.declared.parser.matches.ValueSource.TheVariants.{CommandLine, DefaultValue}
@@ -25,13 +26,28 @@ pub record IsValued (c : List Rule) (a : Rule) : Type 0 where
   pub defaults : values_fault a a.defaults ≡ []
   pub found : arg_by_id c a.id ≡ Some a
 
+-- a flag that takes no value, and for which one stands
+pub record IsFlag (c : List Rule) (a : Rule) : Type 0 where
+  pub sets : action_of a ≡ SetTrue
+  pub missing : Text
+  pub stands : a.missing ≡ missing ∷ []
+  pub defaults : values_fault a a.defaults ≡ []
+  pub found : arg_by_id c a.id ≡ Some a
+
+-- an argument that takes one value or more, and more with each use
+pub record IsList (c : List Rule) (a : Rule) : Type 0 where
+  pub appends : action_of a ≡ Append
+  pub least : 0 < (unwrap_or_range a.range).start_inclusive
+  pub bare : a.defaults ≡ []
+  pub found : arg_by_id c a.id ≡ Some a
+
 -- a flag that asks for help
 pub record IsRequest (a : Rule) : Type 0 where
   pub asks : action_of a ≡ Help
   pub bare : a.defaults ≡ []
 
 abbrev pub IsKnown : List Rule → Rule → Type 0
-IsKnown c a = IsValued c a ⊎ IsRequest a
+IsKnown c a = IsValued c a ⊎ (IsFlag c a ⊎ (IsList c a ⊎ IsRequest a))
 
 -- the row has a first value, and its values passed its argument's parser
 pub record IsFilled (c : List Rule) (r : Row) : Type 0 where
@@ -75,11 +91,22 @@ row_filled c source a v vs found passes = record {
   passes = λ b other. let same : a ≡ b = cc in (ap reading_by same, ap (λ x. values_fault x (v ∷ vs)) (sym same) ∙ passes);
 }
 
-used_first : (a : Rule) (v : Text) (vs : List Text) (rows : List Row) → action_of a ≡ Set → has_row a.id rows ≡ false
-    → used a (v ∷ vs) rows ≡ rows ++ row_for CommandLine a (v ∷ vs) ∷ []
-used_first a v vs rows sets none =
+-- an argument whose first use makes its row
+abbrev IsSet : Rule → Type 0
+IsSet a = (action_of a ≡ Set) ⊎ (action_of a ≡ SetTrue)
+
+used_first : (a : Rule) (values : List Text) (v : Text) (vs : List Text) (rows : List Row) → IsSet a → values_or_missing a values ≡ v ∷ vs → has_row a.id rows ≡ false
+    → used a values rows ≡ rows ++ row_for CommandLine a (v ∷ vs) ∷ []
+used_first a values v vs rows (inl sets) is none =
     let kept : at_row a.id (λ _. []) [] rows ≡ rows = at_none a.id (λ _. []) [] rows none ∙ append-nil rows in
-    rw (sets, kept) (at_none a.id (more_values CommandLine (v ∷ vs)) (row_for CommandLine a (v ∷ vs) ∷ []) rows none)
+    rw (sets, is, kept) (at_none a.id (more_values CommandLine (v ∷ vs)) (row_for CommandLine a (v ∷ vs) ∷ []) rows none)
+used_first a values v vs rows (inr sets) is none =
+    let kept : at_row a.id (λ _. []) [] rows ≡ rows = at_none a.id (λ _. []) [] rows none ∙ append-nil rows in
+    rw (sets, is, kept) (at_none a.id (more_values CommandLine (v ∷ vs)) (row_for CommandLine a (v ∷ vs) ∷ []) rows none)
+
+set_asked : (a : Rule) (values : List Text) (rows : List Row) → IsSet a → action_fault (action_of a) false a values rows ≡ [] → set_fault false a values rows ≡ []
+set_asked a values rows (inl sets) e = rw sets at e
+set_asked a values rows (inr sets) e = rw sets at e
 
 no_repeat : (id : Text) (rows : List Row) → repeat_fault false id rows ≡ [] → has_row id rows ≡ false
 no_repeat id rows e = go (has_row id rows) refl
@@ -88,24 +115,86 @@ no_repeat id rows e = go (has_row id rows) refl
     go true t = let bad : ⊥ = (let f = rw t at e in cc) in absurd bad
     go false t = t
 
+-- a first use with these values
+stores : (c : List Rule) (a : Rule) (values : List Text) (v : Text) (vs : List Text) (rows : List Row) → IsSet a → values_or_missing a values ≡ v ∷ vs → arg_by_id c a.id ≡ Some a
+    → use_fault false a values rows ≡ [] → AreFilled c rows → AreFilled c (used a values rows)
+stores c a values v vs rows sets is found e h =
+    let asked : action_fault (action_of a) false a (v ∷ vs) rows ≡ [] = rw is at (uses false a values rows e).1 in
+    let parts = neither (repeat_fault false a.id rows) (values_fault a (v ∷ vs)) (set_asked a (v ∷ vs) rows sets asked) in
+    let none = no_repeat a.id rows parts.0 in
+    rw (used_first a values v vs rows sets is none) (every-push (IsFilled c) rows _ h (row_filled c CommandLine a v vs found parts.1))
+
+-- one value or more
+module _ (a : Rule) (least : 0 < (unwrap_or_range a.range).start_inclusive) where
+  no_values : (again : Bool) (rows : List Row) → use_fault again a [] rows ≡ [] → ⊥
+  no_values again rows e =
+      let range : range_kinds (unwrap_or_range a.range).start_inclusive (most_values a) 0 ≡ [] = (uses again a [] rows e).0 in
+      (let f = rw (lt-ltb 0 _ least) at range in cc)
+
 fills : (c : List Rule) (a : Rule) → IsValued c a → (values : List Text) (rows : List Row) → use_fault false a values rows ≡ []
     → AreFilled c rows → AreFilled c (used a values rows)
-fills c a p [] rows e h =
-    let range : range_kinds (unwrap_or_range a.range).start_inclusive (most_values a) 0 ≡ [] = (uses false a [] rows e).0 in
-    let bad : ⊥ = (let f = rw (lt-ltb 0 _ p.least) at range in cc) in
-    absurd bad
-fills c a p (v ∷ vs) rows e h =
-    let asked : action_fault (action_of a) false a (v ∷ vs) rows ≡ [] = (uses false a (v ∷ vs) rows e).1 in
-    let sets : set_fault false a (v ∷ vs) rows ≡ [] = rw p.sets at asked in
-    let parts = neither (repeat_fault false a.id rows) (values_fault a (v ∷ vs)) sets in
-    let none = no_repeat a.id rows parts.0 in
-    rw (used_first a v vs rows p.sets none) (every-push (IsFilled c) rows _ h (row_filled c CommandLine a v vs p.found parts.1))
+fills c a p [] rows e h = absurd (no_values a p.least false rows e)
+fills c a p (v ∷ vs) rows e h = stores c a (v ∷ vs) v vs rows (inl p.sets) refl p.found e h
+
+flags : (c : List Rule) (a : Rule) → IsFlag c a → (values : List Text) (rows : List Row) → use_fault false a values rows ≡ []
+    → AreFilled c rows → AreFilled c (used a values rows)
+flags c a p [] rows e h = stores c a [] p.missing [] rows (inr p.sets) p.stands p.found e h
+flags c a p (v ∷ vs) rows e h = stores c a (v ∷ vs) v vs rows (inr p.sets) refl p.found e h
+
+-- further values of a row
+more_pass : (ignore_case : Bool) (parser : ValueParser) (values more : List Text) → values_kinds ignore_case parser values ≡ [] → values_kinds ignore_case parser more ≡ []
+    → values_kinds ignore_case parser (values ++ more) ≡ []
+more_pass ignore_case parser [] more e f = f
+more_pass ignore_case parser (v ∷ vs) more e f =
+    let parts = neither (value_kinds ignore_case parser v) (values_kinds ignore_case parser vs) e in
+    rw parts.0 (more_pass ignore_case parser vs more parts.1 f)
+
+first_stays : (values more : List Text) (v : Text) → slice_get values 0 ≡ Some v → slice_get (values ++ more) 0 ≡ Some v
+first_stays [] more v e = cc
+first_stays (x ∷ values) more v e = e
+
+module _ (c : List Rule) (a : Rule) (v : Text) (vs : List Text) (found : arg_by_id c a.id ≡ Some a) (passes : values_fault a (v ∷ vs) ≡ []) where
+  grown : (r : Row) → bytes_eq r.id a.id ≡ true → IsFilled c r
+      → IsFilled c (record r { values = r.values ++ v ∷ vs; source = Some (stronger r.source CommandLine) })
+  grown r named filled =
+      let id : r.id ≡ a.id = (bytes_eq-Decides r.id a.id).0 named in
+      let by : arg_by_id c r.id ≡ Some a = rw id found in
+      record {
+        first = filled.first;
+        has = first_stays r.values (v ∷ vs) filled.first filled.has;
+        passes = λ b other.
+            let same : a ≡ b = cc in
+            let so_far = filled.passes b other in
+            let these : values_fault b (v ∷ vs) ≡ [] = ap (λ x. values_fault x (v ∷ vs)) (sym same) ∙ passes in
+            (so_far.0, more_pass b.ignore_case (parser_of_value b.parser) r.values (v ∷ vs) so_far.1 these);
+      }
+
+  row_grows : (rows : List Row) → AreFilled c rows
+      → AreFilled c (at_row a.id (more_values CommandLine (v ∷ vs)) (row_for CommandLine a (v ∷ vs) ∷ []) rows)
+  row_grows [] filled = (row_filled c CommandLine a v vs found passes, tt)
+  row_grows (r ∷ rows) filled = go (bytes_eq r.id a.id) refl (row_grows rows filled.1)
+    where
+      go : (b : Bool) → bytes_eq r.id a.id ≡ b
+          → AreFilled c (at_row a.id (more_values CommandLine (v ∷ vs)) (row_for CommandLine a (v ∷ vs) ∷ []) rows)
+          → AreFilled c (cond b (more_values CommandLine (v ∷ vs) r ++ rows) (r ∷ at_row a.id (more_values CommandLine (v ∷ vs)) (row_for CommandLine a (v ∷ vs) ∷ []) rows))
+      go true named later = (grown r named filled.0, filled.1)
+      go false named later = (filled.0, later)
+
+lists : (c : List Rule) (again : Bool) (a : Rule) → IsList c a → (values : List Text) (rows : List Row) → use_fault again a values rows ≡ []
+    → AreFilled c rows → AreFilled c (used a values rows)
+lists c again a p [] rows e h = absurd (no_values a p.least again rows e)
+lists c again a p (v ∷ vs) rows e h =
+    let asked : action_fault (action_of a) again a (v ∷ vs) rows ≡ [] = (uses again a (v ∷ vs) rows e).1 in
+    let passes : values_fault a (v ∷ vs) ≡ [] = rw p.appends at asked in
+    rw p.appends (row_grows c a v vs p.found passes rows h)
 
 used_filled : (c : List Rule) (again : Bool) (a : Rule) (values : List Text) (rows : List Row) → again ≡ false → IsKnown c a
     → use_fault again a values rows ≡ [] → AreFilled c rows → AreFilled c (used a values rows)
 used_filled c true a values rows first known e filled = let bad : ⊥ = cc in absurd bad
 used_filled c false a values rows first (inl valued) e filled = fills c a valued values rows e filled
-used_filled c false a values rows first (inr request) e filled = absurd (no_request a request false values rows e)
+used_filled c false a values rows first (inr (inl flag)) e filled = flags c a flag values rows e filled
+used_filled c false a values rows first (inr (inr (inl list))) e filled = lists c false a list values rows e filled
+used_filled c false a values rows first (inr (inr (inr request))) e filled = absurd (no_request a request false values rows e)
 
 -- ---- words that are no flags
 
@@ -287,7 +376,9 @@ module _ (s : Shape) (known : Every (IsKnown s.rules) s.rules) (first : s.args_o
   defaults_pass : (a : Rule) → IsKnown s.rules a → (v : Text) (vs : List Text) → a.defaults ≡ v ∷ vs
       → (arg_by_id s.rules a.id ≡ Some a) × (values_fault a (v ∷ vs) ≡ [])
   defaults_pass a (inl valued) v vs is = (valued.found, rw is at valued.defaults)
-  defaults_pass a (inr request) v vs is = let bad : ⊥ = (let none = request.bare in cc) in absurd bad
+  defaults_pass a (inr (inl flag)) v vs is = (flag.found, rw is at flag.defaults)
+  defaults_pass a (inr (inr (inl list))) v vs is = let bad : ⊥ = (let none = list.bare in cc) in absurd bad
+  defaults_pass a (inr (inr (inr request))) v vs is = let bad : ⊥ = (let none = request.bare in cc) in absurd bad
 
   default_filled : (a : Rule) (rows : List Row) → IsKnown s.rules a → AreFilled s.rules rows → AreFilled s.rules (with_default rows a)
   default_filled a rows is filled = go (has_row a.id rows) refl a.defaults refl
@@ -377,6 +468,25 @@ has-default a rows v vs is = rw is (go (has_row a.id rows) refl)
     go false has =
         rw (at_none a.id (more_values DefaultValue (v ∷ vs)) (row_for DefaultValue a (v ∷ vs) ∷ []) rows has)
         (has-push a.id rows _ ((bytes_eq-Decides a.id a.id).1 refl))
+
+has-more : (id : Text) (rows more : List Row) → has_row id rows ≡ true → has_row id (rows ++ more) ≡ true
+has-more id [] more here = cc
+has-more id (x ∷ rows) more here = go (bytes_eq x.id id) here (λ e. has-more id rows more e)
+  where
+    go : (b : Bool) → (b || has_row id rows) ≡ true → (has_row id rows ≡ true → has_row id (rows ++ more) ≡ true) → (b || has_row id (rows ++ more)) ≡ true
+    go true e later = refl
+    go false e later = later e
+
+-- the other rows stay
+pub has-stays : (id : Text) (a : Rule) (rows : List Row) → has_row id rows ≡ true → has_row id (with_default rows a) ≡ true
+has-stays id a rows here = go (has_row a.id rows) refl a.defaults
+  where
+    go : (b : Bool) → has_row a.id rows ≡ b → (values : List Text) → has_row id (cond b rows (default_rows a.id (reading_by a) values rows)) ≡ true
+    go true has values = here
+    go false has [] = here
+    go false has (v ∷ vs) =
+        rw (at_none a.id (more_values DefaultValue (v ∷ vs)) (row_for DefaultValue a (v ∷ vs) ∷ []) rows has)
+        (has-more id rows (row_for DefaultValue a (v ∷ vs) ∷ []) here)
 
 -- one without leaves the rows as they are
 pub no-default : (a : Rule) (rows : List Row) → a.defaults ≡ [] → with_default rows a ≡ rows

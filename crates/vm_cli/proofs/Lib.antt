@@ -12,6 +12,7 @@ pub mod Names
 pub mod Known
 pub mod Written
 pub mod CarriedLemmas
+pub mod GivenLemmas
 pub mod CountingLemmas
 pub mod PassLemmas
 pub mod TalkLemmas

@@ -1,12 +1,14 @@
 -- The subcommand of a parse, from its name and its rows.
-use Rattle.std.proofs.Common.{◌≡◌, ℕ, List, Option, Some, None, option_map, option_and_then, codes, refl}
+use Rattle.std.proofs.Common.{◌≡◌, ℕ, List, Option, Some, None, option_map, codes, refl}
 use Rattle.std.specs.Prelude.{Box}
 use Rattle.std.specs.Box.{box_value}
-use Rattle.clap.specs.Words.{Row, Text, first_of, one_of, subcommand_rows}
+use Rattle.clap.specs.Words.{Row, Text, all_of, first_of, subcommand_rows}
 use Rattle.clap.specs.declared.parser.matches.ArgMatches.TheViews.{out-SubCommand}
 use Rattle.clap.specs.declared.parser.matches.SubCommand.{SubCommand}
-use Rattle.vm_cli.specs.Words.{asked_of, number_in}
-use Rattle.vm_cli.specs.Words.Wanted.{check, create, run}
+use Rattle.vm_cli.specs.Given.{input_of}
+use Rattle.vm_cli.specs.Words.{asked_by, asked_of, cache_by, do_by, refusal_by}
+use Rattle.vm_cli.specs.Words.Wanted.{do_lines}
+use Rattle.vm_cli.specs.declared.talk.OnRefusal.TheVariants.{Tell}
 
 pub subcommand_rows-parts : (Z : Type 0) (o : Option (Box SubCommand Z)) (name : Text) (rows : List Row)
     → Some name ≡ option_map (λ b. (out-SubCommand (box_value b)).name.now) o
@@ -15,16 +17,16 @@ pub subcommand_rows-parts : (Z : Type 0) (o : Option (Box SubCommand Z)) (name :
 subcommand_rows-parts Z None name rows n r = cc
 subcommand_rows-parts Z (Some b) name rows n r = cc
 
-pub asked_of-create : (entered : Option (Text × List Row)) (name : Text) (rows : List Row) (file : Text) (blocks : ℕ)
-    → entered ≡ Some (name, rows) → first_of (codes "file") rows ≡ Some file → name ≡ codes "create"
-    → option_and_then (number_in 64 1048576) (one_of (codes "blocks") rows) ≡ Some blocks → asked_of entered ≡ Some (create file blocks)
-asked_of-create entered name rows file blocks e f n b = rw (e, f, n, b) refl
+-- what a subcommand's matches ask for, where they name a file
+pub asked_of-entered : (entered : Option (Text × List Row)) (name : Text) (rows : List Row) (file : Text)
+    → entered ≡ Some (name, rows) → first_of (codes "file") rows ≡ Some file → asked_of entered ≡ asked_by name rows file
+asked_of-entered entered name rows file e f = rw (e, f) refl
 
-pub asked_of-run : (entered : Option (Text × List Row)) (name : Text) (rows : List Row) (file : Text) (cache : ℕ)
-    → entered ≡ Some (name, rows) → first_of (codes "file") rows ≡ Some file → name ≡ codes "run"
-    → option_and_then (number_in 0 65536) (one_of (codes "cache") rows) ≡ Some cache → asked_of entered ≡ Some (run file cache)
-asked_of-run entered name rows file cache e f n k = rw (e, f, n, k) refl
+-- what `do` asks for, where its lines and a number of blocks are there
+pub do_by-lines : (rows : List Row) (file : Text) (lines : List Text) (cache : ℕ) → all_of (codes "line") rows ≡ Some lines → cache_by rows ≡ Some cache
+    → do_by rows file ≡ Some (do_lines file (input_of lines) cache (refusal_by Tell rows))
+do_by-lines rows file lines cache given number = rw (given, number) refl
 
-pub asked_of-check : (entered : Option (Text × List Row)) (name : Text) (rows : List Row) (file : Text)
-    → entered ≡ Some (name, rows) → first_of (codes "file") rows ≡ Some file → name ≡ codes "check" → asked_of entered ≡ Some (check file)
-asked_of-check entered name rows file e f n = rw (e, f, n) refl
+-- without lines it asks for nothing
+pub do_by-none : (rows : List Row) (file : Text) → all_of (codes "line") rows ≡ None → do_by rows file ≡ None
+do_by-none rows file none = rw none refl

@@ -14,7 +14,7 @@ use Rattle.std.specs.String.{string_cmp}
 use Rattle.vm_disk.specs.Disk.{IsClean, MayLeave, Medium, State, block}
 use Rattle.vm_disk.specs.Memory.{IsBlank, filled, memory_state}
 use Rattle.vm_disk.specs.declared.memory.MemDisk.{MemDisk}
-use Rattle.vm_cli.specs.MemFiles.{slot_contents}
+use Rattle.vm_cli.specs.MemFiles.{slot_contents, slot_state}
 use Rattle.vm_cli.specs.Places.{Creates, Finds, PlaceState, TakesBack}
 use Rattle.vm_cli.specs.declared.mem_files.Slot.{Slot}
 
@@ -40,7 +40,11 @@ no_slot (Some x) e = absurd cc
 module _ {Y : Type 0} (honest : Bool) (path : List ℕ) (old new : BTreeMap (String Y) Slot) where
   -- what is known of files in these slots
   abbrev known : BTreeMap (String Y) Slot → PlaceState
-  known slots = record { honest = honest; files = λ name. option_map slot_contents (get_by_text slots name) }
+  known slots = record {
+    honest = honest;
+    files = λ name. option_map slot_contents (get_by_text slots name);
+    came = λ name. option_map slot_state (get_by_text slots name);
+  }
 
   -- a slot was put under a name
   module _ (slot : Slot) (bytes : List ℕ) (named : bytes ≡ path) (updates : UpdatesBy string_cmp (λ k. slice_cmp nat_cmp bytes (string_bytes k)) old new (Some slot)) where
@@ -63,23 +67,29 @@ module _ {Y : Type 0} (honest : Bool) (path : List ℕ) (old new : BTreeMap (Str
         record {
           absent = ap (option_map slot_contents) none;
           zero = λ honest. (blank.blocks, blank.zero);
+          fresh = blank.past;
           stays = λ contents there. let no : None ≡ Some contents = ap (option_map slot_contents) (sym none) ∙ there in absurd cc;
           others = λ other differ. ap (option_map slot_contents) (others other differ);
         }
 
     -- a disk was taken out of its slot, or none was there
     pub finds : (was : Slot) → get_by_text old path ≡ Some was → slot_contents slot ≡ slot_contents was → (found : Option State)
-        → IfSome found (λ s. (s.now.contents ≡ slot_contents was) × IsClean s.now)
+        → IfSome found (λ s. (s.now.contents ≡ slot_contents was) × IsClean s.now × (s.past ≡ []))
         → Finds path found (known old) (known new)
     finds was there same found told = record {
       held = go found told;
+      fresh = go_fresh found told;
       same = λ other. go_same other (bytes_eq path other) refl;
     }
       where
-        go : (found : Option State) → IfSome found (λ s. (s.now.contents ≡ slot_contents was) × IsClean s.now)
+        go : (found : Option State) → IfSome found (λ s. (s.now.contents ≡ slot_contents was) × IsClean s.now × (s.past ≡ []))
             → IfSome found (λ s. s.honest ≡ true → (option_map slot_contents (get_by_text old path) ≡ Some s.now.contents) × IsClean s.now)
         go None told = tt
         go (Some s) told = λ honest. (ap (option_map slot_contents) there ∙ ap Some (sym told.0), told.1)
+
+        go_fresh : (found : Option State) → IfSome found (λ s. (s.now.contents ≡ slot_contents was) × IsClean s.now × (s.past ≡ [])) → IfSome found (λ s. s.past ≡ [])
+        go_fresh None told = tt
+        go_fresh (Some s) told = told.2
 
         go_same : (other : List ℕ) (b : Bool) → bytes_eq path other ≡ b
             → option_map slot_contents (get_by_text new other) ≡ option_map slot_contents (get_by_text old other)
@@ -94,5 +104,6 @@ module _ {Y : Type 0} (honest : Bool) (path : List ℕ) (old new : BTreeMap (Str
     takes_back disk is = record {
       honest = refl;
       holds = ap (option_map slot_contents) here ∙ ap (λ (d : MemDisk). Some (memory_state d).now.contents) is;
+      came = ap (option_map slot_state) here ∙ ap (λ (d : MemDisk). Some (memory_state d)) is;
       others = λ other differ. ap (option_map slot_contents) (others other differ);
     }

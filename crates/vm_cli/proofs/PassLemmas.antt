@@ -8,7 +8,7 @@ use Rattle.vm_disk.specs.Disk.{Goes}
 use Rattle.vm_disk.specs.Moments.{OnlyReads}
 use Rattle.vm_disk.proofs.GoesLemmas.{goes_at, goes_nowhere, goes_then}
 use Rattle.vm_disk.proofs.MomentLemmas.{started}
-use Rattle.vm_store.specs.Store.{has_failed}
+use Rattle.vm_store.specs.Store.{IsSameButDisk, has_failed}
 use Rattle.vm_store.specs.declared.store.Store.{Store}
 use Rattle.vm_cli.specs.Talk.{Failing, Passes}
 use Rattle.vm_cli.specs.declared.talk.ServeFault.{ServeFault}
@@ -35,20 +35,35 @@ pub goes_both : (old mid new : disk.State) → Goes ⊥ old mid → Goes ⊥ mid
 goes_both old mid new first second = goes_then ⊥ ⊥ ⊥ old mid new first second (λ no. no)
 
 module _ {D : Type 0} {members : _} where
+  -- a store is as it was
+  same_store : (store : Store D members) → IsSameButDisk store store
+  same_store store = record {
+    alloc = refl;
+    blocks = refl;
+    slot_b = refl;
+    entries = refl;
+    committed = refl;
+    working = refl;
+    held = refl;
+    marks = refl;
+    failed = refl;
+  }
+
   -- a store passes into itself
   pub passes_none : (store : Store D members) → Passes store store None
   passes_none store = record {
     goes = goes_none (members.state store.disk);
     reads = λ honest e. started (members.state store.disk) (λ m. m ≡ (members.state store.disk).now) refl;
+    unchanged = λ e. same_store store;
   }
 
   -- into one that only read
-  pub passes_reads : (old new : Store D members) → Goes ⊥ (members.state old.disk) (members.state new.disk) → ((members.state new.disk).honest ≡ true → OnlyReads (members.state old.disk) (members.state new.disk)) → Passes old new None
-  passes_reads old new goes reads = record { goes = goes; reads = λ honest e. reads honest }
+  pub passes_reads : (old new : Store D members) → Goes ⊥ (members.state old.disk) (members.state new.disk) → ((members.state new.disk).honest ≡ true → OnlyReads (members.state old.disk) (members.state new.disk)) → IsSameButDisk old new → Passes old new None
+  passes_reads old new goes reads unchanged = record { goes = goes; reads = λ honest e. reads honest; unchanged = λ e. unchanged }
 
   -- into one that carried out a command
   pub passes_command : (old new : Store D members) (command : Command) (answer : Result Answer Refusal) → Goes ⊥ (members.state old.disk) (members.state new.disk) → Passes old new (Some (command, answer))
-  passes_command old new command answer goes = record { goes = goes; reads = λ honest e. cc }
+  passes_command old new command answer goes = record { goes = goes; reads = λ honest e. cc; unchanged = λ e. cc }
 
   -- into one that was left as it was
   pub passes_left : (old new : Store D members) → new ≡ old → Passes old new None
@@ -66,12 +81,14 @@ module _ {D : Type 0} {members : _} where
 
   -- why a talk ends where its lines are answered
   abbrev pub EndsBy : Store D members → Store D members → ServeFault → Type 0
-  EndsBy old new why = (why ≡ fault.Write) ⊎ ((why ≡ fault.Store) × (has_failed new ≡ true) × Failing old new)
+  EndsBy old new why = (why ≡ fault.Write) ⊎ ((why ≡ fault.Refused) ⊎ ((why ≡ fault.Store) × (has_failed new ≡ true) × Failing old new))
 
   pub ends_later : (old mid new : Store D members) (why : ServeFault) → Goes ⊥ (members.state old.disk) (members.state mid.disk) → EndsBy mid new why → EndsBy old new why
   ends_later old mid new why goes (inl is) = inl is
-  ends_later old mid new why goes (inr (is, failed, failing)) = inr (is, failed, failing_later old mid new goes failing)
+  ends_later old mid new why goes (inr (inl is)) = inr (inl is)
+  ends_later old mid new why goes (inr (inr (is, failed, failing))) = inr (inr (is, failed, failing_later old mid new goes failing))
 
   pub ends_store : (old new : Store D members) (why : ServeFault) → EndsBy old new why → why ≡ fault.Store → (has_failed new ≡ true) × Failing old new
   ends_store old new why (inl is) same = cc
-  ends_store old new why (inr (is, failed, failing)) same = (failed, failing)
+  ends_store old new why (inr (inl is)) same = cc
+  ends_store old new why (inr (inr (is, failed, failing))) same = (failed, failing)

@@ -15,9 +15,11 @@ use Rattle.vm_disk.specs.declared.history.History.{History}
 use Rattle.vm_disk.specs.declared.system.SystemFile.{SystemFile}
 use Rattle.vm_disk.proofs.FileLemmas.{file_is_honest}
 use Rattle.vm_cli.specs.Places.{Creates, Finds, PlaceState, TakesBack}
-use Rattle.vm_cli.specs.RealFiles.{blocks_held, files_after, honest_after, is_absent, is_as_left, real_disk, same_contents, whole_blocks}
+use Rattle.vm_cli.specs.Progress.{file_below}
+use Rattle.vm_cli.specs.RealFiles.{blocks_held, came_after, files_after, honest_after, is_absent, is_as_left, real_disk, same_contents, whole_blocks}
 use Rattle.vm_cli.specs.declared.place.Event.{Event}
-use Rattle.vm_cli.specs.declared.place.Event.TheVariants.{Found, Looked, Made, Given}
+use Rattle.vm_cli.specs.declared.progress.Watched.{Watched}
+use Rattle.vm_cli.specs.declared.place.Event.TheVariants.{Found, Made, Given}
 
 -- contents that are the same, block by block, are the same
 pub contents_are : (x y : Contents) → same_contents x y ≡ true → x ≡ y
@@ -63,15 +65,23 @@ apart other name differ = go (bytes_eq other name) refl
 module _ {W : Type 0} (held : ℕ → List ℕ → Option (List ℕ)) (torn : ℕ → List ℕ → ℕ → List ℕ) (path : List ℕ) (old new : List (Event W)) where
   -- what is known of the files after these events
   abbrev known : List (Event W) → PlaceState
-  known events = record { honest = honest_after held torn events; files = files_after held torn events }
+  known events = record { honest = honest_after held torn events; files = files_after held torn events; came = came_after held torn events }
+
+  -- a disk that was just opened or made has no past
+  fresh_disk : (blocks : FileDisk (Watched (SystemFile W)) → ℕ) (result : Result (FileDisk (Watched (SystemFile W))) (Watched (SystemFile W)))
+      → IfOk result (λ disk. IsOver (blocks disk) (system_state held torn (file_below (file_of disk))) (real_disk held torn disk))
+      → IfSome (option_map (real_disk held torn) (result_ok result)) (λ s. s.past ≡ [])
+  fresh_disk blocks (Err back) over = tt
+  fresh_disk blocks (Ok disk) over = over.past
 
   -- a file was opened, and made a disk of
   module _ (file : SystemFile W) (noted_file : Snapshot (SystemFile W)) (is : noted_file.value ≡ file) (name : name_of file ≡ path) where
-    pub finds : (opened : ℕ) → opening_of file ≡ opened → new ≡ Found noted_file ∷ old → system_state held torn file ≡ fresh (held_bytes (held opened path)) → (result : Result (FileDisk (SystemFile W)) (SystemFile W))
-        → IfOk result (λ disk. (system_state held torn (file_of disk)).honest ≡ true → IsOpened (system_state held torn file) (real_disk held torn disk))
-        → (found : Option (FileDisk (SystemFile W))) → found ≡ result_ok result
+    pub finds : (opened : ℕ) → opening_of file ≡ opened → new ≡ Found noted_file ∷ old → system_state held torn file ≡ fresh (held_bytes (held opened path)) → (result : Result (FileDisk (Watched (SystemFile W))) (Watched (SystemFile W)))
+        → IfOk result (λ disk. IsOver disk.blocks (system_state held torn (file_below (file_of disk))) (real_disk held torn disk))
+        → IfOk result (λ disk. (system_state held torn (file_below (file_of disk))).honest ≡ true → IsOpened (system_state held torn file) (real_disk held torn disk))
+        → (found : Option (FileDisk (Watched (SystemFile W)))) → found ≡ result_ok result
         → honest_after held torn new ≡ true → Finds path (option_map (real_disk held torn) found) (known old) (known new)
-    finds opened opening more state result told found said honest =
+    finds opened opening more state result over told found said honest =
         let all : honest_after held torn (Found noted_file ∷ old) ≡ true = rw more at honest in
         let raw : is_as_left (blocks_held held (opening_of noted_file.value) (name_of noted_file.value)) (files_after held torn old (name_of noted_file.value)) ≡ true = (and_parts _ _ all).0 in
         let was : is_as_left (blocks_held held opened path) (files_after held torn old path) ≡ true = rw (is, opening, name) at raw in
@@ -79,23 +89,24 @@ module _ {W : Type 0} (held : ℕ → List ℕ → Option (List ℕ)) (torn : �
         let there : files_after held torn old path ≡ Some (whole_blocks (held_bytes (held opened path))) = left.2 ∙ ap Some (blocks_are (held opened path) left.0 left.1) in
         record {
           held = rw said (go there result told);
+          fresh = rw said (fresh_disk (λ disk. disk.blocks) result over);
           same = λ other. rw more refl;
         }
       where
-        go : files_after held torn old path ≡ Some (whole_blocks (held_bytes (held opened path))) → (result : Result (FileDisk (SystemFile W)) (SystemFile W))
-            → IfOk result (λ disk. (system_state held torn (file_of disk)).honest ≡ true → IsOpened (system_state held torn file) (real_disk held torn disk))
+        go : files_after held torn old path ≡ Some (whole_blocks (held_bytes (held opened path))) → (result : Result (FileDisk (Watched (SystemFile W))) (Watched (SystemFile W)))
+            → IfOk result (λ disk. (system_state held torn (file_below (file_of disk))).honest ≡ true → IsOpened (system_state held torn file) (real_disk held torn disk))
             → IfSome (option_map (real_disk held torn) (result_ok result)) (λ s. s.honest ≡ true → (files_after held torn old path ≡ Some s.now.contents) × IsClean s.now)
         go there (Err back) told = tt
         go there (Ok disk) told = λ honest.
-            let over = told (file_is_honest disk.blocks (system_state held torn (file_of disk)) (map (system_state held torn) (noted disk.past)) honest) in
+            let over = told (file_is_honest disk.blocks (system_state held torn (file_below (file_of disk))) (map (λ (below : Watched (SystemFile W)). system_state held torn (file_below below)) (noted disk.past)) honest) in
             let clean = opened_clean (held_bytes (held opened path)) (system_state held torn file) (real_disk held torn disk) state over in
             (there ∙ ap Some (sym clean.0), clean.1)
 
     -- a file was made, and zeros written to it
-    pub creates : (blocks : ℕ) → new ≡ Made noted_file ∷ old → system_state held torn file ≡ fresh [] → (result : Result (FileDisk (SystemFile W)) (SystemFile W))
-        → IfOk result (λ disk. IsOver blocks (system_state held torn (file_of disk)) (real_disk held torn disk))
-        → IfOk result (λ disk. (system_state held torn (file_of disk)).honest ≡ true → (system_state held torn file).bytes ≡ [] → IsZero (real_disk held torn disk))
-        → (made : Option (FileDisk (SystemFile W))) → made ≡ result_ok result
+    pub creates : (blocks : ℕ) → new ≡ Made noted_file ∷ old → system_state held torn file ≡ fresh [] → (result : Result (FileDisk (Watched (SystemFile W))) (Watched (SystemFile W)))
+        → IfOk result (λ disk. IsOver blocks (system_state held torn (file_below (file_of disk))) (real_disk held torn disk))
+        → IfOk result (λ disk. (system_state held torn (file_below (file_of disk))).honest ≡ true → (system_state held torn file).bytes ≡ [] → IsZero (real_disk held torn disk))
+        → (made : Option (FileDisk (Watched (SystemFile W)))) → made ≡ result_ok result
         → honest_after held torn new ≡ true → Creates path blocks (option_map (real_disk held torn) made) (known old) (known new)
     creates blocks more state result over zeros made said honest =
         let all : honest_after held torn (Made noted_file ∷ old) ≡ true = rw more at honest in
@@ -105,52 +116,45 @@ module _ {W : Type 0} (held : ℕ → List ℕ → Option (List ℕ)) (torn : �
         record {
           absent = rw said (go_absent none result);
           zero = rw said (go_zero result over zeros);
+          fresh = rw said (fresh_disk (λ disk. blocks) result over);
           stays = λ contents there. let no : None ≡ Some contents = sym none ∙ there in absurd cc;
           others = λ other differ.
               let step : files_after held torn (Made noted_file ∷ old) other ≡ files_after held torn old other = rw (is, name, apart other path differ) refl in
               rw more step;
         }
       where
-        go_absent : files_after held torn old path ≡ None → (result : Result (FileDisk (SystemFile W)) (SystemFile W)) → IfSome (option_map (real_disk held torn) (result_ok result)) (λ s. files_after held torn old path ≡ None)
+        go_absent : files_after held torn old path ≡ None → (result : Result (FileDisk (Watched (SystemFile W))) (Watched (SystemFile W))) → IfSome (option_map (real_disk held torn) (result_ok result)) (λ s. files_after held torn old path ≡ None)
         go_absent none (Err back) = tt
         go_absent none (Ok disk) = none
 
-        go_zero : (result : Result (FileDisk (SystemFile W)) (SystemFile W))
-            → IfOk result (λ disk. IsOver blocks (system_state held torn (file_of disk)) (real_disk held torn disk))
-            → IfOk result (λ disk. (system_state held torn (file_of disk)).honest ≡ true → (system_state held torn file).bytes ≡ [] → IsZero (real_disk held torn disk))
+        go_zero : (result : Result (FileDisk (Watched (SystemFile W))) (Watched (SystemFile W)))
+            → IfOk result (λ disk. IsOver blocks (system_state held torn (file_below (file_of disk))) (real_disk held torn disk))
+            → IfOk result (λ disk. (system_state held torn (file_below (file_of disk))).honest ≡ true → (system_state held torn file).bytes ≡ [] → IsZero (real_disk held torn disk))
             → IfSome (option_map (real_disk held torn) (result_ok result)) (λ s. s.honest ≡ true → (s.blocks ≡ blocks) × (s.now.contents ≡ replicate blocks (replicate 4096 0)))
         go_zero (Err back) over zeros = tt
         go_zero (Ok disk) over zeros = λ honest.
-            let whole = file_is_honest disk.blocks (system_state held torn (file_of disk)) (map (system_state held torn) (noted disk.past)) honest in
+            let whole = file_is_honest disk.blocks (system_state held torn (file_below (file_of disk))) (map (λ (below : Watched (SystemFile W)). system_state held torn (file_below below)) (noted disk.past)) honest in
             let empty : (system_state held torn file).bytes ≡ [] = ap (λ (f : FileState). f.bytes) state in
             let zero = (zeros whole empty).zero in
             let size : (real_disk held torn disk).blocks ≡ blocks = over.blocks in
             (size, zero ∙ ap (λ n. replicate n (replicate 4096 0)) size)
 
   -- a disk came back
-  pub takes_back : (disk : FileDisk (SystemFile W)) (given : History ℕ) (noted_disk : Snapshot (FileDisk (SystemFile W))) → noted_disk.value ≡ disk → reverse (noted given) ≡ path
+  pub takes_back : (disk : FileDisk (Watched (SystemFile W))) (given : History ℕ) (noted_disk : Snapshot (FileDisk (Watched (SystemFile W)))) → noted_disk.value ≡ disk → reverse (noted given) ≡ path
       → new ≡ Given given noted_disk ∷ old → honest_after held torn new ≡ true → TakesBack path (real_disk held torn disk) (known old) (known new)
   takes_back disk given noted_disk is name more honest =
       let all : honest_after held torn (Given given noted_disk ∷ old) ≡ true = rw more at honest in
       let raw : (real_disk held torn noted_disk.value).honest ≡ true = (and_parts _ _ all).0 in
       let itself : bytes_eq path path ≡ true = (bytes_eq-Decides path path).1 refl in
       let here : files_after held torn (Given given noted_disk ∷ old) path ≡ Some (real_disk held torn disk).now.contents = rw (is, name, itself) refl in
+      let last : came_after held torn (Given given noted_disk ∷ old) path ≡ Some (real_disk held torn noted_disk.value) = rw (name, itself) refl in
+      let there : came_after held torn (Given given noted_disk ∷ old) path ≡ Some (real_disk held torn disk) =
+      last ∙ ap (λ (d : FileDisk (Watched (SystemFile W))). Some (real_disk held torn d)) is in
       record {
-        honest = subst (λ (d : FileDisk (SystemFile W)). (real_disk held torn d).honest ≡ true) is raw;
+        honest = subst (λ (d : FileDisk (Watched (SystemFile W))). (real_disk held torn d).honest ≡ true) is raw;
         holds = rw more here;
+        came = rw more there;
         others = λ other differ.
             let step : files_after held torn (Given given noted_disk ∷ old) other ≡ files_after held torn old other = rw (name, apart other path differ) refl in
             rw more step;
       }
-
-module _ {W : Type 0} (held : ℕ → List ℕ → Option (List ℕ)) (torn : ℕ → List ℕ → ℕ → List ℕ) (path : List ℕ) (old new : List (Event W)) where
-  -- a file was opened for reading alone: what is known of the files is as if it had been found
-  pub looks : (file : SystemFile W) (noted_file : Snapshot (SystemFile W)) → noted_file.value ≡ file → name_of file ≡ path → (opened : ℕ) → opening_of file ≡ opened → new ≡ Looked noted_file ∷ old
-      → system_state held torn file ≡ fresh (held_bytes (held opened path)) → (result : Result (FileDisk (SystemFile W)) (SystemFile W))
-      → IfOk result (λ disk. (system_state held torn (file_of disk)).honest ≡ true → IsOpened (system_state held torn file) (real_disk held torn disk))
-      → (seen : Option (FileDisk (SystemFile W))) → seen ≡ result_ok result
-      → honest_after held torn new ≡ true → Finds path (option_map (real_disk held torn) seen) (known held torn path old new old) (known held torn path old new new)
-  looks file noted_file is name opened opening more state result told seen said honest =
-      let all : honest_after held torn (Found noted_file ∷ old) ≡ true = rw more at honest in
-      let found = finds held torn path old (Found noted_file ∷ old) file noted_file is name opened opening refl state result told seen said all in
-      record { held = found.held; same = λ other. rw more (found.same other) }

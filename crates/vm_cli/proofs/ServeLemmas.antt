@@ -1,5 +1,5 @@
 -- How a talk ends.
-use Rattle.std.proofs.Common.{◌≡◌, ◌==◌, ◌++◌, ◌∙◌, ℕ, true, false, List, [], ◌∷◌, Option, Some, None, IfSome, Result, Ok, Err, take, refl, ap, sym, subst, arith, append-nil}
+use Rattle.std.proofs.Common.{◌≡◌, ◌==◌, ◌++◌, ◌∙◌, ℕ, Bool, true, false, List, [], ◌∷◌, Option, Some, None, IfSome, Result, Ok, Err, take, refl, ap, sym, subst, arith, append-nil}
 use Rattle.std.proofs.lemmas.Bool.Decides.{nat_tests}
 use Rattle.std.proofs.KnownBytes.{Consumes-trans, Consumes-whole}
 use Rattle.std.specs.Io.KnownBytes.{Consumes, IsAtEnd}
@@ -8,11 +8,12 @@ use Rattle.vm_store.specs.declared.store.Store.{Store}
 use Rattle.vm_cli.specs.Feeding.{Fed, Writes}
 use Rattle.vm_cli.specs.Lines.{IsPart, lines_of, onto_first}
 use Rattle.vm_cli.specs.Reading.{is_nil}
-use Rattle.vm_cli.specs.Talk.{HandlesLine, HasTalked, Serves, ServesLines}
+use Rattle.vm_cli.specs.Talk.{HandlesLine, Serves, ServesLines}
+use Rattle.vm_cli.specs.declared.talk.OnRefusal.{OnRefusal}
 use Rattle.vm_cli.specs.declared.talk.ServeFault.{ServeFault}
 use Rattle.vm_cli.specs.declared.talk.ServeFault.TheVariants as fault
 use Rattle.vm_cli.proofs.CarriedLemmas.{on_ok}
-use Rattle.vm_cli.proofs.FeedLemmas.{serves-after, serves-line}
+use Rattle.vm_cli.proofs.FeedLemmas.{joined, serves-after, serves-line}
 
 -- all was read
 pub read-all : (a b c : Option (List ℕ)) (bytes buf : List ℕ) (n : ℕ) → Consumes a b bytes → Consumes b c (take n buf) → n ≡ 0 → IsAtEnd c → IfSome a (λ own. own ≡ bytes)
@@ -38,35 +39,37 @@ last-line (b ∷ c ∷ to) part e =
     let other : (b == 10) ≡ false = grind (arith, nat_tests, part.0) in
     rw other (ap (onto_first b) (last-line (c ∷ to) part.1 refl))
 
-module _ {D : Type 0} {members : _} (old mid : Store D members) (s : State) (bytes to : List ℕ) (a b : Option (List ℕ)) (f : Fed old mid s bytes [] to a b) where
+module _ {D : Type 0} {members : _} (old mid : Store D members) (s : State) (on : OnRefusal) (refused : Bool) (bytes to : List ℕ) (a b : Option (List ℕ)) (f : Fed old mid s on refused bytes [] to a b) where
   cut-all : lines_of bytes ≡ f.lines ++ lines_of (to ++ [])
   cut-all = ap lines_of (sym (append-nil bytes)) ∙ f.cut []
 
   -- the input ended with a line's end
-  pub serves-all : {T : Type 0} (t : T) (known : Option (List ℕ)) → IfSome known (λ own. own ≡ bytes) → is_nil to ≡ true → Serves {T = T} old mid s (Ok t) a b known
-  serves-all t known own e =
+  pub serves-all : (known : Option (List ℕ)) → IfSome known (λ own. own ≡ bytes) → is_nil to ≡ true → Serves old mid s on (Ok refused) a b known
+  serves-all known own e =
       let lines : lines_of bytes ≡ f.lines = cut-all ∙ ap (λ ls. f.lines ++ ls) (no-lines to e) ∙ append-nil f.lines in
       record {
         input = bytes;
         own = own;
-        served = (f.text, subst (λ ls. HasTalked old mid s ls f.text) (sym lines) f.talked, f.written);
+        served = subst (λ ls. ServesLines old mid s on (Ok refused) a b ls) (sym lines) (f.text, f.talked, f.told, f.written);
       }
 
   -- it ended within a line
-  pub serves-last : {T : Type 0} (new : Store D members) (c known : Option (List ℕ)) (r : Result T ServeFault) → IfSome known (λ own. own ≡ bytes) → IsPart to → is_nil to ≡ false
-      → Writes (HandlesLine mid new (after s f.talked.commands f.talked.answers) to) r b c → Serves old new s r a c known
+  pub serves-last : (new : Store D members) (c known : Option (List ℕ)) (r : Result Bool ServeFault) → IfSome known (λ own. own ≡ bytes) → IsPart to → is_nil to ≡ false
+      → Writes on (HandlesLine mid new (after s f.talked.commands f.talked.answers) to) r b c → Serves old new s on (joined refused r) a c known
   serves-last new c known r own part e w =
       let lines : lines_of bytes ≡ f.lines ++ (to ∷ []) = cut-all ∙ ap (λ ls. f.lines ++ ls) (last-line to part e) in
-      let line = serves-line mid new (after s f.talked.commands f.talked.answers) to r b c [] (on_ok r refl) w in
+      let line = serves-line mid new (after s f.talked.commands f.talked.answers) on to r b c [] (on_ok r refl) w in
+      let whole = serves-after old mid new s on f.lines f.text f.talked r a b c (to ∷ []) f.written line in
       record {
         input = bytes;
         own = own;
-        served = subst (λ ls. ServesLines old new s r a c ls) (sym lines) (serves-after old mid new s f.lines f.text f.talked r a b c (to ∷ []) f.written line);
+        served = subst (λ ls. ServesLines old new s on (joined refused r) a c ls) (sym lines)
+            (subst (λ t. ServesLines old new s on (joined t r) a c (f.lines ++ (to ∷ []))) (sym f.told) whole);
       }
 
   -- the reader failed
-  pub serves-read : (T : Type 0) (known left : Option (List ℕ)) → Consumes known left bytes → Serves {T = T} old mid s (Err fault.Read) a b known
-  serves-read T known left read =
+  pub serves-read : (known left : Option (List ℕ)) → Consumes known left bytes → Serves old mid s on (Err fault.Read) a b known
+  serves-read known left read =
       let rest = read-some known left bytes read in
       record {
         input = bytes ++ rest.0;
@@ -75,8 +78,8 @@ module _ {D : Type 0} {members : _} (old mid : Store D members) (s : State) (byt
       }
 
 -- the talk ended among these bytes
-pub serves-some : {D : Type 0} {members : _} (old new : Store D members) (s : State) {T : Type 0} (result : Result T ServeFault) (a c known left : Option (List ℕ)) (bytes : List ℕ) → Consumes known left bytes
-    → ((more : List ℕ) → ServesLines old new s result a c (lines_of (bytes ++ more))) → Serves old new s result a c known
-serves-some old new s result a c known left bytes read ended =
+pub serves-some : {D : Type 0} {members : _} (old new : Store D members) (s : State) (on : OnRefusal) (result : Result Bool ServeFault) (a c known left : Option (List ℕ)) (bytes : List ℕ) → Consumes known left bytes
+    → ((more : List ℕ) → ServesLines old new s on result a c (lines_of (bytes ++ more))) → Serves old new s on result a c known
+serves-some old new s on result a c known left bytes read ended =
     let rest = read-some known left bytes read in
     record { input = bytes ++ rest.0; own = rest.1; served = ended rest.0 }

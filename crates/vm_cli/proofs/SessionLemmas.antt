@@ -1,5 +1,5 @@
 -- What a crash leaves from the moment at which a disk is found to that at which it comes back.
-use Rattle.std.proofs.Common.{◌≡◌, inl, inr, ℕ, true, false, List, [], length, Option, Result, refl, sym, ap, ◌∙◌, subst}
+use Rattle.std.proofs.Common.{◌≡◌, inl, inr, ℕ, Bool, true, false, List, [], length, Option, Result, Ok, Err, refl, sym, ap, ◌∙◌, subst}
 use Rattle.std.proofs.lemmas.List.{ext_get_or}
 use Rattle.vm_types.specs.State.{State, opened}
 use Rattle.vm_types.specs.Tree.{Tree}
@@ -15,7 +15,12 @@ use Rattle.vm_store.specs.declared.store.Store.{Store}
 use Rattle.vm_store.proofs.ShownLemmas.{shown_one}
 use Rattle.vm_cli.specs.Keeps.{Keeps, answers_of, commands_of}
 use Rattle.vm_cli.specs.Talk.{Serves}
+use Rattle.vm_cli.specs.Exits.{MayEnd}
+use Rattle.vm_cli.specs.Sessions.{end_of}
+use Rattle.vm_cli.specs.declared.talk.OnRefusal.{OnRefusal}
+use Rattle.vm_cli.specs.declared.talk.OnRefusal.TheVariants.{Ignore, Stop, Tell}
 use Rattle.vm_cli.specs.declared.talk.ServeFault.{ServeFault}
+use Rattle.vm_cli.specs.declared.talk.ServeFault.TheVariants as fault
 use Rattle.vm_cli.proofs.KeepLemmas.{Keeping, keeping_none, keeping_quiet}
 use Rattle.vm_cli.proofs.TalkKeepLemmas.{serves_keeps}
 
@@ -45,21 +50,34 @@ module _ (old new : disk.State) (tree : Tree) (leaves : Leaves (λ x. Shows x tr
 -- and so does one on which lines were answered
 module _ {D : Type 0} {members : _} (old : disk.State) (first last : Store D members) (opens : (members.state first.disk).honest ≡ true → OpensAs old.now.contents first)
     (synced : (members.state first.disk).honest ≡ true → Throughout old (members.state first.disk) (IsAtMostSynced old.now)) (well : has_failed first ≡ false) (goes : Goes ⊥ (members.state first.disk) (members.state last.disk)) where
-  session_keeps : {T : Type 0} (result : Result T ServeFault) (before then known : Option (List ℕ)) (serves : (s : State) → Serves first last s result before then known)
+  session_keeps : (on : OnRefusal) (result : Result Bool ServeFault) (before then known : Option (List ℕ)) (serves : (s : State) → Serves first last s on result before then known)
       → (members.state last.disk).honest ≡ true → (tree : Tree) → Leaves (λ x. Shows x tree) old.now
       → Keeps old (members.state last.disk) (opened tree) (commands_of (serves (opened tree))) (answers_of (serves (opened tree)))
-  session_keeps result before then known serves honest tree leaves =
+  session_keeps on result before then known serves honest tree leaves =
       let honest_first = goes.earlier honest in
       let at_first = opens honest_first in
       let same : at_first.tree ≡ tree = shown_one old.now.contents at_first.tree tree at_first.shown (leaves_held (λ x. Shows x tree) old.now leaves) in
       serves_keeps old (opened tree) first last (synced_keeping old (members.state first.disk) tree leaves (synced honest_first)) honest well
-      (subst (λ t. Holds first (opened t)) same at_first.holds) result before then known (serves (opened tree))
+      (subst (λ t. Holds first (opened t)) same at_first.holds) on result before then known (serves (opened tree))
 
   -- also on the disk that the store gives back
-  pub session_kept : {T : Type 0} (result : Result T ServeFault) (before then known : Option (List ℕ)) (serves : (s : State) → Serves first last s result before then known)
+  pub session_kept : (on : OnRefusal) (result : Result Bool ServeFault) (before then known : Option (List ℕ)) (serves : (s : State) → Serves first last s on result before then known)
       → (new : D) → new ≡ disk_of last → (members.state new).honest ≡ true → (tree : Tree)
       → Leaves (λ x. Shows x tree) old.now
       → Keeps old (members.state new) (opened tree) (commands_of (serves (opened tree))) (answers_of (serves (opened tree)))
-  session_kept result before then known serves new given honest tree leaves =
+  session_kept on result before then known serves new given honest tree leaves =
       subst (λ d. Keeps old (members.state d) (opened tree) (commands_of (serves (opened tree))) (answers_of (serves (opened tree)))) (sym given)
-      (session_keeps result before then known serves (subst (λ d. (members.state d).honest ≡ true) given honest) tree leaves)
+      (session_keeps on result before then known serves (subst (λ d. (members.state d).honest ≡ true) given honest) tree leaves)
+
+-- how the program may end after a talk
+pub may_end : {D : Type 0} {members : _} (first last : Store D members) (s : State) (on : OnRefusal) (result : Result Bool ServeFault) (before then known : Option (List ℕ)) → Serves first last s on result before then known
+    → MayEnd on (end_of on result)
+may_end first last s on (Ok false) before then known serves = inl refl
+may_end first last s Ignore (Ok true) before then known serves = inl refl
+may_end first last s Tell (Ok true) before then known serves = inr (inr (refl, λ e. cc))
+may_end first last s Stop (Ok true) before then known serves = inr (inr (refl, λ e. cc))
+may_end first last s on (Err fault.Read) before then known serves = inr (inl refl)
+may_end first last s on (Err fault.Write) before then known serves = inr (inl refl)
+may_end first last s on (Err fault.Store) before then known serves = inr (inl refl)
+may_end first last s on (Err fault.Refused) before then known serves =
+    inr (inr (refl, λ ignored. let bad : Ignore ≡ Stop = sym ignored ∙ serves.served.3 in cc))

@@ -19,6 +19,7 @@ use Rattle.vm_cli.specs.Spaces.{words_of}
 use Rattle.vm_cli.specs.Talk.{Answered, AnsweredRequest, Done, EndsTalk, HasTalked, Meets, Passes, Serves, Talks, after_line, with_answer, with_command}
 use Rattle.vm_cli.specs.declared.request.Request.{Request}
 use Rattle.vm_cli.specs.declared.request.Request.TheVariants as request
+use Rattle.vm_cli.specs.declared.talk.OnRefusal.{OnRefusal}
 use Rattle.vm_cli.specs.declared.talk.ServeFault.{ServeFault}
 use Rattle.vm_cli.specs.declared.talk.ServeFault.TheVariants as fault
 use Rattle.vm_cli.proofs.KeepLemmas.{Keeping, ShowsCommitted, keeping_more, keeping_quiet, keeps, keeps_failed}
@@ -68,11 +69,11 @@ module _ {D : Type 0} {members : _} (old new : Store D members) (s : State) (c :
 
 module _ {D : Type 0} {members : _} where
   -- a disk that is honest after lines was so before them
-  pub talks_earlier : (lines : List (List ℕ)) (old new : Store D members) (s : State) (text : List ℕ) (commands : List Command) (answers : List (Result Answer Refusal))
-      → Talks old new s lines text commands answers
+  pub talks_earlier : (lines : List (List ℕ)) (old new : Store D members) (s : State) (text : List ℕ) (commands : List Command) (answers : List (Result Answer Refusal)) (refused : Bool)
+      → Talks old new s lines text commands answers refused
       → (members.state new.disk).honest ≡ true → (members.state old.disk).honest ≡ true
-  talks_earlier [] old new s text commands answers talks honest = subst (λ (t : Store D members). (members.state t.disk).honest ≡ true) talks.0 honest
-  talks_earlier (line ∷ lines) old new s text commands answers talks honest = talks.5.passes.goes.earlier (talks_earlier lines talks.0 new _ talks.2 talks.3 talks.4 talks.9 honest)
+  talks_earlier [] old new s text commands answers refused talks honest = subst (λ (t : Store D members). (members.state t.disk).honest ≡ true) talks.0 honest
+  talks_earlier (line ∷ lines) old new s text commands answers refused talks honest = talks.5.passes.goes.earlier (talks_earlier lines talks.0 new _ talks.2 talks.3 talks.4 talks.9 talks.11 honest)
 
   -- before a command a crash shows what is committed
   stands_show : (store : Store D members) (s : State) → Holds store s → ShowsCommitted s (members.state store.disk).now
@@ -123,22 +124,22 @@ module _ {D : Type 0} {members : _} where
           either (inr failed) = keeps_failed start (members.state old.disk) s commands answers so_far (members.state new.disk) c a (carries.crash honest holds) (carries.failed.0 failed)
 
     -- lines that end no talk
-    talks_keeping : (lines : List (List ℕ)) (old new : Store D members) (commands : List Command) (answers : List (Result Answer Refusal)) (text : List ℕ) (later : List Command) (others : List (Result Answer Refusal))
-        → Talks old new (after s commands answers) lines text later others → SoFar old commands answers
+    talks_keeping : (lines : List (List ℕ)) (old new : Store D members) (commands : List Command) (answers : List (Result Answer Refusal)) (text : List ℕ) (later : List Command) (others : List (Result Answer Refusal)) (refused : Bool)
+        → Talks old new (after s commands answers) lines text later others refused → SoFar old commands answers
         → (members.state new.disk).honest ≡ true → has_failed old ≡ false → Holds old (after s commands answers)
         → SoFar new (commands ++ later) (answers ++ others)
-    talks_keeping [] old new commands answers text later others talks so_far honest sound holds =
+    talks_keeping [] old new commands answers text later others refused talks so_far honest sound holds =
         rw (talks.0, talks.2, talks.3, append-nil commands, append-nil answers) so_far
-    talks_keeping (line ∷ lines) old new commands answers text later others talks so_far honest sound holds =
+    talks_keeping (line ∷ lines) old new commands answers text later others refused talks so_far honest sound holds =
         let mid = talks.0 in
         let step = talks.5 in
         let done = step.done in
-        let honest_mid = talks_earlier lines mid new _ talks.2 talks.3 talks.4 talks.9 honest in
+        let honest_mid = talks_earlier lines mid new _ talks.2 talks.3 talks.4 talks.9 talks.11 honest in
         let sound_mid = step.still refl ∙ sound in
         let state : after s (commands ++ with_command done []) (answers ++ with_answer done []) ≡ after_line (after s commands answers) done = after_line-is s commands answers done so_far.run.last.same in
         let stands : Holds mid (after_line (after s commands answers) done) = step.holds record { honest = honest_mid; holds = holds } sound_mid in
-        let all = talks_keeping lines mid new (commands ++ with_command done []) (answers ++ with_answer done []) talks.2 talks.3 talks.4
-        (subst (λ t. Talks mid new t lines talks.2 talks.3 talks.4) (sym state) talks.9)
+        let all = talks_keeping lines mid new (commands ++ with_command done []) (answers ++ with_answer done []) talks.2 talks.3 talks.4 talks.9
+        (subst (λ t. Talks mid new t lines talks.2 talks.3 talks.4 talks.9) (sym state) talks.11)
         (line_keeping old mid commands answers so_far honest_mid holds line talks.1 false done step.answers step.passes sound_mid)
         honest sound_mid (subst (λ t. Holds mid t) (sym state) stands) in
         let these : (commands ++ with_command done []) ++ talks.3 ≡ commands ++ later = append_assoc commands (with_command done []) talks.3 ∙ ap (λ cs. commands ++ cs) (with_command-append done talks.3 ∙ sym talks.7) in
@@ -146,29 +147,30 @@ module _ {D : Type 0} {members : _} where
         subst (λ cs. SoFar new cs (answers ++ others)) these (subst (λ rs. SoFar new ((commands ++ with_command done []) ++ talks.3) rs) those all)
 
     module _ (old new : Store D members) (so_far : SoFar old [] []) (honest : (members.state new.disk).honest ≡ true) (sound : has_failed old ≡ false) (holds : Holds old s) where
-      talked_keeping : (lines : List (List ℕ)) (text : List ℕ) (talked : HasTalked old new s lines text)
+      talked_keeping : (on : OnRefusal) (lines : List (List ℕ)) (text : List ℕ) (talked : HasTalked old new s on lines text)
           → SoFar new talked.commands talked.answers
-      talked_keeping lines text talked = talks_keeping lines old new [] [] text talked.commands talked.answers talked.talks so_far honest sound holds
+      talked_keeping on lines text talked = talks_keeping lines old new [] [] text talked.commands talked.answers talked.refused talked.talks so_far honest sound holds
 
     -- a talk that ended with a line
     ended_keeps : (old new : Store D members) → SoFar old [] [] → (members.state new.disk).honest ≡ true
         → has_failed old ≡ false → Holds old s
-        → (ends : Bool) (all : List (List ℕ)) (text : List ℕ) (ended : EndsTalk old new s ends all text)
+        → (on : OnRefusal) (ends : Bool) (all : List (List ℕ)) (text : List ℕ) (ended : EndsTalk old new s on ends all text)
         → Keeps start (members.state new.disk) s (ended.talked.commands ++ with_command ended.handled.done []) (ended.talked.answers ++ with_answer ended.handled.done [])
-    ended_keeps old new so_far honest sound holds ends all text ended =
+    ended_keeps old new so_far honest sound holds on ends all text ended =
         let mid = ended.mid in
         let talked = ended.talked in
         let handled = ended.handled in
         let honest_mid = handled.passes.goes.earlier honest in
         let stands : Holds mid (after s talked.commands talked.answers) = talked.holds record { honest = honest_mid; holds = holds } (talked.still ∙ sound) in
-        line_keeps mid new talked.commands talked.answers (talked_keeping old mid so_far honest_mid sound holds ended.lines ended.earlier talked) honest stands ended.line ended.last ends handled.done handled.answers handled.passes
+        line_keeps mid new talked.commands talked.answers (talked_keeping old mid so_far honest_mid sound holds on ended.lines ended.earlier talked) honest stands ended.line ended.last ends handled.done handled.answers handled.passes
 
     -- each talk
     pub serves_keeps : (old new : Store D members) → SoFar old [] [] → (members.state new.disk).honest ≡ true
         → has_failed old ≡ false → Holds old s
-        → {T : Type 0} (result : Result T ServeFault) (before then known : Option (List ℕ)) (serves : Serves old new s result before then known)
+        → (on : OnRefusal) (result : Result Bool ServeFault) (before then known : Option (List ℕ)) (serves : Serves old new s on result before then known)
         → Keeps start (members.state new.disk) s (commands_of serves) (answers_of serves)
-    serves_keeps old new so_far honest sound holds (Ok t) before then known serves = keeps start (members.state new.disk) s _ _ (talked_keeping old new so_far honest sound holds _ serves.served.0 serves.served.1)
-    serves_keeps old new so_far honest sound holds (Err fault.Read) before then known serves = keeps start (members.state new.disk) s _ _ (talked_keeping old new so_far honest sound holds serves.served.1 serves.served.0 serves.served.4)
-    serves_keeps old new so_far honest sound holds (Err fault.Store) before then known serves = ended_keeps old new so_far honest sound holds true _ serves.served.0 serves.served.1
-    serves_keeps old new so_far honest sound holds (Err fault.Write) before then known serves = ended_keeps old new so_far honest sound holds serves.served.1 _ serves.served.0 serves.served.2
+    serves_keeps old new so_far honest sound holds on (Ok refused) before then known serves = keeps start (members.state new.disk) s _ _ (talked_keeping old new so_far honest sound holds on _ serves.served.0 serves.served.1)
+    serves_keeps old new so_far honest sound holds on (Err fault.Read) before then known serves = keeps start (members.state new.disk) s _ _ (talked_keeping old new so_far honest sound holds on serves.served.1 serves.served.0 serves.served.4)
+    serves_keeps old new so_far honest sound holds on (Err fault.Store) before then known serves = ended_keeps old new so_far honest sound holds on true _ serves.served.0 serves.served.1
+    serves_keeps old new so_far honest sound holds on (Err fault.Refused) before then known serves = ended_keeps old new so_far honest sound holds on false _ serves.served.0 serves.served.1
+    serves_keeps old new so_far honest sound holds on (Err fault.Write) before then known serves = ended_keeps old new so_far honest sound holds on serves.served.1 _ serves.served.0 serves.served.2

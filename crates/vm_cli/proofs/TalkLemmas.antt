@@ -1,10 +1,11 @@
 -- Which answers are given.
-use Rattle.std.proofs.Common.{◌≡◌, ◌≢◌, ◌↔◌, ◌⊎◌, inl, inr, ℕ, Bool, true, false, List, Option, Result, Ok, Err, IfOk, OnErr, OnOk, flat_map, length, refl, ap, sym, ◌∙◌}
+use Rattle.std.proofs.Common.{◌≡◌, ◌≢◌, ◌↔◌, ◌⊎◌, inl, inr, ◌++◌, ℕ, Bool, true, false, List, [], ◌∷◌, Option, Result, Ok, Err, IfOk, OnErr, OnOk, append_assoc, flat_map, length, refl, ap, sym, ◌∙◌}
 use Rattle.vm_types.specs.declared.answer.Answer.{Answer}
 use Rattle.vm_types.specs.declared.refusal.Refusal.{Refusal}
 use Rattle.vm_types.specs.declared.refusal.Refusal.TheVariants.{Device, Failed, Memory}
 use Rattle.vm_cli.specs.Carried.{Begins, Carries}
 use Rattle.vm_cli.specs.Feeding.{Replies}
+use Rattle.vm_cli.specs.Replies.{is_error, reply_text}
 use Rattle.vm_cli.specs.Talk.{SaysList, error_text, list_text, value_line}
 use Rattle.vm_cli.specs.declared.reply.Reply.{Reply}
 use Rattle.vm_cli.specs.declared.reply.Reply.TheVariants.{End}
@@ -31,17 +32,24 @@ pub says_value : (Fails : Type 0) (due r : Result (Option (List ℕ)) Refusal) (
 says_value Fails due r text fails is (inl device) = inr (is ∙ ap value_line device, fails device)
 says_value Fails due r text fails is (inr same) = inl (is ∙ ap value_line same)
 
+-- the lines of a list and its end are no refusal
+plain_list : {X : Type 0} (line : X → List ℕ) → ((x : X) (rest : List ℕ) → is_error (line x ++ rest) ≡ false) → (items : List X) (count : ℕ)
+    → is_error (flat_map line items ++ reply_text (End count)) ≡ is_error (reply_text (End count))
+plain_list line plain [] count = refl
+plain_list line plain (x ∷ xs) count = ap is_error (append_assoc (line x) (flat_map line xs) (reply_text (End count))) ∙ plain x (flat_map line xs ++ reply_text (End count))
+
 -- a list is written as is due
 pub list_replies : {X : Type 0} (C : Type 0) (P : List ℕ → Bool → Type 0) (Fails : Type 0) (line : X → List ℕ) (items : List X) (due : Result (List X) Refusal) (r : Result Reply WriteFault) (a b : Option (List ℕ)) (rest : List ℕ)
-    → ((text : List ℕ) → (C → SaysList Fails line due text) → P text false)
+    → ((x : X) (rest : List ℕ) → is_error (line x ++ rest) ≡ false) → ((text : List ℕ) → (C → SaysList Fails line due text) → P text false)
     → (C → due ≡ Ok items) → IfOk r (λ reply. reply ≡ End (length items)) → OnOk r (Carries a b rest (flat_map line items)) → OnErr r (Begins a b (flat_map line items))
     → Replies P r a b rest
-list_replies C P Fails line items due (Ok reply) a b rest lift is ends carries begins = record {
+list_replies C P Fails line items due (Ok reply) a b rest plain lift is ends carries begins = record {
   whole = flat_map line items;
   says = rw ends (lift (list_text line items) (λ c. inl (rw (is c) refl)));
+  tells = rw ends (plain_list line plain items (length items));
   carries = carries;
 }
-list_replies C P Fails line items due (Err fault) a b rest lift is ends carries begins = record {
+list_replies C P Fails line items due (Err fault) a b rest plain lift is ends carries begins = record {
   whole = list_text line items;
   ends = false;
   says = lift (list_text line items) (λ c. inl (rw (is c) refl));

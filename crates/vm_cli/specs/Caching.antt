@@ -11,6 +11,7 @@ use Rattle.vm_disk.specs.declared.disk.Disk.{Ghosts}
 use Rattle.vm_cli.specs.Keeps.{answers_of, commands_of}
 use Rattle.vm_cli.specs.Sessions.{HasServed}
 use Rattle.vm_cli.specs.declared.program.Exit.{Exit}
+use Rattle.vm_cli.specs.declared.talk.OnRefusal.{OnRefusal}
 
 module _ {D : Type 0} (members : Ghosts D) where
   -- a cache of so many blocks was made over the old disk, this was done with the cache, and the new disk is the one below it
@@ -24,17 +25,17 @@ module _ {D : Type 0} (members : Ghosts D) where
 
 module _ {D : Type 0} (members : Ghosts D) (cached : Ghosts (CachedDisk D members)) where
   -- lines were answered over a disk itself, or over a cache of so many of its blocks
-  abbrev pub IsServed : ℕ → D → D → Exit → Option (List ℕ) → Option (List ℕ) → Option (List ℕ) → Type 0
-  IsServed cache old new exit input before after =
-      HasServed members old new exit input before after
-      ⊎ IsDoneOverCache members cache (λ first last. HasServed cached first last exit input before after) old new
+  abbrev pub IsServed : ℕ → OnRefusal → D → D → Exit → Option (List ℕ) → Option (List ℕ) → Option (List ℕ) → Type 0
+  IsServed cache on old new exit input before after =
+      HasServed members on old new exit input before after
+      ⊎ IsDoneOverCache members cache (λ first last. HasServed cached on first last exit input before after) old new
 
   -- the commands among these lines, where the store stood for this state at first
-  abbrev pub commands_told : {cache : ℕ} {old new : D} {exit : Exit} {input before after : Option (List ℕ)} → IsServed cache old new exit input before after → State → List Command
+  abbrev pub commands_told : {cache : ℕ} {on : OnRefusal} {old new : D} {exit : Exit} {input before after : Option (List ℕ)} → IsServed cache on old new exit input before after → State → List Command
   commands_told (inl served) s = commands_of (served.serves s)
   commands_told (inr over) s = commands_of (over.done.serves s)
 
   -- the answers to them
-  abbrev pub answers_told : {cache : ℕ} {old new : D} {exit : Exit} {input before after : Option (List ℕ)} → IsServed cache old new exit input before after → State → List (Result Answer Refusal)
+  abbrev pub answers_told : {cache : ℕ} {on : OnRefusal} {old new : D} {exit : Exit} {input before after : Option (List ℕ)} → IsServed cache on old new exit input before after → State → List (Result Answer Refusal)
   answers_told (inl served) s = answers_of (served.serves s)
   answers_told (inr over) s = answers_of (over.done.serves s)

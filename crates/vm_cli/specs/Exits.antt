@@ -1,6 +1,6 @@
 -- How the program ends, and what it has written then.
 use Rattle.std.specs.Fmt.{decimal}
-use Rattle.std.specs.Prelude.{◌≡◌, ◌⊎◌, ◌++◌, ℕ, List, [], ◌∷◌, Option, Some, codes}
+use Rattle.std.specs.Prelude.{◌≡◌, ◌≢◌, ◌⊎◌, ◌++◌, ℕ, List, [], ◌∷◌, Option, Some, codes}
 use Rattle.std.specs.Io.KnownBytes.{Appends}
 use Rattle.clap.specs.Words.{IsAmong, Text, fault_of, subcommand_of}
 use Rattle.clap.specs.declared.error.kind.ErrorKind.{ErrorKind}
@@ -10,9 +10,11 @@ use Rattle.vm_types.specs.declared.refusal.Refusal.{Refusal}
 use Rattle.vm_types.specs.declared.refusal.Refusal.TheVariants.{AlreadyAStore, BadSize, Device}
 use Rattle.vm_cli.specs.Carried.{Begins}
 use Rattle.vm_cli.specs.Words.{Wanted, altctl, asked_of}
-use Rattle.vm_cli.specs.Words.Wanted.{check, create, run}
+use Rattle.vm_cli.specs.Words.Wanted.{check, create, do_lines, run}
 use Rattle.vm_cli.specs.declared.program.Exit.{Exit}
-use Rattle.vm_cli.specs.declared.program.Exit.TheVariants.{Done, Refused, WrongWords, Stopped}
+use Rattle.vm_cli.specs.declared.program.Exit.TheVariants.{Done, LineRefused, Refused, WrongWords, Stopped}
+use Rattle.vm_cli.specs.declared.talk.OnRefusal.{OnRefusal}
+use Rattle.vm_cli.specs.declared.talk.OnRefusal.TheVariants.{Ignore}
 
 -- the status of an end
 abbrev pub status_of : Exit → ℕ
@@ -20,6 +22,7 @@ status_of Done = 0
 status_of Refused = 1
 status_of WrongWords = 2
 status_of Stopped = 3
+status_of LineRefused = 4
 
 -- ---- texts, each with the line feed (10) at its end
 
@@ -54,11 +57,11 @@ unreadable_text = codes "altctl: the words are not UTF-8" ++ 10 ∷ []
 abbrev pub IsJob : List Text → Wanted → Type 0
 IsJob words job = (fault_of altctl words ≡ []) × (asked_of (subcommand_of altctl words) ≡ Some job)
 
--- an error that is no mistake
+-- an error that is no mistake: help or the version was asked for
 abbrev pub IsHelp : ErrorKind → Type 0
 IsHelp kind = (kind ≡ DisplayHelp) ⊎ (kind ≡ DisplayVersion)
 
--- the words ask for help
+-- the words ask for help, or for the version
 abbrev pub AskHelp : List Text → Type 0
 AskHelp words = (kind : ErrorKind) × IsHelp kind × IsAmong kind (fault_of altctl words)
 
@@ -73,10 +76,11 @@ MayRefuse refusal = (refusal ≡ BadSize) ⊎ ((refusal ≡ AlreadyAStore) ⊎ (
 -- what is said where a job has no disk, or the disk is refused
 abbrev pub SaysRefused : Wanted → List ℕ → Type 0
 SaysRefused (create file blocks) text = (text ≡ file_text (codes "altctl: cannot create ") file) ⊎ ((refusal : Refusal) × MayRefuse refusal × (text ≡ refused_text refusal))
-SaysRefused (run file cache) text = (text ≡ file_text (codes "altctl: cannot open ") file) ⊎ ((refusal : Refusal) × (text ≡ refused_text refusal))
+SaysRefused (run file cache on) text = (text ≡ file_text (codes "altctl: cannot open ") file) ⊎ ((refusal : Refusal) × (text ≡ refused_text refusal))
+SaysRefused (do_lines file input cache on) text = (text ≡ file_text (codes "altctl: cannot open ") file) ⊎ ((refusal : Refusal) × (text ≡ refused_text refusal))
 SaysRefused (check file) text = (text ≡ file_text (codes "altctl: cannot open ") file) ⊎ ((refusal : Refusal) × (text ≡ refused_text refusal))
 
--- a text for the output: help, that a store was made, or what one holds
+-- a text for the output: help or the version, that a store was made, or what one holds
 abbrev pub IsNews : List Text → List ℕ → Type 0
 IsNews words text =
     AskHelp words
@@ -87,9 +91,21 @@ IsNews words text =
 abbrev pub IsRefusal : List Text → List ℕ → Type 0
 IsRefusal words text = (job : Wanted) × IsJob words job × SaysRefused job text
 
+-- the words ask that lines are answered, and say what a refused one means
+abbrev pub AskTalk : List Text → OnRefusal → Type 0
+AskTalk words on = (file : Text) × (cache : ℕ) × (IsJob words (run file cache on) ⊎ ((input : List ℕ) × IsJob words (do_lines file input cache on)))
+
 -- the words ask that lines are answered
-abbrev pub AskTalk : List Text → Type 0
-AskTalk words = (file : Text) × (cache : ℕ) × IsJob words (run file cache)
+abbrev pub AskLines : List Text → Type 0
+AskLines words = (on : OnRefusal) × AskTalk words on
+
+-- the words ask that lines are answered, and that it is told where one is refused
+abbrev pub AskTold : List Text → Type 0
+AskTold words = (on : OnRefusal) × (on ≢ Ignore) × AskTalk words on
+
+-- lines that were answered may end so
+abbrev pub MayEnd : OnRefusal → Exit → Type 0
+MayEnd on exit = (exit ≡ Done) ⊎ ((exit ≡ Stopped) ⊎ ((exit ≡ LineRefused) × (on ≢ Ignore)))
 
 -- ---- ends
 
@@ -104,7 +120,11 @@ IsCutShort {F} in_faults text faults faults' = (said : F) × Begins (in_faults f
 module _ {W F : Type 0} (in_output : W → Option (List ℕ)) (in_faults : F → Option (List ℕ)) where
   -- all was done: a text was written to the output, or lines were answered, and nothing was said to the faults
   abbrev pub IsDone : List Text → W → W → F → F → Type 0
-  IsDone words output output' faults faults' = (faults' ≡ faults) × (((text : List ℕ) × IsNews words text × Appends (in_output output) (in_output output') text) ⊎ AskTalk words)
+  IsDone words output output' faults faults' = (faults' ≡ faults) × (((text : List ℕ) × IsNews words text × Appends (in_output output) (in_output output') text) ⊎ AskLines words)
+
+  -- lines were answered, and one was refused, which the words ask to be told: nothing was said to the faults
+  abbrev pub IsLineRefused : List Text → F → F → Type 0
+  IsLineRefused words faults faults' = (faults' ≡ faults) × AskTold words
 
   -- the file was refused: the faults say so, and nothing was written to the output
   abbrev pub IsRefused : List Text → W → W → F → F → Type 0
@@ -116,7 +136,7 @@ module _ {W F : Type 0} (in_output : W → Option (List ℕ)) (in_faults : F →
 
   -- the program stopped with the output: a text for it was begun, or lines were answered, or memory was wanting
   abbrev pub StopsOutput : List Text → W → W → Type 0
-  StopsOutput words output output' = (output' ≡ output) ⊎ (((text : List ℕ) × IsNews words text × Begins (in_output output) (in_output output') text) ⊎ AskTalk words)
+  StopsOutput words output output' = (output' ≡ output) ⊎ (((text : List ℕ) × IsNews words text × Begins (in_output output) (in_output output') text) ⊎ AskLines words)
 
   -- the program stopped with the faults: a text for them was begun
   abbrev pub StopsFaults : List Text → F → F → Type 0
@@ -133,6 +153,7 @@ module _ {W F : Type 0} (in_output : W → Option (List ℕ)) (in_faults : F →
   -- the end, before it is said that the program stopped
   abbrev pub Ends : Exit → List Text → W → W → F → F → Type 0
   Ends Done words output output' faults faults' = IsDone words output output' faults faults'
+  Ends LineRefused words output output' faults faults' = IsLineRefused words faults faults'
   Ends Refused words output output' faults faults' = IsRefused words output output' faults faults'
   Ends WrongWords words output output' faults faults' = IsWrong words output output' faults faults'
   Ends Stopped words output output' faults faults' = Stops words output output' faults faults'

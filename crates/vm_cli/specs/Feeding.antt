@@ -5,19 +5,22 @@ use Rattle.vm_types.specs.State.{State}
 use Rattle.vm_store.specs.declared.store.Store.{Store}
 use Rattle.vm_cli.specs.Carried.{Begins, Carries}
 use Rattle.vm_cli.specs.Lines.{lines_of}
-use Rattle.vm_cli.specs.Replies.{ends_talk, reply_text}
+use Rattle.vm_cli.specs.Replies.{ends_talk, is_error, reply_text}
 use Rattle.vm_cli.specs.Talk.{AnsweredRequest, Handled, HasTalked}
 use Rattle.vm_cli.specs.declared.reply.Reply.{Reply}
 use Rattle.vm_cli.specs.declared.request.Request.{Request}
+use Rattle.vm_cli.specs.declared.talk.OnRefusal.{OnRefusal}
+use Rattle.vm_cli.specs.declared.talk.OnRefusal.TheVariants.{Stop}
 use Rattle.vm_cli.specs.declared.talk.ServeFault.{ServeFault}
 use Rattle.vm_cli.specs.declared.talk.ServeFault.TheVariants as fault
 use Rattle.vm_cli.specs.declared.writing.WriteFault.{WriteFault}
 
 -- a reply ends an answer, and of what stands before it the rest is still to be written; `IsAnswer` tells of a text, and of whether
--- the talk ends with it, if it is the answer
+-- the talk ends with it, if it is the answer. The answer is that the line was refused where the reply is
 pub record Replied (IsAnswer : List ℕ → Bool → Type 0) (reply : Reply) (before after : Option (List ℕ)) (rest : List ℕ) : Type 0 where
   pub whole : List ℕ
   pub says : IsAnswer (whole ++ reply_text reply) (ends_talk reply)
+  pub tells : is_error (whole ++ reply_text reply) ≡ is_error (reply_text reply)
   pub carries : Carries before after rest whole
 
 -- the writer failed, after a beginning of an answer
@@ -33,21 +36,25 @@ Replies IsAnswer (Ok reply) before after rest = Replied IsAnswer reply before af
 Replies IsAnswer (Err fault) before after rest = Halted IsAnswer before after
 
 -- an answer was written whole, and the talk goes on or ends with it; or a beginning of it, where the writer failed
-abbrev pub Writes : {T : Type 0} → (List ℕ → Bool → Type 0) → Result T ServeFault → Option (List ℕ) → Option (List ℕ) → Type 0
-Writes IsAnswer (Ok t) before after = (text : List ℕ) × IsAnswer text false × Appends before after text
-Writes IsAnswer (Err fault.Read) before after = ⊥
-Writes IsAnswer (Err fault.Store) before after = (text : List ℕ) × IsAnswer text true × Appends before after text
-Writes IsAnswer (Err fault.Write) before after = (text : List ℕ) × (ends : Bool) × IsAnswer text ends × Begins before after text
+abbrev pub Writes : OnRefusal → (List ℕ → Bool → Type 0) → Result Bool ServeFault → Option (List ℕ) → Option (List ℕ) → Type 0
+Writes on IsAnswer (Ok refused) before after =
+    (text : List ℕ) × IsAnswer text false × (refused ≡ is_error text) × (on ≡ Stop → refused ≡ false) × Appends before after text
+Writes on IsAnswer (Err fault.Read) before after = ⊥
+Writes on IsAnswer (Err fault.Store) before after = (text : List ℕ) × IsAnswer text true × Appends before after text
+Writes on IsAnswer (Err fault.Refused) before after =
+    (text : List ℕ) × IsAnswer text false × (is_error text ≡ true) × (on ≡ Stop) × Appends before after text
+Writes on IsAnswer (Err fault.Write) before after = (text : List ℕ) × (ends : Bool) × IsAnswer text ends × Begins before after text
 
 module _ {D : Type 0} {members : _} where
   -- a request was answered so
   abbrev pub HandlesRequest : Store D members → Store D members → State → Request → List ℕ → Bool → Type 0
   HandlesRequest old new s request text ends = Handled old new s ends (AnsweredRequest old new s request text ends)
 
-  -- these bytes, after `from` of a line, were answered up to `to` of a line
-  pub record Fed (old new : Store D members) (s : State) (bytes from to : List ℕ) (before after : Option (List ℕ)) : Type 0 where
+  -- these bytes, after `from` of a line, were answered up to `to` of a line, and a line was refused or none
+  pub record Fed (old new : Store D members) (s : State) (on : OnRefusal) (refused : Bool) (bytes from to : List ℕ) (before after : Option (List ℕ)) : Type 0 where
     pub lines : List (List ℕ)
     pub text : List ℕ
     pub cut : (more : List ℕ) → lines_of (from ++ (bytes ++ more)) ≡ lines ++ lines_of (to ++ more)
-    pub talked : HasTalked old new s lines text
+    pub talked : HasTalked old new s on lines text
+    pub told : refused ≡ talked.refused
     pub written : Appends before after text

@@ -11,6 +11,7 @@ use Rattle.vm_disk.specs.Disk.{Contents, LeftAt, moment}
 use Rattle.vm_store.specs.Shown.{Shows}
 use Rattle.vm_store.specs.declared.store.Store.{Store}
 use Rattle.vm_cli.specs.Talk.{EndsTalk, Serves, with_answer, with_command}
+use Rattle.vm_cli.specs.declared.talk.OnRefusal.{OnRefusal}
 use Rattle.vm_cli.specs.declared.talk.ServeFault.{ServeFault}
 use Rattle.vm_cli.specs.declared.talk.ServeFault.TheVariants as fault
 
@@ -29,27 +30,29 @@ pub record Keeps (old new : disk.State) (s : State) (commands : List Command) (a
 
 module _ {D : Type 0} {members : _} where
   -- the commands of a talk that ended with a line: that line's own comes last
-  abbrev pub commands_ended : {old new : Store D members} {s : State} {ends : Bool} {all : List (List ℕ)} {text : List ℕ}
-      → EndsTalk old new s ends all text → List Command
+  abbrev pub commands_ended : {old new : Store D members} {s : State} {on : OnRefusal} {ends : Bool} {all : List (List ℕ)} {text : List ℕ}
+      → EndsTalk old new s on ends all text → List Command
   commands_ended ended = ended.talked.commands ++ with_command ended.handled.done []
 
   -- the answers to them
-  abbrev pub answers_ended : {old new : Store D members} {s : State} {ends : Bool} {all : List (List ℕ)} {text : List ℕ}
-      → EndsTalk old new s ends all text → List (Result Answer Refusal)
+  abbrev pub answers_ended : {old new : Store D members} {s : State} {on : OnRefusal} {ends : Bool} {all : List (List ℕ)} {text : List ℕ}
+      → EndsTalk old new s on ends all text → List (Result Answer Refusal)
   answers_ended ended = ended.talked.answers ++ with_answer ended.handled.done []
 
   -- the commands among the lines that a talk answered, also the last one where its answer wasn't written whole
-  abbrev pub commands_of : {T : Type 0} {old new : Store D members} {s : State} {result : Result T ServeFault}
-      {before after known : Option (List ℕ)} → Serves old new s result before after known → List Command
-  commands_of {result = Ok t} serves = serves.served.1.commands
+  abbrev pub commands_of : {old new : Store D members} {s : State} {on : OnRefusal} {result : Result Bool ServeFault}
+      {before after known : Option (List ℕ)} → Serves old new s on result before after known → List Command
+  commands_of {result = Ok refused} serves = serves.served.1.commands
   commands_of {result = Err fault.Read} serves = serves.served.4.commands
   commands_of {result = Err fault.Store} serves = commands_ended serves.served.1
+  commands_of {result = Err fault.Refused} serves = commands_ended serves.served.1
   commands_of {result = Err fault.Write} serves = commands_ended serves.served.2
 
   -- the answers to them
-  abbrev pub answers_of : {T : Type 0} {old new : Store D members} {s : State} {result : Result T ServeFault}
-      {before after known : Option (List ℕ)} → Serves old new s result before after known → List (Result Answer Refusal)
-  answers_of {result = Ok t} serves = serves.served.1.answers
+  abbrev pub answers_of : {old new : Store D members} {s : State} {on : OnRefusal} {result : Result Bool ServeFault}
+      {before after known : Option (List ℕ)} → Serves old new s on result before after known → List (Result Answer Refusal)
+  answers_of {result = Ok refused} serves = serves.served.1.answers
   answers_of {result = Err fault.Read} serves = serves.served.4.answers
   answers_of {result = Err fault.Store} serves = answers_ended serves.served.1
+  answers_of {result = Err fault.Refused} serves = answers_ended serves.served.1
   answers_of {result = Err fault.Write} serves = answers_ended serves.served.2

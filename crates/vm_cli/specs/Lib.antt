@@ -6,6 +6,7 @@ pub mod Numbers
 pub mod Pieces
 pub mod Requests
 pub mod Spaces
+pub mod Given
 pub mod Words
 pub mod Replies
 pub mod Settlements
@@ -18,6 +19,7 @@ pub mod Sessions
 pub mod Caching
 pub mod Counting
 pub mod Places
+pub mod Progress
 pub mod Files
 pub mod RealFiles
 pub mod MemFiles

@@ -1,15 +1,19 @@
 -- What files in memory hold.
 use Rattle.std.specs.Prelude.{option_map}
 use Rattle.std.specs.BTreeMap.{get_by_text}
-use Rattle.vm_disk.specs.Disk.{Contents}
+use Rattle.vm_disk.specs.Disk.{Contents, State}
 use Rattle.vm_disk.specs.Memory.{memory_state}
 use Rattle.vm_cli.specs.Places.{PlaceState}
 use Rattle.vm_cli.specs.declared.mem_files.MemFiles.{MemFiles}
 use Rattle.vm_cli.specs.declared.mem_files.Slot.{Slot}
 
+-- the disk of a file when it was made or came back last
+abbrev pub slot_state : Slot → State
+slot_state slot = memory_state slot.held.value
+
 -- what a file holds, also while its disk is out
 abbrev pub slot_contents : Slot → Contents
-slot_contents slot = (memory_state slot.held.value).now.contents
+slot_contents slot = (slot_state slot).now.contents
 
 -- what is known of files in memory
 abbrev pub files_state : MemFiles → PlaceState
@@ -17,4 +21,5 @@ files_state place =
     record {
       honest = place.honest;
       files = λ name. option_map slot_contents (get_by_text place.slots name);
+      came = λ name. option_map slot_state (get_by_text place.slots name);
     }

@@ -3,13 +3,15 @@ use Rattle.std.specs.Prelude.{ℕ, ◌+◌, ◌-◌, ◌/◌, ◌^◌, ◌&&◌,
 use Rattle.vm_disk.specs.Disk.{Contents, State}
 use Rattle.vm_disk.specs.File.{file_blocks, file_of, file_state}
 use Rattle.vm_disk.specs.Past.{noted}
-use Rattle.vm_disk.specs.System.{name_of, opening_of, system_state}
+use Rattle.vm_disk.specs.System.{is_read_alone, name_of, opening_of, system_state}
 use Rattle.vm_disk.specs.declared.file.FileDisk.{FileDisk}
 use Rattle.vm_disk.specs.declared.system.SystemFile.{SystemFile}
 use Rattle.vm_cli.specs.Places.{PlaceState}
+use Rattle.vm_cli.specs.Progress.{file_below}
 use Rattle.vm_cli.specs.declared.place.Event.{Event}
-use Rattle.vm_cli.specs.declared.place.Event.TheVariants.{Found, Looked, Made, Given}
+use Rattle.vm_cli.specs.declared.place.Event.TheVariants.{Found, Made, Missed, Given}
 use Rattle.vm_cli.specs.declared.place.RealFiles.{RealFiles}
+use Rattle.vm_cli.specs.declared.progress.Watched.{Watched}
 
 -- the whole blocks of these bytes, as many as a disk may have
 abbrev pub whole_blocks : List ℕ → Contents
@@ -36,35 +38,65 @@ is_absent (Some contents) = false
 abbrev pub blocks_held : (ℕ → List ℕ → Option (List ℕ)) → ℕ → List ℕ → Option Contents
 blocks_held held opened name = option_map whole_blocks (held opened name)
 
+-- how often one was asked for that may be written, by what was done: each that was opened but to be read alone, and each that was
+-- missed
+abbrev pub writes_after : {W : Type 0} → List (Event W) → ℕ
+writes_after [] = 0
+writes_after (Found file ∷ events) = if is_read_alone file.value then writes_after events else writes_after events + 1
+writes_after (Made file ∷ events) = if is_read_alone file.value then writes_after events else writes_after events + 1
+writes_after (Missed ∷ events) = writes_after events + 1
+writes_after (Given given disk ∷ events) = writes_after events
+
+-- how often the files of the system were asked for one that may be written
+abbrev pub asked_to_write : {R W : Type 0} → RealFiles R W → ℕ
+asked_to_write place = writes_after (noted place.events)
+
+-- how often they gave none
+abbrev pub times_denied : {R W : Type 0} → RealFiles R W → ℕ
+times_denied place = length (noted place.denied)
+
+-- no file was asked for so far: each holds what the world says, and no disk came back
+abbrev pub untouched : (ℕ → List ℕ → Option (List ℕ)) → PlaceState
+untouched held = record { honest = true; files = blocks_held held 0; came = λ name. None }
+
 module _ {W : Type 0} (held : ℕ → List ℕ → Option (List ℕ)) (torn : ℕ → List ℕ → ℕ → List ℕ) where
   -- what is known of a file's disk
-  abbrev pub real_disk : FileDisk (SystemFile W) → State
-  real_disk = file_state (system_state held torn)
+  abbrev pub real_disk : FileDisk (Watched (SystemFile W)) → State
+  real_disk = file_state (λ file. system_state held torn (file_below file))
 
   -- the name of a disk's file
-  abbrev pub disk_name : FileDisk (SystemFile W) → List ℕ
-  disk_name disk = name_of (file_of disk)
+  abbrev pub disk_name : FileDisk (Watched (SystemFile W)) → List ℕ
+  disk_name disk = name_of (file_below (file_of disk))
 
   -- what the file of a name holds after these events, the newest first: what a disk that came back holds, and else what the world
   -- says. Of a file that is being made the world says it
   abbrev pub files_after : List (Event W) → List ℕ → Option Contents
   files_after [] name = blocks_held held 0 name
   files_after (Found file ∷ events) name = files_after events name
-  files_after (Looked file ∷ events) name = files_after events name
   files_after (Made file ∷ events) name = if bytes_eq name (name_of file.value) then blocks_held held (opening_of file.value + 1) name else files_after events name
+  files_after (Missed ∷ events) name = files_after events name
   files_after (Given given disk ∷ events) name = if bytes_eq name (reverse (noted given)) then Some (real_disk disk.value).now.contents else files_after events name
+
+  -- the disk of a name as it was when it came back last
+  abbrev pub came_after : List (Event W) → List ℕ → Option State
+  came_after [] name = None
+  came_after (Found file ∷ events) name = came_after events name
+  came_after (Made file ∷ events) name = came_after events name
+  came_after (Missed ∷ events) name = came_after events name
+  came_after (Given given disk ∷ events) name = if bytes_eq name (reverse (noted given)) then Some (real_disk disk.value) else came_after events name
 
   -- each file was found as it was left, none was made that was there, and each disk came back honest, under its name
   abbrev pub honest_after : List (Event W) → Bool
   honest_after [] = true
   honest_after (Found file ∷ events) =
       is_as_left (blocks_held held (opening_of file.value) (name_of file.value)) (files_after events (name_of file.value)) && honest_after events
-  honest_after (Looked file ∷ events) =
-      is_as_left (blocks_held held (opening_of file.value) (name_of file.value)) (files_after events (name_of file.value)) && honest_after events
   honest_after (Made file ∷ events) = is_absent (files_after events (name_of file.value)) && honest_after events
+  honest_after (Missed ∷ events) = honest_after events
   honest_after (Given given disk ∷ events) =
       (real_disk disk.value).honest && (bytes_eq (disk_name disk.value) (reverse (noted given)) && honest_after events)
 
   -- what is known of the files of the system
   abbrev pub real_state : {R : Type 0} → RealFiles R W → PlaceState
-  real_state place = record { honest = honest_after (noted place.events); files = files_after (noted place.events) }
+  real_state place =
+      let events = noted place.events in
+      record { honest = honest_after events; files = files_after events; came = came_after events }

@@ -1,6 +1,7 @@
 -- The texts of answers.
 use Rattle.std.specs.Fmt.{decimal}
-use Rattle.std.specs.Prelude.{◌++◌, ℕ, Bool, true, false, List, [], ◌∷◌, Some, None, codes}
+use Rattle.std.specs.Prelude.{◌++◌, ℕ, Bool, true, false, List, [], ◌∷◌, Some, None, codes, take}
+use Rattle.std.specs.Str.{bytes_eq}
 use Rattle.vm_types.specs.Texts.{refusal_text}
 use Rattle.vm_cli.specs.Escapes.{value_text}
 use Rattle.vm_cli.specs.declared.reply.Reply.{Reply}
@@ -19,6 +20,10 @@ reply_text (Refused refusal) = codes "error " ++ (refusal_text refusal ++ 10 ∷
 reply_text (Last refusal) = codes "error " ++ (refusal_text refusal ++ 10 ∷ [])
 reply_text BadLine = codes "error 22 BadLine" ++ 10 ∷ []
 reply_text LongLine = codes "error 23 LongLine" ++ 10 ∷ []
+
+-- the answer is that a line was refused
+abbrev pub is_error : List ℕ → Bool
+is_error text = bytes_eq (take 6 text) (codes "error ")
 
 -- the talk ends with this answer
 abbrev pub ends_talk : Reply → Bool

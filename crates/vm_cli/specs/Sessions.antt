@@ -1,61 +1,84 @@
 -- What becomes of a disk on which a store is made, or lines are answered.
-use Rattle.std.specs.Prelude.{◌≡◌, ◌↔◌, ℕ, List, true, false, Option, Result, Ok, Err}
+use Rattle.std.specs.Prelude.{◌≡◌, ◌↔◌, ℕ, Bool, List, true, false, Option, Result, Ok, Err}
 use Rattle.vm_types.specs.declared.refusal.Refusal.{Refusal}
-use Rattle.vm_types.specs.declared.refusal.Refusal.TheVariants.{AlreadyAStore, BadSize}
+use Rattle.vm_types.specs.declared.refusal.Refusal.TheVariants.{AlreadyAStore, BadSize, Device}
 use Rattle.vm_types.specs.State.{State, opened}
 use Rattle.vm_types.specs.Tree.{Tree}
 use Rattle.vm_disk.specs.Disk as disk
 use Rattle.vm_disk.specs.Disk.{Goes, NoCalls}
 use Rattle.vm_disk.specs.Moments.{Leaves, Throughout}
+use Rattle.vm_disk.specs.declared.disk.Disk.{Ghosts}
 use Rattle.vm_store.specs.Formatting.{IsBadSize, IsFormatted}
 use Rattle.vm_store.specs.Opening.{OpensAs}
 use Rattle.vm_store.specs.Refused.{IsAtMostSynced, IsNoStore, IsRefused, IsStore}
 use Rattle.vm_store.specs.Shown.{Shows}
 use Rattle.vm_store.specs.Store.{Holds, disk_of, has_failed}
 use Rattle.vm_store.specs.declared.store.Store.{Store}
+use Rattle.vm_cli.specs.Counting.{IsCounted}
 use Rattle.vm_cli.specs.Keeps.{Keeps, answers_of, commands_of}
 use Rattle.vm_cli.specs.Talk.{Serves}
 use Rattle.vm_cli.specs.declared.program.Exit.{Exit}
-use Rattle.vm_cli.specs.declared.program.Exit.TheVariants.{Done, Stopped}
+use Rattle.vm_cli.specs.declared.program.Exit.TheVariants.{Done, LineRefused, Stopped}
+use Rattle.vm_cli.specs.declared.talk.OnRefusal.{OnRefusal}
+use Rattle.vm_cli.specs.declared.talk.OnRefusal.TheVariants.{Ignore, Stop, Tell}
 use Rattle.vm_cli.specs.declared.talk.ServeFault.{ServeFault}
+use Rattle.vm_cli.specs.declared.talk.ServeFault.TheVariants.{Refused}
+
+-- the end of a talk over all lines of which one was refused
+abbrev pub end_refused : OnRefusal → Exit
+end_refused Ignore = Done
+end_refused Tell = LineRefused
+end_refused Stop = LineRefused
 
 -- the end of a talk
-abbrev pub end_of : {T : Type 0} → Result T ServeFault → Exit
-end_of (Ok t) = Done
-end_of (Err fault) = Stopped
+abbrev pub end_of : OnRefusal → Result Bool ServeFault → Exit
+end_of on (Ok false) = Done
+end_of on (Ok true) = end_refused on
+end_of on (Err Refused) = LineRefused
+end_of on (Err fault) = Stopped
 
 -- a store of so many blocks was made where there was none, and is shown
 pub record HasMade (old new : disk.State) (blocks : ℕ) : Type 0 where
+  pub goes : Goes ⊥ old new
   pub none : new.honest ≡ true → IsNoStore old.now.contents
   pub shown : new.honest ≡ true → IsFormatted blocks new.now
 
--- no store was made, for this reason: one that was there stands as it was, and for a bad size no call was made
+-- no store was made, for this reason, Device only where a call of this disk failed, and AlreadyAStore only where there is one: that stands
+-- as it was, and for a bad size no call was made
 pub record HasMadeNone (old new : disk.State) (blocks : ℕ) (refusal : Refusal) : Type 0 where
+  pub goes : Goes (refusal ≡ Device) old new
   pub size : refusal ≡ BadSize ↔ IsBadSize blocks old.blocks
   pub untouched : refusal ≡ BadSize → NoCalls old new
-  pub already : new.honest ≡ true → refusal ≡ AlreadyAStore → new.now.contents ≡ old.now.contents
+  pub there : new.honest ≡ true → refusal ≡ AlreadyAStore → IsStore old.now.contents
   pub stands : new.honest ≡ true → IsStore old.now.contents → new.now.contents ≡ old.now.contents
 
--- the disk was refused for this reason, and at each moment nothing has changed, or all is synced
+-- the disk was refused for this reason, Device only where a call of this disk failed, and at each moment nothing has changed, or all is
+-- synced
 pub record HasRefused (old new : disk.State) (refusal : Refusal) : Type 0 where
-  pub goes : Goes ⊥ old new
+  pub goes : Goes (refusal ≡ Device) old new
   pub why : new.honest ≡ true → IsRefused old.now.contents refusal
   pub moments : new.honest ≡ true → Throughout old new (IsAtMostSynced old.now)
 
-module _ {D : Type 0} (members : _) where
+module _ {D : Type 0} (members : Ghosts D) where
+  -- the store that the disk showed was counted, and the disk came back: at each moment nothing has changed, or all is synced
+  pub record HasCounted (old new : D) (alternatives checkpoints free : ℕ) : Type 0 where
+    pub goes : Goes ⊥ (members.state old) (members.state new)
+    pub counted : (members.state new).honest ≡ true → IsCounted members (members.state old).now.contents alternatives checkpoints free
+    pub moments : (members.state new).honest ≡ true → Throughout (members.state old) (members.state new) (IsAtMostSynced (members.state old).now)
+
   -- the store that the disk showed was opened, the lines of an input were answered, which is the reader's own where that is known,
   -- and the disk came back as the store left it: it shows what was committed. The talk is told for each state, so for that of the
   -- opening, and each part as long as the disk is honest
-  pub record HasServed (old new : D) (exit : Exit) (input before after : Option (List ℕ)) : Type 0 where
+  pub record HasServed (on : OnRefusal) (old new : D) (exit : Exit) (input before after : Option (List ℕ)) : Type 0 where
     pub first : Store D members
     pub last : Store D members
-    pub served : Result (Unit {0}) ServeFault
+    pub served : Result Bool ServeFault
     pub found : Goes ⊥ (members.state old) (members.state first.disk)
     pub goes : Goes ⊥ (members.state first.disk) (members.state new)
     pub well : has_failed first ≡ false
     pub opens : (members.state first.disk).honest ≡ true → OpensAs (members.state old).now.contents first
-    pub serves : (s : State) → Serves first last s served before after input
-    pub ends : exit ≡ end_of served
+    pub serves : (s : State) → Serves first last s on served before after input
+    pub ends : exit ≡ end_of on served
     pub given_back : new ≡ disk_of last
     pub shown : (members.state new).honest ≡ true → has_failed last ≡ false → (s : State) → Holds last s
         → Shows (members.state new).now.contents s.committed

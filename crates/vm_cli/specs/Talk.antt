@@ -1,5 +1,5 @@
 -- What a talk promises: what each line is answered, and what the store is after it.
-use Rattle.std.specs.Prelude.{◌≡◌, ◌⊎◌, ◌<◌, ◌≤◌, ℕ, Bool, true, false, List, [], ◌∷◌, ◌++◌, Option, Some, None, Result, Ok, Err, IfSome, flat_map, length}
+use Rattle.std.specs.Prelude.{◌≡◌, ◌⊎◌, ◌||◌, ◌<◌, ◌≤◌, ℕ, Bool, true, false, List, [], ◌∷◌, ◌++◌, Option, Some, None, Result, Ok, Err, IfSome, flat_map, length}
 use Rattle.std.specs.Io.KnownBytes.{Appends}
 use Rattle.vm_types.specs.declared.answer.Answer.{Answer}
 use Rattle.vm_types.specs.declared.answer.Answer.TheVariants as answer
@@ -15,18 +15,20 @@ use Rattle.vm_types.specs.Queries.{value_in}
 use Rattle.vm_types.specs.Queries.{changes_in, checkpoints_in, conflicts_in, records_in}
 use Rattle.vm_store.specs.Resting.{spare_of}
 use Rattle.vm_store.specs.Running.{CarriesOut}
-use Rattle.vm_store.specs.Store.{Holds, free_of, has_failed}
+use Rattle.vm_store.specs.Store.{Holds, IsSameButDisk, free_of, has_failed}
 use Rattle.vm_store.specs.declared.store.Store.{Store}
 use Rattle.vm_cli.specs.Carried.{Begins}
 use Rattle.vm_cli.specs.Lines.{lines_of}
 use Rattle.vm_cli.specs.Listings.{alternative_text, change_text, checkpoint_text, conflict_text, record_text}
 use Rattle.vm_cli.specs.Reading.{without_return}
-use Rattle.vm_cli.specs.Replies.{reply_text}
+use Rattle.vm_cli.specs.Replies.{is_error, reply_text}
 use Rattle.vm_cli.specs.Requests.{request_of}
 use Rattle.vm_cli.specs.Spaces.{words_of}
 use Rattle.vm_cli.specs.declared.reply.Reply.TheVariants as reply
 use Rattle.vm_cli.specs.declared.request.Request.{Request}
 use Rattle.vm_cli.specs.declared.request.Request.TheVariants as request
+use Rattle.vm_cli.specs.declared.talk.OnRefusal.{OnRefusal}
+use Rattle.vm_cli.specs.declared.talk.OnRefusal.TheVariants.{Stop}
 use Rattle.vm_cli.specs.declared.talk.ServeFault.{ServeFault}
 use Rattle.vm_cli.specs.declared.talk.ServeFault.TheVariants as fault
 
@@ -107,10 +109,12 @@ module _ {D : Type 0} {members : _} where
     pub honest : (members.state new.disk).honest ≡ true
     pub holds : Holds old s
 
-  -- what a line asked of the device: any but a command only read
+  -- what a line did on any disk, and what it asked of the device: any but a command only read, and changed nothing of the store but
+  -- its disk
   pub record Passes (old new : Store D members) (done : Done) : Type 0 where
     pub goes : Goes ⊥ (members.state old.disk) (members.state new.disk)
     pub reads : (members.state new.disk).honest ≡ true → done ≡ None → OnlyReads (members.state old.disk) (members.state new.disk)
+    pub unchanged : done ≡ None → IsSameButDisk old new
 
   -- the store failed in a command, and a crash at any moment of it leaves what was committed, or what that command commits; or it
   -- had failed before, and was left as it was
@@ -161,26 +165,30 @@ module _ {D : Type 0} {members : _} where
   HandlesLine old new s line text ends = Handled old new s ends (Answered old new s line text ends)
 
   -- lines are answered one after another, and no answer ends the talk: each by the store that the line before left; the texts
-  -- joined, and the commands among the lines with their answers
-  abbrev pub Talks : Store D members → Store D members → State → List (List ℕ) → List ℕ → List Command → List (Result Answer Refusal) → Type 0
-  Talks old new s [] text commands answers = (new ≡ old) × (text ≡ []) × (commands ≡ []) × (answers ≡ [])
-  Talks old new s (line ∷ lines) text commands answers =
+  -- joined, the commands among the lines with their answers, and whether a line was refused
+  abbrev pub Talks : Store D members → Store D members → State → List (List ℕ) → List ℕ → List Command → List (Result Answer Refusal) → Bool → Type 0
+  Talks old new s [] text commands answers refused = (new ≡ old) × (text ≡ []) × (commands ≡ []) × (answers ≡ []) × (refused ≡ false)
+  Talks old new s (line ∷ lines) text commands answers refused =
       (mid : Store D members) × (first : List ℕ) × (rest : List ℕ) × (later : List Command) × (others : List (Result Answer Refusal))
       × (step : HandlesLine old mid s line first false)
       × (text ≡ first ++ rest) × (commands ≡ with_command step.done later) × (answers ≡ with_answer step.done others)
-      × Talks mid new (after_line s step.done) lines rest later others
+      × (again : Bool) × (refused ≡ (is_error first || again))
+      × Talks mid new (after_line s step.done) lines rest later others again
 
-  -- lines were answered so, and the store, where it hasn't failed, stands for what their commands leave
-  pub record HasTalked (old new : Store D members) (s : State) (lines : List (List ℕ)) (text : List ℕ) : Type 0 where
+  -- lines were answered so, and the store, where it hasn't failed, stands for what their commands leave. Where a refusal is to end
+  -- the talk, none of them was refused
+  pub record HasTalked (old new : Store D members) (s : State) (on : OnRefusal) (lines : List (List ℕ)) (text : List ℕ) : Type 0 where
     pub commands : List Command
     pub answers : List (Result Answer Refusal)
-    pub talks : Talks old new s lines text commands answers
+    pub refused : Bool
+    pub talks : Talks old new s lines text commands answers refused
+    pub goes_on : on ≡ Stop → refused ≡ false
     pub still : has_failed new ≡ has_failed old
     pub holds : Stood old new s → has_failed new ≡ false → Holds new (after s commands answers)
 
   -- a talk over all these lines that ended with one of them: those before it were answered, then it was, and no other. Where its
   -- answer ends the talk, the store stands for what the answers before it leave, as far as a failed store stands for something
-  pub record EndsTalk (old new : Store D members) (s : State) (ends : Bool) (all : List (List ℕ)) (text : List ℕ) : Type 0 where
+  pub record EndsTalk (old new : Store D members) (s : State) (on : OnRefusal) (ends : Bool) (all : List (List ℕ)) (text : List ℕ) : Type 0 where
     pub mid : Store D members
     pub lines : List (List ℕ)
     pub line : List ℕ
@@ -189,21 +197,25 @@ module _ {D : Type 0} {members : _} where
     pub last : List ℕ
     pub cut : all ≡ lines ++ line ∷ others
     pub texts : text ≡ earlier ++ last
-    pub talked : HasTalked old mid s lines earlier
+    pub talked : HasTalked old mid s on lines earlier
     pub handled : HandlesLine mid new (after s talked.commands talked.answers) line last ends
     pub stops : ends ≡ true → Stops mid new (after s talked.commands talked.answers)
 
-  -- a talk over all these lines. At Ok each was answered; at Read the first of them were; at Store the answer to one of them ended
-  -- the talk; and at Write the writer failed in the answer to one of them, and only a beginning of the texts was written
-  abbrev pub ServesLines : {T : Type 0} → Store D members → Store D members → State → Result T ServeFault → Option (List ℕ) → Option (List ℕ) → List (List ℕ) → Type 0
-  ServesLines old new s (Ok t) before after all = (text : List ℕ) × HasTalked old new s all text × Appends before after text
-  ServesLines old new s (Err fault.Read) before after all =
-      (text : List ℕ) × (lines : List (List ℕ)) × (others : List (List ℕ)) × (all ≡ lines ++ others) × HasTalked old new s lines text × Appends before after text
-  ServesLines old new s (Err fault.Store) before after all = (text : List ℕ) × EndsTalk old new s true all text × Appends before after text
-  ServesLines old new s (Err fault.Write) before after all = (text : List ℕ) × (ends : Bool) × EndsTalk old new s ends all text × Begins before after text
+  -- a talk over all these lines. At Ok each was answered, and it is said whether one was refused; at Read the first of them were; at
+  -- Store the answer to one of them ended the talk; at Refused one of them was refused, which was to end the talk; and at Write the
+  -- writer failed in the answer to one of them, and only a beginning of the texts was written
+  abbrev pub ServesLines : Store D members → Store D members → State → OnRefusal → Result Bool ServeFault → Option (List ℕ) → Option (List ℕ) → List (List ℕ) → Type 0
+  ServesLines old new s on (Ok refused) before after all =
+      (text : List ℕ) × (talked : HasTalked old new s on all text) × (refused ≡ talked.refused) × Appends before after text
+  ServesLines old new s on (Err fault.Read) before after all =
+      (text : List ℕ) × (lines : List (List ℕ)) × (others : List (List ℕ)) × (all ≡ lines ++ others) × HasTalked old new s on lines text × Appends before after text
+  ServesLines old new s on (Err fault.Store) before after all = (text : List ℕ) × EndsTalk old new s on true all text × Appends before after text
+  ServesLines old new s on (Err fault.Refused) before after all =
+      (text : List ℕ) × (ended : EndsTalk old new s on false all text) × (is_error ended.last ≡ true) × (on ≡ Stop) × Appends before after text
+  ServesLines old new s on (Err fault.Write) before after all = (text : List ℕ) × (ends : Bool) × EndsTalk old new s on ends all text × Begins before after text
 
   -- a talk over some input, which is what the reader had to give, where that is known
-  pub record Serves {T : Type 0} (old new : Store D members) (s : State) (result : Result T ServeFault) (before after : Option (List ℕ)) (known : Option (List ℕ)) : Type 0 where
+  pub record Serves (old new : Store D members) (s : State) (on : OnRefusal) (result : Result Bool ServeFault) (before after : Option (List ℕ)) (known : Option (List ℕ)) : Type 0 where
     pub input : List ℕ
     pub own : IfSome known (λ bytes. bytes ≡ input)
-    pub served : ServesLines old new s result before after (lines_of input)
+    pub served : ServesLines old new s on result before after (lines_of input)

@@ -1,13 +1,17 @@
 -- The command line of the program as clap reads it, and the job that clap's matches ask for.
-use Rattle.std.specs.Prelude.{ℕ, true, pos, List, [], ◌∷◌, Option, Some, None, codes, if◌then◌else◌, option_map, option_and_then}
+use Rattle.std.specs.Prelude.{ℕ, Bool, true, false, pos, List, [], ◌∷◌, Option, Some, None, codes, if◌then◌else◌, option_map, option_and_then}
 use Rattle.std.specs.Str.{bytes_eq}
 use Rattle.std.specs.Str.Parse.{digits_value, without_leading_plus}
 use Rattle.clap.specs.ValueTests.{is_unsigned_in}
-use Rattle.clap.specs.Words.{App, Row, Rule, Text, first_of, one_of, new_app, new_rule, with_rule, with_subcommand}
+use Rattle.clap.specs.Words.{App, Row, Rule, Text, all_of, first_of, one_of, new_app, new_rule, with_rule, with_subcommand}
 use Rattle.clap.specs.Simple.{on_top}
+use Rattle.clap.specs.declared.builder.action.ArgAction.TheVariants.{Append, SetTrue}
 use Rattle.clap.specs.declared.builder.value_parser.ValueParser.TheVariants as vp
+use Rattle.vm_cli.specs.declared.talk.OnRefusal.{OnRefusal}
+use Rattle.vm_cli.specs.declared.talk.OnRefusal.TheVariants.{Ignore, Stop, Tell}
 use Rattle.vm_cli.specs.declared.task.Job.{Job}
-use Rattle.vm_cli.specs.declared.task.Job.TheVariants.{Check, Create, Run}
+use Rattle.vm_cli.specs.declared.task.Job.TheVariants.{Check, Create, Do, Run}
+use Rattle.vm_cli.specs.Given.{input_of}
 
 -- the name of a file, which has to be there
 abbrev pub file_rule : Rule
@@ -34,44 +38,85 @@ cache_rule = record (new_rule (codes "cache")) {
   parser = Some (vp.Signed (pos 0) (pos 65536));
 }
 
--- `run [--cache N] FILE`
+-- whether a line that is refused ends the talk
+abbrev pub strict_rule : Rule
+strict_rule = record (new_rule (codes "strict")) {
+  long = Some (codes "strict");
+  action = Some SetTrue;
+}
+
+-- `run [--cache N] [--strict] FILE`
 abbrev pub run_app : App
-run_app = with_rule (with_rule (new_app (codes "run")) file_rule) cache_rule
+run_app = with_rule (with_rule (with_rule (new_app (codes "run")) file_rule) cache_rule) strict_rule
+
+-- lines, one of which has to be there
+abbrev pub line_rule : Rule
+line_rule = record (new_rule (codes "line")) {
+  required = true;
+  value_names = 1;
+  action = Some Append;
+}
+
+-- `do [--cache N] [--strict] FILE LINE..`
+abbrev pub do_app : App
+do_app = with_rule (with_rule (with_rule (with_rule (new_app (codes "do")) file_rule) line_rule) cache_rule) strict_rule
 
 -- `check FILE`
 abbrev pub check_app : App
 check_app = with_rule (new_app (codes "check")) file_rule
 
--- the program without its tasks, one of which has to be named
+-- the program without its tasks, one of which has to be named unless its version is asked for
 abbrev pub top_app : App
-top_app = on_top (λ s. record s { subcommand_required = true }) (new_app (codes "altctl"))
+top_app = on_top (λ s. record s { subcommand_required = true; has_version = true }) (new_app (codes "altctl"))
 
--- `altctl create FILE BLOCKS`, `altctl run [--cache N] FILE` and `altctl check FILE`
+-- `altctl create FILE BLOCKS`, `altctl run [--cache N] [--strict] FILE`, `altctl do [--cache N] [--strict] FILE LINE..` and
+-- `altctl check FILE`
 abbrev pub altctl : App
-altctl = with_subcommand (with_subcommand (with_subcommand top_app create_app.top) run_app.top) check_app.top
+altctl = with_subcommand (with_subcommand (with_subcommand (with_subcommand top_app create_app.top) run_app.top) do_app.top) check_app.top
 
--- a job, with the file's name itself in place of a reference to it
+-- a job, with the file's name itself in place of a reference to it, and the input of the lines that were given
 pub data Wanted : Type 0 where
   create : Text → ℕ → Wanted
-  run : Text → ℕ → Wanted
+  run : Text → ℕ → OnRefusal → Wanted
+  do_lines : Text → List ℕ → ℕ → OnRefusal → Wanted
   check : Text → Wanted
 
 -- what a job wants
 abbrev pub wanted_of : Job → Wanted
 wanted_of (Create file blocks) = create file.now blocks
-wanted_of (Run file cache) = run file.now cache
+wanted_of (Run file cache on) = run file.now cache on
+wanted_of (Do file input cache on) = do_lines file.now input.items cache on
 wanted_of (Check file) = check file.now
 
 -- the number that a text says, where it lies in the range
 abbrev pub number_in : ℕ → ℕ → Text → Option ℕ
 number_in low high text = if is_unsigned_in low high text then Some (digits_value 10 (without_leading_plus text)) else None
 
+-- whether a flag was given, by the text that its matches hold
+abbrev pub is_set : Option Text → Bool
+is_set None = false
+is_set (Some text) = bytes_eq text (codes "true")
+
+-- what a refused line means: it ends the talk where `--strict` was given
+abbrev pub refusal_by : OnRefusal → List Row → OnRefusal
+refusal_by on rows = if is_set (first_of (codes "strict") rows) then Stop else on
+
+-- how many blocks are kept in memory
+abbrev pub cache_by : List Row → Option ℕ
+cache_by rows = option_and_then (number_in 0 65536) (one_of (codes "cache") rows)
+
+-- what `do` with these matches wants of this file
+abbrev pub do_by : List Row → Text → Option Wanted
+do_by rows file =
+    option_and_then (λ lines. option_map (λ cache. do_lines file (input_of lines) cache (refusal_by Tell rows)) (cache_by rows)) (all_of (codes "line") rows)
+
 -- what a subcommand with these matches wants of this file
 abbrev pub asked_by : Text → List Row → Text → Option Wanted
 asked_by name rows file =
     if bytes_eq name (codes "create") then option_map (create file) (option_and_then (number_in 64 1048576) (one_of (codes "blocks") rows))
-    else (if bytes_eq name (codes "run") then option_map (run file) (option_and_then (number_in 0 65536) (one_of (codes "cache") rows))
-    else (if bytes_eq name (codes "check") then Some (check file) else None))
+    else (if bytes_eq name (codes "run") then option_map (λ cache. run file cache (refusal_by Ignore rows)) (cache_by rows)
+    else (if bytes_eq name (codes "do") then do_by rows file
+    else (if bytes_eq name (codes "check") then Some (check file) else None)))
 
 -- the job that the matches of a subcommand ask for
 abbrev pub asked_of : Option (Text × List Row) → Option Wanted

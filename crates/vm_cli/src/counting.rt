@@ -1,5 +1,5 @@
 //! What a store holds, counted.
-ghost use Rattle.std.specs.Prelude.{◌≡◌, ◌+◌, ◌≤◌, ◌++◌, false, length, IfErr, IfOk};
+ghost use Rattle.std.specs.Prelude.{◌≡◌, ◌≢◌, ◌+◌, ◌≤◌, ◌++◌, false, length, IfErr, IfOk};
 ghost use Rattle.vm_store.specs.Store.{Holds, free_of, has_failed};
 ghost use Rattle.vm_types.specs.Shape.{shape};
 ghost use Rattle.vm_types.specs.State.{State};
@@ -41,6 +41,7 @@ pub fn count<D: Disk>(alloc: Global, store: &Store<D>) -> Result<Counts, Refusal
     ensures counted { has_failed store.now ≡ false → (s : State) → Holds store.now s
         → IfOk result (λ counts. (counts.alternatives ≡ length s.working) × (counts.checkpoints ≡ checkpoint_count s.working) × (counts.free ≡ free_of store.now)) }
     ensures refused { has_failed store.now ≡ false → (s : State) → Holds store.now s → IfErr result (λ refusal. refusal ≡ Refusal.Memory) }
+    ensures never { has_failed store.now ≡ false → result ≢ Err Refusal.Device }
 {
     let alternatives = match store.alternatives(alloc) {
         Ok(alternatives) => alternatives,
@@ -70,6 +71,7 @@ fn count_checkpoints<D: Disk>(
         → IfOk result (λ count. count ≡ checkpoint_count s.working) }
     ensures refused { has_failed store.now ≡ false → (s : State) → Holds store.now s → listed.now ≡ shape s.working
         → IfErr result (λ refusal. refusal ≡ Refusal.Memory) }
+    ensures never { has_failed store.now ≡ false → result ≢ Err Refusal.Device }
 {
     let mut count: usize = 0;
     for alternative in listed {

@@ -98,15 +98,13 @@ fn push_spelled(text: &mut Text, bytes: &[u8])
     }
 }
 
-// Whether each byte is written as itself.
+// Whether each byte is written as itself. No byte ends the loop, so many are tested at once.
 fn are_plain(bytes: &[u8]) -> bool
     ensures { result ≡ true → ArePlain bytes.now }
 {
     let mut plain = true;
     for byte in bytes {
-        if !is_plain(*byte) {
-            plain = false;
-        }
+        plain &= is_plain(*byte);
     }
     plain
 }

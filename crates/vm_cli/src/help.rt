@@ -1,6 +1,13 @@
 //! The texts of help. In a session, a line after `> ` is the input's, and those below it are the
 //! answer.
 
+/// The program's version, the format number in the slots of its files, and what `rt version` says of
+/// the toolchain that it is proved and built with.
+pub const VERSION: &str = "\
+0.1.0
+file format 1
+proved with rattle-kit-13b logic dac8208d650f15bf";
+
 /// What the program is.
 pub const ALTCTL: &str = "\
 A version managed map store with alternatives.
@@ -34,10 +41,11 @@ What was not committed is gone when the input ends. altctl create --help says
 how many blocks to take, altctl run --help lists all lines and answers, and
 altctl check --help says when to check a store.
 
-Status: 0 where all was done, though single lines may have been refused; 1 where
-the file could not be made or opened, or is refused; 2 where the words are
-wrong; 3 where the store failed, the input could not be read or an output could
-not be written.";
+Status: 0 where all was done, though altctl run without --strict may have
+refused single lines; 1 where the file could not be made or opened, or is
+refused; 2 where the words are wrong; 3 where the store failed, the input could
+not be read or an output could not be written; 4 where altctl do, or altctl run
+--strict, refused a line.";
 
 /// What `create` does.
 pub const CREATE: &str = "\
@@ -75,7 +83,7 @@ Opens a store for reading alone, changes nothing, and prints how many
 alternatives, checkpoints and free blocks it has.";
 
 /// The file that `check` opens.
-pub const CHECK_FILE: &str = "The file, which need not be one that may be written";
+pub const CHECK_FILE: &str = "The file, a plain one, which need not be one that may be written";
 
 /// When to check a store.
 pub const CHECK_AFTER: &str = "\
@@ -107,6 +115,35 @@ pub const RUN_FILE: &str = "The file, as altctl create has made it";
 
 /// How many blocks `run` keeps in memory.
 pub const RUN_CACHE: &str = "How many blocks stay in memory: 0 to 65536";
+
+/// That a refused line ends `run` or `do`.
+pub const STRICT: &str = "Ends with the first line that is refused, with status 4";
+
+/// What `do` does.
+pub const DO: &str = "\
+Opens a store and answers the lines that the words are, one after another, as
+altctl run does. What was not committed is gone then.";
+
+/// The lines that `do` answers.
+pub const DO_LINE: &str = "A line, as altctl run answers it";
+
+/// What a refused line means to `do`.
+pub const DO_AFTER: &str = "\
+Where a line is refused, the status is 4. The lines after it are answered all
+the same, unless --strict is given: then it is the last. So with commit as the
+last line all of them are made last, or none is:
+
+  altctl do --strict map.alt 'put top 7 1 duct' 'put top 7 2 pipe' commit
+
+A line that begins with - is given behind --. altctl run --help lists all lines
+and answers.
+
+A session:
+
+  $ altctl do map.alt 'put top 7 1 cable%20A' 'get top 7 1' commit
+  ok
+  value cable%20A
+  ok";
 
 /// The lines that `run` answers.
 pub const RUN_AFTER: &str = "\
@@ -172,6 +209,7 @@ name:
   Device, memory    15 Device, 16 Memory, 18 Damaged BLOCK
   The line itself   22 BadLine, 23 LongLine
 
+With --strict the first line that is refused is the last, and the status is 4.
 Where 15 Device answers a change, the run ends: what was committed is there at
 the next one, and a commit that was answered so may be. docs/OPERATING.md says
 what helps in each case.

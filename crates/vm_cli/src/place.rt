@@ -1,10 +1,9 @@
 //! Where disks are found by name.
-ghost use Rattle.std.specs.Prelude.{◌≡◌, ◌+◌, ℕ, true, None, IfSome, length, option_map};
-ghost use Rattle.vm_disk.specs.Past.{noted};
+ghost use Rattle.std.specs.Prelude.{◌≡◌, ◌+◌, ℕ, true, None, IfSome, option_map};
 ghost use Rattle.vm_cli.specs.Places.{PlaceState, Creates, Finds, TakesBack};
 
+use crate::progress::{Progress, Watched};
 use std::fs::File;
-use std::io;
 use std::marker::PhantomData;
 use std::os::fd::AsRawFd;
 use std::rt::Files;
@@ -62,13 +61,14 @@ pub trait Place {
             → TakesBack file.now (Self.D.state disk) (state self.old) (state self.new) };
 }
 
-// What was done with a file of the system.
+// What was done with a file of the system. Missed is that one was to be had which may be written, and
+// was not.
 #[derive(Drop)]
-enum Event<W> {
+enum Event<'a, W> {
     Found(Snapshot<SystemFile<W>>),
-    Looked(Snapshot<SystemFile<W>>),
     Made(Snapshot<SystemFile<W>>),
-    Given(History<u8>, Snapshot<FileDisk<SystemFile<W>>>),
+    Missed,
+    Given(History<u8>, Snapshot<FileDisk<Watched<'a, SystemFile<W>>>>),
 }
 
 /// The files of the system. What they hold when they are opened no program can know: the world W says
@@ -79,102 +79,120 @@ enum Event<W> {
 /// what the disk model says that a crash may leave.
 ///
 /// As long as it is there, the standard input, output and error are open. One that was closed is open
-/// on a folder: reads fail there, and so do writes.
+/// on a folder: reads fail there, and so do writes. Where no folder can be opened it stays closed, and
+/// no file is opened in its place.
 #[derive(Drop)]
 pub struct RealFiles<'a, R, W> {
     rt: &'a R,
+    progress: &'a Progress,
     folders: [Option<File>; 3],
     opened: History<()>,
-    events: History<Event<W>>,
+    events: History<Event<'a, W>>,
     denied: History<()>,
-    to_write: History<()>,
     world: PhantomData<W>,
 }
 
-impl<'a, R: Files<File = File>, W> RealFiles<'a, R, W> {
-    /// The files that a runtime reaches. It opens what is closed of the standard input, output and
-    /// error, and fails where no file can be opened.
-    pub fn new(rt: &'a R) -> io::Result<RealFiles<'a, R, W>> {
-        let mut folders = [None, None, None];
-        for folder in &mut folders {
-            // An opened file has the lowest number that is free.
-            let opened = File::open(rt, "/")?;
-            if opened.as_raw_fd() > LAST_STANDARD {
-                break;
-            }
-            *folder = Some(opened);
+// Folders in the place of what is closed of the standard input, output and error, as far as they can be
+// opened.
+fn take_standard(rt: &impl Files<File = File>) -> [Option<File>; 3] {
+    let mut folders = [None, None, None];
+    for folder in &mut folders {
+        // An opened file has the lowest number that is free.
+        match File::open(rt, "/") {
+            Ok(opened) if opened.as_raw_fd() <= LAST_STANDARD => *folder = Some(opened),
+            _ => break,
         }
-        Ok(RealFiles {
+    }
+    folders
+}
+
+impl<'a, R: Files<File = File>, W: World> RealFiles<'a, R, W> {
+    ghost use Rattle.vm_cli.specs.RealFiles.{asked_to_write, real_state, times_denied, untouched};
+
+    /// The files that a runtime reaches, of which none was asked for so far. It opens what is closed of
+    /// the standard input, output and error, where that can be opened.
+    pub fn new(rt: &'a R, progress: &'a Progress) -> RealFiles<'a, R, W>
+        ensures state { real_state W.held W.torn result ≡ untouched W.held }
+        ensures denied { times_denied result ≡ 0 }
+        ensures to_write { asked_to_write result ≡ 0 }
+    {
+        RealFiles {
             rt,
-            folders,
+            progress,
+            folders: take_standard(rt),
             opened: History::new(),
             events: History::new(),
             denied: History::new(),
-            to_write: History::new(),
             world: PhantomData,
-        })
+        }
     }
 }
 
-impl<R: Files<File = File>, W: World> RealFiles<'_, R, W> {
-    ghost use Rattle.vm_cli.specs.RealFiles.{real_disk, real_state};
+impl<'a, R: Files<File = File>, W: World> RealFiles<'a, R, W> {
+    ghost use Rattle.vm_cli.specs.RealFiles.{asked_to_write, real_disk, real_state, times_denied};
 
     // Makes a file that is not there yet, and a disk of it.
-    fn made(&mut self, file: &str, blocks: u32) -> Option<FileDisk<SystemFile<W>>>
-        ensures denied { noted self.new.denied ≡ noted self.old.denied }
-        ensures to_write { noted self.new.to_write ≡ noted self.old.to_write }
+    fn made(&mut self, file: &str, blocks: u32) -> Option<FileDisk<Watched<'a, SystemFile<W>>>>
+        ensures denied { times_denied self.new ≡ times_denied self.old }
+        ensures to_write { asked_to_write self.new ≡ asked_to_write self.old + 1 }
         ensures earlier { (real_state W.held W.torn self.new).honest ≡ true → (real_state W.held W.torn self.old).honest ≡ true }
         ensures honest { (real_state W.held W.torn self.new).honest ≡ true
             → Creates file.now blocks (option_map (real_disk W.held W.torn) result) (real_state W.held W.torn self.old) (real_state W.held W.torn self.new) }
     {
-        let made = SystemFile::create(self.rt, file, &self.opened)?;
+        let Some(made) = SystemFile::create(self.rt, file, &self.opened) else {
+            self.events.note(&Event::Missed);
+            return None;
+        };
         self.opened.note(&());
         self.events.note(&Event::Made(Snapshot::of(&made)));
-        FileDisk::create(made, blocks).ok()
+        self.progress.set_total(u64::from(blocks));
+        FileDisk::create(Watched::new(made, self.progress), blocks).ok()
     }
 
     // Opens a file that is there, as a disk.
-    fn found(&mut self, file: &str) -> Option<FileDisk<SystemFile<W>>>
-        ensures denied { noted self.new.denied ≡ noted self.old.denied }
-        ensures to_write { noted self.new.to_write ≡ noted self.old.to_write }
+    fn found(&mut self, file: &str) -> Option<FileDisk<Watched<'a, SystemFile<W>>>>
+        ensures denied { times_denied self.new ≡ times_denied self.old }
+        ensures to_write { asked_to_write self.new ≡ asked_to_write self.old + 1 }
         ensures earlier { (real_state W.held W.torn self.new).honest ≡ true → (real_state W.held W.torn self.old).honest ≡ true }
         ensures honest { (real_state W.held W.torn self.new).honest ≡ true
             → Finds file.now (option_map (real_disk W.held W.torn) result) (real_state W.held W.torn self.old) (real_state W.held W.torn self.new) }
     {
-        let found = SystemFile::open(self.rt, file, &self.opened)?;
+        let Some(found) = SystemFile::open(self.rt, file, &self.opened) else {
+            self.events.note(&Event::Missed);
+            return None;
+        };
         self.opened.note(&());
         self.events.note(&Event::Found(Snapshot::of(&found)));
-        FileDisk::open(found).ok()
+        FileDisk::open(Watched::new(found, self.progress)).ok()
     }
 
     // Opens a file that is there for reading alone, as a disk.
-    fn looked(&mut self, file: &str) -> Option<FileDisk<SystemFile<W>>>
-        ensures denied { noted self.new.denied ≡ noted self.old.denied }
-        ensures to_write { noted self.new.to_write ≡ noted self.old.to_write }
+    fn looked(&mut self, file: &str) -> Option<FileDisk<Watched<'a, SystemFile<W>>>>
+        ensures denied { times_denied self.new ≡ times_denied self.old }
+        ensures to_write { asked_to_write self.new ≡ asked_to_write self.old }
         ensures earlier { (real_state W.held W.torn self.new).honest ≡ true → (real_state W.held W.torn self.old).honest ≡ true }
         ensures honest { (real_state W.held W.torn self.new).honest ≡ true
             → Finds file.now (option_map (real_disk W.held W.torn) result) (real_state W.held W.torn self.old) (real_state W.held W.torn self.new) }
     {
         let found = SystemFile::open_to_read(self.rt, file, &self.opened)?;
         self.opened.note(&());
-        self.events.note(&Event::Looked(Snapshot::of(&found)));
-        FileDisk::open(found).ok()
+        self.events.note(&Event::Found(Snapshot::of(&found)));
+        FileDisk::open(Watched::new(found, self.progress)).ok()
     }
 }
 
-impl<R: Files<File = File>, W: World> Place for RealFiles<'_, R, W> {
-    type D = FileDisk<SystemFile<W>>;
+impl<'a, R: Files<File = File>, W: World> Place for RealFiles<'a, R, W> {
+    type D = FileDisk<Watched<'a, SystemFile<W>>>;
 
-    ghost use Rattle.vm_cli.specs.RealFiles.{real_state};
+    ghost use Rattle.vm_cli.specs.RealFiles.{asked_to_write, real_state, times_denied};
 
     ghost state = { real_state W.held W.torn };
 
-    ghost denied = { λ place. length (noted place.denied) };
+    ghost denied = { times_denied };
 
-    ghost to_write = { λ place. length (noted place.to_write) };
+    ghost to_write = { asked_to_write };
 
-    fn create(&mut self, file: &str, blocks: u32) -> Option<FileDisk<SystemFile<W>>> {
-        self.to_write.note(&());
+    fn create(&mut self, file: &str, blocks: u32) -> Option<FileDisk<Watched<'a, SystemFile<W>>>> {
         let made = self.made(file, blocks);
         if made.is_none() {
             self.denied.note(&());
@@ -182,8 +200,7 @@ impl<R: Files<File = File>, W: World> Place for RealFiles<'_, R, W> {
         made
     }
 
-    fn find(&mut self, file: &str) -> Option<FileDisk<SystemFile<W>>> {
-        self.to_write.note(&());
+    fn find(&mut self, file: &str) -> Option<FileDisk<Watched<'a, SystemFile<W>>>> {
         let found = self.found(file);
         if found.is_none() {
             self.denied.note(&());
@@ -191,7 +208,7 @@ impl<R: Files<File = File>, W: World> Place for RealFiles<'_, R, W> {
         found
     }
 
-    fn look(&mut self, file: &str) -> Option<FileDisk<SystemFile<W>>> {
+    fn look(&mut self, file: &str) -> Option<FileDisk<Watched<'a, SystemFile<W>>>> {
         let found = self.looked(file);
         if found.is_none() {
             self.denied.note(&());
@@ -199,7 +216,7 @@ impl<R: Files<File = File>, W: World> Place for RealFiles<'_, R, W> {
         found
     }
 
-    fn give_back(&mut self, file: &str, disk: FileDisk<SystemFile<W>>) {
+    fn give_back(&mut self, file: &str, disk: FileDisk<Watched<'a, SystemFile<W>>>) {
         let name = noted_bytes(file.as_bytes());
         self.events.note(&Event::Given(name, Snapshot::of(&disk)));
     }

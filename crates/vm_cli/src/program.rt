@@ -4,7 +4,7 @@ use crate::caching::answer_lines_cached;
 use crate::counting::{Counts, count};
 use crate::place::Place;
 use crate::reply::push_refusal;
-use crate::talk::serve;
+use crate::talk::{OnRefusal, ServeFault, serve};
 use crate::task::Job;
 use crate::text::Text;
 use crate::words::job;
@@ -28,10 +28,12 @@ pub enum Exit {
     WrongWords,
     /// The input or an output failed, the store failed, or memory for the words was refused.
     Stopped,
+    /// A line was refused, which was to be told.
+    LineRefused,
 }
 
 impl Exit {
-    /// The exit status, from 0 to 3.
+    /// The exit status, from 0 to 4.
     pub fn status(self) -> u8
         ensures { result ≡ status_of self }
     {
@@ -40,6 +42,7 @@ impl Exit {
             Exit::Refused => 1,
             Exit::WrongWords => 2,
             Exit::Stopped => 3,
+            Exit::LineRefused => 4,
         }
     }
 }
@@ -50,14 +53,11 @@ ghost use Rattle.std.specs.String.{string_bytes};
 ghost use Rattle.clap.specs.Words.{kind_of};
 ghost use Rattle.vm_cli.specs.Carried.{Begins};
 ghost use Rattle.vm_types.specs.declared.refusal.Refusal.{Refusal as RefusalValue};
-ghost use Rattle.vm_disk.specs.Disk.{Goes};
 ghost use Rattle.vm_disk.specs.Moments.{Throughout};
 ghost use Rattle.vm_store.specs.Formatting.{IsFormatting};
-ghost use Rattle.vm_store.specs.Refused.{IsAtMostSynced, IsRefused as IsRefusedDisk};
-ghost use Rattle.vm_cli.specs.Counting.{IsCounted};
 ghost use Rattle.vm_cli.specs.Files.{Answers, Counts as CountsFile, Declines, Does, Makes};
-ghost use Rattle.vm_cli.specs.Sessions.{HasMade, HasMadeNone, HasRefused, HasServed};
-ghost use Rattle.vm_cli.specs.Exits.{Ends, IsDone, IsHelp, MayRefuse, IsRefused, IsStopped, IsCutShort, IsWrong, SaysRefused, Tells, check_text, created_text, file_text, refused_text, status_of, stopped_text, unreadable_text};
+ghost use Rattle.vm_cli.specs.Sessions.{HasCounted, HasMade, HasMadeNone, HasRefused, HasServed, end_of as end_of_talk};
+ghost use Rattle.vm_cli.specs.Exits.{Ends, IsDone, IsHelp, MayEnd, MayRefuse, IsLineRefused, IsRefused, IsStopped, IsCutShort, IsWrong, SaysRefused, Tells, check_text, created_text, file_text, refused_text, status_of, stopped_text, unreadable_text};
 ghost use Rattle.vm_cli.specs.Words.Wanted.{check as check_wanted, create as create_wanted, run as run_wanted};
 
 /// Does what the words say, of which the first is the program's name, and gives the exit status.
@@ -70,11 +70,12 @@ pub fn run_words<P: Place, R: Read, W: Write, F: Write>(
     output: &mut W,
     faults: &mut F,
 ) -> u8
-    ensures status { result ≤ 3 }
+    ensures status { result ≤ 4 }
     ensures done { result ≡ 0 → IsDone W.contents F.contents (map string_bytes words.now) output.old output.new faults.old faults.new }
     ensures refused { result ≡ 1 → IsRefused W.contents F.contents (map string_bytes words.now) output.old output.new faults.old faults.new }
     ensures wrong { result ≡ 2 → IsWrong W.contents F.contents (map string_bytes words.now) output.old output.new faults.old faults.new }
     ensures stopped { result ≡ 3 → IsStopped W.contents F.contents (map string_bytes words.now) output.old output.new faults.old faults.new }
+    ensures line_refused { result ≡ 4 → IsLineRefused W.contents F.contents (map string_bytes words.now) faults.old faults.new }
     // As long as the place has kept its rules, and its disks theirs, the files are what the job makes of them. Where the program stopped
     // that is said to the faults behind what the job said.
     ensures files { (P.state place.new).honest ≡ true
@@ -125,7 +126,26 @@ fn carry_out<P: Place, R: Read, W: Write, F: Write>(
 {
     match job(alloc, words) {
         Ok(Job::Create { file, blocks }) => create(file, blocks, place, output, faults),
-        Ok(Job::Run { file, cache }) => run(alloc, file, cache, place, input, output, faults),
+        Ok(
+            Job::Run {
+                file,
+                cache,
+                on_refusal,
+            },
+        ) => run(alloc, file, cache, on_refusal, place, input, output, faults),
+        Ok(
+            Job::Do {
+                file,
+                input,
+                cache,
+                on_refusal,
+            },
+        ) => {
+            let mut lines = input.as_slice();
+            run(
+                alloc, file, cache, on_refusal, place, &mut lines, output, faults,
+            )
+        }
         Ok(Job::Check { file }) => check(alloc, file, place, output, faults),
         Err(error) => explain(alloc, &error, output, faults),
     }
@@ -143,7 +163,8 @@ fn create<P: Place, W: Write, F: Write>(
         ⊎ ((output.new ≡ output.old) × ((text : List ℕ) × SaysRefused (create_wanted file.now blocks) text
         × Tells Exit.Refused result (F.contents faults.old) (F.contents faults.new) text)) }
     ensures files { (P.state place.new).honest ≡ true
-        → Makes (P.denied place.new ≡ P.denied place.old + 1) file.now blocks result (P.state place.old) (P.state place.new) (F.contents faults.old) (F.contents faults.new) }
+        → Makes P.D.Disk (P.denied place.new ≡ P.denied place.old + 1) file.now blocks result (P.state place.old) (P.state place.new)
+        (W.contents output.old) (W.contents output.new) (F.contents faults.old) (F.contents faults.new) }
 {
     let Some(disk) = place.create(file, blocks) else {
         return no_file(b"altctl: cannot create ", file, faults);
@@ -165,7 +186,6 @@ fn make_store<D: Disk, W: Write, F: Write>(
         × Tells Exit.Done result.0 (W.contents output.old) (W.contents output.new) (created_text blocks))
         ⊎ ((output.new ≡ output.old) × ((refusal : RefusalValue) × MayRefuse refusal × HasMadeNone (D.state disk) (D.state result.1) blocks refusal
         × Tells Exit.Refused result.0 (F.contents faults.old) (F.contents faults.new) (refused_text refusal))) }
-    ensures goes { Goes ⊥ (D.state disk) (D.state result.1) }
     // At each moment nothing has changed, or all is synced; or there was no store, and a crash shows at most the new one.
     ensures moments { (D.state result.1).honest ≡ true → Throughout (D.state disk) (D.state result.1) (IsFormatting (D.state disk).now) }
 {
@@ -180,23 +200,24 @@ fn run<P: Place, R: Read, W: Write, F: Write>(
     alloc: Global,
     file: &str,
     cache: u32,
+    on_refusal: OnRefusal,
     place: &mut P,
     input: &mut R,
     output: &mut W,
     faults: &mut F,
 ) -> Exit
-    ensures says { ((faults.new ≡ faults.old) × ((result ≡ Exit.Done) ⊎ (result ≡ Exit.Stopped)))
-        ⊎ ((output.new ≡ output.old) × ((text : List ℕ) × SaysRefused (run_wanted file.now cache) text
+    ensures says { ((faults.new ≡ faults.old) × MayEnd on_refusal result)
+        ⊎ ((output.new ≡ output.old) × ((text : List ℕ) × SaysRefused (run_wanted file.now cache on_refusal) text
         × Tells Exit.Refused result (F.contents faults.old) (F.contents faults.new) text)) }
     ensures files { (P.state place.new).honest ≡ true
-        → Answers P.D.Disk ⟦<CachedDisk<P::D> as Disk>⟧ file.now cache result (P.state place.old) (P.state place.new)
+        → Answers P.D.Disk ⟦<CachedDisk<P::D> as Disk>⟧ file.now cache on_refusal result (P.state place.old) (P.state place.new)
         (R.remaining input.old) (W.contents output.old) (W.contents output.new)
-        ⊎ Declines (P.denied place.new ≡ P.denied place.old + 1) file.now result (P.state place.old) (P.state place.new) (F.contents faults.old) (F.contents faults.new) }
+        ⊎ Declines P.D.Disk (P.denied place.new ≡ P.denied place.old + 1) file.now result (P.state place.old) (P.state place.new) (F.contents faults.old) (F.contents faults.new) }
 {
     let Some(disk) = place.find(file) else {
         return no_file(b"altctl: cannot open ", file, faults);
     };
-    let (exit, served) = answer_lines_cached(alloc, disk, cache, input, output, faults);
+    let (exit, served) = answer_lines_cached(alloc, disk, cache, on_refusal, input, output, faults);
     place.give_back(file, served);
     exit
 }
@@ -205,28 +226,41 @@ fn run<P: Place, R: Read, W: Write, F: Write>(
 pub(crate) fn answer_lines<D: Disk, R: Read, W: Write, F: Write>(
     alloc: Global,
     disk: D,
+    on_refusal: OnRefusal,
     input: &mut R,
     output: &mut W,
     faults: &mut F,
 ) -> (Exit, D)
-    ensures ends { ((faults.new ≡ faults.old) × ((result.0 ≡ Exit.Done) ⊎ (result.0 ≡ Exit.Stopped)))
+    ensures ends { ((faults.new ≡ faults.old) × MayEnd on_refusal result.0)
         ⊎ ((output.new ≡ output.old) × ((refusal : RefusalValue) × Tells Exit.Refused result.0 (F.contents faults.old) (F.contents faults.new) (refused_text refusal))) }
     // As long as the disk is honest the lines are answered as `serve` promises, from what it shows, and a crash at any moment
     // leaves what the commands so far keep; or it is said why it shows no store, and it is at most synced.
-    ensures served { HasServed D.Disk disk result.1 result.0 (R.remaining input.old) (W.contents output.old) (W.contents output.new)
+    ensures served { HasServed D.Disk on_refusal disk result.1 result.0 (R.remaining input.old) (W.contents output.old) (W.contents output.new)
         ⊎ ((refusal : RefusalValue) × HasRefused (D.state disk) (D.state result.1) refusal
         × Tells Exit.Refused result.0 (F.contents faults.old) (F.contents faults.new) (refused_text refusal)) }
 {
     match open(alloc, disk) {
         Ok(mut store) => {
-            let served = serve(alloc, input, output, &mut store);
-            let disk = store.close();
-            match served {
-                Ok(()) => (Exit::Done, disk),
-                Err(_) => (Exit::Stopped, disk),
-            }
+            let served = serve(alloc, input, output, &mut store, on_refusal);
+            (end_of(on_refusal, &served), store.close())
         }
         Err((disk, refusal)) => (refused(&refusal, faults), disk),
+    }
+}
+
+// How the program ends after a talk.
+fn end_of(on_refusal: OnRefusal, served: &Result<bool, ServeFault>) -> Exit
+    ensures { result ≡ end_of_talk on_refusal served.now }
+{
+    match served {
+        Ok(false) => Exit::Done,
+        Ok(true) => match on_refusal {
+            OnRefusal::Ignore => Exit::Done,
+            OnRefusal::Tell => Exit::LineRefused,
+            OnRefusal::Stop => Exit::LineRefused,
+        },
+        Err(ServeFault::Refused) => Exit::LineRefused,
+        Err(_) => Exit::Stopped,
     }
 }
 
@@ -245,7 +279,7 @@ fn check<P: Place, W: Write, F: Write>(
     ensures reads { P.to_write place.new ≡ P.to_write place.old }
     ensures files { (P.state place.new).honest ≡ true
         → CountsFile P.D.Disk file.now result (P.state place.old) (P.state place.new) (W.contents output.old) (W.contents output.new)
-        ⊎ Declines (P.denied place.new ≡ P.denied place.old + 1) file.now result (P.state place.old) (P.state place.new) (F.contents faults.old) (F.contents faults.new) }
+        ⊎ Declines P.D.Disk (P.denied place.new ≡ P.denied place.old + 1) file.now result (P.state place.old) (P.state place.new) (F.contents faults.old) (F.contents faults.new) }
 {
     let Some(disk) = place.look(file) else {
         return no_file(b"altctl: cannot open ", file, faults);
@@ -265,14 +299,11 @@ fn check_disk<D: Disk, W: Write, F: Write>(
     ensures ends { ((faults.new ≡ faults.old) × ((alternatives : ℕ) × (checkpoints : ℕ) × (free : ℕ)
         × Tells Exit.Done result.0 (W.contents output.old) (W.contents output.new) (check_text alternatives checkpoints free)))
         ⊎ ((output.new ≡ output.old) × ((refusal : RefusalValue) × Tells Exit.Refused result.0 (F.contents faults.old) (F.contents faults.new) (refused_text refusal))) }
-    ensures goes { Goes ⊥ (D.state disk) (D.state result.1) }
-    // At each moment nothing has changed, or all is synced.
-    ensures moments { (D.state result.1).honest ≡ true → Throughout (D.state disk) (D.state result.1) (IsAtMostSynced (D.state disk).now) }
-    // The numbers are those of the tree that the disk shows; or it is said why it shows no store.
-    ensures told { (D.state result.1).honest ≡ true
-        → ((alternatives : ℕ) × (checkpoints : ℕ) × (free : ℕ) × IsCounted D.Disk (D.state disk).now.contents alternatives checkpoints free
+    // The numbers are those of the tree that the disk shows, or it is said why the disk was refused. At each moment nothing has changed,
+    // or all is synced.
+    ensures told { ((alternatives : ℕ) × (checkpoints : ℕ) × (free : ℕ) × HasCounted D.Disk disk result.1 alternatives checkpoints free
         × Tells Exit.Done result.0 (W.contents output.old) (W.contents output.new) (check_text alternatives checkpoints free))
-        ⊎ ((refusal : RefusalValue) × IsRefusedDisk (D.state disk).now.contents refusal
+        ⊎ ((refusal : RefusalValue) × HasRefused (D.state disk) (D.state result.1) refusal
         × Tells Exit.Refused result.0 (F.contents faults.old) (F.contents faults.new) (refused_text refusal)) }
 {
     match open(alloc, disk) {

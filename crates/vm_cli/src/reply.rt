@@ -27,7 +27,7 @@ pub enum Reply {
 }
 
 impl Reply {
-    ghost use Rattle.vm_cli.specs.Replies.{ends_talk, reply_text};
+    ghost use Rattle.vm_cli.specs.Replies.{ends_talk, is_error, reply_text};
 
     /// Writes the answer as one line, or as none.
     pub fn push_onto(&self, text: &mut Text)
@@ -72,6 +72,24 @@ impl Reply {
         match self {
             Reply::Last(_) => true,
             _ => false,
+        }
+    }
+
+    /// Whether it says that a line was refused.
+    pub fn is_refusal(&self) -> bool
+        ensures { result ≡ is_error (reply_text self.now) }
+    {
+        match self {
+            Reply::Nothing => false,
+            Reply::Done => false,
+            Reply::Merged(_) => false,
+            Reply::Found(_) => false,
+            Reply::Free(_) => false,
+            Reply::End(_) => false,
+            Reply::Refused(_) => true,
+            Reply::Last(_) => true,
+            Reply::BadLine => true,
+            Reply::LongLine => true,
         }
     }
 }

@@ -28,6 +28,17 @@ use vm_types::{Answer, Command, Key, Name, Refusal};
 /// No line of an answer has more bytes.
 const LONGEST_LINE: usize = 2304;
 
+/// What a line that is refused means, whose answer is an error.
+#[derive(Clone, Copy, Debug, PartialEq, Eq)]
+pub enum OnRefusal {
+    /// The talk goes on, and it is not told at its end.
+    Ignore,
+    /// The talk goes on, and it is told at its end.
+    Tell,
+    /// The talk ends with it.
+    Stop,
+}
+
 /// Why a talk ended before the end of its input.
 #[derive(Debug, Drop, Error)]
 pub enum ServeFault {
@@ -40,16 +51,20 @@ pub enum ServeFault {
     /// The store carries out nothing more, which the last answer says.
     #[error("the store has failed")]
     Store,
+    /// A line was refused, which was to end the talk.
+    #[error("a line was refused")]
+    Refused,
 }
 
-/// Reads lines to the end of the input, and answers each, in their order. A fault ends the talk: no
-/// later line is carried out.
+/// Reads lines to the end of the input, and answers each, in their order. An `Ok` says whether one was
+/// refused. A fault ends the talk: no later line is carried out.
 pub fn serve<R: Read, W: Write, D: Disk>(
     alloc: Global,
     reader: &mut R,
     writer: &mut W,
     store: &mut Store<D>,
-) -> Result<(), ServeFault>
+    on_refusal: OnRefusal,
+) -> Result<bool, ServeFault>
     // At Ok nothing of the input is left.
     ensures end { OnOk result (IsAtEnd (R.remaining reader.new)) }
 
@@ -63,31 +78,42 @@ pub fn serve<R: Read, W: Write, D: Disk>(
     // The lines of the input are answered one after another, each by the store that the line before left, and the store
     // stands for what their commands leave; where it failed in one, for what those before it leave, but that a crash may
     // leave what this one commits. A store that had failed answers Failed to the first command or query, and the talk ends.
+    // Where a refused line is to end the talk, none before the last one is refused.
     ensures answers { (s : State)
-        → Serves store.old store.new s result (W.contents writer.old) (W.contents writer.new) (R.remaining reader.old) }
+        → Serves store.old store.new s on_refusal result (W.contents writer.old) (W.contents writer.new) (R.remaining reader.old) }
 {
     let mut line = Line::new(alloc);
     let mut text = Text::new();
     let mut chunk = [0; 8192];
+    let mut refused = false;
     for _ in 0..u64::MAX {
         match reader.read(&mut chunk) {
             Ok(0) => {
                 if line.is_empty {
-                    return Ok(());
+                    return Ok(refused);
                 }
-                return answer(alloc, &line, &mut text, writer, store);
+                match answer(alloc, &line, &mut text, writer, store, on_refusal) {
+                    Ok(last) => return Ok(refused | last),
+                    Err(fault) => return Err(fault),
+                }
             }
-            Ok(count) => match feed(alloc, &chunk[..count], &mut line, &mut text, writer, store) {
-                Ok(()) => {}
-                Err(fault) => return Err(fault),
-            },
+            Ok(count) => {
+                let bytes = &chunk[..count];
+                match feed(
+                    alloc, bytes, &mut line, &mut text, writer, store, on_refusal,
+                ) {
+                    Ok(again) => refused |= again,
+                    Err(fault) => return Err(fault),
+                }
+            }
             Err(_) => return Err(ServeFault::Read),
         }
     }
     Err(ServeFault::Read)
 }
 
-// Takes more bytes of the input, and answers each line that ends in them.
+// Takes more bytes of the input, and answers each line that ends in them. An `Ok` says whether one was
+// refused.
 fn feed<W: Write, D: Disk>(
     alloc: Global,
     bytes: &[u8],
@@ -95,31 +121,34 @@ fn feed<W: Write, D: Disk>(
     text: &mut Text,
     writer: &mut W,
     store: &mut Store<D>,
-) -> Result<(), ServeFault>
+    on_refusal: OnRefusal,
+) -> Result<bool, ServeFault>
     ensures goes { Goes ⊥ (D.state (disk_of store.old)) (D.state (disk_of store.new)) }
     ensures ok { has_failed store.old ≡ false → OnOk result (has_failed store.new ≡ false) }
-    ensures err { has_failed store.old ≡ false → IfErr result (λ fault. (fault ≡ ServeFault.Write) ⊎ ((fault ≡ ServeFault.Store) × (has_failed store.new ≡ true) × Failing store.old store.new)) }
+    ensures err { has_failed store.old ≡ false → IfErr result (λ fault. (fault ≡ ServeFault.Write) ⊎ ((fault ≡ ServeFault.Refused) ⊎ ((fault ≡ ServeFault.Store) × (has_failed store.new ≡ true) × Failing store.old store.new))) }
     ensures left { has_failed store.old ≡ true → store.new ≡ store.old }
     ensures fed { (s : State)
         → (from : List ℕ) → HoldsLine line.old from
-        → OnOk result ((to : List ℕ) × HoldsLine line.new to × Fed store.old store.new s bytes.now from to (W.contents writer.old) (W.contents writer.new)) }
+        → IfOk result (λ refused. (to : List ℕ) × HoldsLine line.new to × Fed store.old store.new s on_refusal refused bytes.now from to (W.contents writer.old) (W.contents writer.new)) }
     ensures ended { (s : State)
         → (from : List ℕ) → HoldsLine line.old from → (more : List ℕ)
-        → OnErr result (ServesLines store.old store.new s result (W.contents writer.old) (W.contents writer.new) (lines_of (from ++ (bytes.now ++ more)))) }
+        → OnErr result (ServesLines store.old store.new s on_refusal result (W.contents writer.old) (W.contents writer.new) (lines_of (from ++ (bytes.now ++ more)))) }
 {
     let mut rest = bytes;
+    let mut refused = false;
     while let Some(end) = memchr(b'\n', rest) {
-        match feed_line(alloc, &rest[..end], line, text, writer, store) {
-            Ok(()) => {}
+        match feed_line(alloc, &rest[..end], line, text, writer, store, on_refusal) {
+            Ok(again) => refused |= again,
             Err(fault) => return Err(fault),
         }
         rest = &rest[end + 1..];
     }
     line.extend(rest);
-    Ok(())
+    Ok(refused)
 }
 
-// Takes the last bytes of a line, without its line feed, and answers it.
+// Takes the last bytes of a line, without its line feed, and answers it. An `Ok` says whether it was
+// refused.
 fn feed_line<W: Write, D: Disk>(
     alloc: Global,
     bytes: &[u8],
@@ -127,44 +156,47 @@ fn feed_line<W: Write, D: Disk>(
     text: &mut Text,
     writer: &mut W,
     store: &mut Store<D>,
-) -> Result<(), ServeFault>
+    on_refusal: OnRefusal,
+) -> Result<bool, ServeFault>
     requires { IsPart bytes.now }
     ensures goes { Goes ⊥ (D.state (disk_of store.old)) (D.state (disk_of store.new)) }
     ensures ok { has_failed store.old ≡ false → OnOk result (has_failed store.new ≡ false) }
-    ensures err { has_failed store.old ≡ false → IfErr result (λ fault. (fault ≡ ServeFault.Write) ⊎ ((fault ≡ ServeFault.Store) × (has_failed store.new ≡ true) × Failing store.old store.new)) }
+    ensures err { has_failed store.old ≡ false → IfErr result (λ fault. (fault ≡ ServeFault.Write) ⊎ ((fault ≡ ServeFault.Refused) ⊎ ((fault ≡ ServeFault.Store) × (has_failed store.new ≡ true) × Failing store.old store.new))) }
     ensures left { has_failed store.old ≡ true → store.new ≡ store.old }
     ensures fed { (s : State)
         → (from : List ℕ) → HoldsLine line.old from
-        → OnOk result ((to : List ℕ) × HoldsLine line.new to × Fed store.old store.new s (bytes.now ++ 10 ∷ []) from to (W.contents writer.old) (W.contents writer.new)) }
+        → IfOk result (λ refused. (to : List ℕ) × HoldsLine line.new to × Fed store.old store.new s on_refusal refused (bytes.now ++ 10 ∷ []) from to (W.contents writer.old) (W.contents writer.new)) }
     ensures ended { (s : State)
         → (from : List ℕ) → HoldsLine line.old from → (more : List ℕ)
-        → OnErr result (ServesLines store.old store.new s result (W.contents writer.old) (W.contents writer.new) (lines_of (from ++ ((bytes.now ++ 10 ∷ []) ++ more)))) }
+        → OnErr result (ServesLines store.old store.new s on_refusal result (W.contents writer.old) (W.contents writer.new) (lines_of (from ++ ((bytes.now ++ 10 ∷ []) ++ more)))) }
 {
     line.extend(bytes);
-    match answer(alloc, line, text, writer, store) {
-        Ok(()) => {
+    match answer(alloc, line, text, writer, store, on_refusal) {
+        Ok(refused) => {
             line.clear();
-            Ok(())
+            Ok(refused)
         }
         Err(fault) => Err(fault),
     }
 }
 
-// Carries out a line and writes its answer, composed in the text, of which nothing is kept.
+// Carries out a line and writes its answer, composed in the text, of which nothing is kept. An `Ok` says
+// whether the line was refused.
 fn answer<W: Write, D: Disk>(
     alloc: Global,
     line: &Line,
     text: &mut Text,
     writer: &mut W,
     store: &mut Store<D>,
-) -> Result<(), ServeFault>
+    on_refusal: OnRefusal,
+) -> Result<bool, ServeFault>
     ensures goes { Goes ⊥ (D.state (disk_of store.old)) (D.state (disk_of store.new)) }
     ensures ok { has_failed store.old ≡ false → OnOk result (has_failed store.new ≡ false) }
-    ensures err { has_failed store.old ≡ false → IfErr result (λ fault. (fault ≡ ServeFault.Write) ⊎ ((fault ≡ ServeFault.Store) × (has_failed store.new ≡ true) × Failing store.old store.new)) }
+    ensures err { has_failed store.old ≡ false → IfErr result (λ fault. (fault ≡ ServeFault.Write) ⊎ ((fault ≡ ServeFault.Refused) ⊎ ((fault ≡ ServeFault.Store) × (has_failed store.new ≡ true) × Failing store.old store.new))) }
     ensures left { has_failed store.old ≡ true → store.new ≡ store.old }
     ensures answer { (s : State)
         → (part : List ℕ) → HoldsLine line.now part
-        → Writes (HandlesLine store.old store.new s part) result (W.contents writer.old) (W.contents writer.new) }
+        → Writes on_refusal (HandlesLine store.old store.new s part) result (W.contents writer.old) (W.contents writer.new) }
 {
     text.clear();
     let Ok(reply) = reply_to(alloc, line, text, writer, store) else {
@@ -176,7 +208,14 @@ fn answer<W: Write, D: Disk>(
     if reply.is_last() {
         return Err(ServeFault::Store);
     }
-    Ok(())
+    if reply.is_refusal() {
+        match on_refusal {
+            OnRefusal::Ignore => return Ok(true),
+            OnRefusal::Tell => return Ok(true),
+            OnRefusal::Stop => return Err(ServeFault::Refused),
+        }
+    }
+    Ok(false)
 }
 
 // Writes what is left of an answer, with its last line.

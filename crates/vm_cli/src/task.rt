@@ -1,12 +1,31 @@
 //! What the program is asked to do.
 
+use crate::talk::OnRefusal;
+
 /// One task of the program. The name of its file is that of the words it was read from.
-#[derive(Clone, Copy, Debug, PartialEq, Eq)]
+#[derive(Debug, Drop, PartialEq, Eq)]
 pub enum Job<'a> {
     /// Makes a file of this many zero blocks, and a store in it.
-    Create { file: &'a str, blocks: u32 },
-    /// Opens the store in a file, and answers lines. Up to `cache` of its blocks are kept in memory.
-    Run { file: &'a str, cache: u32 },
+    Create {
+        file: &'a str,
+        blocks: u32,
+    },
+    /// Opens the store in a file, and answers the lines of the standard input. Up to `cache` of its blocks
+    /// are kept in memory.
+    Run {
+        file: &'a str,
+        cache: u32,
+        on_refusal: OnRefusal,
+    },
+    /// Opens the store in a file, and answers the lines of this input, as above.
+    Do {
+        file: &'a str,
+        input: Vec<u8>,
+        cache: u32,
+        on_refusal: OnRefusal,
+    },
     /// Opens the store in a file for reading alone, and counts what it holds.
-    Check { file: &'a str },
+    Check {
+        file: &'a str,
+    },
 }

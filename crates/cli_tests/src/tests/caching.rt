@@ -3,7 +3,7 @@ use super::{CREATE, RUN, ran};
 use std::alloc::Global;
 use std::process::Abort;
 use std::test::Fail;
-use vm_cli::{Job, MemFiles, Place, job};
+use vm_cli::{Job, MemFiles, OnRefusal, Place, job};
 
 fn owned(alloc: Global, words: &[&str]) -> Result<Vec<String>, Fail> {
     let mut owned = Vec::new(alloc);
@@ -16,8 +16,13 @@ fn owned(alloc: Global, words: &[&str]) -> Result<Vec<String>, Fail> {
 /// The words ask for lines to be answered over file `f`, with so many blocks in memory.
 fn expect_cache<R: AllocGlobal + Abort>(rt: &R, words: &[&str], cache: u32) -> Result<(), Fail> {
     let owned = owned(rt.alloc(), words)?;
+    let asked = Job::Run {
+        file: "f",
+        cache,
+        on_refusal: OnRefusal::Ignore,
+    };
     match job(rt.alloc(), owned.as_slice()) {
-        Ok(job) => assert_eq!(rt; job, Job::Run { file: "f", cache }),
+        Ok(job) => assert_eq!(rt; job, asked),
         Err(error) => panic!(rt; "{:?}", error.kind()),
     }
     Ok(())

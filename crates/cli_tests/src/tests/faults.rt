@@ -4,7 +4,7 @@ use std::alloc::Global;
 use std::io::{self, ErrorKind, Read, Write};
 use std::process::Abort;
 use std::test::Fail;
-use vm_cli::{MemFiles, Place, ServeFault, run_words, serve};
+use vm_cli::{MemFiles, OnRefusal, Place, ServeFault, run_words, serve};
 use vm_disk::{FuseDisk, MemDisk};
 use vm_store::{Store, format, open};
 
@@ -63,10 +63,22 @@ fn stops_where_the_input_fails(rt: HostRuntime) -> Result<(), Fail> {
         bytes: b"put top 1 1 a\nput top 1 1 b",
     };
     let mut output = Vec::new(rt.alloc());
-    let served = serve(rt.alloc(), &mut input, &mut output, &mut store);
+    let served = serve(
+        rt.alloc(),
+        &mut input,
+        &mut output,
+        &mut store,
+        OnRefusal::Ignore,
+    );
     assert!(rt; matches!(&served, Err(ServeFault::Read)));
     let mut rest = b"get top 1 1".as_slice();
-    let served = serve(rt.alloc(), &mut rest, &mut output, &mut store);
+    let served = serve(
+        rt.alloc(),
+        &mut rest,
+        &mut output,
+        &mut store,
+        OnRefusal::Ignore,
+    );
     assert!(rt; served.is_ok());
     assert_eq!(rt; output.as_slice(), b"ok\nvalue a\n".as_slice());
     let _disk = store.close();
@@ -81,12 +93,24 @@ fn stops_where_the_output_fails(rt: HostRuntime) -> Result<(), Fail> {
         taken: Vec::new(rt.alloc()),
         room: 4,
     };
-    let served = serve(rt.alloc(), &mut input, &mut output, &mut store);
+    let served = serve(
+        rt.alloc(),
+        &mut input,
+        &mut output,
+        &mut store,
+        OnRefusal::Ignore,
+    );
     assert!(rt; matches!(&served, Err(ServeFault::Write)));
     assert_eq!(rt; output.taken.as_slice(), b"ok\no".as_slice());
     let mut rest = b"get top 1 2\nget top 1 3\n".as_slice();
     let mut answers = Vec::new(rt.alloc());
-    let served = serve(rt.alloc(), &mut rest, &mut answers, &mut store);
+    let served = serve(
+        rt.alloc(),
+        &mut rest,
+        &mut answers,
+        &mut store,
+        OnRefusal::Ignore,
+    );
     assert!(rt; served.is_ok());
     assert_eq!(rt; answers.as_slice(), b"value b\nnone\n".as_slice());
     let _disk = store.close();
@@ -167,7 +191,7 @@ fn store_that_will_fail<R: AllocGlobal + Abort>(rt: &R) -> Result<Store<FuseDisk
 fn served(alloc: Global, store: &mut Store<FuseDisk<MemDisk>>, lines: &[u8]) -> (Vec<u8>, bool) {
     let mut input = lines;
     let mut output = Vec::new(alloc);
-    let ended = serve(alloc, &mut input, &mut output, store);
+    let ended = serve(alloc, &mut input, &mut output, store, OnRefusal::Ignore);
     (output, matches!(&ended, Err(ServeFault::Store)))
 }
 
@@ -234,7 +258,13 @@ fn goes_on_over_lines_that_ask_a_failed_store_nothing(rt: HostRuntime) -> Result
     assert!(rt; ended);
     let mut input = lines.as_slice();
     let mut output = Vec::new(rt.alloc());
-    let served = serve(rt.alloc(), &mut input, &mut output, &mut store);
+    let served = serve(
+        rt.alloc(),
+        &mut input,
+        &mut output,
+        &mut store,
+        OnRefusal::Ignore,
+    );
     assert!(rt; served.is_ok());
     let answers = b"error 23 LongLine\nerror 22 BadLine\n".as_slice();
     assert_eq!(rt; output.as_slice(), answers);

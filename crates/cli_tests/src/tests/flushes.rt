@@ -5,7 +5,7 @@ use std::alloc::Global;
 use std::io::{self, ErrorKind, Write};
 use std::process::Abort;
 use std::test::Fail;
-use vm_cli::{MemFiles, ServeFault, refuse_words, run_words, serve, stop};
+use vm_cli::{MemFiles, OnRefusal, ServeFault, refuse_words, run_words, serve, stop};
 
 /// A writer that keeps what it takes, with a bar for each flush. From some flush on they fail.
 #[derive(Drop)]
@@ -45,7 +45,13 @@ fn flushes_after_each_answer(rt: HostRuntime) -> Result<(), Fail> {
     let mut store = new_store(&rt)?;
     let mut input = b"put top 1 1 a\nget top 1 1\nlist top\nnonsense\nget top 1 2".as_slice();
     let mut output = FlushedWriter::new(rt.alloc(), 5);
-    let served = serve(rt.alloc(), &mut input, &mut output, &mut store);
+    let served = serve(
+        rt.alloc(),
+        &mut input,
+        &mut output,
+        &mut store,
+        OnRefusal::Ignore,
+    );
     assert!(rt; served.is_ok());
     let answers = b"ok\n|value a\n|record 1 1 a\nend 1\n|error 22 BadLine\n|none\n|";
     assert_eq!(rt; output.taken.as_slice(), answers.as_slice());
@@ -59,11 +65,23 @@ fn kept<R: AllocGlobal + Abort>(rt: &R, flushes: usize) -> Result<Vec<u8>, Fail>
     let mut store = new_store(rt)?;
     let mut input = b"put top 1 1 a\nput top 1 2 b\nput top 1 3 c\n".as_slice();
     let mut output = FlushedWriter::new(rt.alloc(), flushes);
-    let served = serve(rt.alloc(), &mut input, &mut output, &mut store);
+    let served = serve(
+        rt.alloc(),
+        &mut input,
+        &mut output,
+        &mut store,
+        OnRefusal::Ignore,
+    );
     assert!(rt; matches!(&served, Err(ServeFault::Write)));
     let mut rest = b"list top\n".as_slice();
     let mut answers = Vec::new(rt.alloc());
-    let served = serve(rt.alloc(), &mut rest, &mut answers, &mut store);
+    let served = serve(
+        rt.alloc(),
+        &mut rest,
+        &mut answers,
+        &mut store,
+        OnRefusal::Ignore,
+    );
     assert!(rt; served.is_ok());
     let _disk = store.close();
     Ok(answers)

@@ -85,6 +85,7 @@ fn shows_what_the_program_is(rt: HostRuntime) -> Result<(), Fail> {
         "Usage: altctl <COMMAND>",
         "  create  ",
         "  run  ",
+        "  do  ",
         "  check  ",
     ] {
         assert!(rt; text.contains(part));
@@ -92,6 +93,17 @@ fn shows_what_the_program_is(rt: HostRuntime) -> Result<(), Fail> {
     assert!(rt; text.contains("  $ altctl create map.alt 1024\n  created 1024\n"));
     assert!(rt; text.contains("  $ altctl run map.alt\n  > new a top\n"));
     assert!(rt; text.contains(session_text(&rt, SHORT_SESSION.as_slice())?.as_str()));
+    Ok(())
+}
+
+#[test]
+fn tells_its_version(rt: HostRuntime) -> Result<(), Fail> {
+    for word in ["--version", "-V"] {
+        let text = shown(&rt, ["altctl", word].as_slice())?;
+        let start = "altctl 0.1.0\nfile format 1\nproved with rattle";
+        assert!(rt; text.starts_with(start));
+        assert_eq!(rt; text.lines().count(), 3);
+    }
     Ok(())
 }
 
@@ -127,6 +139,21 @@ fn shows_when_to_check(rt: HostRuntime) -> Result<(), Fail> {
 }
 
 #[test]
+fn shows_how_lines_are_given(rt: HostRuntime) -> Result<(), Fail> {
+    let text = shown(&rt, ["altctl", "do", "--help"].as_slice())?;
+    for part in [
+        "Usage: altctl do [OPTIONS] <FILE> <LINE>...",
+        "--cache <N>",
+        "--strict",
+        "  $ altctl do map.alt 'put top 7 1 cable%20A' 'get top 7 1' commit\n",
+        "\n  ok\n  value cable%20A\n  ok\n",
+    ] {
+        assert!(rt; text.contains(part));
+    }
+    Ok(())
+}
+
+#[test]
 fn shows_all_lines(rt: HostRuntime) -> Result<(), Fail> {
     let text = shown(&rt, ["altctl", "run", "--help"].as_slice())?;
     for part in [
@@ -134,6 +161,7 @@ fn shows_all_lines(rt: HostRuntime) -> Result<(), Fail> {
         "--cache <N>",
         "0 to 65536",
         "[default: 256]",
+        "--strict",
     ] {
         assert!(rt; text.contains(part));
     }
@@ -182,6 +210,7 @@ fn shows_help_in_eighty_columns(rt: HostRuntime) -> Result<(), Fail> {
     for words in [
         ["altctl", "help"].as_slice(),
         ["altctl", "-h"].as_slice(),
+        ["altctl", "--version"].as_slice(),
         ["altctl", "help", "create"].as_slice(),
         ["altctl", "help", "run"].as_slice(),
         ["altctl", "create", "--help"].as_slice(),
@@ -189,6 +218,8 @@ fn shows_help_in_eighty_columns(rt: HostRuntime) -> Result<(), Fail> {
         ["altctl", "run", "-h"].as_slice(),
         ["altctl", "help", "check"].as_slice(),
         ["altctl", "check", "--help"].as_slice(),
+        ["altctl", "help", "do"].as_slice(),
+        ["altctl", "do", "--help"].as_slice(),
     ] {
         let text = shown(&rt, words)?;
         assert!(rt; !text.is_empty() && text.lines().all(|line| line.len() <= 80));
@@ -208,9 +239,18 @@ fn refuses_wrong_words(rt: HostRuntime) -> Result<(), Fail> {
         ["altctl", "run"].as_slice(),
         ["altctl", "run", "f", "g"].as_slice(),
         ["altctl", "run", "--fast", "f"].as_slice(),
+        ["altctl", "run", "--strict"].as_slice(),
+        ["altctl", "run", "--strict", "--strict", "f"].as_slice(),
+        ["altctl", "run", "--strict=true", "f"].as_slice(),
+        ["altctl", "do"].as_slice(),
+        ["altctl", "do", "f"].as_slice(),
+        ["altctl", "do", "--strict", "f"].as_slice(),
+        ["altctl", "do", "f", "-free"].as_slice(),
+        ["altctl", "do", "--cache", "65537", "f", "free"].as_slice(),
         ["altctl", "check"].as_slice(),
         ["altctl", "check", "f", "g"].as_slice(),
         ["altctl", "check", "--cache", "0", "f"].as_slice(),
+        ["altctl", "check", "--version"].as_slice(),
     ] {
         let refused = ran(rt.alloc(), &mut files, words, b"")?;
         assert_eq!(rt; refused.status, 2);

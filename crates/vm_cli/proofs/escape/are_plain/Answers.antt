@@ -1,10 +1,9 @@
-use Rattle.std.proofs.Common.{◌≡◌, true, rules, sym, ◌∙◌}
+use Rattle.std.proofs.Common.{rules, sym, ◌∙◌}
+use Rattle.std.proofs.lemmas.Bool.{and_parts}
 use Rattle.vm_cli.proofs.Written.{ArePlain-more}
 use Rattle.vm_cli.proofs.escape.are_plain.Goals as goal
-use Rattle.vm_cli.proofs.escape.are_plain.Goals.{then-not-is_plain, else-not-is_plain}
 
 pub loop-byte-preserved : goal.loop-byte-preserved
-loop-byte-preserved c = elim c.if-not-is_plain.branch [
-  | then-not-is_plain w ↦ (λ plain. let is = w.plain-is in cc)
-  | else-not-is_plain w ↦ (λ plain. ArePlain-more c.args.bytes.now c.loop-byte.byte-index (search rules) (c.loop-byte.invariant (sym w.plain-is ∙ plain)) (sym c.is_plain.ensures ∙ w.if-not-is_plain.false))
-]
+loop-byte-preserved c = λ plain.
+    let both = and_parts c.loop-byte.plain c.is_plain-plain.result plain in
+    ArePlain-more c.args.bytes.now c.loop-byte.byte-index (search rules) (c.loop-byte.invariant both.0) (sym c.is_plain-plain.ensures ∙ both.1)

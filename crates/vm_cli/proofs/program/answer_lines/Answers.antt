@@ -1,15 +1,17 @@
 use Rattle.std.proofs.Common.{inl, refl, subst, sym}
+use Rattle.vm_types.specs.State.{opened}
+use Rattle.vm_types.specs.Tree.{fresh}
 use Rattle.vm_disk.specs.Disk.{Goes}
 use Rattle.vm_cli.proofs.PassLemmas.{goes_any}
-use Rattle.vm_cli.proofs.SessionLemmas.{session_kept}
+use Rattle.vm_cli.proofs.SessionLemmas.{may_end, session_kept}
 use Rattle.vm_cli.proofs.program.answer_lines.Goals as goal
 
-pub returns-in-Ok-served-clause-served : goal.returns-in-Ok-served-clause-served
-returns-in-Ok-served-clause-served g c =
+pub returns-in-Ok-clause-served : goal.returns-in-Ok-clause-served
+returns-in-Ok-clause-served g c =
     let old = g.D.Disk.state c.args.disk in
     let first = c.in-Ok.store in
     let last = c.serve-served.new.store in
-    let given = c.close-disk.ensures.disk in
+    let given = c.close.ensures.disk in
     let goes = c.serve-served.ensures.goes in
     inl (record {
       first = first;
@@ -20,34 +22,16 @@ returns-in-Ok-served-clause-served g c =
       well = c.in-Ok.ensures.well;
       opens = λ honest. c.in-Ok.ensures.opened honest;
       serves = c.serve-served.ensures.answers;
-      ends = rw c.in-Ok-served.is refl;
+      ends = c.end_of.ensures;
       given_back = given;
-      shown = c.close-disk.ensures.shown;
-      left = c.close-disk.ensures.crash;
+      shown = c.close.ensures.shown;
+      left = c.close.ensures.crash;
       kept = session_kept old first last (λ honest. c.in-Ok.ensures.opened honest) (λ honest. c.in-Ok.ensures.moments honest) c.in-Ok.ensures.well goes
-          c.serve-served.result _ _ _ c.serve-served.ensures.answers c.close-disk.result given;
+          c.args.on_refusal c.serve-served.result _ _ _ c.serve-served.ensures.answers c.close.result given;
     })
 
-pub returns-in-Err-served-clause-served : goal.returns-in-Err-served-clause-served
-returns-in-Err-served-clause-served g c =
-    let old = g.D.Disk.state c.args.disk in
+pub returns-in-Ok-clause-ends : goal.returns-in-Ok-clause-ends
+returns-in-Ok-clause-ends g c =
     let first = c.in-Ok.store in
     let last = c.serve-served.new.store in
-    let given = c.close-disk.ensures.disk in
-    let goes = c.serve-served.ensures.goes in
-    inl (record {
-      first = first;
-      last = last;
-      served = c.serve-served.result;
-      found = goes_any _ _ _ c.in-Ok.ensures.any;
-      goes = subst (λ d. Goes ⊥ (g.D.Disk.state first.disk) (g.D.Disk.state d)) (sym given) goes;
-      well = c.in-Ok.ensures.well;
-      opens = λ honest. c.in-Ok.ensures.opened honest;
-      serves = c.serve-served.ensures.answers;
-      ends = rw c.in-Err-served.is refl;
-      given_back = given;
-      shown = c.close-disk.ensures.shown;
-      left = c.close-disk.ensures.crash;
-      kept = session_kept old first last (λ honest. c.in-Ok.ensures.opened honest) (λ honest. c.in-Ok.ensures.moments honest) c.in-Ok.ensures.well goes
-          c.serve-served.result _ _ _ c.serve-served.ensures.answers c.close-disk.result given;
-    })
+    inl (refl, rw c.end_of.ensures (may_end first last (opened fresh) c.args.on_refusal c.serve-served.result _ _ _ (c.serve-served.ensures.answers (opened fresh))))

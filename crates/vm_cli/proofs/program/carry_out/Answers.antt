@@ -2,9 +2,9 @@ use Rattle.std.proofs.Common.{map, inl, inr, refl}
 use Rattle.std.specs.String.{string_bytes}
 use Rattle.clap.specs.Words.{kind_of}
 use Rattle.vm_cli.specs.Exits.{IsJob}
-use Rattle.vm_cli.specs.Words.Wanted.{check, create, run}
+use Rattle.vm_cli.specs.Words.Wanted.{check, create, do_lines, run}
 use Rattle.vm_cli.proofs.ExitLemmas.{checked, help_or_mistake, helped, made, mistaken, no_memory, talked}
-use Rattle.vm_cli.proofs.FilesLemmas.{did_check, did_create, did_nothing, did_run, no_fault}
+use Rattle.vm_cli.proofs.FilesLemmas.{did_check, did_create, did_lines, did_nothing, did_run, no_fault}
 use Rattle.vm_cli.proofs.program.carry_out.Goals as goal
 
 pub returns-in-Ok-Create-clause-ends : goal.returns-in-Ok-Create-clause-ends
@@ -18,8 +18,15 @@ pub returns-in-Ok-Run-clause-ends : goal.returns-in-Ok-Run-clause-ends
 returns-in-Ok-Run-clause-ends g c =
     let words = map string_bytes c.args.words.now in
     let e = rw c.in-Ok-Run.field-0-is at c.in-Ok-Run.ensures in
-    let job : IsJob words (run c.in-Ok-Run.file.now c.in-Ok-Run.cache) = (e.faults, e.ok) in
-    talked g.W.Write.contents g.F.Write.contents words _ _ _ _ c.in-Ok-Run.file.now c.in-Ok-Run.cache _ job c.run.ensures.says
+    let job : IsJob words (run c.in-Ok-Run.file.now c.in-Ok-Run.cache c.in-Ok-Run.on_refusal) = (e.faults, e.ok) in
+    talked g.W.Write.contents g.F.Write.contents words _ _ _ _ _ c.in-Ok-Run.on_refusal _ job (c.in-Ok-Run.file.now, c.in-Ok-Run.cache, inl job) c.run.ensures.says
+
+pub returns-in-Ok-Do-clause-ends : goal.returns-in-Ok-Do-clause-ends
+returns-in-Ok-Do-clause-ends g c =
+    let words = map string_bytes c.args.words.now in
+    let e = rw c.in-Ok-Do.field-0-is at c.in-Ok-Do.ensures in
+    let job : IsJob words (do_lines c.in-Ok-Do.file.now c.in-Ok-Do.input.items c.in-Ok-Do.cache c.in-Ok-Do.on_refusal) = (e.faults, e.ok) in
+    talked g.W.Write.contents g.F.Write.contents words _ _ _ _ _ c.in-Ok-Do.on_refusal _ job (c.in-Ok-Do.file.now, c.in-Ok-Do.cache, inr (c.in-Ok-Do.input.items, job)) c.run-in-Ok-Do.ensures.says
 
 pub returns-in-Ok-Check-clause-ends : goal.returns-in-Ok-Check-clause-ends
 returns-in-Ok-Check-clause-ends g c =
@@ -50,8 +57,16 @@ pub returns-in-Ok-Run-clause-files : goal.returns-in-Ok-Run-clause-files
 returns-in-Ok-Run-clause-files g c honest =
     let words = map string_bytes c.args.words.now in
     let e = rw c.in-Ok-Run.field-0-is at c.in-Ok-Run.ensures in
-    let job : IsJob words (run c.in-Ok-Run.file.now c.in-Ok-Run.cache) = (e.faults, e.ok) in
-    did_run g.P.D.Disk _ _ _ _ words _ _ _ _ _ _ _ _ c.in-Ok-Run.file.now c.in-Ok-Run.cache job (c.run.ensures.files honest)
+    let job : IsJob words (run c.in-Ok-Run.file.now c.in-Ok-Run.cache c.in-Ok-Run.on_refusal) = (e.faults, e.ok) in
+    did_run g.P.D.Disk _ _ _ _ words _ _ _ _ _ _ _ _ c.in-Ok-Run.file.now c.in-Ok-Run.cache c.in-Ok-Run.on_refusal job (c.run.ensures.files honest)
+
+pub returns-in-Ok-Do-clause-files : goal.returns-in-Ok-Do-clause-files
+returns-in-Ok-Do-clause-files g c honest =
+    let words = map string_bytes c.args.words.now in
+    let e = rw c.in-Ok-Do.field-0-is at c.in-Ok-Do.ensures in
+    let job : IsJob words (do_lines c.in-Ok-Do.file.now c.in-Ok-Do.input.items c.in-Ok-Do.cache c.in-Ok-Do.on_refusal) = (e.faults, e.ok) in
+    let files = rw c.as_slice-lines.ensures.value at (c.run-in-Ok-Do.ensures.files honest) in
+    did_lines g.P.D.Disk _ _ _ _ words _ _ _ _ _ _ _ _ c.in-Ok-Do.file.now c.in-Ok-Do.input.items c.in-Ok-Do.cache c.in-Ok-Do.on_refusal job files
 
 pub returns-in-Ok-Check-clause-files : goal.returns-in-Ok-Check-clause-files
 returns-in-Ok-Check-clause-files g c honest =

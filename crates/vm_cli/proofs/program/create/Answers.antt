@@ -1,4 +1,4 @@
-use Rattle.std.proofs.Common.{◌≡◌, ◌∙◌, inl, inr, sym, Some, None}
+use Rattle.std.proofs.Common.{◌≡◌, ◌∙◌, inl, inr, sym, true, Some, None}
 use Rattle.vm_cli.proofs.FilesLemmas.{not_done}
 use Rattle.vm_cli.proofs.program.create.Goals as goal
 
@@ -6,19 +6,31 @@ pub returns-clause-files : goal.returns-clause-files
 returns-clause-files g c honest =
     let back = c.give_back.ensures.honest honest in
     let made = c.in-Some.ensures.honest (c.give_back.ensures.earlier honest) in
-    let zero = made.zero (c.make_store-exit.ensures.goes.earlier back.honest) in
+    let start = g.P.D.Disk.state c.in-Some.disk in
+    let was : start.honest ≡ true = elim c.make_store-exit.ensures.made [
+      | inl shown ↦ shown.1.goes.earlier back.honest
+      | inr none ↦ none.1.2.goes.earlier back.honest
+    ] in
+    let zero = made.zero was in
     record {
       made = λ done. elim c.make_store-exit.ensures.made [
         | inl shown ↦ (made.absent, ((g.P.D.Disk.state c.make_store-exit.result.1).now, back.holds, shown.1.shown back.honest))
         | inr none ↦ absurd (not_done _ _ _ _ none.1.3 done)
       ];
-      lays = inl (record {
-        start = g.P.D.Disk.state c.in-Some.disk;
-        end = g.P.D.Disk.state c.make_store-exit.result.1;
-        zero = zero.1;
-        moments = c.make_store-exit.ensures.moments back.honest;
-        holds = back.holds;
-      });
+      lays = inl (
+        made.absent,
+        record {
+          start = c.in-Some.disk;
+          end = c.make_store-exit.result.1;
+          zero = zero.1;
+          lent = record { fresh = made.fresh; honest = back.honest; holds = back.holds; came = back.came };
+          moments = c.make_store-exit.ensures.moments back.honest;
+          told = elim c.make_store-exit.ensures.made [
+            | inl shown ↦ inl (shown.1, shown.2)
+            | inr none ↦ inr none.1
+          ];
+        },
+      );
       stays = λ contents there. let no : None ≡ Some contents = sym made.absent ∙ there in absurd cc;
       others = λ other apart. back.others other apart ∙ made.others other apart;
     }

@@ -1,5 +1,5 @@
-use Rattle.std.proofs.Common.{◌≡◌, ◌∙◌, ap, inl, inr, refl, sym, Some}
-use Rattle.vm_cli.specs.Places.{KeepsOthers}
+use Rattle.std.proofs.Common.{◌∙◌, ap, inl, inr, refl, sym, Some}
+use Rattle.vm_cli.specs.Places.{KeepsOthers, WasLent}
 use Rattle.vm_cli.proofs.FilesLemmas.{keeps_all, kept_told, synced_alone, was_honest}
 use Rattle.vm_cli.proofs.program.run.Goals as goal
 
@@ -9,27 +9,35 @@ returns-clause-files g c honest =
     let after = g.P.Place.state c.give_back.new.self in
     let back = c.give_back.ensures.honest honest in
     let found = c.in-Some.ensures.honest (c.give_back.ensures.earlier honest) in
+    let lent : WasLent c.args.file.now (g.P.D.Disk.state c.in-Some.disk) (g.P.D.Disk.state c.answer_lines_cached-exit.result.1) after = record { fresh = found.fresh; honest = back.honest; holds = back.holds; came = back.came } in
     let others : KeepsOthers c.args.file.now before after = λ other apart. back.others other apart ∙ found.same other in
     elim c.answer_lines_cached-exit.ensures.served [
       | inl served ↦
-          let held = found.held (was_honest g.P.D.Disk _ (λ cache. refl) _ _ _ _ _ _ _ served back.honest) in
+          let held = found.held (was_honest g.P.D.Disk _ (λ cache. refl) _ _ _ _ _ _ _ _ served back.honest) in
           inl (record {
             found = c.in-Some.disk;
             back = c.answer_lines_cached-exit.result.1;
             served = served;
             held = held.0;
             clean = held.1;
-            honest = back.honest;
-            holds = back.holds;
+            lent = lent;
             others = others;
-            kept = kept_told g.P.D.Disk _ (λ cache. refl) _ _ _ _ _ _ _ served back.honest held.1;
+            kept = kept_told g.P.D.Disk _ (λ cache. refl) _ _ _ _ _ _ _ _ served back.honest held.1;
           })
       | inr refused ↦
           let held = found.held (refused.1.goes.earlier back.honest) in
           let same = back.holds ∙ ap Some (synced_alone _ _ (refused.1.moments back.honest)) ∙ sym held.0 in
           inr (record {
             same = keeps_all c.args.file.now before after others same;
-            told = inr (_, refused.0, held.0, refused.1.why back.honest, refused.2);
+            told = inr (record {
+              found = c.in-Some.disk;
+              back = c.answer_lines_cached-exit.result.1;
+              held = held.0;
+              lent = lent;
+              refusal = refused.0;
+              refused = refused.1;
+              told = refused.2;
+            });
           })
     ]
 

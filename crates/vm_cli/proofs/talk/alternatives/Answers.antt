@@ -17,7 +17,7 @@ returns-in-Ok-clause-answer g c s =
     let sound = was_sound (has_failed store) c.in-Ok.alternatives said.refused in
     let asked = request.Alternatives in
     list_replies (Stood store store s) (HandlesRequest store store s asked) ⊥ (λ (a : List ℕ × Option (List ℕ)). alternative_text a.0 a.1) c.deref.result.now (Ok (shape s.working)) c.write_list.result _ _ c.write_list.new.text
-    (λ text says. told store store s asked (passes_none store) refl (λ failed. refl) (λ stood. stood.holds) text sound (refl, sound, says))
+    (λ x rest. refl) (λ text says. told store store s asked (passes_none store) refl (λ failed. refl) (λ stood. stood.holds) text sound (refl, sound, says))
     (λ (stood : Stood store store s). rw c.deref.ensures.value (ap Ok (sym (said.value sound s stood.holds)))) c.write_list.ensures.reply c.write_list.ensures.ok c.write_list.ensures.err
 
 pub returns-in-Err-clause-answer : goal.returns-in-Err-clause-answer

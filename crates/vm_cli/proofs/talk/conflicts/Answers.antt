@@ -19,10 +19,10 @@ returns-in-Ok-clause-answer g c s =
     let new = c.conflicts.new.self in
     let said = c.in-Ok.ensures in
     let sound = was_sound (has_failed old) c.in-Ok.conflicts said.refused in
-    let passes = passes_reads old new (goes_any _ _ _ said.any) said.reads in
+    let passes = passes_reads old new (goes_any _ _ _ said.any) said.reads said.unchanged in
     let asked = request.Conflicts c.args.alt.now in
     list_replies (Stood old new s) (HandlesRequest old new s asked) (Failing old new) conflict_text c.deref.result.now (conflicts_in s.working c.args.alt.now) c.write_list.result _ _ c.write_list.new.text
-    (λ text says. told old new s asked passes said.failed said.no_calls (λ stood. said.state stood.honest s stood.holds) text sound (refl, said.failed ∙ sound, says))
+    (λ x rest. refl) (λ text says. told old new s asked passes said.failed said.no_calls (λ stood. said.state stood.honest s stood.holds) text sound (refl, said.failed ∙ sound, says))
     (λ (stood : Stood old new s). rw c.deref.ensures.value (said.value stood.honest sound s stood.holds)) c.write_list.ensures.reply c.write_list.ensures.ok c.write_list.ensures.err
 
 pub returns-in-Err-clause-goes : goal.returns-in-Err-clause-goes
@@ -36,7 +36,7 @@ returns-in-Err-clause-answer g c s =
     let refusal = c.in-Err.refusal in
     let asked = request.Conflicts c.args.alt.now in
     replied_whole (HandlesRequest old new s asked) c.refused.result _ c.args.text.now c.requires
-    (refusal_handled old new s asked (passes_reads old new (goes_any _ _ _ said.any) said.reads) said.failed said.no_calls (λ stood. said.state stood.honest s stood.holds)
+    (refusal_handled old new s asked (passes_reads old new (goes_any _ _ _ said.any) said.reads said.unchanged) said.failed said.no_calls (λ stood. said.state stood.honest s stood.holds)
     refusal c.refused.result c.refused.ensures.text c.refused.ensures.last c.refused.ensures.failed (λ failed. let e = said.refused failed in cc) (λ sound is. said.only_then sound (ap Err is))
     (λ text ends is last. (is, last))
     (λ sound. (refl, said.failed ∙ sound, λ stood. says_refusal (Failing old new) conflict_text (conflicts_in s.working c.args.alt.now) refusal _ (λ device. said.any.fault (ap Err device)) c.refused.ensures.text (said.value stood.honest sound s stood.holds))))

@@ -1,8 +1,8 @@
-use Rattle.std.proofs.Common.{◌≡◌, ◌++◌, ◌∷◌, [], true, Err, ap, arith, refl, rules, subst, sym, take, drop, ◌+◌}
+use Rattle.std.proofs.Common.{◌||◌, ◌++◌, [], false, Err, arith, refl, rules, subst, sym, take, drop, ◌+◌}
 use Rattle.vm_cli.specs.Feeding.{Fed}
 use Rattle.vm_cli.specs.Lines.{lines_of}
 use Rattle.vm_cli.specs.Talk.{ServesLines}
-use Rattle.vm_cli.proofs.FeedLemmas.{ended-join, fed-join, fed-nothing, fed-part, line_is, line_split, part_before, whole_part}
+use Rattle.vm_cli.proofs.FeedLemmas.{ended-join, fed-join, fed-nothing, fed-part, line_is, line_split, or-false, part_before, whole_part}
 use Rattle.vm_cli.proofs.Known.{split_more}
 use Rattle.vm_cli.proofs.PassLemmas.{ends_later, goes_both, goes_none, left_again}
 use Rattle.vm_cli.proofs.talk.feed.Goals as goal
@@ -14,7 +14,7 @@ loop-end-init g c = record {
   goes = goes_none _;
   sound = λ sound. sound;
   left = λ failed. refl;
-  fed = λ s from h. (from, h, fed-nothing c.args.store.now s from _);
+  fed = λ s from h. (from, h, fed-nothing c.args.store.now s c.args.on_refusal from _);
 }
 
 pub feed_line-requires : goal.feed_line-requires
@@ -48,8 +48,8 @@ returns-in-Err-clause-ended g c s from h more =
     let rest = drop (c.in-Some.end + 1) c.loop-end.rest.now ++ more in
     let q = c.in-Err.ensures.ended _ p.0 p.1 rest in
     let bytes = sym (line_split c.args.bytes.now so_far.done c.loop-end.rest.now more c.in-Some.end so_far.split first.0.high first.1) in
-    subst (λ bs. ServesLines {T = Unit {0}} old new s (Err c.in-Err.fault) before now (lines_of (from ++ bs))) bytes
-    (ended-join old mid new s _ _ from p.0 before _ now p.2 {T = Unit {0}} (Err c.in-Err.fault) rest q)
+    subst (λ bs. ServesLines old new s c.args.on_refusal (Err c.in-Err.fault) before now (lines_of (from ++ bs))) bytes
+    (ended-join old mid new s c.args.on_refusal _ _ _ from p.0 before _ now p.2 c.in-Err.fault rest q)
 
 pub loop-end-preserved : goal.loop-end-preserved
 loop-end-preserved g c =
@@ -72,8 +72,8 @@ loop-end-preserved g c =
           let q = c.in-Ok.ensures.fed _ p.0 p.1 in (
             q.0,
             q.1,
-            subst (λ bs. Fed old new s (so_far.done ++ bs) from q.0 before now) (sym line)
-                (fed-join old mid new s _ _ from p.0 before _ now p.2 q.0 q.2),
+            subst (λ bs. Fed old new s c.args.on_refusal (c.loop-end.refused || c.in-Ok.again) (so_far.done ++ bs) from q.0 before now) (sym line)
+                (fed-join old mid new s c.args.on_refusal _ _ _ from p.0 before _ now p.2 _ q.0 q.2),
           );
     }
 
@@ -86,6 +86,7 @@ returns-clause-fed g c s from h =
     let p = so_far.fed s from h in (
       p.0 ++ rest,
       c.extend.ensures p.0 p.1,
-      subst (λ bs. Fed c.args.store.now c.loop-end.store s bs from (p.0 ++ rest) before now) (sym so_far.split)
-          (fed-join c.args.store.now c.loop-end.store c.loop-end.store s _ _ from p.0 before _ now p.2 (p.0 ++ rest) (fed-part c.loop-end.store _ p.0 rest now)),
+      subst (λ b. Fed c.args.store.now c.loop-end.store s c.args.on_refusal b c.args.bytes.now from (p.0 ++ rest) before now) (or-false c.loop-end.refused)
+          (subst (λ bs. Fed c.args.store.now c.loop-end.store s c.args.on_refusal (c.loop-end.refused || false) bs from (p.0 ++ rest) before now) (sym so_far.split)
+          (fed-join c.args.store.now c.loop-end.store c.loop-end.store s c.args.on_refusal _ _ _ from p.0 before _ now p.2 false (p.0 ++ rest) (fed-part c.loop-end.store _ c.args.on_refusal p.0 rest now))),
     )

@@ -15,7 +15,7 @@ invariant-loop-end g l = record {
   sound : has_failed l.fn.store ≡ false → has_failed l.store ≡ false;
   left : has_failed l.fn.store ≡ true → l.store ≡ l.fn.store;
   fed : (s : State) → (from : List ℕ) → HoldsLine l.fn.line from
-      → (to : List ℕ) × HoldsLine l.line to × Fed l.fn.store l.store s done from to (g.W.Write.contents l.fn.writer) (g.W.Write.contents l.writer);
+      → (to : List ℕ) × HoldsLine l.line to × Fed l.fn.store l.store s l.fn.on_refusal l.refused done from to (g.W.Write.contents l.fn.writer) (g.W.Write.contents l.writer);
 }
 
 abbrev pub decreases-loop-end : goal.decreases-loop-end

@@ -20,7 +20,7 @@ returns-in-Ok g c =
       last = λ sound. refl;
       left = said.no_calls;
       answer = λ s.
-          told old new s (request.Get c.args.alt.now c.args.key) (passes_reads old new (goes_any _ _ _ said.any) said.reads) said.failed said.no_calls (λ stood. said.state stood.honest s stood.holds)
+          told old new s (request.Get c.args.alt.now c.args.key) (passes_reads old new (goes_any _ _ _ said.any) said.reads said.unchanged) said.failed said.no_calls (λ stood. said.state stood.honest s stood.holds)
           _ sound (refl, said.failed ∙ sound, λ stood. says_value (Failing old new) (value_in s.working c.args.alt.now c.args.key) (Ok c.in-Ok.value) _ said.any.fault refl (said.value stood.honest sound s stood.holds));
     }
 
@@ -36,7 +36,7 @@ returns-in-Err g c =
       last = λ sound. c.refused.ensures.last (λ is. said.only_then sound (ap Err is));
       left = said.no_calls;
       answer = λ s.
-          refusal_handled old new s (request.Get c.args.alt.now c.args.key) (passes_reads old new (goes_any _ _ _ said.any) said.reads) said.failed said.no_calls (λ stood. said.state stood.honest s stood.holds)
+          refusal_handled old new s (request.Get c.args.alt.now c.args.key) (passes_reads old new (goes_any _ _ _ said.any) said.reads said.unchanged) said.failed said.no_calls (λ stood. said.state stood.honest s stood.holds)
           refusal c.refused.result c.refused.ensures.text c.refused.ensures.last c.refused.ensures.failed (λ failed. let e = said.refused failed in cc) (λ sound is. said.only_then sound (ap Err is))
           (λ text ends is last. (is, last))
           (λ sound. (refl, said.failed ∙ sound, λ stood. says_value (Failing old new) (value_in s.working c.args.alt.now c.args.key) (Err refusal) _ said.any.fault c.refused.ensures.text (said.value stood.honest sound s stood.holds)));

@@ -1,6 +1,5 @@
-use Rattle.std.proofs.Common.{◌≡◌, ◌∙◌, [], Err, refl, sym, arith, rules}
+use Rattle.std.proofs.Common.{◌≡◌, ◌∙◌, [], Ok, Err, refl, sym, arith, rules}
 use Rattle.std.proofs.KnownBytes.{Consumes-nil, Consumes-trans}
-use Rattle.vm_cli.proofs.CarriedLemmas.{on_ok}
 use Rattle.vm_cli.proofs.FeedLemmas.{ended-join, fed-join, fed-nothing}
 use Rattle.vm_cli.proofs.PassLemmas.{ends_later, ends_store, goes_both, goes_none, left_again}
 use Rattle.vm_cli.proofs.ServeLemmas.{read-all, serves-all, serves-last, serves-read, serves-some}
@@ -13,7 +12,7 @@ loop-init g c = record {
   left = λ failed. refl;
   bytes = [];
   read = Consumes-nil (g.R.Read.remaining c.args.reader.now);
-  fed = λ s. ([], c.new-line.ensures, fed-nothing c.args.store.now s [] (g.W.Write.contents c.args.writer.now));
+  fed = λ s. ([], c.new-line.ensures, fed-nothing c.args.store.now s c.args.on_refusal [] (g.W.Write.contents c.args.writer.now));
 }
 
 pub returns-then-line-clause-end : goal.returns-then-line-clause-end
@@ -21,10 +20,10 @@ returns-then-line-clause-end g c =
     let none : c.in-Ok-eq0.field-0 ≡ 0 = omega (arith, c.in-Ok-eq0.field-0-test) in
     c.in-Ok-eq0.ensures.bytes.1 none (search rules)
 
-pub returns-in-Ok-eq0-clause-end : goal.returns-in-Ok-eq0-clause-end
-returns-in-Ok-eq0-clause-end g c =
+pub returns-in-Ok-answer-clause-end : goal.returns-in-Ok-answer-clause-end
+returns-in-Ok-answer-clause-end g c =
     let none : c.in-Ok-eq0.field-0 ≡ 0 = omega (arith, c.in-Ok-eq0.field-0-test) in
-    on_ok c.answer.result (c.in-Ok-eq0.ensures.bytes.1 none (search rules))
+    c.in-Ok-eq0.ensures.bytes.1 none (search rules)
 
 pub returns-then-line-clause-answers : goal.returns-then-line-clause-answers
 returns-then-line-clause-answers g c s =
@@ -34,16 +33,16 @@ returns-then-line-clause-answers g c s =
     let none : c.in-Ok-eq0.field-0 ≡ 0 = omega (arith, c.in-Ok-eq0.field-0-test) in
     let before = g.W.Write.contents c.args.writer.now in
     let now = g.W.Write.contents c.loop.writer in
-    serves-all c.args.store.now c.loop.store s so_far.bytes p.0 before now p.2 {T = Unit {0}} tt _ (read-all _ _ _ so_far.bytes _ c.in-Ok-eq0.field-0 so_far.read more.0 none (more.1 none (search rules))) (sym p.1.empty ∙ c.if-line.true)
+    serves-all c.args.store.now c.loop.store s c.args.on_refusal c.loop.refused so_far.bytes p.0 before now p.2 _ (read-all _ _ _ so_far.bytes _ c.in-Ok-eq0.field-0 so_far.read more.0 none (more.1 none (search rules))) (sym p.1.empty ∙ c.if-line.true)
 
-pub returns-in-Ok-eq0-clause-goes : goal.returns-in-Ok-eq0-clause-goes
-returns-in-Ok-eq0-clause-goes g c = goes_both _ _ _ c.loop.invariant.goes c.answer.ensures.goes
+pub returns-in-Ok-answer-clause-goes : goal.returns-in-Ok-answer-clause-goes
+returns-in-Ok-answer-clause-goes g c = goes_both _ _ _ c.loop.invariant.goes c.in-Ok-answer.ensures.goes
 
-pub returns-in-Ok-eq0-clause-left : goal.returns-in-Ok-eq0-clause-left
-returns-in-Ok-eq0-clause-left g c = left_again c.args.store.now c.loop.store c.answer.new.store c.loop.invariant.left c.answer.ensures.left
+pub returns-in-Ok-answer-clause-left : goal.returns-in-Ok-answer-clause-left
+returns-in-Ok-answer-clause-left g c = left_again c.args.store.now c.loop.store c.answer.new.store c.loop.invariant.left c.in-Ok-answer.ensures.left
 
-pub returns-in-Ok-eq0-clause-answers : goal.returns-in-Ok-eq0-clause-answers
-returns-in-Ok-eq0-clause-answers g c s =
+pub returns-in-Ok-answer-clause-answers : goal.returns-in-Ok-answer-clause-answers
+returns-in-Ok-answer-clause-answers g c s =
     let so_far = c.loop.invariant in
     let p = so_far.fed s in
     let more = c.in-Ok-eq0.ensures.bytes in
@@ -51,9 +50,33 @@ returns-in-Ok-eq0-clause-answers g c s =
     let before = g.W.Write.contents c.args.writer.now in
     let mid = g.W.Write.contents c.loop.writer in
     let now = g.W.Write.contents c.answer.new.writer in
-    let w = c.answer.ensures.answer _ p.0 p.1 in
-    serves-last c.args.store.now c.loop.store s so_far.bytes p.0 before mid p.2 c.answer.new.store now _ c.answer.result (read-all _ _ _ so_far.bytes _ c.in-Ok-eq0.field-0 so_far.read more.0 none (more.1 none (search rules)))
-    p.1.unbroken (sym p.1.empty ∙ c.if-line.false) w
+    let w = c.in-Ok-answer.ensures.answer _ p.0 p.1 in
+    serves-last c.args.store.now c.loop.store s c.args.on_refusal c.loop.refused so_far.bytes p.0 before mid p.2 c.answer.new.store now _ (Ok c.in-Ok-answer.last)
+    (read-all _ _ _ so_far.bytes _ c.in-Ok-eq0.field-0 so_far.read more.0 none (more.1 none (search rules))) p.1.unbroken (sym p.1.empty ∙ c.if-line.false) w
+
+pub returns-in-Err-answer-clause-goes : goal.returns-in-Err-answer-clause-goes
+returns-in-Err-answer-clause-goes g c = goes_both _ _ _ c.loop.invariant.goes c.in-Err-answer.ensures.goes
+
+pub returns-in-Err-answer-clause-left : goal.returns-in-Err-answer-clause-left
+returns-in-Err-answer-clause-left g c = left_again c.args.store.now c.loop.store c.answer.new.store c.loop.invariant.left c.in-Err-answer.ensures.left
+
+pub returns-in-Err-answer-clause-answers : goal.returns-in-Err-answer-clause-answers
+returns-in-Err-answer-clause-answers g c s =
+    let so_far = c.loop.invariant in
+    let p = so_far.fed s in
+    let more = c.in-Ok-eq0.ensures.bytes in
+    let none : c.in-Ok-eq0.field-0 ≡ 0 = omega (arith, c.in-Ok-eq0.field-0-test) in
+    let before = g.W.Write.contents c.args.writer.now in
+    let mid = g.W.Write.contents c.loop.writer in
+    let now = g.W.Write.contents c.answer.new.writer in
+    let w = c.in-Err-answer.ensures.answer _ p.0 p.1 in
+    serves-last c.args.store.now c.loop.store s c.args.on_refusal c.loop.refused so_far.bytes p.0 before mid p.2 c.answer.new.store now _ (Err c.in-Err-answer.fault)
+    (read-all _ _ _ so_far.bytes _ c.in-Ok-eq0.field-0 so_far.read more.0 none (more.1 none (search rules))) p.1.unbroken (sym p.1.empty ∙ c.if-line.false) w
+
+pub returns-in-Err-answer-clause-err : goal.returns-in-Err-answer-clause-err
+returns-in-Err-answer-clause-err g c sound =
+    ends_store c.args.store.now c.answer.new.store c.in-Err-answer.fault
+    (ends_later c.args.store.now c.loop.store c.answer.new.store c.in-Err-answer.fault c.loop.invariant.goes (c.in-Err-answer.ensures.err (c.loop.invariant.sound sound)))
 
 pub returns-in-Err-feed-clause-goes : goal.returns-in-Err-feed-clause-goes
 returns-in-Err-feed-clause-goes g c = goes_both _ _ _ c.loop.invariant.goes c.in-Err-feed.ensures.goes
@@ -76,23 +99,23 @@ returns-in-Err-feed-clause-answers g c s =
     let before = g.W.Write.contents c.args.writer.now in
     let now = g.W.Write.contents c.feed.new.writer in
     let q = c.in-Err-feed.ensures.ended _ p.0 p.1 in
-    serves-some old new s {T = Unit {0}} (Err c.in-Err-feed.fault) before now (g.R.Read.remaining c.args.reader.now) (g.R.Read.remaining c.read.new.self) _
+    serves-some old new s c.args.on_refusal (Err c.in-Err-feed.fault) before now (g.R.Read.remaining c.args.reader.now) (g.R.Read.remaining c.read.new.self) _
     (Consumes-trans _ _ _ so_far.bytes _ so_far.read c.in-Ok.ensures.bytes.0)
-    (λ more. ended-join old mid new s so_far.bytes _ [] p.0 before _ now p.2 {T = Unit {0}} (Err c.in-Err-feed.fault) more (q more))
+    (λ more. ended-join old mid new s c.args.on_refusal _ so_far.bytes _ [] p.0 before _ now p.2 c.in-Err-feed.fault more (q more))
 
 pub returns-in-Err-clause-answers : goal.returns-in-Err-clause-answers
 returns-in-Err-clause-answers g c s =
     let before = g.W.Write.contents c.args.writer.now in
     let now = g.W.Write.contents c.loop.writer in
     let p = c.loop.invariant.fed s in
-    serves-read c.args.store.now c.loop.store s c.loop.invariant.bytes p.0 before now p.2 (Unit {0}) (g.R.Read.remaining c.args.reader.now) (g.R.Read.remaining c.loop.reader) c.loop.invariant.read
+    serves-read c.args.store.now c.loop.store s c.args.on_refusal c.loop.refused c.loop.invariant.bytes p.0 before now p.2 (g.R.Read.remaining c.args.reader.now) (g.R.Read.remaining c.loop.reader) c.loop.invariant.read
 
 pub returns-clause-answers : goal.returns-clause-answers
 returns-clause-answers g c s =
     let before = g.W.Write.contents c.args.writer.now in
     let now = g.W.Write.contents c.loop.writer in
     let p = c.loop.invariant.fed s in
-    serves-read c.args.store.now c.loop.store s c.loop.invariant.bytes p.0 before now p.2 (Unit {0}) (g.R.Read.remaining c.args.reader.now) (g.R.Read.remaining c.loop.reader) c.loop.invariant.read
+    serves-read c.args.store.now c.loop.store s c.args.on_refusal c.loop.refused c.loop.invariant.bytes p.0 before now p.2 (g.R.Read.remaining c.args.reader.now) (g.R.Read.remaining c.loop.reader) c.loop.invariant.read
 
 pub loop-preserved : goal.loop-preserved
 loop-preserved g c =
@@ -111,5 +134,5 @@ loop-preserved g c =
       fed = λ s.
           let p = so_far.fed s in
           let q = c.in-Ok-feed.ensures.fed _ p.0 p.1 in
-          (q.0, q.1, fed-join old mid new s so_far.bytes _ [] p.0 before _ now p.2 q.0 q.2);
+          (q.0, q.1, fed-join old mid new s c.args.on_refusal _ so_far.bytes _ [] p.0 before _ now p.2 _ q.0 q.2);
     }

@@ -16,5 +16,5 @@ invariant-loop g l = record {
   bytes : List ℕ;
   read : Consumes (g.R.Read.remaining l.fn.reader) (g.R.Read.remaining l.reader) bytes;
   fed : (s : State)
-      → (to : List ℕ) × HoldsLine l.line to × Fed l.fn.store l.store s bytes [] to (g.W.Write.contents l.fn.writer) (g.W.Write.contents l.writer);
+      → (to : List ℕ) × HoldsLine l.line to × Fed l.fn.store l.store s l.fn.on_refusal l.refused bytes [] to (g.W.Write.contents l.fn.writer) (g.W.Write.contents l.writer);
 }

@@ -1,37 +1,60 @@
-use Rattle.std.proofs.Common.{◌≡◌, Some, None, codes, sym, refl, ◌∙◌}
-use Rattle.clap.specs.Words.{first_of, found_of, rows_of, subcommand_rows_of}
+use Rattle.std.proofs.Common.{◌≡◌, Some, None, codes, ap, sym, refl, ◌∙◌}
+use Rattle.std.proofs.lemmas.Result.{IfOk-weaker}
+use Rattle.clap.specs.Words.{Text, first_of, found_of, rows_of, subcommand_rows_of}
 use Rattle.clap.proofs.WalkLemmas.{first_value-rows}
-use Rattle.vm_cli.proofs.Matches.{asked_of-check, asked_of-create, asked_of-run, subcommand_rows-parts}
+use Rattle.vm_cli.specs.Words.{asked_by, asked_of}
+use Rattle.vm_cli.proofs.Matches.{asked_of-entered, subcommand_rows-parts}
 use Rattle.vm_cli.proofs.words.asked.Goals as goal
 
-pub returns-in_err-file : goal.returns-in_err-file
-returns-in_err-file c =
-    let rows = rows_of (found_of c.in_ok-name.matches.now) in
-    let entered : subcommand_rows_of c.args.matches.now ≡ Some (c.in_ok-name.name.now, rows) =
-    subcommand_rows-parts _ _ _ _ c.in_ok-name.ensures.name c.in_ok-name.ensures.rows in
-    let none : first_of (codes "file") rows ≡ None = sym (first_value-rows (found_of c.in_ok-name.matches.now) (codes "file")) ∙ sym c.in_err-file.ensures in
-    rw (c.from_residual-in_err-file.ensures, entered, none) refl
+pub returns-in_default-get_str : goal.returns-in_default-get_str
+returns-in_default-get_str c =
+    let rows = rows_of (found_of c.in-Some.matches.now) in
+    let entered : subcommand_rows_of c.args.matches.now ≡ Some (c.in-Some.name.now, rows) =
+    subcommand_rows-parts _ _ _ _ c.in-Some.ensures.name c.in-Some.ensures.rows in
+    let given = rw c.in_default-get_str.is at c.get_str.ensures in
+    let none : first_of (codes "file") rows ≡ None = sym (first_value-rows (found_of c.in-Some.matches.now) (codes "file")) ∙ sym given in
+    rw (entered, none) refl
 
-pub returns-in_ok-blocks-in-create : goal.returns-in_ok-blocks-in-create
-returns-in_ok-blocks-in-create c =
-    let rows = rows_of (found_of c.in_ok-name.matches.now) in
-    let entered : subcommand_rows_of c.args.matches.now ≡ Some (c.in_ok-name.name.now, rows) =
-    subcommand_rows-parts _ _ _ _ c.in_ok-name.ensures.name c.in_ok-name.ensures.rows in
-    let file : first_of (codes "file") rows ≡ Some c.in_ok-file.file.now = sym (first_value-rows (found_of c.in_ok-name.matches.now) (codes "file")) ∙ sym c.in_ok-file.ensures in
-    sym (asked_of-create _ _ rows _ _ entered file c.in-create.is (sym c.in_ok-blocks-in-create.ensures))
+pub returns-in-create : goal.returns-in-create
+returns-in-create c =
+    let rows = rows_of (found_of c.in-Some.matches.now) in
+    let entered : subcommand_rows_of c.args.matches.now ≡ Some (c.in-Some.name.now, rows) =
+    subcommand_rows-parts _ _ _ _ c.in-Some.ensures.name c.in-Some.ensures.rows in
+    let given = rw c.in-Some-get_str.is at c.get_str.ensures in
+    let file : first_of (codes "file") rows ≡ Some c.in-Some-get_str.file.now = sym (first_value-rows (found_of c.in-Some.matches.now) (codes "file")) ∙ sym given in
+    let asks : asked_of (subcommand_rows_of c.args.matches.now) ≡ asked_by (codes "create") rows c.in-Some-get_str.file.now =
+    asked_of-entered _ _ rows _ entered file ∙ ap (λ (name : Text). asked_by name rows c.in-Some-get_str.file.now) c.in-create.is in
+    c.asked_create.ensures ∙ sym asks
 
-pub returns-in_ok-cache-in-run : goal.returns-in_ok-cache-in-run
-returns-in_ok-cache-in-run c =
-    let rows = rows_of (found_of c.in_ok-name.matches.now) in
-    let entered : subcommand_rows_of c.args.matches.now ≡ Some (c.in_ok-name.name.now, rows) =
-    subcommand_rows-parts _ _ _ _ c.in_ok-name.ensures.name c.in_ok-name.ensures.rows in
-    let file : first_of (codes "file") rows ≡ Some c.in_ok-file.file.now = sym (first_value-rows (found_of c.in_ok-name.matches.now) (codes "file")) ∙ sym c.in_ok-file.ensures in
-    sym (asked_of-run _ _ rows _ _ entered file c.in-run.is (sym c.in_ok-cache-in-run.ensures))
+pub returns-in-run : goal.returns-in-run
+returns-in-run c =
+    let rows = rows_of (found_of c.in-Some.matches.now) in
+    let entered : subcommand_rows_of c.args.matches.now ≡ Some (c.in-Some.name.now, rows) =
+    subcommand_rows-parts _ _ _ _ c.in-Some.ensures.name c.in-Some.ensures.rows in
+    let given = rw c.in-Some-get_str.is at c.get_str.ensures in
+    let file : first_of (codes "file") rows ≡ Some c.in-Some-get_str.file.now = sym (first_value-rows (found_of c.in-Some.matches.now) (codes "file")) ∙ sym given in
+    let asks : asked_of (subcommand_rows_of c.args.matches.now) ≡ asked_by (codes "run") rows c.in-Some-get_str.file.now =
+    asked_of-entered _ _ rows _ entered file ∙ ap (λ (name : Text). asked_by name rows c.in-Some-get_str.file.now) c.in-run.is in
+    c.asked_run.ensures ∙ sym asks
+
+pub returns-in-do : goal.returns-in-do
+returns-in-do c =
+    let rows = rows_of (found_of c.in-Some.matches.now) in
+    let entered : subcommand_rows_of c.args.matches.now ≡ Some (c.in-Some.name.now, rows) =
+    subcommand_rows-parts _ _ _ _ c.in-Some.ensures.name c.in-Some.ensures.rows in
+    let given = rw c.in-Some-get_str.is at c.get_str.ensures in
+    let file : first_of (codes "file") rows ≡ Some c.in-Some-get_str.file.now = sym (first_value-rows (found_of c.in-Some.matches.now) (codes "file")) ∙ sym given in
+    let asks : asked_of (subcommand_rows_of c.args.matches.now) ≡ asked_by (codes "do") rows c.in-Some-get_str.file.now =
+    asked_of-entered _ _ rows _ entered file ∙ ap (λ (name : Text). asked_by name rows c.in-Some-get_str.file.now) c.in-do.is in
+    IfOk-weaker c.asked_do.result _ _ (λ job said. said ∙ sym asks) c.asked_do.ensures
 
 pub returns-in-check : goal.returns-in-check
 returns-in-check c =
-    let rows = rows_of (found_of c.in_ok-name.matches.now) in
-    let entered : subcommand_rows_of c.args.matches.now ≡ Some (c.in_ok-name.name.now, rows) =
-    subcommand_rows-parts _ _ _ _ c.in_ok-name.ensures.name c.in_ok-name.ensures.rows in
-    let file : first_of (codes "file") rows ≡ Some c.in_ok-file.file.now = sym (first_value-rows (found_of c.in_ok-name.matches.now) (codes "file")) ∙ sym c.in_ok-file.ensures in
-    sym (asked_of-check _ _ rows _ entered file c.in-check.is)
+    let rows = rows_of (found_of c.in-Some.matches.now) in
+    let entered : subcommand_rows_of c.args.matches.now ≡ Some (c.in-Some.name.now, rows) =
+    subcommand_rows-parts _ _ _ _ c.in-Some.ensures.name c.in-Some.ensures.rows in
+    let given = rw c.in-Some-get_str.is at c.get_str.ensures in
+    let file : first_of (codes "file") rows ≡ Some c.in-Some-get_str.file.now = sym (first_value-rows (found_of c.in-Some.matches.now) (codes "file")) ∙ sym given in
+    let asks : asked_of (subcommand_rows_of c.args.matches.now) ≡ asked_by (codes "check") rows c.in-Some-get_str.file.now =
+    asked_of-entered _ _ rows _ entered file ∙ ap (λ (name : Text). asked_by name rows c.in-Some-get_str.file.now) c.in-check.is in
+    sym asks

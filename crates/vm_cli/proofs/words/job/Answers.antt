@@ -14,7 +14,8 @@ unreachable-requires c =
     let rows : subcommand_rows_of c.in_ok-matches.matches ≡ subcommand_of altctl words =
     (c.in_ok-matches.ensures.matches (ap is_simple is)).1 ∙ ap (λ (a : App). subcommand_of a words) is in
     let job = asks words clean in
-    let bad : ◌≡◌ {A = Option Wanted} None (Some job.0) = c.in-None.ensures ∙ (ap asked_of rows ∙ job.1) in
+    let none = rw c.in-None.is at c.in_ok-job.ensures in
+    let bad : ◌≡◌ {A = Option Wanted} None (Some job.0) = none ∙ (ap asked_of rows ∙ job.1) in
     cc
 
 pub returns-clause-faults : goal.returns-clause-faults

@@ -1,4 +1,4 @@
-use Rattle.std.proofs.Common.{◌<◌, ◌≤◌, ◌+◌, length, refl, arith, rules}
+use Rattle.std.proofs.Common.{◌<◌, ◌≤◌, ◌+◌, length, refl, rules}
 use Rattle.vm_cli.proofs.Parts.{holds-kept, holds-long, holds-longer, holds-no_memory, holds-none}
 use Rattle.vm_cli.proofs.line.Line.extend.Goals as goal
 

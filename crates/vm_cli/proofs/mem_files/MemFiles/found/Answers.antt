@@ -18,4 +18,4 @@ returns-clause-honest c honest =
     let kept = crash_keeps (memory_state c.in_ok-disk.disk).now (memory_state c.crash.result).now c.crash.ensures.left c.crash.ensures.filled in
     finds c.args.self.now.honest c.args.file.now c.args.self.now.slots (c.get_mut.follows.lender _) _ c.args.file.now refl
     ((c.get_mut.follows.holds _).3 (search rules)) c.in_ok-slot.slot.now there refl
-    (Some (memory_state c.crash.result)) (kept ∙ held, c.crash.ensures.clean)
+    (Some (memory_state c.crash.result)) (kept ∙ held, c.crash.ensures.clean, c.crash.ensures.past)

@@ -1,0 +1,23 @@
+use Rattle.std.proofs.Common.{◌≡◌, ◌≢◌, ◌∙◌, map, refl, rules, subst, sym}
+use Rattle.std.specs.String.{string_bytes}
+use Rattle.vm_cli.specs.Exits.{Ends, status_of}
+use Rattle.vm_cli.specs.declared.program.Exit.TheVariants.{Stopped}
+use Rattle.vm_cli.proofs.ExitLemmas.{is_done, is_line_refused, is_refused, is_stopped, is_wrong, small_status}
+use Rattle.vm_cli.proofs.program.run_words.Goals as goal
+
+pub returns-in_default : goal.returns-in_default
+returns-in_default g c =
+    let words = map string_bytes c.args.words.now in
+    let exit = c.carry_out.result in
+    let status : c.status.result ≡ status_of exit = search rules in
+    let goes_on : exit ≢ Stopped = search rules in
+    let ends = c.carry_out.ensures.ends in
+    record {
+      status = rw status (small_status exit);
+      done = λ is. subst (λ e. Ends g.W.Write.contents g.F.Write.contents e words c.args.output.now c.carry_out.new.output c.args.faults.now c.carry_out.new.faults) (is_done exit (sym status ∙ is)) ends;
+      refused = λ is. subst (λ e. Ends g.W.Write.contents g.F.Write.contents e words c.args.output.now c.carry_out.new.output c.args.faults.now c.carry_out.new.faults) (is_refused exit (sym status ∙ is)) ends;
+      wrong = λ is. subst (λ e. Ends g.W.Write.contents g.F.Write.contents e words c.args.output.now c.carry_out.new.output c.args.faults.now c.carry_out.new.faults) (is_wrong exit (sym status ∙ is)) ends;
+      stopped = λ is. absurd (goes_on (is_stopped exit (sym status ∙ is)));
+      line_refused = λ is. subst (λ e. Ends g.W.Write.contents g.F.Write.contents e words c.args.output.now c.carry_out.new.output c.args.faults.now c.carry_out.new.faults) (is_line_refused exit (sym status ∙ is)) ends;
+      files = λ honest. (exit, c.carry_out.new.faults, status, (λ going. refl), c.carry_out.ensures.files honest);
+    }
