@@ -29,6 +29,7 @@ try 300 documents.py
 try 300 session.sh
 try 120 ../clients/python/test_altctl.py
 try 300 space.py
+try 300 progress.py
 try 600 failing_device.py
 try 600 compare.py -n 60
 try 300 kill.py "$tools/../altctl" 60

@@ -8,9 +8,9 @@ others are what it prints. A block `sh` or `python` is a program as it stands, a
 what it prints. The blocks of one document run in one folder, one after another, with the program as `altctl` and
 `./altctl`.
 
-It also looks whether links lead to files, whether each refusal has a row of advice, whether the README shows the
-library's function as it is tested, and whether a row `| FILE | COUNT |` tells how many lines that file has. `--counts`
-writes these anew.
+It also looks whether README and `altctl --version` name the toolchain that is there, whether links lead to files,
+whether each refusal has a row of advice, whether the README shows the library's function as it is tested, and whether
+a row `| FILE | COUNT |` tells how many lines that file has. `--counts` writes these anew.
 """
 import difflib
 import os
@@ -133,10 +133,24 @@ def missing_refusals():
     return [f"docs/OPERATING.md: no advice on refusal {it}" for it in range(1, 24) if it not in told]
 
 
+def wrong_versions(altctl):
+    """Where README and `altctl --version` name another toolchain than `rt version`, or another format than
+    docs/FORMATS.md."""
+    how = {"stdout": subprocess.PIPE, "text": True, "timeout": 300}
+    toolchain = subprocess.run(["rt", "version"], check=True, **how).stdout.strip()
+    if f"\nProved with: `{toolchain}`.\n" not in (TOP / "README.md").read_text():
+        yield f"README.md: it is not said that all is proved with {toolchain}"
+    number = re.search(r"`SLOT`, u32 format (\d+)", (TOP / "docs" / "FORMATS.md").read_text())[1]
+    due = [f"file format {number}", f"proved with {toolchain}"]
+    came = subprocess.run([altctl, "--version"], check=True, **how).stdout.splitlines()[1:]
+    if came != due:
+        yield f"altctl --version: {came} came, and not {due}"
+
+
 def main():
     words = [it for it in sys.argv[1:] if it != "--counts"]
     altctl = os.path.abspath((words or [TOP / "altctl"])[0])
-    faults = [*missing_refusals()]
+    faults = [*missing_refusals(), *wrong_versions(altctl)]
     for document in DOCUMENTS:
         faults += [*dead_links(document), *wrong_counts(document, "--counts" in sys.argv[1:])]
     for it in faults:

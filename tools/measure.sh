@@ -1,6 +1,6 @@
 #!/bin/sh
 # Measures the program over real files, beside a plain loop in C (`block_calls.c`) that makes as many block
-# reads, block writes and syncs, and prints a table in Markdown: `tools/measure.sh [-d DIVISOR] [ALTCTL]`, where a
+# reads, block writes and syncs, and prints tables in Markdown: `tools/measure.sh [-d DIVISOR] [ALTCTL]`, where a
 # DIVISOR of 1 to 16 makes all of it so many times smaller. It stands beside the gate: times are looked at, never tested.
 set -eu
 
@@ -33,6 +33,9 @@ line_records=$((100000 / divisor))
 line_puts=$((10000 / divisor))
 merged=$((1000 / divisor))
 markings=1000
+commits=$((2000 / divisor))
+versions=10
+changed=100
 
 tools=$(cd "$(dirname "$0")" && pwd)
 altctl=${1:-$tools/../altctl}
@@ -221,6 +224,15 @@ measure_start() {
     stop
 }
 
+# Puts of 200-byte values: of the number itself, and of another one.
+long_lines() {
+    awk -v alt="$1" '{ printf "put %s 1 %d %0200d\n", alt, $1, $1 }'
+}
+
+changed_lines() {
+    awk -v alt="$1" -v by="$2" '{ printf "put %s 1 %d %0200d\n", alt, $1, $1 + by }'
+}
+
 # What was measured last, without the start of the program and its three reads.
 without_start() {
     took=$((took - start_took))
@@ -344,6 +356,96 @@ measure_lines() {
     rm "$work/store"
 }
 
+# A store of long records under a name, put with a commit after each so many, and with it the row of that.
+measure_long_puts() {
+    "$altctl" create "$work/store" "$small_blocks" >/dev/null
+    start "$work/store" "$work/none"
+    long_lines top <"$work/numbers" |
+        awk -v every="$1" -v count="$line_records" '{ print } NR % every == 0 || NR == count { print "commit" }' >"$work/puts"
+    sed 's/.*/ok/' "$work/puts" >"$work/oks"
+    ask "$work/puts"
+    answers_are "$work/oks"
+    row "$2" "$line_records" $((2 * (line_records / $1))) "$small_blocks"
+}
+
+# The same question for each of the versions, with the answers in a file: one row, a version each.
+measure_versions_row() {
+    awk -v what="$1" -v count="$versions" 'BEGIN { for (i = 1; i <= count; i++) printf "%s v%d\n", what, i }' >"$work/questions"
+    ask "$work/questions"
+    answers_are "$work/expected"
+    row "$2" "$versions" 0 "$small_blocks"
+}
+
+# What is asked of versions: each has changes of its own, and as many were made in the parent, of which a tenth are in
+# conflict with those of each version.
+measure_versions() {
+    numbers "$line_records" random >"$work/numbers"
+    measure_long_puts "$line_records" "$(grouped "$line_records") puts, one commit"
+    stop
+    rm "$work/store"
+    measure_long_puts 100 "$(grouped "$line_records") puts, a commit after each 100"
+
+    get_lines <"$work/numbers" >"$work/gets"
+    awk '{ printf "value %0200d\n", $1 }' "$work/numbers" >"$work/values"
+    ask "$work/gets"
+    answers_are "$work/values"
+    row "$(grouped "$line_records") gets" "$line_records" 0 "$small_blocks"
+
+    echo list top >"$work/list"
+    numbers "$line_records" rising | awk '{ printf "record 1 %d %0200d\n", $1, $1 }' >"$work/records"
+    echo end "$line_records" >>"$work/records"
+    ask "$work/list"
+    answers_are "$work/records"
+    row "a list of them, a record" "$line_records" 0 "$small_blocks"
+
+    head -n "$changed" "$work/numbers" >"$work/theirs"
+    tail -n +$((changed - changed / 10 + 1)) "$work/numbers" | head -n "$changed" >"$work/mine"
+    {
+        awk -v count="$versions" 'BEGIN { for (i = 1; i <= count; i++) printf "new v%d top\n", i }'
+        changed_lines top 1 <"$work/theirs"
+        for version in $(seq "$versions"); do
+            changed_lines "v$version" 2 <"$work/mine"
+        done
+        echo commit
+    } >"$work/puts"
+    sed 's/.*/ok/' "$work/puts" >"$work/oks"
+    ask "$work/puts"
+    answers_are "$work/oks"
+
+    sort -n "$work/mine" | awk '{ printf "change 1 %d %0200d %0200d\n", $1, $1, $1 + 2 }' >"$work/one"
+    echo end "$changed" >>"$work/one"
+    for version in $(seq "$versions"); do cat "$work/one"; done >"$work/expected"
+    measure_versions_row changes "changes of a version, $changed on each side"
+
+    sort -n "$work/mine" "$work/theirs" | uniq -d |
+        awk '{ printf "conflict 1 %d %0200d %0200d %0200d\n", $1, $1, $1 + 1, $1 + 2 }' >"$work/one"
+    echo end $((changed / 10)) >>"$work/one"
+    for version in $(seq "$versions"); do cat "$work/one"; done >"$work/expected"
+    measure_versions_row conflicts "conflicts of a version, $((changed / 10)) of them"
+
+    settlements=$(sort -n "$work/mine" "$work/theirs" | uniq -d | awk '{ printf " 1:%d=theirs", $1 }')
+    for version in $(seq "$versions"); do echo "merge v$version$settlements"; done >"$work/merges"
+    for version in $(seq "$versions"); do echo "ok $changed"; done >"$work/merged"
+    ask "$work/merges"
+    answers_are "$work/merged"
+    row "merges of $changed changes" "$versions" 0 "$small_blocks"
+
+    head -n "$commits" "$work/numbers" | changed_lines w 4 |
+        awk '{ print "new w top"; print; print "post w"; print "drop w" }' >"$work/puts"
+    sed 's/.*/ok/' "$work/puts" >"$work/oks"
+    ask "$work/puts"
+    answers_are "$work/oks"
+    row 'a version made, changed at one record, posted and dropped' "$commits" 0 "$small_blocks"
+
+    head -n "$commits" "$work/numbers" | changed_lines top 3 | awk '{ print; print "commit" }' >"$work/puts"
+    sed 's/.*/ok/' "$work/puts" >"$work/oks"
+    ask "$work/puts"
+    answers_are "$work/oks"
+    row "$(grouped "$commits") times a put and a commit" "$commits" $((2 * commits)) "$small_blocks"
+    stop
+    rm "$work/store"
+}
+
 cc -O2 -o "$work/block_calls" "$tools/block_calls.c"
 mkfifo "$work/input"
 : >"$work/none"
@@ -366,3 +468,8 @@ echo
 echo "| $(grouped "$line_records") records in four alternatives | All | Each | Block reads | Block writes | Lines and answers | The store and its blocks | Plain loop |"
 echo '|---|---|---|---|---|---|---|---|'
 measure_lines
+
+echo
+echo "| $(grouped "$line_records") records of 200 bytes | All | Each | Block reads | Block writes | Syncs | Plain loop | Ratio |"
+echo '|---|---|---|---|---|---|---|---|'
+measure_versions

@@ -192,6 +192,88 @@ run_session() {
     refusals=$((refusals + number - 1))
 }
 
+# Checks the store that a session left, and refuses the allocation of this number: none, where it is 0.
+check_store() {
+    rm -f "$room/refused"
+    status=0
+    timeout 60 env LD_PRELOAD="$room/refuse.so" REFUSE="$1" REFUSED="$room/refused" \
+        "$program" check "$room/store" >"$room/shown" 2>"$room/said" </dev/null || status=$?
+    cmp -s "$room/store" "$room/usual" || fail "check, allocation $1: the file was changed"
+}
+
+# Checks the store that a session left, with each allocation refused. It has one alternative below top, and so many
+# checkpoints. Each end is met at least once.
+run_checks() {
+    cp "$room/usual" "$room/store"
+    printf 'alternatives 2\ncheckpoints %s\n' "$1" >"$room/counts"
+    echo free | "$program" run "$room/store" >>"$room/counts"
+    check_store 0
+    [ "$status" = 0 ] && cmp -s "$room/shown" "$room/counts" || fail "check: it tells $(cat "$room/shown" "$room/said")"
+    : >"$room/ends"
+    number=0
+    while
+        number=$((number + 1))
+        check_store "$number"
+        echo "$status $(cat "$room/said")" >>"$room/ends"
+        case $(tail -n 1 "$room/ends") in
+            '0 ') cmp -s "$room/shown" "$room/counts" || fail "check, allocation $number: it tells $(cat "$room/shown")" ;;
+            '1 altctl: 16 Memory' | '3 altctl: stopped')
+                [ ! -s "$room/shown" ] || fail "check, allocation $number: it tells $(cat "$room/shown")"
+                ;;
+            *) fail "check, allocation $number: $(tail -n 1 "$room/ends")" ;;
+        esac
+        [ -e "$room/refused" ]
+    do :; done
+    for end in '0 ' '1 altctl: 16 Memory' '3 altctl: stopped'; do
+        grep -qx "$end" "$room/ends" || fail "check: it never ends with $end"
+    done
+    refusals=$((refusals + number - 1))
+}
+
+# Carries out lines that are words over a new store, and refuses the allocation of this number: none, where it is 0.
+do_lines() {
+    cp "$room/empty" "$room/store"
+    rm -f "$room/refused"
+    status=0
+    timeout 60 env LD_PRELOAD="$room/refuse.so" REFUSE="$1" REFUSED="$room/refused" \
+        "$program" do --strict "$room/store" 'new a top' 'put top 1 1 x' 'put a 1 9 y' 'merge a' 'list a' commit \
+        >"$room/shown" 2>"$room/said" </dev/null || status=$?
+}
+
+# Whether the lines before the last one that was answered were answered as usual.
+began_as_usual() {
+    sed '$d' "$room/shown" >"$room/begun"
+    head -n "$(wc -l <"$room/begun")" "$room/usual_answers" | cmp -s - "$room/begun"
+}
+
+# Carries out lines that are words, with each allocation refused: all of them, or none. Each end is met at least once.
+do_all_lines() {
+    printf '%s\n' ok ok ok 'ok 1' 'record 1 1 x' 'record 1 9 y' 'end 2' ok >"$room/usual_answers"
+    do_lines 0
+    [ "$status" = 0 ] && cmp -s "$room/shown" "$room/usual_answers" || fail "do: it is $(cat "$room/shown" "$room/said")"
+    cp "$room/store" "$room/usual"
+    : >"$room/ends"
+    number=0
+    while
+        number=$((number + 1))
+        do_lines "$number"
+        echo "$status $(cat "$room/said")" >>"$room/ends"
+        left=$room/empty
+        case $(tail -n 1 "$room/ends") in
+            '0 ') left=$room/usual && cmp -s "$room/shown" "$room/usual_answers" ;;
+            '4 ') [ "$(tail -n 1 "$room/shown")" = 'error 16 Memory' ] && began_as_usual ;;
+            '1 altctl: 16 Memory' | '3 altctl: stopped') [ ! -s "$room/shown" ] ;;
+            *) false ;;
+        esac || fail "do, allocation $number: $(tail -n 1 "$room/ends") $(cat "$room/shown")"
+        cmp -s "$room/store" "$left" || fail "do, allocation $number: the file is another one"
+        [ -e "$room/refused" ]
+    do :; done
+    for end in '0 ' '1 altctl: 16 Memory' '3 altctl: stopped' '4 '; do
+        grep -qx "$end" "$room/ends" || fail "do: it never ends with $end"
+    done
+    refusals=$((refusals + number - 1))
+}
+
 # Runs the list of commands in memory, with the allocation of this number refused. Where one was, just one thing was
 # refused.
 run_commands() {
@@ -234,7 +316,10 @@ mkfifo "$room/lines" "$room/answers"
 refusals=0
 run_all_commands
 run_session a 256
+run_checks 1
 run_session x 64
+run_checks 0
+do_all_lines
 grep -q '^merge' "$room/wanting" || fail 'no merge was refused'
 echo 'How often each was refused, by calls:'
 sort "$room/refused_commands" | uniq -c

@@ -237,6 +237,50 @@ session 'a conflict, opened again' store <<'END'
 value cable%20A
 END
 
+# --- lines as words, and refused lines -----------------------------------------------------------
+
+create batch 64
+echo commit >lines
+printf 'ok\nvalue duct\n' >output
+: >faults
+program 'words as lines' 0 do batch 'put top 7 1 duct' 'get top 7 1'
+
+: >lines
+printf 'ok\nerror 5 NoSuchRecord\n' >output
+: >faults
+program 'a refused word that ends it' 4 do --strict batch 'put top 7 1 duct' 'remove top 7 9' commit
+session 'nothing of the batch' batch <<'END'
+> list top
+end 0
+END
+
+: >lines
+printf 'ok\nerror 5 NoSuchRecord\nok\n' >output
+: >faults
+program 'a refused word' 4 do batch 'put top 7 1 duct' 'remove top 7 9' commit
+session 'all of the batch but the refused word' batch <<'END'
+> list top
+record 7 1 duct
+end 1
+END
+
+printf 'put top 7 2 pipe\nnonsense\ncommit\n' >lines
+printf 'ok\nerror 22 BadLine\n' >output
+: >faults
+program 'a refused line that ends a run' 4 run --strict batch
+session 'nothing of its lines' batch <<'END'
+> list top
+record 7 1 duct
+end 1
+END
+
+: >lines
+printf 'ok\nok\n' >output
+: >faults
+program 'a batch without a refused word' 0 do --cache 0 --strict batch -- 'put top 7 2 pipe' commit
+: >output
+program 'no word for a line' 2 do batch
+
 # --- words and files -----------------------------------------------------------------------------
 
 create f 64
@@ -256,6 +300,17 @@ for size in 63 1048577 many; do
     fi
 done
 program 'no words' 2
+
+{
+    echo 'altctl 0.1.0'
+    echo 'file format 1'
+    sed -n 's/^Proved with: `\(.*\)`\.$/proved with \1/p' "$tools/../README.md"
+} >output
+: >faults
+program 'the version' 0 --version
+: >faults
+program 'the version, in short' 0 -V
+: >output
 
 echo 'altctl: cannot open g' >faults
 program 'run without a file' 1 run g
@@ -341,6 +396,7 @@ full_output() {
 }
 
 full_output run f
+full_output do f free
 
 # --- a check of a store ----------------------------------------------------------------------------
 
@@ -411,6 +467,40 @@ for file in absent h; do
     [ -e $file ] || echo "altctl: cannot open $file" >faults
     program "check of $file" 1 check $file
 done
+
+# What is no plain file: nobody waits for a pipe to be written to.
+mkfifo pipe
+mkdir folder
+ln -s pipe link
+printf '#!/bin/sh\nexec timeout 60 "%s" "$@"\n' "$able" >timely
+chmod +x timely
+altctl=./timely
+for file in pipe folder link /dev/null; do
+    : >lines
+    : >output
+    for word in check run; do
+        echo "altctl: cannot open $file" >faults
+        program "$word of $file, which is no plain file" 1 $word $file
+    done
+    echo "altctl: cannot create $file" >faults
+    program "create over $file, which is no plain file" 1 create $file 64
+done
+altctl=$able
+
+# A file whose file system knows no sync: for a check that counts as synced, and for a run it doesn't.
+if [ -w /proc/self/comm ]; then
+    echo 'altctl: 19 NotAStore' >faults
+    program 'check of a file that knows no sync' 1 check /proc/self/comm
+    echo 'altctl: 15 Device' >faults
+    program 'run on a file that knows no sync' 1 run /proc/self/comm
+fi
+
+ln -s counted other
+checked 'check by a second name' other <<'END'
+alternatives 2
+checkpoints 1
+free 29
+END
 
 full_output check counted
 rm -f faults
@@ -524,14 +614,19 @@ for which in 0 1 2 01 02 12 012; do
 done
 
 # Only one descriptor is left, and it is the one that is closed: the program opens no file.
-echo 3 >status
-came=0
-sh -c 'exec >&-; ulimit -n 3; exec "$0" create made 64' "$tools/../crates/altctl/out/altctl" <lines 2>faults.came || came=$?
-echo "$came" >status.came
-echo 'altctl: stopped' >faults
-compare 'no descriptor is left: status' status status.came
-compare 'no descriptor is left: standard error' faults faults.came
+echo 1 >status
+cp spelled store
+for words in 'create made 64' 'run store' 'check store'; do
+    came=0
+    sh -c 'exec >&-; ulimit -n 3; exec "$0" "$@"' "$tools/../crates/altctl/out/altctl" $words <lines 2>faults.came || came=$?
+    echo "$came" >status.came
+    echo 'altctl: cannot open store' >faults
+    [ "$words" != 'create made 64' ] || echo 'altctl: cannot create made' >faults
+    compare "no descriptor is left, $words: status" status status.came
+    compare "no descriptor is left, $words: standard error" faults faults.came
+done
 absent 'no descriptor is left' made
+compare 'no descriptor is left: the file' spelled store
 
 # Starts the program with the words after the first, with a standard error that takes nothing. Its status is 3.
 unheard() {

@@ -1,0 +1,124 @@
+#!/usr/bin/env python3
+"""Has the program make, open, list and check a store over a device that is slow: `tools/progress.py`. On a terminal the standard
+error tells how far a job is, and nothing of that is left on the screen when it is done; anywhere else no byte is written there, nor
+on a terminal where the job is short. What is answered is the same each time. Where it isn't so, it says so and ends with status 1.
+
+It needs a C compiler, and a program that is linked against glibc. It stands beside the gate, as `tools/space.py` does.
+"""
+import os
+import pty
+import re
+import subprocess
+import sys
+import tempfile
+import threading
+
+sys.dont_write_bytecode = True
+from fixed_run import Failure, expect
+
+TOP = os.path.join(os.path.dirname(os.path.abspath(__file__)), "..")
+ALTCTL, PROGRAM = os.path.join(TOP, "altctl"), os.path.join(TOP, "crates/altctl/out/altctl")
+# As many blocks as take two seconds to write, sixteen at a time, and as many leaves as take three to read.
+BLOCKS, RECORDS, SLOW = 6144, 5400, 6000
+LINE = re.compile(rb"\raltctl: (\d+)(?: of (\d+))? blocks")
+
+
+def gathered(descriptor, into):
+    """Reads a terminal to its end."""
+    while True:
+        try:
+            more = os.read(descriptor, 65536)
+        except OSError:
+            return
+        if not more:
+            return
+        into.append(more)
+
+
+def run(words, lines, slow, on_terminal, answers_too=False):
+    """Runs the program with its standard error on a terminal, and its output too where that is asked for, or on pipes. Gives its
+    status, its output, and what came on the standard error."""
+    variables = {**os.environ, **slow}
+    text = "".join(line + "\n" for line in lines).encode()
+    if not on_terminal:
+        ran = subprocess.run([PROGRAM, *words], input=text, capture_output=True, env=variables, timeout=120)
+        return ran.returncode, ran.stdout, ran.stderr
+    here, there = pty.openpty()
+    came = []
+    reader = threading.Thread(target=gathered, args=(here, came))
+    reader.start()
+    output = there if answers_too else subprocess.PIPE
+    with subprocess.Popen([PROGRAM, *words], stdin=subprocess.PIPE, stdout=output, stderr=there, env=variables) as program:
+        os.close(there)
+        answers, _ = program.communicate(text, timeout=120)
+    reader.join(60)
+    os.close(here)
+    return program.returncode, answers, b"".join(came)
+
+
+def screen(written):
+    """The lines that stand on a screen once this was written."""
+    rows, column = [[]], 0
+    for letter in written.decode():
+        if letter == "\n":
+            rows.append([])
+        elif letter == "\r":
+            column = 0
+        else:
+            row = rows[-1]
+            row.extend(" " * (column + 1 - len(row)))
+            row[column] = letter
+            column += 1
+    return ["".join(row).rstrip() for row in rows]
+
+
+def expect_progress(what, written, jobs):
+    """Looks whether the terminal told how far so many jobs are, each with rising numbers, and is blank after."""
+    told = [(int(it[1]), int(it[2] or 0)) for it in LINE.finditer(written)]
+    begun = sum(n == 0 or told[n - 1][0] >= blocks for n, (blocks, _) in enumerate(told))
+    expect(f"{what}: jobs that were told", jobs, begun)
+    expect(f"{what}: of how many blocks", {BLOCKS}, {total for _, total in told})
+    expect(f"{what}: lines, one job", True, len(told) >= 2 * jobs)
+    expect(f"{what}: the screen", [""], screen(written))
+
+
+def try_job(what, words, lines, slow, jobs, remake=None):
+    """Runs one job with its standard error on a pipe, on a terminal with its output, and on a terminal alone."""
+    came = {}
+    for how in ("pipe", "screen", "terminal"):
+        if remake and os.path.exists(remake):
+            os.remove(remake)
+        came[how] = run(words, lines, slow, how != "pipe", how == "screen")
+    status, output, faults = came["pipe"]
+    expect(f"{what}: status and standard error", (0, b""), (status, faults))
+    expect(f"{what}: the same on a terminal", (0, output), came["terminal"][:2])
+    expect(f"{what}: what stands on the screen", output.decode().split("\n"), screen(came["screen"][2]))
+    expect_progress(what, came["terminal"][2], jobs)
+    status, quick, faults = run(words, lines, {}, True) if not remake else (0, output, b"")
+    expect(f"{what}: a short job on a terminal", (0, output, b""), (status, quick, faults))
+
+
+def main():
+    subprocess.run([ALTCTL, "--help"], stdout=subprocess.DEVNULL, check=True)
+    source = os.path.join(TOP, "tools/slow_calls.c")
+    with tempfile.TemporaryDirectory() as folder:
+        library = os.path.join(folder, "slow_calls.so")
+        subprocess.run([os.environ.get("CC", "cc"), "-O1", "-shared", "-fPIC", "-o", library, source], check=True)
+        slow = {"LD_PRELOAD": library, "SLOW": str(SLOW)}
+        file = os.path.join(folder, "store")
+        try:
+            try_job("create", ["create", file, str(BLOCKS)], [], slow, 1, remake=file)
+            puts = [f"put top 1 {number} v" for number in range(RECORDS)]
+            status, _, faults = run(["run", file], [*puts, "commit"], {}, True)
+            expect("puts on a terminal", (0, b""), (status, faults))
+            try_job("open and list", ["run", "--cache", "0", file], ["list top"], slow, 2)
+            try_job("check", ["check", file], [], slow, 1)
+        except Failure as it:
+            print(f"progress: {it}")
+            return 1
+    print("progress: a terminal was told how far three jobs are, and nothing else was")
+    return 0
+
+
+if __name__ == "__main__":
+    sys.exit(main())

@@ -1,0 +1,25 @@
+/* Has each block read and each write of a program take SLOW microseconds more. It is loaded before the C
+   library by LD_PRELOAD. */
+#define _GNU_SOURCE
+#include <stdlib.h>
+#include <sys/syscall.h>
+#include <unistd.h>
+
+static void wait_for_device(void)
+{
+    const char *text = getenv("SLOW");
+    if (text)
+        usleep((useconds_t)atol(text));
+}
+
+ssize_t pread(int file, void *into, size_t count, off_t offset)
+{
+    wait_for_device();
+    return syscall(SYS_pread64, file, into, count, offset);
+}
+
+ssize_t pwrite(int file, const void *from, size_t count, off_t offset)
+{
+    wait_for_device();
+    return syscall(SYS_pwrite64, file, from, count, offset);
+}
