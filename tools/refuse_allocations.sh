@@ -192,42 +192,60 @@ run_session() {
     refusals=$((refusals + number - 1))
 }
 
-# Checks the store that a session left, and refuses the allocation of this number: none, where it is 0.
-check_store() {
+# Has a job done that only reads the store that a session left, and refuses the allocation of this number: none, where
+# it is 0. The first word names the job.
+read_store() {
     rm -f "$room/refused"
     status=0
-    timeout 60 env LD_PRELOAD="$room/refuse.so" REFUSE="$1" REFUSED="$room/refused" \
-        "$program" check "$room/store" >"$room/shown" 2>"$room/said" </dev/null || status=$?
-    cmp -s "$room/store" "$room/usual" || fail "check, allocation $1: the file was changed"
+    timeout 60 env LD_PRELOAD="$room/refuse.so" REFUSE="$2" REFUSED="$room/refused" \
+        "$program" "$1" "$room/store" >"$room/shown" 2>"$room/said" </dev/null || status=$?
+    cmp -s "$room/store" "$room/usual" || fail "$1, allocation $2: the file was changed"
 }
 
-# Checks the store that a session left, with each allocation refused. It has one alternative below top, and so many
-# checkpoints. Each end is met at least once.
-run_checks() {
+# Has a job done that only reads the store that a session left, with each allocation refused. What it prints is in
+# `due`. Each end is met at least once.
+run_reads() {
     cp "$room/usual" "$room/store"
-    printf 'alternatives 2\ncheckpoints %s\n' "$1" >"$room/counts"
-    echo free | "$program" run "$room/store" >>"$room/counts"
-    check_store 0
-    [ "$status" = 0 ] && cmp -s "$room/shown" "$room/counts" || fail "check: it tells $(cat "$room/shown" "$room/said")"
+    read_store "$1" 0
+    [ "$status" = 0 ] && cmp -s "$room/shown" "$room/due" || fail "$1: it tells $(cat "$room/shown" "$room/said")"
     : >"$room/ends"
     number=0
     while
         number=$((number + 1))
-        check_store "$number"
+        read_store "$1" "$number"
         echo "$status $(cat "$room/said")" >>"$room/ends"
         case $(tail -n 1 "$room/ends") in
-            '0 ') cmp -s "$room/shown" "$room/counts" || fail "check, allocation $number: it tells $(cat "$room/shown")" ;;
+            '0 ') cmp -s "$room/shown" "$room/due" || fail "$1, allocation $number: it tells $(cat "$room/shown")" ;;
             '1 altctl: 16 Memory' | '3 altctl: stopped')
-                [ ! -s "$room/shown" ] || fail "check, allocation $number: it tells $(cat "$room/shown")"
+                [ ! -s "$room/shown" ] || fail "$1, allocation $number: it tells $(cat "$room/shown")"
                 ;;
-            *) fail "check, allocation $number: $(tail -n 1 "$room/ends")" ;;
+            *) fail "$1, allocation $number: $(tail -n 1 "$room/ends")" ;;
         esac
         [ -e "$room/refused" ]
     do :; done
     for end in '0 ' '1 altctl: 16 Memory' '3 altctl: stopped'; do
-        grep -qx "$end" "$room/ends" || fail "check: it never ends with $end"
+        grep -qx "$end" "$room/ends" || fail "$1: it never ends with $end"
     done
     refusals=$((refusals + number - 1))
+}
+
+# Checks the store that a session left, with each allocation refused. It has one alternative below top, and so many
+# checkpoints.
+run_checks() {
+    printf 'alternatives 2\ncheckpoints %s\n' "$1" >"$room/due"
+    cp "$room/usual" "$room/store"
+    echo free | "$program" run "$room/store" >>"$room/due"
+    run_reads check
+}
+
+# Draws the tree of the store that a session left, with each allocation refused. These lines are due below top.
+run_trees() {
+    {
+        echo 'changed unmerged conflicts post'
+        echo '      -        -         -    -  top'
+        cat
+    } >"$room/due"
+    run_reads tree
 }
 
 # Carries out lines that are words over a new store, and refuses the allocation of this number: none, where it is 0.
@@ -317,8 +335,13 @@ refusals=0
 run_all_commands
 run_session a 256
 run_checks 1
+run_trees <<'END'
+      1        0         0  yes  `- a
+                                    * before
+END
 run_session x 64
 run_checks 0
+echo '      0        2         0   no  `- x' | run_trees
 do_all_lines
 grep -q '^merge' "$room/wanting" || fail 'no merge was refused'
 echo 'How often each was refused, by calls:'

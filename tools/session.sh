@@ -398,16 +398,25 @@ full_output() {
 full_output run f
 full_output do f free
 
-# --- a check of a store ----------------------------------------------------------------------------
+# --- a check of a store, and its tree ---------------------------------------------------------------
 
-# Checks a store. The lines that are expected stand here, and the file stays as it was.
-checked() {
-    cp "$2" before
+# Has a job that only reads a store done, which the first word names. The lines that are expected stand here, and the
+# file stays as it was.
+only_read() {
+    cp "$3" before
     : >lines
     cat >output
     : >faults
-    program "$1" 0 check "$2"
-    compare "$1: the file" before "$2"
+    program "$2" 0 "$1" "$3"
+    compare "$2: the file" before "$3"
+}
+
+checked() {
+    only_read check "$@"
+}
+
+drawn() {
+    only_read tree "$@"
 }
 
 create counted 64
@@ -432,6 +441,12 @@ checked 'check' counted <<'END'
 alternatives 2
 checkpoints 1
 free 29
+END
+drawn 'tree' counted <<'END'
+changed unmerged conflicts post
+      -        -         -    -  top
+      0        0         0  yes  `- a
+                                    * before
 END
 
 # Root may write a file that says otherwise, unless this is taken from it.
@@ -458,6 +473,12 @@ alternatives 2
 checkpoints 1
 free 29
 END
+drawn 'tree of a file that may not be written' sealed/f <<'END'
+changed unmerged conflicts post
+      -        -         -    -  top
+      0        0         0  yes  `- a
+                                    * before
+END
 altctl=$able
 chmod 0755 sealed
 
@@ -466,6 +487,7 @@ for file in absent h; do
     echo 'altctl: 19 NotAStore' >faults
     [ -e $file ] || echo "altctl: cannot open $file" >faults
     program "check of $file" 1 check $file
+    program "tree of $file" 1 tree $file
 done
 
 # What is no plain file: nobody waits for a pipe to be written to.
@@ -478,7 +500,7 @@ altctl=./timely
 for file in pipe folder link /dev/null; do
     : >lines
     : >output
-    for word in check run; do
+    for word in check tree run; do
         echo "altctl: cannot open $file" >faults
         program "$word of $file, which is no plain file" 1 $word $file
     done
@@ -503,6 +525,7 @@ free 29
 END
 
 full_output check counted
+full_output tree counted
 rm -f faults
 
 # --- standard descriptors that are closed, or fail --------------------------------------------------
@@ -589,6 +612,12 @@ for which in 0 1 2 01 02 12 012; do
     closed check $which "$status" check store
     compare "check, closed $which: the file" spelled store
 
+    printf 'changed unmerged conflicts post\n      -        -         -    -  top\n' >output
+    : >faults
+    status=$(stopped_if 1 $which 0)
+    closed tree $which "$status" tree store
+    compare "tree, closed $which: the file" spelled store
+
     : >output
     echo 'altctl: 19 NotAStore' >faults
     status=$(stopped_if 2 $which 1)
@@ -616,7 +645,7 @@ done
 # Only one descriptor is left, and it is the one that is closed: the program opens no file.
 echo 1 >status
 cp spelled store
-for words in 'create made 64' 'run store' 'check store'; do
+for words in 'create made 64' 'run store' 'check store' 'tree store'; do
     came=0
     sh -c 'exec >&-; ulimit -n 3; exec "$0" "$@"' "$tools/../crates/altctl/out/altctl" $words <lines 2>faults.came || came=$?
     echo "$came" >status.came

@@ -7,6 +7,7 @@ mod files;
 mod flushes;
 mod help;
 mod lines;
+mod trees;
 
 use std::alloc::Global;
 use std::process::Abort;
@@ -52,3 +53,5 @@ const CREATE: [&str; 4] = ["altctl", "create", "f", "64"];
 const RUN: [&str; 3] = ["altctl", "run", "f"];
 
 const CHECK: [&str; 3] = ["altctl", "check", "f"];
+
+const TREE: [&str; 3] = ["altctl", "tree", "f"];

@@ -22,9 +22,9 @@ use Rattle.clap.specs.Faults.{fault_of, level_fault, values_fault}
 use Rattle.clap.specs.declared.builder.value_parser.ValueParser.TheVariants as vp
 use Rattle.clap.specs.declared.builder.value_parser.ValueParser.{ValueParser}
 use Rattle.clap.proofs.ValueTestLemmas.{Accepts-accepts, accepts-Accepts}
-use Rattle.vm_cli.specs.Words.{Wanted, altctl, asked_of, blocks_rule, cache_rule, check_app, create_app, do_app, file_rule, line_rule, number_in, refusal_by, run_app, strict_rule}
+use Rattle.vm_cli.specs.Words.{Wanted, altctl, asked_of, blocks_rule, cache_rule, check_app, create_app, do_app, file_rule, line_rule, number_in, refusal_by, run_app, strict_rule, tree_app}
 use Rattle.vm_cli.specs.Given.{input_of}
-use Rattle.vm_cli.specs.Words.Wanted.{check, create, do_lines, run}
+use Rattle.vm_cli.specs.Words.Wanted.{check, create, do_lines, draw, run}
 use Rattle.vm_cli.specs.declared.talk.OnRefusal.TheVariants.{Ignore, Tell}
 use Rattle.vm_cli.proofs.FaultFree.{Every, every-found, neither, nothing_wanting}
 use Rattle.vm_cli.proofs.Levels.{IsFilled, IsKnown, each_given, given_row, has-default, has-stays, held_row, level_rows, no-default}
@@ -109,6 +109,9 @@ do_level = built_leaf do_app.top
 abbrev check_level : Shape
 check_level = built_leaf check_app.top
 
+abbrev tree_level : Shape
+tree_level = built_leaf tree_app.top
+
 -- what is known of an argument that takes one value
 abbrev valued : {c : List Rule} {a : Rule} → action_of a ≡ Set → 0 < (unwrap_or_range a.range).start_inclusive → values_fault a a.defaults ≡ [] → arg_by_id c a.id ≡ Some a → IsKnown c a
 valued sets least defaults found = inl (record { sets = sets; least = least; defaults = defaults; found = found })
@@ -136,6 +139,9 @@ do_known = (valued refl (lit< tt) refl refl, (listed refl (lit< tt) refl refl, (
 
 check_known : Every (IsKnown check_level.rules) check_level.rules
 check_known = (valued refl (lit< tt) refl refl, (help refl refl, tt))
+
+tree_known : Every (IsKnown tree_level.rules) tree_level.rules
+tree_known = (valued refl (lit< tt) refl refl, (help refl refl, tt))
 
 -- the first value of a row that is filled
 first_text : (c : List Rule) (rows : List Row) (id : Text) (r : Row) (filled : IsFilled c r) → find (λ x. bytes_eq x.id id) rows ≡ Some r → first_of id rows ≡ Some filled.first
@@ -201,6 +207,12 @@ check_rows rows filled file_given =
     let file = given_row check_level check_known refl rows (codes "file") filled file_given in
     (check file.2.first, rw (first_text check_level.rules rows (codes "file") file.0 file.2 file.1) refl)
 
+tree_rows : (rows : List Row) → Every (IsFilled tree_level.rules) rows → is_given (codes "file") rows ≡ true
+    → (w : Wanted) × (asked_of (Some (codes "tree", rows)) ≡ Some w)
+tree_rows rows filled file_given =
+    let file = given_row tree_level tree_known refl rows (codes "file") filled file_given in
+    (draw file.2.first, rw (first_text tree_level.rules rows (codes "file") file.0 file.2 file.1) refl)
+
 -- at the end of a level the default value stands where no word said another
 cache_ends : (rows : List Row) → has_row (codes "cache") (with_default (with_default (with_default rows cache_option) (filled strict_rule)) (filled help_rule)) ≡ true
 cache_ends rows =
@@ -244,6 +256,13 @@ check_asks words e =
     let given = each_given check_level check_known refl check_level.rules rows (nothing_wanting false false (list_any (λ a. a.required && not (is_given a.id rows)) check_level.rules) level.1).1 in
     check_rows rows level.0 (given.0 refl)
 
+tree_asks : Asks tree_level
+tree_asks words e =
+    let level = level_rows tree_level tree_known refl words e in
+    let rows = rows_after tree_level.rules [] words in
+    let given = each_given tree_level tree_known refl tree_level.rules rows (nothing_wanting false false (list_any (λ a. a.required && not (is_given a.id rows)) tree_level.rules) level.1).1 in
+    tree_rows rows level.0 (given.0 refl)
+
 -- a subcommand asks for a job, or is `help`
 abbrev AsksOrHelps : Shape → Type 0
 AsksOrHelps s = Asks s ⊎ ((name : Text) → answers_to name (label_of s) ≡ true → bytes_eq name (codes "help") ≡ true)
@@ -256,7 +275,7 @@ helps name e = go (bytes_eq (codes "help") name) refl
     go false t = let bad : ⊥ = (let f = rw t at e in cc) in absurd bad
 
 each_asks : Every AsksOrHelps (built altctl).subs
-each_asks = (inl create_asks, (inl run_asks, (inl do_asks, (inl check_asks, (inr helps, tt)))))
+each_asks = (inl create_asks, (inl run_asks, (inl do_asks, (inl check_asks, (inl tree_asks, (inr helps, tt))))))
 
 -- where the parse of the words has no fault, they ask for a job
 pub asks : (words : List Text) → fault_of altctl words ≡ [] → (w : Wanted) × (asked_of (subcommand_of altctl words) ≡ Some w)

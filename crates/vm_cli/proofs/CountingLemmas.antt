@@ -106,7 +106,7 @@ few_among (a ∷ t) =
     omega arith
 
 -- no alternative
-nothing : Alternative
+pub nothing : Alternative
 nothing = record { name = []; parent = None; current = []; base = []; saved = [] }
 
 module _ {D : Type 0} {members : _} (store : Store D members) (s : State) (holds : Holds store s) where
@@ -140,14 +140,16 @@ module _ {D : Type 0} {members : _} (store : Store D members) (s : State) (holds
         so_far ∙ ap checkpoint_count (take_all i s.working (omega (arith, end, long)))
 
     module _ (i : ℕ) (lt : i < length listed) (one : List ℕ × Option (List ℕ)) (this : slice_index_or listed i one ≡ one) where
-      within : i < length s.working
+      pub within : i < length s.working
       within = subst (λ n. i < n) listed_all lt
 
-      -- an alternative that is listed is there, with its checkpoints
-      its_own : checkpoints_in s.working one.0 ≡ checkpoints_of (Some (slice_index_or s.working i nothing))
+      -- an alternative that is listed has its name and its parent
+      pub entry : one ≡ ((slice_index_or s.working i nothing).name, (slice_index_or s.working i nothing).parent)
+      entry = sym this ∙ ap (λ l. slice_index_or l i one) is ∙ get_or-map (λ (a : Alternative). (a.name, a.parent)) s.working i nothing one within
+
+      -- and is there, with its checkpoints
+      pub its_own : checkpoints_in s.working one.0 ≡ checkpoints_of (Some (slice_index_or s.working i nothing))
       its_own =
-          let entry : one ≡ ((slice_index_or s.working i nothing).name, (slice_index_or s.working i nothing).parent) =
-          sym this ∙ ap (λ l. slice_index_or l i one) is ∙ get_or-map (λ (a : Alternative). (a.name, a.parent)) s.working i nothing one within in
           ap (λ (e : List ℕ × Option (List ℕ)). checkpoints_in s.working e.0) entry ∙ ap checkpoints_of (found_at s.working i nothing apart within)
 
       -- so their number is added

@@ -5,9 +5,10 @@ use Rattle.clap.specs.Words.{IsAmong, Text, fault_of}
 use Rattle.clap.specs.declared.error.kind.ErrorKind.{ErrorKind}
 use Rattle.clap.specs.declared.error.kind.ErrorKind.TheVariants.{DisplayHelp, DisplayVersion}
 use Rattle.vm_cli.specs.Carried.{Begins}
+use Rattle.vm_cli.specs.Drawing.{Branch, drawing}
 use Rattle.vm_cli.specs.Exits.{AskTalk, Ends, IsHelp, IsJob, MayEnd, SaysRefused, Tells, check_text, created_text, file_text, status_of}
 use Rattle.vm_cli.specs.Words.{Wanted, altctl}
-use Rattle.vm_cli.specs.Words.Wanted.{check, create}
+use Rattle.vm_cli.specs.Words.Wanted.{check, create, draw}
 use Rattle.vm_cli.specs.declared.program.Exit.{Exit}
 use Rattle.vm_cli.specs.declared.program.Exit.TheVariants.{Done, LineRefused, Refused, WrongWords, Stopped}
 use Rattle.vm_cli.specs.declared.talk.OnRefusal.{OnRefusal}
@@ -103,11 +104,21 @@ module _ {W F : Type 0} (in_output : W → Option (List ℕ)) (in_faults : F →
       ⊎ ((output' ≡ output) × ((text : List ℕ) × SaysRefused (check file) text × Tells Refused exit (in_faults faults) (in_faults faults') text))
       → Ends in_output in_faults exit words output output' faults faults'
   checked file exit job (inl (same, (alternatives, checkpoints, free, inl (is, written)))) =
-      rw is (same, inl (check_text alternatives checkpoints free, inr (inr (file, alternatives, checkpoints, free, job, refl)), written))
+      rw is (same, inl (check_text alternatives checkpoints free, inr (inr (inl (file, alternatives, checkpoints, free, job, refl))), written))
   checked file exit job (inl (same, (alternatives, checkpoints, free, inr (is, begun)))) =
-      rw is (inl (same, inr (inl (check_text alternatives checkpoints free, inr (inr (file, alternatives, checkpoints, free, job, refl)), begun))))
+      rw is (inl (same, inr (inl (check_text alternatives checkpoints free, inr (inr (inl (file, alternatives, checkpoints, free, job, refl))), begun))))
   checked file exit job (inr (same, (text, says, inl (is, written)))) = rw is (same, (text, (check file, job, says), written))
   checked file exit job (inr (same, (text, says, inr (is, begun)))) = rw is (inr (same, (text, inl (check file, job, says), begun)))
+
+  -- a tree was to be drawn
+  pub drawn : (file : Text) (exit : Exit) → IsJob words (draw file)
+      → ((faults' ≡ faults) × ((branches : List Branch) × Tells Done exit (in_output output) (in_output output') (drawing branches)))
+      ⊎ ((output' ≡ output) × ((text : List ℕ) × SaysRefused (draw file) text × Tells Refused exit (in_faults faults) (in_faults faults') text))
+      → Ends in_output in_faults exit words output output' faults faults'
+  drawn file exit job (inl (same, (branches, inl (is, written)))) = rw is (same, inl (drawing branches, inr (inr (inr (file, branches, job, refl))), written))
+  drawn file exit job (inl (same, (branches, inr (is, begun)))) = rw is (inl (same, inr (inl (drawing branches, inr (inr (inr (file, branches, job, refl))), begun))))
+  drawn file exit job (inr (same, (text, says, inl (is, written)))) = rw is (same, (text, (draw file, job, says), written))
+  drawn file exit job (inr (same, (text, says, inr (is, begun)))) = rw is (inr (same, (text, inl (draw file, job, says), begun)))
 
   -- memory was wanting
   pub no_memory : (exit : Exit) → exit ≡ Stopped → output' ≡ output → faults' ≡ faults → Ends in_output in_faults exit words output output' faults faults'

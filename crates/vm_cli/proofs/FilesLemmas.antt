@@ -19,10 +19,10 @@ use Rattle.vm_store.specs.Shown.{Shows}
 use Rattle.vm_cli.specs.Caching.{IsServed, answers_told, commands_told}
 use Rattle.vm_cli.specs.Exits.{IsJob, Tells}
 use Rattle.vm_cli.specs.Keeps.{Keeps, answers_of, commands_of}
-use Rattle.vm_cli.specs.Files.{Answers, Counts, Declines, Does, KeepsAll, Makes}
+use Rattle.vm_cli.specs.Files.{Answers, Counts, Draws, Declines, Does, KeepsAll, Makes}
 use Rattle.vm_cli.specs.Places.{KeepsOthers, PlaceState}
 use Rattle.vm_cli.specs.Words.{Wanted, altctl}
-use Rattle.vm_cli.specs.Words.Wanted.{check, create, do_lines, run}
+use Rattle.vm_cli.specs.Words.Wanted.{check, create, do_lines, draw, run}
 use Rattle.vm_cli.specs.declared.program.Exit.{Exit}
 use Rattle.vm_cli.specs.declared.program.Exit.TheVariants.{Done, Refused, Stopped}
 use Rattle.vm_cli.specs.declared.talk.OnRefusal.{OnRefusal}
@@ -122,6 +122,7 @@ module _ {D : Type 0} (members : Ghosts D) (cached : Ghosts (CachedDisk D member
     runs = λ other cache on asked. let same : run other cache on ≡ create name blocks = one_job words (create name blocks) (run other cache on) job asked in absurd (cc);
     does = λ other lines cache on asked. let same : do_lines other lines cache on ≡ create name blocks = one_job words (create name blocks) (do_lines other lines cache on) job asked in absurd (cc);
     checks = λ other asked. let same : check other ≡ create name blocks = one_job words (create name blocks) (check other) job asked in absurd (cc);
+    draws = λ other asked. let same : draw other ≡ create name blocks = one_job words (create name blocks) (draw other) job asked in absurd (cc);
     none = λ no. absurd (no (create name blocks) job);
   }
 
@@ -137,6 +138,7 @@ module _ {D : Type 0} (members : Ghosts D) (cached : Ghosts (CachedDisk D member
         rw (name_is, size_is, on_is) (told answers);
     does = λ other lines size refusal asked. let same : do_lines other lines size refusal ≡ run name cache on = one_job words (run name cache on) (do_lines other lines size refusal) job asked in absurd (cc);
     checks = λ other asked. let same : check other ≡ run name cache on = one_job words (run name cache on) (check other) job asked in absurd (cc);
+    draws = λ other asked. let same : draw other ≡ run name cache on = one_job words (run name cache on) (draw other) job asked in absurd (cc);
     none = λ no. absurd (no (run name cache on) job);
   }
     where
@@ -158,6 +160,7 @@ module _ {D : Type 0} (members : Ghosts D) (cached : Ghosts (CachedDisk D member
         let on_is : refusal ≡ on = cc in
         rw (name_is, lines_are, size_is, on_is) (told answers);
     checks = λ other asked. let same : check other ≡ do_lines name lines cache on = one_job words (do_lines name lines cache on) (check other) job asked in absurd (cc);
+    draws = λ other asked. let same : draw other ≡ do_lines name lines cache on = one_job words (do_lines name lines cache on) (draw other) job asked in absurd (cc);
     none = λ no. absurd (no (do_lines name lines cache on) job);
   }
     where
@@ -176,12 +179,32 @@ module _ {D : Type 0} (members : Ghosts D) (cached : Ghosts (CachedDisk D member
     checks = λ other asked. let same : check other ≡ check name = one_job words (check name) (check other) job asked in
         let name_is : other ≡ name = cc in
         rw name_is (reads, told counts);
+    draws = λ other asked. let same : draw other ≡ check name = one_job words (check name) (draw other) job asked in absurd (cc);
     none = λ no. absurd (no (check name) job);
   }
     where
       told : Counts members name exit old new before after ⊎ Declines members Denied name exit old new faults faults'
           → Counts members name exit old new before after ⊎ (Declines members Denied name exit old new faults faults' ⊎ ((exit ≡ Stopped) × Untouched))
       told (inl counts) = inl counts
+      told (inr declines) = inr (inl declines)
+
+  -- a tree was to be drawn
+  pub did_draw : (name : Text) → IsJob words (draw name) → Reads
+      → Draws members name exit old new before after ⊎ Declines members Denied name exit old new faults faults' → Did
+  did_draw name job reads drawn = record {
+    creates = λ other size asked. let same : create other size ≡ draw name = one_job words (draw name) (create other size) job asked in absurd (cc);
+    runs = λ other cache on asked. let same : run other cache on ≡ draw name = one_job words (draw name) (run other cache on) job asked in absurd (cc);
+    does = λ other lines cache on asked. let same : do_lines other lines cache on ≡ draw name = one_job words (draw name) (do_lines other lines cache on) job asked in absurd (cc);
+    draws = λ other asked. let same : draw other ≡ draw name = one_job words (draw name) (draw other) job asked in
+        let name_is : other ≡ name = cc in
+        rw name_is (reads, told drawn);
+    checks = λ other asked. let same : check other ≡ draw name = one_job words (draw name) (check other) job asked in absurd (cc);
+    none = λ no. absurd (no (draw name) job);
+  }
+    where
+      told : Draws members name exit old new before after ⊎ Declines members Denied name exit old new faults faults'
+          → Draws members name exit old new before after ⊎ (Declines members Denied name exit old new faults faults' ⊎ ((exit ≡ Stopped) × Untouched))
+      told (inl drawn) = inl drawn
       told (inr declines) = inr (inl declines)
 
   -- no call of the place was made, and it stopped, where the words ask for something
@@ -191,5 +214,6 @@ module _ {D : Type 0} (members : Ghosts D) (cached : Ghosts (CachedDisk D member
     runs = λ name cache on asked. inr (inr (stopped (run name cache on) asked, untouched));
     does = λ name lines cache on asked. inr (inr (stopped (do_lines name lines cache on) asked, untouched));
     checks = λ name asked. (reads, inr (inr (stopped (check name) asked, untouched)));
+    draws = λ name asked. (reads, inr (inr (stopped (draw name) asked, untouched)));
     none = λ no. untouched;
   }

@@ -15,6 +15,7 @@ pub mod CarriedLemmas
 pub mod GivenLemmas
 pub mod CountingLemmas
 pub mod PassLemmas
+mod SurveyLemmas
 pub mod TalkLemmas
 pub mod HandledLemmas
 pub mod WritesLemmas

@@ -9,8 +9,9 @@ use Rattle.vm_types.specs.Texts.{refusal_text}
 use Rattle.vm_types.specs.declared.refusal.Refusal.{Refusal}
 use Rattle.vm_types.specs.declared.refusal.Refusal.TheVariants.{AlreadyAStore, BadSize, Device}
 use Rattle.vm_cli.specs.Carried.{Begins}
+use Rattle.vm_cli.specs.Drawing.{Branch, drawing}
 use Rattle.vm_cli.specs.Words.{Wanted, altctl, asked_of}
-use Rattle.vm_cli.specs.Words.Wanted.{check, create, do_lines, run}
+use Rattle.vm_cli.specs.Words.Wanted.{check, create, do_lines, draw, run}
 use Rattle.vm_cli.specs.declared.program.Exit.{Exit}
 use Rattle.vm_cli.specs.declared.program.Exit.TheVariants.{Done, LineRefused, Refused, WrongWords, Stopped}
 use Rattle.vm_cli.specs.declared.talk.OnRefusal.{OnRefusal}
@@ -79,13 +80,15 @@ SaysRefused (create file blocks) text = (text ≡ file_text (codes "altctl: cann
 SaysRefused (run file cache on) text = (text ≡ file_text (codes "altctl: cannot open ") file) ⊎ ((refusal : Refusal) × (text ≡ refused_text refusal))
 SaysRefused (do_lines file input cache on) text = (text ≡ file_text (codes "altctl: cannot open ") file) ⊎ ((refusal : Refusal) × (text ≡ refused_text refusal))
 SaysRefused (check file) text = (text ≡ file_text (codes "altctl: cannot open ") file) ⊎ ((refusal : Refusal) × (text ≡ refused_text refusal))
+SaysRefused (draw file) text = (text ≡ file_text (codes "altctl: cannot open ") file) ⊎ ((refusal : Refusal) × (text ≡ refused_text refusal))
 
--- a text for the output: help or the version, that a store was made, or what one holds
+-- a text for the output: help or the version, that a store was made, what one holds, or a drawing
 abbrev pub IsNews : List Text → List ℕ → Type 0
 IsNews words text =
     AskHelp words
     ⊎ (((file : Text) × (blocks : ℕ) × IsJob words (create file blocks) × (text ≡ created_text blocks))
-    ⊎ ((file : Text) × (alternatives : ℕ) × (checkpoints : ℕ) × (free : ℕ) × IsJob words (check file) × (text ≡ check_text alternatives checkpoints free)))
+    ⊎ (((file : Text) × (alternatives : ℕ) × (checkpoints : ℕ) × (free : ℕ) × IsJob words (check file) × (text ≡ check_text alternatives checkpoints free))
+    ⊎ ((file : Text) × (branches : List Branch) × IsJob words (draw file) × (text ≡ drawing branches))))
 
 -- a text for the faults: why a job was refused
 abbrev pub IsRefusal : List Text → List ℕ → Type 0

@@ -11,12 +11,13 @@ use Rattle.vm_disk.specs.declared.disk.Disk.{Ghosts}
 use Rattle.vm_store.specs.Formatting.{IsFormatted, IsFormatting}
 use Rattle.vm_store.specs.Shown.{Shows}
 use Rattle.vm_cli.specs.Caching.{IsServed, answers_told, commands_told}
+use Rattle.vm_cli.specs.Drawing.{tree_text}
 use Rattle.vm_cli.specs.Exits.{IsJob, MayRefuse, Tells, check_text, created_text, file_text, refused_text}
 use Rattle.vm_cli.specs.Keeps.{Keeps}
 use Rattle.vm_cli.specs.Places.{KeepsOthers, PlaceState, WasLent}
-use Rattle.vm_cli.specs.Sessions.{HasCounted, HasMade, HasMadeNone, HasRefused}
+use Rattle.vm_cli.specs.Sessions.{HasCounted, HasMade, HasMadeNone, HasRefused, HasShown}
 use Rattle.vm_cli.specs.Words.{Wanted}
-use Rattle.vm_cli.specs.Words.Wanted.{check, create, do_lines, run}
+use Rattle.vm_cli.specs.Words.Wanted.{check, create, do_lines, draw, run}
 use Rattle.vm_cli.specs.declared.program.Exit.{Exit}
 use Rattle.vm_cli.specs.declared.program.Exit.TheVariants.{Done, Refused, Stopped}
 use Rattle.vm_cli.specs.declared.talk.OnRefusal.{OnRefusal}
@@ -62,7 +63,7 @@ module _ {D : Type 0} (members : Ghosts D) where
     pub refused : HasRefused (members.state found) (members.state back) refusal
     pub told : Tells Refused exit faults faults' (refused_text refusal)
 
-  -- the store in the file of this name was to be served or counted, and no file changed: it is told that the place gave no disk, or why
+  -- the store in the file of this name was to be served, counted or drawn, and no file changed: it is told that the place gave no disk, or why
   -- its disk was refused
   pub record Declines (Denied : Type 0) (name : List ℕ) (exit : Exit) (old new : PlaceState) (faults faults' : Option (List ℕ)) : Type 0 where
     pub same : KeepsAll old new
@@ -82,6 +83,17 @@ module _ {D : Type 0} (members : Ghosts D) where
     pub free : ℕ
     pub counted : HasCounted members found back alternatives checkpoints free
     pub told : Tells Done exit before after (check_text alternatives checkpoints free)
+
+  -- the tree that the file of this name showed was drawn, and no file changed: at each moment its disk was as it was found, at most synced
+  pub record Draws (name : List ℕ) (exit : Exit) (old new : PlaceState) (before after : Option (List ℕ)) : Type 0 where
+    pub same : KeepsAll old new
+    pub found : D
+    pub back : D
+    pub held : old.files name ≡ Some (members.state found).now.contents
+    pub lent : WasLent name (members.state found) (members.state back) new
+    pub tree : Tree
+    pub shown : HasShown (members.state found) (members.state back) tree
+    pub told : Tells Done exit before after (tree_text tree)
 
 module _ {D : Type 0} (members : Ghosts D) (cached : Ghosts (CachedDisk D members)) where
   -- the lines of an input were answered over the file of this name, of which up to so many blocks stayed in memory
@@ -116,5 +128,8 @@ module _ {D : Type 0} (members : Ghosts D) (cached : Ghosts (CachedDisk D member
     -- words that ask for a check have the store in the file counted, or it is said why not; either way files are only read
     pub checks : (name : Text) → IsJob words (check name)
         → Reads × (Counts members name exit old new before after ⊎ (Declines members Denied name exit old new faults faults' ⊎ ((exit ≡ Stopped) × Untouched)))
+    -- words that ask for a drawing have the tree that the file showed drawn, or it is said why not; files are only read, too
+    pub draws : (name : Text) → IsJob words (draw name)
+        → Reads × (Draws members name exit old new before after ⊎ (Declines members Denied name exit old new faults faults' ⊎ ((exit ≡ Stopped) × Untouched)))
     -- words that ask for no job touch no file
     pub none : ((job : Wanted) → IsJob words job → ⊥) → Untouched

@@ -18,6 +18,7 @@ pub mod Keeps
 pub mod Sessions
 pub mod Caching
 pub mod Counting
+pub mod Drawing
 pub mod Places
 pub mod Progress
 pub mod Files

@@ -59,6 +59,12 @@ pub record HasRefused (old new : disk.State) (refusal : Refusal) : Type 0 where
   pub why : new.honest ≡ true → IsRefused old.now.contents refusal
   pub moments : new.honest ≡ true → Throughout old new (IsAtMostSynced old.now)
 
+-- this disk was opened as one that shows this tree, and came back: at each moment nothing has changed, or all is synced
+pub record HasShown (old new : disk.State) (tree : Tree) : Type 0 where
+  pub goes : Goes ⊥ old new
+  pub shown : Shows old.now.contents tree
+  pub moments : Throughout old new (IsAtMostSynced old.now)
+
 module _ {D : Type 0} (members : Ghosts D) where
   -- the store that the disk showed was counted, and the disk came back: at each moment nothing has changed, or all is synced
   pub record HasCounted (old new : D) (alternatives checkpoints free : ℕ) : Type 0 where

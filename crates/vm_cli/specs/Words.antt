@@ -10,7 +10,7 @@ use Rattle.clap.specs.declared.builder.value_parser.ValueParser.TheVariants as v
 use Rattle.vm_cli.specs.declared.talk.OnRefusal.{OnRefusal}
 use Rattle.vm_cli.specs.declared.talk.OnRefusal.TheVariants.{Ignore, Stop, Tell}
 use Rattle.vm_cli.specs.declared.task.Job.{Job}
-use Rattle.vm_cli.specs.declared.task.Job.TheVariants.{Check, Create, Do, Run}
+use Rattle.vm_cli.specs.declared.task.Job.TheVariants.{Check, Create, Do, Run, Tree}
 use Rattle.vm_cli.specs.Given.{input_of}
 
 -- the name of a file, which has to be there
@@ -65,14 +65,19 @@ do_app = with_rule (with_rule (with_rule (with_rule (new_app (codes "do")) file_
 abbrev pub check_app : App
 check_app = with_rule (new_app (codes "check")) file_rule
 
+-- `tree FILE`
+abbrev pub tree_app : App
+tree_app = with_rule (new_app (codes "tree")) file_rule
+
 -- the program without its tasks, one of which has to be named unless its version is asked for
 abbrev pub top_app : App
 top_app = on_top (λ s. record s { subcommand_required = true; has_version = true }) (new_app (codes "altctl"))
 
--- `altctl create FILE BLOCKS`, `altctl run [--cache N] [--strict] FILE`, `altctl do [--cache N] [--strict] FILE LINE..` and
--- `altctl check FILE`
+-- `altctl create FILE BLOCKS`, `altctl run [--cache N] [--strict] FILE`, `altctl do [--cache N] [--strict] FILE LINE..`,
+-- `altctl check FILE` and `altctl tree FILE`
 abbrev pub altctl : App
-altctl = with_subcommand (with_subcommand (with_subcommand (with_subcommand top_app create_app.top) run_app.top) do_app.top) check_app.top
+altctl =
+    with_subcommand (with_subcommand (with_subcommand (with_subcommand (with_subcommand top_app create_app.top) run_app.top) do_app.top) check_app.top) tree_app.top
 
 -- a job, with the file's name itself in place of a reference to it, and the input of the lines that were given
 pub data Wanted : Type 0 where
@@ -80,6 +85,7 @@ pub data Wanted : Type 0 where
   run : Text → ℕ → OnRefusal → Wanted
   do_lines : Text → List ℕ → ℕ → OnRefusal → Wanted
   check : Text → Wanted
+  draw : Text → Wanted
 
 -- what a job wants
 abbrev pub wanted_of : Job → Wanted
@@ -87,6 +93,7 @@ wanted_of (Create file blocks) = create file.now blocks
 wanted_of (Run file cache on) = run file.now cache on
 wanted_of (Do file input cache on) = do_lines file.now input.items cache on
 wanted_of (Check file) = check file.now
+wanted_of (Tree file) = draw file.now
 
 -- the number that a text says, where it lies in the range
 abbrev pub number_in : ℕ → ℕ → Text → Option ℕ
@@ -116,7 +123,8 @@ asked_by name rows file =
     if bytes_eq name (codes "create") then option_map (create file) (option_and_then (number_in 64 1048576) (one_of (codes "blocks") rows))
     else (if bytes_eq name (codes "run") then option_map (λ cache. run file cache (refusal_by Ignore rows)) (cache_by rows)
     else (if bytes_eq name (codes "do") then do_by rows file
-    else (if bytes_eq name (codes "check") then Some (check file) else None)))
+    else (if bytes_eq name (codes "check") then Some (check file)
+    else (if bytes_eq name (codes "tree") then Some (draw file) else None))))
 
 -- the job that the matches of a subcommand ask for
 abbrev pub asked_of : Option (Text × List Row) → Option Wanted

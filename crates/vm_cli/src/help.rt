@@ -105,6 +105,35 @@ A session:
   checkpoints 0
   free 989";
 
+/// What `tree` does.
+pub const TREE: &str = "\
+Opens a store for reading alone, changes nothing, and draws its alternatives as
+a tree, each with its checkpoints and what is to be merged and posted.";
+
+/// How a drawing is read.
+pub const TREE_AFTER: &str = "\
+A line is an alternative, below its parent, or a checkpoint, with * before its
+name. They stand in order of creation, the checkpoints of an alternative before
+the alternatives under it. The columns of an alternative:
+
+  changed    records changed since its base
+  unmerged   records that its parent changed since then: not merged yet
+  conflicts  records that both have changed, and differently
+  post       whether altctl run would post it: nothing is unmerged
+
+top has no parent, so its columns are -. A refusal is printed as by altctl
+check. No name is cut: lines fit 80 columns up to the fifth level under top.
+
+A session:
+
+  $ altctl tree map.alt
+  changed unmerged conflicts post
+        -        -         -    -  top
+        1        0         0  yes  |- north
+                                   |  * before
+        0        0         0  yes  |  `- pipes
+        2        1         1   no  `- south";
+
 /// What `run` does.
 pub const RUN: &str = "\
 Opens a store and answers the lines of the standard input, one after another,

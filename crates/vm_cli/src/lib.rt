@@ -8,6 +8,7 @@
 
 mod caching;
 mod counting;
+mod drawing;
 mod escape;
 mod given;
 mod help;
@@ -22,6 +23,8 @@ mod progress;
 mod reply;
 mod request;
 mod settlement;
+mod showing;
+mod surveying;
 mod talk;
 mod task;
 mod text;

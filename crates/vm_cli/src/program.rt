@@ -4,6 +4,7 @@ use crate::caching::answer_lines_cached;
 use crate::counting::{Counts, count};
 use crate::place::Place;
 use crate::reply::push_refusal;
+use crate::showing::tree;
 use crate::talk::{OnRefusal, ServeFault, serve};
 use crate::task::Job;
 use crate::text::Text;
@@ -147,6 +148,7 @@ fn carry_out<P: Place, R: Read, W: Write, F: Write>(
             )
         }
         Ok(Job::Check { file }) => check(alloc, file, place, output, faults),
+        Ok(Job::Tree { file }) => tree(alloc, file, place, output, faults),
         Err(error) => explain(alloc, &error, output, faults),
     }
 }
@@ -339,8 +341,8 @@ fn created<W: Write>(blocks: u32, output: &mut W) -> Exit
     unless_fault(say(output, text.as_bytes()), Exit::Done)
 }
 
-// Says that a file could not be made or opened.
-fn no_file<F: Write>(what: &[u8], file: &str, faults: &mut F) -> Exit
+/// Says that a file could not be made or opened.
+pub(crate) fn no_file<F: Write>(what: &[u8], file: &str, faults: &mut F) -> Exit
     ensures { Tells Exit.Refused result (F.contents faults.old) (F.contents faults.new) (file_text what.now file.now) }
 {
     unless_fault(say_with_file(what, file, faults), Exit::Refused)
@@ -356,8 +358,8 @@ fn say_with_file<W: Write>(what: &[u8], file: &str, writer: &mut W) -> Result<()
     say(writer, b"\n")
 }
 
-// Says why a disk is no store, or cannot become one.
-fn refused<F: Write>(refusal: &Refusal, faults: &mut F) -> Exit
+/// Says why a disk is no store, or cannot become one.
+pub(crate) fn refused<F: Write>(refusal: &Refusal, faults: &mut F) -> Exit
     ensures { Tells Exit.Refused result (F.contents faults.old) (F.contents faults.new) (refused_text refusal.now) }
 {
     let mut text = Text::new();
@@ -387,8 +389,8 @@ fn explain<W: Write, F: Write>(alloc: Global, error: &Error, output: &mut W, fau
     unless_fault(say(output, text.as_bytes()), Exit::Done)
 }
 
-// Writes a text, and hands it on.
-fn say<W: Write>(writer: &mut W, text: &[u8]) -> Result<(), WriteFault>
+/// Writes a text, and hands it on.
+pub(crate) fn say<W: Write>(writer: &mut W, text: &[u8]) -> Result<(), WriteFault>
     ensures ok { OnOk result (Appends (W.contents writer.old) (W.contents writer.new) text.now) }
     ensures err { OnErr result (Begins (W.contents writer.old) (W.contents writer.new) text.now) }
 {
@@ -396,8 +398,8 @@ fn say<W: Write>(writer: &mut W, text: &[u8]) -> Result<(), WriteFault>
     flush(writer)
 }
 
-// The end that was meant, unless its text could not be written.
-fn unless_fault(said: Result<(), WriteFault>, exit: Exit) -> Exit
+/// The end that was meant, unless its text could not be written.
+pub(crate) fn unless_fault(said: Result<(), WriteFault>, exit: Exit) -> Exit
     ensures ok { OnOk said (result ≡ exit) }
     ensures err { OnErr said (result ≡ Exit.Stopped) }
 {

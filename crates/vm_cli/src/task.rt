@@ -28,4 +28,8 @@ pub enum Job<'a> {
     Check {
         file: &'a str,
     },
+    /// Opens the store in a file for reading alone, and draws the tree of its alternatives.
+    Tree {
+        file: &'a str,
+    },
 }

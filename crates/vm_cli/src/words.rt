@@ -3,7 +3,7 @@ ghost use Rattle.clap.specs.Words.{FailsBy, app_of, fault_of, kind_of, one_of, r
 ghost use Rattle.clap.specs.declared.builder.command.Command.TheViews.{out-Command};
 ghost use Rattle.std.specs.Prelude.{◌≡◌, ◌⊎◌, if◌then◌else◌, IfErr, IfOk, None, Some, false, map, ℕ, List, option_map, option_and_then, codes};
 ghost use Rattle.std.specs.String.{string_bytes};
-ghost use Rattle.vm_cli.specs.Words.{altctl, asked_by, asked_of, blocks_rule, cache_rule, check_app, create_app, do_app, file_rule, line_rule, is_set, number_in, run_app, strict_rule, top_app, wanted_of};
+ghost use Rattle.vm_cli.specs.Words.{altctl, asked_by, asked_of, blocks_rule, cache_rule, check_app, create_app, do_app, file_rule, line_rule, is_set, number_in, run_app, strict_rule, top_app, tree_app, wanted_of};
 
 use crate::given::input_of;
 use crate::help;
@@ -51,6 +51,7 @@ fn asked<'a>(alloc: Global, matches: &ArgMatches<'a>) -> Result<Option<Job<'a>>,
         "run" => Ok(asked_run(matches, file)),
         "do" => asked_do(alloc, matches, file),
         "check" => Ok(Some(Job::Check { file })),
+        "tree" => Ok(Some(Job::Tree { file })),
         _ => Ok(None),
     }
 }
@@ -140,7 +141,8 @@ fn command<'a>(alloc: Global) -> Result<Command<'a>, AllocError>
 {
     first_commands(alloc)?
         .subcommand(do_lines(alloc)?)?
-        .subcommand(check(alloc)?)
+        .subcommand(check(alloc)?)?
+        .subcommand(tree(alloc)?)
 }
 
 // The program's command line up to `run`.
@@ -219,6 +221,17 @@ fn check<'a>(alloc: Global) -> Result<Command<'a>, AllocError>
         .about("Opens a store, changes nothing, and prints what it holds")
         .long_about(help::CHECK)
         .after_long_help(help::CHECK_AFTER)
+        .arg(file(alloc, help::CHECK_FILE))
+}
+
+fn tree<'a>(alloc: Global) -> Result<Command<'a>, AllocError>
+    ensures app { IfOk result (λ c. app_of c ≡ tree_app) }
+    ensures local { IfOk result (λ c. (out-Command c).has_globals ≡ false) }
+{
+    Command::new(alloc, "tree")
+        .about("Opens a store, changes nothing, and draws its alternatives as a tree")
+        .long_about(help::TREE)
+        .after_long_help(help::TREE_AFTER)
         .arg(file(alloc, help::CHECK_FILE))
 }
 

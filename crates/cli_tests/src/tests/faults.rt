@@ -1,5 +1,5 @@
 //! An input and an output that fail.
-use super::{CHECK, CREATE, ran};
+use super::{CHECK, CREATE, TREE, ran};
 use std::alloc::Global;
 use std::io::{self, ErrorKind, Read, Write};
 use std::process::Abort;
@@ -172,6 +172,39 @@ fn stops_where_a_check_cannot_be_written(rt: HostRuntime) -> Result<(), Fail> {
     assert_eq!(rt;
         output.taken.as_slice(),
         b"alternatives 1\ncheck".as_slice()
+    );
+    assert_eq!(rt; faults.as_slice(), b"altctl: stopped\n".as_slice());
+    assert!(rt; files.find("f").is_some());
+    Ok(())
+}
+
+#[test]
+fn stops_where_a_tree_cannot_be_written(rt: HostRuntime) -> Result<(), Fail> {
+    let mut files = MemFiles::new(rt.alloc());
+    let _made = ran(rt.alloc(), &mut files, CREATE.as_slice(), b"")?;
+    let mut words = Vec::new(rt.alloc());
+    for word in TREE {
+        words.push(String::from_str(rt.alloc(), word)?)?;
+    }
+    let mut input = b"".as_slice();
+    let mut output = NarrowWriter {
+        taken: Vec::new(rt.alloc()),
+        room: 40,
+    };
+    let mut faults = Vec::new(rt.alloc());
+    let words = words.as_slice();
+    let status = run_words(
+        rt.alloc(),
+        words,
+        &mut files,
+        &mut input,
+        &mut output,
+        &mut faults,
+    );
+    assert_eq!(rt; status, 3);
+    assert_eq!(rt;
+        output.taken.as_slice(),
+        b"changed unmerged conflicts post\n      - ".as_slice()
     );
     assert_eq!(rt; faults.as_slice(), b"altctl: stopped\n".as_slice());
     assert!(rt; files.find("f").is_some());

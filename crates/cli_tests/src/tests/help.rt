@@ -87,6 +87,7 @@ fn shows_what_the_program_is(rt: HostRuntime) -> Result<(), Fail> {
         "  run  ",
         "  do  ",
         "  check  ",
+        "  tree  ",
     ] {
         assert!(rt; text.contains(part));
     }
@@ -206,6 +207,23 @@ fn answers_as_help_shows(rt: HostRuntime) -> Result<(), Fail> {
 }
 
 #[test]
+fn shows_how_a_drawing_is_read(rt: HostRuntime) -> Result<(), Fail> {
+    let text = shown(&rt, ["altctl", "tree", "--help"].as_slice())?;
+    for part in [
+        "Usage: altctl tree <FILE>",
+        "in order of creation",
+        "  changed    ",
+        "  unmerged   ",
+        "  conflicts  ",
+        "  post       ",
+        "  $ altctl tree map.alt\n  changed unmerged conflicts post\n",
+    ] {
+        assert!(rt; text.contains(part));
+    }
+    Ok(())
+}
+
+#[test]
 fn shows_help_in_eighty_columns(rt: HostRuntime) -> Result<(), Fail> {
     for words in [
         ["altctl", "help"].as_slice(),
@@ -218,6 +236,8 @@ fn shows_help_in_eighty_columns(rt: HostRuntime) -> Result<(), Fail> {
         ["altctl", "run", "-h"].as_slice(),
         ["altctl", "help", "check"].as_slice(),
         ["altctl", "check", "--help"].as_slice(),
+        ["altctl", "help", "tree"].as_slice(),
+        ["altctl", "tree", "--help"].as_slice(),
         ["altctl", "help", "do"].as_slice(),
         ["altctl", "do", "--help"].as_slice(),
     ] {
@@ -251,6 +271,9 @@ fn refuses_wrong_words(rt: HostRuntime) -> Result<(), Fail> {
         ["altctl", "check", "f", "g"].as_slice(),
         ["altctl", "check", "--cache", "0", "f"].as_slice(),
         ["altctl", "check", "--version"].as_slice(),
+        ["altctl", "tree"].as_slice(),
+        ["altctl", "tree", "f", "g"].as_slice(),
+        ["altctl", "tree", "--cache", "0", "f"].as_slice(),
     ] {
         let refused = ran(rt.alloc(), &mut files, words, b"")?;
         assert_eq!(rt; refused.status, 2);

@@ -2,9 +2,9 @@ use Rattle.std.proofs.Common.{map, inl, inr, refl}
 use Rattle.std.specs.String.{string_bytes}
 use Rattle.clap.specs.Words.{kind_of}
 use Rattle.vm_cli.specs.Exits.{IsJob}
-use Rattle.vm_cli.specs.Words.Wanted.{check, create, do_lines, run}
-use Rattle.vm_cli.proofs.ExitLemmas.{checked, help_or_mistake, helped, made, mistaken, no_memory, talked}
-use Rattle.vm_cli.proofs.FilesLemmas.{did_check, did_create, did_lines, did_nothing, did_run, no_fault}
+use Rattle.vm_cli.specs.Words.Wanted.{check, create, do_lines, draw, run}
+use Rattle.vm_cli.proofs.ExitLemmas.{checked, drawn, help_or_mistake, helped, made, mistaken, no_memory, talked}
+use Rattle.vm_cli.proofs.FilesLemmas.{did_check, did_create, did_draw, did_lines, did_nothing, did_run, no_fault}
 use Rattle.vm_cli.proofs.program.carry_out.Goals as goal
 
 pub returns-in-Ok-Create-clause-ends : goal.returns-in-Ok-Create-clause-ends
@@ -34,6 +34,13 @@ returns-in-Ok-Check-clause-ends g c =
     let e = rw c.in-Ok-Check.field-0-is at c.in-Ok-Check.ensures in
     let job : IsJob words (check c.in-Ok-Check.file.now) = (e.faults, e.ok) in
     checked g.W.Write.contents g.F.Write.contents words _ _ _ _ c.in-Ok-Check.file.now _ job c.check.ensures.says
+
+pub returns-in-Ok-Tree-clause-ends : goal.returns-in-Ok-Tree-clause-ends
+returns-in-Ok-Tree-clause-ends g c =
+    let words = map string_bytes c.args.words.now in
+    let e = rw c.in-Ok-Tree.field-0-is at c.in-Ok-Tree.ensures in
+    let job : IsJob words (draw c.in-Ok-Tree.file.now) = (e.faults, e.ok) in
+    drawn g.W.Write.contents g.F.Write.contents words _ _ _ _ c.in-Ok-Tree.file.now _ job c.tree.ensures.says
 
 pub returns-in-Err-clause-ends : goal.returns-in-Err-clause-ends
 returns-in-Err-clause-ends g c =
@@ -74,6 +81,13 @@ returns-in-Ok-Check-clause-files g c honest =
     let e = rw c.in-Ok-Check.field-0-is at c.in-Ok-Check.ensures in
     let job : IsJob words (check c.in-Ok-Check.file.now) = (e.faults, e.ok) in
     did_check g.P.D.Disk _ _ _ _ words _ _ _ _ _ _ _ _ c.in-Ok-Check.file.now job c.check.ensures.reads (c.check.ensures.files honest)
+
+pub returns-in-Ok-Tree-clause-files : goal.returns-in-Ok-Tree-clause-files
+returns-in-Ok-Tree-clause-files g c honest =
+    let words = map string_bytes c.args.words.now in
+    let e = rw c.in-Ok-Tree.field-0-is at c.in-Ok-Tree.ensures in
+    let job : IsJob words (draw c.in-Ok-Tree.file.now) = (e.faults, e.ok) in
+    did_draw g.P.D.Disk _ _ _ _ words _ _ _ _ _ _ _ _ c.in-Ok-Tree.file.now job c.tree.ensures.reads (c.tree.ensures.files honest)
 
 pub returns-in-Err-clause-files : goal.returns-in-Err-clause-files
 returns-in-Err-clause-files g c honest =
