@@ -1,5 +1,4 @@
 -- What lies below a file that is watched, and below a stream over which a line is cleared.
-use Rattle.std.specs.Prelude.{ℕ}
 use Rattle.vm_cli.specs.declared.progress.Cleared.{Cleared}
 use Rattle.vm_cli.specs.declared.progress.Watched.{Watched}
 

@@ -1,4 +1,4 @@
-use Rattle.std.proofs.Common.{◌≡◌, ◌∙◌, ◌++◌, ap, append_assoc, flat_map, sym, take}
+use Rattle.std.proofs.Common.{◌∙◌, ◌++◌, ap, append_assoc, flat_map, sym, take}
 use Rattle.vm_cli.specs.Drawing.{checkpoint_line}
 use Rattle.vm_cli.proofs.GivenLemmas.{flat_map-next}
 use Rattle.vm_cli.proofs.drawing.push_checkpoints.Goals as goal

@@ -1,4 +1,4 @@
-use Rattle.std.proofs.Common.{◌≡◌, ◌⊎◌, ◌∙◌, ap, inl, inr, refl, Err}
+use Rattle.std.proofs.Common.{◌≡◌, ◌∙◌, ap, inl, inr, refl}
 use Rattle.vm_store.specs.Tallies.{tally_in}
 use Rattle.vm_cli.specs.Drawing.{numbers}
 use Rattle.vm_cli.proofs.surveying.branch_of.Goals as goal
