@@ -3,8 +3,7 @@ ghost use Rattle.std.specs.Prelude.{◌≡◌, ◌+◌, ◌⊎◌, List, ℕ, No
 ghost use Rattle.vm_types.specs.State.{State};
 ghost use Rattle.vm_types.specs.Tree.{Tree};
 ghost use Rattle.vm_types.specs.declared.refusal.Refusal.{Refusal as RefusalValue};
-ghost use Rattle.vm_disk.specs.Disk.{Goes};
-ghost use Rattle.vm_store.specs.Store.{Holds, disk_of, has_failed};
+ghost use Rattle.vm_store.specs.Store.{Holds, has_failed, IsHonest, GoesOn};
 ghost use Rattle.vm_cli.specs.Drawing.{Branch, drawing, tree_text};
 ghost use Rattle.vm_cli.specs.Exits.{SaysRefused, Tells, refused_text};
 ghost use Rattle.vm_cli.specs.Files.{Declines, Draws};
@@ -80,12 +79,14 @@ fn show_disk<D: Disk, W: Write, F: Write>(
 
 // The text of a store's tree.
 fn draw_store<D: Disk>(alloc: Global, store: &mut Store<D>) -> Result<Vec<u8>, Refusal>
-    ensures any { Goes (result ≡ Err Refusal.Device) (D.state (disk_of store.old)) (D.state (disk_of store.new)) }
+    ensures any { GoesOn (result ≡ Err Refusal.Device) store.old store.new }
     ensures passes { Passes store.old store.new None }
     ensures text { IfOk result (λ text. (branches : List Branch) × (text.items ≡ drawing branches)) }
-    ensures drawn { (D.state (disk_of store.new)).honest ≡ true → has_failed store.old ≡ false → (s : State) → Holds store.old s
+    ensures drawn { IsHonest store.new → has_failed store.old ≡ false → (s : State)
+        → Holds store.old s
         → IfOk result (λ text. text.items ≡ tree_text s.working) }
-    ensures refused { (D.state (disk_of store.new)).honest ≡ true → has_failed store.old ≡ false → (s : State) → Holds store.old s
+    ensures refused { IsHonest store.new → has_failed store.old ≡ false → (s : State)
+        → Holds store.old s
         → IfErr result (λ refusal. (refusal ≡ Refusal.Device) ⊎ (refusal ≡ Refusal.Memory)) }
 {
     let branches = survey(alloc, store)?;

@@ -3,8 +3,7 @@ ghost use Rattle.std.specs.Prelude.{◌≡◌, ◌≢◌, ◌⊎◌, true, false
 ghost use Rattle.vm_types.specs.Queries.{checkpoints_in};
 ghost use Rattle.vm_types.specs.Shape.{shape};
 ghost use Rattle.vm_types.specs.State.{State};
-ghost use Rattle.vm_disk.specs.Disk.{Goes};
-ghost use Rattle.vm_store.specs.Store.{Holds, disk_of, has_failed};
+ghost use Rattle.vm_store.specs.Store.{Holds, has_failed, IsHonest, GoesOn};
 ghost use Rattle.vm_store.specs.Tallies.{tally_in};
 ghost use Rattle.vm_cli.specs.Drawing.{branches_of, numbers as numbers_of};
 ghost use Rattle.vm_cli.specs.Talk.{Passes};
@@ -18,11 +17,13 @@ use vm_types::{Name, Refusal};
 /// What is drawn of each alternative of a store, in order of creation. It reads only what differs between
 /// an alternative, its base and its parent.
 pub fn survey<D: Disk>(alloc: Global, store: &mut Store<D>) -> Result<Vec<Branch>, Refusal>
-    ensures any { Goes (result ≡ Err Refusal.Device) (D.state (disk_of store.old)) (D.state (disk_of store.new)) }
+    ensures any { GoesOn (result ≡ Err Refusal.Device) store.old store.new }
     ensures passes { Passes store.old store.new None }
-    ensures drawn { (D.state (disk_of store.new)).honest ≡ true → has_failed store.old ≡ false → (s : State) → Holds store.old s
+    ensures drawn { IsHonest store.new → has_failed store.old ≡ false → (s : State)
+        → Holds store.old s
         → IfOk result (λ branches. branches.items ≡ branches_of s.working) }
-    ensures refused { (D.state (disk_of store.new)).honest ≡ true → has_failed store.old ≡ false → (s : State) → Holds store.old s
+    ensures refused { IsHonest store.new → has_failed store.old ≡ false → (s : State)
+        → Holds store.old s
         → IfErr result (λ refusal. (refusal ≡ Refusal.Device) ⊎ (refusal ≡ Refusal.Memory)) }
 {
     let listed = store.alternatives(alloc)?;
@@ -35,11 +36,13 @@ fn survey_listed<D: Disk>(
     store: &mut Store<D>,
     listed: &[(Name, Option<Name>)],
 ) -> Result<Vec<Branch>, Refusal>
-    ensures any { Goes (result ≡ Err Refusal.Device) (D.state (disk_of store.old)) (D.state (disk_of store.new)) }
+    ensures any { GoesOn (result ≡ Err Refusal.Device) store.old store.new }
     ensures passes { Passes store.old store.new None }
-    ensures drawn { (D.state (disk_of store.new)).honest ≡ true → has_failed store.old ≡ false → (s : State) → Holds store.old s → listed.now ≡ shape s.working
+    ensures drawn { IsHonest store.new → has_failed store.old ≡ false → (s : State)
+        → Holds store.old s → listed.now ≡ shape s.working
         → IfOk result (λ branches. branches.items ≡ branches_of s.working) }
-    ensures refused { (D.state (disk_of store.new)).honest ≡ true → has_failed store.old ≡ false → (s : State) → Holds store.old s → listed.now ≡ shape s.working
+    ensures refused { IsHonest store.new → has_failed store.old ≡ false → (s : State)
+        → Holds store.old s → listed.now ≡ shape s.working
         → IfErr result (λ refusal. (refusal ≡ Refusal.Device) ⊎ (refusal ≡ Refusal.Memory)) }
 {
     let mut branches = Vec::new(alloc);
@@ -59,12 +62,14 @@ fn branch_of<D: Disk>(
     name: &Name,
     parent: Option<Name>,
 ) -> Result<Branch, Refusal>
-    ensures any { Goes (result ≡ Err Refusal.Device) (D.state (disk_of store.old)) (D.state (disk_of store.new)) }
+    ensures any { GoesOn (result ≡ Err Refusal.Device) store.old store.new }
     ensures passes { Passes store.old store.new None }
-    ensures drawn { (D.state (disk_of store.new)).honest ≡ true → has_failed store.old ≡ false → (s : State) → Holds store.old s
+    ensures drawn { IsHonest store.new → has_failed store.old ≡ false → (s : State)
+        → Holds store.old s
         → IfOk result (λ branch. (branch.name ≡ name.now) × (branch.parent ≡ parent) × (branch.tally ≡ numbers_of (tally_in s.working name.now))
         × (Ok branch.checkpoints ≡ checkpoints_in s.working name.now)) }
-    ensures refused { (D.state (disk_of store.new)).honest ≡ true → has_failed store.old ≡ false → (s : State) → Holds store.old s
+    ensures refused { IsHonest store.new → has_failed store.old ≡ false → (s : State)
+        → Holds store.old s
         → IfErr result (λ refusal. (refusal ≡ Refusal.Device) ⊎ ((refusal ≡ Refusal.Memory) ⊎ (Err refusal ≡ checkpoints_in s.working name.now))) }
 {
     let tally = numbers(store.tally(alloc, name))?;

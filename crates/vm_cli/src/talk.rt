@@ -7,8 +7,7 @@ ghost use Rattle.vm_cli.specs.Lines.{IsPart, lines_of};
 ghost use Rattle.vm_cli.specs.Reading.{Holds as HoldsLine};
 ghost use Rattle.vm_cli.specs.Replies.{ends_talk, reply_text};
 ghost use Rattle.vm_cli.specs.Talk.{Failing, HandlesLine, Serves, ServesLines, answer_text, error_text};
-ghost use Rattle.vm_disk.specs.Disk.{Goes};
-ghost use Rattle.vm_store.specs.Store.{Holds, disk_of, has_failed};
+ghost use Rattle.vm_store.specs.Store.{Holds, has_failed, GoesOn};
 ghost use Rattle.vm_types.specs.State.{State};
 
 use crate::line::{Kind, Line};
@@ -70,9 +69,10 @@ pub fn serve<R: Read, W: Write, D: Disk>(
 
     // On any disk the talk ends with Store only where a device call failed in it, or the store had failed before; such a
     // store is left as it was.
-    ensures goes { Goes ⊥ (D.state (disk_of store.old)) (D.state (disk_of store.new)) }
+    ensures goes { GoesOn ⊥ store.old store.new }
     ensures ok { has_failed store.old ≡ false → OnOk result (has_failed store.new ≡ false) }
-    ensures err { has_failed store.old ≡ false → IfErr result (λ fault. fault ≡ ServeFault.Store → (has_failed store.new ≡ true) × Failing store.old store.new) }
+    ensures err { has_failed store.old ≡ false
+        → IfErr result (λ fault. fault ≡ ServeFault.Store → (has_failed store.new ≡ true) × Failing store.old store.new) }
     ensures left { has_failed store.old ≡ true → store.new ≡ store.old }
 
     // The lines of the input are answered one after another, each by the store that the line before left, and the store
@@ -123,9 +123,10 @@ fn feed<W: Write, D: Disk>(
     store: &mut Store<D>,
     on_refusal: OnRefusal,
 ) -> Result<bool, ServeFault>
-    ensures goes { Goes ⊥ (D.state (disk_of store.old)) (D.state (disk_of store.new)) }
+    ensures goes { GoesOn ⊥ store.old store.new }
     ensures ok { has_failed store.old ≡ false → OnOk result (has_failed store.new ≡ false) }
-    ensures err { has_failed store.old ≡ false → IfErr result (λ fault. (fault ≡ ServeFault.Write) ⊎ ((fault ≡ ServeFault.Refused) ⊎ ((fault ≡ ServeFault.Store) × (has_failed store.new ≡ true) × Failing store.old store.new))) }
+    ensures err { has_failed store.old ≡ false
+        → IfErr result (λ fault. (fault ≡ ServeFault.Write) ⊎ ((fault ≡ ServeFault.Refused) ⊎ ((fault ≡ ServeFault.Store) × (has_failed store.new ≡ true) × Failing store.old store.new))) }
     ensures left { has_failed store.old ≡ true → store.new ≡ store.old }
     ensures fed { (s : State)
         → (from : List ℕ) → HoldsLine line.old from
@@ -159,9 +160,10 @@ fn feed_line<W: Write, D: Disk>(
     on_refusal: OnRefusal,
 ) -> Result<bool, ServeFault>
     requires { IsPart bytes.now }
-    ensures goes { Goes ⊥ (D.state (disk_of store.old)) (D.state (disk_of store.new)) }
+    ensures goes { GoesOn ⊥ store.old store.new }
     ensures ok { has_failed store.old ≡ false → OnOk result (has_failed store.new ≡ false) }
-    ensures err { has_failed store.old ≡ false → IfErr result (λ fault. (fault ≡ ServeFault.Write) ⊎ ((fault ≡ ServeFault.Refused) ⊎ ((fault ≡ ServeFault.Store) × (has_failed store.new ≡ true) × Failing store.old store.new))) }
+    ensures err { has_failed store.old ≡ false
+        → IfErr result (λ fault. (fault ≡ ServeFault.Write) ⊎ ((fault ≡ ServeFault.Refused) ⊎ ((fault ≡ ServeFault.Store) × (has_failed store.new ≡ true) × Failing store.old store.new))) }
     ensures left { has_failed store.old ≡ true → store.new ≡ store.old }
     ensures fed { (s : State)
         → (from : List ℕ) → HoldsLine line.old from
@@ -190,9 +192,10 @@ fn answer<W: Write, D: Disk>(
     store: &mut Store<D>,
     on_refusal: OnRefusal,
 ) -> Result<bool, ServeFault>
-    ensures goes { Goes ⊥ (D.state (disk_of store.old)) (D.state (disk_of store.new)) }
+    ensures goes { GoesOn ⊥ store.old store.new }
     ensures ok { has_failed store.old ≡ false → OnOk result (has_failed store.new ≡ false) }
-    ensures err { has_failed store.old ≡ false → IfErr result (λ fault. (fault ≡ ServeFault.Write) ⊎ ((fault ≡ ServeFault.Refused) ⊎ ((fault ≡ ServeFault.Store) × (has_failed store.new ≡ true) × Failing store.old store.new))) }
+    ensures err { has_failed store.old ≡ false
+        → IfErr result (λ fault. (fault ≡ ServeFault.Write) ⊎ ((fault ≡ ServeFault.Refused) ⊎ ((fault ≡ ServeFault.Store) × (has_failed store.new ≡ true) × Failing store.old store.new))) }
     ensures left { has_failed store.old ≡ true → store.new ≡ store.old }
     ensures answer { (s : State)
         → (part : List ℕ) → HoldsLine line.now part
@@ -240,9 +243,11 @@ fn reply_to<W: Write, D: Disk>(
 ) -> Result<Reply, WriteFault>
     requires { text.old ≡ [] }
     ensures room { OnOk result (length text.new + 1024 ≤ 4096) }
-    ensures goes { Goes ⊥ (D.state (disk_of store.old)) (D.state (disk_of store.new)) }
-    ensures last { has_failed store.old ≡ false → IfOk result (λ reply. ends_talk reply ≡ has_failed store.new) }
-    ensures failing { has_failed store.old ≡ false → has_failed store.new ≡ true → Failing store.old store.new }
+    ensures goes { GoesOn ⊥ store.old store.new }
+    ensures last { has_failed store.old ≡ false
+        → IfOk result (λ reply. ends_talk reply ≡ has_failed store.new) }
+    ensures failing { has_failed store.old ≡ false → has_failed store.new ≡ true
+        → Failing store.old store.new }
     ensures left { has_failed store.old ≡ true → store.new ≡ store.old }
     ensures answer { (s : State)
         → (part : List ℕ) → HoldsLine line.now part
@@ -268,9 +273,11 @@ fn reply_to_request<W: Write, D: Disk>(
 ) -> Result<Reply, WriteFault>
     requires { text.old ≡ [] }
     ensures room { OnOk result (length text.new + 1024 ≤ 4096) }
-    ensures goes { Goes ⊥ (D.state (disk_of store.old)) (D.state (disk_of store.new)) }
-    ensures last { has_failed store.old ≡ false → IfOk result (λ reply. ends_talk reply ≡ has_failed store.new) }
-    ensures failing { has_failed store.old ≡ false → has_failed store.new ≡ true → Failing store.old store.new }
+    ensures goes { GoesOn ⊥ store.old store.new }
+    ensures last { has_failed store.old ≡ false
+        → IfOk result (λ reply. ends_talk reply ≡ has_failed store.new) }
+    ensures failing { has_failed store.old ≡ false → has_failed store.new ≡ true
+        → Failing store.old store.new }
     ensures left { has_failed store.old ≡ true → store.new ≡ store.old }
     ensures answer { (s : State)
         → Replies (HandlesRequest store.old store.new s request) result (W.contents writer.old) (W.contents writer.new) text.new }
@@ -291,9 +298,10 @@ fn reply_to_request<W: Write, D: Disk>(
 
 // Carries out a command. Where the device failed in it, the store carries out nothing more.
 fn carry_out<D: Disk>(command: &Command, store: &mut Store<D>) -> Reply
-    ensures goes { Goes ⊥ (D.state (disk_of store.old)) (D.state (disk_of store.new)) }
+    ensures goes { GoesOn ⊥ store.old store.new }
     ensures last { has_failed store.old ≡ false → ends_talk result ≡ has_failed store.new }
-    ensures failing { has_failed store.old ≡ false → has_failed store.new ≡ true → Failing store.old store.new }
+    ensures failing { has_failed store.old ≡ false → has_failed store.new ≡ true
+        → Failing store.old store.new }
     ensures left { has_failed store.old ≡ true → store.new ≡ store.old }
     ensures answer { (s : State)
         → HandlesRequest store.old store.new s (Request.Command command.now) (reply_text result) (ends_talk result) }
@@ -304,7 +312,8 @@ fn carry_out<D: Disk>(command: &Command, store: &mut Store<D>) -> Reply
 // What is answered to a command.
 fn answered(answer: Result<Answer, Refusal>) -> Reply
     ensures text { reply_text result ≡ answer_text answer }
-    ensures last { answer ≢ Err Refusal.Device → answer ≢ Err Refusal.Failed → ends_talk result ≡ false }
+    ensures last { answer ≢ Err Refusal.Device → answer ≢ Err Refusal.Failed
+        → ends_talk result ≡ false }
     ensures device { answer ≡ Err Refusal.Device → ends_talk result ≡ true }
     ensures failed { answer ≡ Err Refusal.Failed → ends_talk result ≡ true }
 {
@@ -318,7 +327,7 @@ fn answered(answer: Result<Answer, Refusal>) -> Reply
 
 // Answers a query for the value of a record.
 fn get<D: Disk>(alt: &Name, key: Key, store: &mut Store<D>) -> Reply
-    ensures goes { Goes ⊥ (D.state (disk_of store.old)) (D.state (disk_of store.new)) }
+    ensures goes { GoesOn ⊥ store.old store.new }
     ensures failed { has_failed store.new ≡ has_failed store.old }
     ensures last { has_failed store.old ≡ false → ends_talk result ≡ false }
     ensures left { has_failed store.old ≡ true → store.new ≡ store.old }
@@ -365,7 +374,7 @@ fn list<W: Write, D: Disk>(
 ) -> Result<Reply, WriteFault>
     requires { text.old ≡ [] }
     ensures room { OnOk result (length text.new + 1024 ≤ 4096) }
-    ensures goes { Goes ⊥ (D.state (disk_of store.old)) (D.state (disk_of store.new)) }
+    ensures goes { GoesOn ⊥ store.old store.new }
     ensures failed { has_failed store.new ≡ has_failed store.old }
     ensures last { has_failed store.old ≡ false → IfOk result (λ reply. ends_talk reply ≡ false) }
     ensures left { has_failed store.old ≡ true → store.new ≡ store.old }
@@ -427,7 +436,7 @@ fn changes<W: Write, D: Disk>(
 ) -> Result<Reply, WriteFault>
     requires { text.old ≡ [] }
     ensures room { OnOk result (length text.new + 1024 ≤ 4096) }
-    ensures goes { Goes ⊥ (D.state (disk_of store.old)) (D.state (disk_of store.new)) }
+    ensures goes { GoesOn ⊥ store.old store.new }
     ensures failed { has_failed store.new ≡ has_failed store.old }
     ensures last { has_failed store.old ≡ false → IfOk result (λ reply. ends_talk reply ≡ false) }
     ensures left { has_failed store.old ≡ true → store.new ≡ store.old }
@@ -450,7 +459,7 @@ fn conflicts<W: Write, D: Disk>(
 ) -> Result<Reply, WriteFault>
     requires { text.old ≡ [] }
     ensures room { OnOk result (length text.new + 1024 ≤ 4096) }
-    ensures goes { Goes ⊥ (D.state (disk_of store.old)) (D.state (disk_of store.new)) }
+    ensures goes { GoesOn ⊥ store.old store.new }
     ensures failed { has_failed store.new ≡ has_failed store.old }
     ensures last { has_failed store.old ≡ false → IfOk result (λ reply. ends_talk reply ≡ false) }
     ensures left { has_failed store.old ≡ true → store.new ≡ store.old }

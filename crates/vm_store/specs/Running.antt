@@ -5,43 +5,40 @@ use Rattle.vm_types.specs.declared.command.Command.{Command}
 use Rattle.vm_types.specs.declared.command.Command.TheVariants.{Reclaim}
 use Rattle.vm_types.specs.declared.refusal.Refusal.{Refusal}
 use Rattle.vm_types.specs.declared.refusal.Refusal.TheVariants.{Device, Failed, Memory}
-use Rattle.vm_types.specs.Kept.{LeftBy}
 use Rattle.vm_types.specs.State.{State, after, next}
-use Rattle.vm_disk.specs.Disk.{Goes, Medium}
-use Rattle.vm_disk.specs.Moments.{Leaves, Throughout}
-use Rattle.vm_store.specs.Answers.{ChangesEntriesAlone, IsEarly, IsMerge}
+use Rattle.vm_disk.specs.Disk.{Medium}
+use Rattle.vm_store.specs.Answers.{ChangesEntriesAlone, IsMerge}
 use Rattle.vm_store.specs.Guarded.{IsGuarded}
 use Rattle.vm_store.specs.Resting.{spare_of}
-use Rattle.vm_store.specs.Shown.{Shows}
-use Rattle.vm_store.specs.Store.{Answers, Holds, IsSameButDisk, disk_of, entries_of, free_of, has_failed, held_of}
+use Rattle.vm_store.specs.Store.{Answers, CrashLeaves, EarlyKeeps, GoesOn, Holds, IsHonest, StaysGuarded, disk_of, entries_of, free_of, has_failed, held_of}
 use Rattle.vm_store.specs.declared.store.Store.{Store}
 
 module _ {D : Type 0} {members : _} where
   -- a store carried out a command. What is said of its state asks that it stood for this one before, and that the disk is honest after it
   pub record CarriesOut (old new : Store D members) (s : State) (command : Command) (answer : Result Answer Refusal) : Type 0 where
     -- the answer is the one that is due, where Full and Deep come on their conditions, or Device, or Memory
-    pub answers : (members.state new.disk).honest ≡ true → (holds : Holds old s) → Answers old new s holds command answer
+    pub answers : IsHonest new → (holds : Holds old s) → Answers old new s holds command answer
     -- Failed is the answer of a store that had failed before, and Memory comes to a Merge alone
     pub only_then : answer ≢ Err Failed
     pub memory : answer ≡ Err Memory → IsMerge command
     -- it is Device only where a device call failed
-    pub goes : Goes (answer ≡ Err Device) (members.state old.disk) (members.state new.disk)
+    pub goes : GoesOn (answer ≡ Err Device) old new
     -- then, and only then, the store has failed
     pub failed : has_failed new ≡ true ↔ answer ≡ Err Device
     -- a refusal leaves the entries as they were
     pub same : OnErr answer (answer ≢ Err Device → entries_of new ≡ entries_of old)
     -- one that comes before blocks are marked, taken or written leaves all but the disk as it was, so as many blocks are free
-    pub unchanged : IfErr answer (λ refusal. IsEarly refusal → IsSameButDisk old new)
+    pub unchanged : EarlyKeeps answer old new
     -- to make, drop or go back to alternatives and checkpoints takes no device call and no block
     pub blocks : ChangesEntriesAlone command → (disk_of new ≡ disk_of old) × (held_of new ≡ held_of old)
     -- a store that hasn't failed stands for what the answer leaves
-    pub holds : (members.state new.disk).honest ≡ true → Holds old s → answer ≢ Err Device → Holds new (next s command answer)
+    pub holds : IsHonest new → Holds old s → answer ≢ Err Device → Holds new (next s command answer)
     -- a crash at any moment leaves what was committed, or what the command commits
-    pub crash : (members.state new.disk).honest ≡ true → Holds old s → Throughout (members.state old.disk) (members.state new.disk) (Leaves (LeftBy Shows s command))
+    pub crash : IsHonest new → Holds old s → CrashLeaves old new s command
     -- at each moment the slots that it may leave in use are whole, clean and held
-    pub guarded : (members.state new.disk).honest ≡ true → Holds old s → Throughout (members.state old.disk) (members.state new.disk) (IsGuarded (held_of new))
+    pub guarded : IsHonest new → Holds old s → StaysGuarded old new
     -- after a Reclaim just the spare blocks are free
-    pub reclaimed : (members.state new.disk).honest ≡ true → command ≡ Reclaim → (holds : Holds old s) → OnOk answer (free_of new ≡ spare_of holds)
+    pub reclaimed : IsHonest new → command ≡ Reclaim → (holds : Holds old s) → OnOk answer (free_of new ≡ spare_of holds)
 
   -- commands are carried out one after another: each by the store that the one before left, from the first store to the last
   abbrev pub AnswersInTurn : Store D members → Store D members → State → List Command → List (Result Answer Refusal) → Type 0
@@ -61,6 +58,10 @@ module _ {D : Type 0} {members : _} where
   -- the slots that a crash may leave in use are whole, clean, and held by a store on the way
   abbrev pub IsGuardedOnTheWay : Store D members → Store D members → State → List Command → List (Result Answer Refusal) → Medium → Type 0
   IsGuardedOnTheWay old new s commands answers m = (mid : Store D members) × IsOnTheWay old new s commands answers mid × IsGuarded (held_of mid) m
+
+-- the commands that were answered, which are the first ones
+abbrev pub answered : List Command → List (Result Answer Refusal) → List Command
+answered commands answers = take (length answers) commands
 
 -- no answer is that the device failed
 abbrev pub NoneIsDevice : List (Result Answer Refusal) → Type 0

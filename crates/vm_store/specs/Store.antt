@@ -1,16 +1,21 @@
 -- A store, and the state that it stands for.
-use Rattle.std.specs.Prelude.{◌≡◌, ℕ, Bool, List, find, Result}
+use Rattle.std.specs.Prelude.{◌≡◌, ℕ, Bool, true, List, find, Result, IfErr}
 use Rattle.vm_types.specs.declared.answer.Answer.{Answer}
 use Rattle.vm_types.specs.declared.command.Command.{Command}
 use Rattle.vm_types.specs.declared.command.Command.TheVariants.{Merge}
 use Rattle.vm_types.specs.declared.refusal.Refusal.{Refusal}
+use Rattle.vm_types.specs.Kept.{LeftBy}
 use Rattle.vm_types.specs.State.{State}
 use Rattle.vm_types.specs.Tree.{current_of}
+use Rattle.vm_disk.specs.Disk.{Goes}
+use Rattle.vm_disk.specs.Moments.{Leaves, OnlyReads, Throughout}
 use Rattle.vm_alloc.specs.Held.{free_count}
-use Rattle.vm_store.specs.Answers.{IsAnswer, IsDeep, IsMergeAnswer, merge_changes}
+use Rattle.vm_store.specs.Answers.{IsAnswer, IsDeep, IsEarly, IsMergeAnswer, merge_changes}
 use Rattle.vm_store.specs.Changing.{MeetsFullPath}
+use Rattle.vm_store.specs.Guarded.{IsGuarded}
 use Rattle.vm_store.specs.Resting.{Rests, spare_of}
 use Rattle.vm_store.specs.Roots.{current_root}
+use Rattle.vm_store.specs.Shown.{Shows}
 use Rattle.vm_store.specs.Versions.{is_alternative_of}
 use Rattle.vm_store.specs.declared.store.Store.{Store}
 use Rattle.vm_store.specs.declared.versions.Version.{Version}
@@ -44,6 +49,26 @@ module _ {D : Type 0} {members : _} where
     pub marks : new.marks ≡ old.marks
     pub failed : new.failed ≡ old.failed
 
+  -- the disk has kept the rules of a disk in every call so far
+  abbrev pub IsHonest : Store D members → Type 0
+  IsHonest store = (members.state store.disk).honest ≡ true
+
+  -- what a call of the store does to its disk, on any disk, where `fails` says that the device failed in it
+  abbrev pub GoesOn : Type 0 → (old new : Store D members) → Type 0
+  GoesOn fails old new = Goes fails (members.state old.disk) (members.state new.disk)
+
+  -- at each moment of the call the disk held what it held before
+  abbrev pub ReadsAlone : (old new : Store D members) → Type 0
+  ReadsAlone old new = OnlyReads (members.state old.disk) (members.state new.disk)
+
+  -- how many reads were asked of the disk
+  abbrev pub reads_of : Store D members → ℕ
+  reads_of store = (members.state store.disk).reads
+
+  -- a refusal that comes before blocks are marked, taken or written leaves all but the disk as it was
+  abbrev pub EarlyKeeps : Result Answer Refusal → (old new : Store D members) → Type 0
+  EarlyKeeps answer old new = IfErr answer (λ refusal. IsEarly refusal → IsSameButDisk old new)
+
   -- which blocks are held
   abbrev pub held_of : Store D members → List Bool
   held_of store = store.held
@@ -56,6 +81,14 @@ module _ {D : Type 0} {members : _} where
   abbrev pub Holds : Store D members → State → Type 0
   Holds store s =
       Rests (members.state store.disk).now store.blocks store.slot_b store.held store.committed.items store.working.items s
+
+  -- a crash at any moment of the call leaves what was committed, or what the command commits
+  abbrev pub CrashLeaves : (old new : Store D members) → State → Command → Type 0
+  CrashLeaves old new s command = Throughout (members.state old.disk) (members.state new.disk) (Leaves (LeftBy Shows s command))
+
+  -- at each moment of the call the slots that a crash may leave in use are whole, clean and held
+  abbrev pub StaysGuarded : (old new : Store D members) → Type 0
+  StaysGuarded old new = Throughout (members.state old.disk) (members.state new.disk) (IsGuarded (held_of new))
 
   -- what is answered to a command by a store that stands for the state, in terms of the store before and after
   abbrev pub Answers : (old new : Store D members) (s : State) → Holds old s → Command → Result Answer Refusal → Type 0

@@ -42,7 +42,8 @@ fn read_sides<D: Disk>(
     requires { blocks ≤ (D.state disk.old).blocks }
     ensures any { Goes (result ≡ Err Refusal.Device) (D.state disk.old) (D.state disk.new) }
     ensures never { result ≢ Err Refusal.Failed }
-    ensures reads { (D.state disk.new).honest ≡ true → OnlyReads (D.state disk.old) (D.state disk.new) }
+    ensures reads { (D.state disk.new).honest ≡ true
+        → OnlyReads (D.state disk.old) (D.state disk.new) }
     ensures sides { (D.state disk.new).honest ≡ true → (base parent own : Map) (bs ps os : List ℕ)
         → IsRooted sizes (D.state disk.old).now.contents blocks roots.base base bs
         → IsRooted sizes (D.state disk.old).now.contents blocks roots.parent parent ps
@@ -74,8 +75,10 @@ pub fn conflicts_of<D: Disk>(
     requires { blocks ≤ (D.state disk.old).blocks }
     ensures any { Goes (result ≡ Err Refusal.Device) (D.state disk.old) (D.state disk.new) }
     ensures never { result ≢ Err Refusal.Failed }
-    ensures reads { (D.state disk.new).honest ≡ true → OnlyReads (D.state disk.old) (D.state disk.new) }
-    ensures conflicts { (D.state disk.new).honest ≡ true → (base parent own : Map) (bs ps os : List ℕ)
+    ensures reads { (D.state disk.new).honest ≡ true
+        → OnlyReads (D.state disk.old) (D.state disk.new) }
+    ensures conflicts { (D.state disk.new).honest ≡ true
+        → (base parent own : Map) (bs ps os : List ℕ)
         → IsRooted sizes (D.state disk.old).now.contents blocks roots.base base bs
         → IsRooted sizes (D.state disk.old).now.contents blocks roots.parent parent ps
         → IsRooted sizes (D.state disk.old).now.contents blocks roots.own own os
@@ -100,7 +103,8 @@ pub fn tally_of<D: Disk>(
     requires { blocks ≤ (D.state disk.old).blocks }
     ensures any { Goes (result ≡ Err Refusal.Device) (D.state disk.old) (D.state disk.new) }
     ensures never { result ≢ Err Refusal.Failed }
-    ensures reads { (D.state disk.new).honest ≡ true → OnlyReads (D.state disk.old) (D.state disk.new) }
+    ensures reads { (D.state disk.new).honest ≡ true
+        → OnlyReads (D.state disk.old) (D.state disk.new) }
     ensures tally { (D.state disk.new).honest ≡ true → (base parent own : Map) (bs ps os : List ℕ)
         → IsRooted sizes (D.state disk.old).now.contents blocks roots.base base bs
         → IsRooted sizes (D.state disk.old).now.contents blocks roots.parent parent ps
@@ -133,7 +137,8 @@ pub fn changes_of_merge<D: Disk>(
     requires { blocks ≤ (D.state disk.old).blocks }
     ensures any { Goes (result ≡ Err Refusal.Device) (D.state disk.old) (D.state disk.new) }
     ensures never { result ≢ Err Refusal.Failed }
-    ensures reads { (D.state disk.new).honest ≡ true → OnlyReads (D.state disk.old) (D.state disk.new) }
+    ensures reads { (D.state disk.new).honest ≡ true
+        → OnlyReads (D.state disk.old) (D.state disk.new) }
     ensures changes { (D.state disk.new).honest ≡ true → (base parent own : Map) (bs ps os : List ℕ)
         → IsRooted sizes (D.state disk.old).now.contents blocks roots.base base bs
         → IsRooted sizes (D.state disk.old).now.contents blocks roots.parent parent ps

@@ -1,12 +1,11 @@
 //! A store, and its commands and queries.
 ghost use Rattle.std.specs.Prelude.{◌≡◌, ◌≢◌, ◌⊎◌, ◌↔◌, ◌<◌, ◌≤◌, ◌*◌, ◌^◌, true, false, length, ℕ, vec_capacity, OnErr, OnOk, IfOk, IfErr, IsTrue};
 ghost use Rattle.vm_types.specs.State.{State, next};
-ghost use Rattle.vm_types.specs.Kept.{LeftBy};
-ghost use Rattle.vm_disk.specs.Disk.{Goes, NoCalls};
-ghost use Rattle.vm_disk.specs.Moments.{Throughout, OnlyReads, Leaves};
+
+ghost use Rattle.vm_disk.specs.Moments.{Leaves};
 ghost use Rattle.vm_types.specs.Queries.{value_in};
 ghost use Rattle.vm_store.specs.Answers.{ChangesEntriesAlone, IsEarly, IsMerge};
-ghost use Rattle.vm_store.specs.Guarded.{IsGuarded};
+
 ghost use Rattle.vm_store.specs.Resting.{spare_of};
 ghost use Rattle.vm_store.specs.Shown.{Shows};
 
@@ -72,44 +71,49 @@ pub struct Store<D: Disk> {
 }
 
 impl<D: Disk> Store<D> {
-    ghost use Rattle.vm_store.specs.Store.{disk_of, has_failed, entries_of, root_of, Answers, Holds, IsSameButDisk, held_of, free_of};
+    ghost use Rattle.vm_store.specs.Store.{disk_of, has_failed, entries_of, root_of, Answers, Holds, IsSameButDisk, held_of, free_of, IsHonest, GoesOn, ReadsAlone, StaysGuarded, CrashLeaves, EarlyKeeps};
 
     /// Carries out one command. After an answer `Device` the store answers `Failed` to every call but
     /// `close`: close it, and open the disk again.
     pub fn apply(&mut self, command: &Command) -> Result<Answer, Refusal>
         // On any disk.
-        ensures any { Goes (result ≡ Err Refusal.Device) (D.state (disk_of self.old)) (D.state (disk_of self.new)) }
-        ensures failed { has_failed self.old ≡ false → (has_failed self.new ≡ true ↔ result ≡ Err Refusal.Device) }
+        ensures any { GoesOn (result ≡ Err Refusal.Device) self.old self.new }
+        ensures failed { has_failed self.old ≡ false
+            → (has_failed self.new ≡ true ↔ result ≡ Err Refusal.Device) }
         ensures refused { has_failed self.old ≡ true → result ≡ Err Refusal.Failed }
         ensures no_calls { has_failed self.old ≡ true → (self.new ≡ self.old) }
         ensures only_then { has_failed self.old ≡ false → result ≢ Err Refusal.Failed }
         ensures same { OnErr result (result ≢ Err Refusal.Device → entries_of self.new ≡ entries_of self.old) }
-        ensures unchanged { IfErr result (λ refusal. IsEarly refusal → IsSameButDisk self.old self.new) }
+        ensures unchanged { EarlyKeeps result self.old self.new }
         ensures memory { result ≡ Err Refusal.Memory → IsMerge command.now }
 
         // To make, drop or go back to alternatives and checkpoints takes no device call and no block.
-        ensures blocks { ChangesEntriesAlone command.now → (disk_of self.new ≡ disk_of self.old) × (held_of self.new ≡ held_of self.old) }
+        ensures blocks { ChangesEntriesAlone command.now
+            → (disk_of self.new ≡ disk_of self.old) × (held_of self.new ≡ held_of self.old) }
 
         // The answer is the model's, or one that the device, or want of blocks or memory forces.
-        ensures answer { (D.state (disk_of self.new)).honest ≡ true → has_failed self.old ≡ false
+        ensures answer { IsHonest self.new → has_failed self.old ≡ false
             → (s : State) (holds : Holds self.old s)
             → Answers self.old self.new s holds command.now result }
-        ensures state { (D.state (disk_of self.new)).honest ≡ true → has_failed self.old ≡ false → result ≢ Err Refusal.Device
+        ensures state { IsHonest self.new → has_failed self.old ≡ false
+            → result ≢ Err Refusal.Device
             → (s : State) → Holds self.old s → Holds self.new (next s command.now result) }
 
         // A crash at any moment leaves what was committed, or what the command commits.
-        ensures crash { (D.state (disk_of self.new)).honest ≡ true → has_failed self.old ≡ false
+        ensures crash { IsHonest self.new → has_failed self.old ≡ false
             → (s : State) → Holds self.old s
-            → Throughout (D.state (disk_of self.old)) (D.state (disk_of self.new)) (Leaves (LeftBy Shows s command.now)) }
+            → CrashLeaves self.old self.new s command.now }
 
         // For at each moment the slots that it may leave in use are whole, clean and held.
-        ensures guarded { (D.state (disk_of self.new)).honest ≡ true → has_failed self.old ≡ false
+        ensures guarded { IsHonest self.new → has_failed self.old ≡ false
             → (s : State) → Holds self.old s
-            → Throughout (D.state (disk_of self.old)) (D.state (disk_of self.new)) (IsGuarded (held_of self.new)) }
+            → StaysGuarded self.old self.new }
 
         // After a Reclaim just the spare blocks are free.
-        ensures reclaimed { (D.state (disk_of self.new)).honest ≡ true → has_failed self.old ≡ false → command.now ≡ Command.Reclaim
-            → (s : State) (holds : Holds self.old s) → OnOk result (free_of self.new ≡ spare_of holds) }
+        ensures reclaimed { IsHonest self.new → has_failed self.old ≡ false
+            → command.now ≡ Command.Reclaim
+            → (s : State) (holds : Holds self.old s)
+            → OnOk result (free_of self.new ≡ spare_of holds) }
     {
         if self.failed {
             return Err(Refusal::Failed);
@@ -121,20 +125,24 @@ impl<D: Disk> Store<D> {
 
     // Carries out one command, and leaves it to `apply` to note that the device failed.
     fn carry_out(&mut self, command: &Command) -> Result<Answer, Refusal>
-        ensures any { Goes (result ≡ Err Refusal.Device) (D.state (disk_of self.old)) (D.state (disk_of self.new)) }
+        ensures any { GoesOn (result ≡ Err Refusal.Device) self.old self.new }
         ensures never { result ≢ Err Refusal.Failed }
         ensures memory { result ≡ Err Refusal.Memory → IsMerge command.now }
-        ensures blocks { ChangesEntriesAlone command.now → (disk_of self.new ≡ disk_of self.old) × (held_of self.new ≡ held_of self.old) }
+        ensures blocks { ChangesEntriesAlone command.now
+            → (disk_of self.new ≡ disk_of self.old) × (held_of self.new ≡ held_of self.old) }
         ensures same { OnErr result (entries_of self.new ≡ entries_of self.old) }
-        ensures unchanged { IfErr result (λ refusal. IsEarly refusal → IsSameButDisk self.old self.new) }
-        ensures answer { (D.state (disk_of self.new)).honest ≡ true → (s : State) (holds : Holds self.old s)
+        ensures unchanged { EarlyKeeps result self.old self.new }
+        ensures answer { IsHonest self.new → (s : State) (holds : Holds self.old s)
             → Answers self.old self.new s holds command.now result }
-        ensures state { (D.state (disk_of self.new)).honest ≡ true → result ≢ Err Refusal.Device → (s : State) → Holds self.old s → Holds self.new (next s command.now result) }
-        ensures crash { (D.state (disk_of self.new)).honest ≡ true → (s : State) → Holds self.old s
-            → Throughout (D.state (disk_of self.old)) (D.state (disk_of self.new)) (Leaves (LeftBy Shows s command.now)) }
-        ensures guarded { (D.state (disk_of self.new)).honest ≡ true → (s : State) → Holds self.old s
-            → Throughout (D.state (disk_of self.old)) (D.state (disk_of self.new)) (IsGuarded (held_of self.new)) }
-        ensures reclaimed { (D.state (disk_of self.new)).honest ≡ true → command.now ≡ Command.Reclaim → (s : State) (holds : Holds self.old s) → OnOk result (free_of self.new ≡ spare_of holds) }
+        ensures state { IsHonest self.new → result ≢ Err Refusal.Device → (s : State)
+            → Holds self.old s → Holds self.new (next s command.now result) }
+        ensures crash { IsHonest self.new → (s : State) → Holds self.old s
+            → CrashLeaves self.old self.new s command.now }
+        ensures guarded { IsHonest self.new → (s : State) → Holds self.old s
+            → StaysGuarded self.old self.new }
+        ensures reclaimed { IsHonest self.new → command.now ≡ Command.Reclaim
+            → (s : State) (holds : Holds self.old s)
+            → OnOk result (free_of self.new ≡ spare_of holds) }
     {
         match command {
             Command::Put { alt, key, value } => self.put(alt, *key, value),
@@ -158,16 +166,18 @@ impl<D: Disk> Store<D> {
 
     // Holds just the blocks that the committed or the working entries reach, beside the store's own.
     fn mark_all(&mut self) -> Result<(), Refusal>
-        ensures any { Goes (result ≡ Err Refusal.Device) (D.state (disk_of self.old)) (D.state (disk_of self.new)) }
+        ensures any { GoesOn (result ≡ Err Refusal.Device) self.old self.new }
         ensures failed { has_failed self.new ≡ has_failed self.old }
         ensures never { (result ≢ Err Refusal.Failed) × (result ≢ Err Refusal.Memory) }
         ensures late { IfErr result (λ refusal. IsEarly refusal → ⊥) }
         ensures same { entries_of self.new ≡ entries_of self.old }
         ensures roots { root_of self.new ≡ root_of self.old }
-        ensures reads { (D.state (disk_of self.new)).honest ≡ true → OnlyReads (D.state (disk_of self.old)) (D.state (disk_of self.new)) }
-        ensures only { (D.state (disk_of self.new)).honest ≡ true → (s : State) → Holds self.old s → IfErr result (λ refusal. refusal ≡ Refusal.Device) }
-        ensures exact { (D.state (disk_of self.new)).honest ≡ true → (s : State) (holds : Holds self.old s) → OnOk result (free_of self.new ≡ spare_of holds) }
-        ensures state { (D.state (disk_of self.new)).honest ≡ true → (s : State) → Holds self.old s → Holds self.new s }
+        ensures reads { IsHonest self.new → ReadsAlone self.old self.new }
+        ensures only { IsHonest self.new → (s : State) → Holds self.old s
+            → IfErr result (λ refusal. refusal ≡ Refusal.Device) }
+        ensures exact { IsHonest self.new → (s : State) (holds : Holds self.old s)
+            → OnOk result (free_of self.new ≡ spare_of holds) }
+        ensures state { IsHonest self.new → (s : State) → Holds self.old s → Holds self.new s }
     {
         self.marks.clear();
         match mark_versions(&mut self.disk, &self.committed, &mut self.marks) {
@@ -192,17 +202,19 @@ impl<D: Disk> Store<D> {
     // Whether as many blocks are spare as so many record changes may take. Where fewer are free, it marks
     // what the entries reach.
     fn has_spare(&mut self, changes: usize) -> Result<bool, Refusal>
-        ensures any { Goes (result ≡ Err Refusal.Device) (D.state (disk_of self.old)) (D.state (disk_of self.new)) }
+        ensures any { GoesOn (result ≡ Err Refusal.Device) self.old self.new }
         ensures failed { has_failed self.new ≡ has_failed self.old }
         ensures never { (result ≢ Err Refusal.Failed) × (result ≢ Err Refusal.Memory) }
         ensures late { IfErr result (λ refusal. IsEarly refusal → ⊥) }
         ensures same { entries_of self.new ≡ entries_of self.old }
         ensures roots { root_of self.new ≡ root_of self.old }
         ensures free { IfOk result (λ yes. IsTrue yes → 16 * changes ≤ free_of self.new) }
-        ensures reads { (D.state (disk_of self.new)).honest ≡ true → OnlyReads (D.state (disk_of self.old)) (D.state (disk_of self.new)) }
-        ensures only { (D.state (disk_of self.new)).honest ≡ true → (s : State) → Holds self.old s → IfErr result (λ refusal. refusal ≡ Refusal.Device) }
-        ensures spare { (D.state (disk_of self.new)).honest ≡ true → (s : State) (holds : Holds self.old s) → IfOk result (λ yes. IsTrue yes ↔ (16 * changes ≤ spare_of holds)) }
-        ensures state { (D.state (disk_of self.new)).honest ≡ true → (s : State) → Holds self.old s → Holds self.new s }
+        ensures reads { IsHonest self.new → ReadsAlone self.old self.new }
+        ensures only { IsHonest self.new → (s : State) → Holds self.old s
+            → IfErr result (λ refusal. refusal ≡ Refusal.Device) }
+        ensures spare { IsHonest self.new → (s : State) (holds : Holds self.old s)
+            → IfOk result (λ yes. IsTrue yes ↔ (16 * changes ≤ spare_of holds)) }
+        ensures state { IsHonest self.new → (s : State) → Holds self.old s → Holds self.new s }
     {
         if self.has_free(changes) {
             return Ok(true);
@@ -215,18 +227,19 @@ impl<D: Disk> Store<D> {
 
     // Gives a record of the alternative a value.
     fn put(&mut self, alt: &Name, key: Key, value: &Value) -> Result<Answer, Refusal>
-        ensures any { Goes (result ≡ Err Refusal.Device) (D.state (disk_of self.old)) (D.state (disk_of self.new)) }
+        ensures any { GoesOn (result ≡ Err Refusal.Device) self.old self.new }
         ensures failed { has_failed self.new ≡ has_failed self.old }
         ensures never { (result ≢ Err Refusal.Failed) × (result ≢ Err Refusal.Memory) }
         ensures same { OnErr result (entries_of self.new ≡ entries_of self.old) }
-        ensures unchanged { IfErr result (λ refusal. IsEarly refusal → IsSameButDisk self.old self.new) }
-        ensures answer { (D.state (disk_of self.new)).honest ≡ true → (s : State) (holds : Holds self.old s)
+        ensures unchanged { EarlyKeeps result self.old self.new }
+        ensures answer { IsHonest self.new → (s : State) (holds : Holds self.old s)
             → Answers self.old self.new s holds (Command.Put alt.now key value.now) result }
-        ensures state { (D.state (disk_of self.new)).honest ≡ true → (s : State) → Holds self.old s → Holds self.new (next s (Command.Put alt.now key value.now) result) }
-        ensures crash { (D.state (disk_of self.new)).honest ≡ true → (s : State) → Holds self.old s
-            → Throughout (D.state (disk_of self.old)) (D.state (disk_of self.new)) (Leaves (LeftBy Shows s (Command.Put alt.now key value.now))) }
-        ensures guarded { (D.state (disk_of self.new)).honest ≡ true → (s : State) → Holds self.old s
-            → Throughout (D.state (disk_of self.old)) (D.state (disk_of self.new)) (IsGuarded (held_of self.new)) }
+        ensures state { IsHonest self.new → (s : State) → Holds self.old s
+            → Holds self.new (next s (Command.Put alt.now key value.now) result) }
+        ensures crash { IsHonest self.new → (s : State) → Holds self.old s
+            → CrashLeaves self.old self.new s (Command.Put alt.now key value.now) }
+        ensures guarded { IsHonest self.new → (s : State) → Holds self.old s
+            → StaysGuarded self.old self.new }
     {
         let Some(i) = position_of(&self.working, alt) else {
             return Err(Refusal::NoSuchAlternative);
@@ -248,15 +261,16 @@ impl<D: Disk> Store<D> {
 
     // Makes the working entries the committed ones.
     fn commit(&mut self) -> Result<Answer, Refusal>
-        ensures any { Goes (result ≡ Err Refusal.Device) (D.state (disk_of self.old)) (D.state (disk_of self.new)) }
+        ensures any { GoesOn (result ≡ Err Refusal.Device) self.old self.new }
         ensures failed { has_failed self.new ≡ has_failed self.old }
         ensures result { (result ≡ Ok Answer.Done) ⊎ (result ≡ Err Refusal.Device) }
         ensures same { OnErr result (entries_of self.new ≡ entries_of self.old) }
-        ensures state { (D.state (disk_of self.new)).honest ≡ true → (s : State) → Holds self.old s → OnOk result (Holds self.new (next s Command.Commit result)) }
-        ensures crash { (D.state (disk_of self.new)).honest ≡ true → (s : State) → Holds self.old s
-            → Throughout (D.state (disk_of self.old)) (D.state (disk_of self.new)) (Leaves (LeftBy Shows s Command.Commit)) }
-        ensures guarded { (D.state (disk_of self.new)).honest ≡ true → (s : State) → Holds self.old s
-            → Throughout (D.state (disk_of self.old)) (D.state (disk_of self.new)) (IsGuarded (held_of self.new)) }
+        ensures state { IsHonest self.new → (s : State) → Holds self.old s
+            → OnOk result (Holds self.new (next s Command.Commit result)) }
+        ensures crash { IsHonest self.new → (s : State) → Holds self.old s
+            → CrashLeaves self.old self.new s Command.Commit }
+        ensures guarded { IsHonest self.new → (s : State) → Holds self.old s
+            → StaysGuarded self.old self.new }
     {
         write_entries(&mut self.entries, &self.working);
         match publish(&mut self.disk, self.slot_b, self.blocks, &self.entries) {
@@ -271,7 +285,7 @@ impl<D: Disk> Store<D> {
 
     /// The value of a record in the working state of an alternative.
     pub fn get(&mut self, alt: &Name, key: Key) -> Result<Option<Value>, Refusal>
-        ensures any { Goes (result ≡ Err Refusal.Device) (D.state (disk_of self.old)) (D.state (disk_of self.new)) }
+        ensures any { GoesOn (result ≡ Err Refusal.Device) self.old self.new }
         ensures failed { has_failed self.new ≡ has_failed self.old }
         ensures refused { has_failed self.old ≡ true → result ≡ Err Refusal.Failed }
         ensures no_calls { has_failed self.old ≡ true → self.new ≡ self.old }
@@ -279,10 +293,11 @@ impl<D: Disk> Store<D> {
         ensures unchanged { IsSameButDisk self.old self.new }
         ensures no_memory { result ≢ Err Refusal.Memory }
 
-        ensures value { (D.state (disk_of self.new)).honest ≡ true → has_failed self.old ≡ false → (s : State) → Holds self.old s
+        ensures value { IsHonest self.new → has_failed self.old ≡ false → (s : State)
+            → Holds self.old s
             → (result ≡ Err Refusal.Device) ⊎ (result ≡ value_in s.working alt.now key) }
-        ensures state { (D.state (disk_of self.new)).honest ≡ true → (s : State) → Holds self.old s → Holds self.new s }
-        ensures reads { (D.state (disk_of self.new)).honest ≡ true → OnlyReads (D.state (disk_of self.old)) (D.state (disk_of self.new)) }
+        ensures state { IsHonest self.new → (s : State) → Holds self.old s → Holds self.new s }
+        ensures reads { IsHonest self.new → ReadsAlone self.old self.new }
     {
         if self.failed {
             return Err(Refusal::Failed);
@@ -300,11 +315,13 @@ impl<D: Disk> Store<D> {
     /// Gives the disk back. What was not committed is gone.
     pub fn close(self) -> D
         ensures disk { result ≡ disk_of self }
-        ensures shown { (D.state result).honest ≡ true → has_failed self ≡ false → (s : State) → Holds self s
+        ensures shown { (D.state result).honest ≡ true → has_failed self ≡ false → (s : State)
+            → Holds self s
             → Shows (D.state result).now.contents s.committed }
 
         // A crash after it leaves what was committed.
-        ensures crash { (D.state result).honest ≡ true → has_failed self ≡ false → (s : State) → Holds self s
+        ensures crash { (D.state result).honest ≡ true → has_failed self ≡ false → (s : State)
+            → Holds self s
             → Leaves (λ x. Shows x s.committed) (D.state result).now }
     {
         let Store {

@@ -277,12 +277,17 @@ pub fn mark_versions<D: Disk>(
     ensures deep { result ≢ Err TreeFault.Deep }
     ensures memory { result ≢ Err TreeFault.Memory }
     ensures many { length marks.new ≡ length marks.old }
-    ensures reads { (D.state disk.new).honest ≡ true → OnlyReads (D.state disk.old) (D.state disk.new) }
+    ensures reads { (D.state disk.new).honest ≡ true
+        → OnlyReads (D.state disk.old) (D.state disk.new) }
 
     // On trees the marks grow by exactly the blocks of the versions.
-    ensures marked { (D.state disk.new).honest ≡ true → (bs : List ℕ) → AreReached (D.state disk.old).now.contents (length marks.old) versions.now bs → IsClosed (D.state disk.old).now.contents marks.old
+    ensures marked { (D.state disk.new).honest ≡ true → (bs : List ℕ)
+        → AreReached (D.state disk.old).now.contents (length marks.old) versions.now bs
+        → IsClosed (D.state disk.old).now.contents marks.old
         → OkOrDevice result (λ _. MarksMore bs marks.old marks.new) }
-    ensures closed { (D.state disk.new).honest ≡ true → (bs : List ℕ) → AreReached (D.state disk.old).now.contents (length marks.old) versions.now bs → IsClosed (D.state disk.old).now.contents marks.old
+    ensures closed { (D.state disk.new).honest ≡ true → (bs : List ℕ)
+        → AreReached (D.state disk.old).now.contents (length marks.old) versions.now bs
+        → IsClosed (D.state disk.old).now.contents marks.old
         → OnOk result (IsClosed (D.state disk.old).now.contents marks.new) }
 {
     for version in versions {

@@ -2,11 +2,6 @@
 ghost use Rattle.std.specs.Prelude.{◌≡◌, ◌≢◌, true, false, OnErr, IfOk, IfErr};
 ghost use Rattle.vm_types.specs.Shape.{shape};
 ghost use Rattle.vm_types.specs.State.{State, next};
-ghost use Rattle.vm_types.specs.Kept.{LeftBy};
-ghost use Rattle.vm_disk.specs.Disk.{Goes};
-ghost use Rattle.vm_disk.specs.Moments.{Throughout, Leaves};
-ghost use Rattle.vm_store.specs.Answers.{IsEarly};
-ghost use Rattle.vm_store.specs.Shown.{Shows};
 
 use super::Store;
 use crate::versions::{
@@ -18,22 +13,23 @@ use vm_disk::Disk;
 use vm_types::{Answer, Command, Name, Refusal};
 
 impl<D: Disk> Store<D> {
-    ghost use Rattle.vm_store.specs.Store.{disk_of, has_failed, entries_of, Answers, Holds, IsSameButDisk, held_of};
+    ghost use Rattle.vm_store.specs.Store.{disk_of, has_failed, entries_of, Answers, Holds, held_of, IsHonest, GoesOn, CrashLeaves, EarlyKeeps};
 
     // Makes a new alternative, whose current and base records are the parent's current ones.
     pub(super) fn make_alternative(&mut self, name: &Name, parent: &Name) -> Result<Answer, Refusal>
-        ensures any { Goes (result ≡ Err Refusal.Device) (D.state (disk_of self.old)) (D.state (disk_of self.new)) }
+        ensures any { GoesOn (result ≡ Err Refusal.Device) self.old self.new }
         ensures disk { disk_of self.new ≡ disk_of self.old }
         ensures held { held_of self.new ≡ held_of self.old }
         ensures failed { has_failed self.new ≡ has_failed self.old }
         ensures never { (result ≢ Err Refusal.Failed) × (result ≢ Err Refusal.Memory) }
         ensures same { OnErr result (entries_of self.new ≡ entries_of self.old) }
-        ensures unchanged { IfErr result (λ refusal. IsEarly refusal → IsSameButDisk self.old self.new) }
-        ensures answer { (D.state (disk_of self.new)).honest ≡ true → (s : State) (holds : Holds self.old s)
+        ensures unchanged { EarlyKeeps result self.old self.new }
+        ensures answer { IsHonest self.new → (s : State) (holds : Holds self.old s)
             → Answers self.old self.new s holds (Command.New name.now parent.now) result }
-        ensures state { (D.state (disk_of self.new)).honest ≡ true → (s : State) → Holds self.old s → Holds self.new (next s (Command.New name.now parent.now) result) }
-        ensures crash { (D.state (disk_of self.new)).honest ≡ true → (s : State) → Holds self.old s
-            → Throughout (D.state (disk_of self.old)) (D.state (disk_of self.new)) (Leaves (LeftBy Shows s (Command.New name.now parent.now))) }
+        ensures state { IsHonest self.new → (s : State) → Holds self.old s
+            → Holds self.new (next s (Command.New name.now parent.now) result) }
+        ensures crash { IsHonest self.new → (s : State) → Holds self.old s
+            → CrashLeaves self.old self.new s (Command.New name.now parent.now) }
     {
         let Some(i) = position_of(&self.working, parent) else {
             return Err(Refusal::NoSuchAlternative);
@@ -57,18 +53,19 @@ impl<D: Disk> Store<D> {
         parent: &Name,
         checkpoint: &Name,
     ) -> Result<Answer, Refusal>
-        ensures any { Goes (result ≡ Err Refusal.Device) (D.state (disk_of self.old)) (D.state (disk_of self.new)) }
+        ensures any { GoesOn (result ≡ Err Refusal.Device) self.old self.new }
         ensures disk { disk_of self.new ≡ disk_of self.old }
         ensures held { held_of self.new ≡ held_of self.old }
         ensures failed { has_failed self.new ≡ has_failed self.old }
         ensures never { (result ≢ Err Refusal.Failed) × (result ≢ Err Refusal.Memory) }
         ensures same { OnErr result (entries_of self.new ≡ entries_of self.old) }
-        ensures unchanged { IfErr result (λ refusal. IsEarly refusal → IsSameButDisk self.old self.new) }
-        ensures answer { (D.state (disk_of self.new)).honest ≡ true → (s : State) (holds : Holds self.old s)
+        ensures unchanged { EarlyKeeps result self.old self.new }
+        ensures answer { IsHonest self.new → (s : State) (holds : Holds self.old s)
             → Answers self.old self.new s holds (Command.NewAt name.now parent.now checkpoint.now) result }
-        ensures state { (D.state (disk_of self.new)).honest ≡ true → (s : State) → Holds self.old s → Holds self.new (next s (Command.NewAt name.now parent.now checkpoint.now) result) }
-        ensures crash { (D.state (disk_of self.new)).honest ≡ true → (s : State) → Holds self.old s
-            → Throughout (D.state (disk_of self.old)) (D.state (disk_of self.new)) (Leaves (LeftBy Shows s (Command.NewAt name.now parent.now checkpoint.now))) }
+        ensures state { IsHonest self.new → (s : State) → Holds self.old s
+            → Holds self.new (next s (Command.NewAt name.now parent.now checkpoint.now) result) }
+        ensures crash { IsHonest self.new → (s : State) → Holds self.old s
+            → CrashLeaves self.old self.new s (Command.NewAt name.now parent.now checkpoint.now) }
     {
         if position_of(&self.working, parent).is_none() {
             return Err(Refusal::NoSuchAlternative);
@@ -89,18 +86,19 @@ impl<D: Disk> Store<D> {
 
     // Takes out an alternative that has a parent and no children, and its checkpoints.
     pub(super) fn drop_alternative(&mut self, alt: &Name) -> Result<Answer, Refusal>
-        ensures any { Goes (result ≡ Err Refusal.Device) (D.state (disk_of self.old)) (D.state (disk_of self.new)) }
+        ensures any { GoesOn (result ≡ Err Refusal.Device) self.old self.new }
         ensures disk { disk_of self.new ≡ disk_of self.old }
         ensures held { held_of self.new ≡ held_of self.old }
         ensures failed { has_failed self.new ≡ has_failed self.old }
         ensures never { (result ≢ Err Refusal.Failed) × (result ≢ Err Refusal.Memory) }
         ensures same { OnErr result (entries_of self.new ≡ entries_of self.old) }
-        ensures unchanged { IfErr result (λ refusal. IsEarly refusal → IsSameButDisk self.old self.new) }
-        ensures answer { (D.state (disk_of self.new)).honest ≡ true → (s : State) (holds : Holds self.old s)
+        ensures unchanged { EarlyKeeps result self.old self.new }
+        ensures answer { IsHonest self.new → (s : State) (holds : Holds self.old s)
             → Answers self.old self.new s holds (Command.Drop alt.now) result }
-        ensures state { (D.state (disk_of self.new)).honest ≡ true → (s : State) → Holds self.old s → Holds self.new (next s (Command.Drop alt.now) result) }
-        ensures crash { (D.state (disk_of self.new)).honest ≡ true → (s : State) → Holds self.old s
-            → Throughout (D.state (disk_of self.old)) (D.state (disk_of self.new)) (Leaves (LeftBy Shows s (Command.Drop alt.now))) }
+        ensures state { IsHonest self.new → (s : State) → Holds self.old s
+            → Holds self.new (next s (Command.Drop alt.now) result) }
+        ensures crash { IsHonest self.new → (s : State) → Holds self.old s
+            → CrashLeaves self.old self.new s (Command.Drop alt.now) }
     {
         let Some(i) = position_of(&self.working, alt) else {
             return Err(Refusal::NoSuchAlternative);
@@ -119,8 +117,10 @@ impl<D: Disk> Store<D> {
     /// device call. It answers `Memory` where there is none for the list.
     pub fn alternatives(&self, alloc: Global) -> Result<Vec<(Name, Option<Name>)>, Refusal>
         ensures refused { has_failed self.now ≡ true → result ≡ Err Refusal.Failed }
-        ensures only_then { has_failed self.now ≡ false → IfErr result (λ refusal. refusal ≡ Refusal.Memory) }
-        ensures value { has_failed self.now ≡ false → (s : State) → Holds self.now s → IfOk result (λ list. list.items ≡ shape s.working) }
+        ensures only_then { has_failed self.now ≡ false
+            → IfErr result (λ refusal. refusal ≡ Refusal.Memory) }
+        ensures value { has_failed self.now ≡ false → (s : State) → Holds self.now s
+            → IfOk result (λ list. list.items ≡ shape s.working) }
     {
         if self.failed {
             return Err(Refusal::Failed);

@@ -38,9 +38,12 @@ fn fresh_entry() -> Entry
 fn has_header<D: Disk>(disk: &mut D) -> Result<bool, DeviceFault>
     requires { 64 ≤ (D.state disk.old).blocks }
     ensures any { Goes (IsErr result) (D.state disk.old) (D.state disk.new) }
-    ensures moments { (D.state disk.new).honest ≡ true → Throughout (D.state disk.old) (D.state disk.new) (IsAtMostSynced (D.state disk.old).now) }
-    ensures synced { (D.state disk.new).honest ≡ true → OnOk result (IsSynced (D.state disk.old).now (D.state disk.new).now) }
-    ensures header { (D.state disk.new).honest ≡ true → IfOk result (λ header. IsTrue header ↔ IsHeader (block (D.state disk.old).now.contents 0)) }
+    ensures moments { (D.state disk.new).honest ≡ true
+        → Throughout (D.state disk.old) (D.state disk.new) (IsAtMostSynced (D.state disk.old).now) }
+    ensures synced { (D.state disk.new).honest ≡ true
+        → OnOk result (IsSynced (D.state disk.old).now (D.state disk.new).now) }
+    ensures header { (D.state disk.new).honest ≡ true
+        → IfOk result (λ header. IsTrue header ↔ IsHeader (block (D.state disk.old).now.contents 0)) }
 {
     let mut block = [0; 4096];
     let Ok(()) = disk.sync() else {
@@ -58,9 +61,11 @@ fn lay_out<D: Disk>(disk: &mut D, blocks: u32) -> Result<(), DeviceFault>
     requires least { 64 ≤ blocks }
     requires most { blocks ≤ 2 ^ 20 }
     ensures any { Goes (IsErr result) (D.state disk.old) (D.state disk.new) }
-    ensures moments { (D.state disk.new).honest ≡ true → IsClean (D.state disk.old).now → (IsHeader (block (D.state disk.old).now.contents 0) → ⊥)
+    ensures moments { (D.state disk.new).honest ≡ true → IsClean (D.state disk.old).now
+        → (IsHeader (block (D.state disk.old).now.contents 0) → ⊥)
         → Throughout (D.state disk.old) (D.state disk.new) (Leaves ShowsAtMostFresh) }
-    ensures laid { (D.state disk.new).honest ≡ true → OnOk result (IsLaidOut blocks (D.state disk.new).now) }
+    ensures laid { (D.state disk.new).honest ≡ true
+        → OnOk result (IsLaidOut blocks (D.state disk.new).now) }
 {
     let Ok(()) = write_slot(disk, false, blocks, &[fresh_entry()]) else {
         return Err(DeviceFault);
@@ -75,9 +80,11 @@ fn lay_out<D: Disk>(disk: &mut D, blocks: u32) -> Result<(), DeviceFault>
 fn put_header<D: Disk>(disk: &mut D) -> Result<(), DeviceFault>
     requires { 64 ≤ (D.state disk.old).blocks }
     ensures any { Goes (IsErr result) (D.state disk.old) (D.state disk.new) }
-    ensures moments { (D.state disk.new).honest ≡ true → (blocks : ℕ) → IsLaidOut blocks (D.state disk.old).now
+    ensures moments { (D.state disk.new).honest ≡ true → (blocks : ℕ)
+        → IsLaidOut blocks (D.state disk.old).now
         → Throughout (D.state disk.old) (D.state disk.new) (Leaves ShowsAtMostFresh) }
-    ensures formatted { (D.state disk.new).honest ≡ true → (blocks : ℕ) → IsLaidOut blocks (D.state disk.old).now → blocks ≤ (D.state disk.old).blocks
+    ensures formatted { (D.state disk.new).honest ≡ true → (blocks : ℕ)
+        → IsLaidOut blocks (D.state disk.old).now → blocks ≤ (D.state disk.old).blocks
         → OnOk result (IsFormatted blocks (D.state disk.new).now) }
 {
     let mut header = [0; 4096];
@@ -95,10 +102,15 @@ fn make_store<D: Disk>(disk: &mut D, blocks: u32) -> Result<(), Refusal>
     requires most { blocks ≤ 2 ^ 20 }
     ensures any { Goes (result ≡ Err Refusal.Device) (D.state disk.old) (D.state disk.new) }
     ensures refusals { IfErr result (λ r. (r ≡ Refusal.AlreadyAStore) ⊎ (r ≡ Refusal.Device)) }
-    ensures already { (D.state disk.new).honest ≡ true → result ≡ Err Refusal.AlreadyAStore → IsHeader (block (D.state disk.old).now.contents 0) }
-    ensures was_there { (D.state disk.new).honest ≡ true → IsHeader (block (D.state disk.old).now.contents 0) → IsErr result × ((D.state disk.new).now.contents ≡ (D.state disk.old).now.contents) }
-    ensures formatted { (D.state disk.new).honest ≡ true → OnOk result (IsFormatted blocks (D.state disk.new).now) }
-    ensures moments { (D.state disk.new).honest ≡ true → Throughout (D.state disk.old) (D.state disk.new) (IsFormatting (D.state disk.old).now) }
+    ensures already { (D.state disk.new).honest ≡ true → result ≡ Err Refusal.AlreadyAStore
+        → IsHeader (block (D.state disk.old).now.contents 0) }
+    ensures was_there { (D.state disk.new).honest ≡ true
+        → IsHeader (block (D.state disk.old).now.contents 0)
+        → IsErr result × ((D.state disk.new).now.contents ≡ (D.state disk.old).now.contents) }
+    ensures formatted { (D.state disk.new).honest ≡ true
+        → OnOk result (IsFormatted blocks (D.state disk.new).now) }
+    ensures moments { (D.state disk.new).honest ≡ true
+        → Throughout (D.state disk.old) (D.state disk.new) (IsFormatting (D.state disk.old).now) }
 {
     match has_header(disk) {
         Ok(true) => return Err(Refusal::AlreadyAStore),
@@ -124,13 +136,18 @@ pub fn format<D: Disk>(mut disk: D, blocks: u32) -> Result<D, (D, Refusal)>
     ensures refusals { IfErr result (λ e. (e.1 ≡ Refusal.BadSize) ⊎ ((e.1 ≡ Refusal.AlreadyAStore) ⊎ (e.1 ≡ Refusal.Device))) }
 
     // It refuses a store that is there, and leaves it as it was.
-    ensures already { (D.state (given_back result)).honest ≡ true → IsErrAnd result (λ e. e.1 ≡ Refusal.AlreadyAStore) → IsHeader (block (D.state disk).now.contents 0) }
-    ensures was_there { (D.state (given_back result)).honest ≡ true → IsHeader (block (D.state disk).now.contents 0)
+    ensures already { (D.state (given_back result)).honest ≡ true
+        → IsErrAnd result (λ e. e.1 ≡ Refusal.AlreadyAStore)
+        → IsHeader (block (D.state disk).now.contents 0) }
+    ensures was_there { (D.state (given_back result)).honest ≡ true
+        → IsHeader (block (D.state disk).now.contents 0)
         → IsErr result × ((D.state (given_back result)).now.contents ≡ (D.state disk).now.contents) }
 
     // Where it succeeds, a new store is shown. At each moment before, a crash shows at most that.
-    ensures formatted { (D.state (given_back result)).honest ≡ true → OnOk result (IsFormatted blocks (D.state (given_back result)).now) }
-    ensures moments { (D.state (given_back result)).honest ≡ true → Throughout (D.state disk) (D.state (given_back result)) (IsFormatting (D.state disk).now) }
+    ensures formatted { (D.state (given_back result)).honest ≡ true
+        → OnOk result (IsFormatted blocks (D.state (given_back result)).now) }
+    ensures moments { (D.state (given_back result)).honest ≡ true
+        → Throughout (D.state disk) (D.state (given_back result)) (IsFormatting (D.state disk).now) }
 {
     if blocks < LEAST_BLOCKS || blocks > MOST_BLOCKS || blocks > disk.blocks() {
         return Err((disk, Refusal::BadSize));

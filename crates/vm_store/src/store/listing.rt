@@ -1,8 +1,7 @@
 //! The query for all records of an alternative.
 ghost use Rattle.std.specs.Prelude.{◌≡◌, ◌≢◌, ◌⊎◌, true, false};
 ghost use Rattle.vm_types.specs.State.{State};
-ghost use Rattle.vm_disk.specs.Disk.{Goes};
-ghost use Rattle.vm_disk.specs.Moments.{OnlyReads};
+
 ghost use Rattle.vm_types.specs.Queries.{IsList, records_in};
 
 use super::Store;
@@ -14,21 +13,22 @@ use vm_tree::scan;
 use vm_types::{Key, Name, Refusal, Value};
 
 impl<D: Disk> Store<D> {
-    ghost use Rattle.vm_store.specs.Store.{disk_of, has_failed, Holds, IsSameButDisk};
+    ghost use Rattle.vm_store.specs.Store.{has_failed, Holds, IsSameButDisk, IsHonest, GoesOn, ReadsAlone};
 
     /// All records in the working state of an alternative, by rising keys.
     pub fn list(&mut self, alloc: Global, alt: &Name) -> Result<Vec<(Key, Value)>, Refusal>
-        ensures any { Goes (result ≡ Err Refusal.Device) (D.state (disk_of self.old)) (D.state (disk_of self.new)) }
+        ensures any { GoesOn (result ≡ Err Refusal.Device) self.old self.new }
         ensures failed { has_failed self.new ≡ has_failed self.old }
         ensures refused { has_failed self.old ≡ true → result ≡ Err Refusal.Failed }
         ensures no_calls { has_failed self.old ≡ true → self.new ≡ self.old }
         ensures only_then { has_failed self.old ≡ false → result ≢ Err Refusal.Failed }
         ensures unchanged { IsSameButDisk self.old self.new }
 
-        ensures value { (D.state (disk_of self.new)).honest ≡ true → has_failed self.old ≡ false → (s : State) → Holds self.old s
+        ensures value { IsHonest self.new → has_failed self.old ≡ false → (s : State)
+            → Holds self.old s
             → IsList result (records_in s.working alt.now) }
-        ensures state { (D.state (disk_of self.new)).honest ≡ true → (s : State) → Holds self.old s → Holds self.new s }
-        ensures reads { (D.state (disk_of self.new)).honest ≡ true → OnlyReads (D.state (disk_of self.old)) (D.state (disk_of self.new)) }
+        ensures state { IsHonest self.new → (s : State) → Holds self.old s → Holds self.new s }
+        ensures reads { IsHonest self.new → ReadsAlone self.old self.new }
     {
         if self.failed {
             return Err(Refusal::Failed);

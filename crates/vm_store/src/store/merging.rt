@@ -2,12 +2,6 @@
 ghost use Rattle.std.specs.Prelude.{◌≡◌, ◌≢◌, true, OnErr, IfErr};
 ghost use Rattle.vm_types.specs.State.{State, next};
 ghost use Rattle.vm_types.specs.declared.command.Command.TheVariants.{Merge};
-ghost use Rattle.vm_types.specs.Kept.{LeftBy};
-ghost use Rattle.vm_disk.specs.Disk.{Goes};
-ghost use Rattle.vm_disk.specs.Moments.{Throughout, Leaves};
-ghost use Rattle.vm_store.specs.Guarded.{IsGuarded};
-ghost use Rattle.vm_store.specs.Answers.{IsEarly};
-ghost use Rattle.vm_store.specs.Shown.{Shows};
 
 use super::Store;
 use crate::changing::make_changes;
@@ -18,23 +12,24 @@ use vm_disk::Disk;
 use vm_types::{Answer, Key, Name, Refusal, Side};
 
 impl<D: Disk> Store<D> {
-    ghost use Rattle.vm_store.specs.Store.{disk_of, has_failed, entries_of, Answers, Holds, IsSameButDisk, held_of};
+    ghost use Rattle.vm_store.specs.Store.{has_failed, entries_of, Answers, Holds, IsHonest, GoesOn, StaysGuarded, CrashLeaves, EarlyKeeps};
 
     // Changes the alternative's records to those of the merge, and makes the parent's records its base. All
     // that takes memory comes before a marking and before the first write.
     pub(super) fn merge(&mut self, alt: &Name, settled: &[(Key, Side)]) -> Result<Answer, Refusal>
-        ensures any { Goes (result ≡ Err Refusal.Device) (D.state (disk_of self.old)) (D.state (disk_of self.new)) }
+        ensures any { GoesOn (result ≡ Err Refusal.Device) self.old self.new }
         ensures failed { has_failed self.new ≡ has_failed self.old }
         ensures never { result ≢ Err Refusal.Failed }
         ensures same { OnErr result (entries_of self.new ≡ entries_of self.old) }
-        ensures unchanged { IfErr result (λ refusal. IsEarly refusal → IsSameButDisk self.old self.new) }
-        ensures answer { (D.state (disk_of self.new)).honest ≡ true → (s : State) (holds : Holds self.old s)
+        ensures unchanged { EarlyKeeps result self.old self.new }
+        ensures answer { IsHonest self.new → (s : State) (holds : Holds self.old s)
             → Answers self.old self.new s holds (Merge alt.now settled.now) result }
-        ensures state { (D.state (disk_of self.new)).honest ≡ true → (s : State) → Holds self.old s → Holds self.new (next s (Merge alt.now settled.now) result) }
-        ensures crash { (D.state (disk_of self.new)).honest ≡ true → (s : State) → Holds self.old s
-            → Throughout (D.state (disk_of self.old)) (D.state (disk_of self.new)) (Leaves (LeftBy Shows s (Merge alt.now settled.now))) }
-        ensures guarded { (D.state (disk_of self.new)).honest ≡ true → (s : State) → Holds self.old s
-            → Throughout (D.state (disk_of self.old)) (D.state (disk_of self.new)) (IsGuarded (held_of self.new)) }
+        ensures state { IsHonest self.new → (s : State) → Holds self.old s
+            → Holds self.new (next s (Merge alt.now settled.now) result) }
+        ensures crash { IsHonest self.new → (s : State) → Holds self.old s
+            → CrashLeaves self.old self.new s (Merge alt.now settled.now) }
+        ensures guarded { IsHonest self.new → (s : State) → Holds self.old s
+            → StaysGuarded self.old self.new }
     {
         let (own, parent) = match pair_of(&self.working, alt) {
             Ok(pair) => pair,

@@ -1,13 +1,13 @@
 //! Opening a store.
 ghost use Rattle.std.specs.Prelude.{◌≡◌, ◌≢◌, ℕ, ◌*◌, ◌≤◌, true, false, List, length, vec_capacity, IfOk, IfErr, OnOk, IsErrAnd, IfSome};
-ghost use Rattle.vm_types.specs.Tree.{Tree};
+
 ghost use Rattle.vm_disk.specs.Disk.{Goes, IsClean, block};
 ghost use Rattle.vm_disk.specs.Moments.{Throughout, OnlyReads};
 ghost use Rattle.vm_block.specs.Selector.{names_b};
 ghost use Rattle.vm_block.specs.Slot.{SlotFits};
 ghost use Rattle.vm_catalog.specs.Catalog.{SlotAt};
-ghost use Rattle.vm_store.specs.Refused.{IsAtMostSynced, IsSynced, IsNoStore, IsRefused, IsStore};
-ghost use Rattle.vm_store.specs.Shown.{Shows, ShowsNothing};
+ghost use Rattle.vm_store.specs.Refused.{IsAtMostSynced, IsSynced, IsRefused, IsStore};
+ghost use Rattle.vm_store.specs.Shown.{ShowsNothing};
 ghost use Rattle.vm_store.specs.Opening.{OpensAs, PartsHold, disk_in};
 ghost use Rattle.vm_store.specs.Store.{has_failed};
 ghost use Rattle.vm_store.specs.Versions.{versions_of};
@@ -33,11 +33,14 @@ const LEAST_BLOCKS: u32 = 64;
 fn find_slot<D: Disk>(disk: &mut D) -> Result<bool, Refusal>
     ensures any { Goes (result ≡ Err Refusal.Device) (D.state disk.old) (D.state disk.new) }
     ensures room { OnOk result (64 ≤ (D.state disk.old).blocks) }
-    ensures moments { (D.state disk.new).honest ≡ true → Throughout (D.state disk.old) (D.state disk.new) (IsAtMostSynced (D.state disk.old).now) }
-    ensures synced { (D.state disk.new).honest ≡ true → result ≢ Err Refusal.Device → IsSynced (D.state disk.old).now (D.state disk.new).now }
+    ensures moments { (D.state disk.new).honest ≡ true
+        → Throughout (D.state disk.old) (D.state disk.new) (IsAtMostSynced (D.state disk.old).now) }
+    ensures synced { (D.state disk.new).honest ≡ true → result ≢ Err Refusal.Device
+        → IsSynced (D.state disk.old).now (D.state disk.new).now }
     ensures found { (D.state disk.new).honest ≡ true
         → IfOk result (λ slot_b. IsStore (D.state disk.old).now.contents × (slot_b ≡ names_b (block (D.state disk.old).now.contents 1))) }
-    ensures refused { (D.state disk.new).honest ≡ true → IfErr result (IsRefused (D.state disk.old).now.contents) }
+    ensures refused { (D.state disk.new).honest ≡ true
+        → IfErr result (IsRefused (D.state disk.old).now.contents) }
 {
     let Ok(()) = disk.sync() else {
         return Err(Refusal::Device);
@@ -56,12 +59,15 @@ fn find_slot<D: Disk>(disk: &mut D) -> Result<bool, Refusal>
 fn load_slot<D: Disk>(alloc: Global, disk: &mut D, slot_b: bool) -> Result<Slot, Refusal>
     requires { 64 ≤ (D.state disk.old).blocks }
     ensures any { Goes (result ≡ Err Refusal.Device) (D.state disk.old) (D.state disk.new) }
-    ensures reads { (D.state disk.new).honest ≡ true → OnlyReads (D.state disk.old) (D.state disk.new) }
+    ensures reads { (D.state disk.new).honest ≡ true
+        → OnlyReads (D.state disk.old) (D.state disk.new) }
     ensures fits { IfOk result (λ slot. SlotFits slot.blocks slot.entries.items) }
     ensures reserved { IfOk result (λ slot. 511 ≤ vec_capacity slot.entries) }
     ensures inside { IfOk result (λ slot. slot.blocks ≤ (D.state disk.old).blocks) }
-    ensures found { (D.state disk.new).honest ≡ true → IfOk result (λ slot. SlotAt (D.state disk.old).now.contents slot_b slot.blocks slot.entries.items) }
-    ensures refused { (D.state disk.new).honest ≡ true → IsStore (D.state disk.old).now.contents → slot_b ≡ names_b (block (D.state disk.old).now.contents 1)
+    ensures found { (D.state disk.new).honest ≡ true
+        → IfOk result (λ slot. SlotAt (D.state disk.old).now.contents slot_b slot.blocks slot.entries.items) }
+    ensures refused { (D.state disk.new).honest ≡ true → IsStore (D.state disk.old).now.contents
+        → slot_b ≡ names_b (block (D.state disk.old).now.contents 1)
         → IfErr result (IsRefused (D.state disk.old).now.contents) }
 {
     match load(alloc, disk, slot_b) {
@@ -110,13 +116,17 @@ fn read_maps<D: Disk>(
     requires fits { SlotFits slot.blocks slot.entries.items }
     requires reserved { 511 ≤ vec_capacity slot.entries }
     ensures any { Goes (result ≡ Err Refusal.Device) (D.state disk.old) (D.state disk.new) }
-    ensures reads { (D.state disk.new).honest ≡ true → OnlyReads (D.state disk.old) (D.state disk.new) }
+    ensures reads { (D.state disk.new).honest ≡ true
+        → OnlyReads (D.state disk.old) (D.state disk.new) }
     ensures inside { IfOk result (λ parts. parts.blocks ≤ (D.state disk.old).blocks) }
-    ensures holds { (D.state disk.new).honest ≡ true → IsClean (D.state disk.old).now → IsStore (D.state disk.old).now.contents
-        → slot_b ≡ names_b (block (D.state disk.old).now.contents 1) → SlotAt (D.state disk.old).now.contents slot_b slot.blocks slot.entries.items
+    ensures holds { (D.state disk.new).honest ≡ true → IsClean (D.state disk.old).now
+        → IsStore (D.state disk.old).now.contents
+        → slot_b ≡ names_b (block (D.state disk.old).now.contents 1)
+        → SlotAt (D.state disk.old).now.contents slot_b slot.blocks slot.entries.items
         → IfOk result (PartsHold (D.state disk.new).now) }
     ensures refused { (D.state disk.new).honest ≡ true → IsStore (D.state disk.old).now.contents
-        → slot_b ≡ names_b (block (D.state disk.old).now.contents 1) → SlotAt (D.state disk.old).now.contents slot_b slot.blocks slot.entries.items
+        → slot_b ≡ names_b (block (D.state disk.old).now.contents 1)
+        → SlotAt (D.state disk.old).now.contents slot_b slot.blocks slot.entries.items
         → IfErr result (IsRefused (D.state disk.old).now.contents) }
 {
     let Slot { blocks, entries } = slot;
@@ -148,10 +158,14 @@ fn read_maps<D: Disk>(
 fn find_store<D: Disk>(alloc: Global, disk: &mut D) -> Result<Parts, Refusal>
     ensures any { Goes (result ≡ Err Refusal.Device) (D.state disk.old) (D.state disk.new) }
     ensures inside { IfOk result (λ parts. parts.blocks ≤ (D.state disk.old).blocks) }
-    ensures moments { (D.state disk.new).honest ≡ true → Throughout (D.state disk.old) (D.state disk.new) (IsAtMostSynced (D.state disk.old).now) }
-    ensures synced { (D.state disk.new).honest ≡ true → OnOk result (IsSynced (D.state disk.old).now (D.state disk.new).now) }
-    ensures holds { (D.state disk.new).honest ≡ true → IfOk result (PartsHold (D.state disk.new).now) }
-    ensures refused { (D.state disk.new).honest ≡ true → IfErr result (IsRefused (D.state disk.old).now.contents) }
+    ensures moments { (D.state disk.new).honest ≡ true
+        → Throughout (D.state disk.old) (D.state disk.new) (IsAtMostSynced (D.state disk.old).now) }
+    ensures synced { (D.state disk.new).honest ≡ true
+        → OnOk result (IsSynced (D.state disk.old).now (D.state disk.new).now) }
+    ensures holds { (D.state disk.new).honest ≡ true
+        → IfOk result (PartsHold (D.state disk.new).now) }
+    ensures refused { (D.state disk.new).honest ≡ true
+        → IfErr result (IsRefused (D.state disk.old).now.contents) }
 {
     match find_slot(disk) {
         Ok(slot_b) => match load_slot(alloc, disk, slot_b) {
@@ -170,15 +184,20 @@ pub fn open<D: Disk>(alloc: Global, mut disk: D) -> Result<Store<D>, (D, Refusal
     ensures well { IfOk result (λ store. has_failed store ≡ false) }
 
     // The store stands for the tree that is shown, and just the spare blocks are free, on a disk that is synced.
-    ensures opened { (D.state (disk_in result)).honest ≡ true → IfOk result (OpensAs (D.state disk).now.contents) }
-    ensures synced { (D.state (disk_in result)).honest ≡ true → OnOk result (IsSynced (D.state disk).now (D.state (disk_in result)).now) }
+    ensures opened { (D.state (disk_in result)).honest ≡ true
+        → IfOk result (OpensAs (D.state disk).now.contents) }
+    ensures synced { (D.state (disk_in result)).honest ≡ true
+        → OnOk result (IsSynced (D.state disk).now (D.state (disk_in result)).now) }
 
     // A refusal has its reason. But for the device and memory it comes exactly where nothing is shown.
-    ensures refused { (D.state (disk_in result)).honest ≡ true → IfErr result (λ e. IsRefused (D.state disk).now.contents e.1) }
-    ensures none { (D.state (disk_in result)).honest ≡ true → IfErr result (λ e. e.1 ≢ Refusal.Device → e.1 ≢ Refusal.Memory → ShowsNothing (D.state disk).now.contents) }
+    ensures refused { (D.state (disk_in result)).honest ≡ true
+        → IfErr result (λ e. IsRefused (D.state disk).now.contents e.1) }
+    ensures none { (D.state (disk_in result)).honest ≡ true
+        → IfErr result (λ e. e.1 ≢ Refusal.Device → e.1 ≢ Refusal.Memory → ShowsNothing (D.state disk).now.contents) }
 
     // At each moment nothing has changed, or all is synced.
-    ensures moments { (D.state (disk_in result)).honest ≡ true → Throughout (D.state disk) (D.state (disk_in result)) (IsAtMostSynced (D.state disk).now) }
+    ensures moments { (D.state (disk_in result)).honest ≡ true
+        → Throughout (D.state disk) (D.state (disk_in result)) (IsAtMostSynced (D.state disk).now) }
 {
     match find_store(alloc, &mut disk) {
         Ok(parts) => {

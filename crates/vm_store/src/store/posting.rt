@@ -1,12 +1,6 @@
 //! The command that makes an alternative's records those of its parent.
 ghost use Rattle.std.specs.Prelude.{◌≡◌, ◌≢◌, true, OnErr, IfErr};
 ghost use Rattle.vm_types.specs.State.{State, next};
-ghost use Rattle.vm_types.specs.Kept.{LeftBy};
-ghost use Rattle.vm_disk.specs.Disk.{Goes};
-ghost use Rattle.vm_disk.specs.Moments.{Throughout, OnlyReads, Leaves};
-ghost use Rattle.vm_store.specs.Guarded.{IsGuarded};
-ghost use Rattle.vm_store.specs.Answers.{IsEarly};
-ghost use Rattle.vm_store.specs.Shown.{Shows};
 
 use super::Store;
 use crate::faults::refusal_of;
@@ -16,24 +10,25 @@ use vm_disk::Disk;
 use vm_types::{Answer, Command, Name, Refusal};
 
 impl<D: Disk> Store<D> {
-    ghost use Rattle.vm_store.specs.Store.{disk_of, has_failed, entries_of, Answers, Holds, IsSameButDisk, held_of};
+    ghost use Rattle.vm_store.specs.Store.{has_failed, entries_of, Answers, Holds, IsHonest, GoesOn, ReadsAlone, StaysGuarded, CrashLeaves, EarlyKeeps};
 
     // Gives the parent the alternative's records, which become the alternative's base, too. The parent must
     // have no other records than that base.
     pub(super) fn post(&mut self, alt: &Name) -> Result<Answer, Refusal>
-        ensures any { Goes (result ≡ Err Refusal.Device) (D.state (disk_of self.old)) (D.state (disk_of self.new)) }
+        ensures any { GoesOn (result ≡ Err Refusal.Device) self.old self.new }
         ensures failed { has_failed self.new ≡ has_failed self.old }
         ensures never { (result ≢ Err Refusal.Failed) × (result ≢ Err Refusal.Memory) }
         ensures same { OnErr result (entries_of self.new ≡ entries_of self.old) }
-        ensures unchanged { IfErr result (λ refusal. IsEarly refusal → IsSameButDisk self.old self.new) }
-        ensures reads { (D.state (disk_of self.new)).honest ≡ true → OnlyReads (D.state (disk_of self.old)) (D.state (disk_of self.new)) }
-        ensures answer { (D.state (disk_of self.new)).honest ≡ true → (s : State) (holds : Holds self.old s)
+        ensures unchanged { EarlyKeeps result self.old self.new }
+        ensures reads { IsHonest self.new → ReadsAlone self.old self.new }
+        ensures answer { IsHonest self.new → (s : State) (holds : Holds self.old s)
             → Answers self.old self.new s holds (Command.Post alt.now) result }
-        ensures state { (D.state (disk_of self.new)).honest ≡ true → (s : State) → Holds self.old s → Holds self.new (next s (Command.Post alt.now) result) }
-        ensures crash { (D.state (disk_of self.new)).honest ≡ true → (s : State) → Holds self.old s
-            → Throughout (D.state (disk_of self.old)) (D.state (disk_of self.new)) (Leaves (LeftBy Shows s (Command.Post alt.now))) }
-        ensures guarded { (D.state (disk_of self.new)).honest ≡ true → (s : State) → Holds self.old s
-            → Throughout (D.state (disk_of self.old)) (D.state (disk_of self.new)) (IsGuarded (held_of self.new)) }
+        ensures state { IsHonest self.new → (s : State) → Holds self.old s
+            → Holds self.new (next s (Command.Post alt.now) result) }
+        ensures crash { IsHonest self.new → (s : State) → Holds self.old s
+            → CrashLeaves self.old self.new s (Command.Post alt.now) }
+        ensures guarded { IsHonest self.new → (s : State) → Holds self.old s
+            → StaysGuarded self.old self.new }
     {
         let (own, parent) = match pair_of(&self.working, alt) {
             Ok(pair) => pair,
