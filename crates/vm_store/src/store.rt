@@ -1,11 +1,9 @@
 //! A store, and its commands and queries.
 ghost use Rattle.std.specs.Prelude.{◌≡◌, ◌≢◌, ◌⊎◌, ◌↔◌, ◌<◌, ◌≤◌, ◌*◌, ◌^◌, true, false, length, ℕ, vec_capacity, OnErr, OnOk, IfOk, IfErr, IsTrue};
 ghost use Rattle.vm_types.specs.State.{State, next};
-
 ghost use Rattle.vm_disk.specs.Moments.{Leaves};
 ghost use Rattle.vm_types.specs.Queries.{value_in};
 ghost use Rattle.vm_store.specs.Answers.{ChangesEntriesAlone, IsEarly, IsMerge};
-
 ghost use Rattle.vm_store.specs.Resting.{spare_of};
 ghost use Rattle.vm_store.specs.Shown.{Shows};
 

@@ -1,7 +1,6 @@
 //! Checkpoints: made, taken out, gone back to, and listed. No call here makes a device call.
 ghost use Rattle.std.specs.Prelude.{◌≡◌, ◌≢◌, ◌⊎◌, true, false, OnErr, IfOk, IfErr};
 ghost use Rattle.vm_types.specs.State.{State, next};
-
 ghost use Rattle.vm_types.specs.Queries.{checkpoints_in};
 
 use super::Store;

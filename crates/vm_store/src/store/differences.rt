@@ -1,7 +1,6 @@
 //! The queries for what an alternative changed since its base, and for its conflicts with its parent.
 ghost use Rattle.std.specs.Prelude.{◌≡◌, ◌≢◌, ◌+◌, ◌≤◌, true, false};
 ghost use Rattle.vm_types.specs.State.{State};
-
 ghost use Rattle.vm_types.specs.Queries.{IsList, changes_in, conflicts_in};
 
 use super::Store;

@@ -1,7 +1,6 @@
 //! The query for all records of an alternative.
 ghost use Rattle.std.specs.Prelude.{◌≡◌, ◌≢◌, ◌⊎◌, true, false};
 ghost use Rattle.vm_types.specs.State.{State};
-
 ghost use Rattle.vm_types.specs.Queries.{IsList, records_in};
 
 use super::Store;

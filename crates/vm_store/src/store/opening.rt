@@ -1,6 +1,5 @@
 //! Opening a store.
 ghost use Rattle.std.specs.Prelude.{◌≡◌, ◌≢◌, ℕ, ◌*◌, ◌≤◌, true, false, List, length, vec_capacity, IfOk, IfErr, OnOk, IsErrAnd, IfSome};
-
 ghost use Rattle.vm_disk.specs.Disk.{Goes, IsClean, block};
 ghost use Rattle.vm_disk.specs.Moments.{Throughout, OnlyReads};
 ghost use Rattle.vm_block.specs.Selector.{names_b};

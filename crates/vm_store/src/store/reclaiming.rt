@@ -1,9 +1,7 @@
 //! Blocks that no version needs.
 ghost use Rattle.std.specs.Prelude.{◌≡◌, ◌≢◌, ◌≤◌, true, false, Ok, Err, IfOk, IfErr, OnOk};
 ghost use Rattle.vm_types.specs.State.{State};
-
 ghost use Rattle.vm_store.specs.Answers.{IsEarly};
-
 ghost use Rattle.vm_store.specs.Resting.{spare_of};
 
 use super::Store;
