@@ -1,13 +1,13 @@
 -- The flags that lie in words, as a list.
-use Rattle.std.proofs.Common.{◌≡◌, ◌≢◌, ℕ, ◌*◌, ◌/◌, ◌<◌, ◌≤◌, min, Bool, true, false, List, ◌++◌, length, get_or, drop, replicate, sym, ◌∙◌, ap, inl, inr, arith, length-append, length-drop}
+use Rattle.std.proofs.Common.{◌≡◌, ◌≢◌, ℕ, ◌+◌, ◌-◌, ◌*◌, ◌/◌, ◌^◌, ◌<◌, ◌≤◌, min, Bool, true, false, List, ◌++◌, length, get_or, drop, replicate, refl, sym, ◌∙◌, ap, inl, inr, arith, length-append, length-drop}
 use Rattle.std.proofs.Math.ListN.{set, length-set}
 use Rattle.std.proofs.lemmas.Bool.{cases_eq, cases_lt, false≢true}
 use Rattle.std.proofs.lemmas.Grind.{common_steps}
-use Rattle.std.proofs.lemmas.List.{ext_get_or, get_or-set_same, get_or-set_other, get_or-replicate, get_or_past, length-replicate}
+use Rattle.std.proofs.lemmas.List.{ext_get_or, get_or-set_same, get_or-set_other, get_or-replicate, get_or_past, get_or_append_left, get_or-append_right, length-replicate}
 use Rattle.std.proofs.lemmas.List.FromFn.{length-map-range_with_len, get_or-map-range_with_len}
 use Rattle.vm_alloc.specs.Flags.{flags_of, IsPacked}
 use Rattle.vm_alloc.specs.Words.{is_bit_set}
-use Rattle.vm_alloc.proofs.WordLemmas.{no_bit}
+use Rattle.vm_alloc.proofs.WordLemmas.{no_bit, same_bits_longer}
 
 pub length-flags_of : (words : List ℕ) (count : ℕ) → length (flags_of words count) ≡ count
 unfolding flags_of
@@ -129,3 +129,37 @@ flag_found words read count r m flags view same least packed found inside =
     sym (flag_read words read count flags m view same inside)
     ∙ ap (λ (k : ℕ). is_bit_set read k) here
     ∙ found (omega (arith, many))
+
+-- ---- the bits behind the flags stay clear
+
+pub packed_set : (words new : List ℕ) (count : ℕ) → IsPacked words count → length new ≡ length words → ((k : ℕ) → count ≤ k → is_bit_set new k ≡ is_bit_set words k) → IsPacked new count
+packed_set words new count packed many same = record {
+  few = packed.few;
+  fits = many ∙ packed.fits;
+  clear = λ k past. same k past ∙ packed.clear k past;
+}
+
+pub packed_copied : (words new : List ℕ) (count others : ℕ) → IsPacked words others → new ≡ words → count ≡ others → IsPacked new count
+packed_copied words new count others packed same many = rw (same, many) packed
+
+-- ---- more flags, clear ones
+
+pub packed_longer : (words new : List ℕ) (count more m : ℕ) → IsPacked words count → count ≤ more → more ≤ 2 ^ 20 → new ≡ words ++ replicate m 0 → length new ≡ (more + 63) / 64 → IsPacked new more
+packed_longer words new count more m packed longer few is fits = record {
+  few = few;
+  fits = fits;
+  clear = λ k past. ap (λ (ws : List ℕ). is_bit_set ws k) is ∙ same_bits_longer words m k ∙ packed.clear k (omega arith);
+}
+
+pub flags_longer : (words new : List ℕ) (count more m : ℕ) (flags : List Bool) → flags_of words count ≡ flags → IsPacked words count → count ≤ more → new ≡ words ++ replicate m 0
+    → flags_of new more ≡ flags ++ replicate (more - length flags) false
+flags_longer words new count more m flags view packed longer is =
+    let many : length flags ≡ count = many_flags words count flags view in
+    let rest : List Bool = replicate (more - length flags) false in
+    same_flags new more (flags ++ rest) (omega (arith, length-append flags rest, length-replicate (more - length flags) false))
+    (λ k within.
+    let bits : is_bit_set new k ≡ is_bit_set words k = ap (λ (ws : List ℕ). is_bit_set ws k) is ∙ same_bits_longer words m k in
+    elim (cases_lt k (length flags)) [
+      | inl inside ↦ get_or_append_left flags rest false k inside ∙ sym (flag_read words words count flags k view refl inside) ∙ sym bits
+      | inr past ↦ get_or-append_right flags rest (length flags) k false refl past ∙ get_or-replicate (more - length flags) (k - length flags) false false (omega arith) ∙ sym (bits ∙ packed.clear k (omega arith))
+    ])

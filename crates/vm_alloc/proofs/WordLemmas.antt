@@ -1,11 +1,11 @@
 -- Bits that lie 64 in a word, and what a write of one word does to them.
-use Rattle.std.proofs.Common.{◌≡◌, ◌≢◌, ℕ, ◌+◌, ◌*◌, ◌-◌, ◌/◌, ◌%◌, ◌^◌, ◌<◌, ◌≤◌, max, true, false, eqb, List, length, get_or, replicate, refl, sym, ◌∙◌, ap, inl, inr, arith}
+use Rattle.std.proofs.Common.{◌≡◌, ◌≢◌, ℕ, ◌+◌, ◌*◌, ◌-◌, ◌/◌, ◌%◌, ◌^◌, ◌<◌, ◌≤◌, max, true, false, eqb, List, ◌++◌, length, get_or, replicate, refl, sym, ◌∙◌, ap, inl, inr, arith}
 use Rattle.std.specs.Int.{bit_at, w64, trailing_ones}
 use Rattle.std.specs.Prelude.{bit_or}
 use Rattle.std.proofs.Math.ListN.{set}
 use Rattle.std.proofs.Math.Nat.{max-eq_right, max-zero}
 use Rattle.std.proofs.lemmas.Bool.{cases_eq, cases_lt}
-use Rattle.std.proofs.lemmas.List.{get_or-set_same, get_or-set_other, get_or-replicate, get_or_past, length-replicate}
+use Rattle.std.proofs.lemmas.List.{get_or-set_same, get_or-set_other, get_or-replicate, get_or_past, get_or_append_left, get_or-append_right, length-replicate}
 use Rattle.std.proofs.lemmas.Nat.{one_shl}
 use Rattle.std.proofs.lemmas.Nat.Bits.{bit_at-lt, bit_at_or, bit_at_ones, bit_at_ones_above, bit_at_set_same, bit_at_set_other, bit_at-trailing_ones, bit_at-zero}
 use Rattle.vm_alloc.specs.Words.{is_bit_set}
@@ -107,11 +107,24 @@ full_more words i full before k low = elim (cases_lt k (64 * i)) [
       ∙ ap (λ (b : ℕ). eqb b 1) (bit_at_ones 64 (k - 64 * i) (omega arith))
 ]
 
+-- each word is zero, also past the end
+zero_word : (m i : ℕ) → ◌≡◌ {A = ℕ} (get_or (replicate m 0) i 0) 0
+zero_word m i = elim (cases_lt i m) [
+  | inl inside ↦ get_or-replicate m i 0 0 inside
+  | inr past ↦ get_or_past (replicate m 0) i 0 (let zeros : List ℕ = replicate m 0 in let many : length zeros ≡ m = length-replicate m 0 in omega arith)
+]
+
 -- no bit is set in words of zeros
 pub no_bit : (m k : ℕ) → is_bit_set (replicate m 0) k ≡ false
 no_bit m k =
-    let zero_word : get_or (replicate m 0) (k / 64) 0 ≡ 0 = elim (cases_lt (k / 64) m) [
-      | inl inside ↦ get_or-replicate m (k / 64) 0 0 inside
-      | inr past ↦ get_or_past (replicate m 0) (k / 64) 0 (let zeros : List ℕ = replicate m 0 in let many : length zeros ≡ m = length-replicate m 0 in omega arith)
+    ap (λ (w : ℕ). eqb (bit_at w (k % 64)) 1) (zero_word m (k / 64)) ∙ ap (λ (b : ℕ). eqb b 1) (bit_at-zero (k % 64))
+
+-- words of zeros behind the others change no bit
+pub same_bits_longer : (words : List ℕ) (m k : ℕ) → is_bit_set (words ++ replicate m 0) k ≡ is_bit_set words k
+same_bits_longer words m k =
+    let zeros : List ℕ = replicate m 0 in
+    let same_word : get_or (words ++ zeros) (k / 64) 0 ≡ get_or words (k / 64) 0 = elim (cases_lt (k / 64) (length words)) [
+      | inl inside ↦ get_or_append_left words zeros 0 (k / 64) inside
+      | inr past ↦ get_or-append_right words zeros (length words) (k / 64) 0 refl past ∙ zero_word m (k / 64 - length words) ∙ sym (get_or_past words (k / 64) 0 past)
     ] in
-    ap (λ (w : ℕ). eqb (bit_at w (k % 64)) 1) zero_word ∙ ap (λ (b : ℕ). eqb b 1) (bit_at-zero (k % 64))
+    ap (λ (w : ℕ). eqb (bit_at w (k % 64)) 1) same_word

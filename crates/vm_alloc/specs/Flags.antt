@@ -1,4 +1,4 @@
-use Rattle.std.specs.Prelude.{◌≡◌, ℕ, ◌+◌, ◌/◌, ◌≤◌, ◌^◌, Bool, List, length, map}
+use Rattle.std.specs.Prelude.{◌≡◌, ℕ, ◌+◌, ◌/◌, ◌≤◌, ◌^◌, Bool, false, List, length, map}
 use Rattle.std.specs.List.{range_with_len}
 use Rattle.vm_alloc.specs.Words.{is_bit_set}
 
@@ -6,7 +6,8 @@ use Rattle.vm_alloc.specs.Words.{is_bit_set}
 unfoldable pub flags_of : List ℕ → ℕ → List Bool
 flags_of words count = map (is_bit_set words) (range_with_len 0 count)
 
--- there are just as many words as the flags need
+-- there are just as many words as the flags need, and no bit behind the flags is set
 pub record IsPacked (words : List ℕ) (count : ℕ) : Type 0 where
   pub few : count ≤ 2 ^ 20
   pub fits : length words ≡ (count + 63) / 64
+  pub clear : (k : ℕ) → count ≤ k → is_bit_set words k ≡ false

@@ -1,5 +1,5 @@
 //! A fixed number of flags, of which a contract sees the list.
-ghost use Rattle.std.specs.Prelude.{◌≡◌, ℕ, ◌^◌, ◌<◌, ◌≤◌, ◌++◌, true, false, length, replicate, drop, slice_index_or, slice_set, IfOk};
+ghost use Rattle.std.specs.Prelude.{◌≡◌, ℕ, ◌-◌, ◌^◌, ◌<◌, ◌≤◌, ◌++◌, true, false, length, replicate, drop, slice_index_or, slice_set, IfOk};
 
 use crate::words::{bit, first_clear_bit, set_bit, set_first_bits};
 use std::alloc::{AllocError, Global};
@@ -31,6 +31,18 @@ impl Flags {
             words: vec![in alloc; 0; count.div_ceil(64)]?,
             count,
         })
+    }
+
+    // A copy with so many flags in all, of which those behind its own are clear.
+    pub(crate) fn extended(&self, alloc: Global, count: usize) -> Result<Flags, AllocError>
+        requires longer { length self.now ≤ count }
+        requires few { count ≤ 2 ^ 20 }
+        ensures { IfOk result (λ flags. flags ≡ self.now ++ replicate (count - length self.now) false) }
+    {
+        let mut words = Vec::with_capacity(alloc, count.div_ceil(64))?;
+        words.extend_from_slice(self.words.as_slice())?;
+        words.resize(count.div_ceil(64), 0)?;
+        Ok(Flags { words, count })
     }
 
     pub(crate) fn len(&self) -> usize

@@ -1,4 +1,4 @@
-ghost use Rattle.std.specs.Prelude.{◌≡◌, ℕ, ◌↔◌, ◌<◌, ◌≤◌, true, false, length, slice_get, slice_set, IsTrue, IsNone, IfOk, IfSome, IfNone};
+ghost use Rattle.std.specs.Prelude.{◌≡◌, ℕ, ◌↔◌, ◌+◌, ◌-◌, ◌<◌, ◌≤◌, ◌++◌, true, false, length, replicate, slice_get, slice_set, IsTrue, IsNone, IfOk, IfSome, IfNone};
 ghost use Rattle.vm_alloc.specs.Held.{is_held, IsHeld, free_count, HoldsMore};
 ghost use Rattle.vm_alloc.specs.Marks.{is_marked};
 
@@ -31,7 +31,7 @@ impl Model for Held {
 }
 
 impl Held {
-    /// Blocks 0 to 33 are held. The only call that takes memory.
+    /// Blocks 0 to 33 are held. No call but this one and `extended` takes memory.
     pub fn new(alloc: Global, blocks: u32) -> Result<Held, AllocError>
         requires enough { 64 ≤ blocks }
         requires few { blocks ≤ 1048576 }
@@ -44,6 +44,22 @@ impl Held {
             flags,
             free: blocks - FIRST_DATA,
             lowest: 0,
+        })
+    }
+
+    /// A copy with so many blocks in all, of which the new ones are free.
+    pub fn extended(&self, alloc: Global, blocks: u32) -> Result<Held, AllocError>
+        requires longer { length self.now ≤ blocks }
+        requires few { blocks ≤ 1048576 }
+        ensures blocks { IfOk result (λ held. held ≡ self.now ++ replicate (blocks - length self.now) false) }
+        ensures count { IfOk result (λ held. length held ≡ blocks) }
+        ensures free { IfOk result (λ held. free_count held ≡ free_count self.now + (blocks - length self.now)) }
+    {
+        let new_blocks = blocks - self.blocks();
+        Ok(Held {
+            flags: self.flags.extended(alloc, blocks as usize)?,
+            free: self.free + new_blocks,
+            lowest: self.lowest,
         })
     }
 

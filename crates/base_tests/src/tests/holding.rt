@@ -1,11 +1,17 @@
 //! Held blocks and marks, of one word of flags and of more.
+use std::alloc::{AllocError, Global};
 use std::process::Abort;
 use std::test::Fail;
 use vm_alloc::{Held, Marks};
 
 // Takes all blocks for data, of so many in all.
 fn take_all(rt: &impl Abort, held: &mut Held, blocks: u32) {
-    for n in 34..blocks {
+    take_all_from(rt, held, 34, blocks);
+}
+
+// Takes all free blocks, which are those from `first` on, of so many in all.
+fn take_all_from(rt: &impl Abort, held: &mut Held, first: u32, blocks: u32) {
+    for n in first..blocks {
         assert_eq!(rt; held.take(), Some(n));
     }
     assert_eq!(rt; held.take(), None);
@@ -81,6 +87,42 @@ fn holds_the_most_blocks(rt: HostRuntime) -> Result<(), Fail> {
     assert_eq!(rt; held.take(), Some(34));
     assert!(rt; held.blocks() == 1_048_576);
     assert!(rt; !held.is_held(1_048_575));
+    Ok(())
+}
+
+// A copy with so many blocks.
+fn extended(rt: &impl Abort, held: &Held, alloc: Global, blocks: u32) -> Result<Held, AllocError> {
+    assert!(rt; held.blocks() <= blocks);
+    assert!(rt; blocks <= 1_048_576);
+    held.extended(alloc, blocks)
+}
+
+#[test]
+fn extends_within_a_word_and_past_it(rt: HostRuntime) -> Result<(), Fail> {
+    let mut held = Held::new(rt.alloc(), 70)?;
+    take(&rt, &mut held, 34);
+    take(&rt, &mut held, 35);
+    for blocks in [70, 71, 128, 129, 1000] {
+        let mut longer = extended(&rt, &held, rt.alloc(), blocks)?;
+        assert_eq!(rt; longer.blocks(), blocks);
+        assert_eq!(rt; longer.free_count(), blocks - 36);
+        assert!(rt; is_held(&rt, &longer, 35));
+        assert!(rt; !is_held(&rt, &longer, 36));
+        assert!(rt; !is_held(&rt, &longer, blocks - 1));
+        take(&rt, &mut longer, 36);
+    }
+    assert_eq!(rt; held.blocks(), 70);
+    assert_eq!(rt; held.free_count(), 34);
+    take_all_from(&rt, &mut held, 36, 70);
+    Ok(())
+}
+
+#[test]
+fn extends_full_blocks(rt: HostRuntime) -> Result<(), Fail> {
+    let mut held = Held::new(rt.alloc(), 64)?;
+    take_all(&rt, &mut held, 64);
+    let mut longer = extended(&rt, &held, rt.alloc(), 66)?;
+    take_all_from(&rt, &mut longer, 64, 66);
     Ok(())
 }
 

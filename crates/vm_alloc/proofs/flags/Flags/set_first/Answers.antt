@@ -1,7 +1,8 @@
 use Rattle.std.proofs.Common.{◌∙◌, ℕ, List, ap, arith}
 use Rattle.std.proofs.lemmas.List.{with_items_is}
 use Rattle.vm_alloc.specs.Flags.{flags_of}
-use Rattle.vm_alloc.proofs.FlagLemmas.{word_inside, first_written}
+use Rattle.vm_alloc.specs.Words.{is_bit_set}
+use Rattle.vm_alloc.proofs.FlagLemmas.{word_inside, many_flags, packed_set, first_written}
 use Rattle.vm_alloc.proofs.flags.Flags.set_first.Goals as goal
 
 pub set_first_bits-requires-clause-some : goal.set_first_bits-requires-clause-some
@@ -12,3 +13,10 @@ returns c =
     ap (λ (words : List ℕ). flags_of words c.self.inside.count) (with_items_is c.self.inside.words c.set_first_bits.new.words (omega arith))
     ∙ first_written c.self.inside.words.items c.as_mut_slice.result.now c.set_first_bits.new.words c.self.inside.count c.args.count c.args.self.now
     c.self.view_is c.as_mut_slice.ensures.value c.requires.within c.set_first_bits.ensures.first c.set_first_bits.ensures.others
+
+pub invariant_of-self : goal.invariant_of-self
+invariant_of-self c =
+    rw (with_items_is c.self.inside.words c.set_first_bits.new.words (omega arith))
+    (packed_set c.self.inside.words.items _ c.self.inside.count c.self.invariant (omega arith) (λ k past.
+    c.set_first_bits.ensures.others k (omega (arith, c.requires.within, many_flags _ _ c.args.self.now c.self.view_is))
+    ∙ ap (λ (words : List ℕ). is_bit_set words k) c.as_mut_slice.ensures.value))
