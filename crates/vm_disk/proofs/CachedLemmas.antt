@@ -1,9 +1,9 @@
 -- The kept blocks have the bytes of the disk below, after each way through a call.
-use Rattle.std.proofs.Common.{◌≡◌, ◌⊎◌, ℕ, Bool, true, false, List, nat_eq, Some, Result, Ok, refl, sym, ap, ◌∙◌, subst, inl, inr}
+use Rattle.std.proofs.Common.{◌≡◌, ◌⊎◌, ℕ, ◌<◌, Bool, true, false, List, length, nat_eq, Some, Result, Ok, refl, sym, ap, ◌∙◌, subst, inl, inr, arith}
 use Rattle.std.specs.Bool.{OnTrue, OnFalse}
 use Rattle.std.specs.Map.{lookup, remove_entry}
 use Rattle.vm_disk.specs.declared.disk.DeviceFault.{DeviceFault}
-use Rattle.vm_disk.specs.Disk.{State, Medium, Contents, block, Counts, Reads, Writes}
+use Rattle.vm_disk.specs.Disk.{State, Medium, Contents, block, Counts, Reads, Writes, Extends, Enlarges}
 use Rattle.vm_disk.specs.Kept.{Entries, keeps, with_first, AreOf}
 use Rattle.vm_disk.proofs.KeptLemmas.{first_are_of, others_are_of, rest_are_of}
 
@@ -20,6 +20,16 @@ on_false P b misses h = let R : Bool → Type 0 = λ x. OnFalse x P in subst R m
 same_right : (contents : Contents) (es es' : Entries) → es' ≡ es → AreOf contents es → AreOf contents es'
 same_right contents es es' is right = subst (AreOf contents) (sym is) right
 
+-- block n was one of the disk's, which then holds each of its blocks where it is honest
+pub record IsInside (n : ℕ) (old new : State) : Type 0 where
+  pub there : n < old.blocks
+  pub whole : new.honest ≡ true → length new.now.contents ≡ new.blocks
+
+is_inside : {T : Type 0} (reads : ℕ) (result : Result T DeviceFault) (old new : State) (n : ℕ) → IsInside n old new → Counts reads result old new → new.honest ≡ true → n < length new.now.contents
+is_inside reads result old new n inside counts honest =
+    let all = inside.whole honest in
+    omega (arith, all, inside.there, counts.same_blocks)
+
 -- a kept block was read
 pub right_after_hit : (s : State) (n limit : ℕ) (bytes : List ℕ) (es es' : Entries) (hit : Bool) → hit ≡ true
     → OnTrue hit (lookup (nat_eq n) es ≡ Some bytes) → OnTrue hit (es' ≡ with_first limit n bytes es)
@@ -28,7 +38,7 @@ right_after_hit s n limit bytes es es' hit hits found is right honest =
     let contents = s.now.contents in
     let there = on_true (lookup (nat_eq n) es ≡ Some bytes) hit hits found in
     same_right contents _ es' (on_true (es' ≡ with_first limit n bytes es) hit hits is)
-    (first_are_of contents contents n (λ k apart. refl) limit bytes es (sym (right honest n bytes there)) (right honest))
+    (first_are_of contents contents n refl (λ k apart. refl) limit bytes es (right honest n bytes there).0 (sym (right honest n bytes there).1) (right honest))
 
 either_right : (contents : Contents) (first es es' : Entries) (kept refused : Type 0) → ((kept × (es' ≡ first)) ⊎ (refused × (es' ≡ es)))
     → AreOf contents first → AreOf contents es → AreOf contents es'
@@ -37,11 +47,11 @@ either_right contents first es es' kept refused (inr w) right_first right = same
 
 -- another block was read below
 pub right_after_miss : {T : Type 0} (result : Result T DeviceFault) (x : T) (old new : State) (n limit : ℕ) (bytes : List ℕ) (es mid es' : Entries) (hit : Bool) (kept refused : Type 0)
-    → result ≡ Ok x → hit ≡ false → OnFalse hit (mid ≡ es)
+    → result ≡ Ok x → hit ≡ false → OnFalse hit (mid ≡ es) → IsInside n old new
     → Counts 1 result old new → (new.honest ≡ true → Reads n bytes result old new)
     → ((kept × (es' ≡ with_first limit n bytes mid)) ⊎ (refused × (es' ≡ mid)))
     → AreRight old es → AreRight new es'
-right_after_miss {T} result x old new n limit bytes es mid es' hit kept refused ok misses missed counts reads is right honest =
+right_after_miss {T} result x old new n limit bytes es mid es' hit kept refused ok misses missed inside counts reads is right honest =
     let before = on_false (mid ≡ es) hit misses missed in
     let R : Result T DeviceFault → Type 0 = λ r. Reads n bytes r old new in
     let read : Reads n bytes (Ok x) old new = subst R ok (reads honest) in
@@ -50,34 +60,34 @@ right_after_miss {T} result x old new n limit bytes es mid es' hit kept refused 
     let now : AreOf new.now.contents mid = subst (λ c. AreOf c mid) (sym same) was in
     let contents = new.now.contents in
     either_right contents _ mid es' kept refused is
-    (first_are_of contents contents n (λ k apart. refl) limit bytes mid (ap (λ c. block c n) same ∙ sym read.bytes_are) now) now
+    (first_are_of contents contents n refl (λ k apart. refl) limit bytes mid (is_inside 1 result old new n inside counts honest) (ap (λ c. block c n) same ∙ sym read.bytes_are) now) now
 
 -- a kept block was written
 pub right_after_change : {T : Type 0} (result : Result T DeviceFault) (x : T) (old new : State) (n limit : ℕ) (bytes : List ℕ) (es es' : Entries) (changed : Bool)
-    → result ≡ Ok x → changed ≡ true → OnTrue changed (es' ≡ with_first limit n bytes es)
+    → result ≡ Ok x → changed ≡ true → OnTrue changed (es' ≡ with_first limit n bytes es) → IsInside n old new
     → Counts 0 result old new → (new.honest ≡ true → Writes n bytes result old new)
     → AreRight old es → AreRight new es'
-right_after_change {T} result x old new n limit bytes es es' changed ok hits is counts writes right honest =
+right_after_change {T} result x old new n limit bytes es es' changed ok hits is inside counts writes right honest =
     let R : Result T DeviceFault → Type 0 = λ r. Writes n bytes r old new in
     let written : Writes n bytes (Ok x) old new = subst R ok (writes honest) in
     same_right new.now.contents _ es' (on_true (es' ≡ with_first limit n bytes es) changed hits is)
-    (first_are_of old.now.contents new.now.contents n written.others limit bytes es written.written (right (counts.earlier honest)))
+    (first_are_of old.now.contents new.now.contents n written.count written.others limit bytes es (is_inside 0 result old new n inside counts honest) written.written (right (counts.earlier honest)))
 
 -- another block was written
 pub right_after_write : {T : Type 0} (result : Result T DeviceFault) (x : T) (old new : State) (n limit : ℕ) (bytes : List ℕ) (es mid es' : Entries) (changed : Bool) (kept refused : Type 0)
-    → result ≡ Ok x → changed ≡ false → changed ≡ keeps n es → OnFalse changed (mid ≡ es)
+    → result ≡ Ok x → changed ≡ false → changed ≡ keeps n es → OnFalse changed (mid ≡ es) → IsInside n old new
     → Counts 0 result old new → (new.honest ≡ true → Writes n bytes result old new)
     → ((kept × (es' ≡ with_first limit n bytes mid)) ⊎ (refused × (es' ≡ mid)))
     → AreRight old es → AreRight new es'
-right_after_write {T} result x old new n limit bytes es mid es' changed kept refused ok misses answer missed counts writes is right honest =
+right_after_write {T} result x old new n limit bytes es mid es' changed kept refused ok misses answer missed inside counts writes is right honest =
     let before = on_false (mid ≡ es) changed misses missed in
     let R : Result T DeviceFault → Type 0 = λ r. Writes n bytes r old new in
     let written : Writes n bytes (Ok x) old new = subst R ok (writes honest) in
     let was : AreOf old.now.contents mid = same_right old.now.contents es mid before (right (counts.earlier honest)) in
     let gone : keeps n mid ≡ false = ap (keeps n) before ∙ sym answer ∙ misses in
     either_right new.now.contents _ mid es' kept refused is
-    (first_are_of old.now.contents new.now.contents n written.others limit bytes mid written.written was)
-    (others_are_of old.now.contents new.now.contents n written.others mid gone was)
+    (first_are_of old.now.contents new.now.contents n written.count written.others limit bytes mid (is_inside 0 result old new n inside counts honest) written.written was)
+    (others_are_of old.now.contents new.now.contents n written.count written.others mid gone was)
 
 -- a write failed
 pub right_after_fault : {T : Type 0} (result : Result T DeviceFault) (old new : State) (n : ℕ) (bytes : List ℕ) (es es' : Entries)
@@ -86,4 +96,13 @@ pub right_after_fault : {T : Type 0} (result : Result T DeviceFault) (old new : 
     → AreRight old es → AreRight new es'
 right_after_fault result old new n bytes es es' is gone counts writes right honest =
     same_right new.now.contents _ es' is
-    (rest_are_of old.now.contents new.now.contents n (writes honest).others es (sym (ap (keeps n) is) ∙ gone) (right (counts.earlier honest)))
+    (rest_are_of old.now.contents new.now.contents n (writes honest).count (writes honest).others es (sym (ap (keeps n) is) ∙ gone) (right (counts.earlier honest)))
+
+-- the disk grew
+pub right_after_growing : {T : Type 0} (blocks : ℕ) (result : Result T DeviceFault) (old new : State) (es : Entries)
+    → Extends blocks result old new → (new.honest ≡ true → Enlarges old new)
+    → AreRight old es → AreRight new es
+right_after_growing blocks result old new es extends enlarges right honest n bytes found =
+    let longer = (enlarges honest).longer in
+    let was = right (extends.earlier honest) n bytes found in
+    (omega (arith, was.0, longer.more), was.1 ∙ sym (longer.same n was.0))

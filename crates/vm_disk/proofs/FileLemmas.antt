@@ -1,35 +1,47 @@
 -- How the calls of a file show as calls of a disk over it.
-use Rattle.std.proofs.Common.{◌≡◌, ◌≢◌, ◌⊎◌, inl, inr, ℕ, ◌+◌, ◌-◌, ◌*◌, ◌/◌, ◌^◌, min, ◌<◌, ◌≤◌, ◌&&◌, ◌||◌, nat_le, Bool, true, false, List, [], ◌∷◌, length, map, replicate, take, drop, Result, Ok, Err, OnOk, refl, sym, ◌∙◌, ap, subst, arith}
-use Rattle.std.proofs.lemmas.Bool.{and_parts, and_from, and_left, and_right, or_left, lt-ltb, le-ltb, leb-true, le-leb, cases_order, cases_lt}
-use Rattle.std.proofs.lemmas.List.{get_or_past, length-replicate}
+use Rattle.std.proofs.Common.{◌≡◌, ◌≢◌, ◌⊎◌, inl, inr, ℕ, ◌+◌, ◌-◌, ◌*◌, ◌/◌, ◌^◌, min, ◌<◌, ◌≤◌, ◌&&◌, ◌||◌, nat_lt, nat_le, Bool, true, false, List, [], ◌∷◌, length, map, replicate, take, drop, Result, Ok, Err, OnOk, refl, sym, ◌∙◌, ap, subst, arith}
+use Rattle.std.proofs.lemmas.Bool.{and_parts, and_from, and_left, and_right, or_left, lt-ltb, le-ltb, leb-true, le-leb, lt-leb, cases_order, cases_lt}
+use Rattle.std.proofs.Math.Nat.{le_refl, min-eq_left}
+use Rattle.std.proofs.lemmas.List.{get_or_past}
 use Rattle.std.proofs.lemmas.List.FromFn.{length-map-range_with_len, get_or-map-range_with_len}
 use Rattle.vm_disk.specs.declared.disk.DeviceFault.{DeviceFault}
-use Rattle.vm_disk.specs.Disk.{block, Medium, State, Reads, Writes, Syncs}
+use Rattle.vm_disk.specs.Disk.{block, Medium, State, IsClean, Reads, Writes, Syncs, Lengthens, Enlarges}
 use Rattle.vm_disk.specs.Positional.{FileState, overwritten, IsTorn, ReadsAt, WritesAt, SyncsFile}
 use Rattle.vm_disk.specs.Past.{noted}
+use Rattle.vm_disk.specs.declared.file.Earlier.{Earlier}
 use Rattle.vm_disk.specs.declared.file.FileDisk.{FileDisk}
-use Rattle.vm_disk.specs.File.{file_state, file_block, file_blocks, touches, is_touched, file_medium, was_whole, IsOver, IsOpened, IsZero, StaysHonest}
+use Rattle.vm_disk.specs.File.{Part, file_state, file_block, file_blocks, touches, is_touched, is_unsure, file_medium, was_whole, part_of, part_then, IsPart, IsOver, IsMade, IsOpened, IsZero, AddsZeros, StaysHonest, unsure_dirty}
 use Rattle.vm_disk.proofs.OverwrittenLemmas.{overwritten_at, overwritten_before, overwritten_after, overwritten_no_shorter}
 use Rattle.vm_disk.proofs.ZeroLemmas.{zero_blocks}
 
 -- the file is honest after the call
-pub file_is_honest : (count : ℕ) (new : FileState) (past : List FileState) → (new.honest && was_whole count (new ∷ past)) ≡ true → new.honest ≡ true
-file_is_honest count new past honest =
-    let now = and_parts new.honest (was_whole count (new ∷ past)) honest in now.0
+pub file_is_honest : (now : Part) (past : List Part) → (now.file.honest && was_whole (now ∷ past)) ≡ true → now.file.honest ≡ true
+file_is_honest now past honest =
+    let parts = and_parts now.file.honest (was_whole (now ∷ past)) honest in parts.0
 
 -- the file was long enough before the call
-pub long_before : (count : ℕ) (old new : FileState) (past : List FileState) → (new.honest && was_whole count (new ∷ old ∷ past)) ≡ true → 4096 * count ≤ length old.bytes
-long_before count old new past honest =
-    let now = and_parts new.honest (was_whole count (new ∷ old ∷ past)) honest in
-    let before = and_parts (nat_le (4096 * count) (length new.bytes)) (was_whole count (old ∷ past)) now.1 in
-    let then = and_parts (nat_le (4096 * count) (length old.bytes)) (was_whole count past) before.1 in
-    leb-true (4096 * count) (length old.bytes) then.0
+pub long_before : (now old : Part) (past : List Part) → (now.file.honest && was_whole (now ∷ old ∷ past)) ≡ true → 4096 * old.blocks ≤ length old.file.bytes
+long_before now old past honest =
+    let parts = and_parts now.file.honest (was_whole (now ∷ old ∷ past)) honest in
+    let before = and_parts (nat_le (4096 * now.blocks) (length now.file.bytes)) (was_whole (old ∷ past)) parts.1 in
+    let then = and_parts (nat_le (4096 * old.blocks) (length old.file.bytes)) (was_whole past) before.1 in
+    leb-true (4096 * old.blocks) (length old.file.bytes) then.0
 
 -- a file that stays as it was shows what it showed
-pub same_shown : (count : ℕ) (old new : FileState) → new.bytes ≡ old.bytes → new.waiting ≡ old.waiting → file_medium count new ≡ file_medium count old
-same_shown count old new bytes waiting =
-    let shown : List ℕ → List (ℕ × ℕ) → Medium = λ bs ws. record { contents = file_blocks count bs; dirty = is_touched ws } in
+pub same_shown : (count sure : ℕ) (old new : FileState) → new.bytes ≡ old.bytes → new.waiting ≡ old.waiting
+    → file_medium (record { file = new; blocks = count; sure = sure }) ≡ file_medium (record { file = old; blocks = count; sure = sure })
+same_shown count sure old new bytes waiting =
+    let shown : List ℕ → List (ℕ × ℕ) → Medium = λ bs ws. file_medium (record { file = record { honest = true; bytes = bs; waiting = ws; failures = 0 }; blocks = count; sure = sure }) in
     ap (λ bs. shown bs new.waiting) bytes ∙ ap (λ ws. shown old.bytes ws) waiting
+
+-- where all blocks are sure and no write waits, none is dirty
+pub sure_is_clean : (count : ℕ) (file : FileState) → file.waiting ≡ [] → IsClean (file_medium (record { file = file; blocks = count; sure = count }))
+sure_is_clean count file none n =
+    ap (λ ws. is_touched ws n || is_unsure count count n) none ∙ by_order (cases_lt n count)
+  where
+    by_order : (n < count) ⊎ (count ≤ n) → is_unsure count count n ≡ false
+    by_order (inl before) = and_left _ _ (lt-leb (min count count) n (omega arith))
+    by_order (inr past) = and_right _ _ (le-ltb n count past)
 
 -- block n of the disk
 pub block_is : (count n : ℕ) (bytes : List ℕ) → n < count → block (file_blocks count bytes) n ≡ file_block bytes n
@@ -95,9 +107,9 @@ others_touched n k offset size writes at full apart =
     untouched (inr (inr after)) = and_right _ _ (le-ltb (4096 * k) (offset + size) (omega arith))
 
 -- a disk that a file is long enough for
-pub over_whole : (count : ℕ) (file : FileState) (s : State) → IsOver count file s → file.honest ≡ true → 4096 * count ≤ length file.bytes → s.honest ≡ true
-over_whole count file s over honest long =
-    over.honest ∙ and_from _ _ honest (and_from _ _ (le-leb (4096 * count) (length file.bytes) long) refl)
+pub part_whole : (part : Part) (s : State) → IsPart part s → part.file.honest ≡ true → 4096 * part.blocks ≤ length part.file.bytes → s.honest ≡ true
+part_whole part s is honest long =
+    is.honest ∙ and_from _ _ honest (and_from _ _ (le-leb (4096 * part.blocks) (length part.file.bytes) long) refl)
 
 -- a disk of the whole blocks of a file
 pub over_opened : (count : ℕ) (was file : FileState) (s : State) → IsOver count file s → (file.honest ≡ true → was.honest ≡ true) → file.honest ≡ true → file.bytes ≡ was.bytes → file.waiting ≡ was.waiting
@@ -105,144 +117,227 @@ pub over_opened : (count : ℕ) (was file : FileState) (s : State) → IsOver co
     → IsOpened was s
 over_opened count was file s over earlier honest bytes waiting size =
     let same : length file.bytes ≡ length was.bytes = ap length bytes in
+    let whole : ℕ → Part = λ k. record { file = was; blocks = k; sure = k } in
     record {
       file_honest = earlier honest;
-      honest = over_whole count file s over honest (omega arith);
+      honest = part_whole (record { file = file; blocks = count; sure = count }) s over honest (omega arith);
       blocks = over.blocks ∙ size;
-      now = over.now ∙ same_shown count was file bytes waiting ∙ ap (λ k. file_medium k was) (sym over.blocks);
+      now = over.now ∙ same_shown count count was file bytes waiting ∙ ap (λ k. file_medium (whole k)) (sym over.blocks);
     }
 
 -- a disk of a file of zeros
-pub over_zeros : (count : ℕ) (file : FileState) (s : State) → IsOver count file s → file.honest ≡ true → file.bytes ≡ replicate (4096 * count) 0 → IsZero s
-over_zeros count file s over honest zeros =
-    let size : length file.bytes ≡ 4096 * count = ap length zeros ∙ length-replicate (4096 * count) 0 in
+pub made_zeros : (count : ℕ) (was file : FileState) (s : State) → IsMade count file s → file.honest ≡ true → AddsZeros 0 count was file → IsZero s
+made_zeros count was file s made honest zeros =
     record {
-      honest = over_whole count file s over honest (omega arith);
-      zero = ap (λ m. m.contents) over.now ∙ zero_blocks count file.bytes zeros ∙ ap (λ k. replicate k (replicate 4096 0)) (sym over.blocks);
+      honest = part_whole (record { file = file; blocks = count; sure = 0 }) s made honest zeros.long;
+      zero = ap (λ m. m.contents) made.now ∙ zero_blocks count file.bytes (λ n inside. zeros.zero n (omega arith) inside) ∙ ap (λ k. replicate k (replicate 4096 0)) (sym made.blocks);
+    }
+
+-- a part of a file that got zero blocks
+part_longer : (from to sure : ℕ) (old new : FileState) → from ≤ to → sure ≤ from → AddsZeros from to old new
+    → Lengthens (file_medium (record { file = old; blocks = from; sure = sure })) (file_medium (record { file = new; blocks = to; sure = sure }))
+part_longer from to sure old new order known adds =
+    let had = length-map-range_with_len (file_block old.bytes) 0 from in
+    let has = length-map-range_with_len (file_block new.bytes) 0 to in
+    let least : min sure to ≡ min sure from = omega arith in
+    record {
+      more = omega arith;
+      same = λ n before.
+          let here : n < from = omega arith in
+          block_is to n new.bytes (omega arith) ∙ adds.same n here ∙ sym (block_is from n old.bytes here);
+      same_dirty = λ n before.
+          let here : n < from = omega arith in
+          let there : n < to = omega arith in
+          ap (λ t. t || is_unsure sure to n) (adds.same_waiting n here)
+          ∙ ap (λ k. is_touched old.waiting n || nat_le k n && nat_lt n to) least
+          ∙ ap (λ t. is_touched old.waiting n || nat_le (min sure from) n && t) (lt-ltb n to there ∙ sym (lt-ltb n from here));
+      dirty = λ n after before. unsure_dirty sure to new.bytes new.waiting n (omega arith) before;
+      sure = least;
     }
 
 module _ {F : Type 0} (state : F → FileState) where
-  -- one call more was made of the file, which is now this one
-  pub record IsCalled (was now : FileDisk F) (file : F) : Type 0 where
-    pub is : now.file ≡ file
-    pub blocks : now.blocks ≡ was.blocks
-    pub past : noted now.past ≡ was.file ∷ noted was.past
+  -- what it was before, and before that
+  abbrev parts_before : FileDisk F → List Part
+  parts_before was = part_of state was ∷ map (part_then state) (noted was.past)
 
-  still_honest : (was now : FileDisk F) (file : F) → IsCalled was now file → (file_state state now).honest ≡ true
-      → ((state file).honest && was_whole was.blocks (state file ∷ state was.file ∷ map state (noted was.past))) ≡ true
-  still_honest was now file called honest =
-      let shown : F → ℕ → List F → Bool = λ f k fs. (state f).honest && was_whole k (state f ∷ map state fs) in
-      ap (λ f. shown f was.blocks (was.file ∷ noted was.past)) (sym called.is) ∙ ap (λ k. shown now.file k (was.file ∷ noted was.past)) (sym called.blocks) ∙ ap (λ fs. shown now.file now.blocks fs) (sym called.past) ∙ honest
+  -- one call more was made of the file, and the disk is now this part of it
+  pub record IsCalled (was now : FileDisk F) (part : Part) : Type 0 where
+    pub is : part_of state now ≡ part
+    pub earlier : Earlier F
+    pub told : part_then state earlier ≡ part_of state was
+    pub past : noted now.past ≡ earlier ∷ noted was.past
 
-  now_shown : (was now : FileDisk F) (file : F) → IsCalled was now file → (file_state state now).now ≡ file_medium was.blocks (state file)
-  now_shown was now file called =
-      ap (λ f. file_medium now.blocks (state f)) called.is ∙ ap (λ k. file_medium k (state file)) called.blocks
+  -- the file of an honest disk is honest
+  pub disk_file_is_honest : (disk : FileDisk F) → (file_state state disk).honest ≡ true → (state disk.file).honest ≡ true
+  disk_file_is_honest disk honest = file_is_honest (part_of state disk) (map (part_then state) (noted disk.past)) honest
 
-  past_shown : (was now : FileDisk F) (file : F) → IsCalled was now file → (file_state state now).past ≡ (file_state state was).now ∷ (file_state state was).past
-  past_shown was now file called =
-      ap (λ fs. map (file_medium now.blocks) (map state fs)) called.past ∙ ap (λ k. map (file_medium k) (map state (was.file ∷ noted was.past))) called.blocks
+  past_is : (was now : FileDisk F) (part : Part) → IsCalled was now part → map (part_then state) (noted now.past) ≡ parts_before was
+  past_is was now part called =
+      ap (map (part_then state)) called.past ∙ ap (λ p. p ∷ map (part_then state) (noted was.past)) called.told
+
+  still_honest : (was now : FileDisk F) (part : Part) → IsCalled was now part → (file_state state now).honest ≡ true
+      → (part.file.honest && was_whole (part ∷ parts_before was)) ≡ true
+  still_honest was now part called honest =
+      let shown : Part → List Part → Bool = λ p ps. p.file.honest && was_whole (p ∷ ps) in
+      ap (λ p. shown p (parts_before was)) (sym called.is) ∙ ap (λ ps. shown (part_of state now) ps) (sym (past_is was now part called)) ∙ honest
+
+  now_shown : (was now : FileDisk F) (part : Part) → IsCalled was now part → (file_state state now).now ≡ file_medium part
+  now_shown was now part called = ap file_medium called.is
+
+  past_shown : (was now : FileDisk F) (part : Part) → IsCalled was now part → (file_state state now).past ≡ (file_state state was).now ∷ (file_state state was).past
+  past_shown was now part called = ap (map file_medium) (past_is was now part called)
+
+  good_file : (was now : FileDisk F) (part : Part) → IsCalled was now part → (file_state state now).honest ≡ true → part.file.honest ≡ true
+  good_file was now part called honest =
+      file_is_honest part (parts_before was) (still_honest was now part called honest)
+
+  long_file : (was now : FileDisk F) (part : Part) → IsCalled was now part → (file_state state now).honest ≡ true → 4096 * was.blocks ≤ length (state was.file).bytes
+  long_file was now part called honest =
+      long_before part (part_of state was) (map (part_then state) (noted was.past)) (still_honest was now part called honest)
+
+  -- the same part of the file, which is now this one
+  abbrev pub same_part : FileDisk F → F → Part
+  same_part was file = record { file = state file; blocks = was.blocks; sure = was.sure }
+
+  -- the same blocks of it, all of them sure
+  abbrev pub sure_part : FileDisk F → F → Part
+  sure_part was file = record { file = state file; blocks = was.blocks; sure = was.blocks }
 
   -- a read of the file, as a read of the disk
   pub disk_reads : {T : Type 0} (answer : Result T DeviceFault) (n offset : ℕ) (bytes : List ℕ) (was now : FileDisk F) (file : F)
-      → IsCalled was now file → n < was.blocks → offset ≡ 4096 * n → length bytes ≡ 4096
+      → IsCalled was now (same_part was file) → n < was.blocks → offset ≡ 4096 * n → length bytes ≡ 4096
       → ((state file).honest ≡ true → ReadsAt offset bytes answer (state was.file) (state file))
       → (file_state state now).honest ≡ true
       → Reads n bytes answer (file_state state was) (file_state state now)
   disk_reads answer n offset bytes was now file called inside at full law honest =
-      let good = file_is_honest was.blocks (state file) (state was.file ∷ map state (noted was.past)) (still_honest was now file called honest) in
-      let reads = law good in
+      let reads = law (good_file was now (same_part was file) called honest) in
       record {
         bytes_are = read_is answer was.blocks n offset bytes (state was.file).bytes inside at full reads.bytes_are;
-        same = now_shown was now file called ∙ same_shown was.blocks (state was.file) (state file) reads.same reads.same_waiting;
-        time = record { step = inl (past_shown was now file called) };
+        same = now_shown was now (same_part was file) called ∙ same_shown was.blocks was.sure (state was.file) (state file) reads.same reads.same_waiting;
+        time = record { step = inl (past_shown was now (same_part was file) called) };
       }
 
   -- a write to the file, as a write to the disk
   pub disk_writes : {T : Type 0} (answer : Result T DeviceFault) (n offset : ℕ) (bytes : List ℕ) (was now : FileDisk F) (file : F)
-      → IsCalled was now file → n < was.blocks → offset ≡ 4096 * n → length bytes ≡ 4096
+      → IsCalled was now (same_part was file) → n < was.blocks → offset ≡ 4096 * n → length bytes ≡ 4096
       → ((state file).honest ≡ true → offset ≤ length (state was.file).bytes → WritesAt offset bytes answer (state was.file) (state file))
       → (file_state state now).honest ≡ true
       → Writes n bytes answer (file_state state was) (file_state state now)
   disk_writes answer n offset bytes was now file called inside at full law honest =
-      let known = still_honest was now file called honest in
-      let before = map state (noted was.past) in
       let count = was.blocks in
-      let long = long_before count (state was.file) (state file) before known in
+      let long = long_file was now (same_part was file) called honest in
       let old = state was.file in
       let new = state file in
       let within : offset ≤ length old.bytes = omega arith in
-      let writes = law (file_is_honest count new (old ∷ before) known) within in
+      let writes = law (good_file was now (same_part was file) called honest) within in
       let some = some_written answer offset bytes old new writes in
       let torn = subst (λ k. IsTorn offset k old.bytes new.bytes) full some in
-      let is = now_shown was now file called in
+      let is = now_shown was now (same_part was file) called in
+      let touched = ap (λ ws. is_touched ws n) writes.waiting ∙ touched_itself n offset (length bytes) old.waiting at full in
       let W : Medium → Type 0 = λ m. OnOk answer (block m.contents n ≡ bytes) in record {
         written = subst W (sym is) (write_is answer count n offset bytes old.bytes new.bytes inside at full within writes.written);
-        dirty = ap (λ m. m.dirty n) is ∙ ap (λ ws. is_touched ws n) writes.waiting ∙ touched_itself n offset (length bytes) old.waiting at full;
+        dirty = ap (λ m. m.dirty n) is ∙ or_left _ _ touched;
         count = ap (λ m. length m.contents) is ∙ length-map-range_with_len (file_block new.bytes) 0 count ∙ sym (length-map-range_with_len (file_block old.bytes) 0 count);
         others = λ k apart. ap (λ m. block m.contents k) is ∙ same_block count k old.bytes new.bytes (others_are count n k offset old.bytes new.bytes at within apart torn);
-        others_dirty = λ k apart. ap (λ m. m.dirty k) is ∙ ap (λ ws. is_touched ws k) writes.waiting ∙ others_touched n k offset (length bytes) old.waiting at full apart;
-        time = record { step = inl (past_shown was now file called) };
+        others_dirty = λ k apart.
+            let same = ap (λ ws. is_touched ws k) writes.waiting ∙ others_touched n k offset (length bytes) old.waiting at full apart in
+            ap (λ m. m.dirty k) is ∙ ap (λ t. t || is_unsure was.sure count k) same;
+        sure = ap (λ m. m.sure) is;
+        time = record { step = inl (past_shown was now (same_part was file) called) };
       }
 
-  -- a sync of the file, as a sync of the disk
-  pub disk_syncs : (answer : Result (Unit {0}) DeviceFault) (was now : FileDisk F) (file : F)
-      → IsCalled was now file
-      → ((state file).honest ≡ true → SyncsFile answer (state was.file) (state file))
+  -- a sync of the file that succeeded, as one of the disk
+  pub disk_synced : {T : Type 0} (x : T) (was now : FileDisk F) (file : F)
+      → IsCalled was now (sure_part was file)
+      → ((state file).honest ≡ true → SyncsFile (Ok x) (state was.file) (state file))
       → (file_state state now).honest ≡ true
-      → Syncs answer (file_state state was) (file_state state now)
-  disk_syncs answer was now file called law honest = by_answer answer (law good)
-    where
-      good : (state file).honest ≡ true
-      good = file_is_honest was.blocks (state file) (state was.file ∷ map state (noted was.past)) (still_honest was now file called honest)
+      → Syncs (Ok x) (file_state state was) (file_state state now)
+  disk_synced x was now file called law honest =
+      let syncs = law (good_file was now (sure_part was file) called honest) in
+      let is = now_shown was now (sure_part was file) called in
+      record {
+        synced = λ n. ap (λ m. m.dirty n) is ∙ sure_is_clean was.blocks (state file) syncs.synced n;
+        failed = tt;
+        same = ap (λ m. m.contents) is ∙ ap (file_blocks was.blocks) syncs.same;
+        sure = ap (λ m. m.sure) is ∙ min-eq_left (le_refl was.blocks) ∙ sym (length-map-range_with_len (file_block (state file).bytes) 0 was.blocks) ∙ ap (λ m. length m.contents) (sym is);
+        time = record { step = inl (past_shown was now (sure_part was file) called) };
+      }
 
-      same : (state file).bytes ≡ (state was.file).bytes → (file_state state now).now.contents ≡ (file_state state was).now.contents
-      same e = ap (λ m. m.contents) (now_shown was now file called) ∙ ap (file_blocks was.blocks) e
+  -- one that failed
+  pub disk_sync_failed : {T : Type 0} (e : DeviceFault) (was now : FileDisk F) (file : F)
+      → IsCalled was now (same_part was file)
+      → ((state file).honest ≡ true → SyncsFile {T = T} (Err e) (state was.file) (state file))
+      → (file_state state now).honest ≡ true
+      → Syncs {T = T} (Err e) (file_state state was) (file_state state now)
+  disk_sync_failed e was now file called law honest =
+      let syncs = law (good_file was now (same_part was file) called honest) in
+      let same = now_shown was now (same_part was file) called ∙ same_shown was.blocks was.sure (state was.file) (state file) syncs.same syncs.failed in
+      record {
+        synced = tt;
+        failed = same;
+        same = ap (λ m. m.contents) same;
+        sure = tt;
+        time = record { step = inl (past_shown was now (same_part was file) called) };
+      }
 
-      by_answer : (r : Result (Unit {0}) DeviceFault) → SyncsFile r (state was.file) (state file) → Syncs r (file_state state was) (file_state state now)
-      by_answer (Ok x) syncs =
-          record {
-            synced = λ n. ap (λ m. m.dirty n) (now_shown was now file called) ∙ ap (λ ws. is_touched ws n) syncs.synced;
-            failed = tt;
-            same = same syncs.same;
-            time = record { step = inl (past_shown was now file called) };
-          }
-      by_answer (Err e) syncs =
-          record {
-            synced = tt;
-            failed = now_shown was now file called ∙ same_shown was.blocks (state was.file) (state file) syncs.same syncs.failed;
-            same = same syncs.same;
-            time = record { step = inl (past_shown was now file called) };
-          }
+  -- a growing of the file, as one of the disk
+  pub disk_extends : (was now : FileDisk F) (part : Part)
+      → IsCalled was now part → part.sure ≡ was.sure → was.blocks ≤ part.blocks
+      → (part.file.honest ≡ true → 4096 * was.blocks ≤ length (state was.file).bytes → AddsZeros was.blocks part.blocks (state was.file) part.file)
+      → (file_state state now).honest ≡ true
+      → Enlarges (file_state state was) (file_state state now)
+  disk_extends was now part called kept order law honest =
+      let adds = law (good_file was now part called honest) (long_file was now part called honest) in
+      let R : Medium → Type 0 = λ m. Lengthens (file_state state was).now m in
+      let S : ℕ → Type 0 = λ k. Lengthens (file_state state was).now (file_medium (record { file = part.file; blocks = part.blocks; sure = k })) in
+      record {
+        longer = subst R (sym (now_shown was now part called)) (subst S (sym kept) (part_longer was.blocks part.blocks was.sure (state was.file) part.file order was.known adds));
+        time = record { step = inl (past_shown was now part called) };
+      }
 
-  -- the disk is honest after the call where its file is, which got no shorter
-  pub stays : (was now : FileDisk F) (file : F)
-      → IsCalled was now file
-      → ((state file).honest ≡ true → 4096 * was.blocks ≤ length (state was.file).bytes → length (state was.file).bytes ≤ length (state file).bytes)
+  -- the zero blocks that an honest disk got
+  pub disk_adds : (was now : FileDisk F) (part : Part)
+      → IsCalled was now part
+      → (part.file.honest ≡ true → 4096 * was.blocks ≤ length (state was.file).bytes → AddsZeros was.blocks part.blocks (state was.file) part.file)
+      → (file_state state now).honest ≡ true
+      → AddsZeros was.blocks part.blocks (state was.file) part.file
+  disk_adds was now part called law honest =
+      law (good_file was now part called honest) (long_file was now part called honest)
+
+  -- the disk is honest after the call where its file is, and is long enough
+  pub stays : (was now : FileDisk F) (part : Part)
+      → IsCalled was now part
+      → (part.file.honest ≡ true → 4096 * was.blocks ≤ length (state was.file).bytes → 4096 * part.blocks ≤ length part.file.bytes)
       → StaysHonest state was now
-  stays was now file called longer before good =
-      let shown : F → ℕ → List F → Bool = λ f k fs. (state f).honest && was_whole k (state f ∷ map state fs) in
-      let past = was.file ∷ noted was.past in
-      let kept = subst (λ f. (state f).honest ≡ true) called.is good in
-      let old = and_parts (state was.file).honest (was_whole was.blocks (map state past)) before in
-      let parts = and_parts (nat_le (4096 * was.blocks) (length (state was.file).bytes)) (was_whole was.blocks (map state (noted was.past))) old.1 in
+  stays was now part called longer before good =
+      let shown : Part → List Part → Bool = λ p ps. p.file.honest && was_whole (p ∷ ps) in
+      let kept : part.file.honest ≡ true = ap (λ p. p.file.honest) (sym called.is) ∙ good in
+      let old = and_parts (state was.file).honest (was_whole (parts_before was)) before in
+      let parts = and_parts (nat_le (4096 * was.blocks) (length (state was.file).bytes)) (was_whole (map (part_then state) (noted was.past))) old.1 in
       let long = leb-true (4096 * was.blocks) (length (state was.file).bytes) parts.0 in
-      let more = longer kept long in
-      let end : shown file was.blocks past ≡ true = and_from _ _ kept (and_from _ _ (le-leb (4096 * was.blocks) (length (state file).bytes) (omega arith)) old.1) in
-      ap (λ fs. shown now.file now.blocks fs) called.past ∙ ap (λ k. shown now.file k past) called.blocks ∙ ap (λ f. shown f was.blocks past) called.is ∙ end
+      let end : shown part (parts_before was) ≡ true = and_from _ _ kept (and_from _ _ (le-leb (4096 * part.blocks) (length part.file.bytes) (longer kept long)) old.1) in
+      ap (λ ps. shown (part_of state now) ps) (past_is was now part called) ∙ ap (λ p. shown p (parts_before was)) called.is ∙ end
 
   -- after a call that leaves the bytes as they were
-  pub same_stays : (was now : FileDisk F) (file : F) → IsCalled was now file → ((state file).honest ≡ true → (state file).bytes ≡ (state was.file).bytes) → StaysHonest state was now
-  same_stays was now file called same =
-      stays was now file called (λ good long. let e : length (state file).bytes ≡ length (state was.file).bytes = ap length (same good) in omega arith)
+  pub same_stays : (was now : FileDisk F) (part : Part) → IsCalled was now part → part.blocks ≡ was.blocks → (part.file.honest ≡ true → part.file.bytes ≡ (state was.file).bytes) → StaysHonest state was now
+  same_stays was now part called count same =
+      stays was now part called (λ good long. let e : length part.file.bytes ≡ length (state was.file).bytes = ap length (same good) in omega arith)
 
   -- after a write
   pub write_stays : {T : Type 0} (answer : Result T DeviceFault) (n offset : ℕ) (bytes : List ℕ) (was now : FileDisk F) (file : F)
-      → IsCalled was now file → n < was.blocks → offset ≡ 4096 * n
+      → IsCalled was now (same_part was file) → n < was.blocks → offset ≡ 4096 * n
       → ((state file).honest ≡ true → offset ≤ length (state was.file).bytes → WritesAt offset bytes answer (state was.file) (state file))
       → StaysHonest state was now
   write_stays answer n offset bytes was now file called inside at law =
-      stays was now file called (λ good long.
+      stays was now (same_part was file) called (λ good long.
       let old = (state was.file).bytes in
       let within : offset ≤ length old = omega arith in
       let torn = some_written answer offset bytes (state was.file) (state file) (law good within) in
-      subst (λ xs. length old ≤ length xs) (sym torn.written) (overwritten_no_shorter offset torn.bytes old within))
+      omega (arith, ap length torn.written, overwritten_no_shorter offset torn.bytes old within))
+
+  -- after a growing
+  pub extend_stays : (was now : FileDisk F) (part : Part)
+      → IsCalled was now part
+      → (part.file.honest ≡ true → 4096 * was.blocks ≤ length (state was.file).bytes → AddsZeros was.blocks part.blocks (state was.file) part.file)
+      → StaysHonest state was now
+  extend_stays was now part called law = stays was now part called (λ good long. (law good long).long)

@@ -1,16 +1,26 @@
 -- How a disk in memory is filled, entry by entry.
-use Rattle.std.proofs.Common.{◌≡◌, ℕ, ◌+◌, ◌<◌, ◌==◌, ◌&&◌, Bool, true, false, if◌then◌else◌, List, [], ◌∷◌, ◌++◌, length, get_or, take, replicate, refl, sym, ◌∙◌, ap}
+use Rattle.std.proofs.Common.{◌≡◌, ℕ, ◌+◌, ◌-◌, ◌<◌, ◌≤◌, ◌==◌, ◌&&◌, Bool, true, false, if◌then◌else◌, List, [], ◌∷◌, ◌++◌, length, get_or, take, replicate, refl, sym, ◌∙◌, ap, arith, append_assoc, length-append}
 use Rattle.std.proofs.lemmas.List.{replicate_more, take_more}
 use Rattle.vm_disk.specs.Memory.{filled}
 
--- one element more
-pub replicate_pushed : {X : Type 0} → (n : ℕ) (y : X) (xs ys : List X) → xs ≡ replicate n y → ys ≡ xs ++ y ∷ [] → ys ≡ replicate (n + 1) y
-replicate_pushed n y xs ys so_far pushed =
-    pushed ∙ ap (λ (zs : List _). zs ++ y ∷ []) so_far ∙ replicate_more n y
+-- an element was added, and it is one more
+pub one_longer : {X : Type 0} → (before after : List X) (y : X) (fine : Bool) → after ≡ (if fine then before ++ y ∷ [] else before) → fine ≡ true → length after ≡ length before + 1
+one_longer before after y fine is ok =
+    ap length (is ∙ ap (λ (b : Bool). if b then before ++ y ∷ [] else before) ok) ∙ length-append before (y ∷ [])
 
--- all of them
-pub replicate_whole : {X : Type 0} → (n m : ℕ) (y : X) (xs : List X) → n ≡ m → xs ≡ replicate n y → xs ≡ replicate m y
-replicate_whole n m y xs same so_far = so_far ∙ ap (λ (k : ℕ). replicate k y) same
+-- and after the first ones stands one more of it
+pub one_more : {X : Type 0} → (first before after : List X) (y : X) (fine : Bool) → before ≡ first ++ replicate (length before - length first) y → length first ≤ length before
+    → after ≡ (if fine then before ++ y ∷ [] else before) → fine ≡ true
+    → after ≡ first ++ replicate (length after - length first) y
+one_more {X} first before after y fine so_far least is ok =
+    let k = length before - length first in
+    let size = one_longer before after y fine is ok in
+    let count : k + 1 ≡ length after - length first = omega arith in
+    is ∙ ap (λ (b : Bool). if b then before ++ y ∷ [] else before) ok
+    ∙ ap (λ (zs : List X). zs ++ y ∷ []) so_far
+    ∙ append_assoc first (replicate k y) (y ∷ [])
+    ∙ ap (λ (zs : List X). first ++ zs) (replicate_more k y)
+    ∙ ap (λ (n : ℕ). first ++ replicate n y) count
 
 -- the last entry counts
 pub filled_more : (fill : List (ℕ × List ℕ)) (entry : ℕ × List ℕ) (n : ℕ) (bytes : List ℕ) → filled (fill ++ entry ∷ []) n bytes ≡ (if entry.0 == n then entry.1 else filled fill n bytes)

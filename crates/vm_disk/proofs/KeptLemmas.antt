@@ -1,5 +1,5 @@
 -- What the words of the cache's map give for the blocks that are kept.
-use Rattle.std.proofs.Common.{◌≡◌, ◌≢◌, ℕ, zero, suc, ◌-◌, Bool, true, false, cond, if◌then◌else◌, List, [], ◌∷◌, map, take, is_some, option_map, Option, Some, None, nat_eq, refl, sym, ◌∙◌, ap, eqb-true, ne_eqb, eq-eqb}
+use Rattle.std.proofs.Common.{◌≡◌, ◌≢◌, ℕ, zero, suc, ◌-◌, ◌<◌, Bool, true, false, cond, if◌then◌else◌, List, [], ◌∷◌, length, map, take, is_some, option_map, Option, Some, None, nat_eq, refl, sym, ◌∙◌, ap, eqb-true, ne_eqb, eq-eqb, arith}
 use Rattle.std.specs.Option.{option_map_or}
 use Rattle.std.specs.Map.{keys_of, lookup, lookup_entry, remove_entry, set_value}
 use Rattle.std.specs.List.{IsDistinct}
@@ -129,24 +129,29 @@ lookup_rest limit n k bytes es true apart h = sym (lookup_others n k es apart) �
 lookup_rest limit n k bytes es false apart h = lookup_taken (limit - 1) k bytes es h
 
 -- the contents differ at block n alone
-module _ (old new : Contents) (n : ℕ) (others : (k : ℕ) → k ≢ n → block new k ≡ block old k) where
+module _ (old new : Contents) (n : ℕ) (count : length new ≡ length old) (others : (k : ℕ) → k ≢ n → block new k ≡ block old k) where
   -- block n comes first with its new bytes
-  pub first_are_of : (limit : ℕ) (bytes : List ℕ) (es : Entries) → block new n ≡ bytes → AreOf old es → AreOf new (with_first limit n bytes es)
-  first_are_of limit bytes es written were k kept h = by_answer (nat_eq k n)
+  pub first_are_of : (limit : ℕ) (bytes : List ℕ) (es : Entries) → n < length new → block new n ≡ bytes → AreOf old es → AreOf new (with_first limit n bytes es)
+  first_are_of limit bytes es inside written were k kept h = by_answer (nat_eq k n)
       (λ y. let here : k ≡ n = eqb-true k n y in
       let same : Some bytes ≡ Some kept = sym (cond_yes _ _ y) ∙ h in
       let bytes_are : bytes ≡ kept = cc in
-      sym bytes_are ∙ sym written ∙ ap (block new) (sym here))
+      (omega arith, sym bytes_are ∙ sym written ∙ ap (block new) (sym here)))
       (λ z. let apart : k ≢ n = λ same. true_not_false (sym (eq-eqb k n same) ∙ z) in
-      were k kept (lookup_rest limit n k kept es (keeps n es) apart (sym (cond_no _ _ z) ∙ h)) ∙ sym (others k apart))
+      let was = were k kept (lookup_rest limit n k kept es (keeps n es) apart (sym (cond_no _ _ z) ∙ h)) in
+      (omega (arith, was.0, count), was.1 ∙ sym (others k apart)))
     where
       true_not_false : true ≡ false → ⊥
       true_not_false e = cc
 
   -- block n is not kept
   pub others_are_of : (es : Entries) → keeps n es ≡ false → AreOf old es → AreOf new es
-  others_are_of es gone were k kept h = were k kept h ∙ sym (others k (λ here.
-      let there : true ≡ false = sym (ap is_some (ap (λ m. lookup (nat_eq m) es) (sym here) ∙ h)) ∙ gone in cc))
+  others_are_of es gone were k kept h =
+      let was = were k kept h in (
+        omega (arith, was.0, count),
+        was.1 ∙ sym (others k (λ here.
+            let there : true ≡ false = sym (ap is_some (ap (λ m. lookup (nat_eq m) es) (sym here) ∙ h)) ∙ gone in cc)),
+      )
 
   -- and is kept no longer
   pub rest_are_of : (es : Entries) → keeps n (remove_entry (nat_eq n) es) ≡ false → AreOf old es → AreOf new (remove_entry (nat_eq n) es)
@@ -154,7 +159,7 @@ module _ (old new : Contents) (n : ℕ) (others : (k : ℕ) → k ≢ n → bloc
     where
       less : AreOf old (remove_entry (nat_eq n) es)
       less k kept h = by_answer (nat_eq k n)
-          (λ y. let there : true ≡ false = sym (ap is_some (ap (λ m. lookup (nat_eq m) (remove_entry (nat_eq n) es)) (sym (eqb-true k n y)) ∙ h)) ∙ gone in cc)
+          (λ y. let there : true ≡ false = sym (ap is_some (ap (λ m. lookup (nat_eq m) (remove_entry (nat_eq n) es)) (sym (eqb-true k n y)) ∙ h)) ∙ gone in absurd cc)
           (λ z. let apart : k ≢ n = λ same. (let clash : true ≡ false = sym (eq-eqb k n same) ∙ z in cc) in were k kept (sym (lookup_others n k es apart) ∙ h))
 
 -- what the calls of the cache's map leave

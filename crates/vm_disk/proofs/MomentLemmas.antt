@@ -1,7 +1,8 @@
 -- How a fact about each moment is carried over device calls, and what follows of a crash.
 use Rattle.std.proofs.Common.{◌≡◌, ◌≢◌, ℕ, ◌<◌, ◌≤◌, ◌⊎◌, inl, inr, Bool, true, false, List, [], ◌∷◌, ◌++◌, length, Result, Ok, Err, refl, sym, ◌∙◌, ap, subst, arith, append_assoc, length-append}
+use Rattle.std.proofs.lemmas.Bool.{cases_lt, false≢true}
 use Rattle.vm_disk.specs.declared.disk.DeviceFault.{DeviceFault}
-use Rattle.vm_disk.specs.Disk.{Contents, block, Medium, State, MayLeave, moment, LeftPast, LeftAt, NoCalls, Elapses, Reads, Writes, Syncs}
+use Rattle.vm_disk.specs.Disk.{Contents, block, Medium, State, MayLeave, IsClean, moment, LeftPast, LeftAt, NoCalls, Elapses, Reads, Writes, Syncs}
 use Rattle.vm_disk.specs.Moments.{AtEach, Throughout, OnlyReads, Leaves, LeavesOnly, Spares}
 
 -- before the first call
@@ -98,9 +99,19 @@ pub moment_rises : (old new : State) (Q : Medium → Type 0) → Throughout old 
 moment_rises old new Q h =
     let count : length (new.now ∷ new.past) ≡ length (h.since ++ old.now ∷ old.past) = ap length h.goes_on in omega (arith, length-append h.since (old.now ∷ old.past))
 
+-- a crash leaves each block of a medium that is clean
+pub clean_sure : (m : Medium) → IsClean m → m.sure ≡ length m.contents
+clean_sure m clean = by_order (cases_lt m.sure (length m.contents))
+  where
+    by_order : (m.sure < length m.contents) ⊎ (length m.contents ≤ m.sure) → m.sure ≡ length m.contents
+    by_order (inl less) =
+        let dirty : m.dirty m.sure ≡ true = m.unsure m.sure (omega arith) less in
+        absurd (false≢true (sym (clean m.sure) ∙ dirty))
+    by_order (inr all) = omega (arith, m.within)
+
 -- a medium spares each of its own blocks
 pub spares_itself : (touched : ℕ → Bool) (m : Medium) → Spares touched m m
-spares_itself touched m = record { count = refl; same = λ n out. refl; clean = λ n out clean. clean }
+spares_itself touched m = record { count = refl; same = λ n out. refl; clean = λ n out clean. clean; sure = omega arith }
 
 -- a crash keeps each clean block that is spared
 pub spared : (touched : ℕ → Bool) (old new : Medium) → Spares touched old new → (left : Contents) → MayLeave new left → (n : ℕ) → touched n ≡ false → old.dirty n ≡ false → block left n ≡ block old.contents n
@@ -124,6 +135,7 @@ write_on n bytes result touched old mid new inside so_far writes =
       count = writes.count ∙ before.count;
       same = λ k out. writes.others k (apart touched k n inside out) ∙ before.same k out;
       clean = λ k out clean. writes.others_dirty k (apart touched k n inside out) ∙ before.clean k out clean;
+      sure = omega (arith, writes.sure, before.sure);
     }
 
 -- a sync spares what was spared before it
@@ -133,6 +145,7 @@ sync_spares (Ok x) touched old mid new sync spares =
       count = ap (λ (x : Contents). length x) sync.same ∙ spares.count;
       same = λ n out. ap (λ (x : Contents). block x n) sync.same ∙ spares.same n out;
       clean = λ n out clean. sync.synced n;
+      sure = let few = mid.now.within in let kept = spares.sure in let all = sync.sure in let same = ap (λ (x : Contents). length x) sync.same in omega arith;
     }
 sync_spares (Err e) touched old mid new sync spares =
     let R : Medium → Type 0 = λ m. Spares touched old m in subst R (sym sync.failed) spares

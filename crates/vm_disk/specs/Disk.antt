@@ -15,6 +15,11 @@ pub record Medium : Type 0 where
   pub contents : Contents
   -- the blocks that are not yet synced
   pub dirty : ℕ → Bool
+  -- how many blocks a crash surely leaves: those that it had at the last sync
+  pub sure : ℕ
+  pub within : sure ≤ length contents
+  -- each block past those is dirty
+  pub unsure : (n : ℕ) → sure ≤ n → n < length contents → dirty n ≡ true
 
 -- what is known of a disk
 pub record State : Type 0 where
@@ -33,9 +38,10 @@ pub record State : Type 0 where
 abbrev pub IsClean : Medium → Type 0
 IsClean m = (n : ℕ) → m.dirty n ≡ false
 
--- a crash may leave these contents: they agree on each block that is not dirty
+-- a crash may leave these contents: at least the blocks that are sure, and they agree on each block that is not dirty
 pub record MayLeave (m : Medium) (left : Contents) : Type 0 where
-  pub count : length left ≡ length m.contents
+  pub least : m.sure ≤ length left
+  pub most : length left ≤ length m.contents
   pub clean : (n : ℕ) → m.dirty n ≡ false → block left n ≡ block m.contents n
 
 -- the number of the present moment
@@ -68,6 +74,17 @@ pub record Goes (fails : Type 0) (old new : State) : Type 0 where
   pub rising : old.failures ≤ new.failures
   pub fault : fails → old.failures < new.failures
 
+-- what a growing to so many blocks does, on any disk: where it fails, the disk may have some of the new blocks
+pub record Extends {T : Type 0} (blocks : ℕ) (result : Result T DeviceFault) (old new : State) : Type 0 where
+  pub least : old.blocks ≤ new.blocks
+  pub most : new.blocks ≤ blocks
+  pub all : OnOk result (new.blocks ≡ blocks)
+  pub earlier : new.honest ≡ true → old.honest ≡ true
+  pub read : new.reads ≡ old.reads
+  pub rising : old.failures ≤ new.failures
+  pub fault : OnErr result (old.failures < new.failures)
+  pub fine : OnOk result (new.failures ≡ old.failures)
+
 -- no device call was made: all that is known of the disk is as it was
 abbrev pub NoCalls : State → State → Type 0
 NoCalls old new = new ≡ old
@@ -89,11 +106,26 @@ pub record Writes {T : Type 0} (n : ℕ) (bytes : List ℕ) (result : Result T D
   pub count : length new.now.contents ≡ length old.now.contents
   pub others : (k : ℕ) → k ≢ n → block new.now.contents k ≡ block old.now.contents k
   pub others_dirty : (k : ℕ) → k ≢ n → new.now.dirty k ≡ old.now.dirty k
+  pub sure : new.now.sure ≡ old.now.sure
   pub time : Elapses old new
 
--- what a sync does, on a disk that is honest after it: where it fails, nothing changes
+-- what a sync does, on a disk that is honest after it: it makes all blocks sure, and where it fails, nothing changes
 pub record Syncs {T : Type 0} (result : Result T DeviceFault) (old new : State) : Type 0 where
   pub synced : OnOk result (IsClean new.now)
   pub failed : OnErr result (new.now ≡ old.now)
   pub same : new.now.contents ≡ old.now.contents
+  pub sure : OnOk result (new.now.sure ≡ length new.now.contents)
+  pub time : Elapses old new
+
+-- a medium with blocks added, which are dirty and hold any bytes; the others stay as they were, and as many are sure
+pub record Lengthens (old new : Medium) : Type 0 where
+  pub more : length old.contents ≤ length new.contents
+  pub same : (n : ℕ) → n < length old.contents → block new.contents n ≡ block old.contents n
+  pub same_dirty : (n : ℕ) → n < length old.contents → new.dirty n ≡ old.dirty n
+  pub dirty : (n : ℕ) → length old.contents ≤ n → n < length new.contents → new.dirty n ≡ true
+  pub sure : new.sure ≡ old.sure
+
+-- what a growing does, on a disk that is honest after it
+pub record Enlarges (old new : State) : Type 0 where
+  pub longer : Lengthens old.now new.now
   pub time : Elapses old new

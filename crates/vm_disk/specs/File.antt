@@ -1,6 +1,11 @@
 -- What a disk over a file shows.
-use Rattle.std.specs.Prelude.{◌≡◌, ℕ, ◌+◌, ◌-◌, ◌*◌, ◌/◌, ◌^◌, min, nat_lt, nat_le, ◌&&◌, ◌||◌, Bool, true, false, List, [], ◌∷◌, length, map, replicate, take, drop, Result, Ok, Err}
+use Rattle.std.specs.Prelude.{◌≡◌, ℕ, ◌+◌, ◌-◌, ◌*◌, ◌/◌, ◌^◌, ◌<◌, ◌≤◌, min, nat_lt, nat_le, ◌&&◌, ◌||◌, Bool, true, false, List, [], ◌∷◌, length, map, replicate, take, drop, Result, Ok, Err}
 use Rattle.std.specs.List.{range_with_len}
+use Rattle.std.proofs.Common.{sym, subst}
+use Rattle.std.proofs.Math.Nat.{min-le_right}
+use Rattle.std.proofs.lemmas.Bool.{and_from, or_right, le-leb, lt-ltb}
+use Rattle.std.proofs.lemmas.List.FromFn.{length-map-range_with_len}
+use Rattle.vm_disk.specs.declared.file.Earlier.{Earlier}
 use Rattle.vm_disk.specs.declared.file.FileDisk.{FileDisk}
 use Rattle.vm_disk.specs.Disk.{Contents, Medium, State}
 use Rattle.vm_disk.specs.Past.{noted}
@@ -23,30 +28,75 @@ abbrev pub is_touched : List (ℕ × ℕ) → ℕ → Bool
 is_touched [] n = false
 is_touched (write ∷ writes) n = touches write n || is_touched writes n
 
--- a file as a disk of so many blocks: those that a waiting write touches are dirty
-abbrev pub file_medium : ℕ → FileState → Medium
-file_medium count file = record { contents = file_blocks count file.bytes; dirty = is_touched file.waiting }
+-- the first blocks of a file, and how many of them it surely keeps
+pub record Part : Type 0 where
+  pub file : FileState
+  pub blocks : ℕ
+  pub sure : ℕ
 
--- at each of these moments the file was long enough for so many blocks
-abbrev pub was_whole : ℕ → List FileState → Bool
-was_whole count [] = true
-was_whole count (file ∷ files) = nat_le (4096 * count) (length file.bytes) && was_whole count files
+-- the blocks from the sure ones to the last
+abbrev pub is_unsure : ℕ → ℕ → ℕ → Bool
+is_unsure sure count n = nat_le (min sure count) n && nat_lt n count
 
--- a disk of so many blocks over this file, of which no call was made so far
-pub record IsOver (count : ℕ) (file : FileState) (s : State) : Type 0 where
-  pub blocks : s.blocks ≡ count
-  pub honest : s.honest ≡ (file.honest && was_whole count (file ∷ []))
+-- no more are sure than there are
+pub sure_within : (sure count : ℕ) (bytes : List ℕ) → min sure count ≤ length (file_blocks count bytes)
+sure_within sure count bytes =
+    let R : ℕ → Type 0 = λ k. min sure count ≤ k in
+    subst R (sym (length-map-range_with_len (file_block bytes) 0 count)) (min-le_right sure count)
+
+-- one that is not sure is dirty
+pub unsure_dirty : (sure count : ℕ) (bytes : List ℕ) (waiting : List (ℕ × ℕ)) (n : ℕ) → min sure count ≤ n → n < length (file_blocks count bytes) → (is_touched waiting n || is_unsure sure count n) ≡ true
+unsure_dirty sure count bytes waiting n from inside =
+    let R : ℕ → Type 0 = λ k. n < k in
+    let here : n < count = subst R (length-map-range_with_len (file_block bytes) 0 count) inside in
+    or_right (is_touched waiting n) (is_unsure sure count n) (and_from (nat_le (min sure count) n) (nat_lt n count) (le-leb (min sure count) n from) (lt-ltb n count here))
+
+-- part of a file as a disk: the blocks that a waiting write touches are dirty, and those that are not sure
+abbrev pub file_medium : Part → Medium
+file_medium part =
+    record {
+      contents = file_blocks part.blocks part.file.bytes;
+      dirty = λ n. is_touched part.file.waiting n || is_unsure part.sure part.blocks n;
+      sure = min part.sure part.blocks;
+      within = sure_within part.sure part.blocks part.file.bytes;
+      unsure = unsure_dirty part.sure part.blocks part.file.bytes part.file.waiting;
+    }
+
+-- zero blocks were written from one block on up to another; those before them stay as they were
+pub record AddsZeros (from to : ℕ) (old new : FileState) : Type 0 where
+  pub long : 4096 * to ≤ length new.bytes
+  pub same : (n : ℕ) → n < from → file_block new.bytes n ≡ file_block old.bytes n
+  pub zero : (n : ℕ) → from ≤ n → n < to → file_block new.bytes n ≡ replicate 4096 0
+  pub same_waiting : (n : ℕ) → n < from → is_touched new.waiting n ≡ is_touched old.waiting n
+
+-- at each of these moments the file was long enough for the blocks
+abbrev pub was_whole : List Part → Bool
+was_whole [] = true
+was_whole (part ∷ parts) = nat_le (4096 * part.blocks) (length part.file.bytes) && was_whole parts
+
+-- a disk of this part of a file, of which no call was made so far
+pub record IsPart (part : Part) (s : State) : Type 0 where
+  pub blocks : s.blocks ≡ part.blocks
+  pub honest : s.honest ≡ (part.file.honest && was_whole (part ∷ []))
   pub reads : s.reads ≡ 0
-  pub failures : s.failures ≡ file.failures
-  pub now : s.now ≡ file_medium count file
+  pub failures : s.failures ≡ part.file.failures
+  pub now : s.now ≡ file_medium part
   pub past : s.past ≡ []
 
--- an honest disk of the whole blocks of this file
+-- so many blocks of this file that was there, all of them sure, and no call was made of the disk so far
+abbrev pub IsOver : ℕ → FileState → State → Type 0
+IsOver count file s = IsPart (record { file = file; blocks = count; sure = count }) s
+
+-- so many blocks of this file that was just made, none of them sure, and no call was made of the disk so far
+abbrev pub IsMade : ℕ → FileState → State → Type 0
+IsMade count file s = IsPart (record { file = file; blocks = count; sure = 0 }) s
+
+-- an honest disk of the whole blocks of this file, all of them sure
 pub record IsOpened (file : FileState) (s : State) : Type 0 where
   pub file_honest : file.honest ≡ true
   pub honest : s.honest ≡ true
   pub blocks : s.blocks ≡ min (length file.bytes / 4096) (2 ^ 32 - 1)
-  pub now : s.now ≡ file_medium s.blocks file
+  pub now : s.now ≡ file_medium (record { file = file; blocks = s.blocks; sure = s.blocks })
 
 -- an honest disk of zero blocks
 pub record IsZero (s : State) : Type 0 where
@@ -63,17 +113,25 @@ module _ {F : Type 0} where
   file_left (Ok disk) = file_of disk
   file_left (Err file) = file
 
+  -- the part of its file that the disk is
+  abbrev pub part_of : (F → FileState) → FileDisk F → Part
+  part_of state disk = record { file = state disk.file; blocks = disk.blocks; sure = disk.sure }
+
+  -- the part that it was at an earlier moment
+  abbrev pub part_then : (F → FileState) → Earlier F → Part
+  part_then state was = record { file = state was.file.value; blocks = was.blocks; sure = was.sure }
+
   -- honest as long as its file is, and is long enough for the disk's blocks; its failures are the file's
   abbrev pub file_state : (F → FileState) → FileDisk F → State
   file_state state disk =
-      let now = state disk.file in
-      let past = map state (noted disk.past) in record {
+      let now = part_of state disk in
+      let past = map (part_then state) (noted disk.past) in record {
         blocks = disk.blocks;
-        honest = now.honest && was_whole disk.blocks (now ∷ past);
+        honest = now.file.honest && was_whole (now ∷ past);
         reads = length (noted disk.reads);
-        failures = now.failures;
-        now = file_medium disk.blocks now;
-        past = map (file_medium disk.blocks) past;
+        failures = now.file.failures;
+        now = file_medium now;
+        past = map file_medium past;
       }
 
   -- a call that its file is honest after leaves an honest disk honest

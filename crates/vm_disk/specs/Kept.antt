@@ -1,5 +1,5 @@
 -- The blocks that a cache keeps.
-use Rattle.std.specs.Prelude.{◌≡◌, ℕ, ◌-◌, Bool, if◌then◌else◌, List, ◌∷◌, length, map, take, nat_eq, is_some, Some}
+use Rattle.std.specs.Prelude.{◌≡◌, ℕ, ◌-◌, ◌<◌, Bool, if◌then◌else◌, List, ◌∷◌, length, map, take, nat_eq, is_some, Some}
 use Rattle.std.specs.Map.{lookup, remove_entry}
 use Rattle.vm_disk.specs.declared.kept.Kept.{Kept}
 use Rattle.vm_disk.specs.Disk.{Contents, block}
@@ -17,9 +17,9 @@ keeps n entries = is_some (lookup (nat_eq n) entries)
 abbrev pub with_first : ℕ → ℕ → List ℕ → Entries → Entries
 with_first limit n bytes entries = (n, bytes) ∷ (if keeps n entries then remove_entry (nat_eq n) entries else take (limit - 1) entries)
 
--- each of them has the bytes of its block
+-- each of them is one of these blocks, and has its bytes
 abbrev pub AreOf : Contents → Entries → Type 0
-AreOf contents entries = (n : ℕ) (bytes : List ℕ) → lookup (nat_eq n) entries ≡ Some bytes → bytes ≡ block contents n
+AreOf contents entries = (n : ℕ) (bytes : List ℕ) → lookup (nat_eq n) entries ≡ Some bytes → (n < length contents) × (bytes ≡ block contents n)
 
 -- the kept blocks
 abbrev pub entries_of : Kept → Entries

@@ -27,8 +27,9 @@ Leaves P m = (left : Contents) → MayLeave m left → P left
 abbrev pub LeavesOnly : State → State → (Contents → Type 0) → Type 0
 LeavesOnly old new P = (t : ℕ) (left : Contents) → moment old ≤ t → LeftAt new t left → P left
 
--- each block outside those that may be touched keeps its bytes, and stays clean where it was
+-- each block outside those that may be touched keeps its bytes, and stays clean where it was; no fewer blocks are sure
 pub record Spares (touched : ℕ → Bool) (old new : Medium) : Type 0 where
   pub count : length new.contents ≡ length old.contents
   pub same : (n : ℕ) → touched n ≡ false → block new.contents n ≡ block old.contents n
   pub clean : (n : ℕ) → touched n ≡ false → old.dirty n ≡ false → new.dirty n ≡ false
+  pub sure : old.sure ≤ new.sure

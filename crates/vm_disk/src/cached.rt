@@ -1,7 +1,7 @@
 //! A disk that keeps the blocks which were used last.
-ghost use Rattle.std.specs.Prelude.{◌≡◌, ◌<◌, true, false, Some, nat_eq, IfOk, IfErr, OnOk, OnErr, IsOk};
+ghost use Rattle.std.specs.Prelude.{◌≡◌, ◌<◌, ◌≤◌, true, false, Some, nat_eq, IfOk, IfErr, OnOk, OnErr, IsOk};
 ghost use Rattle.std.specs.Map.{lookup, remove_entry};
-ghost use Rattle.vm_disk.specs.Disk.{Counts, Reads, Writes, Syncs};
+ghost use Rattle.vm_disk.specs.Disk.{Counts, Reads, Writes, Syncs, Extends, Enlarges};
 ghost use Rattle.vm_disk.specs.Kept.{AreOf, entries_of};
 
 use crate::disk::{DeviceFault, Disk};
@@ -143,5 +143,17 @@ impl<D: Disk> Disk for CachedDisk<D> {
         ensures kept { KeepsJust (kept_of self.old) self.old self.new }
     {
         self.inner.sync()
+    }
+
+    fn extend(&mut self, blocks: u32) -> Result<(), DeviceFault>
+        requires { (cached_state D.state self.old).blocks ≤ blocks }
+        ensures any { Extends blocks result (cached_state D.state self.old) (cached_state D.state self.new) }
+        ensures honest { (cached_state D.state self.new).honest ≡ true
+            → Enlarges (cached_state D.state self.old) (cached_state D.state self.new) }
+
+        ensures passed { Extends blocks result (D.state (inner_of self.old)) (D.state (inner_of self.new)) }
+        ensures kept { KeepsJust (kept_of self.old) self.old self.new }
+    {
+        self.inner.extend(blocks)
     }
 }

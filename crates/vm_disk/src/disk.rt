@@ -1,6 +1,6 @@
 //! The trait of a disk.
-ghost use Rattle.std.specs.Prelude.{◌≡◌, ◌<◌, ◌^◌, true, length};
-ghost use Rattle.vm_disk.specs.Disk.{State, Counts, Reads, Writes, Syncs};
+ghost use Rattle.std.specs.Prelude.{◌≡◌, ◌<◌, ◌≤◌, ◌^◌, true, length};
+ghost use Rattle.vm_disk.specs.Disk.{State, Counts, Reads, Writes, Syncs, Extends, Enlarges};
 
 /// The device failed in this call.
 #[derive(Clone, Copy, Debug, PartialEq, Eq)]
@@ -36,6 +36,14 @@ pub trait Disk {
         ensures any { Counts 0 result (state self.old) (state self.new) }
         ensures honest { (state self.new).honest ≡ true
             → Syncs result (state self.old) (state self.new) };
+
+    /// Gives it more blocks, so many in all. A new one holds any bytes, and is dirty. Until the next sync
+    /// that succeeds, a crash may leave any number of the new blocks. Where it fails, some may be there.
+    fn extend(&mut self, blocks: u32) -> Result<(), DeviceFault>
+        requires { (state self.old).blocks ≤ blocks }
+        ensures any { Extends blocks result (state self.old) (state self.new) }
+        ensures honest { (state self.new).honest ≡ true
+            → Enlarges (state self.old) (state self.new) };
 
     /// An honest disk holds each of its blocks.
     ghost whole: { (disk : Self)

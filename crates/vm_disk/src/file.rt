@@ -1,11 +1,12 @@
 //! A file as a disk.
-ghost use Rattle.std.specs.Prelude.{◌≡◌, ◌<◌, ◌^◌, ◌/◌, ◌*◌, true, [], replicate, IfOk, OnOk};
-ghost use Rattle.vm_disk.specs.Disk.{Counts, Reads, Writes, Syncs};
+ghost use Rattle.std.specs.Prelude.{◌≡◌, ◌<◌, ◌≤◌, ◌^◌, ◌/◌, ◌*◌, true, [], length, IfOk, OnOk};
+ghost use Rattle.vm_disk.specs.Disk.{Counts, Reads, Writes, Syncs, Extends, Enlarges};
 ghost use Rattle.vm_disk.specs.Positional.{CountsFailures};
 
 use crate::disk::{DeviceFault, Disk};
 use crate::history::History;
 use crate::positional::Positional;
+use std::snapshot::Snapshot;
 
 /// The bytes of a block.
 const BLOCK: u64 = 4096;
@@ -13,14 +14,34 @@ const BLOCK: u64 = 4096;
 /// How many zero blocks are written at once.
 const AT_ONCE: u32 = 16;
 
-/// A file as a disk: block n is the 4,096 bytes from 4096 n on.
+/// What a disk over a file was before a call, for contracts alone.
+struct Earlier<F> {
+    file: Snapshot<F>,
+    blocks: u32,
+    sure: u32,
+}
+
+impl<F> Drop for Earlier<F> {
+    fn drop(self) {
+        let Earlier {
+            file: _,
+            blocks: _,
+            sure: _,
+        } = self;
+    }
+}
+
+/// A file as a disk: block n is the 4,096 bytes from 4096 n on. It knows how many blocks the file had
+/// when it was last synced, or was opened.
 #[derive(Drop)]
 pub struct FileDisk<F> {
     file: F,
     blocks: u32,
-    past: History<F>,
+    sure: u32,
+    past: History<Earlier<F>>,
     reads: History<()>,
     ghost small: { blocks < 2 ^ 32 },
+    ghost known: { sure ≤ blocks },
 }
 
 // Where a block begins.
@@ -30,24 +51,8 @@ fn offset_of(n: u32) -> u64
     u64::from(n) * BLOCK
 }
 
-// Writes zero blocks to a file with no bytes, several at once.
-fn write_zeros<F: Positional>(file: &mut F, blocks: u32) -> Result<(), DeviceFault>
-    ensures any { CountsFailures result (F.state file.old) (F.state file.new) }
-    ensures zeros { (F.state file.new).honest ≡ true
-        → (F.state file.old).bytes ≡ []
-        → OnOk result ((F.state file.new).bytes ≡ replicate (4096 * blocks) 0) }
-{
-    let mut done = 0;
-    while done < blocks {
-        let more = (blocks - done).min(AT_ONCE);
-        file.write_zeros_at(more as usize * 4096, offset_of(done))?;
-        done += more;
-    }
-    Ok(())
-}
-
 impl<F: Positional> FileDisk<F> {
-    ghost use Rattle.vm_disk.specs.File.{file_left, file_of, file_state, IsOver, IsOpened, IsZero};
+    ghost use Rattle.vm_disk.specs.File.{file_left, file_of, file_state, part_of, part_then, IsPart, IsOver, IsMade, IsOpened, IsZero, AddsZeros};
 
     /// The whole blocks of a file, at most 4,294,967,295. Where the file does not tell how many bytes it
     /// has, it comes back.
@@ -66,34 +71,76 @@ impl<F: Positional> FileDisk<F> {
         Ok(FileDisk::over(file, blocks))
     }
 
-    /// Writes zero blocks to a file with no bytes, and makes it a disk of them. Where they could not all
-    /// be written, the file comes back.
+    /// Writes zero blocks to a file with no bytes, and makes it a disk of them, none of which is sure
+    /// before a sync. Where they could not all be written, the file comes back.
     pub fn create(mut file: F, blocks: u32) -> Result<FileDisk<F>, F>
         ensures any { CountsFailures result (F.state file) (F.state (file_left result)) }
-        ensures over { IfOk result (λ disk.
-            IsOver blocks (F.state (file_of disk)) (file_state F.state disk)) }
+        ensures made { IfOk result (λ disk.
+            IsMade blocks (F.state (file_of disk)) (file_state F.state disk)) }
         ensures created { IfOk result (λ disk.
             (F.state (file_of disk)).honest ≡ true
             → (F.state file).bytes ≡ []
             → IsZero (file_state F.state disk)) }
     {
-        match write_zeros(&mut file, blocks) {
-            Ok(()) => Ok(FileDisk::over(file, blocks)),
+        match FileDisk::write_zeros(&mut file, &mut 0, blocks) {
+            Ok(()) => Ok(FileDisk::part(file, blocks, 0)),
             Err(DeviceFault) => Err(file),
         }
     }
 
-    /// The first blocks of a file, which may be fewer than it has.
+    /// The first blocks of a file that was there, which may be fewer than it has.
     pub fn over(file: F, blocks: u32) -> FileDisk<F>
         ensures file { file_of result ≡ file }
         ensures over { IsOver blocks (F.state file) (file_state F.state result) }
     {
+        FileDisk::part(file, blocks, blocks)
+    }
+
+    // The first blocks of a file, of which so many are sure.
+    fn part(file: F, blocks: u32, sure: u32) -> FileDisk<F>
+        requires { sure ≤ blocks }
+        ensures file { file_of result ≡ file }
+        ensures part { IsPart (record { file = F.state file; blocks = blocks; sure = sure })
+            (file_state F.state result) }
+    {
         FileDisk {
             file,
             blocks,
+            sure,
             past: History::new(),
             reads: History::new(),
         }
+    }
+
+    // What it is now, to be noted.
+    fn earlier(&self) -> Earlier<F>
+        ensures { part_then F.state result ≡ part_of F.state self.now }
+    {
+        Earlier {
+            file: Snapshot::of(&self.file),
+            blocks: self.blocks,
+            sure: self.sure,
+        }
+    }
+
+    // Writes zero blocks to a file, several at once, from where so many are done up to so many. It counts
+    // those that were written.
+    fn write_zeros(file: &mut F, done: &mut u32, blocks: u32) -> Result<(), DeviceFault>
+        requires { done.old ≤ blocks }
+        ensures any { CountsFailures result (F.state file.old) (F.state file.new) }
+        ensures least { done.old ≤ done.new }
+        ensures most { done.new ≤ blocks }
+        ensures all { OnOk result (done.new ≡ blocks) }
+        ensures added { (F.state file.new).honest ≡ true
+            → 4096 * done.old ≤ length (F.state file.old).bytes
+            → AddsZeros done.old done.new (F.state file.old) (F.state file.new) }
+    {
+        while *done < blocks {
+            let more = (blocks - *done).min(AT_ONCE);
+            file.write_zeros_at(more as usize * 4096, offset_of(*done))?;
+            *done += more;
+        }
+        Ok(())
     }
 
     /// The file below.
@@ -106,7 +153,7 @@ impl<F: Positional> FileDisk<F> {
 
 impl<F: Positional> Disk for FileDisk<F> {
     ghost use Rattle.std.proofs.lemmas.List.FromFn.{length-map-range_with_len};
-    ghost use Rattle.vm_disk.specs.File.{file_state, StaysHonest};
+    ghost use Rattle.vm_disk.specs.File.{file_state, file_of, AddsZeros, StaysHonest};
 
     ghost state = { file_state F.state };
 
@@ -127,7 +174,8 @@ impl<F: Positional> Disk for FileDisk<F> {
         ensures stays { StaysHonest F.state self.old self.new }
     {
         self.reads.note(&());
-        self.past.note(&self.file);
+        let was = self.earlier();
+        self.past.note(&was);
         self.file.read_at(into, offset_of(n))
     }
 
@@ -139,7 +187,8 @@ impl<F: Positional> Disk for FileDisk<F> {
 
         ensures stays { StaysHonest F.state self.old self.new }
     {
-        self.past.note(&self.file);
+        let was = self.earlier();
+        self.past.note(&was);
         self.file.write_at(from, offset_of(n))
     }
 
@@ -150,7 +199,30 @@ impl<F: Positional> Disk for FileDisk<F> {
 
         ensures stays { StaysHonest F.state self.old self.new }
     {
-        self.past.note(&self.file);
-        self.file.sync()
+        let was = self.earlier();
+        self.past.note(&was);
+        match self.file.sync() {
+            Ok(()) => {
+                self.sure = self.blocks;
+                Ok(())
+            }
+            Err(fault) => Err(fault),
+        }
+    }
+
+    fn extend(&mut self, blocks: u32) -> Result<(), DeviceFault>
+        requires { (file_state F.state self.old).blocks ≤ blocks }
+        ensures any { Extends blocks result (file_state F.state self.old) (file_state F.state self.new) }
+        ensures honest { (file_state F.state self.new).honest ≡ true
+            → Enlarges (file_state F.state self.old) (file_state F.state self.new) }
+
+        // The new blocks are written to the file as zeros.
+        ensures zero { (file_state F.state self.new).honest ≡ true
+            → AddsZeros self.old.blocks self.new.blocks (F.state (file_of self.old)) (F.state (file_of self.new)) }
+        ensures stays { StaysHonest F.state self.old self.new }
+    {
+        let was = self.earlier();
+        self.past.note(&was);
+        FileDisk::write_zeros(&mut self.file, &mut self.blocks, blocks)
     }
 }

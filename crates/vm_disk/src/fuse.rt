@@ -1,6 +1,6 @@
 //! A disk that fails at a call which a test picks.
-ghost use Rattle.std.specs.Prelude.{◌≡◌, ◌+◌, ◌-◌, ◌<◌, ◌^◌, ◌||◌, true, false, min, if◌then◌else◌, length, IsErr};
-ghost use Rattle.vm_disk.specs.Disk.{block, Counts, Reads, Writes, Syncs};
+ghost use Rattle.std.specs.Prelude.{◌≡◌, ◌+◌, ◌-◌, ◌<◌, ◌≤◌, ◌^◌, ◌||◌, true, false, min, if◌then◌else◌, length, IsErr};
+ghost use Rattle.vm_disk.specs.Disk.{block, Counts, Reads, Writes, Syncs, Extends, Enlarges};
 
 use crate::disk::{DeviceFault, Disk};
 use crate::history::History;
@@ -185,5 +185,23 @@ impl<D: Disk> Disk for FuseDisk<D> {
             return Err(DeviceFault);
         }
         self.inner.sync()
+    }
+
+    fn extend(&mut self, blocks: u32) -> Result<(), DeviceFault>
+        requires { (fuse_state D.state self.old).blocks ≤ blocks }
+        ensures any { Extends blocks result (fuse_state D.state self.old) (fuse_state D.state self.new) }
+        ensures honest { (fuse_state D.state self.new).honest ≡ true
+            → Enlarges (fuse_state D.state self.old) (fuse_state D.state self.new) }
+
+        ensures burns { Burns self.old self.new }
+        ensures passed { fails_next self.old ≡ false
+            → Extends blocks result (D.state (inner_of self.old)) (D.state (inner_of self.new)) }
+        ensures failed { fails_next self.old ≡ true → IsErr result }
+        ensures kept { fails_next self.old ≡ true → inner_of self.new ≡ inner_of self.old }
+    {
+        if !self.fails() {
+            return self.inner.extend(blocks);
+        }
+        Err(DeviceFault)
     }
 }

@@ -1,40 +1,97 @@
 //! A disk in memory, for tests.
-ghost use Rattle.std.specs.Prelude.{◌≡◌, ◌<◌, ◌&&◌, ◌==◌, ◌^◌, ℕ, true, false, if◌then◌else◌, [], length, replicate, IfOk};
-ghost use Rattle.vm_disk.specs.Disk.{block, IsClean, MayLeave};
+ghost use Rattle.std.specs.Prelude.{◌≡◌, ◌<◌, ◌≤◌, ◌&&◌, ◌==◌, ◌^◌, ◌+◌, ◌-◌, ℕ, true, false, if◌then◌else◌, [], ◌++◌, length, take, replicate, slice_index_or, vec_capacity, IfOk, OnOk, OnErr, IsOk, IsErr};
+ghost use Rattle.vm_disk.specs.Disk.{block, IsClean, MayLeave, Counts, Reads, Writes, Syncs, Extends, Enlarges};
 
 use crate::disk::{DeviceFault, Disk};
 use crate::history::History;
 use std::alloc::{AllocError, Global};
 
-/// Blocks, and which of them are not synced.
+/// Blocks, which of them are not synced, how many there were at the last sync, and for how many there
+/// is room.
 #[derive(Drop)]
 struct Platter {
     blocks: Vec<[u8; 4096]>,
     dirty: Vec<bool>,
+    sure: u32,
+    room: u32,
     ghost small: { length blocks.items < 2 ^ 32 },
     ghost marks: { length dirty.items ≡ length blocks.items },
+    ghost within: { sure ≤ length blocks.items },
+    ghost unsure: { (n : ℕ)
+        → sure ≤ n
+        → n < length blocks.items
+        → slice_index_or dirty.items n false ≡ true },
+    ghost room_of_blocks: { room ≤ vec_capacity blocks },
+    ghost room_of_marks: { room ≤ vec_capacity dirty },
 }
 
-/// A disk in memory, always honest, which never fails. Its device calls take no memory.
+/// A disk in memory, always honest, which fails only where it is to get longer than its room. Its device
+/// calls take no memory.
 #[derive(Drop)]
 pub struct MemDisk {
     platter: Platter,
     past: History<Platter>,
     reads: History<()>,
+    failed: History<()>,
 }
 
-fn zero_blocks(alloc: Global, count: usize) -> Result<Vec<[u8; 4096]>, AllocError>
-    ensures { IfOk result (λ blocks. blocks.items ≡ replicate count (replicate 4096 0)) }
+// Adds an element until there are so many, in room that is there.
+fn fill_up<T: Copy>(items: &mut Vec<T>, item: T, count: usize)
+    requires { count ≤ vec_capacity items.old }
+    ensures items { items.new.items
+        ≡ items.old.items ++ replicate (count - length items.old.items) item }
+    ensures capacity { vec_capacity items.old ≤ vec_capacity items.new }
 {
-    let mut blocks = Vec::with_capacity(alloc, count)?;
-    for _block in 0..count {
-        blocks.push([0; 4096])?;
+    while items.len() < count {
+        let _ = items.push(item);
     }
-    Ok(blocks)
 }
 
 impl Platter {
     ghost use Rattle.vm_disk.specs.Memory.{medium_of, filled};
+
+    // Room for so many blocks, and none of them.
+    fn with_room(alloc: Global, room: u32) -> Result<Platter, AllocError>
+        ensures blocks { IfOk result (λ platter. platter.blocks.items ≡ []) }
+        ensures room { IfOk result (λ platter. platter.room ≡ room) }
+    {
+        Ok(Platter {
+            blocks: Vec::with_capacity(alloc, room as usize)?,
+            dirty: Vec::with_capacity(alloc, room as usize)?,
+            sure: 0,
+            room,
+        })
+    }
+
+    // Adds zero blocks, which are dirty, until there are so many.
+    fn lengthen(&mut self, blocks: u32)
+        requires { blocks ≤ self.old.room }
+        ensures blocks { self.new.blocks.items
+            ≡ self.old.blocks.items
+            ++ replicate (blocks - length self.old.blocks.items) (replicate 4096 0) }
+        ensures dirty { self.new.dirty.items
+            ≡ self.old.dirty.items
+            ++ replicate (blocks - length self.old.blocks.items) true }
+        ensures sure { self.new.sure ≡ self.old.sure }
+        ensures room { self.new.room ≡ self.old.room }
+    {
+        let count = blocks as usize;
+        fill_up(&mut self.blocks, [0; 4096], count);
+        fill_up(&mut self.dirty, true, count);
+    }
+
+    // Takes the last blocks away, down to so many.
+    fn shorten(&mut self, blocks: u32)
+        requires sure { self.old.sure ≤ blocks }
+        requires fewer { blocks ≤ length self.old.blocks.items }
+        ensures blocks { self.new.blocks.items ≡ take blocks self.old.blocks.items }
+        ensures dirty { self.new.dirty.items ≡ take blocks self.old.dirty.items }
+        ensures sure { self.new.sure ≡ self.old.sure }
+        ensures room { self.new.room ≡ self.old.room }
+    {
+        self.blocks.truncate(blocks as usize);
+        self.dirty.truncate(blocks as usize);
+    }
 
     fn is_dirty(&self, n: u32) -> bool
         ensures { result ≡ (medium_of self.now).dirty n }
@@ -45,6 +102,8 @@ impl Platter {
 
     fn refill_block(&mut self, n: u32, bytes: &[u8; 4096])
         ensures dirty { self.new.dirty ≡ self.old.dirty }
+        ensures sure { self.new.sure ≡ self.old.sure }
+        ensures room { self.new.room ≡ self.old.room }
         ensures count { length self.new.blocks.items ≡ length self.old.blocks.items }
         ensures filled { (k : ℕ) → block self.new.blocks.items k
             ≡ (if (medium_of self.old).dirty k && n == k
@@ -56,9 +115,22 @@ impl Platter {
         }
     }
 
+    // All blocks are synced.
+    fn settle(&mut self)
+        ensures blocks { self.new.blocks ≡ self.old.blocks }
+        ensures clean { IsClean (medium_of self.new) }
+        ensures sure { self.new.sure ≡ length self.old.blocks.items }
+        ensures room { self.new.room ≡ self.old.room }
+    {
+        self.sure = self.blocks.len() as u32;
+        self.dirty.fill(false);
+    }
+
     // Each dirty block takes the bytes of its last entry.
     fn refill(&mut self, fill: &[(u32, [u8; 4096])])
         ensures dirty { self.new.dirty ≡ self.old.dirty }
+        ensures sure { self.new.sure ≡ self.old.sure }
+        ensures room { self.new.room ≡ self.old.room }
         ensures count { length self.new.blocks.items ≡ length self.old.blocks.items }
         ensures filled { (k : ℕ) → block self.new.blocks.items k
             ≡ (if (medium_of self.old).dirty k
@@ -72,22 +144,38 @@ impl Platter {
 }
 
 impl MemDisk {
-    ghost use Rattle.vm_disk.specs.Memory.{memory_state, filled, IsBlank};
+    ghost use Rattle.vm_disk.specs.Memory.{memory_state, room_of, filled, IsBlank};
 
-    /// A disk of zero bytes, all of it synced.
+    /// A disk of zero bytes, all of it synced. It has no more room than its blocks take.
     pub fn new(alloc: Global, blocks: u32) -> Result<MemDisk, AllocError>
-        ensures { IfOk result (λ disk. IsBlank blocks (memory_state disk)) }
+        ensures blank { IfOk result (λ disk. IsBlank blocks (memory_state disk)) }
+        ensures room { IfOk result (λ disk. room_of disk ≡ blocks) }
     {
-        let count = blocks as usize;
-        let platter = Platter {
-            blocks: zero_blocks(alloc, count)?,
-            dirty: Vec::from_elem(alloc, false, count)?,
-        };
+        MemDisk::with_room(alloc, blocks, blocks)
+    }
+
+    /// A disk of zero bytes, all of it synced, with room for so many blocks.
+    pub fn with_room(alloc: Global, blocks: u32, room: u32) -> Result<MemDisk, AllocError>
+        requires { blocks ≤ room }
+        ensures blank { IfOk result (λ disk. IsBlank blocks (memory_state disk)) }
+        ensures room { IfOk result (λ disk. room_of disk ≡ room) }
+    {
+        let mut blank = Platter::with_room(alloc, room)?;
+        blank.lengthen(blocks);
+        blank.settle();
         Ok(MemDisk {
-            platter,
+            platter: blank,
             past: History::new(),
             reads: History::new(),
+            failed: History::new(),
         })
+    }
+
+    /// How many blocks a crash surely leaves.
+    pub fn sure(&self) -> u32
+        ensures { result ≡ (memory_state self.now).now.sure }
+    {
+        self.platter.sure
     }
 
     /// Whether a crash may lose what block n holds. A number past the end names no dirty block.
@@ -108,26 +196,51 @@ impl MemDisk {
             else block (memory_state self).now.contents n) }
         ensures left { MayLeave (memory_state self).now (memory_state result).now.contents }
         ensures reads { (memory_state result).reads ≡ 0 }
+        ensures failures { (memory_state result).failures ≡ 0 }
         ensures past { (memory_state result).past ≡ [] }
+        ensures room { room_of result ≡ room_of self }
     {
         let MemDisk {
             mut platter,
             past: _,
             reads: _,
+            failed: _,
         } = self;
         platter.refill(fill);
-        platter.dirty.fill(false);
+        platter.settle();
         MemDisk {
             platter,
             past: History::new(),
             reads: History::new(),
+            failed: History::new(),
         }
+    }
+
+    /// The disk after a crash that leaves so many blocks, at least those that are sure. Of these, a dirty
+    /// block takes the bytes of its last entry, or keeps its own. Other entries are ignored.
+    pub fn crash_short(mut self, fill: &[(u32, [u8; 4096])], blocks: u32) -> MemDisk
+        requires sure { (memory_state self).now.sure ≤ blocks }
+        requires fewer { blocks ≤ (memory_state self).blocks }
+        ensures blocks { (memory_state result).blocks ≡ blocks }
+        ensures clean { IsClean (memory_state result).now }
+        ensures filled { (n : ℕ) → n < blocks → block (memory_state result).now.contents n
+            ≡ (if (memory_state self).now.dirty n
+            then filled fill.now n (block (memory_state self).now.contents n)
+            else block (memory_state self).now.contents n) }
+        ensures left { MayLeave (memory_state self).now (memory_state result).now.contents }
+        ensures reads { (memory_state result).reads ≡ 0 }
+        ensures failures { (memory_state result).failures ≡ 0 }
+        ensures past { (memory_state result).past ≡ [] }
+        ensures room { room_of result ≡ room_of self }
+    {
+        self.platter.shorten(blocks);
+        self.crash(fill)
     }
 }
 
 impl Disk for MemDisk {
     ghost use Rattle.std.specs.Prelude.{refl};
-    ghost use Rattle.vm_disk.specs.Memory.{memory_state};
+    ghost use Rattle.vm_disk.specs.Memory.{memory_state, room_of};
 
     ghost state = { memory_state };
 
@@ -139,23 +252,73 @@ impl Disk for MemDisk {
         self.platter.blocks.len() as u32
     }
 
-    fn read(&mut self, n: u32, into: &mut [u8; 4096]) -> Result<(), DeviceFault> {
+    fn read(&mut self, n: u32, into: &mut [u8; 4096]) -> Result<(), DeviceFault>
+        requires { n < (memory_state self.old).blocks }
+        ensures any { Counts 1 result (memory_state self.old) (memory_state self.new) }
+        ensures honest { (memory_state self.new).honest ≡ true
+            → Reads n into.new result (memory_state self.old) (memory_state self.new) }
+
+        ensures served { IsOk result }
+        ensures room { room_of self.new ≡ room_of self.old }
+    {
         self.reads.note(&());
         self.past.note(&self.platter);
         *into = self.platter.blocks[n as usize];
         Ok(())
     }
 
-    fn write(&mut self, n: u32, from: &[u8; 4096]) -> Result<(), DeviceFault> {
+    fn write(&mut self, n: u32, from: &[u8; 4096]) -> Result<(), DeviceFault>
+        requires { n < (memory_state self.old).blocks }
+        ensures any { Counts 0 result (memory_state self.old) (memory_state self.new) }
+        ensures honest { (memory_state self.new).honest ≡ true
+            → Writes n from.now result (memory_state self.old) (memory_state self.new) }
+
+        ensures served { IsOk result }
+        ensures room { room_of self.new ≡ room_of self.old }
+    {
         self.past.note(&self.platter);
         self.platter.blocks[n as usize] = *from;
         self.platter.dirty[n as usize] = true;
         Ok(())
     }
 
-    fn sync(&mut self) -> Result<(), DeviceFault> {
+    fn sync(&mut self) -> Result<(), DeviceFault>
+        ensures any { Counts 0 result (memory_state self.old) (memory_state self.new) }
+        ensures honest { (memory_state self.new).honest ≡ true
+            → Syncs result (memory_state self.old) (memory_state self.new) }
+
+        ensures served { IsOk result }
+        ensures room { room_of self.new ≡ room_of self.old }
+    {
         self.past.note(&self.platter);
-        self.platter.dirty.fill(false);
+        self.platter.settle();
+        Ok(())
+    }
+
+    fn extend(&mut self, blocks: u32) -> Result<(), DeviceFault>
+        requires { (memory_state self.old).blocks ≤ blocks }
+        ensures any { Extends blocks result (memory_state self.old) (memory_state self.new) }
+        ensures honest { (memory_state self.new).honest ≡ true
+            → Enlarges (memory_state self.old) (memory_state self.new) }
+
+        // Within its room it never fails, and the new blocks hold zeros.
+        ensures within { blocks ≤ room_of self.old → IsOk result }
+        ensures zero { OnOk result ((memory_state self.new).now.contents
+            ≡ (memory_state self.old).now.contents
+            ++ replicate (blocks - (memory_state self.old).blocks) (replicate 4096 0)) }
+
+        // Beyond it, it fails, and changes nothing but the count of failures.
+        ensures beyond { room_of self.old < blocks → IsErr result }
+        ensures refused { OnErr result (memory_state self.new
+            ≡ record (memory_state self.old) { failures = (memory_state self.old).failures + 1 }) }
+        ensures room { room_of self.new ≡ room_of self.old }
+    {
+        if self.platter.room < blocks {
+            self.failed.note(&());
+            return Err(DeviceFault);
+        }
+        self.past.note(&self.platter);
+        self.platter.lengthen(blocks);
         Ok(())
     }
 }

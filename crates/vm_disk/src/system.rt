@@ -9,11 +9,11 @@ ghost use Rattle.vm_disk.specs.Syncing.{counts_as_synced};
 use crate::disk::DeviceFault;
 use crate::history::{History, noted_bytes};
 use crate::positional::Positional;
-use std::fs::{self, File, OpenOptions};
-use std::io;
+use std::fs::{self, File, Metadata, OpenOptions};
+use std::io::{self, Seek, SeekFrom};
 use std::marker::{Brand, PhantomData};
 use std::os::fd::{AsRawFd, RawFd};
-use std::os::unix::fs::FileExt;
+use std::os::unix::fs::{FileExt, FileTypeExt};
 use std::rt::Files;
 use std::snapshot::Snapshot;
 
@@ -55,13 +55,27 @@ enum Call {
     Failed,
 }
 
-// Whether a plain file has this name: no folder, and no pipe or device, whose opening alone may wait for
-// others, or do something.
-fn is_plain(rt: &impl Files, path: &str) -> bool {
+// Whether a plain file or a block device has this name: no folder, and no pipe or other device, whose
+// opening alone may wait for others, or do something.
+fn has_blocks(rt: &impl Files, path: &str) -> bool {
     match fs::metadata(rt, path) {
-        Ok(metadata) => metadata.is_file(),
+        Ok(metadata) => is_plain_or_device(&metadata),
         Err(_) => false,
     }
+}
+
+// Whether this is a plain file or a block device.
+fn is_plain_or_device(metadata: &Metadata) -> bool {
+    metadata.is_file() || metadata.file_type().is_block_device()
+}
+
+// How many bytes a file has. Of a block device the system tells it by the place of its end alone.
+fn length_of(mut file: &File) -> io::Result<u64> {
+    let metadata = file.metadata()?;
+    if metadata.is_file() {
+        return Ok(metadata.len());
+    }
+    file.seek(SeekFrom::End(0))
 }
 
 // Whether all writes last after a sync that was answered so. Some file systems that cannot be written
@@ -98,8 +112,8 @@ pub struct SystemFile<W> {
 impl<W: World> SystemFile<W> {
     ghost use Rattle.vm_disk.specs.System.{system_state, state_after, fresh, held_bytes, name_of, opening_of, is_read_alone};
 
-    /// Opens a plain file that is there, to be read and written, after so many others. None where it
-    /// cannot be opened, is no plain file, or has a standard descriptor.
+    /// Opens a plain file or a block device that is there, to be read and written, after so many others.
+    /// None where it cannot be opened, is neither of these, or has a standard descriptor.
     pub fn open(
         rt: &impl Files<File = File>,
         path: &str,
@@ -111,7 +125,7 @@ impl<W: World> SystemFile<W> {
         ensures name { IfSome result (λ file. name_of file ≡ path.now) }
         ensures opening { IfSome result (λ file. opening_of file ≡ length (noted opened.now)) }
     {
-        if !is_plain(rt, path) {
+        if !has_blocks(rt, path) {
             return None;
         }
         let mut how = OpenOptions::new();
@@ -119,8 +133,9 @@ impl<W: World> SystemFile<W> {
         SystemFile::opened(rt, &how, path, opened, History::new())
     }
 
-    /// Opens a plain file that is there, to be read alone, after so many others: each write fails, and
-    /// none is made. None where it cannot be opened, is no plain file, or has a standard descriptor.
+    /// Opens a plain file or a block device that is there, to be read alone, after so many others: each
+    /// write fails, and none is made. None where it cannot be opened, is neither of these, or has a
+    /// standard descriptor.
     pub fn open_to_read(
         rt: &impl Files<File = File>,
         path: &str,
@@ -132,7 +147,7 @@ impl<W: World> SystemFile<W> {
         ensures name { IfSome result (λ file. name_of file ≡ path.now) }
         ensures opening { IfSome result (λ file. opening_of file ≡ length (noted opened.now)) }
     {
-        if !is_plain(rt, path) {
+        if !has_blocks(rt, path) {
             return None;
         }
         let mut how = OpenOptions::new();
@@ -160,8 +175,8 @@ impl<W: World> SystemFile<W> {
     }
 
     // Opens a file in this way, after so many others, of which these calls are known. It is to be read
-    // alone where the way asks for no writes. None where it cannot be opened, is no plain file after
-    // all, or has a standard descriptor.
+    // alone where the way asks for no writes. None where it cannot be opened, is neither a plain file
+    // nor a block device after all, or has a standard descriptor.
     fn opened(
         rt: &impl Files<File = File>,
         how: &OpenOptions,
@@ -177,7 +192,8 @@ impl<W: World> SystemFile<W> {
         ensures opening { IfSome result (λ file. opening_of file ≡ length (noted opened.now)) }
     {
         let file = how.open(rt, path).ok()?;
-        if !file.metadata().ok()?.is_file() || file.as_raw_fd() <= LAST_STANDARD {
+        let metadata = file.metadata().ok()?;
+        if !is_plain_or_device(&metadata) || file.as_raw_fd() <= LAST_STANDARD {
             return None;
         }
         Some(SystemFile {
@@ -203,11 +219,10 @@ impl<W: World> Positional for SystemFile<W> {
 
         ensures mode { is_read_alone self.new ≡ is_read_alone self.old }
     {
-        let Ok(metadata) = self.file.metadata() else {
+        let Ok(count) = length_of(&self.file) else {
             self.calls.note(&Call::Failed);
             return Err(DeviceFault);
         };
-        let count = metadata.len();
         self.calls.note(&Call::Measured(count));
         Ok(count)
     }

@@ -78,6 +78,94 @@ fn crash_fills_dirty_blocks_alone(rt: HostRuntime) -> Result<(), Fail> {
     Ok(())
 }
 
+// Makes a disk longer. Fewer blocks than it has are a failure.
+fn grow<D: Disk>(disk: &mut D, blocks: u32) -> Result<(), DeviceFault> {
+    if disk.blocks() <= blocks {
+        disk.extend(blocks)
+    } else {
+        Err(DeviceFault)
+    }
+}
+
+// The disk after a crash that leaves so many blocks, if it may.
+fn left_with(disk: MemDisk, entries: &[(u32, [u8; 4096])], blocks: u32) -> Option<MemDisk> {
+    if disk.sure() <= blocks && blocks <= disk.blocks() {
+        Some(disk.crash_short(entries, blocks))
+    } else {
+        None
+    }
+}
+
+#[test]
+fn memory_gets_longer_within_its_room(rt: HostRuntime) -> Result<(), Fail> {
+    let mut disk = MemDisk::with_room(rt.alloc(), 3, 6)?;
+    assert_eq!(rt; (disk.blocks(), disk.sure()), (3, 3));
+    fill(&mut disk, 2, 7)?;
+    grow(&mut disk, 5)?;
+    assert_eq!(rt; (disk.blocks(), disk.sure()), (5, 3));
+    for (n, dirty) in [(1, false), (2, true), (3, true), (4, true), (5, false)] {
+        assert_eq!(rt; disk.is_dirty(n), dirty, "block {n}");
+    }
+    fill(&mut disk, 4, 8)?;
+    for (n, byte) in [(1, 0), (2, 7), (3, 0), (4, 8)] {
+        assert_eq!(rt; filling(&mut disk, n)?, Some(byte), "block {n}");
+    }
+    disk.sync()?;
+    assert_eq!(rt; (disk.blocks(), disk.sure()), (5, 5));
+    assert!(rt; !disk.is_dirty(4));
+    Ok(())
+}
+
+#[test]
+fn memory_gets_no_longer_than_its_room(rt: HostRuntime) -> Result<(), Fail> {
+    let mut disk = MemDisk::with_room(rt.alloc(), 3, 6)?;
+    assert_eq!(rt; grow(&mut disk, 7), Err(DeviceFault));
+    assert_eq!(rt; (disk.blocks(), disk.sure()), (3, 3));
+    grow(&mut disk, 6)?;
+    assert_eq!(rt; disk.blocks(), 6);
+    let mut full = MemDisk::new(rt.alloc(), 3)?;
+    grow(&mut full, 3)?;
+    assert_eq!(rt; grow(&mut full, 4), Err(DeviceFault));
+    assert_eq!(rt; full.blocks(), 3);
+    Ok(())
+}
+
+#[test]
+fn crash_may_leave_fewer_blocks(rt: HostRuntime) -> Result<(), Fail> {
+    let mut disk = MemDisk::with_room(rt.alloc(), 2, 6)?;
+    fill(&mut disk, 1, 7)?;
+    disk.sync()?;
+    grow(&mut disk, 5)?;
+    fill(&mut disk, 2, 8)?;
+    let entries = [(2, [9; 4096]), (4, [5; 4096])];
+    let Some(mut left) = left_with(disk, &entries, 3) else {
+        panic!(rt; "not left");
+    };
+    assert_eq!(rt; (left.blocks(), left.sure()), (3, 3));
+    for (n, byte) in [(0, 0), (1, 7), (2, 9)] {
+        assert_eq!(rt; filling(&mut left, n)?, Some(byte), "block {n}");
+    }
+    grow(&mut left, 6)?;
+    assert_eq!(rt; (left.blocks(), left.sure()), (6, 3));
+    assert_eq!(rt; left.crash(&entries).blocks(), 6);
+    Ok(())
+}
+
+#[test]
+fn fuse_fails_a_growing(rt: HostRuntime) -> Result<(), Fail> {
+    let inner = MemDisk::with_room(rt.alloc(), 2, 4)?;
+    let mut disk = FuseDisk::once(inner, 1, [9; 4096]);
+    fill(&mut disk, 1, 7)?;
+    assert_eq!(rt; grow(&mut disk, 4), Err(DeviceFault));
+    assert!(rt; disk.blown());
+    assert_eq!(rt; (disk.blocks(), disk.calls()), (2, 2));
+    grow(&mut disk, 4)?;
+    assert_eq!(rt; (disk.blocks(), disk.calls()), (4, 3));
+    assert_eq!(rt; disk.inner().sure(), 2);
+    assert_eq!(rt; filling(&mut disk, 1)?, Some(7));
+    Ok(())
+}
+
 #[test]
 fn fuse_fails_one_write_and_goes_on(rt: HostRuntime) -> Result<(), Fail> {
     let mut disk = FuseDisk::once(MemDisk::new(rt.alloc(), 4)?, 2, [9; 4096]);
@@ -145,6 +233,24 @@ fn cache_asks_for_what_it_does_not_keep(rt: HostRuntime) -> Result<(), Fail> {
 }
 
 #[test]
+fn cache_gets_longer(rt: HostRuntime) -> Result<(), Fail> {
+    let inner = MemDisk::with_room(rt.alloc(), 2, 4)?;
+    let Ok(mut disk) = CachedDisk::new(rt.alloc(), inner, 4) else {
+        return Err(Fail::new("no memory"));
+    };
+    fill(&mut disk, 1, 7)?;
+    grow(&mut disk, 4)?;
+    assert_eq!(rt; disk.blocks(), 4);
+    fill(&mut disk, 3, 8)?;
+    for (n, byte) in [(1, 7), (2, 0), (3, 8)] {
+        assert_eq!(rt; filling(&mut disk, n)?, Some(byte), "block {n}");
+    }
+    assert_eq!(rt; grow(&mut disk, 5), Err(DeviceFault));
+    assert_eq!(rt; disk.into_inner().blocks(), 4);
+    Ok(())
+}
+
+#[test]
 fn cache_writes_through(rt: HostRuntime) -> Result<(), Fail> {
     let Ok(mut disk) = CachedDisk::new(rt.alloc(), MemDisk::new(rt.alloc(), 4)?, 1) else {
         return Err(Fail::new("no memory"));
@@ -163,11 +269,12 @@ fn cache_writes_through(rt: HostRuntime) -> Result<(), Fail> {
 }
 
 // A file in memory, of which contracts know how many calls failed, and no more. Where it is to fail,
-// each call of it does.
+// each call of it does, and zeros past its room are not written.
 #[derive(Drop)]
 struct Bytes {
     bytes: Vec<u8>,
     fails: bool,
+    room: usize,
     failed: History<()>,
 }
 
@@ -239,7 +346,11 @@ impl Positional for Bytes {
 
     fn write_zeros_at(&mut self, count: usize, offset: u64) -> Result<(), DeviceFault> {
         self.told(Ok(()))?;
-        let answer = set_all(&mut self.bytes, &[0; 65536][..count], offset);
+        let answer = if self.room < (offset as usize).saturating_add(count) {
+            Err(DeviceFault)
+        } else {
+            set_all(&mut self.bytes, &[0; 65536][..count], offset)
+        };
         self.told(answer)
     }
 
@@ -257,6 +368,7 @@ fn numbered(alloc: Global, count: usize) -> Result<Bytes, AllocError> {
     Ok(Bytes {
         bytes,
         fails: false,
+        room: usize::MAX,
         failed: History::new(),
     })
 }
@@ -294,6 +406,36 @@ fn file_is_made_of_zero_blocks(rt: HostRuntime) -> Result<(), Fail> {
 }
 
 #[test]
+fn file_gets_longer(rt: HostRuntime) -> Result<(), Fail> {
+    let Ok(mut disk) = FileDisk::open(numbered(rt.alloc(), 12298)?) else {
+        panic!(rt; "no disk");
+    };
+    grow(&mut disk, 20)?;
+    assert_eq!(rt; disk.blocks(), 20);
+    fill(&mut disk, 19, 7)?;
+    for (n, byte) in [(0, 1), (2, 3), (3, 0), (18, 0), (19, 7)] {
+        assert_eq!(rt; filling(&mut disk, n)?, Some(byte), "block {n}");
+    }
+    assert_eq!(rt; disk.into_file().bytes.len(), 81920);
+    Ok(())
+}
+
+#[test]
+fn file_without_room_gets_what_is_written(rt: HostRuntime) -> Result<(), Fail> {
+    let mut file = numbered(rt.alloc(), 12288)?;
+    file.room = 30 * 4096;
+    let Ok(mut disk) = FileDisk::open(file) else {
+        panic!(rt; "no disk");
+    };
+    assert_eq!(rt; grow(&mut disk, 36), Err(DeviceFault));
+    assert_eq!(rt; disk.blocks(), 19);
+    assert_eq!(rt; filling(&mut disk, 18)?, Some(0));
+    grow(&mut disk, 30)?;
+    assert_eq!(rt; disk.blocks(), 30);
+    Ok(())
+}
+
+#[test]
 fn file_that_fails(rt: HostRuntime) -> Result<(), Fail> {
     let mut file = numbered(rt.alloc(), 4096)?;
     file.fails = true;
@@ -301,6 +443,8 @@ fn file_that_fails(rt: HostRuntime) -> Result<(), Fail> {
     assert_eq!(rt; filling(&mut disk, 0), Err(DeviceFault));
     assert_eq!(rt; fill(&mut disk, 0, 7), Err(DeviceFault));
     assert_eq!(rt; disk.sync(), Err(DeviceFault));
+    assert_eq!(rt; grow(&mut disk, 2), Err(DeviceFault));
+    assert_eq!(rt; disk.blocks(), 1);
     let file = disk.into_file();
     assert_eq!(rt; file.bytes.get(0).copied(), Some(1));
     let Err(file) = FileDisk::open(file) else {

@@ -7,4 +7,4 @@ invariant_of-self g c =
 
 pub invariant_of-self-in-Ok : goal.invariant_of-self-in-Ok
 invariant_of-self-in-Ok g c =
-    record { right = right_after_miss c.read.result _ (g.D.Disk.state c.args.self.now.inner) (g.D.Disk.state c.read.new.self) c.args.n _ c.read.new.into _ _ _ c.recall.result _ _ c.in-Ok.is c.if-recall.false c.recall.ensures.missed c.read.ensures.any c.read.ensures.honest c.keep.ensures.kept c.args.self.now.right }
+    record { right = right_after_miss c.read.result _ (g.D.Disk.state c.args.self.now.inner) (g.D.Disk.state c.read.new.self) c.args.n _ c.read.new.into _ _ _ c.recall.result _ _ c.in-Ok.is c.if-recall.false c.recall.ensures.missed (record { there = c.requires; whole = g.met.D.Disk.whole c.read.new.self }) c.read.ensures.any c.read.ensures.honest c.keep.ensures.kept c.args.self.now.right }

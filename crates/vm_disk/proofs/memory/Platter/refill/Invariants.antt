@@ -7,6 +7,8 @@ abbrev pub invariant-loop-n : goal.invariant-loop-n
 invariant-loop-n l =
     let old = l.initial.self in record {
       dirty : l.self.dirty ≡ old.dirty;
+      sure : l.self.sure ≡ old.sure;
+      room : l.self.room ≡ old.room;
       count : length l.self.blocks.items ≡ length old.blocks.items;
       filled : (k : ℕ) → block l.self.blocks.items k ≡ (if (medium_of old).dirty k then filled (take l.n-index l.fill) k (block old.blocks.items k) else block old.blocks.items k);
     }
