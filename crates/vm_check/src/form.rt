@@ -1,11 +1,11 @@
 //! What a block of a tree is, read from a disk.
 ghost use Rattle.std.specs.Prelude.{◌≡◌, ◌≢◌, ℕ, ◌≤◌, true, List, length, IfOk};
-ghost use Rattle.vm_disk.specs.Disk.{Goes, block as bytes_at};
-ghost use Rattle.vm_disk.specs.Moments.{OnlyReads};
+ghost use Rattle.vm_disk.specs.Disk.{block as bytes_at};
 ghost use Rattle.vm_block.specs.Leaf.{Record};
 ghost use Rattle.vm_block.specs.Node.{IsNode};
 ghost use Rattle.vm_block.specs.declared.node.Child.{Child};
 ghost use Rattle.vm_tree.specs.Answers.{OkOrDevice};
+ghost use Rattle.vm_tree.specs.Calls.{OnlyLooks};
 ghost use Rattle.vm_tree.specs.Reading.{IsLeafAt, IsNodeAt, ReadsOne};
 ghost use Rattle.vm_check.specs.Form.{IsFilled, IsForm};
 
@@ -30,18 +30,20 @@ pub(crate) fn form_at<D: Disk>(
     bytes: &mut [u8; 4096],
 ) -> Result<Form, TreeFault>
     requires { blocks ≤ (D.state disk.old).blocks }
-    ensures any { Goes (result ≡ Err TreeFault.Device) (D.state disk.old) (D.state disk.new) }
+    ensures looks { OnlyLooks result (D.state disk.old) (D.state disk.new) }
     ensures deep { result ≢ Err TreeFault.Deep }
     ensures memory { result ≢ Err TreeFault.Memory }
     ensures once { ReadsOne blocks block (D.state disk.old).reads (D.state disk.new).reads }
-    ensures reads { (D.state disk.new).honest ≡ true → OnlyReads (D.state disk.old) (D.state disk.new) }
     ensures some { IfOk result IsFilled }
     ensures form { IfOk result (IsForm bytes.new) }
-    ensures found { (D.state disk.new).honest ≡ true → IfOk result (λ form. bytes.new ≡ bytes_at (D.state disk.old).now.contents block) }
+    ensures found { (D.state disk.new).honest ≡ true
+        → IfOk result (λ form. bytes.new ≡ bytes_at (D.state disk.old).now.contents block) }
     ensures leaf { (D.state disk.new).honest ≡ true → (rs : List Record)
-        → IsLeafAt (D.state disk.old).now.contents blocks block rs → OkOrDevice result (λ form. Unit {0}) }
+        → IsLeafAt (D.state disk.old).now.contents blocks block rs
+        → OkOrDevice result (λ form. Unit {0}) }
     ensures node { (D.state disk.new).honest ≡ true → (level : ℕ) (cs : List Child)
-        → IsNodeAt (D.state disk.old).now.contents blocks level block cs → OkOrDevice result (λ form. Unit {0}) }
+        → IsNodeAt (D.state disk.old).now.contents blocks level block cs
+        → OkOrDevice result (λ form. Unit {0}) }
 {
     data_at(disk, blocks, block, bytes)?;
     match leaf_size(bytes) {
@@ -62,16 +64,18 @@ pub(crate) fn node_at<D: Disk>(
     bytes: &mut [u8; 4096],
 ) -> Result<usize, TreeFault>
     requires { blocks ≤ (D.state disk.old).blocks }
-    ensures any { Goes (result ≡ Err TreeFault.Device) (D.state disk.old) (D.state disk.new) }
+    ensures looks { OnlyLooks result (D.state disk.old) (D.state disk.new) }
     ensures deep { result ≢ Err TreeFault.Deep }
     ensures memory { result ≢ Err TreeFault.Memory }
     ensures once { ReadsOne blocks block (D.state disk.old).reads (D.state disk.new).reads }
-    ensures reads { (D.state disk.new).honest ≡ true → OnlyReads (D.state disk.old) (D.state disk.new) }
     ensures few { IfOk result (λ count. count ≤ 256) }
-    ensures form { IfOk result (λ count. (cs : List Child) × IsNode bytes.new level cs × (length cs ≡ count)) }
-    ensures found { (D.state disk.new).honest ≡ true → IfOk result (λ count. bytes.new ≡ bytes_at (D.state disk.old).now.contents block) }
+    ensures form { IfOk result
+        (λ count. (cs : List Child) × IsNode bytes.new level cs × (length cs ≡ count)) }
+    ensures found { (D.state disk.new).honest ≡ true
+        → IfOk result (λ count. bytes.new ≡ bytes_at (D.state disk.old).now.contents block) }
     ensures only { (D.state disk.new).honest ≡ true → (cs : List Child)
-        → IsNodeAt (D.state disk.old).now.contents blocks level block cs → OkOrDevice result (λ count. Unit {0}) }
+        → IsNodeAt (D.state disk.old).now.contents blocks level block cs
+        → OkOrDevice result (λ count. Unit {0}) }
 {
     data_at(disk, blocks, block, bytes)?;
     match node_size(bytes) {

@@ -1,11 +1,10 @@
 //! Marking what lies under roots.
 ghost use Rattle.std.specs.Prelude.{◌≡◌, ◌≢◌, ℕ, ◌+◌, ◌≤◌, true, List, length, OnOk};
-ghost use Rattle.vm_disk.specs.Disk.{Goes};
-ghost use Rattle.vm_disk.specs.Moments.{OnlyReads};
 ghost use Rattle.vm_alloc.specs.Held.{HoldsMore};
 ghost use Rattle.vm_block.specs.Leaf.{Record};
 ghost use Rattle.vm_block.specs.Tree.{Sizes, Subtree};
 ghost use Rattle.vm_tree.specs.Answers.{OkOrDevice};
+ghost use Rattle.vm_tree.specs.Calls.{OnlyLooks};
 ghost use Rattle.vm_check.specs.Marking.{AreUnder, ClosedTo, IsClosed, IsUnder, MarksMore, MarksOnly, unmarked};
 
 use crate::form::node_at;
@@ -24,19 +23,25 @@ fn mark_below<D: Disk>(
 ) -> Result<(), TreeFault>
     requires inside { blocks ≤ (D.state disk.old).blocks }
     requires bits { length marks.old ≡ blocks }
-    ensures any { Goes (result ≡ Err TreeFault.Device) (D.state disk.old) (D.state disk.new) }
+    ensures looks { OnlyLooks result (D.state disk.old) (D.state disk.new) }
     ensures deep { result ≢ Err TreeFault.Deep }
     ensures memory { result ≢ Err TreeFault.Memory }
-    ensures once { (D.state disk.new).reads + unmarked marks.new ≤ (D.state disk.old).reads + unmarked marks.old }
+    ensures once { (D.state disk.new).reads + unmarked marks.new
+        ≤ (D.state disk.old).reads + unmarked marks.old }
     ensures growing { HoldsMore marks.old marks.new }
-    ensures reads { (D.state disk.new).honest ≡ true → OnlyReads (D.state disk.old) (D.state disk.new) }
-    ensures marked { (D.state disk.new).honest ≡ true → (sizes : Sizes) (rs : List Record) (bs : List ℕ)
-        → Subtree sizes (D.state disk.old).now.contents blocks level block rs bs → ClosedTo (D.state disk.old).now.contents level marks.old
+    ensures marked { (D.state disk.new).honest ≡ true
+        → (sizes : Sizes) (rs : List Record) (bs : List ℕ)
+        → Subtree sizes (D.state disk.old).now.contents blocks level block rs bs
+        → ClosedTo (D.state disk.old).now.contents level marks.old
         → OkOrDevice result (λ _. MarksMore bs marks.old marks.new) }
-    ensures sound { (D.state disk.new).honest ≡ true → (sizes : Sizes) (rs : List Record) (bs : List ℕ)
-        → Subtree sizes (D.state disk.old).now.contents blocks level block rs bs → OkOrDevice result (λ _. Unit {0}) }
-    ensures only { (D.state disk.new).honest ≡ true → (sizes : Sizes) (rs : List Record) (bs : List ℕ)
-        → Subtree sizes (D.state disk.old).now.contents blocks level block rs bs → MarksOnly bs marks.old marks.new }
+    ensures sound { (D.state disk.new).honest ≡ true
+        → (sizes : Sizes) (rs : List Record) (bs : List ℕ)
+        → Subtree sizes (D.state disk.old).now.contents blocks level block rs bs
+        → OkOrDevice result (λ _. Unit {0}) }
+    ensures only { (D.state disk.new).honest ≡ true
+        → (sizes : Sizes) (rs : List Record) (bs : List ℕ)
+        → Subtree sizes (D.state disk.old).now.contents blocks level block rs bs
+        → MarksOnly bs marks.old marks.new }
 {
     if !is_data(blocks, block) {
         return Err(TreeFault::Damaged(block));
@@ -49,19 +54,12 @@ fn mark_below<D: Disk>(
         return Ok(());
     }
     let mut bytes = [0; 4096];
-    match node_at(disk, blocks, level, block, &mut bytes) {
-        Ok(count) => {
-            for i in 0..count {
-                let child = child_at(&bytes, i);
-                match mark_below(disk, blocks, level - 1, child.block, marks) {
-                    Ok(()) => {}
-                    Err(fault) => return Err(fault),
-                }
-            }
-            Ok(())
-        }
-        Err(fault) => Err(fault),
+    let count = node_at(disk, blocks, level, block, &mut bytes)?;
+    for i in 0..count {
+        let child = child_at(&bytes, i);
+        mark_below(disk, blocks, level - 1, child.block, marks)?;
     }
+    Ok(())
 }
 
 /// Marks all blocks under a root.
@@ -73,19 +71,22 @@ fn mark_root<D: Disk>(
 ) -> Result<(), TreeFault>
     requires inside { blocks ≤ (D.state disk.old).blocks }
     requires bits { length marks.old ≡ blocks }
-    ensures any { Goes (result ≡ Err TreeFault.Device) (D.state disk.old) (D.state disk.new) }
+    ensures looks { OnlyLooks result (D.state disk.old) (D.state disk.new) }
     ensures deep { result ≢ Err TreeFault.Deep }
     ensures memory { result ≢ Err TreeFault.Memory }
-    ensures once { (D.state disk.new).reads + unmarked marks.new ≤ (D.state disk.old).reads + unmarked marks.old }
+    ensures once { (D.state disk.new).reads + unmarked marks.new
+        ≤ (D.state disk.old).reads + unmarked marks.old }
     ensures growing { HoldsMore marks.old marks.new }
-    ensures reads { (D.state disk.new).honest ≡ true → OnlyReads (D.state disk.old) (D.state disk.new) }
     ensures marked { (D.state disk.new).honest ≡ true → (sizes : Sizes) (bs : List ℕ)
-        → IsUnder sizes (D.state disk.old).now.contents blocks root bs → IsClosed (D.state disk.old).now.contents marks.old
+        → IsUnder sizes (D.state disk.old).now.contents blocks root bs
+        → IsClosed (D.state disk.old).now.contents marks.old
         → OkOrDevice result (λ _. MarksMore bs marks.old marks.new) }
     ensures sound { (D.state disk.new).honest ≡ true → (sizes : Sizes) (bs : List ℕ)
-        → IsUnder sizes (D.state disk.old).now.contents blocks root bs → OkOrDevice result (λ _. Unit {0}) }
+        → IsUnder sizes (D.state disk.old).now.contents blocks root bs
+        → OkOrDevice result (λ _. Unit {0}) }
     ensures only { (D.state disk.new).honest ≡ true → (sizes : Sizes) (bs : List ℕ)
-        → IsUnder sizes (D.state disk.old).now.contents blocks root bs → MarksOnly bs marks.old marks.new }
+        → IsUnder sizes (D.state disk.old).now.contents blocks root bs
+        → MarksOnly bs marks.old marks.new }
 {
     if root.block == 0 {
         return Ok(());
@@ -101,36 +102,37 @@ fn mark_root<D: Disk>(
 /// blocks are marked.
 pub fn mark<D: Disk>(disk: &mut D, roots: &[Root], marks: &mut Marks) -> Result<(), TreeFault>
     requires { length marks.old ≤ (D.state disk.old).blocks }
-    ensures any { Goes (result ≡ Err TreeFault.Device) (D.state disk.old) (D.state disk.new) }
+    ensures looks { OnlyLooks result (D.state disk.old) (D.state disk.new) }
     ensures deep { result ≢ Err TreeFault.Deep }
     ensures memory { result ≢ Err TreeFault.Memory }
     ensures growing { HoldsMore marks.old marks.new }
-    ensures reads { (D.state disk.new).honest ≡ true → OnlyReads (D.state disk.old) (D.state disk.new) }
 
     // For each block that it reads it marks a data block that was not marked.
-    ensures once { (D.state disk.new).reads + unmarked marks.new ≤ (D.state disk.old).reads + unmarked marks.old }
+    ensures once { (D.state disk.new).reads + unmarked marks.new
+        ≤ (D.state disk.old).reads + unmarked marks.old }
 
     // On trees, whatever the sizes of their blocks and whatever was marked before, it is Ok unless the
     // device fails; and whatever it answers, it marks no blocks but those under the roots.
     ensures sound { (D.state disk.new).honest ≡ true → (sizes : Sizes) (bs : List ℕ)
-        → AreUnder sizes (D.state disk.old).now.contents (length marks.old) roots.now bs → OkOrDevice result (λ _. Unit {0}) }
+        → AreUnder sizes (D.state disk.old).now.contents (length marks.old) roots.now bs
+        → OkOrDevice result (λ _. Unit {0}) }
     ensures only { (D.state disk.new).honest ≡ true → (sizes : Sizes) (bs : List ℕ)
-        → AreUnder sizes (D.state disk.old).now.contents (length marks.old) roots.now bs → MarksOnly bs marks.old marks.new }
+        → AreUnder sizes (D.state disk.old).now.contents (length marks.old) roots.now bs
+        → MarksOnly bs marks.old marks.new }
 
     // Where the marks were closed, they grow by exactly the blocks under the roots, and stay closed.
     ensures marked { (D.state disk.new).honest ≡ true → (sizes : Sizes) (bs : List ℕ)
-        → AreUnder sizes (D.state disk.old).now.contents (length marks.old) roots.now bs → IsClosed (D.state disk.old).now.contents marks.old
+        → AreUnder sizes (D.state disk.old).now.contents (length marks.old) roots.now bs
+        → IsClosed (D.state disk.old).now.contents marks.old
         → OkOrDevice result (λ _. MarksMore bs marks.old marks.new) }
     ensures closed { (D.state disk.new).honest ≡ true → (sizes : Sizes) (bs : List ℕ)
-        → AreUnder sizes (D.state disk.old).now.contents (length marks.old) roots.now bs → IsClosed (D.state disk.old).now.contents marks.old
+        → AreUnder sizes (D.state disk.old).now.contents (length marks.old) roots.now bs
+        → IsClosed (D.state disk.old).now.contents marks.old
         → OnOk result (IsClosed (D.state disk.old).now.contents marks.new) }
 {
     let blocks = marks.blocks();
     for root in roots {
-        match mark_root(disk, blocks, *root, marks) {
-            Ok(()) => {}
-            Err(fault) => return Err(fault),
-        }
+        mark_root(disk, blocks, *root, marks)?;
     }
     Ok(())
 }

@@ -2,14 +2,13 @@
 ghost use Rattle.std.specs.Prelude.{◌≡◌, ◌≢◌, ◌↔◌, ℕ, ◌+◌, ◌-◌, ◌<◌, ◌≤◌, true, List, length, map, slice_index_or, IsTrue, IfOk};
 ghost use Rattle.vm_types.specs.Map.{Map};
 ghost use Rattle.vm_types.specs.Places.{RisesFrom, place, places};
-ghost use Rattle.vm_disk.specs.Disk.{Goes};
-ghost use Rattle.vm_disk.specs.Moments.{OnlyReads};
 ghost use Rattle.vm_alloc.specs.Held.{HoldsMore};
 ghost use Rattle.vm_block.specs.Leaf.{Record, IsLeaf};
 ghost use Rattle.vm_block.specs.Node.{IsNode, lows};
 ghost use Rattle.vm_block.specs.declared.node.Child.{Child};
 ghost use Rattle.vm_block.specs.Tree.{Begins, Subtree, Children, IsTree};
 ghost use Rattle.vm_tree.specs.Answers.{OkOrDevice, Lists};
+ghost use Rattle.vm_tree.specs.Calls.{OnlyLooks};
 ghost use Rattle.vm_tree.specs.Root.{AreSizes, sizes_of};
 ghost use Rattle.vm_check.specs.Marking.{unmarked};
 ghost use Rattle.vm_check.specs.Verifying.{HaveTrees, Found};
@@ -87,16 +86,25 @@ fn visit<D: Disk, const LEAF: usize, const FAN: usize>(
     requires inside { blocks ≤ (D.state disk.old).blocks }
     requires bits { length marks.old ≡ blocks }
     requires room { length spans.old ≡ blocks }
-    ensures any { Goes (result ≡ Err TreeFault.Device) (D.state disk.old) (D.state disk.new) }
+    ensures looks { OnlyLooks result (D.state disk.old) (D.state disk.new) }
     ensures deep { result ≢ Err TreeFault.Deep }
     ensures memory { result ≢ Err TreeFault.Memory }
-    ensures once { (D.state disk.new).reads + unmarked marks.new ≡ (D.state disk.old).reads + unmarked marks.old }
+    ensures once { (D.state disk.new).reads + unmarked marks.new
+        ≡ (D.state disk.old).reads + unmarked marks.old }
     ensures growing { HoldsMore marks.old marks.new }
-    ensures reads { (D.state disk.new).honest ≡ true → OnlyReads (D.state disk.old) (D.state disk.new) }
-    ensures found { (D.state disk.new).honest ≡ true → (levels : ℕ) → Known (sizes_of LEAF FAN levels) (D.state disk.old).now.contents blocks most marks.old spans.old
-        → IfOk result (λ span. Visited (sizes_of LEAF FAN levels) (D.state disk.old).now.contents blocks least most block span marks.old spans.old marks.new spans.new) }
-    ensures only { (D.state disk.new).honest ≡ true → (levels l : ℕ) (rs : List Record) (bs : List ℕ) → Known (sizes_of LEAF FAN levels) (D.state disk.old).now.contents blocks most marks.old spans.old
-        → least ≤ l → l ≤ most → Subtree (sizes_of LEAF FAN levels) (D.state disk.old).now.contents blocks l block rs bs → RisesFrom 0 (places rs)
+    ensures found { (D.state disk.new).honest ≡ true → (levels : ℕ)
+        → Known (sizes_of LEAF FAN levels) (D.state disk.old).now.contents blocks most
+        marks.old spans.old
+        → IfOk result (λ span. Visited (sizes_of LEAF FAN levels)
+        (D.state disk.old).now.contents blocks least most block span
+        marks.old spans.old marks.new spans.new) }
+    ensures only { (D.state disk.new).honest ≡ true
+        → (levels l : ℕ) (rs : List Record) (bs : List ℕ)
+        → Known (sizes_of LEAF FAN levels) (D.state disk.old).now.contents blocks most
+        marks.old spans.old
+        → least ≤ l → l ≤ most
+        → Subtree (sizes_of LEAF FAN levels) (D.state disk.old).now.contents blocks l block rs bs
+        → RisesFrom 0 (places rs)
         → OkOrDevice result (λ _. Unit {0}) }
 {
     if !is_data(blocks, block) {
@@ -112,8 +120,9 @@ fn visit<D: Disk, const LEAF: usize, const FAN: usize>(
     }
     marks.set(block);
     let mut bytes = [0; 4096];
-    match form_at(disk, blocks, block, &mut bytes) {
-        Ok(Form::Leaf(count)) => {
+    let form = form_at(disk, blocks, block, &mut bytes)?;
+    match form {
+        Form::Leaf(count) => {
             if least > 0 || count > LEAF {
                 return Err(TreeFault::Damaged(block));
             }
@@ -121,30 +130,20 @@ fn visit<D: Disk, const LEAF: usize, const FAN: usize>(
             spans[at] = keep(span);
             Ok(span)
         }
-        Ok(Form::Node(level, count)) => {
+        Form::Node(level, count) => {
             if level < least || level > most || count > FAN {
                 return Err(TreeFault::Damaged(block));
             }
             spans[at].level = level;
-            match visit_children::<D, LEAF, FAN>(
-                disk,
-                blocks,
-                level - 1,
-                &bytes,
-                count,
-                marks,
-                spans,
-            ) {
-                Ok(high) => {
-                    let low = lowest_key(&bytes);
-                    let span = Span { level, low, high };
-                    spans[at] = keep(span);
-                    Ok(span)
-                }
-                Err(fault) => Err(fault),
-            }
+            let below = level - 1;
+            let high = visit_children::<D, LEAF, FAN>(
+                disk, blocks, below, &bytes, count, marks, spans,
+            )?;
+            let low = lowest_key(&bytes);
+            let span = Span { level, low, high };
+            spans[at] = keep(span);
+            Ok(span)
         }
-        Err(fault) => Err(fault),
     }
 }
 
@@ -154,7 +153,8 @@ fn leaf_span(bytes: &[u8; 4096], count: usize) -> Span
     requires few { count ≤ 16 }
     ensures level { result.level ≡ 0 }
     ensures low { (rs : List Record) → IsLeaf bytes.now rs → Begins result.low rs }
-    ensures high { (rs : List Record) → IsLeaf bytes.now rs → length rs ≡ count → IsHighest result.high rs }
+    ensures high { (rs : List Record) → IsLeaf bytes.now rs → length rs ≡ count
+        → IsHighest result.high rs }
 {
     Span {
         level: 0,
@@ -180,32 +180,36 @@ fn visit_children<D: Disk, const LEAF: usize, const FAN: usize>(
     requires bits { length marks.old ≡ blocks }
     requires room { length spans.old ≡ blocks }
     requires few { count ≤ 256 }
-    ensures any { Goes (result ≡ Err TreeFault.Device) (D.state disk.old) (D.state disk.new) }
+    ensures looks { OnlyLooks result (D.state disk.old) (D.state disk.new) }
     ensures deep { result ≢ Err TreeFault.Deep }
     ensures memory { result ≢ Err TreeFault.Memory }
-    ensures once { (D.state disk.new).reads + unmarked marks.new ≡ (D.state disk.old).reads + unmarked marks.old }
+    ensures once { (D.state disk.new).reads + unmarked marks.new
+        ≡ (D.state disk.old).reads + unmarked marks.old }
     ensures growing { HoldsMore marks.old marks.new }
-    ensures reads { (D.state disk.new).honest ≡ true → OnlyReads (D.state disk.old) (D.state disk.new) }
-    ensures found { (D.state disk.new).honest ≡ true → (levels above : ℕ) (cs : List Child) → IsNode bytes.now above cs → length cs ≡ count
-        → Known (sizes_of LEAF FAN levels) (D.state disk.old).now.contents blocks level marks.old spans.old
-        → IfOk result (λ high. VisitedAll (sizes_of LEAF FAN levels) (D.state disk.old).now.contents blocks level cs high marks.old spans.old marks.new spans.new) }
-    ensures only { (D.state disk.new).honest ≡ true → (levels above : ℕ) (cs : List Child) (rs : List Record) (bs : List ℕ) → IsNode bytes.now above cs → length cs ≡ count
-        → Known (sizes_of LEAF FAN levels) (D.state disk.old).now.contents blocks level marks.old spans.old
-        → Children (Subtree (sizes_of LEAF FAN levels) (D.state disk.old).now.contents blocks level) cs rs bs → RisesFrom 0 (places rs)
+    ensures found { (D.state disk.new).honest ≡ true → (levels above : ℕ) (cs : List Child)
+        → IsNode bytes.now above cs → length cs ≡ count
+        → Known (sizes_of LEAF FAN levels) (D.state disk.old).now.contents blocks level
+        marks.old spans.old
+        → IfOk result (λ high. VisitedAll (sizes_of LEAF FAN levels)
+        (D.state disk.old).now.contents blocks level cs high
+        marks.old spans.old marks.new spans.new) }
+    ensures only { (D.state disk.new).honest ≡ true
+        → (levels above : ℕ) (cs : List Child) (rs : List Record) (bs : List ℕ)
+        → IsNode bytes.now above cs → length cs ≡ count
+        → Known (sizes_of LEAF FAN levels) (D.state disk.old).now.contents blocks level
+        marks.old spans.old
+        → Children (Subtree (sizes_of LEAF FAN levels) (D.state disk.old).now.contents blocks level)
+        cs rs bs → RisesFrom 0 (places rs)
         → OkOrDevice result (λ _. Unit {0}) }
 {
     let mut high = Key::default();
     for i in 0..count {
         let child = child_at(bytes, i);
-        match visit::<D, LEAF, FAN>(disk, blocks, level, level, child.block, marks, spans) {
-            Ok(span) => {
-                if span.low != child.low || !is_below_next(span.high, bytes, count, i) {
-                    return Err(TreeFault::Damaged(child.block));
-                }
-                high = span.high;
-            }
-            Err(fault) => return Err(fault),
+        let span = visit::<D, LEAF, FAN>(disk, blocks, level, level, child.block, marks, spans)?;
+        if span.low != child.low || !is_below_next(span.high, bytes, count, i) {
+            return Err(TreeFault::Damaged(child.block));
         }
+        high = span.high;
     }
     Ok(high)
 }
@@ -240,9 +244,8 @@ pub fn verify<D: Disk, const LEAF: usize, const FAN: usize, const LEVELS: usize>
     requires enough { 64 ≤ blocks }
     requires few { blocks ≤ 1048576 }
     requires inside { blocks ≤ (D.state disk.old).blocks }
-    ensures any { Goes (result ≡ Err TreeFault.Device) (D.state disk.old) (D.state disk.new) }
+    ensures looks { OnlyLooks result (D.state disk.old) (D.state disk.new) }
     ensures deep { result ≢ Err TreeFault.Deep }
-    ensures reads { (D.state disk.new).honest ≡ true → OnlyReads (D.state disk.old) (D.state disk.new) }
 
     // On any disk there is a flag for each block, and a root for each number.
     ensures count { IfOk result (λ found. length found.1 ≡ blocks) }
@@ -252,12 +255,16 @@ pub fn verify<D: Disk, const LEAF: usize, const FAN: usize, const LEVELS: usize>
     // No block is read twice, whatever the disk holds and whatever the answer: there are no more reads
     // than data blocks, and where it answers Ok, just as many as blocks that are marked.
     ensures once { (D.state disk.new).reads + 34 ≤ (D.state disk.old).reads + blocks }
-    ensures paid { IfOk result (λ found. (D.state disk.new).reads + unmarked found.1 + 34 ≡ (D.state disk.old).reads + blocks) }
+    ensures paid { IfOk result
+        (λ found. (D.state disk.new).reads + unmarked found.1 + 34
+        ≡ (D.state disk.old).reads + blocks) }
 
     // It is Ok exactly where each number has a tree, unless the device fails or no memory is found.
     ensures found { (D.state disk.new).honest ≡ true
-        → IfOk result (λ found. Found (sizes_of LEAF FAN LEVELS) (D.state disk.old).now.contents blocks numbers.now found.0.items found.1) }
-    ensures only { (D.state disk.new).honest ≡ true → HaveTrees (sizes_of LEAF FAN LEVELS) (D.state disk.old).now.contents blocks numbers.now
+        → IfOk result (λ found. Found (sizes_of LEAF FAN LEVELS)
+        (D.state disk.old).now.contents blocks numbers.now found.0.items found.1) }
+    ensures only { (D.state disk.new).honest ≡ true
+        → HaveTrees (sizes_of LEAF FAN LEVELS) (D.state disk.old).now.contents blocks numbers.now
         → Lists result (λ _. Unit {0}) }
 {
     let (Ok(mut marks), Ok(mut spans)) = (
@@ -269,12 +276,10 @@ pub fn verify<D: Disk, const LEAF: usize, const FAN: usize, const LEVELS: usize>
     let spans = spans.as_mut_slice();
     let mut roots = Vec::new(alloc);
     for number in numbers {
-        match visit_root::<D, LEAF, FAN, LEVELS>(disk, blocks, *number, &mut marks, spans) {
-            Ok(root) => match roots.push(root) {
-                Ok(()) => {}
-                Err(_) => return Err(TreeFault::Memory),
-            },
-            Err(fault) => return Err(fault),
+        let root = visit_root::<D, LEAF, FAN, LEVELS>(disk, blocks, *number, &mut marks, spans)?;
+        match roots.push(root) {
+            Ok(()) => {}
+            Err(_) => return Err(TreeFault::Memory),
         }
     }
     Ok((roots, marks))
@@ -292,28 +297,34 @@ fn visit_root<D: Disk, const LEAF: usize, const FAN: usize, const LEVELS: usize>
     requires inside { blocks ≤ (D.state disk.old).blocks }
     requires bits { length marks.old ≡ blocks }
     requires room { length spans.old ≡ blocks }
-    ensures any { Goes (result ≡ Err TreeFault.Device) (D.state disk.old) (D.state disk.new) }
+    ensures looks { OnlyLooks result (D.state disk.old) (D.state disk.new) }
     ensures deep { result ≢ Err TreeFault.Deep }
     ensures memory { result ≢ Err TreeFault.Memory }
-    ensures once { (D.state disk.new).reads + unmarked marks.new ≡ (D.state disk.old).reads + unmarked marks.old }
+    ensures once { (D.state disk.new).reads + unmarked marks.new
+        ≡ (D.state disk.old).reads + unmarked marks.old }
     ensures count { length marks.new ≡ blocks }
     ensures named { IfOk result (λ root. root.block ≡ number) }
-    ensures reads { (D.state disk.new).honest ≡ true → OnlyReads (D.state disk.old) (D.state disk.new) }
-    ensures found { (D.state disk.new).honest ≡ true → Known (sizes_of LEAF FAN LEVELS) (D.state disk.old).now.contents blocks (LEVELS - 1) marks.old spans.old
-        → IfOk result (λ root. RootVisited (sizes_of LEAF FAN LEVELS) (D.state disk.old).now.contents blocks number root marks.old spans.old marks.new spans.new) }
-    ensures only { (D.state disk.new).honest ≡ true → Known (sizes_of LEAF FAN LEVELS) (D.state disk.old).now.contents blocks (LEVELS - 1) marks.old spans.old
-        → (m : Map) (bs : List ℕ) → IsTree (sizes_of LEAF FAN LEVELS) (D.state disk.old).now.contents blocks number m bs → OkOrDevice result (λ _. Unit {0}) }
+    ensures found { (D.state disk.new).honest ≡ true
+        → Known (sizes_of LEAF FAN LEVELS) (D.state disk.old).now.contents blocks (LEVELS - 1)
+        marks.old spans.old
+        → IfOk result (λ root. RootVisited (sizes_of LEAF FAN LEVELS)
+        (D.state disk.old).now.contents blocks number root
+        marks.old spans.old marks.new spans.new) }
+    ensures only { (D.state disk.new).honest ≡ true
+        → Known (sizes_of LEAF FAN LEVELS) (D.state disk.old).now.contents blocks (LEVELS - 1)
+        marks.old spans.old
+        → (m : Map) (bs : List ℕ)
+        → IsTree (sizes_of LEAF FAN LEVELS) (D.state disk.old).now.contents blocks number m bs
+        → OkOrDevice result (λ _. Unit {0}) }
 {
     if number == 0 {
         return Ok(Root::default());
     }
     let most = (LEVELS - 1) as u8;
-    match visit::<D, LEAF, FAN>(disk, blocks, 0, most, number, marks, spans) {
-        Ok(span) => Ok(Root {
-            block: number,
-            level: span.level,
-            low: span.low,
-        }),
-        Err(fault) => Err(fault),
-    }
+    let span = visit::<D, LEAF, FAN>(disk, blocks, 0, most, number, marks, spans)?;
+    Ok(Root {
+        block: number,
+        level: span.level,
+        low: span.low,
+    })
 }

@@ -3,12 +3,12 @@ use Rattle.std.proofs.Common.{◌≡◌, ◌≢◌, ℕ, zero, suc, ◌+◌, ◌
 use Rattle.vm_types.specs.declared.change.Change.{Change}
 use Rattle.vm_types.specs.declared.key.Key.{Key}
 use Rattle.vm_types.specs.Map.{Map, delta}
-use Rattle.vm_disk.specs.Disk.{State, Contents, Medium, Goes}
-use Rattle.vm_disk.specs.Moments.{OnlyReads}
-use Rattle.vm_disk.proofs.GoesLemmas.{goes_then}
-use Rattle.vm_disk.proofs.MomentLemmas.{reads_then, same_medium}
+use Rattle.vm_disk.specs.Disk.{State, Contents, Medium}
+use Rattle.vm_disk.proofs.MomentLemmas.{same_medium}
 use Rattle.vm_block.specs.Tree.{Sizes, Subtree}
 use Rattle.vm_block.proofs.TreeLemmas.{subtree_one}
+use Rattle.vm_tree.specs.Calls.{OnlyLooks}
+use Rattle.vm_tree.proofs.Looking.{looks_on}
 use Rattle.vm_tree.specs.Root.{IsRooted}
 use Rattle.vm_tree.specs.declared.root.Root.{Root}
 use Rattle.vm_tree.specs.declared.root.TreeFault.{TreeFault}
@@ -74,8 +74,7 @@ none_left (x ∷ xs) ys e = cc
 
 -- so many differences were found on the way from two walks to two others, by reads alone
 pub record Compares (old new : State) (limit : ℕ) (one_first other_first one other : Walk) (found : List Change) : Type 0 where
-  pub goes : Goes ⊥ old new
-  pub reads : new.honest ≡ true → OnlyReads old new
+  pub looks : OnlyLooks {T = Unit {0}} (Ok tt) old new
   pub left : new.honest ≡ true → (sizes : Sizes) (most : ℕ) (changes : List Change) → Differ sizes old.now.contents limit one_first other_first old.reads most changes
       → (rest : List Change) × (changes ≡ found ++ rest) × Differ sizes old.now.contents limit one other new.reads most rest
 
@@ -94,7 +93,7 @@ module _ (old mid new : State) (back : new.honest ≡ true → mid.honest ≡ tr
       → (rest : List Change) × (changes ≡ found ++ rest) × StepsBy result rest (Differ sizes old.now.contents limit one_now other_now reads most)
   next_step result one_now other_now reads steps honest sizes most changes d =
       let l = so_far.left (back honest) sizes most changes d in
-      let still = same_medium old mid (so_far.reads (back honest)) in
+      let still = same_medium old mid (so_far.looks.reads (back honest)) in
       let R : Medium → Type 0 = λ m. Differ sizes m.contents limit one other mid.reads most l.0 → StepsBy result l.0 (Differ sizes m.contents limit one_now other_now reads most) in
       (l.0, l.1, subst R still (steps honest sizes most l.0) l.2)
 
@@ -103,33 +102,28 @@ module _ (old mid new : State) (back : new.honest ≡ true → mid.honest ≡ tr
   compares_bound now bound honest sizes most changes d =
       let l = so_far.left (back honest) sizes most changes d in
       let R : Medium → Type 0 = λ m. Differ sizes m.contents limit one other mid.reads most l.0 → now ≤ most in
-      subst R (same_medium old mid (so_far.reads (back honest))) (bound honest sizes most l.0) l.2
+      subst R (same_medium old mid (so_far.looks.reads (back honest))) (bound honest sizes most l.0) l.2
 
   step_is : (step is_step : Step) (one_now other_now : Walk) (reads : ℕ) → step ≡ is_step → Steps (Ok step) one_now other_now reads → Steps (Ok is_step) one_now other_now reads
   step_is step is_step one_now other_now reads is steps = subst (λ (s : Step). Steps (Ok s) one_now other_now reads) is steps
 
-  pub compares_more : (fails : Type 0) (one_now other_now : Walk) (step : Step) → step ≡ Moved → Goes fails mid new → (new.honest ≡ true → OnlyReads mid new) → Steps (Ok step) one_now other_now new.reads
+  pub compares_more : {T : Type 0} {answer : Result T TreeFault} (one_now other_now : Walk) (step : Step) → step ≡ Moved → OnlyLooks answer mid new → Steps (Ok step) one_now other_now new.reads
       → Compares old new limit one_first other_first one_now other_now found
-  compares_more fails one_now other_now step is goes reads steps = record {
-    goes = goes_then ⊥ fails ⊥ old mid new so_far.goes goes (λ failed. absurd failed);
-    reads = λ honest. reads_then old mid new (so_far.reads (back honest)) (reads honest);
+  compares_more one_now other_now step is looks steps = record {
+    looks = looks_on so_far.looks looks (λ is. cc);
     left = next_step (Ok Moved) one_now other_now new.reads (step_is step Moved one_now other_now new.reads is steps);
   }
 
-  pub compares_found : (fails : Type 0) (one_mid other_mid one_now other_now : Walk) (step : Step) (key : Key) (change : Change) → step ≡ Found key → Goes fails mid new → (new.honest ≡ true → OnlyReads mid new) → Steps (Ok step) one_mid other_mid new.reads
+  pub compares_found : {T : Type 0} {answer : Result T TreeFault} (one_mid other_mid one_now other_now : Walk) (step : Step) (key : Key) (change : Change) → step ≡ Found key → OnlyLooks answer mid new → Steps (Ok step) one_mid other_mid new.reads
       → ((sizes : Sizes) (x : Contents) (limit reads most : ℕ) (changes : List Change) → Differ sizes x limit one_mid other_mid reads most changes → (rest : List Change) × (changes ≡ change ∷ rest) × Differ sizes x limit one_now other_now reads most rest)
       → Compares old new limit one_first other_first one_now other_now (found ++ change ∷ [])
-  compares_found fails one_mid other_mid one_now other_now step key change is goes reads steps takes = record {
-    goes = goes_then ⊥ fails ⊥ old mid new so_far.goes goes (λ failed. absurd failed);
-    reads = λ honest. reads_then old mid new (so_far.reads (back honest)) (reads honest);
+  compares_found one_mid other_mid one_now other_now step key change is looks steps takes = record {
+    looks = looks_on so_far.looks looks (λ is. cc);
     left = λ honest sizes most changes d.
         let n = next_step (Ok (Found key)) one_mid other_mid new.reads (step_is step (Found key) one_mid other_mid new.reads is steps) honest sizes most changes d in
         let t = takes sizes old.now.contents limit new.reads most n.0 n.2 in
         (t.0, n.1 ∙ ap (λ (cs : List Change). found ++ cs) t.1 ∙ sym (append_assoc found (change ∷ []) t.0), t.2);
   }
-
-  pub compares_reads : (new.honest ≡ true → OnlyReads mid new) → new.honest ≡ true → OnlyReads old new
-  compares_reads reads honest = reads_then old mid new (so_far.reads (back honest)) (reads honest)
 
   module _ (one_now other_now : Walk) (now : ℕ) where
     -- at the end all differences were found

@@ -72,9 +72,6 @@ standing ((c ∷ cs) ∷ css) j top ts is =
 
 -- # What a walk stands before
 
-pub front_record : (ps : List Record) (ts : List Root) (r : Record) (rs : List Record) → ps ≡ r ∷ rs → first_of ps ts ≡ Pair r.0 r.1
-front_record ps ts r rs is = ap (λ qs. first_of qs ts) is
-
 pub tops_first : (ps : List Record) (ts : List Root) (top : Root) → first_of ps ts ≡ Top top → ts ≡ top ∷ drop 1 ts
 tops_first [] [] top e = cc
 tops_first [] (t ∷ ts) top e = let same : t ≡ top = cc in ap (λ (u : Root). u ∷ ts) same

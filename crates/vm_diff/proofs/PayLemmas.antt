@@ -42,9 +42,6 @@ lower_first (Top top) there lt = inl lt
 pub higher_first : (top t : Root) (there : Front) → there ≡ Top t → place top.low ≡ place t.low → t.level ≤ top.level → (t.level ≡ top.level → t.block ≢ top.block) → GoesFirst (Top top) there
 higher_first top t there is level low other = subst (GoesFirst (Top top)) (sym is) (inr (level, (low, other)))
 
-pub pair_or_top : (key : Key) (value : List ℕ) (t : Root) → Pair key value ≡ Top t → ⊥
-pair_or_top key value t e = cc
-
 -- and the one before a subtree, where the other stands before none at the same key
 pub alone_first : (top : Root) (here there : Front) → here ≡ Top top → place_of here ≡ place_of there → ((t : Root) → there ≢ Top t) → GoesFirst (Top top) there
 alone_first top here End is level none = inr (sym (ap place_of is) ∙ level, tt)

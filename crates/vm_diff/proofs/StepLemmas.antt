@@ -254,30 +254,6 @@ module _ (sizes : Sizes) (x : Contents) (limit reads most : ℕ) where
       let f = both_differ one other (record { pending = drop 1 one.pending; tops = one.tops }) (record { pending = drop 1 other.pending; tops = other.tops }) key both.value both.other changes both.first (both.low, both.second, both.level) both.apart refl refl d in
       omega (arith, ap (λ (cs : List Change). length cs) (sym none ∙ f.1))
 
--- past a record less is ahead
-pub taken_falls : (old new : Walk) (key : Key) (value : List ℕ) → front_of old ≡ Pair key value → new ≡ record { pending = drop 1 old.pending; tops = old.tops } → size new < size old
-taken_falls old new key value front is =
-    omega (arith, ap size is, ap (λ (rs : List Record). length rs) (front_pair old.pending old.tops key value front))
-
-pub change_falls : (one other one_now other_now : Walk) (key : Key) (before after : Option (List ℕ)) → Meet key (front_of one) (front_of other)
-    → ((low : Key) (value : List ℕ) → front_of one ≡ Pair low value → place low ≡ place key → (before ≡ Some value) × (one_now ≡ record { pending = drop 1 one.pending; tops = one.tops }))
-    → (((low : Key) (value : List ℕ) → front_of one ≡ Pair low value → place low ≢ place key) → (before ≡ None) × (one_now ≡ one))
-    → ((low : Key) (value : List ℕ) → front_of other ≡ Pair low value → place low ≡ place key → (after ≡ Some value) × (other_now ≡ record { pending = drop 1 other.pending; tops = other.tops }))
-    → (((low : Key) (value : List ℕ) → front_of other ≡ Pair low value → place low ≢ place key) → (after ≡ None) × (other_now ≡ other))
-    → size one_now + size other_now < size one + size other
-change_falls one other one_now other_now key before after (inl alone) one_there one_none other_there other_none =
-    let t = one_there key alone.value alone.front refl in
-    let u = other_none (λ low value is same. omega (arith, alone.below, ap place_of is, same)) in
-    omega (arith, taken_falls one one_now key alone.value alone.front t.1, ap size u.1)
-change_falls one other one_now other_now key before after (inr (inl alone)) one_there one_none other_there other_none =
-    let t = other_there key alone.value alone.front refl in
-    let u = one_none (λ low value is same. omega (arith, alone.below, ap place_of is, same)) in
-    omega (arith, taken_falls other other_now key alone.value alone.front t.1, ap size u.1)
-change_falls one other one_now other_now key before after (inr (inr both)) one_there one_none other_there other_none =
-    let t = one_there key both.value both.first refl in
-    let u = other_there both.low both.other both.second (sym both.level) in
-    omega (arith, taken_falls one one_now key both.value both.first t.1, taken_falls other other_now both.low both.other both.second u.1)
-
 -- # What a walk stands before, told without the value
 
 pub next_top : (front : Front) (top : Root) → next_of front ≡ Subtree top → front ≡ Top top
@@ -289,12 +265,6 @@ pub next_pair : (front : Front) (key : Key) → next_of front ≡ OneRecord key 
 next_pair End key e = cc
 next_pair (Pair low value) key e = let same : low ≡ key = cc in (value, ap (λ k. Pair k value) same)
 next_pair (Top t) key e = cc
-
--- a walk that stands before a record, lower than the other
-pub found_alone : (key : Key) (here there : Front) → next_of here ≡ OneRecord key → place_of here < place_of there → StandsAlone key here there
-found_alone key here there is lt =
-    let p = next_pair here key is in
-    record { value = p.0; front = p.1; below = omega (arith, lt, ap place_of p.1) }
 
 pub record_or_top : (front : Front) (key : Key) (top : Root) → OneRecord key ≡ next_of front → front ≡ Top top → ⊥
 record_or_top front key top is at = let both : OneRecord key ≡ Subtree top = is ∙ ap next_of at in cc

@@ -1,5 +1,6 @@
 -- What a change of the parent and one's own change at its key come to.
-use Rattle.std.specs.Prelude.{List, [], ◌∷◌, Option, Some, None, if◌then◌else◌}
+use Rattle.std.specs.Prelude.{List, [], ◌∷◌, Option, Some, None, find, not, if◌then◌else◌}
+use Rattle.std.specs.List.{list_any}
 use Rattle.std.specs.Ordering.{is_lt}
 use Rattle.vm_types.specs.declared.key.Key.{Key}
 use Rattle.vm_types.specs.declared.change.Change.{Change}
@@ -38,3 +39,7 @@ chosen None theirs own = None
 abbrev pub taken : List (Key × Side) → Change → Option Change → Option Change
 taken settled theirs None = Some theirs
 taken settled theirs (Some own) = if same_value own.after theirs.after then None else chosen (side_of settled theirs.key) theirs own
+
+-- the first of the keys that is none of the others
+abbrev pub first_missing : List Key → List Key → Option Key
+first_missing others keys = find (λ key. not (list_any (same_key key) others)) keys

@@ -1,5 +1,5 @@
 -- Walks through trees: what lies ahead of one, and how much that is.
-use Rattle.std.specs.Prelude.{◌≡◌, ℕ, zero, suc, ◌+◌, ◌*◌, List, [], ◌∷◌, ◌++◌, length, map}
+use Rattle.std.specs.Prelude.{◌≡◌, ℕ, zero, suc, ◌+◌, ◌*◌, List, [], ◌∷◌, ◌++◌, length, map, drop}
 use Rattle.vm_disk.specs.Disk.{Contents}
 use Rattle.vm_block.specs.Leaf.{Record}
 use Rattle.vm_block.specs.Tree.{Sizes, Begins, Subtree}
@@ -16,6 +16,14 @@ pub record Walk : Type 0 where
 -- the tops of subtrees of this level
 abbrev pub tops_of : ℕ → List Child → List Root
 tops_of level cs = map (λ c. record { block = c.block; level = level; low = c.low }) cs
+
+-- the walk past its first record
+abbrev pub past_record : Walk → Walk
+past_record walk = record { pending = drop 1 walk.pending; tops = walk.tops }
+
+-- the walk with these tops in the place of its first one
+abbrev pub into_tops : List Root → Walk → Walk
+into_tops tops walk = record { pending = walk.pending; tops = tops ++ drop 1 walk.tops }
 
 -- more than all that a top of this level is opened into, whatever the blocks hold
 unfoldable pub weight : ℕ → ℕ

@@ -1,10 +1,9 @@
 //! The children of an inner block that come next, in the block's bytes.
 ghost use Rattle.std.specs.Prelude.{◌≡◌, ◌≢◌, ℕ, ◌+◌, ◌<◌, ◌≤◌, true, List, [], ◌∷◌, IsTrue, drop, length, OnOk};
-ghost use Rattle.vm_disk.specs.Disk.{Goes};
-ghost use Rattle.vm_disk.specs.Moments.{OnlyReads};
 ghost use Rattle.vm_block.specs.Row.{node_row};
 ghost use Rattle.vm_block.specs.declared.node.Child.{Child};
 ghost use Rattle.vm_tree.specs.Answers.{OkOrDevice};
+ghost use Rattle.vm_tree.specs.Calls.{OnlyLooks};
 ghost use Rattle.vm_tree.specs.Reading.{IsNodeAt};
 ghost use Rattle.vm_diff.specs.Ahead.{PassedBoth, first_child};
 
@@ -100,23 +99,19 @@ impl Children {
         block: u32,
     ) -> Result<(), TreeFault>
         requires { blocks ≤ (D.state disk.old).blocks }
-        ensures any { Goes (result ≡ Err TreeFault.Device) (D.state disk.old) (D.state disk.new) }
+        ensures looks { OnlyLooks result (D.state disk.old) (D.state disk.new) }
         ensures deep { result ≢ Err TreeFault.Deep }
         ensures memory { result ≢ Err TreeFault.Memory }
         ensures once { (D.state disk.new).reads ≤ (D.state disk.old).reads + 1 }
-        ensures reads { (D.state disk.new).honest ≡ true → OnlyReads (D.state disk.old) (D.state disk.new) }
         ensures few { OnOk result (length self.new ≤ 256) }
         ensures only { (D.state disk.new).honest ≡ true → (cs : List Child)
-            → IsNodeAt (D.state disk.old).now.contents blocks level block cs → OkOrDevice result (λ _. self.new ≡ cs) }
+            → IsNodeAt (D.state disk.old).now.contents blocks level block cs
+            → OkOrDevice result (λ _. self.new ≡ cs) }
     {
-        match node_into(disk, blocks, level, block, &mut self.bytes) {
-            Ok(count) => {
-                self.at = 0;
-                self.count = count;
-                Ok(())
-            }
-            Err(fault) => Err(fault),
-        }
+        let count = node_into(disk, blocks, level, block, &mut self.bytes)?;
+        self.at = 0;
+        self.count = count;
+        Ok(())
     }
 }
 
@@ -131,7 +126,8 @@ fn shared_children(
     requires here { at + most ≤ 256 }
     requires there { other_at + most ≤ 256 }
     ensures most { result ≤ most }
-    ensures same { (k : ℕ) → k < result → node_row one.now (at + k) ≡ node_row other.now (other_at + k) }
+    ensures same { (k : ℕ) → k < result
+        → node_row one.now (at + k) ≡ node_row other.now (other_at + k) }
 {
     for i in 0..most {
         if child_row(one, at + i) != child_row(other, other_at + i) {

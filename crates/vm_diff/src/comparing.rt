@@ -1,11 +1,9 @@
 //! Where two maps differ.
 ghost use Rattle.std.specs.Prelude.{◌≡◌, ◌≢◌, ◌↔◌, ℕ, ◌+◌, ◌≤◌, true, List, [], IsTrue};
-ghost use Rattle.vm_types.specs.Map.{Map, delta};
-ghost use Rattle.vm_disk.specs.Disk.{Goes};
-ghost use Rattle.vm_disk.specs.Moments.{OnlyReads};
-ghost use Rattle.vm_block.specs.Tree.{Sizes};
+ghost use Rattle.vm_types.specs.Map.{delta};
 ghost use Rattle.vm_tree.specs.Answers.{Lists, OkOrDevice};
-ghost use Rattle.vm_tree.specs.Root.{IsRooted};
+ghost use Rattle.vm_tree.specs.Calls.{OnlyLooks};
+ghost use Rattle.vm_diff.specs.Differ.{OnMaps};
 ghost use Rattle.vm_diff.specs.Shared.{unshared};
 
 use crate::cursor::Cursor;
@@ -26,20 +24,17 @@ pub fn changed<D: Disk>(
     second: Root,
 ) -> Result<Vec<Change>, TreeFault>
     requires { blocks ≤ (D.state disk.old).blocks }
-    ensures any { Goes (result ≡ Err TreeFault.Device) (D.state disk.old) (D.state disk.new) }
+    ensures looks { OnlyLooks result (D.state disk.old) (D.state disk.new) }
     ensures deep { result ≢ Err TreeFault.Deep }
-    ensures reads { (D.state disk.new).honest ≡ true → OnlyReads (D.state disk.old) (D.state disk.new) }
 
     // On trees it is just the differences of their maps, whatever the sizes of their blocks, unless
     // the device fails or no memory is found.
-    ensures changes { (D.state disk.new).honest ≡ true → (sizes : Sizes) (m n : Map) (bs cs : List ℕ)
-        → IsRooted sizes (D.state disk.old).now.contents blocks first m bs → IsRooted sizes (D.state disk.old).now.contents blocks second n cs
-        → Lists result (λ changes. changes.items ≡ delta m n) }
+    ensures changes { OnMaps (D.state disk.old) (D.state disk.new) blocks first second
+        (λ m n bs cs. Lists result (λ changes. changes.items ≡ delta m n)) }
 
     // It makes no more reads than there are blocks that only one of the trees has, whatever it answers.
-    ensures bound { (D.state disk.new).honest ≡ true → (sizes : Sizes) (m n : Map) (bs cs : List ℕ)
-        → IsRooted sizes (D.state disk.old).now.contents blocks first m bs → IsRooted sizes (D.state disk.old).now.contents blocks second n cs
-        → (D.state disk.new).reads ≤ (D.state disk.old).reads + unshared bs cs }
+    ensures bound { OnMaps (D.state disk.old) (D.state disk.new) blocks first second
+        (λ m n bs cs. (D.state disk.new).reads ≤ (D.state disk.old).reads + unshared bs cs) }
 {
     if first.block == second.block && first.level == second.level {
         return Ok(Vec::new(alloc));
@@ -56,15 +51,12 @@ fn changed_between<D: Disk>(
     second: Root,
 ) -> Result<Vec<Change>, TreeFault>
     requires { blocks ≤ (D.state disk.old).blocks }
-    ensures any { Goes (result ≡ Err TreeFault.Device) (D.state disk.old) (D.state disk.new) }
+    ensures looks { OnlyLooks result (D.state disk.old) (D.state disk.new) }
     ensures deep { result ≢ Err TreeFault.Deep }
-    ensures reads { (D.state disk.new).honest ≡ true → OnlyReads (D.state disk.old) (D.state disk.new) }
-    ensures changes { (D.state disk.new).honest ≡ true → (sizes : Sizes) (m n : Map) (bs cs : List ℕ)
-        → IsRooted sizes (D.state disk.old).now.contents blocks first m bs → IsRooted sizes (D.state disk.old).now.contents blocks second n cs
-        → Lists result (λ changes. changes.items ≡ delta m n) }
-    ensures bound { (D.state disk.new).honest ≡ true → (sizes : Sizes) (m n : Map) (bs cs : List ℕ)
-        → IsRooted sizes (D.state disk.old).now.contents blocks first m bs → IsRooted sizes (D.state disk.old).now.contents blocks second n cs
-        → (D.state disk.new).reads ≤ (D.state disk.old).reads + unshared bs cs }
+    ensures changes { OnMaps (D.state disk.old) (D.state disk.new) blocks first second
+        (λ m n bs cs. Lists result (λ changes. changes.items ≡ delta m n)) }
+    ensures bound { OnMaps (D.state disk.old) (D.state disk.new) blocks first second
+        (λ m n bs cs. (D.state disk.new).reads ≤ (D.state disk.old).reads + unshared bs cs) }
 {
     let Some(mut one) = Cursor::new(first) else {
         return Err(TreeFault::Damaged(first.block));
@@ -74,17 +66,17 @@ fn changed_between<D: Disk>(
     };
     let mut changes = Vec::new(alloc);
     'steps: loop {
-        match step(disk, blocks, &mut one, &mut other) {
-            Ok(Step::Done) => return Ok(changes),
-            Ok(Step::Moved) => {}
-            Ok(Step::Found(key)) => {
+        let next = step(disk, blocks, &mut one, &mut other)?;
+        match next {
+            Step::Done => return Ok(changes),
+            Step::Moved => {}
+            Step::Found(key) => {
                 let change = take_change(&mut one, &mut other, key);
                 match changes.extend_from_slice(&[change]) {
                     Ok(()) => {}
                     Err(_) => return Err(TreeFault::Memory),
                 }
             }
-            Err(fault) => return Err(fault),
         }
     }
 }
@@ -97,21 +89,18 @@ pub fn same<D: Disk>(
     second: Root,
 ) -> Result<bool, TreeFault>
     requires { blocks ≤ (D.state disk.old).blocks }
-    ensures any { Goes (result ≡ Err TreeFault.Device) (D.state disk.old) (D.state disk.new) }
+    ensures looks { OnlyLooks result (D.state disk.old) (D.state disk.new) }
     ensures deep { result ≢ Err TreeFault.Deep }
     ensures memory { result ≢ Err TreeFault.Memory }
-    ensures reads { (D.state disk.new).honest ≡ true → OnlyReads (D.state disk.old) (D.state disk.new) }
 
     // On trees it tells whether their maps differ nowhere, whatever the sizes of their blocks, unless
     // the device fails.
-    ensures equal { (D.state disk.new).honest ≡ true → (sizes : Sizes) (m n : Map) (bs cs : List ℕ)
-        → IsRooted sizes (D.state disk.old).now.contents blocks first m bs → IsRooted sizes (D.state disk.old).now.contents blocks second n cs
-        → OkOrDevice result (λ equal. IsTrue equal ↔ (delta m n ≡ [])) }
+    ensures equal { OnMaps (D.state disk.old) (D.state disk.new) blocks first second
+        (λ m n bs cs. OkOrDevice result (λ equal. IsTrue equal ↔ (delta m n ≡ []))) }
 
     // It makes no more reads than there are blocks that only one of the trees has, whatever it answers.
-    ensures bound { (D.state disk.new).honest ≡ true → (sizes : Sizes) (m n : Map) (bs cs : List ℕ)
-        → IsRooted sizes (D.state disk.old).now.contents blocks first m bs → IsRooted sizes (D.state disk.old).now.contents blocks second n cs
-        → (D.state disk.new).reads ≤ (D.state disk.old).reads + unshared bs cs }
+    ensures bound { OnMaps (D.state disk.old) (D.state disk.new) blocks first second
+        (λ m n bs cs. (D.state disk.new).reads ≤ (D.state disk.old).reads + unshared bs cs) }
 {
     if first.block == second.block && first.level == second.level {
         return Ok(true);
@@ -127,16 +116,13 @@ fn same_between<D: Disk>(
     second: Root,
 ) -> Result<bool, TreeFault>
     requires { blocks ≤ (D.state disk.old).blocks }
-    ensures any { Goes (result ≡ Err TreeFault.Device) (D.state disk.old) (D.state disk.new) }
+    ensures looks { OnlyLooks result (D.state disk.old) (D.state disk.new) }
     ensures deep { result ≢ Err TreeFault.Deep }
     ensures memory { result ≢ Err TreeFault.Memory }
-    ensures reads { (D.state disk.new).honest ≡ true → OnlyReads (D.state disk.old) (D.state disk.new) }
-    ensures equal { (D.state disk.new).honest ≡ true → (sizes : Sizes) (m n : Map) (bs cs : List ℕ)
-        → IsRooted sizes (D.state disk.old).now.contents blocks first m bs → IsRooted sizes (D.state disk.old).now.contents blocks second n cs
-        → OkOrDevice result (λ equal. IsTrue equal ↔ (delta m n ≡ [])) }
-    ensures bound { (D.state disk.new).honest ≡ true → (sizes : Sizes) (m n : Map) (bs cs : List ℕ)
-        → IsRooted sizes (D.state disk.old).now.contents blocks first m bs → IsRooted sizes (D.state disk.old).now.contents blocks second n cs
-        → (D.state disk.new).reads ≤ (D.state disk.old).reads + unshared bs cs }
+    ensures equal { OnMaps (D.state disk.old) (D.state disk.new) blocks first second
+        (λ m n bs cs. OkOrDevice result (λ equal. IsTrue equal ↔ (delta m n ≡ []))) }
+    ensures bound { OnMaps (D.state disk.old) (D.state disk.new) blocks first second
+        (λ m n bs cs. (D.state disk.new).reads ≤ (D.state disk.old).reads + unshared bs cs) }
 {
     let Some(mut one) = Cursor::new(first) else {
         return Err(TreeFault::Damaged(first.block));
@@ -145,11 +131,11 @@ fn same_between<D: Disk>(
         return Err(TreeFault::Damaged(second.block));
     };
     'steps: loop {
-        match step(disk, blocks, &mut one, &mut other) {
-            Ok(Step::Done) => return Ok(true),
-            Ok(Step::Moved) => {}
-            Ok(Step::Found(_)) => return Ok(false),
-            Err(fault) => return Err(fault),
+        let next = step(disk, blocks, &mut one, &mut other)?;
+        match next {
+            Step::Done => return Ok(true),
+            Step::Moved => {}
+            Step::Found(_) => return Ok(false),
         }
     }
 }

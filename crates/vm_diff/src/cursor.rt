@@ -2,13 +2,12 @@
 ghost use Rattle.std.specs.Prelude.{◌≡◌, ◌≢◌, ℕ, ◌+◌, ◌*◌, ◌-◌, ◌^◌, ◌<◌, ◌≤◌, true, List, [], ◌∷◌, ◌++◌, length, drop, Some, None, IsTrue, IfSome, IfNone, OnOk};
 ghost use Rattle.vm_types.specs.declared.key.Key.{Key};
 ghost use Rattle.vm_types.specs.Places.{place};
-ghost use Rattle.vm_disk.specs.Disk.{Goes};
-ghost use Rattle.vm_disk.specs.Moments.{OnlyReads};
 ghost use Rattle.vm_block.specs.Leaf.{Record};
 ghost use Rattle.vm_block.specs.declared.node.Child.{Child};
 ghost use Rattle.vm_tree.specs.Answers.{OkOrDevice};
+ghost use Rattle.vm_tree.specs.Calls.{OnlyLooks};
 ghost use Rattle.vm_tree.specs.Reading.{IsLeafAt, IsNodeAt};
-ghost use Rattle.vm_diff.specs.Walk.{Walk, tops_of};
+ghost use Rattle.vm_diff.specs.Walk.{Walk, into_tops, past_record, tops_of};
 ghost use Rattle.vm_diff.specs.Ahead.{PassedBoth, first_top, tops_in};
 ghost use Rattle.vm_diff.specs.Front.{front_of, next_of, place_of};
 ghost use Rattle.vm_diff.specs.Front.Front.{Pair, Top};
@@ -62,8 +61,10 @@ impl Cursor {
     /// A walk through the tree under a root. None where its level is none that a tree has.
     pub(crate) fn new(root: Root) -> Option<Cursor>
         ensures none { IfNone result ((root.block ≢ 0) × (7 < root.level)) }
-        ensures empty { root.block ≡ 0 → IfSome result (λ walk. walk ≡ record { pending = []; tops = [] }) }
-        ensures some { root.block ≢ 0 → IfSome result (λ walk. walk ≡ record { pending = []; tops = root ∷ [] }) }
+        ensures empty { root.block ≡ 0
+            → IfSome result (λ walk. walk ≡ record { pending = []; tops = [] }) }
+        ensures some { root.block ≢ 0
+            → IfSome result (λ walk. walk ≡ record { pending = []; tops = root ∷ [] }) }
     {
         let mut levels = [
             Children::new(),
@@ -114,7 +115,8 @@ impl Cursor {
 
     /// The bytes of the value of the record that the walk stands before.
     pub(crate) fn value(&self) -> &[u8]
-        ensures value { (key : Key) (value : List ℕ) → front_of self.now ≡ Pair key value → result.now ≡ value }
+        ensures value { (key : Key) (value : List ℕ) → front_of self.now ≡ Pair key value
+            → result.now ≡ value }
         ensures short { length result.now ≤ 240 }
     {
         self.records.value()
@@ -122,16 +124,17 @@ impl Cursor {
 
     /// Goes past a record.
     pub(crate) fn take(&mut self)
-        ensures { self.new ≡ record { pending = drop 1 self.old.pending; tops = self.old.tops } }
+        ensures { self.new ≡ past_record self.old }
     {
         self.records.pass();
     }
 
     /// The value of the key, where the walk stands before its record, past which it goes then.
     pub(crate) fn take_at(&mut self, key: Key) -> Option<Value>
-        ensures there { (low : Key) (value : List ℕ) → front_of self.old ≡ Pair low value → place low ≡ place key
-            → (result ≡ Some value) × (self.new ≡ record { pending = drop 1 self.old.pending; tops = self.old.tops }) }
-        ensures none { ((low : Key) (value : List ℕ) → front_of self.old ≡ Pair low value → place low ≢ place key)
+        ensures there { (low : Key) (value : List ℕ) → front_of self.old ≡ Pair low value
+            → place low ≡ place key → (result ≡ Some value) × (self.new ≡ past_record self.old) }
+        ensures none { ((low : Key) (value : List ℕ) → front_of self.old ≡ Pair low value
+            → place low ≢ place key)
             → (result ≡ None) × (self.new ≡ self.old) }
     {
         match self.records.key() {
@@ -162,15 +165,16 @@ impl Cursor {
         requires blocks { blocks ≤ (D.state disk.old).blocks }
         requires front { front_of self.old ≡ Top top }
         requires level { top.level ≡ 0 }
-        ensures any { Goes (result ≡ Err TreeFault.Device) (D.state disk.old) (D.state disk.new) }
+        ensures looks { OnlyLooks result (D.state disk.old) (D.state disk.new) }
         ensures deep { result ≢ Err TreeFault.Deep }
         ensures memory { result ≢ Err TreeFault.Memory }
         ensures once { (D.state disk.new).reads ≤ (D.state disk.old).reads + 1 }
-        ensures reads { (D.state disk.new).honest ≡ true → OnlyReads (D.state disk.old) (D.state disk.new) }
-        ensures few { OnOk result ((length self.new.pending ≤ 16) × (self.new.tops ≡ drop 1 self.old.tops)) }
+        ensures few { OnOk result
+            ((length self.new.pending ≤ 16) × (self.new.tops ≡ drop 1 self.old.tops)) }
         ensures only { (D.state disk.new).honest ≡ true → (rs : List Record)
             → IsLeafAt (D.state disk.old).now.contents blocks top.block rs
-            → OkOrDevice result (λ _. self.new ≡ record { pending = rs; tops = drop 1 self.old.tops }) }
+            → OkOrDevice result (λ _.
+            self.new ≡ record { pending = rs; tops = drop 1 self.old.tops }) }
     {
         self.levels[top.level as usize].pass();
         self.records.read(disk, blocks, top.block)
@@ -186,16 +190,15 @@ impl Cursor {
         requires blocks { blocks ≤ (D.state disk.old).blocks }
         requires front { front_of self.old ≡ Top top }
         requires level { 0 < top.level }
-        ensures any { Goes (result ≡ Err TreeFault.Device) (D.state disk.old) (D.state disk.new) }
+        ensures looks { OnlyLooks result (D.state disk.old) (D.state disk.new) }
         ensures deep { result ≢ Err TreeFault.Deep }
         ensures memory { result ≢ Err TreeFault.Memory }
         ensures once { (D.state disk.new).reads ≤ (D.state disk.old).reads + 1 }
-        ensures reads { (D.state disk.new).honest ≡ true → OnlyReads (D.state disk.old) (D.state disk.new) }
         ensures few { OnOk result ((cs : List Child) × (length cs ≤ 256)
-            × (self.new ≡ record { pending = self.old.pending; tops = tops_of (top.level - 1) cs ++ drop 1 self.old.tops })) }
+            × (self.new ≡ into_tops (tops_of (top.level - 1) cs) self.old)) }
         ensures only { (D.state disk.new).honest ≡ true → (cs : List Child)
             → IsNodeAt (D.state disk.old).now.contents blocks top.level top.block cs
-            → OkOrDevice result (λ _. self.new ≡ record { pending = self.old.pending; tops = tops_of (top.level - 1) cs ++ drop 1 self.old.tops }) }
+            → OkOrDevice result (λ _. self.new ≡ into_tops (tops_of (top.level - 1) cs) self.old) }
     {
         self.levels[top.level as usize].pass();
         self.levels[top.level as usize - 1].read(disk, blocks, top.level, top.block)
@@ -205,7 +208,8 @@ impl Cursor {
 /// Goes past the records that both walks stand before, as far as their bytes are equal, and tells
 /// whether both have none left then.
 pub(crate) fn pass_records(one: &mut Cursor, other: &mut Cursor) -> bool
-    ensures passed { PassedBoth one.old.pending other.old.pending one.new.pending other.new.pending }
+    ensures passed { PassedBoth one.old.pending other.old.pending
+        one.new.pending other.new.pending }
     ensures tops { (one.new.tops ≡ one.old.tops) × (other.new.tops ≡ other.old.tops) }
     ensures none { IsTrue result → (one.new.pending ≡ []) × (other.new.pending ≡ []) }
 {
@@ -217,7 +221,8 @@ pub(crate) fn pass_records(one: &mut Cursor, other: &mut Cursor) -> bool
 /// inner block of either, and tells whether there are any.
 pub(crate) fn pass_tops(one: &mut Cursor, other: &mut Cursor) -> bool
     ensures passed { PassedBoth one.old.tops other.old.tops one.new.tops other.new.tops }
-    ensures pending { (one.new.pending ≡ one.old.pending) × (other.new.pending ≡ other.old.pending) }
+    ensures pending { (one.new.pending ≡ one.old.pending)
+        × (other.new.pending ≡ other.old.pending) }
     ensures some { IsTrue result → length one.new.tops < length one.old.tops }
 {
     let (Some(here), Some(there)) = (next_top(&one.levels), next_top(&other.levels)) else {

@@ -8,7 +8,7 @@ ghost use Rattle.std.specs.Option.{option_copied};
 ghost use Rattle.vm_types.specs.declared.refusal.Refusal.TheVariants.{Unsettled};
 ghost use Rattle.vm_types.specs.Map.{Map, IsMap, key_cmp, same_key, delta, conflicts, side_of, merge};
 ghost use Rattle.vm_types.specs.Step.{settled_refusal, first_repeated};
-ghost use Rattle.vm_diff.specs.Merging.{from_key, first_at, settled_from, clash, taken};
+ghost use Rattle.vm_diff.specs.Merging.{from_key, first_at, settled_from, clash, first_missing, taken};
 
 use std::alloc::{AllocError, Global};
 use std::cmp::Ordering;
@@ -97,7 +97,8 @@ pub fn conflicts_between(
     mine: &[Change],
 ) -> Result<Vec<Conflict>, Refusal>
     ensures only { IfErr result (λ refusal. refusal ≡ Refusal.Memory) }
-    ensures list { (base parent own : Map) → IsMap base → IsMap parent → IsMap own → theirs.now ≡ delta base parent → mine.now ≡ delta base own
+    ensures list { (base parent own : Map) → IsMap base → IsMap parent → IsMap own
+        → theirs.now ≡ delta base parent → mine.now ≡ delta base own
         → IfOk result (λ list. list.items ≡ conflicts base parent own) }
 {
     let mut conflicts = Vec::new(alloc);
@@ -122,7 +123,8 @@ fn changes_in_turn(
     settled: &[(Key, Side)],
 ) -> Result<Vec<Change>, Refusal>
     ensures only { IfErr result (λ refusal. refusal ≡ Refusal.Memory) }
-    ensures list { (base parent own : Map) → IsMap base → IsMap parent → IsMap own → theirs.now ≡ delta base parent → mine.now ≡ delta base own
+    ensures list { (base parent own : Map) → IsMap base → IsMap parent → IsMap own
+        → theirs.now ≡ delta base parent → mine.now ≡ delta base own
         → IfOk result (λ list. list.items ≡ delta own (merge base parent own settled.now)) }
 {
     let mut changes = Vec::new(alloc);
@@ -163,7 +165,7 @@ fn is_in_conflict(conflicts: &[Conflict], key: Key) -> bool
 
 /// The first settlement's key that is in no conflict.
 fn not_in_conflict(settled: &[(Key, Side)], conflicts: &[Conflict]) -> Option<Key>
-    ensures { result ≡ find (λ key. not (list_any (same_key key) (map (λ c. c.key) conflicts.now))) (map (λ e. e.0) settled.now) }
+    ensures { result ≡ first_missing (map (λ c. c.key) conflicts.now) (map (λ e. e.0) settled.now) }
 {
     settled
         .iter()
@@ -173,7 +175,8 @@ fn not_in_conflict(settled: &[(Key, Side)], conflicts: &[Conflict]) -> Option<Ke
 
 /// How many conflicts have no settlement.
 fn unsettled(settled: &[(Key, Side)], conflicts: &[Conflict]) -> usize
-    ensures { result ≡ length (filter (λ key. is_none (side_of settled.now key)) (map (λ c. c.key) conflicts.now)) }
+    ensures { result ≡ length
+        (filter (λ key. is_none (side_of settled.now key)) (map (λ c. c.key) conflicts.now)) }
 {
     conflicts
         .iter()
@@ -210,7 +213,7 @@ fn conflicts_rise(conflicts: &[Conflict]) -> bool
 fn first_unmatched(settled: &[(Key, Side)], conflicts: &[Conflict]) -> Option<Key>
     requires settled { IsStrictlySortedBy key_cmp (map (λ e. e.0) settled.now) }
     requires conflicts { IsStrictlySortedBy key_cmp (map (λ c. c.key) conflicts.now) }
-    ensures { result ≡ find (λ key. not (list_any (same_key key) (map (λ c. c.key) conflicts.now))) (map (λ e. e.0) settled.now) }
+    ensures { result ≡ first_missing (map (λ c. c.key) conflicts.now) (map (λ e. e.0) settled.now) }
 {
     let mut ahead = settled;
     for conflict in conflicts {
@@ -244,9 +247,11 @@ fn sides_by_key(
     alloc: Global,
     settled: &[(Key, Side)],
 ) -> Result<Result<BTreeMap<Key, Side>, Key>, AllocError>
-    ensures sides { IfOk result (λ found. IfOk found (λ sides. (first_repeated [] (map (λ e. e.0) settled.now) ≡ None)
+    ensures sides { IfOk result
+        (λ found. IfOk found (λ sides. (first_repeated [] (map (λ e. e.0) settled.now) ≡ None)
         × ((key : Key) → tree.get key_cmp sides key ≡ side_of settled.now key))) }
-    ensures twice { IfOk result (λ found. IfErr found (λ key. first_repeated [] (map (λ e. e.0) settled.now) ≡ Some key)) }
+    ensures twice { IfOk result
+        (λ found. IfErr found (λ key. first_repeated [] (map (λ e. e.0) settled.now) ≡ Some key)) }
 {
     let mut sides = BTreeMap::new(alloc);
     for (key, side) in settled {
@@ -270,7 +275,7 @@ fn is_in_rising(conflicts: &[Conflict], key: Key) -> bool
 /// The first settlement's key that is in no conflict, where the conflicts' keys rise.
 fn not_in_rising(settled: &[(Key, Side)], conflicts: &[Conflict]) -> Option<Key>
     requires { IsStrictlySortedBy key_cmp (map (λ c. c.key) conflicts.now) }
-    ensures { result ≡ find (λ key. not (list_any (same_key key) (map (λ c. c.key) conflicts.now))) (map (λ e. e.0) settled.now) }
+    ensures { result ≡ first_missing (map (λ c. c.key) conflicts.now) (map (λ e. e.0) settled.now) }
 {
     settled
         .iter()
@@ -280,7 +285,9 @@ fn not_in_rising(settled: &[(Key, Side)], conflicts: &[Conflict]) -> Option<Key>
 
 /// How many conflicts have no side.
 fn unsettled_by_key(sides: &BTreeMap<Key, Side>, conflicts: &[Conflict]) -> usize
-    ensures { result ≡ length (filter (λ key. is_none (tree.get key_cmp sides.now key)) (map (λ c. c.key) conflicts.now)) }
+    ensures { result ≡ length
+        (filter (λ key. is_none (tree.get key_cmp sides.now key))
+        (map (λ c. c.key) conflicts.now)) }
 {
     conflicts
         .iter()
@@ -351,7 +358,8 @@ fn entries_of(alloc: Global, sides: BTreeMap<Key, Side>) -> Result<Vec<(Key, Sid
 
 /// The settlements by rising keys, where none is settled twice and there is memory for them.
 fn by_rising_keys(alloc: Global, settled: &[(Key, Side)]) -> Option<Vec<(Key, Side)>>
-    ensures { IfSome result (λ sorted. (key : Key) → side_of sorted.items key ≡ side_of settled.now key) }
+    ensures { IfSome result (λ sorted. (key : Key)
+        → side_of sorted.items key ≡ side_of settled.now key) }
 {
     let Ok(Ok(sides)) = sides_by_key(alloc, settled) else {
         return None;
@@ -372,7 +380,8 @@ pub fn changes_by_merge(
     settled: &[(Key, Side)],
 ) -> Result<Vec<Change>, Refusal>
     ensures only { IfErr result (λ refusal. refusal ≡ Refusal.Memory) }
-    ensures list { (base parent own : Map) → IsMap base → IsMap parent → IsMap own → theirs.now ≡ delta base parent → mine.now ≡ delta base own
+    ensures list { (base parent own : Map) → IsMap base → IsMap parent → IsMap own
+        → theirs.now ≡ delta base parent → mine.now ≡ delta base own
         → IfOk result (λ list. list.items ≡ delta own (merge base parent own settled.now)) }
 {
     if !settled_rise(settled)

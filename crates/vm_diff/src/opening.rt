@@ -1,10 +1,9 @@
 //! Opening the subtree that a walk stands before.
 ghost use Rattle.std.specs.Prelude.{◌≡◌, ◌≢◌, ℕ, ◌+◌, ◌≤◌, ◌<◌, true, List, None, OnOk};
-ghost use Rattle.vm_disk.specs.Disk.{Goes};
-ghost use Rattle.vm_disk.specs.Moments.{OnlyReads};
 ghost use Rattle.vm_block.specs.Leaf.{Record};
 ghost use Rattle.vm_block.specs.Tree.{Sizes};
 ghost use Rattle.vm_tree.specs.Answers.{OkOrDevice};
+ghost use Rattle.vm_tree.specs.Calls.{OnlyLooks};
 ghost use Rattle.vm_diff.specs.Walk.{IsAhead, size};
 ghost use Rattle.vm_diff.specs.Front.{front_of};
 ghost use Rattle.vm_diff.specs.Front.Front.{Top};
@@ -23,15 +22,16 @@ pub(crate) fn open<D: Disk>(
 ) -> Result<(), TreeFault>
     requires blocks { blocks ≤ (D.state disk.old).blocks }
     requires front { front_of walk.old ≡ Top top }
-    ensures any { Goes (result ≡ Err TreeFault.Device) (D.state disk.old) (D.state disk.new) }
+    ensures looks { OnlyLooks result (D.state disk.old) (D.state disk.new) }
     ensures deep { result ≢ Err TreeFault.Deep }
     ensures memory { result ≢ Err TreeFault.Memory }
     ensures once { (D.state disk.new).reads ≤ (D.state disk.old).reads + 1 }
-    ensures reads { (D.state disk.new).honest ≡ true → OnlyReads (D.state disk.old) (D.state disk.new) }
     ensures falls { OnOk result (size walk.new < size walk.old) }
-    ensures opens { (D.state disk.new).honest ≡ true → (sizes : Sizes) (rs : List Record) (bs : List ℕ)
+    ensures opens { (D.state disk.new).honest ≡ true
+        → (sizes : Sizes) (rs : List Record) (bs : List ℕ)
         → IsAhead sizes (D.state disk.old).now.contents blocks walk.old rs bs
-        → OkOrDevice result (λ _. Passes sizes (D.state disk.old).now.contents blocks (Top top) None walk.new rs bs) }
+        → OkOrDevice result (λ _. Passes sizes (D.state disk.old).now.contents blocks
+        (Top top) None walk.new rs bs) }
 {
     if top.level == 0 {
         walk.open_leaf(disk, blocks, top)

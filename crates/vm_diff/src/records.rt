@@ -1,10 +1,9 @@
 //! The records of a leaf that come next, in the leaf's bytes.
 ghost use Rattle.std.specs.Prelude.{◌≡◌, ◌≢◌, ℕ, ◌+◌, ◌<◌, ◌≤◌, true, List, [], drop, length, OnOk};
-ghost use Rattle.vm_disk.specs.Disk.{Goes};
-ghost use Rattle.vm_disk.specs.Moments.{OnlyReads};
 ghost use Rattle.vm_block.specs.Leaf.{Record};
 ghost use Rattle.vm_block.specs.Row.{leaf_row};
 ghost use Rattle.vm_tree.specs.Answers.{OkOrDevice};
+ghost use Rattle.vm_tree.specs.Calls.{OnlyLooks};
 ghost use Rattle.vm_tree.specs.Reading.{IsLeafAt};
 ghost use Rattle.vm_diff.specs.Ahead.{PassedBoth, first_key, first_value};
 
@@ -98,23 +97,19 @@ impl Records {
         block: u32,
     ) -> Result<(), TreeFault>
         requires { blocks ≤ (D.state disk.old).blocks }
-        ensures any { Goes (result ≡ Err TreeFault.Device) (D.state disk.old) (D.state disk.new) }
+        ensures looks { OnlyLooks result (D.state disk.old) (D.state disk.new) }
         ensures deep { result ≢ Err TreeFault.Deep }
         ensures memory { result ≢ Err TreeFault.Memory }
         ensures once { (D.state disk.new).reads ≤ (D.state disk.old).reads + 1 }
-        ensures reads { (D.state disk.new).honest ≡ true → OnlyReads (D.state disk.old) (D.state disk.new) }
         ensures few { OnOk result (length self.new ≤ 16) }
         ensures only { (D.state disk.new).honest ≡ true → (rs : List Record)
-            → IsLeafAt (D.state disk.old).now.contents blocks block rs → OkOrDevice result (λ _. self.new ≡ rs) }
+            → IsLeafAt (D.state disk.old).now.contents blocks block rs
+            → OkOrDevice result (λ _. self.new ≡ rs) }
     {
-        match leaf_into(disk, blocks, block, &mut self.bytes) {
-            Ok(count) => {
-                self.at = 0;
-                self.count = count;
-                Ok(())
-            }
-            Err(fault) => Err(fault),
-        }
+        let count = leaf_into(disk, blocks, block, &mut self.bytes)?;
+        self.at = 0;
+        self.count = count;
+        Ok(())
     }
 }
 
@@ -129,7 +124,8 @@ fn shared_records(
     requires here { at + most ≤ 16 }
     requires there { other_at + most ≤ 16 }
     ensures most { result ≤ most }
-    ensures same { (k : ℕ) → k < result → leaf_row one.now (at + k) ≡ leaf_row other.now (other_at + k) }
+    ensures same { (k : ℕ) → k < result
+        → leaf_row one.now (at + k) ≡ leaf_row other.now (other_at + k) }
 {
     for i in 0..most {
         if record_row(one, at + i) != record_row(other, other_at + i) {

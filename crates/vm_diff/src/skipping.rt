@@ -12,7 +12,8 @@ use crate::cursor::{Cursor, pass_records, pass_tops};
 pub(crate) fn skip_shared(one: &mut Cursor, other: &mut Cursor)
     ensures most { size one.new + size other.new ≤ size one.old + size other.old }
     ensures differ { (sizes : Sizes) (x : Contents) (limit reads most : ℕ) (changes : List Change)
-        → Differ sizes x limit one.old other.old reads most changes → Differ sizes x limit one.new other.new reads most changes }
+        → Differ sizes x limit one.old other.old reads most changes
+        → Differ sizes x limit one.new other.new reads most changes }
 {
     if !pass_records(one, other) {
         return;

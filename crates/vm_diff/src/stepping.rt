@@ -3,13 +3,13 @@ ghost use Rattle.std.specs.Prelude.{◌≡◌, ◌≢◌, ℕ, ◌+◌, ◌<◌,
 ghost use Rattle.vm_types.specs.declared.change.Change.{Change};
 ghost use Rattle.vm_types.specs.declared.key.Key.{Key};
 ghost use Rattle.vm_types.specs.Places.{place};
-ghost use Rattle.vm_disk.specs.Disk.{Contents, Goes};
-ghost use Rattle.vm_disk.specs.Moments.{OnlyReads};
+ghost use Rattle.vm_disk.specs.Disk.{Contents};
 ghost use Rattle.vm_block.specs.Tree.{Sizes};
+ghost use Rattle.vm_tree.specs.Calls.{OnlyLooks};
 ghost use Rattle.vm_diff.specs.Walk.{size};
 ghost use Rattle.vm_diff.specs.Front.{front_of, next_of, place_of};
 ghost use Rattle.vm_diff.specs.Front.Front.{Top};
-ghost use Rattle.vm_diff.specs.Differ.{Differ};
+ghost use Rattle.vm_diff.specs.Differ.{Differ, IfDiffer};
 ghost use Rattle.vm_diff.specs.Steps.{Falls, FoundBy, Meet, StepsBy, moved_by};
 
 use crate::cursor::Cursor;
@@ -24,10 +24,8 @@ use vm_types::{Change, Key};
 fn moved(opened: Result<(), TreeFault>) -> Result<Step, TreeFault>
     ensures { result ≡ moved_by opened }
 {
-    match opened {
-        Ok(()) => Ok(Step::Moved),
-        Err(fault) => Err(fault),
-    }
+    opened?;
+    Ok(Step::Moved)
 }
 
 /// The step where both walks stand before subtrees with the same lowest key. One that both share is
@@ -44,18 +42,17 @@ fn meet_tops<D: Disk>(
     requires first { front_of one.old ≡ Top first }
     requires second { front_of other.old ≡ Top second }
     requires level { place first.low ≡ place second.low }
-    ensures any { Goes (result ≡ Err TreeFault.Device) (D.state disk.old) (D.state disk.new) }
+    ensures looks { OnlyLooks result (D.state disk.old) (D.state disk.new) }
     ensures deep { result ≢ Err TreeFault.Deep }
     ensures memory { result ≢ Err TreeFault.Memory }
-    ensures reads { (D.state disk.new).honest ≡ true → OnlyReads (D.state disk.old) (D.state disk.new) }
     ensures falls { Falls result (size one.old + size other.old) (size one.new + size other.new) }
     ensures found { FoundBy result (front_of one.new) (front_of other.new) }
-    ensures bound { (D.state disk.new).honest ≡ true → (sizes : Sizes) (most : ℕ) (changes : List Change)
-        → Differ sizes (D.state disk.old).now.contents blocks one.old other.old (D.state disk.old).reads most changes
-        → (D.state disk.new).reads ≤ most }
-    ensures steps { (D.state disk.new).honest ≡ true → (sizes : Sizes) (most : ℕ) (changes : List Change)
-        → Differ sizes (D.state disk.old).now.contents blocks one.old other.old (D.state disk.old).reads most changes
-        → StepsBy result changes (Differ sizes (D.state disk.old).now.contents blocks one.new other.new (D.state disk.new).reads most) }
+    ensures bound { IfDiffer (D.state disk.old) (D.state disk.new) blocks one.old other.old
+        (λ sizes most changes. (D.state disk.new).reads ≤ most) }
+    ensures steps { IfDiffer (D.state disk.old) (D.state disk.new) blocks one.old other.old
+        (λ sizes most changes. StepsBy result changes
+        (Differ sizes (D.state disk.old).now.contents blocks one.new other.new
+        (D.state disk.new).reads most)) }
 {
     if first.block == second.block && first.level == second.level {
         one.skip(first);
@@ -73,8 +70,10 @@ fn meet_tops<D: Disk>(
 /// The step where both walks stand before records of one key.
 fn meet_pairs(one: &mut Cursor, other: &mut Cursor, key: Key) -> Step
     requires first { next_of (front_of one.old) ≡ Next.Record key }
-    requires second { (low : Key) × (next_of (front_of other.old) ≡ Next.Record low) × (place key ≡ place low) }
-    ensures falls { Falls (Ok result) (size one.old + size other.old) (size one.new + size other.new) }
+    requires second { (low : Key) × (next_of (front_of other.old) ≡ Next.Record low)
+        × (place key ≡ place low) }
+    ensures falls { Falls (Ok result) (size one.old + size other.old)
+        (size one.new + size other.new) }
     ensures found { FoundBy (Ok result) (front_of one.new) (front_of other.new) }
     ensures steps { (sizes : Sizes) (x : Contents) (limit reads most : ℕ) (changes : List Change)
         → Differ sizes x limit one.old other.old reads most changes
@@ -99,18 +98,17 @@ fn meet<D: Disk>(
 ) -> Result<Step, TreeFault>
     requires blocks { blocks ≤ (D.state disk.old).blocks }
     requires level { place_of (front_of one.old) ≡ place_of (front_of other.old) }
-    ensures any { Goes (result ≡ Err TreeFault.Device) (D.state disk.old) (D.state disk.new) }
+    ensures looks { OnlyLooks result (D.state disk.old) (D.state disk.new) }
     ensures deep { result ≢ Err TreeFault.Deep }
     ensures memory { result ≢ Err TreeFault.Memory }
-    ensures reads { (D.state disk.new).honest ≡ true → OnlyReads (D.state disk.old) (D.state disk.new) }
     ensures falls { Falls result (size one.old + size other.old) (size one.new + size other.new) }
     ensures found { FoundBy result (front_of one.new) (front_of other.new) }
-    ensures bound { (D.state disk.new).honest ≡ true → (sizes : Sizes) (most : ℕ) (changes : List Change)
-        → Differ sizes (D.state disk.old).now.contents blocks one.old other.old (D.state disk.old).reads most changes
-        → (D.state disk.new).reads ≤ most }
-    ensures steps { (D.state disk.new).honest ≡ true → (sizes : Sizes) (most : ℕ) (changes : List Change)
-        → Differ sizes (D.state disk.old).now.contents blocks one.old other.old (D.state disk.old).reads most changes
-        → StepsBy result changes (Differ sizes (D.state disk.old).now.contents blocks one.new other.new (D.state disk.new).reads most) }
+    ensures bound { IfDiffer (D.state disk.old) (D.state disk.new) blocks one.old other.old
+        (λ sizes most changes. (D.state disk.new).reads ≤ most) }
+    ensures steps { IfDiffer (D.state disk.old) (D.state disk.new) blocks one.old other.old
+        (λ sizes most changes. StepsBy result changes
+        (Differ sizes (D.state disk.old).now.contents blocks one.new other.new
+        (D.state disk.new).reads most)) }
 {
     match one.next() {
         Next::Subtree(first) => match other.next() {
@@ -138,18 +136,17 @@ pub(crate) fn step<D: Disk>(
     other: &mut Cursor,
 ) -> Result<Step, TreeFault>
     requires { blocks ≤ (D.state disk.old).blocks }
-    ensures any { Goes (result ≡ Err TreeFault.Device) (D.state disk.old) (D.state disk.new) }
+    ensures looks { OnlyLooks result (D.state disk.old) (D.state disk.new) }
     ensures deep { result ≢ Err TreeFault.Deep }
     ensures memory { result ≢ Err TreeFault.Memory }
-    ensures reads { (D.state disk.new).honest ≡ true → OnlyReads (D.state disk.old) (D.state disk.new) }
     ensures falls { Falls result (size one.old + size other.old) (size one.new + size other.new) }
     ensures found { FoundBy result (front_of one.new) (front_of other.new) }
-    ensures bound { (D.state disk.new).honest ≡ true → (sizes : Sizes) (most : ℕ) (changes : List Change)
-        → Differ sizes (D.state disk.old).now.contents blocks one.old other.old (D.state disk.old).reads most changes
-        → (D.state disk.new).reads ≤ most }
-    ensures steps { (D.state disk.new).honest ≡ true → (sizes : Sizes) (most : ℕ) (changes : List Change)
-        → Differ sizes (D.state disk.old).now.contents blocks one.old other.old (D.state disk.old).reads most changes
-        → StepsBy result changes (Differ sizes (D.state disk.old).now.contents blocks one.new other.new (D.state disk.new).reads most) }
+    ensures bound { IfDiffer (D.state disk.old) (D.state disk.new) blocks one.old other.old
+        (λ sizes most changes. (D.state disk.new).reads ≤ most) }
+    ensures steps { IfDiffer (D.state disk.old) (D.state disk.new) blocks one.old other.old
+        (λ sizes most changes. StepsBy result changes
+        (Differ sizes (D.state disk.old).now.contents blocks one.new other.new
+        (D.state disk.new).reads most)) }
 {
     let (here, there) = (one.place(), other.place());
     if here < there {
@@ -175,7 +172,8 @@ pub(crate) fn take_change(one: &mut Cursor, other: &mut Cursor, key: Key) -> Cha
     ensures falls { size one.new + size other.new < size one.old + size other.old }
     ensures change { (sizes : Sizes) (x : Contents) (limit reads most : ℕ) (changes : List Change)
         → Differ sizes x limit one.old other.old reads most changes
-        → (rest : List Change) × (changes ≡ result ∷ rest) × Differ sizes x limit one.new other.new reads most rest }
+        → (rest : List Change) × (changes ≡ result ∷ rest)
+        × Differ sizes x limit one.new other.new reads most rest }
 {
     let before = one.take_at(key);
     let after = other.take_at(key);

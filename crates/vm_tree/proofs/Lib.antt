@@ -2,6 +2,7 @@ pub mod Descent
 pub mod FullPaths
 pub mod Growing
 pub mod Leading
+pub mod Looking
 pub mod Placing
 pub mod PutLemmas
 pub mod Removal

@@ -1,24 +1,23 @@
 -- Records under a list of children, read one child after another.
-use Rattle.std.proofs.Common.{◌≡◌, ℕ, ◌+◌, ◌-◌, ◌<◌, ◌≤◌, true, List, [], ◌∷◌, ◌++◌, length, get_or, take, Err, sym, ap, ◌∙◌, subst, arith, append_assoc, append-nil, length-take-le}
+use Rattle.std.proofs.Common.{◌≡◌, ℕ, ◌+◌, ◌-◌, ◌<◌, ◌≤◌, true, List, [], ◌∷◌, ◌++◌, length, get_or, take, Result, Ok, Err, sym, ap, ◌∙◌, subst, arith, append_assoc, append-nil, length-take-le}
 use Rattle.std.proofs.lemmas.List.{take_more, take_at, drop_at, take_all}
-use Rattle.vm_disk.specs.Disk.{State, Contents, Medium, Goes}
-use Rattle.vm_disk.specs.Moments.{OnlyReads}
-use Rattle.vm_disk.proofs.GoesLemmas.{goes_then}
-use Rattle.vm_disk.proofs.MomentLemmas.{reads_then, same_medium}
+use Rattle.vm_disk.specs.Disk.{State, Contents, Medium}
+use Rattle.vm_disk.proofs.MomentLemmas.{same_medium}
 use Rattle.vm_block.specs.Leaf.{Record}
 use Rattle.vm_block.specs.Tree.{Sizes, Children, Subtree}
 use Rattle.vm_block.specs.declared.node.Child.{Child}
 use Rattle.vm_tree.specs.Answers.{Lists}
+use Rattle.vm_tree.specs.Calls.{OnlyLooks}
 use Rattle.vm_tree.specs.Reading.{IsNodeAt}
 use Rattle.vm_tree.specs.declared.root.TreeFault.{TreeFault}
 use Rattle.vm_tree.specs.declared.root.TreeFault.TheVariants.{Device, Damaged, Deep, Memory}
 use Rattle.vm_tree.proofs.Descent.{node_under}
+use Rattle.vm_tree.proofs.Looking.{looks_on}
 use Rattle.vm_tree.proofs.Splitting.{split_at, cut_at}
 
 -- the records under the first i children were added, by reads alone
 pub record Scans (old new : State) (limit level : ℕ) (cs : List Child) (i : ℕ) (before now : List Record) : Type 0 where
-  pub goes : Goes ⊥ old new
-  pub reads : new.honest ≡ true → OnlyReads old new
+  pub looks : OnlyLooks {T = Unit {0}} (Ok tt) old new
   pub added : new.honest ≡ true → (sizes : Sizes) (front : List Record) (left : List ℕ) → Children (Subtree sizes old.now.contents limit (level - 1)) (take i cs) front left → now ≡ before ++ front
 
 -- the last of some children
@@ -33,19 +32,18 @@ last_child T cs i d front left lt t =
     let last = subst (λ (ds : List Child). Children T ds cut.after cut.right) (drop_at (take i cs) (c ∷ []) i many) cut.back in
     (cut.before, last.0, cut.left, last.2, first, last.4, cut.records ∙ ap (λ (rs : List Record). cut.before ++ rs) (last.7 ∙ ap (λ (rs : List Record). last.0 ++ rs) last.6.0 ∙ append-nil last.0))
 
-pub scans_more : (fails : Type 0) (old mid new : State) (limit level : ℕ) (cs : List Child) (i : ℕ) (d : Child) (before now more : List Record) → i < length cs → Scans old mid limit level cs i before now
-    → Goes fails mid new → (new.honest ≡ true → OnlyReads mid new)
+pub scans_more : {T : Type 0} {result : Result T TreeFault} (old mid new : State) (limit level : ℕ) (cs : List Child) (i : ℕ) (d : Child) (before now more : List Record) → i < length cs → Scans old mid limit level cs i before now
+    → OnlyLooks result mid new
     → (new.honest ≡ true → (sizes : Sizes) (rs : List Record) (bs : List ℕ) → Subtree sizes mid.now.contents limit (level - 1) (get_or cs i d).block rs bs → more ≡ now ++ rs)
     → Scans old new limit level cs (i + 1) before more
-scans_more fails old mid new limit level cs i d before now more lt so_far goes reads added = record {
-  goes = goes_then ⊥ fails ⊥ old mid new so_far.goes goes (λ failed. absurd failed);
-  reads = λ honest. reads_then old mid new (so_far.reads (goes.earlier honest)) (reads honest);
+scans_more old mid new limit level cs i d before now more lt so_far looks added = record {
+  looks = looks_on so_far.looks looks (λ is. cc);
   added = λ honest sizes front left t.
       let last = last_child (Subtree sizes old.now.contents limit (level - 1)) cs i d front left lt t in
-      let still = same_medium old mid (so_far.reads (goes.earlier honest)) in
+      let still = same_medium old mid (so_far.looks.reads (looks.goes.earlier honest)) in
       let child = subst (λ (m : Medium). Subtree sizes m.contents limit (level - 1) (get_or cs i d).block last.1 last.3) (sym still) last.5 in
       added honest sizes last.1 last.3 child
-      ∙ ap (λ (rs : List Record). rs ++ last.1) (so_far.added (goes.earlier honest) sizes last.0 last.2 last.4)
+      ∙ ap (λ (rs : List Record). rs ++ last.1) (so_far.added (looks.goes.earlier honest) sizes last.0 last.2 last.4)
       ∙ append_assoc before last.0 last.1
       ∙ ap (λ (rs : List Record). before ++ rs) (sym last.6);
 }
@@ -79,6 +77,6 @@ pub child_fails : (sizes : Sizes) (x : Contents) (old mid new : State) (limit le
 child_fails sizes x old mid new limit level b cs i d before now rs bs e P Q lt above honest back same tree only scans child =
     let at = node_under sizes x limit level b rs bs cs above tree only in
     let s = split_at (Subtree sizes x limit (level - 1)) cs i d rs at.0 lt at.1 in
-    let still : mid.now.contents ≡ x = ap (λ (m : Medium). m.contents) (same_medium old mid (scans.reads (back honest))) ∙ same in
+    let still : mid.now.contents ≡ x = ap (λ (m : Medium). m.contents) (same_medium old mid (scans.looks.reads (back honest))) ∙ same in
     let there = subst (λ (y : Contents). Subtree sizes y limit (level - 1) (get_or cs i d).block s.sub s.own) (sym still) s.child in
     fault_lists e (P s.sub) Q (child honest s.sub s.own there)

@@ -1,5 +1,5 @@
 -- Blocks that are held keep their bytes, over one call and over two.
-use Rattle.std.proofs.Common.{◌≡◌, ℕ, Bool, true, false, not, List, Some, Result, refl, ap, sym, ◌∙◌}
+use Rattle.std.proofs.Common.{◌≡◌, ℕ, Bool, true, false, not, List, Some, Result, refl, ap, sym, ◌∙◌, arith}
 use Rattle.std.proofs.lemmas.Bool.{false≢true}
 use Rattle.vm_disk.specs.Disk.{Medium, State, block, Writes}
 use Rattle.vm_disk.specs.declared.disk.DeviceFault.{DeviceFault}
@@ -18,6 +18,7 @@ held_same held old new n spares is = spares.same n (ap not is)
 pub spares_more : (a b : List Bool) (old mid new : Medium) → HoldsMore a b → Spares (is_free a) old mid → Spares (is_free b) mid new → Spares (is_free a) old new
 spares_more a b old mid new more first then = record {
   count = then.count ∙ first.count;
+  sure = omega (arith, first.sure, then.sure);
   same = λ n out. then.same n (kept n out) ∙ first.same n out;
   clean = λ n out clean. then.clean n (kept n out) (first.clean n out clean);
 }

@@ -1,6 +1,8 @@
 -- Blocks that may be written.
 use Rattle.std.specs.Prelude.{ℕ, ◌<◌, ◌≤◌, Bool, not, List, length}
+use Rattle.std.specs.List.{AllByRecursion}
 use Rattle.vm_alloc.specs.Held.{is_held, IsHeld}
+use Rattle.vm_block.specs.declared.node.Child.{Child}
 
 -- is this block free?
 abbrev pub is_free : List Bool → ℕ → Bool
@@ -11,3 +13,7 @@ pub record IsTaken (held : List Bool) (n : ℕ) : Type 0 where
   pub above : 34 ≤ n
   pub inside : n < length held
   pub held_now : IsHeld held n
+
+-- the blocks of these children are for data, and held now
+abbrev pub AreTaken : List Bool → List Child → Type 0
+AreTaken held cs = AllByRecursion (λ c. IsTaken held c.block) cs

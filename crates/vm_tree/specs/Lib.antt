@@ -1,4 +1,5 @@
 pub mod Free
+pub mod Calls
 pub mod Making
 pub mod Removing
 pub mod Root

@@ -1,10 +1,12 @@
 -- Roots, and what map lies under one.
-use Rattle.std.specs.Prelude.{◌≡◌, ◌⊎◌, ℕ, ◌<◌, ◌≤◌, List, []}
+use Rattle.std.specs.Prelude.{◌≡◌, ◌⊎◌, ℕ, ◌<◌, ◌≤◌, true, List, []}
 use Rattle.std.specs.List.{AllByRecursion}
 use Rattle.vm_types.specs.Map.{Map}
 use Rattle.vm_types.specs.Places.{RisesFrom, places}
-use Rattle.vm_disk.specs.Disk.{Contents}
+use Rattle.vm_disk.specs.Disk.{Contents, State}
+use Rattle.vm_block.specs.Leaf.{Record}
 use Rattle.vm_block.specs.Tree.{Sizes, Begins, Subtree}
+use Rattle.vm_block.specs.declared.node.Child.{Child}
 use Rattle.vm_tree.specs.declared.root.Root.{Root}
 
 -- trees with leaves of so many records, inner blocks of so many children, and so many levels
@@ -42,3 +44,14 @@ pub record Grown (sizes : Sizes) (P : ℕ → Type 0) (x : Contents) (limit : �
   pub stands_in : List ℕ
   pub rooted : IsRooted sizes x limit root m stands_in
   pub each : AllByRecursion P stands_in
+
+-- on a disk that is honest after the call: P holds of the map that lay under the root before it, and of the map's blocks
+abbrev pub IfWhole : State → State → Sizes → ℕ → Root → (Map → List ℕ → Type 0) → Type 0
+IfWhole old new sizes limit root P =
+    new.honest ≡ true → (m : Map) (bs : List ℕ) → IsRooted sizes old.now.contents limit root m bs → P m bs
+
+-- the same of the records under a child, the top of so many levels above the leaves
+abbrev pub IfUnder : State → State → Sizes → ℕ → ℕ → Child → (List Record → List ℕ → Type 0) → Type 0
+IfUnder old new sizes limit level top P =
+    new.honest ≡ true → (rs : List Record) (bs : List ℕ) → Subtree sizes old.now.contents limit level top.block rs bs → Begins top.low rs → RisesFrom 0 (places rs)
+    → P rs bs

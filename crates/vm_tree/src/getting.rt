@@ -2,13 +2,12 @@
 ghost use Rattle.std.specs.Prelude.{◌≡◌, ◌≢◌, ℕ, ◌<◌, ◌≤◌, true, List, IfOk};
 ghost use Rattle.vm_types.specs.Map.{Map, get};
 ghost use Rattle.vm_types.specs.Places.{KeyFits, RisesFrom, place, places, value_at};
-ghost use Rattle.vm_disk.specs.Disk.{Goes};
-ghost use Rattle.vm_disk.specs.Moments.{OnlyReads};
 ghost use Rattle.vm_block.specs.Leaf.{Record};
 ghost use Rattle.vm_block.specs.Tree.{Sizes, Begins, Subtree};
 ghost use Rattle.vm_tree.specs.Answers.{OkOrDevice};
+ghost use Rattle.vm_tree.specs.Calls.{OnlyLooks};
 ghost use Rattle.vm_tree.specs.Reading.{LeadsDown};
-ghost use Rattle.vm_tree.specs.Root.{IsRooted};
+ghost use Rattle.vm_tree.specs.Root.{IfUnder, IfWhole};
 
 use crate::reading::{block_at, way_at};
 use crate::root::{Root, TreeFault};
@@ -26,29 +25,26 @@ fn get_below<D: Disk>(
     bytes: &mut [u8; 4096],
 ) -> Result<Option<Value>, TreeFault>
     requires { blocks ≤ (D.state disk.old).blocks }
-    ensures any { Goes (result ≡ Err TreeFault.Device) (D.state disk.old) (D.state disk.new) }
+    ensures looks { OnlyLooks result (D.state disk.old) (D.state disk.new) }
     ensures deep { result ≢ Err TreeFault.Deep }
     ensures memory { result ≢ Err TreeFault.Memory }
     ensures fits { KeyFits key }
-    ensures reads { (D.state disk.new).honest ≡ true → OnlyReads (D.state disk.old) (D.state disk.new) }
-    ensures path { (D.state disk.new).honest ≡ true → IfOk result (λ value. LeadsDown (D.state disk.old).now.contents blocks level top.block top.low) }
-    ensures value { (D.state disk.new).honest ≡ true → (sizes : Sizes) (rs : List Record) (bs : List ℕ)
-        → Subtree sizes (D.state disk.old).now.contents blocks level top.block rs bs → Begins top.low rs → RisesFrom 0 (places rs)
-        → OkOrDevice result (λ value. value ≡ value_at (place key) rs) }
+    ensures path { (D.state disk.new).honest ≡ true
+        → IfOk result (λ value. LeadsDown
+        (D.state disk.old).now.contents blocks level top.block top.low) }
+    ensures value { (sizes : Sizes)
+        → IfUnder (D.state disk.old) (D.state disk.new) sizes blocks level top
+        (λ rs bs. OkOrDevice result (λ value. value ≡ value_at (place key) rs)) }
 {
     if level == 0 {
-        return match block_at(disk, blocks, top, bytes) {
-            Ok(()) => match find_record(bytes, key) {
-                Some(value) => Ok(value),
-                None => Err(TreeFault::Damaged(top.block)),
-            },
-            Err(fault) => Err(fault),
+        block_at(disk, blocks, top, bytes)?;
+        return match find_record(bytes, key) {
+            Some(value) => Ok(value),
+            None => Err(TreeFault::Damaged(top.block)),
         };
     }
-    match way_at::<D, 256>(disk, blocks, level, top, key, bytes) {
-        Ok(way) => get_below(disk, blocks, level - 1, way.child, key, bytes),
-        Err(fault) => Err(fault),
-    }
+    let way = way_at::<D, 256>(disk, blocks, level, top, key, bytes)?;
+    get_below(disk, blocks, level - 1, way.child, key, bytes)
 }
 
 /// The value of a key in the map under a root.
@@ -59,19 +55,20 @@ pub fn get<D: Disk>(
     key: Key,
 ) -> Result<Option<Value>, TreeFault>
     requires { blocks ≤ (D.state disk.old).blocks }
-    ensures any { Goes (result ≡ Err TreeFault.Device) (D.state disk.old) (D.state disk.new) }
+    ensures looks { OnlyLooks result (D.state disk.old) (D.state disk.new) }
     ensures deep { result ≢ Err TreeFault.Deep }
     ensures memory { result ≢ Err TreeFault.Memory }
-    ensures reads { (D.state disk.new).honest ≡ true → OnlyReads (D.state disk.old) (D.state disk.new) }
 
     // A value, or that there is none, is told only where each block on the path has the head of its level and begins
     // with the key that its parent says, the first with the lowest key of the root.
     ensures path { (D.state disk.new).honest ≡ true
-        → IfOk result (λ value. 0 < root.block → LeadsDown (D.state disk.old).now.contents blocks root.level root.block root.low) }
+        → IfOk result (λ value. 0 < root.block
+        → LeadsDown (D.state disk.old).now.contents blocks root.level root.block root.low) }
 
     // On a tree it is the value of its map, whatever the sizes of its blocks, unless the device fails.
-    ensures value { (D.state disk.new).honest ≡ true → (sizes : Sizes) (m : Map) (bs : List ℕ)
-        → IsRooted sizes (D.state disk.old).now.contents blocks root m bs → OkOrDevice result (λ value. value ≡ get m key) }
+    ensures value { (sizes : Sizes)
+        → IfWhole (D.state disk.old) (D.state disk.new) sizes blocks root
+        (λ m bs. OkOrDevice result (λ value. value ≡ get m key)) }
 {
     if root.block == 0 {
         return Ok(None);

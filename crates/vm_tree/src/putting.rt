@@ -3,18 +3,17 @@ ghost use Rattle.std.specs.Prelude.{◌≡◌, ◌≢◌, ◌↔◌, ℕ, ◌+�
 ghost use Rattle.std.specs.List.{AllByRecursion};
 ghost use Rattle.vm_types.specs.Map.{Map, get, with_value};
 ghost use Rattle.vm_types.specs.Places.{KeyFits, RisesFrom, place, places, value_at, with_record};
-ghost use Rattle.vm_disk.specs.Disk.{Goes};
-ghost use Rattle.vm_disk.specs.Moments.{Throughout, OnlyReads, Spares};
-ghost use Rattle.vm_alloc.specs.Held.{IsHeld, HoldsMore, free_count};
+ghost use Rattle.vm_alloc.specs.Held.{IsHeld, free_count};
 ghost use Rattle.vm_block.specs.Leaf.{Record, RecordFits, IsLeaf};
 ghost use Rattle.vm_block.specs.Node.{IsNode};
 ghost use Rattle.vm_block.specs.Tree.{Sizes, Begins, Subtree};
 ghost use Rattle.vm_block.specs.declared.node.Child.{Child};
 ghost use Rattle.vm_tree.specs.Answers.{LacksRoom, OkOrDevice, Puts};
-ghost use Rattle.vm_tree.specs.Free.{is_free, IsTaken};
+ghost use Rattle.vm_tree.specs.Calls.{LooksIfDamaged, WritesFree};
+ghost use Rattle.vm_tree.specs.Free.{IsTaken, AreTaken};
 ghost use Rattle.vm_tree.specs.Making.{Made, PutsBelow, Splits, children_of, is_split, with_copied};
 ghost use Rattle.vm_tree.specs.Reading.{LeadsDown};
-ghost use Rattle.vm_tree.specs.Root.{AreSizes, Grown, IsRooted, sizes_of};
+ghost use Rattle.vm_tree.specs.Root.{AreSizes, Grown, IfUnder, IfWhole, sizes_of};
 
 use crate::reading::{block_at, way_at};
 use crate::root::{Root, TreeFault, root_at};
@@ -31,9 +30,12 @@ use vm_types::{Key, Value};
 /// Where a key stands among rising records: Ok with the index of its record, or else Err with the
 /// index at which its record would go.
 fn position(records: &[(Key, Value)], key: Key) -> Result<usize, usize>
-    ensures within { MatchResult result (λ i. i < length records.now) (λ i. i ≤ length records.now) }
-    ensures same { (value : List ℕ) → IfOk result (λ i. with_record (key, value) records.now ≡ take i records.now ++ (key, value) ∷ drop (i + 1) records.now) }
-    ensures new { (value : List ℕ) → IfErr result (λ i. with_record (key, value) records.now ≡ take i records.now ++ (key, value) ∷ drop i records.now) }
+    ensures within { MatchResult result (λ i. i < length records.now)
+        (λ i. i ≤ length records.now) }
+    ensures same { (value : List ℕ) → IfOk result (λ i. with_record (key, value) records.now
+        ≡ take i records.now ++ (key, value) ∷ drop (i + 1) records.now) }
+    ensures new { (value : List ℕ) → IfErr result (λ i. with_record (key, value) records.now
+        ≡ take i records.now ++ (key, value) ∷ drop i records.now) }
     ensures fits { KeyFits key }
 {
     let place = key.place();
@@ -83,29 +85,32 @@ fn write_replaced<D: Disk, const FAN: usize>(
     requires within { way.index < way.count }
     requires few { way.count ≤ FAN }
     requires free { 2 ≤ free_count held.old }
-    ensures any { Goes (result ≡ Err TreeFault.Device) (D.state disk.old) (D.state disk.new) }
-    ensures device { OkOrDevice result (λ done. AllByRecursion (λ child. IsTaken held.new child.block) (children_of done)) }
-    ensures split { IfOk result (λ done. is_split done ≡ true → (is_split copied ≡ true) × (FAN ≤ way.count)) }
-    ensures still { HoldsMore held.old held.new }
+    ensures writes { WritesFree result held.old held.new (D.state disk.old) (D.state disk.new) }
+    ensures device { OkOrDevice result (λ done. AreTaken held.new (children_of done)) }
+    ensures split { IfOk result
+        (λ done. is_split done ≡ true → (is_split copied ≡ true) × (FAN ≤ way.count)) }
     ensures one { way.count < FAN → free_count held.old ≤ free_count held.new + 1 }
     ensures alone { is_split copied ≡ false → free_count held.old ≤ free_count held.new + 1 }
-    ensures single { IfOk result (λ done. is_split done ≡ false → free_count held.old ≤ free_count held.new + 1) }
+    ensures single { IfOk result
+        (λ done. is_split done ≡ false → free_count held.old ≤ free_count held.new + 1) }
     ensures taken { free_count held.old ≤ free_count held.new + 2 }
-    ensures moments { (D.state disk.new).honest ≡ true
-        → Throughout (D.state disk.old) (D.state disk.new) (Spares (is_free held.old) (D.state disk.old).now) }
     ensures fine { (cs : List Child) → IsNode bytes.old level cs → way.count ≡ length cs
-        → OkOrDevice result (λ done. (is_split done ≡ true) ↔ (FAN < length (with_copied cs way.index copied))) }
-    ensures made { (D.state disk.new).honest ≡ true → (sizes : Sizes) (cs : List Child) (rs : List Record) → IsNode bytes.old level cs → way.count ≡ length cs → FAN ≤ sizes.fan
-        → RisesFrom 0 (places rs) → Made (IsHeld held.old) sizes (D.state disk.old).now.contents (length held.old) (level - 1) (with_copied cs way.index copied) rs
-        → IfOk result (λ done. Made (IsHeld held.new) sizes (D.state disk.new).now.contents (length held.old) level (children_of done) rs) }
+        → OkOrDevice result (λ done. (is_split done ≡ true)
+        ↔ (FAN < length (with_copied cs way.index copied))) }
+    ensures made { (D.state disk.new).honest ≡ true
+        → (sizes : Sizes) (cs : List Child) (rs : List Record) → IsNode bytes.old level cs
+        → way.count ≡ length cs → FAN ≤ sizes.fan
+        → RisesFrom 0 (places rs)
+        → Made (IsHeld held.old) sizes (D.state disk.old).now.contents (length held.old) (level - 1)
+        (with_copied cs way.index copied) rs
+        → IfOk result (λ done. Made (IsHeld held.new) sizes (D.state disk.new).now.contents
+        (length held.old) level (children_of done) rs) }
 {
     match copied {
         Copied::One(child) => {
             set_child(bytes, way.index, child);
-            match write_bytes(disk, held, bytes) {
-                Ok(node) => Ok(Copied::One(node)),
-                Err(fault) => Err(fault),
-            }
+            let node = write_bytes(disk, held, bytes)?;
+            Ok(Copied::One(node))
         }
         Copied::Two(left, right) => {
             let children = spelled_children(bytes, way.count);
@@ -128,21 +133,21 @@ fn split_leaf<D: Disk, const LEAF: usize>(
     requires least { 2 ≤ LEAF }
     requires most { LEAF ≤ 16 }
     requires free { 2 ≤ free_count held.old }
-    ensures any { Goes (result ≡ Err TreeFault.Device) (D.state disk.old) (D.state disk.new) }
+    ensures writes { WritesFree result held.old held.new (D.state disk.old) (D.state disk.new) }
     ensures deep { result ≢ Err TreeFault.Deep }
     ensures memory { result ≢ Err TreeFault.Memory }
-    ensures device { IfOk result (λ copied. AllByRecursion (λ child. IsTaken held.new child.block) (children_of copied)) }
-    ensures damaged { (b : ℕ) → result ≡ Err (TreeFault.Damaged b) → held.new ≡ held.old }
-    ensures reads { (D.state disk.new).honest ≡ true → (b : ℕ) → result ≡ Err (TreeFault.Damaged b) → OnlyReads (D.state disk.old) (D.state disk.new) }
-    ensures still { HoldsMore held.old held.new }
-    ensures single { IfOk result (λ copied. is_split copied ≡ false → free_count held.old ≤ free_count held.new + 1) }
+    ensures device { IfOk result (λ copied. AreTaken held.new (children_of copied)) }
+    ensures looks { LooksIfDamaged result held.old held.new (D.state disk.old) (D.state disk.new) }
+    ensures single { IfOk result
+        (λ copied. is_split copied ≡ false → free_count held.old ≤ free_count held.new + 1) }
     ensures taken { free_count held.old ≤ free_count held.new + 2 }
-    ensures moments { (D.state disk.new).honest ≡ true
-        → Throughout (D.state disk.old) (D.state disk.new) (Spares (is_free held.old) (D.state disk.old).now) }
     ensures fine { (rs : List Record) → IsLeaf bytes.now rs → length rs ≤ LEAF
-        → OkOrDevice result (λ copied. (is_split copied ≡ true) ↔ (LEAF < length (with_record (key, value.now) rs))) }
-    ensures made { (D.state disk.new).honest ≡ true → (sizes : Sizes) (rs : List Record) → IsLeaf bytes.now rs → length rs ≤ LEAF → LEAF ≤ sizes.leaf
-        → IfOk result (λ copied. Made (IsHeld held.new) sizes (D.state disk.new).now.contents (length held.old) 0 (children_of copied) (with_record (key, value.now) rs)) }
+        → OkOrDevice result (λ copied. (is_split copied ≡ true)
+        ↔ (LEAF < length (with_record (key, value.now) rs))) }
+    ensures made { (D.state disk.new).honest ≡ true → (sizes : Sizes) (rs : List Record)
+        → IsLeaf bytes.now rs → length rs ≤ LEAF → LEAF ≤ sizes.leaf
+        → IfOk result (λ copied. Made (IsHeld held.new) sizes (D.state disk.new).now.contents
+        (length held.old) 0 (children_of copied) (with_record (key, value.now) rs)) }
 {
     match read_leaf(bytes) {
         Some(records) if records.len() <= LEAF => {
@@ -166,40 +171,41 @@ fn put_in_leaf<D: Disk, const LEAF: usize>(
     requires least { 2 ≤ LEAF }
     requires most { LEAF ≤ 16 }
     requires free { 2 ≤ free_count held.old }
-    ensures any { Goes (result ≡ Err TreeFault.Device) (D.state disk.old) (D.state disk.new) }
+    ensures writes { WritesFree result held.old held.new (D.state disk.old) (D.state disk.new) }
     ensures memory { result ≢ Err TreeFault.Memory }
-    ensures device { IfOk result (λ copied. AllByRecursion (λ child. IsTaken held.new child.block) (children_of copied)) }
+    ensures device { IfOk result (λ copied. AreTaken held.new (children_of copied)) }
     ensures split { IfOk result (λ copied. is_split copied ≡ true → room ≡ true) }
     ensures deep { result ≡ Err TreeFault.Deep → (room ≡ false) × (held.new ≡ held.old) }
-    ensures damaged { (b : ℕ) → result ≡ Err (TreeFault.Damaged b) → held.new ≡ held.old }
-    ensures reads { (D.state disk.new).honest ≡ true → (b : ℕ) → result ≡ Err (TreeFault.Damaged b) → OnlyReads (D.state disk.old) (D.state disk.new) }
-    ensures still { HoldsMore held.old held.new }
+    ensures looks { LooksIfDamaged result held.old held.new (D.state disk.old) (D.state disk.new) }
     ensures one { room ≡ false → free_count held.old ≤ free_count held.new + 1 }
-    ensures single { IfOk result (λ copied. is_split copied ≡ false → free_count held.old ≤ free_count held.new + 1) }
+    ensures single { IfOk result
+        (λ copied. is_split copied ≡ false → free_count held.old ≤ free_count held.new + 1) }
     ensures taken { free_count held.old ≤ free_count held.new + 2 }
-    ensures moments { (D.state disk.new).honest ≡ true
-        → Throughout (D.state disk.old) (D.state disk.new) (Spares (is_free held.old) (D.state disk.old).now) }
-    ensures path { (D.state disk.new).honest ≡ true → IfOk result (λ copied. LeadsDown (D.state disk.old).now.contents (length held.old) 0 top.block top.low) }
-    ensures replaced { (D.state disk.new).honest ≡ true → (fan levels : ℕ) (rs : List Record) (bs : List ℕ)
-        → Subtree (sizes_of LEAF fan levels) (D.state disk.old).now.contents (length held.old) 0 top.block rs bs → Begins top.low rs → RisesFrom 0 (places rs)
-        → value_at (place key) rs ≢ None → IfOk result (λ copied. free_count held.old ≤ free_count held.new + 1) }
-    ensures put { (D.state disk.new).honest ≡ true → (fan levels : ℕ) (rs : List Record) (bs : List ℕ)
-        → Subtree (sizes_of LEAF fan levels) (D.state disk.old).now.contents (length held.old) 0 top.block rs bs → Begins top.low rs → RisesFrom 0 (places rs)
-        → PutsBelow result (Splits (sizes_of LEAF fan levels) (D.state disk.old).now.contents (place key) 0 top.block rs)
-        (λ cs. Made (IsHeld held.new) (sizes_of LEAF fan levels) (D.state disk.new).now.contents (length held.old) 0 cs (with_record (key, value.now) rs)) }
+    ensures path { (D.state disk.new).honest ≡ true
+        → IfOk result (λ copied. LeadsDown (D.state disk.old).now.contents
+        (length held.old) 0 top.block top.low) }
+    ensures replaced { (fan levels : ℕ)
+        → IfUnder (D.state disk.old) (D.state disk.new) (sizes_of LEAF fan levels)
+        (length held.old) 0 top (λ rs bs. value_at (place key) rs ≢ None
+        → IfOk result (λ copied. free_count held.old ≤ free_count held.new + 1)) }
+    ensures put { (fan levels : ℕ)
+        → IfUnder (D.state disk.old) (D.state disk.new) (sizes_of LEAF fan levels)
+        (length held.old) 0 top (λ rs bs. PutsBelow result
+        (Splits (sizes_of LEAF fan levels) (D.state disk.old).now.contents
+        (place key) 0 top.block rs)
+        (λ cs. Made (IsHeld held.new) (sizes_of LEAF fan levels) (D.state disk.new).now.contents
+        (length held.old) 0 cs (with_record (key, value.now) rs))) }
 {
     let mut bytes = [0; 4096];
-    match block_at(disk, held.blocks(), top, &mut bytes) {
-        Ok(()) => match put_record(&mut bytes, LEAF, key, value) {
-            Placed::Put => match write_bytes(disk, held, &bytes) {
-                Ok(leaf) => Ok(Copied::One(leaf)),
-                Err(fault) => Err(fault),
-            },
-            Placed::Full if !room => Err(TreeFault::Deep),
-            Placed::Full => split_leaf::<D, LEAF>(disk, held, top.block, &bytes, key, value),
-            Placed::NoLeaf => Err(TreeFault::Damaged(top.block)),
-        },
-        Err(fault) => Err(fault),
+    block_at(disk, held.blocks(), top, &mut bytes)?;
+    match put_record(&mut bytes, LEAF, key, value) {
+        Placed::Put => {
+            let leaf = write_bytes(disk, held, &bytes)?;
+            Ok(Copied::One(leaf))
+        }
+        Placed::Full if !room => Err(TreeFault::Deep),
+        Placed::Full => split_leaf::<D, LEAF>(disk, held, top.block, &bytes, key, value),
+        Placed::NoLeaf => Err(TreeFault::Damaged(top.block)),
     }
 }
 
@@ -221,45 +227,42 @@ fn put_below<D: Disk, const LEAF: usize, const FAN: usize>(
     requires fan_most { FAN ≤ 256 }
     requires low { level ≤ 7 }
     requires free { 2 * level + 2 ≤ free_count held.old }
-    ensures any { Goes (result ≡ Err TreeFault.Device) (D.state disk.old) (D.state disk.new) }
+    ensures writes { WritesFree result held.old held.new (D.state disk.old) (D.state disk.new) }
     ensures memory { result ≢ Err TreeFault.Memory }
     ensures fits { KeyFits key }
-    ensures device { IfOk result (λ copied. AllByRecursion (λ child. IsTaken held.new child.block) (children_of copied)) }
+    ensures device { IfOk result (λ copied. AreTaken held.new (children_of copied)) }
     ensures split { IfOk result (λ copied. is_split copied ≡ true → room ≡ true) }
     ensures deep { result ≡ Err TreeFault.Deep → (room ≡ false) × (held.new ≡ held.old) }
-    ensures damaged { (b : ℕ) → result ≡ Err (TreeFault.Damaged b) → held.new ≡ held.old }
-    ensures reads { (D.state disk.new).honest ≡ true → (b : ℕ) → result ≡ Err (TreeFault.Damaged b) → OnlyReads (D.state disk.old) (D.state disk.new) }
-    ensures still { HoldsMore held.old held.new }
+    ensures looks { LooksIfDamaged result held.old held.new (D.state disk.old) (D.state disk.new) }
     ensures one { room ≡ false → free_count held.old ≤ free_count held.new + (2 * level + 1) }
-    ensures single { IfOk result (λ copied. is_split copied ≡ false → free_count held.old ≤ free_count held.new + (2 * level + 1)) }
+    ensures single { IfOk result
+        (λ copied. is_split copied ≡ false
+        → free_count held.old ≤ free_count held.new + (2 * level + 1)) }
     ensures taken { free_count held.old ≤ free_count held.new + (2 * level + 2) }
-    ensures moments { (D.state disk.new).honest ≡ true
-        → Throughout (D.state disk.old) (D.state disk.new) (Spares (is_free held.old) (D.state disk.old).now) }
-    ensures path { (D.state disk.new).honest ≡ true → IfOk result (λ copied. LeadsDown (D.state disk.old).now.contents (length held.old) level top.block top.low) }
-    ensures replaced { (D.state disk.new).honest ≡ true → (levels : ℕ) (rs : List Record) (bs : List ℕ)
-        → Subtree (sizes_of LEAF FAN levels) (D.state disk.old).now.contents (length held.old) level top.block rs bs → Begins top.low rs → RisesFrom 0 (places rs)
-        → value_at (place key) rs ≢ None → IfOk result (λ copied. free_count held.old ≤ free_count held.new + (level + 1)) }
-    ensures put { (D.state disk.new).honest ≡ true → (levels : ℕ) (rs : List Record) (bs : List ℕ)
-        → Subtree (sizes_of LEAF FAN levels) (D.state disk.old).now.contents (length held.old) level top.block rs bs → Begins top.low rs → RisesFrom 0 (places rs)
-        → PutsBelow result (Splits (sizes_of LEAF FAN levels) (D.state disk.old).now.contents (place key) level top.block rs)
-        (λ cs. AllByRecursion (IsHeld held.old) bs → Made (IsHeld held.new) (sizes_of LEAF FAN levels) (D.state disk.new).now.contents (length held.old) level cs (with_record (key, value.now) rs)) }
+    ensures path { (D.state disk.new).honest ≡ true
+        → IfOk result (λ copied. LeadsDown (D.state disk.old).now.contents
+        (length held.old) level top.block top.low) }
+    ensures replaced { (levels : ℕ)
+        → IfUnder (D.state disk.old) (D.state disk.new) (sizes_of LEAF FAN levels)
+        (length held.old) level top (λ rs bs. value_at (place key) rs ≢ None
+        → IfOk result (λ copied. free_count held.old ≤ free_count held.new + (level + 1))) }
+    ensures put { (levels : ℕ)
+        → IfUnder (D.state disk.old) (D.state disk.new) (sizes_of LEAF FAN levels)
+        (length held.old) level top (λ rs bs. PutsBelow result
+        (Splits (sizes_of LEAF FAN levels) (D.state disk.old).now.contents
+        (place key) level top.block rs)
+        (λ cs. AllByRecursion (IsHeld held.old) bs
+        → Made (IsHeld held.new) (sizes_of LEAF FAN levels) (D.state disk.new).now.contents
+        (length held.old) level cs (with_record (key, value.now) rs))) }
 {
     if level == 0 {
         return put_in_leaf::<D, LEAF>(disk, held, top, room, key, value);
     }
     let mut bytes = [0; 4096];
-    match way_at::<D, FAN>(disk, held.blocks(), level, top, key, &mut bytes) {
-        Ok(way) => {
-            let room = room || way.count < FAN;
-            match put_below::<D, LEAF, FAN>(disk, held, level - 1, way.child, room, key, value) {
-                Ok(copied) => {
-                    write_replaced::<D, FAN>(disk, held, level, way, &mut bytes, copied)
-                }
-                Err(fault) => Err(fault),
-            }
-        }
-        Err(fault) => Err(fault),
-    }
+    let way = way_at::<D, FAN>(disk, held.blocks(), level, top, key, &mut bytes)?;
+    let room = room || way.count < FAN;
+    let copied = put_below::<D, LEAF, FAN>(disk, held, level - 1, way.child, room, key, value)?;
+    write_replaced::<D, FAN>(disk, held, level, way, &mut bytes, copied)
 }
 
 /// Gives the key this value in the empty map: writes its one leaf.
@@ -271,20 +274,17 @@ fn put_first<D: Disk>(
 ) -> Result<Root, TreeFault>
     requires inside { length held.old ≤ (D.state disk.old).blocks }
     requires room { 16 ≤ free_count held.old }
-    ensures any { Goes (result ≡ Err TreeFault.Device) (D.state disk.old) (D.state disk.new) }
+    ensures writes { WritesFree result held.old held.new (D.state disk.old) (D.state disk.new) }
     ensures device { OkOrDevice result (λ r. IsTaken held.new r.block × (r.level ≡ 0)) }
-    ensures still { HoldsMore held.old held.new }
     ensures taken { free_count held.old ≤ free_count held.new + 1 }
-    ensures moments { (D.state disk.new).honest ≡ true
-        → Throughout (D.state disk.old) (D.state disk.new) (Spares (is_free held.old) (D.state disk.old).now) }
-    ensures put { (D.state disk.new).honest ≡ true → (sizes : Sizes) → 0 < sizes.leaf → 0 < sizes.levels
-        → IfOk result (λ r. Grown sizes (IsHeld held.new) (D.state disk.new).now.contents (length held.old) r ((key, value.now) ∷ [])) }
+    ensures put { (D.state disk.new).honest ≡ true → (sizes : Sizes) → 0 < sizes.leaf
+        → 0 < sizes.levels
+        → IfOk result (λ r. Grown sizes (IsHeld held.new) (D.state disk.new).now.contents
+        (length held.old) r ((key, value.now) ∷ [])) }
 {
     let record = with_record(&[], key, value);
-    match write_leaf_block(disk, held, record.as_slice()) {
-        Ok(leaf) => Ok(root_at(leaf, 0)),
-        Err(fault) => Err(fault),
-    }
+    let leaf = write_leaf_block(disk, held, record.as_slice())?;
+    Ok(root_at(leaf, 0))
 }
 
 /// Gives the key this value: writes its path anew, in blocks that were free, and returns the new
@@ -299,47 +299,49 @@ pub fn put<D: Disk, const LEAF: usize, const FAN: usize, const LEVELS: usize>(
     requires sizes { AreSizes LEAF FAN LEVELS }
     requires inside { length held.old ≤ (D.state disk.old).blocks }
     requires room { 16 ≤ free_count held.old }
-    ensures any { Goes (result ≡ Err TreeFault.Device) (D.state disk.old) (D.state disk.new) }
     ensures memory { result ≢ Err TreeFault.Memory }
+
+    // What is held stays held, and at no moment has a block that was held other bytes than before.
+    ensures writes { WritesFree result held.old held.new (D.state disk.old) (D.state disk.new) }
 
     // The root is that of a block for data, which is held now.
     ensures root { IfOk result (λ r. IsTaken held.new r.block × (r.level < LEVELS)) }
 
-    // What is held stays held, and no more than 15 blocks are taken; none of them where the tree has no room.
-    ensures still { HoldsMore held.old held.new }
+    // No more than 15 blocks are taken; none of them where the tree has no room.
     ensures taken { free_count held.old ≤ free_count held.new + 15 }
     ensures deep { result ≡ Err TreeFault.Deep → held.new ≡ held.old }
 
     // It takes the blocks of one path alone: two a level at most and a new root, or two a level but one at the top
     // where the tree stays as high, and one for the empty map.
     ensures path_taken { free_count held.old ≤ free_count held.new + (2 * root.level + 3) }
-    ensures as_high { IfOk result (λ r. r.level ≡ root.level → free_count held.old ≤ free_count held.new + (2 * root.level + 1)) }
+    ensures as_high { IfOk result
+        (λ r. r.level ≡ root.level
+        → free_count held.old ≤ free_count held.new + (2 * root.level + 1)) }
     ensures first_taken { root.block ≡ 0 → free_count held.old ≤ free_count held.new + 1 }
 
     // On a tree that has the key it takes one block a level.
-    ensures replaced { (D.state disk.new).honest ≡ true → (m : Map) (bs : List ℕ)
-        → IsRooted (sizes_of LEAF FAN LEVELS) (D.state disk.old).now.contents (length held.old) root m bs → get m key ≢ None
-        → IfOk result (λ r. free_count held.old ≤ free_count held.new + (root.level + 1)) }
+    ensures replaced { IfWhole (D.state disk.old) (D.state disk.new) (sizes_of LEAF FAN LEVELS)
+        (length held.old) root (λ m bs. get m key ≢ None
+        → IfOk result (λ r. free_count held.old ≤ free_count held.new + (root.level + 1))) }
 
     // A block is found damaged before any is taken or written.
-    ensures damaged { (b : ℕ) → result ≡ Err (TreeFault.Damaged b) → held.new ≡ held.old }
-    ensures reads { (D.state disk.new).honest ≡ true → (b : ℕ) → result ≡ Err (TreeFault.Damaged b) → OnlyReads (D.state disk.old) (D.state disk.new) }
+    ensures looks { LooksIfDamaged result held.old held.new (D.state disk.old) (D.state disk.new) }
 
     // A root is made only where each block on the path has the head of its level and begins with the key that its
     // parent says, the first with the lowest key of the old root.
     ensures path { (D.state disk.new).honest ≡ true
-        → IfOk result (λ r. 0 < root.block → LeadsDown (D.state disk.old).now.contents (length held.old) root.level root.block root.low) }
-
-    // At no moment has a block that was held other bytes than before.
-    ensures moments { (D.state disk.new).honest ≡ true
-        → Throughout (D.state disk.old) (D.state disk.new) (Spares (is_free held.old) (D.state disk.old).now) }
+        → IfOk result (λ r. 0 < root.block
+        → LeadsDown (D.state disk.old).now.contents
+        (length held.old) root.level root.block root.low) }
 
     // On a tree the answer is a root, or Deep just where there is no room, unless the device fails; and where the
     // blocks of the tree are held, the root has the map with the value.
-    ensures put { (D.state disk.new).honest ≡ true → (m : Map) (bs : List ℕ)
-        → IsRooted (sizes_of LEAF FAN LEVELS) (D.state disk.old).now.contents (length held.old) root m bs
-        → Puts result (LacksRoom (sizes_of LEAF FAN LEVELS) (D.state disk.old).now.contents root m key)
-        (λ r. AllByRecursion (IsHeld held.old) bs → Grown (sizes_of LEAF FAN LEVELS) (IsHeld held.new) (D.state disk.new).now.contents (length held.old) r (with_value m key value.now)) }
+    ensures put { IfWhole (D.state disk.old) (D.state disk.new) (sizes_of LEAF FAN LEVELS)
+        (length held.old) root (λ m bs. Puts result
+        (LacksRoom (sizes_of LEAF FAN LEVELS) (D.state disk.old).now.contents root m key)
+        (λ r. AllByRecursion (IsHeld held.old) bs
+        → Grown (sizes_of LEAF FAN LEVELS) (IsHeld held.new) (D.state disk.new).now.contents
+        (length held.old) r (with_value m key value.now))) }
 {
     if root.block == 0 {
         return put_first(disk, held, key, value);
@@ -353,14 +355,12 @@ pub fn put<D: Disk, const LEAF: usize, const FAN: usize, const LEVELS: usize>(
         low: root.low,
         block: root.block,
     };
-    match put_below::<D, LEAF, FAN>(disk, held, level, top, room, key, value) {
-        Ok(Copied::One(top)) => Ok(root_at(top, level)),
-        Ok(Copied::Two(left, right)) => {
-            match write_node_block(disk, held, level + 1, &[left, right]) {
-                Ok(top) => Ok(root_at(top, level + 1)),
-                Err(fault) => Err(fault),
-            }
+    let copied = put_below::<D, LEAF, FAN>(disk, held, level, top, room, key, value)?;
+    match copied {
+        Copied::One(top) => Ok(root_at(top, level)),
+        Copied::Two(left, right) => {
+            let top = write_node_block(disk, held, level + 1, &[left, right])?;
+            Ok(root_at(top, level + 1))
         }
-        Err(fault) => Err(fault),
     }
 }

@@ -1,14 +1,14 @@
 //! Blocks of a tree, read from a disk, and the way down to a key.
 ghost use Rattle.std.specs.Prelude.{◌≡◌, ◌≢◌, ◌↔◌, ℕ, ◌<◌, ◌≤◌, true, List, length, IsTrue, IfOk};
 ghost use Rattle.vm_types.specs.Places.{place};
-ghost use Rattle.vm_disk.specs.Disk.{Goes, block as bytes_at};
-ghost use Rattle.vm_disk.specs.Moments.{OnlyReads};
+ghost use Rattle.vm_disk.specs.Disk.{block as bytes_at};
 ghost use Rattle.vm_block.specs.Leaf.{Record, IsLeaf};
 ghost use Rattle.vm_block.specs.Node.{IsNode};
 ghost use Rattle.vm_block.specs.Tree.{IsData, Begins};
 ghost use Rattle.vm_block.specs.Way.{Lowest, Takes};
 ghost use Rattle.vm_block.specs.declared.node.Child.{Child};
 ghost use Rattle.vm_tree.specs.Answers.{OkOrDevice};
+ghost use Rattle.vm_tree.specs.Calls.{OnlyLooks};
 ghost use Rattle.vm_tree.specs.Reading.{EndsAt, IsBlockAt, IsDataAt, IsLeafAt, IsLeafOf, IsNodeAt, IsNodeOf, ReadsOne, StepsTo};
 
 use crate::root::TreeFault;
@@ -33,11 +33,10 @@ pub fn data_at<D: Disk>(
     bytes: &mut [u8; 4096],
 ) -> Result<(), TreeFault>
     requires { blocks ≤ (D.state disk.old).blocks }
-    ensures any { Goes (result ≡ Err TreeFault.Device) (D.state disk.old) (D.state disk.new) }
+    ensures looks { OnlyLooks result (D.state disk.old) (D.state disk.new) }
     ensures deep { result ≢ Err TreeFault.Deep }
     ensures memory { result ≢ Err TreeFault.Memory }
     ensures once { ReadsOne blocks block (D.state disk.old).reads (D.state disk.new).reads }
-    ensures reads { (D.state disk.new).honest ≡ true → OnlyReads (D.state disk.old) (D.state disk.new) }
     ensures found { (D.state disk.new).honest ≡ true
         → IfOk result (λ done. IsDataAt (D.state disk.old).now.contents blocks block bytes.new) }
     ensures only { (D.state disk.new).honest ≡ true → IsData blocks block
@@ -61,14 +60,17 @@ pub(crate) fn block_at<D: Disk>(
     bytes: &mut [u8; 4096],
 ) -> Result<(), TreeFault>
     requires { blocks ≤ (D.state disk.old).blocks }
-    ensures any { Goes (result ≡ Err TreeFault.Device) (D.state disk.old) (D.state disk.new) }
+    ensures looks { OnlyLooks result (D.state disk.old) (D.state disk.new) }
     ensures deep { result ≢ Err TreeFault.Deep }
     ensures memory { result ≢ Err TreeFault.Memory }
-    ensures reads { (D.state disk.new).honest ≡ true → OnlyReads (D.state disk.old) (D.state disk.new) }
-    ensures found { (D.state disk.new).honest ≡ true → IfOk result (λ done. IsBlockAt (D.state disk.old).now.contents blocks top.block top.low bytes.new) }
-    ensures leaf { (D.state disk.new).honest ≡ true → (rs : List Record) → IsLeafAt (D.state disk.old).now.contents blocks top.block rs → Begins top.low rs
+    ensures found { (D.state disk.new).honest ≡ true
+        → IfOk result (λ done. IsBlockAt
+        (D.state disk.old).now.contents blocks top.block top.low bytes.new) }
+    ensures leaf { (D.state disk.new).honest ≡ true → (rs : List Record)
+        → IsLeafAt (D.state disk.old).now.contents blocks top.block rs → Begins top.low rs
         → OkOrDevice result (λ done. IsLeaf bytes.new rs) }
-    ensures node { (D.state disk.new).honest ≡ true → (level : ℕ) (cs : List Child) → IsNodeAt (D.state disk.old).now.contents blocks level top.block cs → Lowest top.low cs
+    ensures node { (D.state disk.new).honest ≡ true → (level : ℕ) (cs : List Child)
+        → IsNodeAt (D.state disk.old).now.contents blocks level top.block cs → Lowest top.low cs
         → OkOrDevice result (λ done. IsNode bytes.new level cs) }
 {
     data_at(disk, blocks, top.block, bytes)?;
@@ -89,15 +91,20 @@ pub(crate) fn way_at<D: Disk, const MOST: usize>(
     bytes: &mut [u8; 4096],
 ) -> Result<Way, TreeFault>
     requires { blocks ≤ (D.state disk.old).blocks }
-    ensures any { Goes (result ≡ Err TreeFault.Device) (D.state disk.old) (D.state disk.new) }
+    ensures looks { OnlyLooks result (D.state disk.old) (D.state disk.new) }
     ensures deep { result ≢ Err TreeFault.Deep }
     ensures memory { result ≢ Err TreeFault.Memory }
     ensures level { IfOk result (λ way. (way.level ≡ level) × (level ≤ 7)) }
-    ensures within { IfOk result (λ way. (way.index < way.count) × (way.count ≤ MOST) × (way.count ≤ 256)) }
-    ensures reads { (D.state disk.new).honest ≡ true → OnlyReads (D.state disk.old) (D.state disk.new) }
-    ensures step { (D.state disk.new).honest ≡ true → IfOk result (λ way. StepsTo (D.state disk.old).now.contents blocks level top.block top.low way.child) }
-    ensures only { (D.state disk.new).honest ≡ true → (cs : List Child) → IsNodeAt (D.state disk.old).now.contents blocks level top.block cs → Lowest top.low cs → length cs ≤ MOST
-        → OkOrDevice result (λ way. IsNode bytes.new level cs × (way.count ≡ length cs) × Takes cs (place key) way.index way.child) }
+    ensures within { IfOk result
+        (λ way. (way.index < way.count) × (way.count ≤ MOST) × (way.count ≤ 256)) }
+    ensures step { (D.state disk.new).honest ≡ true
+        → IfOk result (λ way. StepsTo
+        (D.state disk.old).now.contents blocks level top.block top.low way.child) }
+    ensures only { (D.state disk.new).honest ≡ true → (cs : List Child)
+        → IsNodeAt (D.state disk.old).now.contents blocks level top.block cs → Lowest top.low cs
+        → length cs ≤ MOST
+        → OkOrDevice result (λ way. IsNode bytes.new level cs × (way.count ≡ length cs)
+        × Takes cs (place key) way.index way.child) }
 {
     block_at(disk, blocks, top, bytes)?;
     match find_child(bytes, key) {
@@ -113,13 +120,16 @@ pub(crate) fn leaf_under<D: Disk, const MOST: usize>(
     top: Child,
 ) -> Result<ArrayVec<(Key, Value), 16>, TreeFault>
     requires { blocks ≤ (D.state disk.old).blocks }
-    ensures any { Goes (result ≡ Err TreeFault.Device) (D.state disk.old) (D.state disk.new) }
+    ensures looks { OnlyLooks result (D.state disk.old) (D.state disk.new) }
     ensures deep { result ≢ Err TreeFault.Deep }
     ensures memory { result ≢ Err TreeFault.Memory }
-    ensures count { IfOk result (λ records. (0 < length records.items) × (length records.items ≤ MOST)) }
-    ensures reads { (D.state disk.new).honest ≡ true → OnlyReads (D.state disk.old) (D.state disk.new) }
-    ensures end { (D.state disk.new).honest ≡ true → IfOk result (λ records. EndsAt (D.state disk.old).now.contents blocks top.block top.low) }
-    ensures only { (D.state disk.new).honest ≡ true → (rs : List Record) → IsLeafAt (D.state disk.old).now.contents blocks top.block rs → Begins top.low rs → length rs ≤ MOST
+    ensures count { IfOk result
+        (λ records. (0 < length records.items) × (length records.items ≤ MOST)) }
+    ensures end { (D.state disk.new).honest ≡ true
+        → IfOk result (λ records. EndsAt (D.state disk.old).now.contents blocks top.block top.low) }
+    ensures only { (D.state disk.new).honest ≡ true → (rs : List Record)
+        → IsLeafAt (D.state disk.old).now.contents blocks top.block rs → Begins top.low rs
+        → length rs ≤ MOST
         → OkOrDevice result (λ records. records.items ≡ rs) }
 {
     let mut bytes = [0; 4096];
@@ -137,16 +147,18 @@ pub fn leaf_at<D: Disk>(
     block: u32,
 ) -> Result<ArrayVec<(Key, Value), 16>, TreeFault>
     requires { blocks ≤ (D.state disk.old).blocks }
-    ensures any { Goes (result ≡ Err TreeFault.Device) (D.state disk.old) (D.state disk.new) }
+    ensures looks { OnlyLooks result (D.state disk.old) (D.state disk.new) }
     ensures deep { result ≢ Err TreeFault.Deep }
     ensures memory { result ≢ Err TreeFault.Memory }
     ensures once { ReadsOne blocks block (D.state disk.old).reads (D.state disk.new).reads }
-    ensures count { IfOk result (λ records. (0 < length records.items) × (length records.items ≤ 16)) }
-    ensures reads { (D.state disk.new).honest ≡ true → OnlyReads (D.state disk.old) (D.state disk.new) }
+    ensures count { IfOk result
+        (λ records. (0 < length records.items) × (length records.items ≤ 16)) }
     ensures found { (D.state disk.new).honest ≡ true
-        → IfOk result (λ records. IsLeafAt (D.state disk.old).now.contents blocks block records.items) }
+        → IfOk result (λ records. IsLeafAt
+        (D.state disk.old).now.contents blocks block records.items) }
     ensures only { (D.state disk.new).honest ≡ true → (rs : List Record)
-        → IsLeafAt (D.state disk.old).now.contents blocks block rs → OkOrDevice result (λ records. records.items ≡ rs) }
+        → IsLeafAt (D.state disk.old).now.contents blocks block rs
+        → OkOrDevice result (λ records. records.items ≡ rs) }
 {
     let mut bytes = [0; 4096];
     data_at(disk, blocks, block, &mut bytes)?;
@@ -164,17 +176,19 @@ pub fn node_at<D: Disk>(
     block: u32,
 ) -> Result<ArrayVec<Child, 256>, TreeFault>
     requires { blocks ≤ (D.state disk.old).blocks }
-    ensures any { Goes (result ≡ Err TreeFault.Device) (D.state disk.old) (D.state disk.new) }
+    ensures looks { OnlyLooks result (D.state disk.old) (D.state disk.new) }
     ensures deep { result ≢ Err TreeFault.Deep }
     ensures memory { result ≢ Err TreeFault.Memory }
     ensures once { ReadsOne blocks block (D.state disk.old).reads (D.state disk.new).reads }
-    ensures count { IfOk result (λ children. (0 < length children.items) × (length children.items ≤ 256)) }
+    ensures count { IfOk result
+        (λ children. (0 < length children.items) × (length children.items ≤ 256)) }
     ensures low { IfOk result (λ children. level ≤ 7) }
-    ensures reads { (D.state disk.new).honest ≡ true → OnlyReads (D.state disk.old) (D.state disk.new) }
     ensures found { (D.state disk.new).honest ≡ true
-        → IfOk result (λ children. IsNodeAt (D.state disk.old).now.contents blocks level block children.items) }
+        → IfOk result (λ children. IsNodeAt
+        (D.state disk.old).now.contents blocks level block children.items) }
     ensures only { (D.state disk.new).honest ≡ true → (cs : List Child)
-        → IsNodeAt (D.state disk.old).now.contents blocks level block cs → OkOrDevice result (λ children. children.items ≡ cs) }
+        → IsNodeAt (D.state disk.old).now.contents blocks level block cs
+        → OkOrDevice result (λ children. children.items ≡ cs) }
 {
     let mut bytes = [0; 4096];
     data_at(disk, blocks, block, &mut bytes)?;
@@ -192,16 +206,16 @@ pub fn leaf_into<D: Disk>(
     bytes: &mut [u8; 4096],
 ) -> Result<usize, TreeFault>
     requires { blocks ≤ (D.state disk.old).blocks }
-    ensures any { Goes (result ≡ Err TreeFault.Device) (D.state disk.old) (D.state disk.new) }
+    ensures looks { OnlyLooks result (D.state disk.old) (D.state disk.new) }
     ensures deep { result ≢ Err TreeFault.Deep }
     ensures memory { result ≢ Err TreeFault.Memory }
     ensures once { ReadsOne blocks block (D.state disk.old).reads (D.state disk.new).reads }
     ensures count { IfOk result (λ count. IsLeafOf bytes.new count) }
-    ensures reads { (D.state disk.new).honest ≡ true → OnlyReads (D.state disk.old) (D.state disk.new) }
     ensures found { (D.state disk.new).honest ≡ true
         → IfOk result (λ count. IsDataAt (D.state disk.old).now.contents blocks block bytes.new) }
     ensures only { (D.state disk.new).honest ≡ true → (rs : List Record)
-        → IsLeafAt (D.state disk.old).now.contents blocks block rs → OkOrDevice result (λ count. IsLeaf bytes.new rs × (count ≡ length rs)) }
+        → IsLeafAt (D.state disk.old).now.contents blocks block rs
+        → OkOrDevice result (λ count. IsLeaf bytes.new rs × (count ≡ length rs)) }
 {
     data_at(disk, blocks, block, bytes)?;
     match leaf_size(bytes) {
@@ -219,16 +233,16 @@ pub fn node_into<D: Disk>(
     bytes: &mut [u8; 4096],
 ) -> Result<usize, TreeFault>
     requires { blocks ≤ (D.state disk.old).blocks }
-    ensures any { Goes (result ≡ Err TreeFault.Device) (D.state disk.old) (D.state disk.new) }
+    ensures looks { OnlyLooks result (D.state disk.old) (D.state disk.new) }
     ensures deep { result ≢ Err TreeFault.Deep }
     ensures memory { result ≢ Err TreeFault.Memory }
     ensures once { ReadsOne blocks block (D.state disk.old).reads (D.state disk.new).reads }
     ensures count { IfOk result (λ count. IsNodeOf bytes.new level count) }
-    ensures reads { (D.state disk.new).honest ≡ true → OnlyReads (D.state disk.old) (D.state disk.new) }
     ensures found { (D.state disk.new).honest ≡ true
         → IfOk result (λ count. IsDataAt (D.state disk.old).now.contents blocks block bytes.new) }
     ensures only { (D.state disk.new).honest ≡ true → (cs : List Child)
-        → IsNodeAt (D.state disk.old).now.contents blocks level block cs → OkOrDevice result (λ count. IsNode bytes.new level cs × (count ≡ length cs)) }
+        → IsNodeAt (D.state disk.old).now.contents blocks level block cs
+        → OkOrDevice result (λ count. IsNode bytes.new level cs × (count ≡ length cs)) }
 {
     data_at(disk, blocks, block, bytes)?;
     match node_size(bytes) {

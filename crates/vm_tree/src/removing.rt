@@ -3,19 +3,17 @@ ghost use Rattle.std.specs.Prelude.{◌≡◌, ◌≢◌, ◌↔◌, ℕ, ◌+�
 ghost use Rattle.std.specs.List.{AllByRecursion};
 ghost use Rattle.vm_types.specs.Map.{Map, get, without};
 ghost use Rattle.vm_types.specs.Places.{KeyFits, RisesFrom, place, places, value_at};
-ghost use Rattle.vm_disk.specs.Disk.{Goes};
-ghost use Rattle.vm_disk.specs.Moments.{Throughout, OnlyReads, Spares};
-ghost use Rattle.vm_alloc.specs.Held.{IsHeld, HoldsMore, free_count};
+ghost use Rattle.vm_alloc.specs.Held.{IsHeld, free_count};
 ghost use Rattle.vm_block.specs.Leaf.{Record};
 ghost use Rattle.vm_block.specs.Node.{ChildFits, IsNode};
 ghost use Rattle.vm_block.specs.Tree.{Begins, Children, Subtree};
 ghost use Rattle.vm_block.specs.declared.node.Child.{Child};
 ghost use Rattle.vm_tree.specs.Answers.{OkOrDevice, Removes};
-ghost use Rattle.vm_tree.specs.Free.{is_free, IsTaken};
+ghost use Rattle.vm_tree.specs.Calls.{OnlyLooks, LooksIf, LooksIfDamaged, WritesFree};
 ghost use Rattle.vm_tree.specs.Making.{Made};
 ghost use Rattle.vm_tree.specs.Reading.{LeadsDown};
 ghost use Rattle.vm_tree.specs.Removing.{Narrows, RemovesBelow, Rests, child_of, level_of, without_place};
-ghost use Rattle.vm_tree.specs.Root.{AreSizes, Grown, IsRooted, sizes_of};
+ghost use Rattle.vm_tree.specs.Root.{AreSizes, Grown, IfUnder, IfWhole, sizes_of};
 
 use crate::reading::{leaf_under, way_at};
 use crate::root::{Root, TreeFault, root_at};
@@ -51,7 +49,9 @@ fn child_of(root: Root) -> Child
 /// Where the record of the key at this place stands.
 fn index_of(records: &[(Key, Value)], place: u128) -> Option<usize>
     ensures within { IfSome result (λ i. i < length records.now) }
-    ensures found { IfSome result (λ i. (value_at place records.now ≢ None) × (without_place place records.now ≡ take i records.now ++ drop (i + 1) records.now)) }
+    ensures found { IfSome result
+        (λ i. (value_at place records.now ≢ None)
+        × (without_place place records.now ≡ take i records.now ++ drop (i + 1) records.now)) }
     ensures absent { IfNone result (value_at place records.now ≡ None) }
 {
     for (i, (key, _)) in records.iter().enumerate() {
@@ -100,42 +100,36 @@ fn remove_from_leaf<D: Disk, const LEAF: usize>(
     requires inside { length held.old ≤ (D.state disk.old).blocks }
     requires most { LEAF ≤ 16 }
     requires free { 1 ≤ free_count held.old }
-    ensures any { Goes (result ≡ Err TreeFault.Device) (D.state disk.old) (D.state disk.new) }
+    ensures writes { WritesFree result held.old held.new (D.state disk.old) (D.state disk.new) }
     ensures deep { result ≢ Err TreeFault.Deep }
     ensures memory { result ≢ Err TreeFault.Memory }
     ensures level { IfOk result (λ left. level_of left 0 ≡ 0) }
-    ensures still { HoldsMore held.old held.new }
     ensures taken { free_count held.old ≤ free_count held.new + 1 }
-    ensures same { result ≡ Ok Left.Same → held.new ≡ held.old }
-    ensures reads { (D.state disk.new).honest ≡ true → result ≡ Ok Left.Same → OnlyReads (D.state disk.old) (D.state disk.new) }
-    ensures nothing { result ≡ Ok Left.Nothing → held.new ≡ held.old }
-    ensures nothing_reads { (D.state disk.new).honest ≡ true → result ≡ Ok Left.Nothing → OnlyReads (D.state disk.old) (D.state disk.new) }
-    ensures damaged { (b : ℕ) → result ≡ Err (TreeFault.Damaged b) → held.new ≡ held.old }
-    ensures damaged_reads { (D.state disk.new).honest ≡ true → (b : ℕ) → result ≡ Err (TreeFault.Damaged b) → OnlyReads (D.state disk.old) (D.state disk.new) }
-    ensures path { (D.state disk.new).honest ≡ true → IfOk result (λ left. LeadsDown (D.state disk.old).now.contents (length held.old) 0 top.block top.low) }
-    ensures moments { (D.state disk.new).honest ≡ true
-        → Throughout (D.state disk.old) (D.state disk.new) (Spares (is_free held.old) (D.state disk.old).now) }
-    ensures remove { (D.state disk.new).honest ≡ true → (fan levels : ℕ) (rs : List Record) (bs : List ℕ)
-        → Subtree (sizes_of LEAF fan levels) (D.state disk.old).now.contents (length held.old) 0 top.block rs bs → Begins top.low rs → RisesFrom 0 (places rs)
-        → RemovesBelow result place rs
-        (λ root. AllByRecursion (IsHeld held.old) bs → Made (IsHeld held.new) (sizes_of LEAF fan levels) (D.state disk.new).now.contents (length held.old) root.level (child_of root ∷ []) (without_place place rs)) }
+    ensures same { LooksIf (result ≡ Ok Left.Same) held.old held.new
+        (D.state disk.old) (D.state disk.new) }
+    ensures nothing { LooksIf (result ≡ Ok Left.Nothing) held.old held.new
+        (D.state disk.old) (D.state disk.new) }
+    ensures looks { LooksIfDamaged result held.old held.new (D.state disk.old) (D.state disk.new) }
+    ensures path { (D.state disk.new).honest ≡ true
+        → IfOk result (λ left. LeadsDown (D.state disk.old).now.contents
+        (length held.old) 0 top.block top.low) }
+    ensures remove { (fan levels : ℕ)
+        → IfUnder (D.state disk.old) (D.state disk.new) (sizes_of LEAF fan levels)
+        (length held.old) 0 top (λ rs bs. RemovesBelow result place rs
+        (λ root. AllByRecursion (IsHeld held.old) bs
+        → Made (IsHeld held.new) (sizes_of LEAF fan levels) (D.state disk.new).now.contents
+        (length held.old) root.level (child_of root ∷ []) (without_place place rs))) }
 {
-    match leaf_under::<D, LEAF>(disk, held.blocks(), top) {
-        Ok(records) => {
-            let records = records.as_slice();
-            let Some(i) = index_of(records, place) else {
-                return Ok(Left::Same);
-            };
-            if records.len() == 1 {
-                return Ok(Left::Nothing);
-            }
-            match write_leaf_block(disk, held, without(records, i).as_slice()) {
-                Ok(leaf) => Ok(Left::Rest(root_at(leaf, 0))),
-                Err(fault) => Err(fault),
-            }
-        }
-        Err(fault) => Err(fault),
+    let records = leaf_under::<D, LEAF>(disk, held.blocks(), top)?;
+    let records = records.as_slice();
+    let Some(i) = index_of(records, place) else {
+        return Ok(Left::Same);
+    };
+    if records.len() == 1 {
+        return Ok(Left::Nothing);
     }
+    let leaf = write_leaf_block(disk, held, without(records, i).as_slice())?;
+    Ok(Left::Rest(root_at(leaf, 0)))
 }
 
 /// The first block from this one down that is a leaf or has more children than one.
@@ -146,24 +140,27 @@ fn narrowed<D: Disk, const FAN: usize>(
     level: u8,
 ) -> Result<Root, TreeFault>
     requires { blocks ≤ (D.state disk.old).blocks }
-    ensures any { Goes (result ≡ Err TreeFault.Device) (D.state disk.old) (D.state disk.new) }
+    ensures looks { OnlyLooks result (D.state disk.old) (D.state disk.new) }
     ensures deep { result ≢ Err TreeFault.Deep }
     ensures memory { result ≢ Err TreeFault.Memory }
     ensures level { IfOk result (λ root. root.level ≤ level) }
-    ensures reads { (D.state disk.new).honest ≡ true → OnlyReads (D.state disk.old) (D.state disk.new) }
-    ensures narrow { (D.state disk.new).honest ≡ true → (leaf levels : ℕ) (rs : List Record) (bs : List ℕ)
-        → Children (Subtree (sizes_of leaf FAN levels) (D.state disk.old).now.contents blocks level) (top ∷ []) rs bs
-        → OkOrDevice result (λ root. Narrows (sizes_of leaf FAN levels) (D.state disk.old).now.contents blocks top root rs bs) }
+    ensures narrow { (D.state disk.new).honest ≡ true
+        → (leaf levels : ℕ) (rs : List Record) (bs : List ℕ)
+        → Children (Subtree (sizes_of leaf FAN levels) (D.state disk.old).now.contents blocks level)
+        (top ∷ []) rs bs
+        → OkOrDevice result (λ root. Narrows (sizes_of leaf FAN levels)
+        (D.state disk.old).now.contents blocks top root rs bs) }
 {
     if level == 0 {
         return Ok(root_at(top, 0));
     }
     let mut bytes = [0; 4096];
     // To any key the way goes to the one child, where there is one.
-    match way_at::<D, FAN>(disk, blocks, level, top, top.low, &mut bytes) {
-        Ok(way) if way.count == 1 => narrowed::<D, FAN>(disk, blocks, way.child, level - 1),
-        Ok(_) => Ok(root_at(top, level)),
-        Err(fault) => Err(fault),
+    let way = way_at::<D, FAN>(disk, blocks, level, top, top.low, &mut bytes)?;
+    if way.count == 1 {
+        narrowed::<D, FAN>(disk, blocks, way.child, level - 1)
+    } else {
+        Ok(root_at(top, level))
     }
 }
 
@@ -182,37 +179,34 @@ fn write_rest<D: Disk, const FAN: usize>(
     requires few { length children.now ≤ FAN }
     requires most { FAN ≤ 256 }
     requires free { 1 ≤ free_count held.old }
-    ensures any { Goes (result ≡ Err TreeFault.Device) (D.state disk.old) (D.state disk.new) }
+    ensures writes { WritesFree result held.old held.new (D.state disk.old) (D.state disk.new) }
     ensures deep { result ≢ Err TreeFault.Deep }
     ensures memory { result ≢ Err TreeFault.Memory }
     ensures changed { result ≢ Ok Left.Same }
     ensures level { IfOk result (λ left. level_of left level ≤ level) }
     ensures same_level { is_root ≡ false → IfOk result (λ left. level_of left level ≡ level) }
-    ensures nothing { result ≡ Ok Left.Nothing → held.new ≡ held.old }
-    ensures nothing_reads { (D.state disk.new).honest ≡ true → result ≡ Ok Left.Nothing → OnlyReads (D.state disk.old) (D.state disk.new) }
-    ensures damaged { (b : ℕ) → result ≡ Err (TreeFault.Damaged b) → held.new ≡ held.old }
-    ensures damaged_reads { (D.state disk.new).honest ≡ true → (b : ℕ) → result ≡ Err (TreeFault.Damaged b) → OnlyReads (D.state disk.old) (D.state disk.new) }
-    ensures still { HoldsMore held.old held.new }
+    ensures nothing { LooksIf (result ≡ Ok Left.Nothing) held.old held.new
+        (D.state disk.old) (D.state disk.new) }
+    ensures looks { LooksIfDamaged result held.old held.new (D.state disk.old) (D.state disk.new) }
     ensures taken { free_count held.old ≤ free_count held.new + 1 }
-    ensures moments { (D.state disk.new).honest ≡ true
-        → Throughout (D.state disk.old) (D.state disk.new) (Spares (is_free held.old) (D.state disk.old).now) }
-    ensures rest { (D.state disk.new).honest ≡ true → (leaf levels : ℕ) (rs : List Record) (bs : List ℕ) → RisesFrom 0 (places rs) → AllByRecursion ChildFits children.now
-        → Children (Subtree (sizes_of leaf FAN levels) (D.state disk.old).now.contents (length held.old) (level - 1)) children.now rs bs
-        → Rests result rs (λ root. AllByRecursion (IsHeld held.old) bs → Made (IsHeld held.new) (sizes_of leaf FAN levels) (D.state disk.new).now.contents (length held.old) root.level (child_of root ∷ []) rs) }
+    ensures rest { (D.state disk.new).honest ≡ true
+        → (leaf levels : ℕ) (rs : List Record) (bs : List ℕ) → RisesFrom 0 (places rs)
+        → AllByRecursion ChildFits children.now
+        → Children (Subtree (sizes_of leaf FAN levels) (D.state disk.old).now.contents
+        (length held.old) (level - 1)) children.now rs bs
+        → Rests result rs (λ root. AllByRecursion (IsHeld held.old) bs
+        → Made (IsHeld held.new) (sizes_of leaf FAN levels) (D.state disk.new).now.contents
+        (length held.old) root.level (child_of root ∷ []) rs) }
 {
     if children.is_empty() {
         return Ok(Left::Nothing);
     }
     if !is_root || children.len() > 1 {
-        return match write_node_block(disk, held, level, children) {
-            Ok(node) => Ok(Left::Rest(root_at(node, level))),
-            Err(fault) => Err(fault),
-        };
+        let node = write_node_block(disk, held, level, children)?;
+        return Ok(Left::Rest(root_at(node, level)));
     }
-    match narrowed::<D, FAN>(disk, held.blocks(), children[0], level - 1) {
-        Ok(root) => Ok(Left::Rest(root)),
-        Err(fault) => Err(fault),
-    }
+    let root = narrowed::<D, FAN>(disk, held.blocks(), children[0], level - 1)?;
+    Ok(Left::Rest(root))
 }
 
 /// Takes the record of the key out of what lies under a block of this level. A root
@@ -230,57 +224,49 @@ fn remove_below<D: Disk, const LEAF: usize, const FAN: usize>(
     requires fan_most { FAN ≤ 256 }
     requires low { level ≤ 7 }
     requires free { level + 1 ≤ free_count held.old }
-    ensures any { Goes (result ≡ Err TreeFault.Device) (D.state disk.old) (D.state disk.new) }
+    ensures writes { WritesFree result held.old held.new (D.state disk.old) (D.state disk.new) }
     ensures deep { result ≢ Err TreeFault.Deep }
     ensures memory { result ≢ Err TreeFault.Memory }
     ensures fits { KeyFits key }
     ensures level { IfOk result (λ left. level_of left level ≤ level) }
     ensures same_level { is_root ≡ false → IfOk result (λ left. level_of left level ≡ level) }
-    ensures still { HoldsMore held.old held.new }
     ensures taken { free_count held.old ≤ free_count held.new + (level + 1) }
-    ensures same { result ≡ Ok Left.Same → held.new ≡ held.old }
-    ensures reads { (D.state disk.new).honest ≡ true → result ≡ Ok Left.Same → OnlyReads (D.state disk.old) (D.state disk.new) }
-    ensures nothing { result ≡ Ok Left.Nothing → held.new ≡ held.old }
-    ensures nothing_reads { (D.state disk.new).honest ≡ true → result ≡ Ok Left.Nothing → OnlyReads (D.state disk.old) (D.state disk.new) }
-    ensures damaged { (b : ℕ) → result ≡ Err (TreeFault.Damaged b) → held.new ≡ held.old }
-    ensures damaged_reads { (D.state disk.new).honest ≡ true → (b : ℕ) → result ≡ Err (TreeFault.Damaged b) → OnlyReads (D.state disk.old) (D.state disk.new) }
-    ensures path { (D.state disk.new).honest ≡ true → IfOk result (λ left. LeadsDown (D.state disk.old).now.contents (length held.old) level top.block top.low) }
-    ensures moments { (D.state disk.new).honest ≡ true
-        → Throughout (D.state disk.old) (D.state disk.new) (Spares (is_free held.old) (D.state disk.old).now) }
-    ensures remove { (D.state disk.new).honest ≡ true → (levels : ℕ) (rs : List Record) (bs : List ℕ)
-        → Subtree (sizes_of LEAF FAN levels) (D.state disk.old).now.contents (length held.old) level top.block rs bs → Begins top.low rs → RisesFrom 0 (places rs)
-        → RemovesBelow result (place key) rs
-        (λ root. AllByRecursion (IsHeld held.old) bs → Made (IsHeld held.new) (sizes_of LEAF FAN levels) (D.state disk.new).now.contents (length held.old) root.level (child_of root ∷ []) (without_place (place key) rs)) }
+    ensures same { LooksIf (result ≡ Ok Left.Same) held.old held.new
+        (D.state disk.old) (D.state disk.new) }
+    ensures nothing { LooksIf (result ≡ Ok Left.Nothing) held.old held.new
+        (D.state disk.old) (D.state disk.new) }
+    ensures looks { LooksIfDamaged result held.old held.new (D.state disk.old) (D.state disk.new) }
+    ensures path { (D.state disk.new).honest ≡ true
+        → IfOk result (λ left. LeadsDown (D.state disk.old).now.contents
+        (length held.old) level top.block top.low) }
+    ensures remove { (levels : ℕ)
+        → IfUnder (D.state disk.old) (D.state disk.new) (sizes_of LEAF FAN levels)
+        (length held.old) level top (λ rs bs. RemovesBelow result (place key) rs
+        (λ root. AllByRecursion (IsHeld held.old) bs
+        → Made (IsHeld held.new) (sizes_of LEAF FAN levels) (D.state disk.new).now.contents
+        (length held.old) root.level (child_of root ∷ []) (without_place (place key) rs))) }
 {
     if level == 0 {
         return remove_from_leaf::<D, LEAF>(disk, held, top, key.place());
     }
     let mut bytes = [0; 4096];
-    match way_at::<D, FAN>(disk, held.blocks(), level, top, key, &mut bytes) {
-        Ok(way) => {
-            let alone = is_root && way.count == 1;
-            match remove_below::<D, LEAF, FAN>(disk, held, level - 1, way.child, alone, key) {
-                Ok(Left::Same) => Ok(Left::Same),
-                Ok(Left::Nothing) => match without_child(&bytes, way) {
-                    Some(rest) => {
-                        write_rest::<D, FAN>(disk, held, level, is_root, rest.as_slice())
-                    }
-                    None => Err(TreeFault::Damaged(top.block)),
-                },
-                Ok(Left::Rest(root)) => {
-                    if alone {
-                        return Ok(Left::Rest(root));
-                    }
-                    set_child(&mut bytes, way.index, child_of(root));
-                    match write_bytes(disk, held, &bytes) {
-                        Ok(node) => Ok(Left::Rest(root_at(node, level))),
-                        Err(fault) => Err(fault),
-                    }
-                }
-                Err(fault) => Err(fault),
+    let way = way_at::<D, FAN>(disk, held.blocks(), level, top, key, &mut bytes)?;
+    let alone = is_root && way.count == 1;
+    let left = remove_below::<D, LEAF, FAN>(disk, held, level - 1, way.child, alone, key)?;
+    match left {
+        Left::Same => Ok(Left::Same),
+        Left::Nothing => match without_child(&bytes, way) {
+            Some(rest) => write_rest::<D, FAN>(disk, held, level, is_root, rest.as_slice()),
+            None => Err(TreeFault::Damaged(top.block)),
+        },
+        Left::Rest(root) => {
+            if alone {
+                return Ok(Left::Rest(root));
             }
+            set_child(&mut bytes, way.index, child_of(root));
+            let node = write_bytes(disk, held, &bytes)?;
+            Ok(Left::Rest(root_at(node, level)))
         }
-        Err(fault) => Err(fault),
     }
 }
 
@@ -295,41 +281,40 @@ pub fn remove<D: Disk, const LEAF: usize, const FAN: usize, const LEVELS: usize>
     requires sizes { AreSizes LEAF FAN LEVELS }
     requires inside { length held.old ≤ (D.state disk.old).blocks }
     requires room { 16 ≤ free_count held.old }
-    ensures any { Goes (result ≡ Err TreeFault.Device) (D.state disk.old) (D.state disk.new) }
     ensures deep { result ≢ Err TreeFault.Deep }
     ensures memory { result ≢ Err TreeFault.Memory }
     ensures level { IfOk result (λ rest. IfSome rest (λ r. r.level < LEVELS)) }
 
-    // What is held stays held, and no more than 8 blocks are taken.
-    ensures still { HoldsMore held.old held.new }
+    // What is held stays held, and at no moment has a block that was held other bytes than before.
+    ensures writes { WritesFree result held.old held.new (D.state disk.old) (D.state disk.new) }
+
+    // No more than 8 blocks are taken.
     ensures taken { free_count held.old ≤ free_count held.new + 8 }
 
     // It takes the blocks of one path alone, one a level.
     ensures path_taken { free_count held.old ≤ free_count held.new + (root.level + 1) }
 
     // Where the answer is None, nothing was written or taken.
-    ensures kept { result ≡ Ok None → held.new ≡ held.old }
-    ensures reads { (D.state disk.new).honest ≡ true → result ≡ Ok None → OnlyReads (D.state disk.old) (D.state disk.new) }
+    ensures kept { LooksIf (result ≡ Ok None) held.old held.new
+        (D.state disk.old) (D.state disk.new) }
 
     // A block is found damaged before any is taken or written.
-    ensures damaged { (b : ℕ) → result ≡ Err (TreeFault.Damaged b) → held.new ≡ held.old }
-    ensures damaged_reads { (D.state disk.new).honest ≡ true → (b : ℕ) → result ≡ Err (TreeFault.Damaged b) → OnlyReads (D.state disk.old) (D.state disk.new) }
+    ensures looks { LooksIfDamaged result held.old held.new (D.state disk.old) (D.state disk.new) }
 
     // What is left, or that the key is absent, is told only where each block on the path has the head of its level and
     // begins with the key that its parent says, the first with the lowest key of the old root.
     ensures path { (D.state disk.new).honest ≡ true
-        → IfOk result (λ rest. 0 < root.block → LeadsDown (D.state disk.old).now.contents (length held.old) root.level root.block root.low) }
-
-    // At no moment has a block that was held other bytes than before.
-    ensures moments { (D.state disk.new).honest ≡ true
-        → Throughout (D.state disk.old) (D.state disk.new) (Spares (is_free held.old) (D.state disk.old).now) }
+        → IfOk result (λ rest. 0 < root.block
+        → LeadsDown (D.state disk.old).now.contents
+        (length held.old) root.level root.block root.low) }
 
     // On a tree the answer is None just where the key is absent, and else a root, unless the device fails; and where
     // the blocks of the tree are held, the root has the map without the key.
-    ensures remove { (D.state disk.new).honest ≡ true → (m : Map) (bs : List ℕ)
-        → IsRooted (sizes_of LEAF FAN LEVELS) (D.state disk.old).now.contents (length held.old) root m bs
-        → Removes result (get m key ≡ None)
-        (λ r. AllByRecursion (IsHeld held.old) bs → Grown (sizes_of LEAF FAN LEVELS) (IsHeld held.new) (D.state disk.new).now.contents (length held.old) r (without m key)) }
+    ensures remove { IfWhole (D.state disk.old) (D.state disk.new) (sizes_of LEAF FAN LEVELS)
+        (length held.old) root (λ m bs. Removes result (get m key ≡ None)
+        (λ r. AllByRecursion (IsHeld held.old) bs
+        → Grown (sizes_of LEAF FAN LEVELS) (IsHeld held.new) (D.state disk.new).now.contents
+        (length held.old) r (without m key))) }
 {
     if root.block == 0 {
         return Ok(None);
@@ -341,10 +326,10 @@ pub fn remove<D: Disk, const LEAF: usize, const FAN: usize, const LEVELS: usize>
         low: root.low,
         block: root.block,
     };
-    match remove_below::<D, LEAF, FAN>(disk, held, root.level, top, true, key) {
-        Ok(Left::Same) => Ok(None),
-        Ok(Left::Nothing) => Ok(Some(Root::default())),
-        Ok(Left::Rest(root)) => Ok(Some(root)),
-        Err(fault) => Err(fault),
+    let left = remove_below::<D, LEAF, FAN>(disk, held, root.level, top, true, key)?;
+    match left {
+        Left::Same => Ok(None),
+        Left::Nothing => Ok(Some(Root::default())),
+        Left::Rest(root) => Ok(Some(root)),
     }
 }

@@ -1,12 +1,11 @@
 //! All records of a map, in order.
 ghost use Rattle.std.specs.Prelude.{◌≡◌, ◌≢◌, ℕ, ◌≤◌, ◌++◌, true, List};
 ghost use Rattle.vm_types.specs.Map.{Map};
-ghost use Rattle.vm_disk.specs.Disk.{Goes};
-ghost use Rattle.vm_disk.specs.Moments.{OnlyReads};
 ghost use Rattle.vm_block.specs.Leaf.{Record};
 ghost use Rattle.vm_block.specs.Tree.{Sizes, Subtree};
 ghost use Rattle.vm_tree.specs.Answers.{Lists};
-ghost use Rattle.vm_tree.specs.Root.{IsRooted};
+ghost use Rattle.vm_tree.specs.Calls.{OnlyLooks};
+ghost use Rattle.vm_tree.specs.Root.{IfWhole};
 
 use crate::reading::{leaf_at, node_at};
 use crate::root::{Root, TreeFault};
@@ -22,18 +21,17 @@ fn scan_leaf<D: Disk>(
     into: &mut Vec<(Key, Value)>,
 ) -> Result<(), TreeFault>
     requires { blocks ≤ (D.state disk.old).blocks }
-    ensures any { Goes (result ≡ Err TreeFault.Device) (D.state disk.old) (D.state disk.new) }
+    ensures looks { OnlyLooks result (D.state disk.old) (D.state disk.new) }
     ensures deep { result ≢ Err TreeFault.Deep }
-    ensures reads { (D.state disk.new).honest ≡ true → OnlyReads (D.state disk.old) (D.state disk.new) }
-    ensures added { (D.state disk.new).honest ≡ true → (sizes : Sizes) (rs : List Record) (bs : List ℕ)
-        → Subtree sizes (D.state disk.old).now.contents blocks 0 block rs bs → Lists result (λ _. into.new.items ≡ into.old.items ++ rs) }
+    ensures added { (D.state disk.new).honest ≡ true
+        → (sizes : Sizes) (rs : List Record) (bs : List ℕ)
+        → Subtree sizes (D.state disk.old).now.contents blocks 0 block rs bs
+        → Lists result (λ _. into.new.items ≡ into.old.items ++ rs) }
 {
-    match leaf_at(disk, blocks, block) {
-        Ok(records) => match into.extend_from_slice(records.as_slice()) {
-            Ok(()) => Ok(()),
-            Err(_) => Err(TreeFault::Memory),
-        },
-        Err(fault) => Err(fault),
+    let records = leaf_at(disk, blocks, block)?;
+    match into.extend_from_slice(records.as_slice()) {
+        Ok(()) => Ok(()),
+        Err(_) => Err(TreeFault::Memory),
     }
 }
 
@@ -46,27 +44,21 @@ fn scan_below<D: Disk>(
     into: &mut Vec<(Key, Value)>,
 ) -> Result<(), TreeFault>
     requires { blocks ≤ (D.state disk.old).blocks }
-    ensures any { Goes (result ≡ Err TreeFault.Device) (D.state disk.old) (D.state disk.new) }
+    ensures looks { OnlyLooks result (D.state disk.old) (D.state disk.new) }
     ensures deep { result ≢ Err TreeFault.Deep }
-    ensures reads { (D.state disk.new).honest ≡ true → OnlyReads (D.state disk.old) (D.state disk.new) }
-    ensures added { (D.state disk.new).honest ≡ true → (sizes : Sizes) (rs : List Record) (bs : List ℕ)
-        → Subtree sizes (D.state disk.old).now.contents blocks level block rs bs → Lists result (λ _. into.new.items ≡ into.old.items ++ rs) }
+    ensures added { (D.state disk.new).honest ≡ true
+        → (sizes : Sizes) (rs : List Record) (bs : List ℕ)
+        → Subtree sizes (D.state disk.old).now.contents blocks level block rs bs
+        → Lists result (λ _. into.new.items ≡ into.old.items ++ rs) }
 {
     if level == 0 {
         return scan_leaf(disk, blocks, block, into);
     }
-    match node_at(disk, blocks, level, block) {
-        Ok(children) => {
-            for child in children.as_slice() {
-                match scan_below(disk, blocks, level - 1, child.block, into) {
-                    Ok(()) => {}
-                    Err(fault) => return Err(fault),
-                }
-            }
-            Ok(())
-        }
-        Err(fault) => Err(fault),
+    let children = node_at(disk, blocks, level, block)?;
+    for child in children.as_slice() {
+        scan_below(disk, blocks, level - 1, child.block, into)?;
     }
+    Ok(())
 }
 
 /// The records of the map under a root, in the order of their keys. It takes memory for them alone.
@@ -77,20 +69,18 @@ pub fn scan<D: Disk>(
     root: Root,
 ) -> Result<Vec<(Key, Value)>, TreeFault>
     requires { blocks ≤ (D.state disk.old).blocks }
-    ensures any { Goes (result ≡ Err TreeFault.Device) (D.state disk.old) (D.state disk.new) }
+    ensures looks { OnlyLooks result (D.state disk.old) (D.state disk.new) }
     ensures deep { result ≢ Err TreeFault.Deep }
-    ensures reads { (D.state disk.new).honest ≡ true → OnlyReads (D.state disk.old) (D.state disk.new) }
 
     // On a tree it is the whole map, whatever the sizes of its blocks, unless the device fails or no memory is found.
-    ensures records { (D.state disk.new).honest ≡ true → (sizes : Sizes) (m : Map) (bs : List ℕ)
-        → IsRooted sizes (D.state disk.old).now.contents blocks root m bs → Lists result (λ records. records.items ≡ m) }
+    ensures records { (sizes : Sizes)
+        → IfWhole (D.state disk.old) (D.state disk.new) sizes blocks root
+        (λ m bs. Lists result (λ records. records.items ≡ m)) }
 {
     let mut records = Vec::new(alloc);
     if root.block == 0 {
         return Ok(records);
     }
-    match scan_below(disk, blocks, root.level, root.block, &mut records) {
-        Ok(()) => Ok(records),
-        Err(fault) => Err(fault),
-    }
+    scan_below(disk, blocks, root.level, root.block, &mut records)?;
+    Ok(records)
 }

@@ -2,15 +2,15 @@
 ghost use Rattle.std.specs.Prelude.{◌≡◌, ◌≢◌, ◌↔◌, ℕ, ◌+◌, ◌-◌, ◌<◌, ◌≤◌, true, false, List, [], ◌∷◌, length, IfOk, OnOk};
 ghost use Rattle.std.specs.List.{AllByRecursion};
 ghost use Rattle.vm_types.specs.Places.{RisesFrom, places};
-ghost use Rattle.vm_disk.specs.Disk.{Goes, block};
-ghost use Rattle.vm_disk.specs.Moments.{Throughout, Spares};
-ghost use Rattle.vm_alloc.specs.Held.{IsHeld, HoldsMore, free_count};
+ghost use Rattle.vm_disk.specs.Disk.{block};
+ghost use Rattle.vm_alloc.specs.Held.{IsHeld, free_count};
 ghost use Rattle.vm_block.specs.Leaf.{Record, RecordFits, leaf_bytes};
 ghost use Rattle.vm_block.specs.Node.{node_bytes};
 ghost use Rattle.vm_block.specs.Tree.{Sizes};
 ghost use Rattle.vm_block.specs.declared.node.Child.{Child};
 ghost use Rattle.vm_tree.specs.Answers.{OkOrDevice};
-ghost use Rattle.vm_tree.specs.Free.{is_free, IsTaken};
+ghost use Rattle.vm_tree.specs.Calls.{WritesFree};
+ghost use Rattle.vm_tree.specs.Free.{IsTaken, AreTaken};
 ghost use Rattle.vm_tree.specs.Making.{Made, children_of, is_split};
 
 use crate::root::TreeFault;
@@ -30,13 +30,11 @@ pub(crate) enum Copied {
 fn write_free<D: Disk>(disk: &mut D, held: &mut Held, bytes: &[u8; 4096]) -> Result<u32, TreeFault>
     requires inside { length held.old ≤ (D.state disk.old).blocks }
     requires room { 0 < free_count held.old }
-    ensures any { Goes (result ≡ Err TreeFault.Device) (D.state disk.old) (D.state disk.new) }
+    ensures writes { WritesFree result held.old held.new (D.state disk.old) (D.state disk.new) }
     ensures device { OkOrDevice result (IsTaken held.new) }
-    ensures still { HoldsMore held.old held.new }
     ensures taken { free_count held.old ≤ free_count held.new + 1 }
-    ensures moments { (D.state disk.new).honest ≡ true
-        → Throughout (D.state disk.old) (D.state disk.new) (Spares (is_free held.old) (D.state disk.old).now) }
-    ensures written { (D.state disk.new).honest ≡ true → IfOk result (λ n. block (D.state disk.new).now.contents n ≡ bytes.now) }
+    ensures written { (D.state disk.new).honest ≡ true
+        → IfOk result (λ n. block (D.state disk.new).now.contents n ≡ bytes.now) }
 {
     let free = held.free_count();
     prove!(free > 0);
@@ -57,25 +55,28 @@ pub(crate) fn write_bytes<D: Disk>(
 ) -> Result<Child, TreeFault>
     requires inside { length held.old ≤ (D.state disk.old).blocks }
     requires room { 0 < free_count held.old }
-    ensures any { Goes (result ≡ Err TreeFault.Device) (D.state disk.old) (D.state disk.new) }
+    ensures writes { WritesFree result held.old held.new (D.state disk.old) (D.state disk.new) }
     ensures device { OkOrDevice result (λ child. IsTaken held.new child.block) }
-    ensures still { HoldsMore held.old held.new }
     ensures taken { free_count held.old ≤ free_count held.new + 1 }
-    ensures moments { (D.state disk.new).honest ≡ true
-        → Throughout (D.state disk.old) (D.state disk.new) (Spares (is_free held.old) (D.state disk.old).now) }
-    ensures leaf { (D.state disk.new).honest ≡ true → (sizes : Sizes) (rs : List Record) → bytes.now ≡ leaf_bytes rs
-        → 0 < length rs → length rs ≤ 16 → length rs ≤ sizes.leaf → RisesFrom 0 (places rs) → AllByRecursion RecordFits rs
-        → IfOk result (λ child. Made (IsHeld held.new) sizes (D.state disk.new).now.contents (length held.old) 0 (child ∷ []) rs) }
-    ensures node { (D.state disk.new).honest ≡ true → (sizes : Sizes) (level : ℕ) (cs : List Child) (rs : List Record) → bytes.now ≡ node_bytes level cs
+    ensures leaf { (D.state disk.new).honest ≡ true → (sizes : Sizes) (rs : List Record)
+        → bytes.now ≡ leaf_bytes rs
+        → 0 < length rs → length rs ≤ 16 → length rs ≤ sizes.leaf → RisesFrom 0 (places rs)
+        → AllByRecursion RecordFits rs
+        → IfOk result (λ child. Made (IsHeld held.new) sizes (D.state disk.new).now.contents
+        (length held.old) 0 (child ∷ []) rs) }
+    ensures node { (D.state disk.new).honest ≡ true
+        → (sizes : Sizes) (level : ℕ) (cs : List Child) (rs : List Record)
+        → bytes.now ≡ node_bytes level cs
         → 0 < level → level ≤ 7 → 0 < length cs → length cs ≤ 256 → length cs ≤ sizes.fan
-        → RisesFrom 0 (places rs) → Made (IsHeld held.old) sizes (D.state disk.old).now.contents (length held.old) (level - 1) cs rs
-        → IfOk result (λ child. Made (IsHeld held.new) sizes (D.state disk.new).now.contents (length held.old) level (child ∷ []) rs) }
+        → RisesFrom 0 (places rs)
+        → Made (IsHeld held.old) sizes (D.state disk.old).now.contents (length held.old)
+        (level - 1) cs rs
+        → IfOk result (λ child. Made (IsHeld held.new) sizes (D.state disk.new).now.contents
+        (length held.old) level (child ∷ []) rs) }
 {
     let low = lowest_key(bytes);
-    match write_free(disk, held, bytes) {
-        Ok(block) => Ok(Child { low, block }),
-        Err(fault) => Err(fault),
-    }
+    let block = write_free(disk, held, bytes)?;
+    Ok(Child { low, block })
 }
 
 /// Writes the leaf of these records.
@@ -88,15 +89,14 @@ pub(crate) fn write_leaf_block<D: Disk>(
     requires room { 0 < free_count held.old }
     requires some { 0 < length records.now }
     requires few { length records.now ≤ 16 }
-    ensures any { Goes (result ≡ Err TreeFault.Device) (D.state disk.old) (D.state disk.new) }
+    ensures writes { WritesFree result held.old held.new (D.state disk.old) (D.state disk.new) }
     ensures device { OkOrDevice result (λ child. IsTaken held.new child.block) }
-    ensures still { HoldsMore held.old held.new }
     ensures taken { free_count held.old ≤ free_count held.new + 1 }
-    ensures moments { (D.state disk.new).honest ≡ true
-        → Throughout (D.state disk.old) (D.state disk.new) (Spares (is_free held.old) (D.state disk.old).now) }
-    ensures made { (D.state disk.new).honest ≡ true → (sizes : Sizes) → length records.now ≤ sizes.leaf
+    ensures made { (D.state disk.new).honest ≡ true → (sizes : Sizes)
+        → length records.now ≤ sizes.leaf
         → RisesFrom 0 (places records.now) → AllByRecursion RecordFits records.now
-        → IfOk result (λ child. Made (IsHeld held.new) sizes (D.state disk.new).now.contents (length held.old) 0 (child ∷ []) records.now) }
+        → IfOk result (λ child. Made (IsHeld held.new) sizes (D.state disk.new).now.contents
+        (length held.old) 0 (child ∷ []) records.now) }
 {
     let mut bytes = [0; 4096];
     write_leaf(records, &mut bytes);
@@ -114,15 +114,16 @@ pub(crate) fn write_node_block<D: Disk>(
     requires room { 0 < free_count held.old }
     requires some { 0 < length children.now }
     requires few { length children.now ≤ 256 }
-    ensures any { Goes (result ≡ Err TreeFault.Device) (D.state disk.old) (D.state disk.new) }
+    ensures writes { WritesFree result held.old held.new (D.state disk.old) (D.state disk.new) }
     ensures device { OkOrDevice result (λ child. IsTaken held.new child.block) }
-    ensures still { HoldsMore held.old held.new }
     ensures taken { free_count held.old ≤ free_count held.new + 1 }
-    ensures moments { (D.state disk.new).honest ≡ true
-        → Throughout (D.state disk.old) (D.state disk.new) (Spares (is_free held.old) (D.state disk.old).now) }
-    ensures made { (D.state disk.new).honest ≡ true → (sizes : Sizes) (rs : List Record) → 0 < level → level ≤ 7 → length children.now ≤ sizes.fan
-        → RisesFrom 0 (places rs) → Made (IsHeld held.old) sizes (D.state disk.old).now.contents (length held.old) (level - 1) children.now rs
-        → IfOk result (λ child. Made (IsHeld held.new) sizes (D.state disk.new).now.contents (length held.old) level (child ∷ []) rs) }
+    ensures made { (D.state disk.new).honest ≡ true → (sizes : Sizes) (rs : List Record) → 0 < level
+        → level ≤ 7 → length children.now ≤ sizes.fan
+        → RisesFrom 0 (places rs)
+        → Made (IsHeld held.old) sizes (D.state disk.old).now.contents (length held.old)
+        (level - 1) children.now rs
+        → IfOk result (λ child. Made (IsHeld held.new) sizes (D.state disk.new).now.contents
+        (length held.old) level (child ∷ []) rs) }
 {
     let mut bytes = [0; 4096];
     write_node(level, children, &mut bytes);
@@ -141,33 +142,26 @@ pub(crate) fn write_leaves<D: Disk, const LEAF: usize>(
     requires some { 0 < length records.now }
     requires few { length records.now ≤ LEAF + 1 }
     requires room { 2 ≤ free_count held.old }
-    ensures any { Goes (result ≡ Err TreeFault.Device) (D.state disk.old) (D.state disk.new) }
-    ensures device { OkOrDevice result (λ copied. AllByRecursion (λ child. IsTaken held.new child.block) (children_of copied)) }
+    ensures writes { WritesFree result held.old held.new (D.state disk.old) (D.state disk.new) }
+    ensures device { OkOrDevice result (λ copied. AreTaken held.new (children_of copied)) }
     ensures split { IfOk result (λ copied. (is_split copied ≡ true) ↔ (LEAF < length records.now)) }
-    ensures still { HoldsMore held.old held.new }
     ensures one { length records.now ≤ LEAF → free_count held.old ≤ free_count held.new + 1 }
-    ensures single { IfOk result (λ copied. is_split copied ≡ false → free_count held.old ≤ free_count held.new + 1) }
+    ensures single { IfOk result
+        (λ copied. is_split copied ≡ false → free_count held.old ≤ free_count held.new + 1) }
     ensures taken { free_count held.old ≤ free_count held.new + 2 }
-    ensures moments { (D.state disk.new).honest ≡ true
-        → Throughout (D.state disk.old) (D.state disk.new) (Spares (is_free held.old) (D.state disk.old).now) }
     ensures made { (D.state disk.new).honest ≡ true → (sizes : Sizes) → LEAF ≤ sizes.leaf
         → RisesFrom 0 (places records.now) → AllByRecursion RecordFits records.now
-        → IfOk result (λ copied. Made (IsHeld held.new) sizes (D.state disk.new).now.contents (length held.old) 0 (children_of copied) records.now) }
+        → IfOk result (λ copied. Made (IsHeld held.new) sizes (D.state disk.new).now.contents
+        (length held.old) 0 (children_of copied) records.now) }
 {
     if records.len() <= LEAF {
-        return match write_leaf_block(disk, held, records) {
-            Ok(leaf) => Ok(Copied::One(leaf)),
-            Err(fault) => Err(fault),
-        };
+        let leaf = write_leaf_block(disk, held, records)?;
+        return Ok(Copied::One(leaf));
     }
     let half = records.len().div_ceil(2);
-    match write_leaf_block(disk, held, &records[..half]) {
-        Ok(left) => match write_leaf_block(disk, held, &records[half..]) {
-            Ok(right) => Ok(Copied::Two(left, right)),
-            Err(fault) => Err(fault),
-        },
-        Err(fault) => Err(fault),
-    }
+    let left = write_leaf_block(disk, held, &records[..half])?;
+    let right = write_leaf_block(disk, held, &records[half..])?;
+    Ok(Copied::Two(left, right))
 }
 
 /// Writes one inner block or, where there are more than FAN children, two: the left one gets the
@@ -184,31 +178,27 @@ pub(crate) fn write_nodes<D: Disk, const FAN: usize>(
     requires some { 0 < length children.now }
     requires few { length children.now ≤ FAN + 1 }
     requires room { 2 ≤ free_count held.old }
-    ensures any { Goes (result ≡ Err TreeFault.Device) (D.state disk.old) (D.state disk.new) }
-    ensures device { OkOrDevice result (λ copied. AllByRecursion (λ child. IsTaken held.new child.block) (children_of copied)) }
+    ensures writes { WritesFree result held.old held.new (D.state disk.old) (D.state disk.new) }
+    ensures device { OkOrDevice result (λ copied. AreTaken held.new (children_of copied)) }
     ensures split { IfOk result (λ copied. (is_split copied ≡ true) ↔ (FAN < length children.now)) }
-    ensures still { HoldsMore held.old held.new }
     ensures one { length children.now ≤ FAN → free_count held.old ≤ free_count held.new + 1 }
-    ensures single { IfOk result (λ copied. is_split copied ≡ false → free_count held.old ≤ free_count held.new + 1) }
+    ensures single { IfOk result
+        (λ copied. is_split copied ≡ false → free_count held.old ≤ free_count held.new + 1) }
     ensures taken { free_count held.old ≤ free_count held.new + 2 }
-    ensures moments { (D.state disk.new).honest ≡ true
-        → Throughout (D.state disk.old) (D.state disk.new) (Spares (is_free held.old) (D.state disk.old).now) }
-    ensures made { (D.state disk.new).honest ≡ true → (sizes : Sizes) (rs : List Record) → 0 < level → level ≤ 7 → FAN ≤ sizes.fan
-        → RisesFrom 0 (places rs) → Made (IsHeld held.old) sizes (D.state disk.old).now.contents (length held.old) (level - 1) children.now rs
-        → IfOk result (λ copied. Made (IsHeld held.new) sizes (D.state disk.new).now.contents (length held.old) level (children_of copied) rs) }
+    ensures made { (D.state disk.new).honest ≡ true → (sizes : Sizes) (rs : List Record) → 0 < level
+        → level ≤ 7 → FAN ≤ sizes.fan
+        → RisesFrom 0 (places rs)
+        → Made (IsHeld held.old) sizes (D.state disk.old).now.contents (length held.old)
+        (level - 1) children.now rs
+        → IfOk result (λ copied. Made (IsHeld held.new) sizes (D.state disk.new).now.contents
+        (length held.old) level (children_of copied) rs) }
 {
     if children.len() <= FAN {
-        return match write_node_block(disk, held, level, children) {
-            Ok(node) => Ok(Copied::One(node)),
-            Err(fault) => Err(fault),
-        };
+        let node = write_node_block(disk, held, level, children)?;
+        return Ok(Copied::One(node));
     }
     let half = children.len().div_ceil(2);
-    match write_node_block(disk, held, level, &children[..half]) {
-        Ok(left) => match write_node_block(disk, held, level, &children[half..]) {
-            Ok(right) => Ok(Copied::Two(left, right)),
-            Err(fault) => Err(fault),
-        },
-        Err(fault) => Err(fault),
-    }
+    let left = write_node_block(disk, held, level, &children[..half])?;
+    let right = write_node_block(disk, held, level, &children[half..])?;
+    Ok(Copied::Two(left, right))
 }

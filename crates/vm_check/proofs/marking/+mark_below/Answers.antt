@@ -1,9 +1,10 @@
-use Rattle.std.proofs.Common.{◌<◌, List, length, inl, sym, subst, ◌∙◌, arith}
+use Rattle.std.proofs.Common.{◌<◌, List, length, inl, sym, subst, ◌∙◌, arith, rules}
 use Rattle.std.proofs.lemmas.Bool.{false≢true}
-use Rattle.vm_disk.proofs.MomentLemmas.{reads_then, same_medium}
+use Rattle.vm_disk.proofs.MomentLemmas.{same_medium}
 use Rattle.vm_alloc.proofs.HeldLemmas.{holds_more_then, taken_holds_more}
 use Rattle.vm_alloc.specs.Held.{HoldsMore}
 use Rattle.vm_tree.proofs.Descent.{subtree_top, node_read}
+use Rattle.vm_tree.proofs.Looking.{looks_on, looks_so, passed_on}
 use Rattle.vm_check.specs.Marking.{MarksMore}
 use Rattle.vm_check.proofs.MarkLemmas.{IsBelow, top_within, same_more, under_marked, set_less, leaf_marked, same_children, node_start, node_marked, node_fault, child_more}
 use Rattle.vm_check.proofs.OnlyLemmas.{only_set, only_top, only_all, child_sound, child_only_more, child_only_fault}
@@ -26,8 +27,8 @@ pub returns-then-level-eq0-clause-once : goal.returns-then-level-eq0-clause-once
 returns-then-level-eq0-clause-once g t c =
     omega (arith, set_less _ _ _ _ c.set.ensures c.requires.bits (c.is_data.ensures.0 c.if-not-is_data.false) (λ is. false≢true (sym c.if-is_set.false ∙ c.is_set.ensures.1 is)))
 
-pub returns-in-Err-clause-once : goal.returns-in-Err-clause-once
-returns-in-Err-clause-once g t c =
+pub returns-in_err-count-clause-once : goal.returns-in_err-count-clause-once
+returns-in_err-count-clause-once g t c =
     omega (
       arith,
       c.node_at.ensures.once.most,
@@ -36,115 +37,107 @@ returns-in-Err-clause-once g t c =
 
 pub loop-i-init : goal.loop-i-init
 loop-i-init g t c =
-    let any = c.node_at.ensures.any in
+    let any = c.in_ok-count.ensures.looks.goes in
     let inside = c.is_data.ensures.0 c.if-not-is_data.false in
     let less = set_less _ _ _ _ c.set.ensures c.requires.bits inside (λ is. false≢true (sym c.if-is_set.false ∙ c.is_set.ensures.1 is)) in
     let grows = subst (HoldsMore c.args.marks.now) (sym c.set.ensures) (taken_holds_more c.args.marks.now c.args.block) in
     record {
-      blocks = any.same_blocks;
-      earlier = any.earlier;
+      looks = looks_so c.in_ok-count.ensures.looks (λ is. cc);
       since = λ honest. honest;
-      rising = any.rising;
       many = grows.same_length ∙ c.requires.bits;
       once = omega (arith, c.node_at.ensures.once.most, less);
       growing = grows;
-      reads = λ honest. c.node_at.ensures.reads honest;
       marked = λ honest sizes cs node count bs none closed. subst (λ (ds : List _). MarksMore ds c.set.new.self c.set.new.self) (sym none) (same_more _ c.set.new.self tt);
       only = λ honest sizes cs node count bs none n is. inl is;
     }
 
-pub returns-in-Err-mark_below-clause-marked : goal.returns-in-Err-mark_below-clause-marked
-returns-in-Err-mark_below-clause-marked g t c honest sizes rs bs tree closed =
+pub returns-in_err-mark_below-clause-marked : goal.returns-in_err-mark_below-clause-marked
+returns-in_err-mark_below-clause-marked g t c honest sizes rs bs tree closed =
     let so_far = c.loop-i.invariant in
     let inside = subtree_top sizes _ _ _ _ rs bs tree in
-    let form = c.in-Ok.ensures.form in
-    let start = node_start sizes _ _ _ _ rs bs form.0 (omega (arith, c.if-level-eq0.false)) tree (λ ds at. same_children _ _ _ form.0 ds (c.in-Ok.ensures.found (so_far.since (c.in-Err-mark_below.ensures.any.earlier honest))) form.1 at.node) in
+    let form = c.in_ok-count.ensures.form in
+    let start = node_start sizes _ _ _ _ rs bs form.0 (omega (arith, c.if-level-eq0.false)) tree (λ ds at. same_children _ _ _ form.0 ds (c.in_ok-count.ensures.found (so_far.since (c.in_err-mark_below.ensures.looks.goes.earlier honest))) form.1 at.node) in
     let lt : c.loop-i.i < length form.0 = omega (arith, c.loop-i-test.true, form.2) in
     let is = c.child_at-child.ensures.child _ form.0 form.1 lt in
-    node_fault sizes _ _ _ _ _ _ bs form.0 c.child_at-child.result _ _ _ _ (same_medium _ _ (so_far.reads (c.in-Err-mark_below.ensures.any.earlier honest))) (omega (arith, inside.1, c.requires.bits)) c.set.ensures (omega (arith, c.if-level-eq0.false))
-    lt is start closed (so_far.marked (c.in-Err-mark_below.ensures.any.earlier honest) sizes form.0 form.1 form.2) (λ qs ds. c.in-Err-mark_below.ensures.marked honest sizes qs ds)
+    rw (passed_on _ c.from_residual-in_err-mark_below.ensures.1) (node_fault sizes _ _ _ _ _ _ bs form.0 c.child_at-child.result _ _ _ _ (same_medium _ _ (so_far.looks.reads (c.in_err-mark_below.ensures.looks.goes.earlier honest))) (omega (arith, inside.1, c.requires.bits)) c.set.ensures (omega (arith, c.if-level-eq0.false))
+    lt is start closed (so_far.marked (c.in_err-mark_below.ensures.looks.goes.earlier honest) sizes form.0 form.1 form.2) (λ qs ds. c.in_err-mark_below.ensures.marked honest sizes qs ds))
 
 pub loop-i-preserved : goal.loop-i-preserved
 loop-i-preserved g t c =
     let so_far = c.loop-i.invariant in
-    let any = c.mark_below.ensures.any in
+    let any = c.mark_below.ensures.looks.goes in
     let grows = c.mark_below.ensures.growing in
     record {
-      blocks = any.same_blocks ∙ so_far.blocks;
-      earlier = λ honest. so_far.earlier (any.earlier honest);
+      looks = looks_on so_far.looks c.mark_below.ensures.looks (λ is. cc);
       since = λ honest. so_far.since (any.earlier honest);
-      rising = omega (arith, any.rising, so_far.rising);
       many = grows.same_length ∙ so_far.many;
       once = omega (arith, c.mark_below.ensures.once, so_far.once);
       growing = holds_more_then _ _ _ so_far.growing grows;
-      reads = λ honest. reads_then _ _ _ (so_far.reads (c.mark_below.ensures.any.earlier honest)) (c.mark_below.ensures.reads honest);
       marked = λ honest sizes cs node count.
           let lt : c.loop-i.i < length cs = omega (arith, c.loop-i-test.true, count) in
-          child_more sizes _ _ _ _ cs _ c.child_at-child.result _ _ _ (same_medium _ _ (so_far.reads (c.mark_below.ensures.any.earlier honest))) lt (c.child_at-child.ensures.child _ cs node lt)
-          (so_far.marked (c.mark_below.ensures.any.earlier honest) sizes cs node count)
-          (λ rs ds. c.in-Ok-mark_below.ensures.marked honest sizes rs ds);
+          child_more sizes _ _ _ _ cs _ c.child_at-child.result _ _ _ (same_medium _ _ (so_far.looks.reads (c.mark_below.ensures.looks.goes.earlier honest))) lt (c.child_at-child.ensures.child _ cs node lt)
+          (so_far.marked (c.mark_below.ensures.looks.goes.earlier honest) sizes cs node count)
+          (λ rs ds. c.in_ok-mark_below.ensures.marked honest sizes rs ds);
       only = λ honest sizes cs node count.
           let lt : c.loop-i.i < length cs = omega (arith, c.loop-i-test.true, count) in
-          child_only_more sizes _ _ _ _ cs _ c.child_at-child.result (same_medium _ _ (so_far.reads (c.mark_below.ensures.any.earlier honest))) lt (c.child_at-child.ensures.child _ cs node lt) _ _ _
-          (so_far.only (c.mark_below.ensures.any.earlier honest) sizes cs node count)
+          child_only_more sizes _ _ _ _ cs _ c.child_at-child.result (same_medium _ _ (so_far.looks.reads (c.mark_below.ensures.looks.goes.earlier honest))) lt (c.child_at-child.ensures.child _ cs node lt) _ _ _
+          (so_far.only (c.mark_below.ensures.looks.goes.earlier honest) sizes cs node count)
           (λ rs ds. c.mark_below.ensures.only honest sizes rs ds);
     }
 
-pub returns-after-loop-i-clause-marked : goal.returns-after-loop-i-clause-marked
-returns-after-loop-i-clause-marked g t c honest sizes rs bs tree closed =
+pub returns-clause-marked : goal.returns-clause-marked
+returns-clause-marked g t c honest sizes rs bs tree closed =
     let inside = subtree_top sizes _ _ _ _ rs bs tree in
-    let form = c.in-Ok.ensures.form in
-    let start = node_start sizes _ _ _ _ rs bs form.0 (omega (arith, c.if-level-eq0.false)) tree (λ ds at. same_children _ _ _ form.0 ds (c.in-Ok.ensures.found (c.loop-i.invariant.since honest)) form.1 at.node) in
+    let form = c.in_ok-count.ensures.form in
+    let start = node_start sizes _ _ _ _ rs bs form.0 (omega (arith, c.if-level-eq0.false)) tree (λ ds at. same_children _ _ _ form.0 ds (c.in_ok-count.ensures.found (c.loop-i.invariant.since honest)) form.1 at.node) in
     node_marked sizes _ _ _ _ _ bs _ _ _ _ (omega (arith, inside.1, c.requires.bits)) c.set.ensures (omega (arith, c.if-level-eq0.false)) (omega (arith, c.loop-i-test.false, form.2)) start closed
     (c.loop-i.invariant.marked honest sizes form.0 form.1 form.2)
 
-pub returns-in-Err-clause-marked : goal.returns-in-Err-clause-marked
-returns-in-Err-clause-marked g t c honest sizes rs bs tree closed =
+pub returns-in_err-count-clause-marked : goal.returns-in_err-count-clause-marked
+returns-in_err-count-clause-marked g t c honest sizes rs bs tree closed =
     let at = node_read sizes _ _ _ _ rs bs (omega (arith, c.if-level-eq0.false)) tree in
-    c.in-Err.ensures.only honest at.0 at.1
-
-pub returns-in-Err-mark_below-clause-reads : goal.returns-in-Err-mark_below-clause-reads
-returns-in-Err-mark_below-clause-reads g t c honest =
-    let so_far = c.loop-i.invariant in
-    reads_then _ _ _ (so_far.reads (c.mark_below.ensures.any.earlier honest)) (c.mark_below.ensures.reads honest)
+    rw (passed_on _ c.from_residual.ensures.1) (c.in_err-count.ensures.only honest at.0 at.1)
 
 pub returns-then-not-is_data-clause-sound : goal.returns-then-not-is_data-clause-sound
 returns-then-not-is_data-clause-sound g t c honest sizes rs bs tree =
     absurd (false≢true (sym c.if-not-is_data.true ∙ c.is_data.ensures.1 (subtree_top sizes _ _ _ _ rs bs tree)))
 
-pub returns-in-Err-clause-sound : goal.returns-in-Err-clause-sound
-returns-in-Err-clause-sound g t c honest sizes rs bs tree =
+pub returns-in_err-count-clause-sound : goal.returns-in_err-count-clause-sound
+returns-in_err-count-clause-sound g t c honest sizes rs bs tree =
     let at = node_read sizes _ _ _ _ rs bs (omega (arith, c.if-level-eq0.false)) tree in
-    c.in-Err.ensures.only honest at.0 at.1
+    rw (passed_on _ c.from_residual.ensures.1) (c.in_err-count.ensures.only honest at.0 at.1)
 
-pub returns-in-Err-mark_below-clause-sound : goal.returns-in-Err-mark_below-clause-sound
-returns-in-Err-mark_below-clause-sound g t c honest sizes rs bs tree =
+pub returns-in_err-mark_below-clause-sound : goal.returns-in_err-mark_below-clause-sound
+returns-in_err-mark_below-clause-sound g t c honest sizes rs bs tree =
     let so_far = c.loop-i.invariant in
-    let form = c.in-Ok.ensures.form in
-    let start = node_start sizes _ _ _ _ rs bs form.0 (omega (arith, c.if-level-eq0.false)) tree (λ ds at. same_children _ _ _ form.0 ds (c.in-Ok.ensures.found (so_far.since (c.in-Err-mark_below.ensures.any.earlier honest))) form.1 at.node) in
+    let form = c.in_ok-count.ensures.form in
+    let start = node_start sizes _ _ _ _ rs bs form.0 (omega (arith, c.if-level-eq0.false)) tree (λ ds at. same_children _ _ _ form.0 ds (c.in_ok-count.ensures.found (so_far.since (c.in_err-mark_below.ensures.looks.goes.earlier honest))) form.1 at.node) in
     let lt : c.loop-i.i < length form.0 = omega (arith, c.loop-i-test.true, form.2) in
     let is = c.child_at-child.ensures.child _ form.0 form.1 lt in
-    child_sound sizes _ _ _ _ form.0 _ c.child_at-child.result (same_medium _ _ (so_far.reads (c.in-Err-mark_below.ensures.any.earlier honest))) lt is _ _ start.joined (λ qs ds. c.in-Err-mark_below.ensures.sound honest sizes qs ds)
+    rw (passed_on _ c.from_residual-in_err-mark_below.ensures.1) (child_sound sizes _ _ _ _ form.0 _ c.child_at-child.result (same_medium _ _ (so_far.looks.reads (c.in_err-mark_below.ensures.looks.goes.earlier honest))) lt is _ _ start.joined (λ qs ds. c.in_err-mark_below.ensures.sound honest sizes qs ds))
 
 pub returns-then-level-eq0-clause-only : goal.returns-then-level-eq0-clause-only
 returns-then-level-eq0-clause-only g t c honest sizes rs bs tree = only_set _ bs _ _ c.set.ensures (top_within sizes _ _ _ _ rs bs tree)
 
-pub returns-in-Err-clause-only : goal.returns-in-Err-clause-only
-returns-in-Err-clause-only g t c honest sizes rs bs tree = only_set _ bs _ _ c.set.ensures (top_within sizes _ _ _ _ rs bs tree)
+pub returns-in_err-count-clause-only : goal.returns-in_err-count-clause-only
+returns-in_err-count-clause-only g t c honest sizes rs bs tree = only_set _ bs _ _ c.set.ensures (top_within sizes _ _ _ _ rs bs tree)
 
-pub returns-in-Err-mark_below-clause-only : goal.returns-in-Err-mark_below-clause-only
-returns-in-Err-mark_below-clause-only g t c honest sizes rs bs tree =
+pub returns-in_err-mark_below-clause-only : goal.returns-in_err-mark_below-clause-only
+returns-in_err-mark_below-clause-only g t c honest sizes rs bs tree =
     let so_far = c.loop-i.invariant in
-    let form = c.in-Ok.ensures.form in
-    let start = node_start sizes _ _ _ _ rs bs form.0 (omega (arith, c.if-level-eq0.false)) tree (λ ds at. same_children _ _ _ form.0 ds (c.in-Ok.ensures.found (so_far.since (c.in-Err-mark_below.ensures.any.earlier honest))) form.1 at.node) in
+    let form = c.in_ok-count.ensures.form in
+    let start = node_start sizes _ _ _ _ rs bs form.0 (omega (arith, c.if-level-eq0.false)) tree (λ ds at. same_children _ _ _ form.0 ds (c.in_ok-count.ensures.found (so_far.since (c.in_err-mark_below.ensures.looks.goes.earlier honest))) form.1 at.node) in
     let lt : c.loop-i.i < length form.0 = omega (arith, c.loop-i-test.true, form.2) in
     let is = c.child_at-child.ensures.child _ form.0 form.1 lt in
     only_top _ start.under bs _ _ _ c.set.ensures start.first
-    (child_only_fault sizes _ _ _ _ form.0 _ c.child_at-child.result (same_medium _ _ (so_far.reads (c.in-Err-mark_below.ensures.any.earlier honest))) lt is _ _ _ (so_far.only (c.in-Err-mark_below.ensures.any.earlier honest) sizes form.0 form.1 form.2)
-    (λ qs ds. c.in-Err-mark_below.ensures.only honest sizes qs ds) start.under start.joined)
+    (child_only_fault sizes _ _ _ _ form.0 _ c.child_at-child.result (same_medium _ _ (so_far.looks.reads (c.in_err-mark_below.ensures.looks.goes.earlier honest))) lt is _ _ _ (so_far.only (c.in_err-mark_below.ensures.looks.goes.earlier honest) sizes form.0 form.1 form.2)
+    (λ qs ds. c.in_err-mark_below.ensures.only honest sizes qs ds) start.under start.joined)
 
-pub returns-after-loop-i-clause-only : goal.returns-after-loop-i-clause-only
-returns-after-loop-i-clause-only g t c honest sizes rs bs tree =
-    let form = c.in-Ok.ensures.form in
-    let start = node_start sizes _ _ _ _ rs bs form.0 (omega (arith, c.if-level-eq0.false)) tree (λ ds at. same_children _ _ _ form.0 ds (c.in-Ok.ensures.found (c.loop-i.invariant.since honest)) form.1 at.node) in
+pub returns-clause-only : goal.returns-clause-only
+returns-clause-only g t c honest sizes rs bs tree =
+    let form = c.in_ok-count.ensures.form in
+    let start = node_start sizes _ _ _ _ rs bs form.0 (omega (arith, c.if-level-eq0.false)) tree (λ ds at. same_children _ _ _ form.0 ds (c.in_ok-count.ensures.found (c.loop-i.invariant.since honest)) form.1 at.node) in
     only_top _ start.under bs _ _ _ c.set.ensures start.first (only_all (IsBelow sizes _ _ _) form.0 _ start.under _ _ (omega (arith, c.loop-i-test.false, form.2)) (c.loop-i.invariant.only honest sizes form.0 form.1 form.2) start.joined)
+
+pub returns-in_err-mark_below-clause-looks : goal.returns-in_err-mark_below-clause-looks
+returns-in_err-mark_below-clause-looks g t c = looks_on c.loop-i.invariant.looks c.mark_below.ensures.looks (search rules)

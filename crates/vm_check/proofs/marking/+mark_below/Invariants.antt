@@ -1,9 +1,9 @@
-use Rattle.std.proofs.Common.{◌≡◌, ◌+◌, ◌-◌, ◌≤◌, true, List, length}
-use Rattle.vm_disk.specs.Moments.{OnlyReads}
+use Rattle.std.proofs.Common.{Ok, ◌≡◌, ◌+◌, ◌-◌, ◌≤◌, true, List, length}
 use Rattle.vm_alloc.specs.Held.{HoldsMore}
 use Rattle.vm_block.specs.Node.{IsNode}
 use Rattle.vm_block.specs.Tree.{Sizes}
 use Rattle.vm_block.specs.declared.node.Child.{Child}
+use Rattle.vm_tree.specs.Calls.{OnlyLooks}
 use Rattle.vm_check.specs.Marking.{unmarked}
 use Rattle.vm_check.proofs.MarkLemmas.{IsBelow, MarkedSoFar}
 use Rattle.vm_check.proofs.OnlyLemmas.{OnlySoFar}
@@ -16,14 +16,11 @@ abbrev pub invariant-loop-i : goal.invariant-loop-i
 invariant-loop-i g l =
     let old = g.D.Disk.state l.fn.disk in
     let now = g.D.Disk.state l.disk in record {
-      blocks : now.blocks ≡ old.blocks;
-      earlier : now.honest ≡ true → old.honest ≡ true;
+      looks : OnlyLooks {T = Unit {0}} (Ok tt) old now;
       since : now.honest ≡ true → (g.D.Disk.state l.initial.disk).honest ≡ true;
-      rising : old.failures ≤ now.failures;
       many : length l.marks ≡ l.blocks;
       once : now.reads + unmarked l.marks ≤ old.reads + unmarked l.fn.marks;
       growing : HoldsMore l.fn.marks l.marks;
-      reads : now.honest ≡ true → OnlyReads old now;
       marked : now.honest ≡ true → (sizes : Sizes) (cs : List Child) → IsNode l.bytes l.level cs → length cs ≡ l.count → MarkedSoFar sizes l.blocks (l.level - 1) old.now.contents cs l.i l.initial.marks l.marks;
       only : now.honest ≡ true → (sizes : Sizes) (cs : List Child) → IsNode l.bytes l.level cs → length cs ≡ l.count → OnlySoFar (IsBelow sizes old.now.contents l.blocks (l.level - 1)) cs l.i l.initial.marks l.marks;
     }

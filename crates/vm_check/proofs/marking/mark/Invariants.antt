@@ -1,7 +1,7 @@
-use Rattle.std.proofs.Common.{◌≡◌, ◌+◌, ◌≤◌, true, length}
-use Rattle.vm_disk.specs.Moments.{OnlyReads}
+use Rattle.std.proofs.Common.{Ok, ◌≡◌, ◌+◌, ◌≤◌, true, length}
 use Rattle.vm_alloc.specs.Held.{HoldsMore}
 use Rattle.vm_block.specs.Tree.{Sizes}
+use Rattle.vm_tree.specs.Calls.{OnlyLooks}
 use Rattle.vm_check.specs.Marking.{IsUnder, unmarked}
 use Rattle.vm_check.proofs.RootLemmas.{RootsSoFar}
 use Rattle.vm_check.proofs.OnlyLemmas.{OnlySoFar}
@@ -11,13 +11,10 @@ abbrev pub invariant-loop-root : goal.invariant-loop-root
 invariant-loop-root g l =
     let old = g.D.Disk.state l.fn.disk in
     let now = g.D.Disk.state l.disk in record {
-      blocks : now.blocks ≡ old.blocks;
-      earlier : now.honest ≡ true → old.honest ≡ true;
-      rising : old.failures ≤ now.failures;
+      looks : OnlyLooks {T = Unit {0}} (Ok tt) old now;
       many : length l.marks ≡ l.blocks;
       once : now.reads + unmarked l.marks ≤ old.reads + unmarked l.fn.marks;
       growing : HoldsMore l.fn.marks l.marks;
-      reads : now.honest ≡ true → OnlyReads old now;
       marked : now.honest ≡ true → (sizes : Sizes) → RootsSoFar sizes l.blocks old.now.contents l.roots l.root-index l.fn.marks l.marks;
       only : now.honest ≡ true → (sizes : Sizes) → OnlySoFar (IsUnder sizes old.now.contents l.blocks) l.roots l.root-index l.fn.marks l.marks;
     }

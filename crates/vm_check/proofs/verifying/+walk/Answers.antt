@@ -1,8 +1,9 @@
-use Rattle.std.proofs.Common.{◌<◌, refl, sym, ap, ◌∙◌, arith, length}
+use Rattle.std.proofs.Common.{◌<◌, refl, sym, ap, ◌∙◌, arith, length, rules}
 use Rattle.std.proofs.Math.ListN.{length-set}
 use Rattle.std.proofs.lemmas.Bool.{false≢true}
-use Rattle.vm_disk.proofs.MomentLemmas.{started, reads_then, same_medium}
+use Rattle.vm_disk.proofs.MomentLemmas.{same_medium}
 use Rattle.vm_tree.proofs.Descent.{subtree_top}
+use Rattle.vm_tree.proofs.Looking.{looks_none, looks_on, passed_on}
 use Rattle.vm_check.specs.Visiting.{span_at, met_of}
 use Rattle.vm_check.specs.declared.verifying.Span.{Span}
 use Rattle.vm_block.specs.declared.node.Child.{Child}
@@ -30,16 +31,16 @@ pub visit-returns-else-count-clause-once : goal.visit-returns-else-count-clause-
 visit-returns-else-count-clause-once g t c =
     omega (arith, c.form_at.ensures.once.one (c.is_data.ensures.0 c.if-not-is_data.false), set_less _ _ _ _ c.set.ensures c.requires.bits (c.is_data.ensures.0 c.if-not-is_data.false) (λ is. false≢true (sym c.if-is_set.false ∙ c.is_set.ensures.1 is)))
 
-pub visit-returns-in-Err-clause-once : goal.visit-returns-in-Err-clause-once
-visit-returns-in-Err-clause-once g t c =
+pub visit-returns-in_err-form-clause-once : goal.visit-returns-in_err-form-clause-once
+visit-returns-in_err-form-clause-once g t c =
     omega (arith, c.form_at.ensures.once.one (c.is_data.ensures.0 c.if-not-is_data.false), set_less _ _ _ _ c.set.ensures c.requires.bits (c.is_data.ensures.0 c.if-not-is_data.false) (λ is. false≢true (sym c.if-is_set.false ∙ c.is_set.ensures.1 is)))
 
-pub visit-returns-in-Ok-clause-once : goal.visit-returns-in-Ok-clause-once
-visit-returns-in-Ok-clause-once g t c =
+pub visit-returns-in_ok-high-in-Node-clause-once : goal.visit-returns-in_ok-high-in-Node-clause-once
+visit-returns-in_ok-high-in-Node-clause-once g t c =
     omega (arith, c.visit_children.ensures.once, c.form_at.ensures.once.one (c.is_data.ensures.0 c.if-not-is_data.false), set_less _ _ _ _ c.set.ensures c.requires.bits (c.is_data.ensures.0 c.if-not-is_data.false) (λ is. false≢true (sym c.if-is_set.false ∙ c.is_set.ensures.1 is)))
 
-pub visit-returns-in-Err-visit_children-clause-once : goal.visit-returns-in-Err-visit_children-clause-once
-visit-returns-in-Err-visit_children-clause-once g t c =
+pub visit-returns-in_err-high-in-Node-clause-once : goal.visit-returns-in_err-high-in-Node-clause-once
+visit-returns-in_err-high-in-Node-clause-once g t c =
     omega (arith, c.visit_children.ensures.once, c.form_at.ensures.once.one (c.is_data.ensures.0 c.if-not-is_data.false), set_less _ _ _ _ c.set.ensures c.requires.bits (c.is_data.ensures.0 c.if-not-is_data.false) (λ is. false≢true (sym c.if-is_set.false ∙ c.is_set.ensures.1 is)))
 
 pub visit-returns-then-not-is_data-clause-only : goal.visit-returns-then-not-is_data-clause-only
@@ -56,8 +57,8 @@ visit-returns-then-span-least-clause-only g t c honest levels l rs bs known leas
 
 pub visit-returns-then-least-gt0-clause-only : goal.visit-returns-then-least-gt0-clause-only
 visit-returns-then-least-gt0-clause-only g t c honest levels l rs bs known least most tree rises =
-    let form = rw c.in-Ok-Leaf.field-0-is at c.in-Ok-Leaf.ensures.form in
-    let top = leaf_top _ _ _ l _ form.0 rs bs (leaf_as _ _ form.0 (c.in-Ok-Leaf.ensures.found honest) form.1) tree in
+    let form = rw c.in-Leaf.is at c.in_ok-form.ensures.form in
+    let top = leaf_top _ _ _ l _ form.0 rs bs (leaf_as _ _ form.0 (c.in_ok-form.ensures.found honest) form.1) tree in
     elim c.then-least-gt0.branch [
       | visit-then-least-gt0-via-then-least-gt0 w ↦ absurd (omega (arith, top.level, w.if-least-gt0.true, least))
       | visit-then-least-gt0-via-else-least-gt0+then-count w ↦ absurd (omega (arith, top.few, w.if-count.true, form.2))
@@ -65,8 +66,8 @@ visit-returns-then-least-gt0-clause-only g t c honest levels l rs bs known least
 
 pub visit-returns-then-level-least-clause-only : goal.visit-returns-then-level-least-clause-only
 visit-returns-then-level-least-clause-only g t c honest levels l rs bs known least most tree rises =
-    let form = rw c.in-Ok-Node.field-0-is at c.in-Ok-Node.ensures.form in
-    let top = node_top _ _ _ l _ _ form.0 rs bs (node_as _ _ _ form.0 (c.in-Ok-Node.ensures.found honest) form.1) tree in
+    let form = rw c.in-Node.is at c.in_ok-form.ensures.form in
+    let top = node_top _ _ _ l _ _ form.0 rs bs (node_as _ _ _ form.0 (c.in_ok-form.ensures.found honest) form.1) tree in
     elim c.then-level-least.branch [
       | visit-then-level-least-via-then-level-least w ↦ absurd (omega (arith, top.same_level, w.if-level-least.true, least))
       | visit-then-level-least-via-else-level-least+then-level-most w ↦ absurd (omega (arith, top.same_level, w.if-level-most.true, most))
@@ -76,92 +77,76 @@ visit-returns-then-level-least-clause-only g t c honest levels l rs bs known lea
 pub visit-returns-else-count-clause-found : goal.visit-returns-else-count-clause-found
 visit-returns-else-count-clause-found g t c honest levels known =
     let inside = c.is_data.ensures.0 c.if-not-is_data.false in
-    let form = rw c.in-Ok-Leaf.field-0-is at c.in-Ok-Leaf.ensures.form in
+    let form = rw c.in-Leaf.is at c.in_ok-form.ensures.form in
     leaf_exit _ _ _ _ _ _ form.0 _ _ _ _ _ c.keep.ensures c.set.ensures (omega (arith, inside.1, c.requires.bits)) (omega (arith, inside.1, c.requires.room))
     (λ is. false≢true (sym c.if-is_set.false ∙ c.is_set.ensures.1 is)) (omega (arith, c.if-least-gt0.false))
     (record {
       inside = inside;
-      leaf = leaf_as _ _ form.0 (c.in-Ok-Leaf.ensures.found honest) form.1;
+      leaf = leaf_as _ _ form.0 (c.in_ok-form.ensures.found honest) form.1;
       few = omega (arith, c.if-count.false, form.2);
       level = c.leaf_span-span.ensures.level;
       lowest = c.leaf_span-span.ensures.low form.0 form.1;
       highest = c.leaf_span-span.ensures.high form.0 form.1 form.2;
     }) known
 
-pub visit-returns-in-Ok-clause-reads : goal.visit-returns-in-Ok-clause-reads
-visit-returns-in-Ok-clause-reads g t c honest =
-    reads_then _ _ _ (c.form_at.ensures.reads (c.visit_children.ensures.any.earlier honest)) (c.visit_children.ensures.reads honest)
-
-pub visit-returns-in-Err-visit_children-clause-reads : goal.visit-returns-in-Err-visit_children-clause-reads
-visit-returns-in-Err-visit_children-clause-reads g t c honest =
-    reads_then _ _ _ (c.form_at.ensures.reads (c.visit_children.ensures.any.earlier honest)) (c.visit_children.ensures.reads honest)
-
-pub visit-returns-in-Ok-clause-found : goal.visit-returns-in-Ok-clause-found
-visit-returns-in-Ok-clause-found g t c honest levels known =
+pub visit-returns-in_ok-high-in-Node-clause-found : goal.visit-returns-in_ok-high-in-Node-clause-found
+visit-returns-in_ok-high-in-Node-clause-found g t c honest levels known =
     let inside = c.is_data.ensures.0 c.if-not-is_data.false in
-    let form = rw c.in-Ok-Node.field-0-is at c.in-Ok-Node.ensures.form in
-    let first = record (span_at c.args.spans.now c.args.block) { level = c.in-Ok-Node.level } in
+    let form = rw c.in-Node.is at c.in_ok-form.ensures.form in
+    let first = record (span_at c.args.spans.now c.args.block) { level = c.in-Node.level } in
     let lowest : Child = record { low = c.lowest_key-low.result; block = 0 } in
-    node_exit _ _ _ _ _ _ _ form.0 lowest first _ _ _ _ _ _ _ c.keep-in-Ok.ensures (same_medium _ _ (c.form_at.ensures.reads (c.in-Ok.ensures.any.earlier honest)))
+    node_exit _ _ _ _ _ _ _ form.0 lowest first _ _ _ _ _ _ _ c.keep-in-Node.ensures (same_medium _ _ (c.form_at.ensures.looks.reads (c.in_ok-high-in-Node.ensures.looks.goes.earlier honest)))
     (record {
       is = c.set.ensures;
       inside = omega (arith, inside.1, c.requires.bits);
       room = omega (arith, inside.1, c.requires.room);
       fresh = λ is. false≢true (sym c.if-is_set.false ∙ c.is_set.ensures.1 is);
       data_block = inside;
-      node = node_as _ _ _ form.0 (c.in-Ok-Node.ensures.found (c.in-Ok.ensures.any.earlier honest)) form.1;
+      node = node_as _ _ _ form.0 (c.in_ok-form.ensures.found (c.in_ok-high-in-Node.ensures.looks.goes.earlier honest)) form.1;
       few = omega (arith, c.if-count-2.false, form.2);
       at_least = c.if-level-least.false;
       at_most = c.if-level-most.false;
     })
-    (c.visit_children.auto.spans ∙ length-set c.args.spans.now c.args.block (met_of first)) refl (lowest_first _ form.0 lowest (c.lowest_key-low.ensures.node _ form.0 form.1)) (λ here. c.in-Ok.ensures.found honest levels _ form.0 form.1 form.2 here) known
+    (c.visit_children.auto.spans ∙ length-set c.args.spans.now c.args.block (met_of first)) refl (lowest_first _ form.0 lowest (c.lowest_key-low.ensures.node _ form.0 form.1)) (λ here. c.in_ok-high-in-Node.ensures.found honest levels _ form.0 form.1 form.2 here) known
 
-pub visit-returns-in-Err-visit_children-clause-only : goal.visit-returns-in-Err-visit_children-clause-only
-visit-returns-in-Err-visit_children-clause-only g t c honest levels l rs bs known least most tree rises =
+pub visit-returns-in_err-high-in-Node-clause-only : goal.visit-returns-in_err-high-in-Node-clause-only
+visit-returns-in_err-high-in-Node-clause-only g t c honest levels l rs bs known least most tree rises =
     let inside = c.is_data.ensures.0 c.if-not-is_data.false in
-    let form = rw c.in-Ok-Node.field-0-is at c.in-Ok-Node.ensures.form in
-    let first = record (span_at c.args.spans.now c.args.block) { level = c.in-Ok-Node.level } in
-    node_fault _ _ _ _ _ _ _ l form.0 first _ _ _ rs bs _ (same_medium _ _ (c.form_at.ensures.reads (c.in-Err-visit_children.ensures.any.earlier honest)))
+    let form = rw c.in-Node.is at c.in_ok-form.ensures.form in
+    let first = record (span_at c.args.spans.now c.args.block) { level = c.in-Node.level } in
+    rw (passed_on _ c.from_residual-in_err-high-in-Node.ensures.1) (node_fault _ _ _ _ _ _ _ l form.0 first _ _ _ rs bs _ (same_medium _ _ (c.form_at.ensures.looks.reads (c.in_err-high-in-Node.ensures.looks.goes.earlier honest)))
     (record {
       is = c.set.ensures;
       inside = omega (arith, inside.1, c.requires.bits);
       room = omega (arith, inside.1, c.requires.room);
       fresh = λ is. false≢true (sym c.if-is_set.false ∙ c.is_set.ensures.1 is);
       data_block = inside;
-      node = node_as _ _ _ form.0 (c.in-Ok-Node.ensures.found (c.in-Err-visit_children.ensures.any.earlier honest)) form.1;
+      node = node_as _ _ _ form.0 (c.in_ok-form.ensures.found (c.in_err-high-in-Node.ensures.looks.goes.earlier honest)) form.1;
       few = omega (arith, c.if-count-2.false, form.2);
       at_least = c.if-level-least.false;
       at_most = c.if-level-most.false;
     })
-    known tree (λ ds here under. c.in-Err-visit_children.ensures.only honest levels _ form.0 rs ds form.1 form.2 here under rises)
+    known tree (λ ds here under. c.in_err-high-in-Node.ensures.only honest levels _ form.0 rs ds form.1 form.2 here under rises))
 
-pub visit-returns-in-Err-clause-only : goal.visit-returns-in-Err-clause-only
-visit-returns-in-Err-clause-only g t c honest levels l rs bs known least most tree rises =
-    top_form _ _ _ l _ rs bs _ tree (λ qs leaf. c.in-Err.ensures.leaf honest qs leaf) (λ level cs node. c.in-Err.ensures.node honest level cs node)
+pub visit-returns-in_err-form-clause-only : goal.visit-returns-in_err-form-clause-only
+visit-returns-in_err-form-clause-only g t c honest levels l rs bs known least most tree rises =
+    rw (passed_on _ c.from_residual.ensures.1) (top_form _ _ _ l _ rs bs _ tree (λ qs leaf. c.in_err-form.ensures.leaf honest qs leaf) (λ level cs node. c.in_err-form.ensures.node honest level cs node))
 
-pub visit_children-returns-in-Err-clause-reads : goal.visit_children-returns-in-Err-clause-reads
-visit_children-returns-in-Err-clause-reads g t c honest =
-    let so_far = c.loop-i.invariant in reads_then _ _ _ (so_far.reads (c.visit.ensures.any.earlier honest)) (c.visit.ensures.reads honest)
-
-pub visit_children-returns-then-ne-clause-reads : goal.visit_children-returns-then-ne-clause-reads
-visit_children-returns-then-ne-clause-reads g t c honest =
-    let so_far = c.loop-i.invariant in reads_then _ _ _ (so_far.reads (c.visit.ensures.any.earlier honest)) (c.visit.ensures.reads honest)
-
-pub visit_children-returns-in-Err-clause-only : goal.visit_children-returns-in-Err-clause-only
-visit_children-returns-in-Err-clause-only g t c honest levels above cs rs bs node count known under rises =
+pub visit_children-returns-in_err-span-clause-only : goal.visit_children-returns-in_err-span-clause-only
+visit_children-returns-in_err-span-clause-only g t c honest levels above cs rs bs node count known under rises =
     let so_far = c.loop-i.invariant in
     let lt : c.loop-i.i < length cs = omega (arith, c.loop-i-test.true, count) in
-    child_fault _ _ _ _ _ _ cs c.child_at-child.result rs bs _ _ _ _ _ _ (same_medium _ _ (so_far.reads (c.in-Err.ensures.any.earlier honest))) lt (c.child_at-child.ensures.child above cs node lt)
-    (so_far.found (c.in-Err.ensures.any.earlier honest) levels above cs node count known) under rises
-    (λ qs ds here sub up. c.in-Err.ensures.only honest levels _ qs ds here (omega arith) (omega arith) sub up)
+    rw (passed_on _ c.from_residual.ensures.1) (child_fault _ _ _ _ _ _ cs c.child_at-child.result rs bs _ _ _ _ _ _ (same_medium _ _ (so_far.looks.reads (c.in_err-span.ensures.looks.goes.earlier honest))) lt (c.child_at-child.ensures.child above cs node lt)
+    (so_far.found (c.in_err-span.ensures.looks.goes.earlier honest) levels above cs node count known) under rises
+    (λ qs ds here sub up. c.in_err-span.ensures.only honest levels _ qs ds here (omega arith) (omega arith) sub up))
 
 pub visit_children-returns-then-ne-clause-only : goal.visit_children-returns-then-ne-clause-only
 visit_children-returns-then-ne-clause-only g t c honest levels above cs rs bs node count known under rises =
     let so_far = c.loop-i.invariant in
     let lt : c.loop-i.i < length cs = omega (arith, c.loop-i-test.true, count) in
-    let fits = child_fits _ _ _ _ _ _ cs c.child_at-child.result rs bs _ _ _ _ _ _ _ _ (same_medium _ _ (so_far.reads (c.in-Ok.ensures.any.earlier honest))) lt (c.child_at-child.ensures.child above cs node lt)
-    (so_far.found (c.in-Ok.ensures.any.earlier honest) levels above cs node count known) under rises
-    (λ here. c.in-Ok.ensures.found honest levels here) in
+    let fits = child_fits _ _ _ _ _ _ cs c.child_at-child.result rs bs _ _ _ _ _ _ _ _ (same_medium _ _ (so_far.looks.reads (c.in_ok-span.ensures.looks.goes.earlier honest))) lt (c.child_at-child.ensures.child above cs node lt)
+    (so_far.found (c.in_ok-span.ensures.looks.goes.earlier honest) levels above cs node count known) under rises
+    (λ here. c.in_ok-span.ensures.found honest levels here) in
     elim c.then-ne.branch [
       | visit_children-then-ne-via-then-ne w ↦ absurd (keys_differ _ _ _ c.ne.ensures w.if-ne.true fits.low)
       | visit_children-then-ne-via-else-ne+then-not-is_below_next w ↦ absurd (false≢true (sym w.if-not-is_below_next.true ∙ (w.is_below_next.ensures above cs node count).1 fits.below))
@@ -169,13 +154,10 @@ visit_children-returns-then-ne-clause-only g t c honest levels above cs rs bs no
 
 pub visit_children-loop-i-init : goal.visit_children-loop-i-init
 visit_children-loop-i-init g t c = record {
-  same_blocks = refl;
-  earlier = λ honest. honest;
-  rising = omega arith;
+  looks = looks_none _ (λ is. cc);
   many = c.requires.bits;
   once = refl;
   growing = holds_same _;
-  reads = λ honest. started _ _ refl;
   found = λ honest levels above cs node count known. children_none _ _ _ _ _ _ _ known;
   below = λ above cs node count some more. absurd (omega (arith, some));
 }
@@ -183,24 +165,32 @@ visit_children-loop-i-init g t c = record {
 pub visit_children-loop-i-preserved : goal.visit_children-loop-i-preserved
 visit_children-loop-i-preserved g t c =
     let so_far = c.loop-i.invariant in
-    let any = c.visit.ensures.any in
     let grows = c.visit.ensures.growing in
     record {
-      same_blocks = any.same_blocks ∙ so_far.same_blocks;
-      earlier = λ honest. so_far.earlier (any.earlier honest);
-      rising = omega (arith, any.rising, so_far.rising);
+      looks = looks_on so_far.looks c.in_ok-span.ensures.looks (λ is. cc);
       many = grows.same_length ∙ so_far.many;
       once = omega (arith, c.visit.ensures.once, so_far.once);
       growing = holds_more_then _ _ _ so_far.growing grows;
-      reads = λ honest. reads_then _ _ _ (so_far.reads (c.in-Ok.ensures.any.earlier honest)) (c.visit.ensures.reads honest);
       found = λ honest levels above cs node count known.
           let lt : c.loop-i.i < length cs = omega (arith, c.loop-i-test.true, count) in
-          child_step _ _ _ _ _ _ cs c.child_at-child.result _ _ _ _ _ _ _ _ (same_medium _ _ (so_far.reads (c.in-Ok.ensures.any.earlier honest))) lt (c.child_at-child.ensures.child above cs node lt)
-          (keys_same _ _ _ c.ne.ensures c.if-ne.false) (so_far.below above cs node count) (so_far.found (c.in-Ok.ensures.any.earlier honest) levels above cs node count known)
-          (λ here. c.in-Ok.ensures.found honest levels here);
+          child_step _ _ _ _ _ _ cs c.child_at-child.result _ _ _ _ _ _ _ _ (same_medium _ _ (so_far.looks.reads (c.in_ok-span.ensures.looks.goes.earlier honest))) lt (c.child_at-child.ensures.child above cs node lt)
+          (keys_same _ _ _ c.ne.ensures c.if-ne.false) (so_far.below above cs node count) (so_far.found (c.in_ok-span.ensures.looks.goes.earlier honest) levels above cs node count known)
+          (λ here. c.in_ok-span.ensures.found honest levels here);
       below = λ above cs node count some more. (c.is_below_next.ensures above cs node count).0 c.if-not-is_below_next.false more;
     }
 
 pub visit_children-returns-clause-found : goal.visit_children-returns-clause-found
 visit_children-returns-clause-found g t c honest levels above cs node count known =
     children_done _ _ _ _ _ cs _ _ _ _ _ (omega (arith, c.loop-i-test.false, count)) (c.loop-i.invariant.found honest levels above cs node count known)
+
+pub visit-returns-in_ok-high-in-Node-clause-looks : goal.visit-returns-in_ok-high-in-Node-clause-looks
+visit-returns-in_ok-high-in-Node-clause-looks g t c = looks_on c.in_ok-form.ensures.looks c.in_ok-high-in-Node.ensures.looks (λ is. cc)
+
+pub visit-returns-in_err-high-in-Node-clause-looks : goal.visit-returns-in_err-high-in-Node-clause-looks
+visit-returns-in_err-high-in-Node-clause-looks g t c = looks_on c.in_ok-form.ensures.looks c.in_err-high-in-Node.ensures.looks (search rules)
+
+pub visit_children-returns-in_err-span-clause-looks : goal.visit_children-returns-in_err-span-clause-looks
+visit_children-returns-in_err-span-clause-looks g t c = looks_on c.loop-i.invariant.looks c.in_err-span.ensures.looks (search rules)
+
+pub visit_children-returns-then-ne-clause-looks : goal.visit_children-returns-then-ne-clause-looks
+visit_children-returns-then-ne-clause-looks g t c = looks_on c.loop-i.invariant.looks c.in_ok-span.ensures.looks (λ is. cc)

@@ -1,4 +1,4 @@
-use Rattle.std.proofs.Common.{◌≡◌, ◌∙◌, ◌+◌, ◌≤◌, ◌<◌, Err, IfOk, true, length, ap, sym, subst, refl, inl, inr, arith}
+use Rattle.std.proofs.Common.{◌≡◌, ◌∙◌, ◌+◌, ◌≤◌, ◌<◌, Err, IfOk, true, length, ap, sym, subst, refl, inl, inr, arith, rules}
 use Rattle.std.specs.List.{AllByRecursion}
 use Rattle.std.proofs.lemmas.Bool.{false≢true, ltb-false, ltb-true}
 use Rattle.vm_types.specs.Map.{Map, with_value}
@@ -8,11 +8,11 @@ use Rattle.vm_tree.specs.Answers.{LacksRoom}
 use Rattle.vm_tree.specs.Making.{Splits, is_split}
 use Rattle.vm_tree.specs.declared.root.Root.{Root}
 use Rattle.vm_tree.specs.Root.{Grown, sizes_of}
+use Rattle.vm_tree.proofs.Looking.{looks_as, passed_on, writes_on}
 use Rattle.vm_tree.proofs.Descent.{subtree_top}
 use Rattle.vm_tree.proofs.PutLemmas.{not_split}
 use Rattle.vm_tree.proofs.RootRemoval.{value_there}
 use Rattle.vm_tree.proofs.RootLemmas.{splits_lacks, root_one, root_two, fault_puts, first_puts}
-use Rattle.vm_tree.proofs.Sparing.{spares_then}
 use Rattle.vm_tree.proofs.Leading.{if_ok_is}
 use Rattle.vm_tree.proofs.putting.put.Goals as goal
 
@@ -27,50 +27,42 @@ returns-then-root-eq0-clause-put g c honest m bs (inl bare) =
 returns-then-root-eq0-clause-put g c honest m bs (inr top) =
     let inside = subtree_top _ _ _ _ _ m bs top.subtree in absurd (omega (arith, c.if-root-eq0.true, inside.0))
 
-pub returns-in-Ok-One-clause-put : goal.returns-in-Ok-One-clause-put
-returns-in-Ok-One-clause-put g c honest m bs (inl bare) = absurd (c.if-root-eq0.false bare.none)
-returns-in-Ok-One-clause-put g c honest m bs (inr top) =
+pub returns-in-One-clause-put : goal.returns-in-One-clause-put
+returns-in-One-clause-put g c honest m bs (inl bare) = absurd (c.if-root-eq0.false bare.none)
+returns-in-One-clause-put g c honest m bs (inr top) =
     let sizes = sizes_of g.row.LEAF g.row.FAN g.row.LEVELS in
     let held = IsHeld c.put_below.new.held in
     let after = (g.D.Disk.state c.put_below.new.disk).now.contents in
-    let done = root_one sizes _ (length c.args.held.now) c.args.root m bs c.args.key c.put_below.ensures.fits top held after c.args.value.now c.in-Ok-One.field-0 c.in-Ok-One.top (AllByRecursion (IsHeld c.args.held.now) bs)
-    c.in-Ok-One.field-0-is (c.in-Ok-One.ensures.put honest g.row.LEVELS m bs top.subtree top.lowest top.rising) in
+    let done = root_one sizes _ (length c.args.held.now) c.args.root m bs c.args.key c.put_below.ensures.fits top held after c.args.value.now c.in_ok-copied.copied c.in-One.top (AllByRecursion (IsHeld c.args.held.now) bs)
+    c.in-One.is (c.in_ok-copied.ensures.put g.row.LEVELS honest m bs top.subtree top.lowest top.rising) in
     (λ all. subst (λ (r : Root). Grown sizes held after (length c.args.held.now) r (with_value m c.args.key c.args.value.now)) (sym c.root_at.ensures) (done.0 all), done.1)
 
-pub returns-in-Ok-clause-moments : goal.returns-in-Ok-clause-moments
-returns-in-Ok-clause-moments g c honest =
-    spares_then _ _ _ _ _ c.in-Ok-Two.ensures.still (c.in-Ok-Two.ensures.moments (c.write_node_block.ensures.any.earlier honest)) (c.write_node_block.ensures.moments honest)
-
-pub returns-in-Ok-clause-put : goal.returns-in-Ok-clause-put
-returns-in-Ok-clause-put g c honest m bs (inl bare) = absurd (c.if-root-eq0.false bare.none)
-returns-in-Ok-clause-put g c honest m bs (inr top) =
+pub returns-in_ok-top-in-Two-clause-put : goal.returns-in_ok-top-in-Two-clause-put
+returns-in_ok-top-in-Two-clause-put g c honest m bs (inl bare) = absurd (c.if-root-eq0.false bare.none)
+returns-in_ok-top-in-Two-clause-put g c honest m bs (inr top) =
     let sizes = sizes_of g.row.LEAF g.row.FAN g.row.LEVELS in
     let held = IsHeld c.write_node_block.new.held in
     let after = (g.D.Disk.state c.write_node_block.new.disk).now.contents in
     let level = c.args.root.level in
-    let room = λ (is : is_split c.in-Ok-Two.field-0 ≡ true). let less = ltb-true (c.from-2.result + 1) g.row.LEVELS (c.in-Ok-Two.ensures.split is) in
+    let room = λ (is : is_split c.in_ok-copied.copied ≡ true). let less = ltb-true (c.from-2.result + 1) g.row.LEVELS (c.in_ok-copied.ensures.split is) in
     let low : level + 1 < g.row.LEVELS = omega (arith, less, c.from-2.ensures) in low in
-    let few : level + 1 ≤ 7 = omega (arith, room (ap is_split c.in-Ok-Two.field-0-is), c.requires.sizes.levels_most) in
+    let few : level + 1 ≤ 7 = omega (arith, room (ap is_split c.in-Two.is), c.requires.sizes.levels_most) in
     let done = root_two sizes _ (length c.args.held.now) c.args.root m bs c.args.key c.put_below.ensures.fits top (IsHeld c.put_below.new.held) held (g.D.Disk.state c.put_below.new.disk).now.contents after (length c.put_below.new.held)
-    c.args.value.now c.in-Ok-Two.field-0 c.in-Ok-Two.left c.in-Ok-Two.right c.in-Ok.top (AllByRecursion (IsHeld c.args.held.now) bs)
-    c.in-Ok-Two.field-0-is c.in-Ok-Two.ensures.still.same_length room (c.in-Ok-Two.ensures.put (c.in-Ok.ensures.any.earlier honest) g.row.LEVELS m bs top.subtree top.lowest top.rising)
-    (λ rs rising made. c.in-Ok.ensures.made honest sizes rs (omega arith) few c.requires.sizes.fan_least rising made) in
-    (λ all. subst (λ (r : Root). Grown sizes held after (length c.args.held.now) r (with_value m c.args.key c.args.value.now)) (sym c.root_at-in-Ok.ensures) (done.0 all), done.1)
+    c.args.value.now c.in_ok-copied.copied c.in-Two.left c.in-Two.right c.in_ok-top-in-Two.top (AllByRecursion (IsHeld c.args.held.now) bs)
+    c.in-Two.is c.in_ok-copied.ensures.writes.still.same_length room (c.in_ok-copied.ensures.put g.row.LEVELS (c.in_ok-top-in-Two.ensures.writes.goes.earlier honest) m bs top.subtree top.lowest top.rising)
+    (λ rs rising made. c.in_ok-top-in-Two.ensures.made honest sizes rs (omega arith) few c.requires.sizes.fan_least rising made) in
+    (λ all. subst (λ (r : Root). Grown sizes held after (length c.args.held.now) r (with_value m c.args.key c.args.value.now)) (sym c.root_at-in-Two.ensures) (done.0 all), done.1)
 
-pub returns-in-Err-write_node_block-clause-moments : goal.returns-in-Err-write_node_block-clause-moments
-returns-in-Err-write_node_block-clause-moments g c honest =
-    spares_then _ _ _ _ _ c.in-Ok-Two.ensures.still (c.in-Ok-Two.ensures.moments (c.write_node_block.ensures.any.earlier honest)) (c.write_node_block.ensures.moments honest)
-
-pub returns-in-Err-clause-put : goal.returns-in-Err-clause-put
-returns-in-Err-clause-put g c honest m bs (inl bare) = absurd (c.if-root-eq0.false bare.none)
-returns-in-Err-clause-put g c honest m bs (inr top) =
+pub returns-in_err-copied-clause-put : goal.returns-in_err-copied-clause-put
+returns-in_err-copied-clause-put g c honest m bs (inl bare) = absurd (c.if-root-eq0.false bare.none)
+returns-in_err-copied-clause-put g c honest m bs (inr top) =
     let sizes = sizes_of g.row.LEAF g.row.FAN g.row.LEVELS in
     let x = (g.D.Disk.state c.args.disk.now).now.contents in
-    fault_puts c.in-Err.fault (Splits sizes x (place c.args.key) c.args.root.level c.args.root.block m) (LacksRoom sizes x c.args.root m c.args.key) _ _
-    (c.in-Err.ensures.put honest g.row.LEVELS m bs top.subtree top.lowest top.rising)
+    rw (passed_on _ c.from_residual.ensures.1) (fault_puts _ (Splits sizes x (place c.args.key) c.args.root.level c.args.root.block m) (LacksRoom sizes x c.args.root m c.args.key) _ _
+    (c.in_err-copied.ensures.put g.row.LEVELS honest m bs top.subtree top.lowest top.rising)
     (λ is splits.
-    let none = ltb-false (c.from-2.result + 1) g.row.LEVELS (c.in-Err.ensures.deep (ap Err is)).0 in
-    splits_lacks sizes x _ c.args.root m bs c.args.key c.put_below.ensures.fits top (omega (arith, none, c.from-2.ensures, top.level)) splits)
+    let none = ltb-false (c.from-2.result + 1) g.row.LEVELS (c.in_err-copied.ensures.deep (ap Err is)).0 in
+    splits_lacks sizes x _ c.args.root m bs c.args.key c.put_below.ensures.fits top (omega (arith, none, c.from-2.ensures, top.level)) splits))
 
 pub returns-then-root-eq0-clause-path : goal.returns-then-root-eq0-clause-path
 returns-then-root-eq0-clause-path g c honest = if_ok_is c.put_first.result _ (λ some. absurd (omega (arith, some, c.if-root-eq0.true)))
@@ -78,15 +70,24 @@ returns-then-root-eq0-clause-path g c honest = if_ok_is c.put_first.result _ (λ
 pub returns-then-root-eq0-clause-replaced : goal.returns-then-root-eq0-clause-replaced
 returns-then-root-eq0-clause-replaced g c honest m bs rooted there = if_ok_is c.put_first.result _ (omega (arith, c.put_first.ensures.taken))
 
-pub returns-in-Ok-One-clause-replaced : goal.returns-in-Ok-One-clause-replaced
-returns-in-Ok-One-clause-replaced g c honest m bs (inl bare) there = absurd (c.if-root-eq0.false bare.none)
-returns-in-Ok-One-clause-replaced g c honest m bs (inr top) there =
+pub returns-in-One-clause-replaced : goal.returns-in-One-clause-replaced
+returns-in-One-clause-replaced g c honest m bs (inl bare) there = absurd (c.if-root-eq0.false bare.none)
+returns-in-One-clause-replaced g c honest m bs (inr top) there =
     let value = value_there _ _ _ c.args.root m bs c.args.key (place c.args.key) refl c.put_below.ensures.fits top in
-    c.in-Ok-One.ensures.replaced honest g.row.LEVELS m bs top.subtree top.lowest top.rising (λ none. there (sym value ∙ none))
+    c.in_ok-copied.ensures.replaced g.row.LEVELS honest m bs top.subtree top.lowest top.rising (λ none. there (sym value ∙ none))
 
-pub returns-in-Ok-clause-replaced : goal.returns-in-Ok-clause-replaced
-returns-in-Ok-clause-replaced g c honest m bs (inl bare) there = absurd (c.if-root-eq0.false bare.none)
-returns-in-Ok-clause-replaced g c honest m bs (inr top) there =
+pub returns-in_ok-top-in-Two-clause-replaced : goal.returns-in_ok-top-in-Two-clause-replaced
+returns-in_ok-top-in-Two-clause-replaced g c honest m bs (inl bare) there = absurd (c.if-root-eq0.false bare.none)
+returns-in_ok-top-in-Two-clause-replaced g c honest m bs (inr top) there =
     let value = value_there _ _ _ c.args.root m bs c.args.key (place c.args.key) refl c.put_below.ensures.fits top in
-    let one = not_split c.in-Ok-Two.field-0 _ _ (place c.args.key) c.args.root.level c.args.root.block m (c.in-Ok-Two.ensures.put (c.write_node_block.ensures.any.earlier honest) g.row.LEVELS m bs top.subtree top.lowest top.rising).1.0 (λ none. there (sym value ∙ none)) in
-    absurd (false≢true (sym one ∙ ap is_split c.in-Ok-Two.field-0-is))
+    let one = not_split c.in_ok-copied.copied _ _ (place c.args.key) c.args.root.level c.args.root.block m (c.in_ok-copied.ensures.put g.row.LEVELS (c.write_node_block.ensures.writes.goes.earlier honest) m bs top.subtree top.lowest top.rising).1.0 (λ none. there (sym value ∙ none)) in
+    absurd (false≢true (sym one ∙ ap is_split c.in-Two.is))
+
+pub returns-in_ok-top-in-Two-clause-writes : goal.returns-in_ok-top-in-Two-clause-writes
+returns-in_ok-top-in-Two-clause-writes g c = writes_on c.in_ok-copied.ensures.writes c.in_ok-top-in-Two.ensures.writes (λ is. cc)
+
+pub returns-in_err-top-in-Two-clause-writes : goal.returns-in_err-top-in-Two-clause-writes
+returns-in_err-top-in-Two-clause-writes g c = writes_on c.in_ok-copied.ensures.writes c.in_err-top-in-Two.ensures.writes (search rules)
+
+pub returns-in_err-copied-clause-looks : goal.returns-in_err-copied-clause-looks
+returns-in_err-copied-clause-looks g c b = looks_as (c.in_err-copied.ensures.looks b) (search rules)

@@ -8,26 +8,26 @@ use Rattle.vm_tree.proofs.Growing.{begins_low, lowest_low, leaf_made, node_is, n
 use Rattle.vm_tree.proofs.Sparing.{held_kept}
 use Rattle.vm_tree.proofs.writing.write_bytes.Goals as goal
 
-pub returns-in-Ok-clause-leaf : goal.returns-in-Ok-clause-leaf
-returns-in-Ok-clause-leaf g c honest sizes rs spelled some few leaf rises fit =
-    let taken = c.in-Ok.ensures.device in
-    let n = c.in-Ok.block in
-    let inside : n < length c.args.held.now = omega (arith, taken.inside, c.write_free.ensures.still.same_length) in
+pub returns-clause-leaf : goal.returns-clause-leaf
+returns-clause-leaf g c honest sizes rs spelled some few leaf rises fit =
+    let taken = c.in_ok-block.ensures.device in
+    let n = c.in_ok-block.block in
+    let inside : n < length c.args.held.now = omega (arith, taken.inside, c.write_free.ensures.writes.still.same_length) in
     let d : Record = (c.lowest_key-low.result, []) in
     let key = begins_low rs d c.lowest_key-low.result (c.lowest_key-low.ensures.leaf rs (record { spelled = spelled; some = some; few = few; fit = fit; rising = rises })) in
     subst (λ (k : Key). Made (IsHeld c.write_free.new.held) sizes (g.D.Disk.state c.write_free.new.disk).now.contents (length c.args.held.now) 0 (record { low = k; block = n } ∷ []) rs) key
     (leaf_made (IsHeld c.write_free.new.held) sizes _ _ n rs d some few leaf (taken.above, inside) (omega (arith, inside, c.requires.inside, g.met.D.Disk.small c.args.disk.now)) taken.held_now
-    (c.in-Ok.ensures.written honest ∙ spelled) rises fit)
+    (c.in_ok-block.ensures.written honest ∙ spelled) rises fit)
 
-pub returns-in-Ok-clause-node : goal.returns-in-Ok-clause-node
-returns-in-Ok-clause-node g c honest sizes level cs rs spelled above low some few fan rises made =
-    let taken = c.in-Ok.ensures.device in
-    let n = c.in-Ok.block in
-    let inside : n < length c.args.held.now = omega (arith, taken.inside, c.write_free.ensures.still.same_length) in
+pub returns-clause-node : goal.returns-clause-node
+returns-clause-node g c honest sizes level cs rs spelled above low some few fan rises made =
+    let taken = c.in_ok-block.ensures.device in
+    let n = c.in_ok-block.block in
+    let inside : n < length c.args.held.now = omega (arith, taken.inside, c.write_free.ensures.writes.still.same_length) in
     let d : Child = record { low = c.lowest_key-low.result; block = n } in
     let node = node_is (IsHeld c.args.held.now) sizes _ _ level _ cs rs spelled above low some few rises made in
     let key = lowest_low cs d c.lowest_key-low.result (c.lowest_key-low.ensures.node level cs node) in
     subst (λ (k : Key). Made (IsHeld c.write_free.new.held) sizes (g.D.Disk.state c.write_free.new.disk).now.contents (length c.args.held.now) level (record { low = k; block = n } ∷ []) rs) key
-    (node_made (IsHeld c.args.held.now) (IsHeld c.write_free.new.held) sizes _ _ _ (held_kept c.args.held.now _ _ (c.write_free.ensures.moments honest)) c.write_free.ensures.still.still
+    (node_made (IsHeld c.args.held.now) (IsHeld c.write_free.new.held) sizes _ _ _ (held_kept c.args.held.now _ _ (c.write_free.ensures.writes.moments honest)) c.write_free.ensures.writes.still.still
     level n cs d rs above low some few fan (taken.above, inside) (omega (arith, inside, c.requires.inside, g.met.D.Disk.small c.args.disk.now)) taken.held_now
-    (c.in-Ok.ensures.written honest ∙ spelled) rises made)
+    (c.in_ok-block.ensures.written honest ∙ spelled) rises made)

@@ -1,4 +1,4 @@
-use Rattle.std.proofs.Common.{arith}
+use Rattle.std.proofs.Common.{arith, rules}
 use Rattle.vm_alloc.proofs.HeldLemmas.{free_less}
 use Rattle.vm_tree.proofs.Sparing.{free_written}
 use Rattle.vm_tree.proofs.writing.write_free.Goals as goal
@@ -6,11 +6,11 @@ use Rattle.vm_tree.proofs.writing.write_free.Goals as goal
 pub returns-in-Ok-clause-taken : goal.returns-in-Ok-clause-taken
 returns-in-Ok-clause-taken g c = rw c.in-Some.ensures.taken (omega (arith, free_less c.args.held.now c.in-Some.block c.in-Some.ensures.free))
 
-pub returns-in-Ok-clause-moments : goal.returns-in-Ok-clause-moments
-returns-in-Ok-clause-moments g c honest = free_written _ _ _ _ _ _ c.in-Some.ensures.free (c.write.ensures.honest honest)
-
 pub returns-in-Err-clause-taken : goal.returns-in-Err-clause-taken
 returns-in-Err-clause-taken g c = rw c.in-Some.ensures.taken (omega (arith, free_less c.args.held.now c.in-Some.block c.in-Some.ensures.free))
 
-pub returns-in-Err-clause-moments : goal.returns-in-Err-clause-moments
-returns-in-Err-clause-moments g c honest = free_written _ _ _ _ _ _ c.in-Some.ensures.free (c.write.ensures.honest honest)
+pub returns-in-Ok-clause-writes : goal.returns-in-Ok-clause-writes
+returns-in-Ok-clause-writes g c = record { goes = search rules; still = search rules; moments = λ honest. free_written _ _ _ _ _ _ c.in-Some.ensures.free (c.write.ensures.honest honest) }
+
+pub returns-in-Err-clause-writes : goal.returns-in-Err-clause-writes
+returns-in-Err-clause-writes g c = record { goes = search rules; still = search rules; moments = λ honest. free_written _ _ _ _ _ _ c.in-Some.ensures.free (c.write.ensures.honest honest) }
