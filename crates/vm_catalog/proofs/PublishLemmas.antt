@@ -3,6 +3,7 @@ use Rattle.std.proofs.Common.{◌≡◌, ◌≢◌, ◌⊎◌, inl, inr, ⊎_eli
 use Rattle.std.proofs.lemmas.Bool.{false≢true}
 use Rattle.vm_disk.specs.Disk.{Contents, block, Medium, MayLeave, IsClean, State, Syncs}
 use Rattle.vm_disk.specs.Moments.{Spares}
+use Rattle.vm_disk.proofs.MomentLemmas.{clean_sure}
 use Rattle.vm_disk.specs.declared.disk.DeviceFault.{DeviceFault}
 use Rattle.vm_block.specs.Header.{IsHeader}
 use Rattle.vm_block.specs.Selector.{names_b, selector_bytes}
@@ -78,6 +79,7 @@ module _ (slot_b : Bool) (old : Medium) (limit : ℕ) (es : List Entry) (new_lim
       let named = still_named m spares in
       record {
         count = spares.count;
+        sure = spares.sure;
         same = λ n far. spares.same n (no_data (not slot_b) (length new) n less far);
         still_clean = λ n far clean. spares.clean n (no_data (not slot_b) (length new) n less far) clean;
         spared = λ n other used. kept m spares n used;
@@ -92,12 +94,13 @@ module _ (slot_b : Bool) (old : Medium) (limit : ℕ) (es : List Entry) (new_lim
     pub slot : SlotAt m.contents (not slot_b) new_limit new
 
   -- while the selector is dirty
-  pub at_selector : (ready m : Medium) → IsReady ready → m.dirty 1 ≡ true → length m.contents ≡ length ready.contents → ((n : ℕ) → n ≢ 1 → block m.contents n ≡ block ready.contents n) → ((n : ℕ) → n ≢ 1 → m.dirty n ≡ ready.dirty n) → IsSafelyPublishing slot_b old limit es new_limit new m
-  at_selector ready m is dirty count others others_dirty =
+  pub at_selector : (ready m : Medium) → IsReady ready → m.dirty 1 ≡ true → length m.contents ≡ length ready.contents → m.sure ≡ ready.sure → ((n : ℕ) → n ≢ 1 → block m.contents n ≡ block ready.contents n) → ((n : ℕ) → n ≢ 1 → m.dirty n ≡ ready.dirty n) → IsSafelyPublishing slot_b old limit es new_limit new m
+  at_selector ready m is dirty count sure others others_dirty =
       let named = still_named ready is.spares in
       let clean : (n : ℕ) → n ≢ 1 → m.dirty n ≡ false = λ n other. others_dirty n other ∙ is.clean n in
       record {
         count = count ∙ is.spares.count;
+        sure = omega (arith, sure, is.spares.sure);
         same = λ n far. others n (omega arith) ∙ is.spares.same n (no_data (not slot_b) (length new) n less far);
         still_clean = λ n far was. clean n (omega arith);
         spared = λ n other used. (others n other ∙ (kept ready is.spares n used).0, clean n other);
@@ -107,6 +110,7 @@ module _ (slot_b : Bool) (old : Medium) (limit : ℕ) (es : List Entry) (new_lim
           old = slot_in ready.contents m.contents slot_b limit es (λ n low high. others n (slot_high slot_b n low)) (slot_of ready.contents slot_b limit es named.in_use named.names);
           new_slot = slot_in ready.contents m.contents (not slot_b) new_limit new (λ n low high. others n (slot_high (not slot_b) n low)) is.slot;
           clean = clean;
+          sure = sure ∙ clean_sure ready is.clean ∙ sym count;
         };
       }
 
@@ -133,6 +137,7 @@ module _ (slot_b : Bool) (old : Medium) (limit : ℕ) (es : List Entry) (new_lim
   when_published ready m is now published =
       record {
         count = published.count;
+        sure = omega (arith, clean_sure m published.clean, published.count, old.within);
         same = published.same;
         still_clean = λ n far was. published.clean n;
         spared = λ n other used. (now n other ∙ (kept ready is.spares n used).0, published.clean n);
@@ -168,11 +173,14 @@ module _ (slot_b : Bool) (old : Medium) (limit : ℕ) (es : List Entry) (new_lim
 
 -- what a crash leaves at a moment of a publish
 module _ (slot_b : Bool) (old : Medium) (limit : ℕ) (es : List Entry) (new_limit : ℕ) (new : List Entry) (m : Medium) (safe : IsSafelyPublishing slot_b old limit es new_limit new m) (left : Contents) (may : MayLeave m left) where
-  still : (b : Bool) → selected left ≡ b → IsTurning slot_b m limit es new_limit new → (b ≡ slot_b) ⊎ (b ≡ not slot_b) → (Names left limit es × ((n : ℕ) → 34 ≤ n → old.dirty n ≡ false → block left n ≡ block old.contents n)) ⊎ (Names left new_limit new × ((n : ℕ) → 34 ≤ n → block left n ≡ block old.contents n))
+  whole : m.sure ≡ length m.contents → length left ≡ length old.contents
+  whole sure = omega (arith, may.least, may.most, sure, safe.count)
+
+  still : (b : Bool) → selected left ≡ b → IsTurning slot_b m limit es new_limit new → (b ≡ slot_b) ⊎ (b ≡ not slot_b) → (Names left limit es × ((n : ℕ) → 34 ≤ n → old.dirty n ≡ false → block left n ≡ block old.contents n)) ⊎ (Names left new_limit new × (length left ≡ length old.contents) × ((n : ℕ) → 34 ≤ n → block left n ≡ block old.contents n))
   still b chosen both (inl was) =
       inl (names_slot left slot_b limit es (may.clean 0 (both.clean 0 (omega arith)) ∙ both.header) (chosen ∙ was) (slot_in m.contents left slot_b limit es (λ n low high. may.clean n (both.clean n (slot_high slot_b n low))) both.old), λ n far clean. may.clean n (both.clean n (omega arith)) ∙ safe.same n far)
   still b chosen both (inr is) =
-      inr (names_slot left (not slot_b) new_limit new (may.clean 0 (both.clean 0 (omega arith)) ∙ both.header) (chosen ∙ is) (slot_in m.contents left (not slot_b) new_limit new (λ n low high. may.clean n (both.clean n (slot_high (not slot_b) n low))) both.new_slot), λ n far. may.clean n (both.clean n (omega arith)) ∙ safe.same n far)
+      inr (names_slot left (not slot_b) new_limit new (may.clean 0 (both.clean 0 (omega arith)) ∙ both.header) (chosen ∙ is) (slot_in m.contents left (not slot_b) new_limit new (λ n low high. may.clean n (both.clean n (slot_high (not slot_b) n low))) both.new_slot), whole both.sure, λ n far. may.clean n (both.clean n (omega arith)) ∙ safe.same n far)
 
   named_left : AtRest slot_b m limit es → Names left limit es
   named_left rest = names_in m.contents left slot_b limit es (λ n used. may.clean n (rest.clean n used)) rest.in_use rest.names
@@ -183,13 +191,13 @@ module _ (slot_b : Bool) (old : Medium) (limit : ℕ) (es : List Entry) (new_lim
   one_of false true = inr refl
   one_of false false = inl refl
 
-  by_selector : (d : Bool) → m.dirty 1 ≡ d → (Names left limit es × ((n : ℕ) → 34 ≤ n → old.dirty n ≡ false → block left n ≡ block old.contents n)) ⊎ (Names left new_limit new × ((n : ℕ) → 34 ≤ n → block left n ≡ block old.contents n))
+  by_selector : (d : Bool) → m.dirty 1 ≡ d → (Names left limit es × ((n : ℕ) → 34 ≤ n → old.dirty n ≡ false → block left n ≡ block old.contents n)) ⊎ (Names left new_limit new × (length left ≡ length old.contents) × ((n : ℕ) → 34 ≤ n → block left n ≡ block old.contents n))
   by_selector true dirty = still (selected left) refl (safe.turning dirty) (one_of (selected left) slot_b)
   by_selector false clean =
       ⊎_elim
       (λ (rest : AtRest slot_b m limit es). inl (named_left rest, λ n far was. may.clean n (safe.still_clean n far was) ∙ safe.same n far))
-      (λ (done : AtRest (not slot_b) m new_limit new × IsClean m). inr (names_in m.contents left (not slot_b) new_limit new (λ n used. may.clean n (done.1 n)) done.0.in_use done.0.names, λ n far. may.clean n (done.1 n) ∙ safe.same n far))
+      (λ (done : AtRest (not slot_b) m new_limit new × IsClean m). inr (names_in m.contents left (not slot_b) new_limit new (λ n used. may.clean n (done.1 n)) done.0.in_use done.0.names, whole (clean_sure m done.1), λ n far. may.clean n (done.1 n) ∙ safe.same n far))
       (safe.settled clean)
 
   pub left_by_publish : PublishLeaves old limit es new_limit new left
-  left_by_publish = (may.count ∙ safe.count, by_selector (m.dirty 1) refl)
+  left_by_publish = (omega (arith, may.least, safe.sure), omega (arith, may.most, safe.count), by_selector (m.dirty 1) refl)

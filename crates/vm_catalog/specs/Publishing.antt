@@ -13,23 +13,27 @@ pub record IsPublished (slot_b : Bool) (old new : Medium) (limit : ℕ) (es : Li
   pub same : (n : ℕ) → 34 ≤ n → block new.contents n ≡ block old.contents n
   pub count : length new.contents ≡ length old.contents
 
--- what a crash in a publish leaves: the old entries with each data block that was clean, or the new ones with all data blocks
+-- what a crash in a publish leaves: the old entries with each data block that was clean, or the new ones with all blocks and all data
 abbrev pub PublishLeaves : Medium → ℕ → List Entry → ℕ → List Entry → Contents → Type 0
 PublishLeaves old limit es new_limit new left =
-    (length left ≡ length old.contents)
+    (old.sure ≤ length left)
+    × (length left ≤ length old.contents)
     × ((Names left limit es × ((n : ℕ) → 34 ≤ n → old.dirty n ≡ false → block left n ≡ block old.contents n))
-    ⊎ (Names left new_limit new × ((n : ℕ) → 34 ≤ n → block left n ≡ block old.contents n)))
+    ⊎ (Names left new_limit new × (length left ≡ length old.contents) × ((n : ℕ) → 34 ≤ n → block left n ≡ block old.contents n)))
 
--- both slots are whole, and no block but the selector is dirty: so either slot may be found in use
+-- both slots are whole, a crash leaves each block, and none but the selector is dirty: so either slot may be found in use
 pub record IsTurning (slot_b : Bool) (m : Medium) (limit : ℕ) (es : List Entry) (new_limit : ℕ) (new : List Entry) : Type 0 where
   pub header : IsHeader (block m.contents 0)
   pub old : SlotAt m.contents slot_b limit es
   pub new_slot : SlotAt m.contents (not slot_b) new_limit new
   pub clean : (n : ℕ) → n ≢ 1 → m.dirty n ≡ false
+  pub sure : m.sure ≡ length m.contents
 
 -- what holds at each moment of a publish that finds these entries in this slot, and writes new ones into the other
 pub record IsSafelyPublishing (slot_b : Bool) (old : Medium) (limit : ℕ) (es : List Entry) (new_limit : ℕ) (new : List Entry) (m : Medium) : Type 0 where
   pub count : length m.contents ≡ length old.contents
+  -- a crash leaves at least the blocks that it left before
+  pub sure : old.sure ≤ m.sure
   -- no data block is written
   pub same : (n : ℕ) → 34 ≤ n → block m.contents n ≡ block old.contents n
   pub still_clean : (n : ℕ) → 34 ≤ n → old.dirty n ≡ false → m.dirty n ≡ false

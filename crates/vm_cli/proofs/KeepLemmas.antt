@@ -94,7 +94,7 @@ module _ {X : Type 0} (shows : X → Tree → Type 0) (s : State) (commands : Li
 
 -- what a disk holds is among what a crash may leave of it
 pub left_held : (now : disk.State) → LeftAt now (moment now) now.now.contents
-left_held now = inl (refl, record { count = refl; clean = λ n clean. refl })
+left_held now = inl (refl, record { least = now.now.within; most = omega arith; clean = λ n clean. refl })
 
 -- the tree that a crash shows once a state is committed
 abbrev pub ShowsCommitted : State → Medium → Type 0

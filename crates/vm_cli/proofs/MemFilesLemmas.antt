@@ -1,5 +1,5 @@
 -- Files in memory keep the rules of a place.
-use Rattle.std.proofs.Common.{◌≡◌, ◌≢◌, ℕ, Bool, true, false, if◌then◌else◌, List, [], Option, Some, None, IfSome, Result, Ok, Err, IfOk, String, string_bytes, option_map, is_some, refl, sym, ap, ◌∙◌, subst}
+use Rattle.std.proofs.Common.{◌≡◌, ◌≢◌, ℕ, Bool, true, false, if◌then◌else◌, List, [], length, Option, Some, None, IfSome, Result, Ok, Err, IfOk, String, string_bytes, option_map, is_some, refl, sym, ap, ◌∙◌, subst}
 use Rattle.std.proofs.lemmas.Bool.{false_from_ne_true}
 use Rattle.std.proofs.lemmas.List.{ext_get_or}
 use Rattle.std.proofs.lemmas.Map.Text.{btree_map_updates_text}
@@ -11,7 +11,7 @@ use Rattle.std.specs.Ordering.{nat_cmp}
 use Rattle.std.specs.Result.{result_ok}
 use Rattle.std.specs.Str.{bytes_eq}
 use Rattle.std.specs.String.{string_cmp}
-use Rattle.vm_disk.specs.Disk.{IsClean, MayLeave, Medium, State, block}
+use Rattle.vm_disk.specs.Disk.{IsClean, Medium, State, block}
 use Rattle.vm_disk.specs.Memory.{IsBlank, filled, memory_state}
 use Rattle.vm_disk.specs.declared.memory.MemDisk.{MemDisk}
 use Rattle.vm_cli.specs.MemFiles.{slot_contents, slot_state}
@@ -19,9 +19,9 @@ use Rattle.vm_cli.specs.Places.{Creates, Finds, PlaceState, TakesBack}
 use Rattle.vm_cli.specs.declared.mem_files.Slot.{Slot}
 
 -- a crash that takes each block as it is keeps what a disk holds
-pub crash_keeps : (old new : Medium) → MayLeave old new.contents
+pub crash_keeps : (old new : Medium) → length new.contents ≡ length old.contents
     → ((n : ℕ) → block new.contents n ≡ (if old.dirty n then filled [] n (block old.contents n) else block old.contents n)) → new.contents ≡ old.contents
-crash_keeps old new left is = ext_get_or [] new.contents old.contents left.count (λ n inside. is n ∙ either (old.dirty n) (block old.contents n))
+crash_keeps old new count is = ext_get_or [] new.contents old.contents count (λ n inside. is n ∙ either (old.dirty n) (block old.contents n))
   where
     either : (b : Bool) (bytes : List ℕ) → (if b then bytes else bytes) ≡ bytes
     either true bytes = refl

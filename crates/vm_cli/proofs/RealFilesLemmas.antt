@@ -6,14 +6,14 @@ use Rattle.std.specs.Result.{result_ok}
 use Rattle.std.specs.Str.{bytes_eq}
 use Rattle.std.specs.declared.snapshot.Snapshot.{Snapshot}
 use Rattle.vm_disk.specs.Disk.{Contents, IsClean, Medium, State}
-use Rattle.vm_disk.specs.File.{IsOpened, IsOver, IsZero, file_blocks, file_of}
+use Rattle.vm_disk.specs.File.{IsMade, IsOpened, IsOver, IsPart, IsZero, Part, file_blocks, file_of}
 use Rattle.vm_disk.specs.Positional.{FileState}
 use Rattle.vm_disk.specs.Past.{noted}
 use Rattle.vm_disk.specs.System.{fresh, held_bytes, name_of, opening_of, system_state}
 use Rattle.vm_disk.specs.declared.file.FileDisk.{FileDisk}
 use Rattle.vm_disk.specs.declared.history.History.{History}
 use Rattle.vm_disk.specs.declared.system.SystemFile.{SystemFile}
-use Rattle.vm_disk.proofs.FileLemmas.{file_is_honest}
+use Rattle.vm_disk.proofs.FileLemmas.{disk_file_is_honest, sure_is_clean}
 use Rattle.vm_cli.specs.Places.{Creates, Finds, PlaceState, TakesBack}
 use Rattle.vm_cli.specs.Progress.{file_below}
 use Rattle.vm_cli.specs.RealFiles.{blocks_held, came_after, files_after, honest_after, is_absent, is_as_left, real_disk, same_contents, whole_blocks}
@@ -52,7 +52,7 @@ opened_clean : (bytes : List ℕ) (file : FileState) (s : State) → file ≡ fr
 opened_clean bytes file s is opened =
     let over : IsOpened (fresh bytes) s = rw is at opened in
     let held : s.now.contents ≡ file_blocks s.blocks bytes = ap (λ (m : Medium). m.contents) over.now in
-    (held ∙ ap (λ n. file_blocks n bytes) over.blocks, λ n. rw over.now refl)
+    (held ∙ ap (λ n. file_blocks n bytes) over.blocks, λ n. rw over.now (sure_is_clean s.blocks (fresh bytes) refl n))
 
 -- a name that is not another
 apart : (other name : List ℕ) → other ≢ name → bytes_eq other name ≡ false
@@ -68,11 +68,11 @@ module _ {W : Type 0} (held : ℕ → List ℕ → Option (List ℕ)) (torn : �
   known events = record { honest = honest_after held torn events; files = files_after held torn events; came = came_after held torn events }
 
   -- a disk that was just opened or made has no past
-  fresh_disk : (blocks : FileDisk (Watched (SystemFile W)) → ℕ) (result : Result (FileDisk (Watched (SystemFile W))) (Watched (SystemFile W)))
-      → IfOk result (λ disk. IsOver (blocks disk) (system_state held torn (file_below (file_of disk))) (real_disk held torn disk))
+  fresh_disk : (part : FileDisk (Watched (SystemFile W)) → Part) (result : Result (FileDisk (Watched (SystemFile W))) (Watched (SystemFile W)))
+      → IfOk result (λ disk. IsPart (part disk) (real_disk held torn disk))
       → IfSome (option_map (real_disk held torn) (result_ok result)) (λ s. s.past ≡ [])
-  fresh_disk blocks (Err back) over = tt
-  fresh_disk blocks (Ok disk) over = over.past
+  fresh_disk part (Err back) over = tt
+  fresh_disk part (Ok disk) over = over.past
 
   -- a file was opened, and made a disk of
   module _ (file : SystemFile W) (noted_file : Snapshot (SystemFile W)) (is : noted_file.value ≡ file) (name : name_of file ≡ path) where
@@ -89,7 +89,7 @@ module _ {W : Type 0} (held : ℕ → List ℕ → Option (List ℕ)) (torn : �
         let there : files_after held torn old path ≡ Some (whole_blocks (held_bytes (held opened path))) = left.2 ∙ ap Some (blocks_are (held opened path) left.0 left.1) in
         record {
           held = rw said (go there result told);
-          fresh = rw said (fresh_disk (λ disk. disk.blocks) result over);
+          fresh = rw said (fresh_disk (λ disk. record { file = system_state held torn (file_below (file_of disk)); blocks = disk.blocks; sure = disk.blocks }) result over);
           same = λ other. rw more refl;
         }
       where
@@ -98,13 +98,13 @@ module _ {W : Type 0} (held : ℕ → List ℕ → Option (List ℕ)) (torn : �
             → IfSome (option_map (real_disk held torn) (result_ok result)) (λ s. s.honest ≡ true → (files_after held torn old path ≡ Some s.now.contents) × IsClean s.now)
         go there (Err back) told = tt
         go there (Ok disk) told = λ honest.
-            let over = told (file_is_honest disk.blocks (system_state held torn (file_below (file_of disk))) (map (λ (below : Watched (SystemFile W)). system_state held torn (file_below below)) (noted disk.past)) honest) in
+            let over = told (disk_file_is_honest (λ file. system_state held torn (file_below file)) disk honest) in
             let clean = opened_clean (held_bytes (held opened path)) (system_state held torn file) (real_disk held torn disk) state over in
             (there ∙ ap Some (sym clean.0), clean.1)
 
     -- a file was made, and zeros written to it
     pub creates : (blocks : ℕ) → new ≡ Made noted_file ∷ old → system_state held torn file ≡ fresh [] → (result : Result (FileDisk (Watched (SystemFile W))) (Watched (SystemFile W)))
-        → IfOk result (λ disk. IsOver blocks (system_state held torn (file_below (file_of disk))) (real_disk held torn disk))
+        → IfOk result (λ disk. IsMade blocks (system_state held torn (file_below (file_of disk))) (real_disk held torn disk))
         → IfOk result (λ disk. (system_state held torn (file_below (file_of disk))).honest ≡ true → (system_state held torn file).bytes ≡ [] → IsZero (real_disk held torn disk))
         → (made : Option (FileDisk (Watched (SystemFile W)))) → made ≡ result_ok result
         → honest_after held torn new ≡ true → Creates path blocks (option_map (real_disk held torn) made) (known old) (known new)
@@ -116,7 +116,7 @@ module _ {W : Type 0} (held : ℕ → List ℕ → Option (List ℕ)) (torn : �
         record {
           absent = rw said (go_absent none result);
           zero = rw said (go_zero result over zeros);
-          fresh = rw said (fresh_disk (λ disk. blocks) result over);
+          fresh = rw said (fresh_disk (λ disk. record { file = system_state held torn (file_below (file_of disk)); blocks = blocks; sure = 0 }) result over);
           stays = λ contents there. let no : None ≡ Some contents = sym none ∙ there in absurd cc;
           others = λ other differ.
               let step : files_after held torn (Made noted_file ∷ old) other ≡ files_after held torn old other = rw (is, name, apart other path differ) refl in
@@ -128,12 +128,12 @@ module _ {W : Type 0} (held : ℕ → List ℕ → Option (List ℕ)) (torn : �
         go_absent none (Ok disk) = none
 
         go_zero : (result : Result (FileDisk (Watched (SystemFile W))) (Watched (SystemFile W)))
-            → IfOk result (λ disk. IsOver blocks (system_state held torn (file_below (file_of disk))) (real_disk held torn disk))
+            → IfOk result (λ disk. IsMade blocks (system_state held torn (file_below (file_of disk))) (real_disk held torn disk))
             → IfOk result (λ disk. (system_state held torn (file_below (file_of disk))).honest ≡ true → (system_state held torn file).bytes ≡ [] → IsZero (real_disk held torn disk))
             → IfSome (option_map (real_disk held torn) (result_ok result)) (λ s. s.honest ≡ true → (s.blocks ≡ blocks) × (s.now.contents ≡ replicate blocks (replicate 4096 0)))
         go_zero (Err back) over zeros = tt
         go_zero (Ok disk) over zeros = λ honest.
-            let whole = file_is_honest disk.blocks (system_state held torn (file_below (file_of disk))) (map (λ (below : Watched (SystemFile W)). system_state held torn (file_below below)) (noted disk.past)) honest in
+            let whole = disk_file_is_honest (λ file. system_state held torn (file_below file)) disk honest in
             let empty : (system_state held torn file).bytes ≡ [] = ap (λ (f : FileState). f.bytes) state in
             let zero = (zeros whole empty).zero in
             let size : (real_disk held torn disk).blocks ≡ blocks = over.blocks in

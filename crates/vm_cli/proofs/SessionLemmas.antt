@@ -1,12 +1,12 @@
 -- What a crash leaves from the moment at which a disk is found to that at which it comes back.
-use Rattle.std.proofs.Common.{◌≡◌, inl, inr, ℕ, Bool, true, false, List, [], length, Option, Result, Ok, Err, refl, sym, ap, ◌∙◌, subst}
+use Rattle.std.proofs.Common.{◌≡◌, inl, inr, ℕ, Bool, true, false, List, [], length, Option, Result, Ok, Err, refl, sym, ap, ◌∙◌, subst, arith}
 use Rattle.std.proofs.lemmas.List.{ext_get_or}
 use Rattle.vm_types.specs.State.{State, opened}
 use Rattle.vm_types.specs.Tree.{Tree}
 use Rattle.vm_disk.specs.Disk as disk
 use Rattle.vm_disk.specs.Disk.{Contents, Goes, IsClean, MayLeave, Medium}
 use Rattle.vm_disk.specs.Moments.{Leaves, Throughout}
-use Rattle.vm_disk.proofs.MomentLemmas.{weaken}
+use Rattle.vm_disk.proofs.MomentLemmas.{clean_sure, weaken}
 use Rattle.vm_store.specs.Opening.{OpensAs}
 use Rattle.vm_store.specs.Refused.{IsAtMostSynced}
 use Rattle.vm_store.specs.Shown.{Shows}
@@ -26,17 +26,20 @@ use Rattle.vm_cli.proofs.TalkKeepLemmas.{serves_keeps}
 
 -- a crash leaves of a synced disk what it holds
 pub clean_leaves : (P : Contents → Type 0) (m : Medium) → IsClean m → P m.contents → Leaves P m
-clean_leaves P m clean p left may = subst P (sym (ext_get_or [] left m.contents may.count (λ n inside. may.clean n (clean n)))) p
+clean_leaves P m clean p left may =
+    let count : length left ≡ length m.contents = omega (arith, may.least, may.most, clean_sure m clean) in
+    subst P (sym (ext_get_or [] left m.contents count (λ n inside. may.clean n (clean n)))) p
 
 -- what a crash leaves it may leave: what is held
 pub leaves_held : (P : Contents → Type 0) (m : Medium) → Leaves P m → P m.contents
-leaves_held P m leaves = leaves m.contents record { count = refl; clean = λ n clean. refl }
+leaves_held P m leaves = leaves m.contents record { least = m.within; most = omega arith; clean = λ n clean. refl }
 
 -- a sync makes a crash leave no more
 pub synced_leaves : (P : Contents → Type 0) (old m : Medium) → Leaves P old → IsAtMostSynced old m → Leaves P m
 synced_leaves P old m leaves (inl same) = subst (Leaves P) (sym same) leaves
 synced_leaves P old m leaves (inr synced) = λ left may. leaves left record {
-  count = may.count ∙ ap length synced.same;
+  least = omega (arith, may.least, clean_sure m synced.clean, ap length synced.same, old.within);
+  most = omega (arith, may.most, ap length synced.same);
   clean = λ n clean. may.clean n (synced.clean n) ∙ ap (λ (x : Contents). disk.block x n) synced.same;
 }
 

@@ -39,8 +39,10 @@ impl Counts {
 /// Counts what a store holds. It makes no device call.
 pub fn count<D: Disk>(alloc: Global, store: &Store<D>) -> Result<Counts, Refusal>
     ensures counted { has_failed store.now ≡ false → (s : State) → Holds store.now s
-        → IfOk result (λ counts. (counts.alternatives ≡ length s.working) × (counts.checkpoints ≡ checkpoint_count s.working) × (counts.free ≡ free_of store.now)) }
-    ensures refused { has_failed store.now ≡ false → (s : State) → Holds store.now s → IfErr result (λ refusal. refusal ≡ Refusal.Memory) }
+        → IfOk result (λ counts. (counts.alternatives ≡ length s.working)
+        × (counts.checkpoints ≡ checkpoint_count s.working) × (counts.free ≡ free_of store.now)) }
+    ensures refused { has_failed store.now ≡ false → (s : State) → Holds store.now s
+        → IfErr result (λ refusal. refusal ≡ Refusal.Memory) }
     ensures never { has_failed store.now ≡ false → result ≢ Err Refusal.Device }
 {
     let alternatives = match store.alternatives(alloc) {
@@ -67,9 +69,11 @@ fn count_checkpoints<D: Disk>(
     store: &Store<D>,
     listed: &[(Name, Option<Name>)],
 ) -> Result<usize, Refusal>
-    ensures counted { has_failed store.now ≡ false → (s : State) → Holds store.now s → listed.now ≡ shape s.working
+    ensures counted { has_failed store.now ≡ false → (s : State) → Holds store.now s
+        → listed.now ≡ shape s.working
         → IfOk result (λ count. count ≡ checkpoint_count s.working) }
-    ensures refused { has_failed store.now ≡ false → (s : State) → Holds store.now s → listed.now ≡ shape s.working
+    ensures refused { has_failed store.now ≡ false → (s : State) → Holds store.now s
+        → listed.now ≡ shape s.working
         → IfErr result (λ refusal. refusal ≡ Refusal.Memory) }
     ensures never { has_failed store.now ≡ false → result ≢ Err Refusal.Device }
 {

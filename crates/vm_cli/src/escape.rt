@@ -36,7 +36,8 @@ pub fn value(word: &[u8]) -> Option<Value>
 fn first_byte(word: &[u8]) -> Option<(u8, &[u8])>
     requires { 0 < length word.now }
     ensures { MatchOption result (unescaped word.now ≡ None)
-        (λ p. (unescaped word.now ≡ option_map (λ bytes. p.0 ∷ bytes) (unescaped p.1.now)) × (length p.1.now < length word.now)) }
+        (λ p. (unescaped word.now ≡ option_map (λ bytes. p.0 ∷ bytes) (unescaped p.1.now))
+        × (length p.1.now < length word.now)) }
 {
     if word[0] != b'%' {
         return Some((word[0], &word[1..]));

@@ -58,7 +58,8 @@ impl MemFiles {
     fn made(&mut self, file: &str, blocks: u32) -> Option<MemDisk>
         ensures denied { noted self.new.denied ≡ noted self.old.denied }
         ensures to_write { noted self.new.to_write ≡ noted self.old.to_write }
-        ensures earlier { (files_state self.new).honest ≡ true → (files_state self.old).honest ≡ true }
+        ensures earlier { (files_state self.new).honest ≡ true
+            → (files_state self.old).honest ≡ true }
         ensures honest { (files_state self.new).honest ≡ true
             → Creates file.now blocks (option_map memory_state result) (files_state self.old) (files_state self.new) }
     {
@@ -79,7 +80,8 @@ impl MemFiles {
     fn found(&mut self, file: &str) -> Option<MemDisk>
         ensures denied { noted self.new.denied ≡ noted self.old.denied }
         ensures to_write { noted self.new.to_write ≡ noted self.old.to_write }
-        ensures earlier { (files_state self.new).honest ≡ true → (files_state self.old).honest ≡ true }
+        ensures earlier { (files_state self.new).honest ≡ true
+            → (files_state self.old).honest ≡ true }
         ensures honest { (files_state self.new).honest ≡ true
             → Finds file.now (option_map memory_state result) (files_state self.old) (files_state self.new) }
     {

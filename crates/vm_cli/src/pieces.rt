@@ -5,7 +5,8 @@ ghost use Rattle.vm_cli.specs.Spaces.{words_of};
 
 /// The first word of a line, and what stands after it.
 pub fn first_word(line: &[u8]) -> Option<(&[u8], &[u8])>
-    ensures { MatchOption result (words_of line.now ≡ []) (λ p. words_of line.now ≡ p.0.now ∷ words_of p.1.now) }
+    ensures { MatchOption result (words_of line.now ≡ [])
+        (λ p. words_of line.now ≡ p.0.now ∷ words_of p.1.now) }
 {
     let mut rest = line;
     while !rest.is_empty() {

@@ -135,7 +135,8 @@ impl<'a, R: Files<File = File>, W: World> RealFiles<'a, R, W> {
     fn made(&mut self, file: &str, blocks: u32) -> Option<FileDisk<Watched<'a, SystemFile<W>>>>
         ensures denied { times_denied self.new ≡ times_denied self.old }
         ensures to_write { asked_to_write self.new ≡ asked_to_write self.old + 1 }
-        ensures earlier { (real_state W.held W.torn self.new).honest ≡ true → (real_state W.held W.torn self.old).honest ≡ true }
+        ensures earlier { (real_state W.held W.torn self.new).honest ≡ true
+            → (real_state W.held W.torn self.old).honest ≡ true }
         ensures honest { (real_state W.held W.torn self.new).honest ≡ true
             → Creates file.now blocks (option_map (real_disk W.held W.torn) result) (real_state W.held W.torn self.old) (real_state W.held W.torn self.new) }
     {
@@ -153,7 +154,8 @@ impl<'a, R: Files<File = File>, W: World> RealFiles<'a, R, W> {
     fn found(&mut self, file: &str) -> Option<FileDisk<Watched<'a, SystemFile<W>>>>
         ensures denied { times_denied self.new ≡ times_denied self.old }
         ensures to_write { asked_to_write self.new ≡ asked_to_write self.old + 1 }
-        ensures earlier { (real_state W.held W.torn self.new).honest ≡ true → (real_state W.held W.torn self.old).honest ≡ true }
+        ensures earlier { (real_state W.held W.torn self.new).honest ≡ true
+            → (real_state W.held W.torn self.old).honest ≡ true }
         ensures honest { (real_state W.held W.torn self.new).honest ≡ true
             → Finds file.now (option_map (real_disk W.held W.torn) result) (real_state W.held W.torn self.old) (real_state W.held W.torn self.new) }
     {
@@ -170,7 +172,8 @@ impl<'a, R: Files<File = File>, W: World> RealFiles<'a, R, W> {
     fn looked(&mut self, file: &str) -> Option<FileDisk<Watched<'a, SystemFile<W>>>>
         ensures denied { times_denied self.new ≡ times_denied self.old }
         ensures to_write { asked_to_write self.new ≡ asked_to_write self.old }
-        ensures earlier { (real_state W.held W.torn self.new).honest ≡ true → (real_state W.held W.torn self.old).honest ≡ true }
+        ensures earlier { (real_state W.held W.torn self.new).honest ≡ true
+            → (real_state W.held W.torn self.old).honest ≡ true }
         ensures honest { (real_state W.held W.torn self.new).honest ≡ true
             → Finds file.now (option_map (real_disk W.held W.torn) result) (real_state W.held W.torn self.old) (real_state W.held W.torn self.new) }
     {

@@ -76,11 +76,13 @@ pub fn run_words<P: Place, R: Read, W: Write, F: Write>(
     ensures refused { result ≡ 1 → IsRefused W.contents F.contents (map string_bytes words.now) output.old output.new faults.old faults.new }
     ensures wrong { result ≡ 2 → IsWrong W.contents F.contents (map string_bytes words.now) output.old output.new faults.old faults.new }
     ensures stopped { result ≡ 3 → IsStopped W.contents F.contents (map string_bytes words.now) output.old output.new faults.old faults.new }
-    ensures line_refused { result ≡ 4 → IsLineRefused W.contents F.contents (map string_bytes words.now) faults.old faults.new }
+    ensures line_refused { result ≡ 4
+        → IsLineRefused W.contents F.contents (map string_bytes words.now) faults.old faults.new }
     // As long as the place has kept its rules, and its disks theirs, the files are what the job makes of them. Where the program stopped
     // that is said to the faults behind what the job said.
     ensures files { (P.state place.new).honest ≡ true
-        → ((exit : Exit) × (said : F) × (result ≡ status_of exit) × (exit ≢ Exit.Stopped → said ≡ faults.new)
+        → ((exit : Exit) × (said : F) × (result ≡ status_of exit)
+        × (exit ≢ Exit.Stopped → said ≡ faults.new)
         × Does P.D.Disk ⟦<CachedDisk<P::D> as Disk>⟧ (place.new ≡ place.old) (P.to_write place.new ≡ P.to_write place.old) (P.denied place.new ≡ P.denied place.old + 1) (map string_bytes words.now) exit (P.state place.old) (P.state place.new)
         (R.remaining input.old) (W.contents output.old) (W.contents output.new) (F.contents faults.old) (F.contents said)) }
 {
@@ -161,7 +163,8 @@ fn create<P: Place, W: Write, F: Write>(
     output: &mut W,
     faults: &mut F,
 ) -> Exit
-    ensures says { ((faults.new ≡ faults.old) × Tells Exit.Done result (W.contents output.old) (W.contents output.new) (created_text blocks))
+    ensures says { ((faults.new ≡ faults.old)
+        × Tells Exit.Done result (W.contents output.old) (W.contents output.new) (created_text blocks))
         ⊎ ((output.new ≡ output.old) × ((text : List ℕ) × SaysRefused (create_wanted file.now blocks) text
         × Tells Exit.Refused result (F.contents faults.old) (F.contents faults.new) text)) }
     ensures files { (P.state place.new).honest ≡ true
@@ -189,7 +192,8 @@ fn make_store<D: Disk, W: Write, F: Write>(
         ⊎ ((output.new ≡ output.old) × ((refusal : RefusalValue) × MayRefuse refusal × HasMadeNone (D.state disk) (D.state result.1) blocks refusal
         × Tells Exit.Refused result.0 (F.contents faults.old) (F.contents faults.new) (refused_text refusal))) }
     // At each moment nothing has changed, or all is synced; or there was no store, and a crash shows at most the new one.
-    ensures moments { (D.state result.1).honest ≡ true → Throughout (D.state disk) (D.state result.1) (IsFormatting (D.state disk).now) }
+    ensures moments { (D.state result.1).honest ≡ true
+        → Throughout (D.state disk) (D.state result.1) (IsFormatting (D.state disk).now) }
 {
     match format(disk, blocks) {
         Ok(disk) => (created(blocks, output), disk),
@@ -303,7 +307,8 @@ fn check_disk<D: Disk, W: Write, F: Write>(
         ⊎ ((output.new ≡ output.old) × ((refusal : RefusalValue) × Tells Exit.Refused result.0 (F.contents faults.old) (F.contents faults.new) (refused_text refusal))) }
     // The numbers are those of the tree that the disk shows, or it is said why the disk was refused. At each moment nothing has changed,
     // or all is synced.
-    ensures told { ((alternatives : ℕ) × (checkpoints : ℕ) × (free : ℕ) × HasCounted D.Disk disk result.1 alternatives checkpoints free
+    ensures told { ((alternatives : ℕ) × (checkpoints : ℕ) × (free : ℕ)
+        × HasCounted D.Disk disk result.1 alternatives checkpoints free
         × Tells Exit.Done result.0 (W.contents output.old) (W.contents output.new) (check_text alternatives checkpoints free))
         ⊎ ((refusal : RefusalValue) × HasRefused (D.state disk) (D.state result.1) refusal
         × Tells Exit.Refused result.0 (F.contents faults.old) (F.contents faults.new) (refused_text refusal)) }
@@ -371,7 +376,8 @@ pub(crate) fn refused<F: Write>(refusal: &Refusal, faults: &mut F) -> Exit
 
 // Says what is wrong with the words, or gives the help that they ask for.
 fn explain<W: Write, F: Write>(alloc: Global, error: &Error, output: &mut W, faults: &mut F) -> Exit
-    ensures memory { kind_of error.now ≡ ErrorKind.OutOfMemory → (result ≡ Exit.Stopped) × (output.new ≡ output.old) × (faults.new ≡ faults.old) }
+    ensures memory { kind_of error.now ≡ ErrorKind.OutOfMemory
+        → (result ≡ Exit.Stopped) × (output.new ≡ output.old) × (faults.new ≡ faults.old) }
     ensures help { IsHelp (kind_of error.now) → (faults.new ≡ faults.old)
         × ((text : List ℕ) × Tells Exit.Done result (W.contents output.old) (W.contents output.new) text) }
     ensures wrong { (¬ IsHelp (kind_of error.now)) → (output.new ≡ output.old)

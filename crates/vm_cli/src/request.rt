@@ -254,7 +254,8 @@ fn name(word: &[u8]) -> Option<Name>
 
 // No word is left.
 fn ends(rest: &[u8]) -> Option<()>
-    ensures { MatchOption result ((word : List ℕ) × (words : List (List ℕ)) × (words_of rest.now ≡ word ∷ words)) (λ _. words_of rest.now ≡ []) }
+    ensures { MatchOption result ((word : List ℕ) × (words : List (List ℕ))
+        × (words_of rest.now ≡ word ∷ words)) (λ _. words_of rest.now ≡ []) }
 {
     match first_word(rest) {
         None => Some(()),

@@ -81,7 +81,8 @@ fn show_disk<D: Disk, W: Write, F: Write>(
 fn draw_store<D: Disk>(alloc: Global, store: &mut Store<D>) -> Result<Vec<u8>, Refusal>
     ensures any { GoesOn (result ≡ Err Refusal.Device) store.old store.new }
     ensures passes { Passes store.old store.new None }
-    ensures text { IfOk result (λ text. (branches : List Branch) × (text.items ≡ drawing branches)) }
+    ensures text { IfOk result (λ text. (branches : List Branch)
+        × (text.items ≡ drawing branches)) }
     ensures drawn { IsHonest store.new → has_failed store.old ≡ false → (s : State)
         → Holds store.old s
         → IfOk result (λ text. text.items ≡ tree_text s.working) }

@@ -66,11 +66,13 @@ fn branch_of<D: Disk>(
     ensures passes { Passes store.old store.new None }
     ensures drawn { IsHonest store.new → has_failed store.old ≡ false → (s : State)
         → Holds store.old s
-        → IfOk result (λ branch. (branch.name ≡ name.now) × (branch.parent ≡ parent) × (branch.tally ≡ numbers_of (tally_in s.working name.now))
+        → IfOk result (λ branch. (branch.name ≡ name.now) × (branch.parent ≡ parent)
+        × (branch.tally ≡ numbers_of (tally_in s.working name.now))
         × (Ok branch.checkpoints ≡ checkpoints_in s.working name.now)) }
     ensures refused { IsHonest store.new → has_failed store.old ≡ false → (s : State)
         → Holds store.old s
-        → IfErr result (λ refusal. (refusal ≡ Refusal.Device) ⊎ ((refusal ≡ Refusal.Memory) ⊎ (Err refusal ≡ checkpoints_in s.working name.now))) }
+        → IfErr result (λ refusal. (refusal ≡ Refusal.Device)
+        ⊎ ((refusal ≡ Refusal.Memory) ⊎ (Err refusal ≡ checkpoints_in s.working name.now))) }
 {
     let tally = numbers(store.tally(alloc, name))?;
     let checkpoints = store.checkpoints(alloc, name)?;
@@ -84,8 +86,10 @@ fn branch_of<D: Disk>(
 
 // The numbers, where there are any: an alternative without a parent has none.
 fn numbers(tallied: Result<Tally, Refusal>) -> Result<Option<Tally>, Refusal>
-    ensures ok { IfOk result (λ tally. (tally ≡ numbers_of tallied) × (tallied ≢ Err Refusal.Device) × (tallied ≢ Err Refusal.Memory)) }
-    ensures err { IfErr result (λ refusal. (tallied ≡ Err refusal) × (refusal ≢ Refusal.IsTop) × (refusal ≢ Refusal.NoSuchAlternative)) }
+    ensures ok { IfOk result (λ tally. (tally ≡ numbers_of tallied) × (tallied ≢ Err Refusal.Device)
+        × (tallied ≢ Err Refusal.Memory)) }
+    ensures err { IfErr result (λ refusal. (tallied ≡ Err refusal) × (refusal ≢ Refusal.IsTop)
+        × (refusal ≢ Refusal.NoSuchAlternative)) }
 {
     match tallied {
         Ok(tally) => Ok(Some(tally)),

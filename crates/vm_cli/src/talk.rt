@@ -72,7 +72,8 @@ pub fn serve<R: Read, W: Write, D: Disk>(
     ensures goes { GoesOn ⊥ store.old store.new }
     ensures ok { has_failed store.old ≡ false → OnOk result (has_failed store.new ≡ false) }
     ensures err { has_failed store.old ≡ false
-        → IfErr result (λ fault. fault ≡ ServeFault.Store → (has_failed store.new ≡ true) × Failing store.old store.new) }
+        → IfErr result (λ fault. fault ≡ ServeFault.Store
+        → (has_failed store.new ≡ true) × Failing store.old store.new) }
     ensures left { has_failed store.old ≡ true → store.new ≡ store.old }
 
     // The lines of the input are answered one after another, each by the store that the line before left, and the store
@@ -126,11 +127,15 @@ fn feed<W: Write, D: Disk>(
     ensures goes { GoesOn ⊥ store.old store.new }
     ensures ok { has_failed store.old ≡ false → OnOk result (has_failed store.new ≡ false) }
     ensures err { has_failed store.old ≡ false
-        → IfErr result (λ fault. (fault ≡ ServeFault.Write) ⊎ ((fault ≡ ServeFault.Refused) ⊎ ((fault ≡ ServeFault.Store) × (has_failed store.new ≡ true) × Failing store.old store.new))) }
+        → IfErr result (λ fault. (fault ≡ ServeFault.Write)
+        ⊎ ((fault ≡ ServeFault.Refused)
+        ⊎ ((fault ≡ ServeFault.Store) × (has_failed store.new ≡ true)
+        × Failing store.old store.new))) }
     ensures left { has_failed store.old ≡ true → store.new ≡ store.old }
     ensures fed { (s : State)
         → (from : List ℕ) → HoldsLine line.old from
-        → IfOk result (λ refused. (to : List ℕ) × HoldsLine line.new to × Fed store.old store.new s on_refusal refused bytes.now from to (W.contents writer.old) (W.contents writer.new)) }
+        → IfOk result (λ refused. (to : List ℕ) × HoldsLine line.new to
+        × Fed store.old store.new s on_refusal refused bytes.now from to (W.contents writer.old) (W.contents writer.new)) }
     ensures ended { (s : State)
         → (from : List ℕ) → HoldsLine line.old from → (more : List ℕ)
         → OnErr result (ServesLines store.old store.new s on_refusal result (W.contents writer.old) (W.contents writer.new) (lines_of (from ++ (bytes.now ++ more)))) }
@@ -163,11 +168,15 @@ fn feed_line<W: Write, D: Disk>(
     ensures goes { GoesOn ⊥ store.old store.new }
     ensures ok { has_failed store.old ≡ false → OnOk result (has_failed store.new ≡ false) }
     ensures err { has_failed store.old ≡ false
-        → IfErr result (λ fault. (fault ≡ ServeFault.Write) ⊎ ((fault ≡ ServeFault.Refused) ⊎ ((fault ≡ ServeFault.Store) × (has_failed store.new ≡ true) × Failing store.old store.new))) }
+        → IfErr result (λ fault. (fault ≡ ServeFault.Write)
+        ⊎ ((fault ≡ ServeFault.Refused)
+        ⊎ ((fault ≡ ServeFault.Store) × (has_failed store.new ≡ true)
+        × Failing store.old store.new))) }
     ensures left { has_failed store.old ≡ true → store.new ≡ store.old }
     ensures fed { (s : State)
         → (from : List ℕ) → HoldsLine line.old from
-        → IfOk result (λ refused. (to : List ℕ) × HoldsLine line.new to × Fed store.old store.new s on_refusal refused (bytes.now ++ 10 ∷ []) from to (W.contents writer.old) (W.contents writer.new)) }
+        → IfOk result (λ refused. (to : List ℕ) × HoldsLine line.new to
+        × Fed store.old store.new s on_refusal refused (bytes.now ++ 10 ∷ []) from to (W.contents writer.old) (W.contents writer.new)) }
     ensures ended { (s : State)
         → (from : List ℕ) → HoldsLine line.old from → (more : List ℕ)
         → OnErr result (ServesLines store.old store.new s on_refusal result (W.contents writer.old) (W.contents writer.new) (lines_of (from ++ ((bytes.now ++ 10 ∷ []) ++ more)))) }
@@ -195,7 +204,10 @@ fn answer<W: Write, D: Disk>(
     ensures goes { GoesOn ⊥ store.old store.new }
     ensures ok { has_failed store.old ≡ false → OnOk result (has_failed store.new ≡ false) }
     ensures err { has_failed store.old ≡ false
-        → IfErr result (λ fault. (fault ≡ ServeFault.Write) ⊎ ((fault ≡ ServeFault.Refused) ⊎ ((fault ≡ ServeFault.Store) × (has_failed store.new ≡ true) × Failing store.old store.new))) }
+        → IfErr result (λ fault. (fault ≡ ServeFault.Write)
+        ⊎ ((fault ≡ ServeFault.Refused)
+        ⊎ ((fault ≡ ServeFault.Store) × (has_failed store.new ≡ true)
+        × Failing store.old store.new))) }
     ensures left { has_failed store.old ≡ true → store.new ≡ store.old }
     ensures answer { (s : State)
         → (part : List ℕ) → HoldsLine line.now part

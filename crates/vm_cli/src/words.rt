@@ -208,7 +208,8 @@ fn do_lines<'a>(alloc: Global) -> Result<Command<'a>, AllocError>
 // A command with the options of a talk.
 fn with_options<'a>(alloc: Global, command: Command<'a>) -> Result<Command<'a>, AllocError>
     ensures app { IfOk result (λ c. app_of c ≡ with_rule (with_rule (app_of command.entry) cache_rule) strict_rule) }
-    ensures local { (out-Command command.entry).has_globals ≡ false → IfOk result (λ c. (out-Command c).has_globals ≡ false) }
+    ensures local { (out-Command command.entry).has_globals ≡ false
+        → IfOk result (λ c. (out-Command c).has_globals ≡ false) }
 {
     command.arg(cache(alloc))?.arg(strict(alloc))
 }

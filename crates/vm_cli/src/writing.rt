@@ -12,7 +12,8 @@ pub struct WriteFault;
 /// contract says what was written before one.
 pub fn put_all<W: Write>(writer: &mut W, bytes: &[u8]) -> Result<(), WriteFault>
     ensures ok { OnOk result (Appends (W.contents writer.old) (W.contents writer.new) bytes.now) }
-    ensures err { OnErr result ((k : ℕ) × Appends (W.contents writer.old) (W.contents writer.new) (take k bytes.now)) }
+    ensures err { OnErr result ((k : ℕ)
+        × Appends (W.contents writer.old) (W.contents writer.new) (take k bytes.now)) }
 {
     let mut rest = bytes;
     while !rest.is_empty() {

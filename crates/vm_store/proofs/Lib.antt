@@ -30,3 +30,4 @@ pub mod TakenLemmas
 pub mod TallyLemmas
 pub mod TopLemmas
 pub mod VersionLemmas
+pub mod WiderLemmas

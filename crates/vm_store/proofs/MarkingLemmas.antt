@@ -10,22 +10,29 @@ use Rattle.vm_check.specs.Marking.{IsClosed}
 use Rattle.vm_store.specs.Filed.{Filed, Standing, reach}
 use Rattle.vm_store.specs.Marking.{AreReached}
 use Rattle.vm_store.specs.declared.versions.Version.{Version}
+use Rattle.vm_store.proofs.WiderLemmas.{rooted_wider}
 
--- standing versions reach just what is under their roots
-pub standing_reached : (P : ℕ → Type 0) (x : Contents) (limit : ℕ) (vs : List Version) (fs : List Filed) (s : Standing P x limit vs fs) → AreReached x limit vs (reach P x limit vs fs s)
-standing_reached P x limit [] [] s = refl
-standing_reached P x limit (v ∷ vs) (f ∷ fs) s =
+-- standing versions reach just what is under their roots, also in a store of more blocks
+pub standing_reached : (P : ℕ → Type 0) (x : Contents) (limit more : ℕ) → limit ≤ more → (vs : List Version) (fs : List Filed) (s : Standing P x limit vs fs) → AreReached x more vs (reach P x limit vs fs s)
+standing_reached P x limit more few [] [] s = refl
+standing_reached P x limit more few (v ∷ vs) (f ∷ fs) s =
     let current = s.0.current in
     let base = s.0.base in
     let rest = reach P x limit vs fs s.1 in (
       current.stands_in ++ base.stands_in,
       rest,
-      (current.stands_in, base.stands_in, (f.current, current.rooted), (f.base, base.rooted), refl),
-      standing_reached P x limit vs fs s.1,
+      (
+        current.stands_in,
+        base.stands_in,
+        (f.current, rooted_wider x limit more few v.current f.current current.stands_in current.rooted),
+        (f.base, rooted_wider x limit more few v.base f.base base.stands_in base.rooted),
+        refl,
+      ),
+      standing_reached P x limit more few vs fs s.1,
       sym (append_assoc current.stands_in base.stands_in rest),
     )
-standing_reached P x limit [] (f ∷ fs) s = absurd s
-standing_reached P x limit (v ∷ vs) [] s = absurd s
+standing_reached P x limit more few [] (f ∷ fs) s = absurd s
+standing_reached P x limit more few (v ∷ vs) [] s = absurd s
 
 pub none_marked : (limit n : ℕ) → IsMarked (replicate limit false) n → ⊥
 none_marked limit n is = by_case (cases_lt n limit)

@@ -8,7 +8,7 @@ use Rattle.vm_disk.specs.Disk as disk
 use Rattle.vm_disk.specs.Disk.{Contents, block, Medium, IsClean, Syncs}
 use Rattle.vm_disk.specs.declared.disk.DeviceFault.{DeviceFault}
 use Rattle.vm_disk.specs.Moments.{Throughout, OnlyReads}
-use Rattle.vm_disk.proofs.MomentLemmas.{started, goes_on, same_medium}
+use Rattle.vm_disk.proofs.MomentLemmas.{clean_sure, started, goes_on, same_medium}
 use Rattle.vm_alloc.specs.Held.{is_held, IsHeld, free_count}
 use Rattle.vm_alloc.specs.Marks.{is_marked, IsMarked}
 use Rattle.std.specs.List.{AllByRecursion}
@@ -37,6 +37,7 @@ use Rattle.vm_store.specs.Sizes.{sizes}
 use Rattle.vm_store.specs.Versions.{numbers_of, slot_entries, versions_of}
 use Rattle.vm_store.specs.declared.versions.Version.{Version}
 use Rattle.vm_store.proofs.TopLemmas.{rooted_tree}
+use Rattle.vm_store.proofs.WiderLemmas.{rooted_wider}
 use Rattle.vm_store.specs.Filed.{Filed, Standing, reach, tree_of}
 use Rattle.vm_store.specs.Shown.{Shows, ShowsNothing}
 use Rattle.vm_store.specs.Resting.{IsSafe, Rests, spare_of}
@@ -138,7 +139,10 @@ module _ (m : Medium) (limit : ℕ) (slot_b : Bool) (es : List Entry) (clean : I
       record {
         old = fs;
         new = fs;
+        kept = limit;
+        fewer = omega arith;
         inside = inside;
+        sure = omega (arith, clean_sure m clean);
         system = system;
         rest = record { names = subst (λ (l : List Entry). Names m.contents limit l) (sym same) names; in_use = sym in_use; clean = λ n used. clean n };
         fits = subst (SlotFits limit) (sym same) slot.fits;
@@ -233,33 +237,33 @@ rests_named m limit slot_b bits vs committed working s same same' rests =
 rooted_one : (x : Contents) (limit : ℕ) (r : Root) (m n : Map) (bs ds : List ℕ) → IsRooted sizes x limit r m bs → IsRooted sizes x limit r n ds → bs ≡ ds
 rooted_one x limit r m n bs ds one other = (tree_one sizes x limit r.block m n bs ds (rooted_tree x limit r m bs one) (rooted_tree x limit r n ds other)).1
 
--- standing versions reach just what the walk found under their roots
-roots_reach : (P : ℕ → Type 0) (x : Contents) (limit : ℕ) (es : List Entry) (rs : List Root) (bs : List ℕ) (fs : List Filed) → AreRoots sizes x limit (numbers_of es) rs bs → (s : Standing P x limit (versions_of es rs) fs)
-    → reach P x limit (versions_of es rs) fs s ≡ bs
-roots_reach P x limit [] rs bs [] are s = none_reached rs are
+-- standing versions, also of a store of fewer blocks, reach just what the walk found under their roots
+roots_reach : (P : ℕ → Type 0) (x : Contents) (few limit : ℕ) → few ≤ limit → (es : List Entry) (rs : List Root) (bs : List ℕ) (fs : List Filed) → AreRoots sizes x limit (numbers_of es) rs bs
+    → (s : Standing P x few (versions_of es rs) fs) → reach P x few (versions_of es rs) fs s ≡ bs
+roots_reach P x few limit le [] rs bs [] are s = none_reached rs are
   where
     none_reached : (rs : List Root) → AreRoots sizes x limit [] rs bs → [] ≡ bs
     none_reached [] are = sym are
     none_reached (r ∷ rs) are = absurd are
-roots_reach P x limit [] rs bs (f ∷ fs) are s = absurd s
-roots_reach P x limit (e ∷ es) [] bs fs are s = absurd are
-roots_reach P x limit (e ∷ es) (r ∷ []) bs fs are s = absurd are.5
-roots_reach P x limit (e ∷ es) (r ∷ q ∷ rs) bs [] are s = absurd s
-roots_reach P x limit (e ∷ es) (r ∷ q ∷ rs) bs (f ∷ fs) are s =
+roots_reach P x few limit le [] rs bs (f ∷ fs) are s = absurd s
+roots_reach P x few limit le (e ∷ es) [] bs fs are s = absurd are
+roots_reach P x few limit le (e ∷ es) (r ∷ []) bs fs are s = absurd are.5
+roots_reach P x few limit le (e ∷ es) (r ∷ q ∷ rs) bs [] are s = absurd s
+roots_reach P x few limit le (e ∷ es) (r ∷ q ∷ rs) bs (f ∷ fs) are s =
     let base = are.5 in
-    let current_same = rooted_one x limit r f.current are.0 s.0.current.stands_in are.1 s.0.current.rooted are.4 in
-    let base_same = rooted_one x limit q f.base base.0 s.0.base.stands_in base.1 s.0.base.rooted base.4 in
-    let rest = roots_reach P x limit es rs base.2 fs base.5 s.1 in
-    ap (λ ds. ds ++ (s.0.base.stands_in ++ reach P x limit (versions_of es rs) fs s.1)) current_same
-    ∙ ap (λ ds. are.1 ++ (ds ++ reach P x limit (versions_of es rs) fs s.1)) base_same
+    let current_same = rooted_one x limit r f.current are.0 s.0.current.stands_in are.1 (rooted_wider x few limit le r f.current s.0.current.stands_in s.0.current.rooted) are.4 in
+    let base_same = rooted_one x limit q f.base base.0 s.0.base.stands_in base.1 (rooted_wider x few limit le q f.base s.0.base.stands_in s.0.base.rooted) base.4 in
+    let rest = roots_reach P x few limit le es rs base.2 fs base.5 s.1 in
+    ap (λ ds. ds ++ (s.0.base.stands_in ++ reach P x few (versions_of es rs) fs s.1)) current_same
+    ∙ ap (λ ds. are.1 ++ (ds ++ reach P x few (versions_of es rs) fs s.1)) base_same
     ∙ ap (λ ds. are.1 ++ (base.1 ++ ds)) rest
     ∙ ap (λ ds. are.1 ++ ds) (sym base.6) ∙ sym are.6
 
 -- the same, for versions known by another name
-reached_named : (P : ℕ → Type 0) (x : Contents) (limit : ℕ) (es : List Entry) (rs : List Root) (bs : List ℕ) (vs : List Version) (fs : List Filed) → vs ≡ versions_of es rs → AreRoots sizes x limit (numbers_of es) rs bs
-    → (s : Standing P x limit vs fs) → reach P x limit vs fs s ≡ bs
-reached_named P x limit es rs bs vs fs same are =
-    subst (λ (us : List Version). (s : Standing P x limit us fs) → reach P x limit us fs s ≡ bs) (sym same) (roots_reach P x limit es rs bs fs are)
+reached_named : (P : ℕ → Type 0) (x : Contents) (few limit : ℕ) → few ≤ limit → (es : List Entry) (rs : List Root) (bs : List ℕ) (vs : List Version) (fs : List Filed) → vs ≡ versions_of es rs
+    → AreRoots sizes x limit (numbers_of es) rs bs → (s : Standing P x few vs fs) → reach P x few vs fs s ≡ bs
+reached_named P x few limit le es rs bs vs fs same are =
+    subst (λ (us : List Version). (s : Standing P x few us fs) → reach P x few us fs s ≡ bs) (sym same) (roots_reach P x few limit le es rs bs fs are)
 
 -- just the spare blocks are free
 pub freed : (m : Medium) (limit : ℕ) (slot_b : Bool) (after : List Bool) (committed working : List Version) (es : List Entry) (rs : List Root) (marks : List Bool)
@@ -267,8 +271,8 @@ pub freed : (m : Medium) (limit : ℕ) (slot_b : Bool) (after : List Bool) (comm
     → length after ≡ limit → ((n : ℕ) → n < 34 → IsHeld after n) → ((n : ℕ) → 34 ≤ n → is_held after n ≡ is_marked marks n)
     → (s : State) (rests : Rests m limit slot_b after committed working s) → free_count after ≡ spare_of rests
 freed m limit slot_b after committed working es rs marks old new found many system replaced s rests =
-    let first = reached_named (IsSafe after m) m.contents limit es rs found.blocks committed rests.old old found.are rests.safe in
-    let then = reached_named (IsHeld after) m.contents limit es rs found.blocks working rests.new new found.are rests.stands in
+    let first = reached_named (IsSafe after m) m.contents rests.kept limit rests.fewer es rs found.blocks committed rests.old old found.are rests.safe in
+    let then = reached_named (IsHeld after) m.contents limit limit (omega arith) es rs found.blocks working rests.new new found.are rests.stands in
     let all : MarksMore (found.blocks ++ found.blocks) (replicate limit false) marks = record {
       grows = record { same_length = found.count ∙ sym (length-replicate {A = Bool} limit false); still = λ n is. absurd (none_marked limit n is) };
       each = each_join (IsMarked marks) found.blocks found.blocks found.each found.each;

@@ -1,5 +1,5 @@
 -- What a store stands for, through device calls, crashes, puts and commits.
-use Rattle.std.proofs.Common.{◌≡◌, ◌⊎◌, inl, inr, ℕ, ◌+◌, ◌<◌, ◌≤◌, ◌^◌, not, nat_lt, Bool, true, false, List, [], length, find, Option, Some, None, option_map, unwrap_or, get_or, set, Result, Ok, Err, refl, sym, ap, ◌∙◌, subst, arith}
+use Rattle.std.proofs.Common.{◌≡◌, ◌⊎◌, inl, inr, ℕ, ◌+◌, ◌<◌, ◌≤◌, ◌^◌, not, nat_lt, Bool, true, false, List, [], length, find, Option, Some, None, option_map, unwrap_or, get_or, set, Ok, Err, refl, sym, ap, ◌∙◌, subst, arith}
 use Rattle.vm_types.specs.declared.answer.Answer.{Answer}
 use Rattle.vm_types.specs.declared.answer.Answer.TheVariants.{Done}
 use Rattle.vm_types.specs.declared.command.Command.TheVariants.{Put, Commit}
@@ -15,7 +15,7 @@ use Rattle.vm_types.specs.Kept.{LeftBy}
 use Rattle.vm_disk.specs.Disk as disk
 use Rattle.vm_disk.specs.Disk.{Contents, block, Medium, MayLeave, IsClean}
 use Rattle.vm_disk.specs.Moments.{Spares, OnlyReads}
-use Rattle.vm_disk.proofs.MomentLemmas.{spared, same_medium}
+use Rattle.vm_disk.proofs.MomentLemmas.{clean_sure, spared, same_medium}
 use Rattle.vm_alloc.specs.Held.{IsHeld, HoldsMore}
 use Rattle.vm_block.specs.Slot.{SlotFits, used_blocks}
 use Rattle.vm_block.specs.Slot as slot
@@ -28,7 +28,7 @@ use Rattle.vm_catalog.specs.Catalog.{Names, AtRest}
 use Rattle.vm_catalog.specs.Publishing.{IsPublished, PublishLeaves}
 use Rattle.vm_catalog.proofs.PlaceLemmas.{used_cases, sixteen}
 use Rattle.vm_catalog.proofs.PublishLemmas.{names_in}
-use Rattle.vm_tree.specs.Answers.{OkOrDevice, Puts}
+use Rattle.vm_tree.specs.Answers.{Puts}
 use Rattle.vm_tree.specs.Free.{is_free}
 use Rattle.vm_tree.specs.Root.{Grown}
 use Rattle.vm_tree.specs.declared.root.Root.{Root}
@@ -78,28 +78,28 @@ module _ (m : Medium) (limit : ℕ) (slot_b : Bool) (bits : List Bool) (committe
   -- a crash after calls that write free blocks alone shows what was committed
   pub shows_old : (now : Medium) → Spares (is_free bits) m now → (left : Contents) → MayLeave now left → Shows left s.committed
   shows_old now spares left may = record {
-    limit = limit;
+    limit = rests.kept;
     versions = committed;
     filed = rests.old;
-    names = names_in m.contents left slot_b limit (slot_entries committed) (kept_used now spares left may) rests.rest.in_use rests.rest.names;
-    inside = subst (λ n. limit ≤ n) (sym (may.count ∙ spares.count)) rests.inside;
-    stands = standing_in (IsSafe bits m) (λ n. Unit {0}) m.contents left limit (kept_safe now spares left may) (λ n safe. tt) committed rests.old rests.safe;
+    names = names_in m.contents left slot_b rests.kept (slot_entries committed) (kept_used now spares left may) rests.rest.in_use rests.rest.names;
+    inside = omega (arith, may.least, spares.sure, rests.sure);
+    stands = standing_in (IsSafe bits m) (λ n. Unit {0}) m.contents left rests.kept (kept_safe now spares left may) (λ n safe. tt) committed rests.old rests.safe;
     gives = rests.gives_old;
   }
 
   -- the committed entries are at rest after calls that write free blocks alone
-  pub at_rest : (now : Medium) → Spares (is_free bits) m now → AtRest slot_b now limit (slot_entries committed)
+  pub at_rest : (now : Medium) → Spares (is_free bits) m now → AtRest slot_b now rests.kept (slot_entries committed)
   at_rest now spares =
       let same : (n : ℕ) → is_used slot_b (length (slot_entries committed)) n ≡ true → is_free bits n ≡ false = λ n used. held_not_free bits n (rests.system n (used_low slot_b (length (slot_entries committed)) n few used)) in
       record {
-        names = names_in m.contents now.contents slot_b limit (slot_entries committed) (λ n used. spares.same n (same n used)) rests.rest.in_use rests.rest.names;
+        names = names_in m.contents now.contents slot_b rests.kept (slot_entries committed) (λ n used. spares.same n (same n used)) rests.rest.in_use rests.rest.names;
         in_use = ap (λ b. names_b b) (spares.same 1 (held_not_free bits 1 (rests.system 1 (omega arith)))) ∙ rests.rest.in_use;
         clean = λ n used. spares.clean n (same n used) (rests.rest.clean n used);
       }
 
-  pub safe_on : (now : Medium) (after : List Bool) → Spares (is_free bits) m now → HoldsMore bits after → Standing (IsSafe after now) now.contents limit committed rests.old
+  pub safe_on : (now : Medium) (after : List Bool) → Spares (is_free bits) m now → HoldsMore bits after → Standing (IsSafe after now) now.contents rests.kept committed rests.old
   safe_on now after spares more =
-      standing_in (IsSafe bits m) (IsSafe after now) m.contents now.contents limit (λ n safe. spares.same n (held_not_free bits n safe.held))
+      standing_in (IsSafe bits m) (IsSafe after now) m.contents now.contents rests.kept (λ n safe. spares.same n (held_not_free bits n safe.held))
       (λ n safe. record { held = more.still n safe.held; clean = spares.clean n (held_not_free bits n safe.held) safe.clean }) committed rests.old rests.safe
 
   pub stands_on : (now : Medium) (after : List Bool) → Spares (is_free bits) m now → HoldsMore bits after → Standing (IsHeld after) now.contents limit working rests.new
@@ -113,7 +113,10 @@ module _ (m : Medium) (limit : ℕ) (slot_b : Bool) (bits : List Bool) (committe
   rests_on now after changed new tree spares more fits stands gives = record {
     old = rests.old;
     new = new;
+    kept = rests.kept;
+    fewer = rests.fewer;
     inside = subst (λ n. limit ≤ n) (sym spares.count) rests.inside;
+    sure = omega (arith, rests.sure, spares.sure);
     system = λ n low. more.still n (rests.system n low);
     rest = at_rest now spares;
     fits = fits;
@@ -128,22 +131,19 @@ module _ (m : Medium) (limit : ℕ) (slot_b : Bool) (bits : List Bool) (committe
   rests_more now after spares more = rests_on now after working rests.new s.working spares more rests.fits (stands_on now after spares more) rests.gives_new
 
   -- a crash in a publish shows what was committed, or what was working
-  pub published_left : (left : Contents) → PublishLeaves m limit (slot_entries committed) limit (slot_entries working) left → LeftBy Shows s Commit left
-  published_left left leaves = by_names leaves.1
+  pub published_left : (left : Contents) → PublishLeaves m rests.kept (slot_entries committed) limit (slot_entries working) left → LeftBy Shows s Commit left
+  published_left left leaves = by_names leaves.2
     where
-      inside : limit ≤ length left
-      inside = subst (λ n. limit ≤ n) (sym leaves.0) rests.inside
-
-      by_names : (Names left limit (slot_entries committed) × ((n : ℕ) → 34 ≤ n → m.dirty n ≡ false → block left n ≡ block m.contents n))
-          ⊎ (Names left limit (slot_entries working) × ((n : ℕ) → 34 ≤ n → block left n ≡ block m.contents n)) → LeftBy Shows s Commit left
+      by_names : (Names left rests.kept (slot_entries committed) × ((n : ℕ) → 34 ≤ n → m.dirty n ≡ false → block left n ≡ block m.contents n))
+          ⊎ (Names left limit (slot_entries working) × (length left ≡ length m.contents) × ((n : ℕ) → 34 ≤ n → block left n ≡ block m.contents n)) → LeftBy Shows s Commit left
       by_names (inl old) = inl (record {
-        limit = limit;
+        limit = rests.kept;
         versions = committed;
         filed = rests.old;
         names = old.0;
-        inside = inside;
-        stands = standing_in (λ n. IsSafe bits m n × IsData limit n) (λ n. Unit {0}) m.contents left limit (λ n safe. old.1 n safe.1.0 safe.0.clean) (λ n safe. tt) committed rests.old
-            (standing_data (IsSafe bits m) m.contents limit committed rests.old rests.safe);
+        inside = omega (arith, leaves.0, rests.sure);
+        stands = standing_in (λ n. IsSafe bits m n × IsData rests.kept n) (λ n. Unit {0}) m.contents left rests.kept (λ n safe. old.1 n safe.1.0 safe.0.clean) (λ n safe. tt) committed rests.old
+            (standing_data (IsSafe bits m) m.contents rests.kept committed rests.old rests.safe);
         gives = rests.gives_old;
       })
       by_names (inr new) = inr (
@@ -153,8 +153,8 @@ module _ (m : Medium) (limit : ℕ) (slot_b : Bool) (bits : List Bool) (committe
           versions = working;
           filed = rests.new;
           names = new.0;
-          inside = inside;
-          stands = standing_in (λ n. IsHeld bits n × IsData limit n) (λ n. Unit {0}) m.contents left limit (λ n held. new.1 n held.1.0) (λ n held. tt) working rests.new
+          inside = omega (arith, new.1, rests.inside);
+          stands = standing_in (λ n. IsHeld bits n × IsData limit n) (λ n. Unit {0}) m.contents left limit (λ n held. new.2 n held.1.0) (λ n held. tt) working rests.new
               (standing_data (IsHeld bits) m.contents limit working rests.new rests.stands);
           gives = rests.gives_new;
         },
@@ -168,7 +168,10 @@ module _ (m : Medium) (limit : ℕ) (slot_b : Bool) (bits : List Bool) (committe
       let rests' : Rests now limit (not slot_b) bits working working (next s Commit (Ok answer)) = record {
         old = rests.new;
         new = rests.new;
+        kept = limit;
+        fewer = omega arith;
         inside = subst (λ n. limit ≤ n) (sym done.count) rests.inside;
+        sure = omega (arith, clean_sure now done.clean, done.count, rests.inside);
         system = rests.system;
         rest = done.rest;
         fits = rests.fits;
@@ -255,10 +258,10 @@ module _ (m : Medium) (limit : ℕ) (slot_b : Bool) (bits : List Bool) (committe
         (grown_changed name g [] rests.new refl ∙ ap (λ t. changed t name (recurrent g)) rests.gives_new))
 
 -- a crash in a publish of the working entries, written to a list of their own
-pub lent_left : (m : Medium) (limit : ℕ) (slot_b : Bool) (bits : List Bool) (committed working : List Version) (s : State) → Rests m limit slot_b bits committed working s
-    → (lent : List Entry) → lent ≡ slot_entries working → (left : Contents) → PublishLeaves m limit (slot_entries committed) limit lent left → LeftBy Shows s Commit left
+pub lent_left : (m : Medium) (limit : ℕ) (slot_b : Bool) (bits : List Bool) (committed working : List Version) (s : State) → (rests : Rests m limit slot_b bits committed working s)
+    → (lent : List Entry) → lent ≡ slot_entries working → (left : Contents) → PublishLeaves m rests.kept (slot_entries committed) limit lent left → LeftBy Shows s Commit left
 lent_left m limit slot_b bits committed working s rests lent same left leaves =
-    published_left m limit slot_b bits committed working s rests left (subst (λ (es : List Entry). PublishLeaves m limit (slot_entries committed) limit es left) same leaves)
+    published_left m limit slot_b bits committed working s rests left (subst (λ (es : List Entry). PublishLeaves m rests.kept (slot_entries committed) limit es left) same leaves)
 
 -- reads change nothing
 pub read_rests : (old new : disk.State) (limit : ℕ) (slot_b : Bool) (bits : List Bool) (committed working : List Version) (s : State) → OnlyReads old new
@@ -269,12 +272,12 @@ read_rests old new limit slot_b bits committed working s reads rests =
 -- what is committed is shown
 pub shows_now : (m : Medium) (limit : ℕ) (slot_b : Bool) (bits : List Bool) (committed working : List Version) (s : State) → Rests m limit slot_b bits committed working s → Shows m.contents s.committed
 shows_now m limit slot_b bits committed working s rests = record {
-  limit = limit;
+  limit = rests.kept;
   versions = committed;
   filed = rests.old;
   names = rests.rest.names;
-  inside = rests.inside;
-  stands = standing_in (IsSafe bits m) (λ n. Unit {0}) m.contents m.contents limit (λ n safe. refl) (λ n safe. tt) committed rests.old rests.safe;
+  inside = omega (arith, rests.sure, m.within);
+  stands = standing_in (IsSafe bits m) (λ n. Unit {0}) m.contents m.contents rests.kept (λ n safe. refl) (λ n safe. tt) committed rests.old rests.safe;
   gives = rests.gives_old;
 }
 

@@ -9,13 +9,13 @@ use Rattle.vm_store.specs.Resting.{IsSafe}
 use Rattle.vm_store.specs.Versions.{slot_entries}
 use Rattle.vm_store.specs.declared.versions.Version.{Version}
 
--- a header stands before this slot, which names versions within the disk. The header, each block that names them and
+-- a header stands before this slot, which names versions within the blocks that a crash leaves. The header, each block that names them and
 -- each block under their roots is clean, so no write has gone to any of these; those under the roots are held, too
 pub record IsWhole (bits : List Bool) (m : Medium) (slot_b : Bool) : Type 0 where
   pub limit : ℕ
   pub versions : List Version
   pub filed : List Filed
-  pub inside : limit ≤ length m.contents
+  pub inside : limit ≤ m.sure
   pub header : IsHeader (block m.contents 0)
   pub slot : SlotAt m.contents slot_b limit (slot_entries versions)
   pub clean : (n : ℕ) → n ≢ 1 → is_used slot_b (length (slot_entries versions)) n ≡ true → m.dirty n ≡ false

@@ -48,7 +48,8 @@ fn read_sides<D: Disk>(
         → IsRooted sizes (D.state disk.old).now.contents blocks roots.base base bs
         → IsRooted sizes (D.state disk.old).now.contents blocks roots.parent parent ps
         → IsRooted sizes (D.state disk.old).now.contents blocks roots.own own os
-        → ReadsOr result (λ s. (s.theirs.items ≡ delta base parent) × (s.mine.items ≡ delta base own)) (λ r. ⊥) }
+        → ReadsOr result (λ s. (s.theirs.items ≡ delta base parent)
+        × (s.mine.items ≡ delta base own)) (λ r. ⊥) }
     ensures bound { (D.state disk.new).honest ≡ true → (base parent own : Map) (bs ps os : List ℕ)
         → IsRooted sizes (D.state disk.old).now.contents blocks roots.base base bs
         → IsRooted sizes (D.state disk.old).now.contents blocks roots.parent parent ps
@@ -143,7 +144,8 @@ pub fn changes_of_merge<D: Disk>(
         → IsRooted sizes (D.state disk.old).now.contents blocks roots.base base bs
         → IsRooted sizes (D.state disk.old).now.contents blocks roots.parent parent ps
         → IsRooted sizes (D.state disk.old).now.contents blocks roots.own own os
-        → ReadsOr result (λ list. (refusal_in base parent own settled.now ≡ None) × (list.items ≡ delta own (merge base parent own settled.now)))
+        → ReadsOr result (λ list. (refusal_in base parent own settled.now ≡ None)
+        × (list.items ≡ delta own (merge base parent own settled.now)))
         (λ r. refusal_in base parent own settled.now ≡ Some r) }
 {
     let sides = read_sides(alloc, disk, blocks, roots)?;

@@ -81,7 +81,8 @@ impl<D: Disk> Store<D> {
         ensures refused { has_failed self.old ≡ true → result ≡ Err Refusal.Failed }
         ensures no_calls { has_failed self.old ≡ true → (self.new ≡ self.old) }
         ensures only_then { has_failed self.old ≡ false → result ≢ Err Refusal.Failed }
-        ensures same { OnErr result (result ≢ Err Refusal.Device → entries_of self.new ≡ entries_of self.old) }
+        ensures same { OnErr result (result ≢ Err Refusal.Device
+            → entries_of self.new ≡ entries_of self.old) }
         ensures unchanged { EarlyKeeps result self.old self.new }
         ensures memory { result ≡ Err Refusal.Memory → IsMerge command.now }
 

@@ -112,11 +112,13 @@ impl<D: Disk> Store<D> {
     pub fn checkpoints(&self, alloc: Global, alt: &Name) -> Result<Vec<Name>, Refusal>
         ensures refused { has_failed self.now ≡ true → result ≡ Err Refusal.Failed }
         ensures only_then { has_failed self.now ≡ false
-            → IfErr result (λ refusal. (refusal ≡ Refusal.Memory) ⊎ (refusal ≡ Refusal.NoSuchAlternative)) }
+            → IfErr result (λ refusal. (refusal ≡ Refusal.Memory)
+            ⊎ (refusal ≡ Refusal.NoSuchAlternative)) }
         ensures value { has_failed self.now ≡ false → (s : State) → Holds self.now s
             → IfOk result (λ list. Ok list.items ≡ checkpoints_in s.working alt.now) }
         ensures none { has_failed self.now ≡ false → (s : State) → Holds self.now s
-            → IfErr result (λ refusal. (refusal ≡ Refusal.Memory) ⊎ (Err refusal ≡ checkpoints_in s.working alt.now)) }
+            → IfErr result (λ refusal. (refusal ≡ Refusal.Memory)
+            ⊎ (Err refusal ≡ checkpoints_in s.working alt.now)) }
     {
         if self.failed {
             return Err(Refusal::Failed);

@@ -130,10 +130,13 @@ fn make_store<D: Disk>(disk: &mut D, blocks: u32) -> Result<(), Refusal>
 /// Where it refuses, the disk comes back with the refusal; a store that was there stands unchanged.
 pub fn format<D: Disk>(mut disk: D, blocks: u32) -> Result<D, (D, Refusal)>
     // On any disk.
-    ensures any { Goes (IsErrAnd result (λ e. e.1 ≡ Refusal.Device)) (D.state disk) (D.state (given_back result)) }
-    ensures bad_size { IsErrAnd result (λ e. e.1 ≡ Refusal.BadSize) ↔ IsBadSize blocks (D.state disk).blocks }
+    ensures any { Goes (IsErrAnd result
+        (λ e. e.1 ≡ Refusal.Device)) (D.state disk) (D.state (given_back result)) }
+    ensures bad_size { IsErrAnd result
+        (λ e. e.1 ≡ Refusal.BadSize) ↔ IsBadSize blocks (D.state disk).blocks }
     ensures untouched { IsErrAnd result (λ e. e.1 ≡ Refusal.BadSize) → given_back result ≡ disk }
-    ensures refusals { IfErr result (λ e. (e.1 ≡ Refusal.BadSize) ⊎ ((e.1 ≡ Refusal.AlreadyAStore) ⊎ (e.1 ≡ Refusal.Device))) }
+    ensures refusals { IfErr result
+        (λ e. (e.1 ≡ Refusal.BadSize) ⊎ ((e.1 ≡ Refusal.AlreadyAStore) ⊎ (e.1 ≡ Refusal.Device))) }
 
     // It refuses a store that is there, and leaves it as it was.
     ensures already { (D.state (given_back result)).honest ≡ true

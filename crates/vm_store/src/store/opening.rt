@@ -37,7 +37,8 @@ fn find_slot<D: Disk>(disk: &mut D) -> Result<bool, Refusal>
     ensures synced { (D.state disk.new).honest ≡ true → result ≢ Err Refusal.Device
         → IsSynced (D.state disk.old).now (D.state disk.new).now }
     ensures found { (D.state disk.new).honest ≡ true
-        → IfOk result (λ slot_b. IsStore (D.state disk.old).now.contents × (slot_b ≡ names_b (block (D.state disk.old).now.contents 1))) }
+        → IfOk result (λ slot_b. IsStore (D.state disk.old).now.contents
+        × (slot_b ≡ names_b (block (D.state disk.old).now.contents 1))) }
     ensures refused { (D.state disk.new).honest ≡ true
         → IfErr result (IsRefused (D.state disk.old).now.contents) }
 {
@@ -90,8 +91,11 @@ fn versions_twice(
 ) -> Option<(Vec<Version>, Vec<Version>)>
     requires few { length entries.now ≤ 511 }
     requires roots { length roots.now ≡ 2 * length entries.now }
-    ensures items { IfSome result (λ pair. (pair.0.items ≡ versions_of entries.now roots.now) × (pair.1.items ≡ versions_of entries.now roots.now)) }
-    ensures room { IfSome result (λ pair. (511 ≤ vec_capacity pair.0) × (511 ≤ vec_capacity pair.1)) }
+    ensures items { IfSome result
+        (λ pair. (pair.0.items ≡ versions_of entries.now roots.now)
+        × (pair.1.items ≡ versions_of entries.now roots.now)) }
+    ensures room { IfSome result (λ pair. (511 ≤ vec_capacity pair.0)
+        × (511 ≤ vec_capacity pair.1)) }
 {
     let (Ok(mut committed), Ok(mut working)) = (
         Vec::with_capacity(alloc, MAX_ENTRIES),
@@ -179,7 +183,8 @@ fn find_store<D: Disk>(alloc: Global, disk: &mut D) -> Result<Parts, Refusal>
 /// refuses, the disk comes back with the refusal.
 pub fn open<D: Disk>(alloc: Global, mut disk: D) -> Result<Store<D>, (D, Refusal)>
     // On any disk.
-    ensures any { Goes (IsErrAnd result (λ e. e.1 ≡ Refusal.Device)) (D.state disk) (D.state (disk_in result)) }
+    ensures any { Goes (IsErrAnd result
+        (λ e. e.1 ≡ Refusal.Device)) (D.state disk) (D.state (disk_in result)) }
     ensures well { IfOk result (λ store. has_failed store ≡ false) }
 
     // The store stands for the tree that is shown, and just the spare blocks are free, on a disk that is synced.
@@ -192,7 +197,8 @@ pub fn open<D: Disk>(alloc: Global, mut disk: D) -> Result<Store<D>, (D, Refusal
     ensures refused { (D.state (disk_in result)).honest ≡ true
         → IfErr result (λ e. IsRefused (D.state disk).now.contents e.1) }
     ensures none { (D.state (disk_in result)).honest ≡ true
-        → IfErr result (λ e. e.1 ≢ Refusal.Device → e.1 ≢ Refusal.Memory → ShowsNothing (D.state disk).now.contents) }
+        → IfErr result (λ e. e.1 ≢ Refusal.Device → e.1 ≢ Refusal.Memory
+        → ShowsNothing (D.state disk).now.contents) }
 
     // At each moment nothing has changed, or all is synced.
     ensures moments { (D.state (disk_in result)).honest ≡ true

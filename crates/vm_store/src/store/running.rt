@@ -46,7 +46,8 @@ impl<D: Disk> Store<D> {
             → (has_failed self.new ≡ true) × EndsWithDevice result.0.items }
         ensures no_device { result.1 ≢ Some Stop.Device → NoneIsDevice result.0.items }
         ensures no_failed { All (λ answer. answer ≢ Err Refusal.Failed) result.0.items }
-        ensures whole { result.1 ≡ None → (length result.0.items ≡ length commands.now) × (has_failed self.new ≡ false) }
+        ensures whole { result.1 ≡ None
+            → (length result.0.items ≡ length commands.now) × (has_failed self.new ≡ false) }
 
         // Each command is answered in its turn and does to the store just what `apply` promises of it, and the
         // store stands for what these answers leave.

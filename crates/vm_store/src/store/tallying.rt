@@ -31,7 +31,8 @@ impl<D: Disk> Store<D> {
         // The numbers are the model's, and so are the refusals, unless the device fails or memory is wanting.
         ensures value { IsHonest self.new → has_failed self.old ≡ false → (s : State)
             → Holds self.old s
-            → (result ≡ Err Refusal.Device) ⊎ ((result ≡ Err Refusal.Memory) ⊎ (result ≡ tally_in s.working alt.now)) }
+            → (result ≡ Err Refusal.Device)
+            ⊎ ((result ≡ Err Refusal.Memory) ⊎ (result ≡ tally_in s.working alt.now)) }
         ensures state { IsHonest self.new → (s : State) → Holds self.old s → Holds self.new s }
         ensures reads { IsHonest self.new → ReadsAlone self.old self.new }
 

@@ -39,7 +39,7 @@ returns-in_err-select_slot-clause-moments g c honest limit es rest fits =
     let ready = ready_by c.args.in_use old.now limit es c.args.blocks c.args.entries.now rest fits _ _ spares synced.synced sync.same (c.in_ok-write_slot.ensures.written (c.sync.ensures.any.earlier (c.select_slot.ensures.any.earlier honest))) in
     let turn = c.select_slot.ensures.honest honest in
     goes_on _ _ _ _ (goes_on _ _ _ _ (weaken _ _ _ _ before writes) sync.time (before _ spares)) turn.time
-    (at_selector c.args.in_use old.now limit es c.args.blocks c.args.entries.now rest fits _ _ ready turn.dirty turn.count turn.others turn.others_dirty)
+    (at_selector c.args.in_use old.now limit es c.args.blocks c.args.entries.now rest fits _ _ ready turn.dirty turn.count turn.sure turn.others turn.others_dirty)
 
 pub returns-in_err-select_slot-clause-any_moment : goal.returns-in_err-select_slot-clause-any_moment
 returns-in_err-select_slot-clause-any_moment g c honest limit es rest fits =
@@ -57,7 +57,7 @@ returns-clause-moments g c honest limit es rest fits =
     let ready = ready_by c.args.in_use old.now limit es c.args.blocks c.args.entries.now rest fits _ _ spares synced.synced sync.same (c.in_ok-write_slot.ensures.written (c.sync.ensures.any.earlier (c.select_slot.ensures.any.earlier (c.sync-2.ensures.any.earlier honest)))) in
     let turn = c.select_slot.ensures.honest (c.sync-2.ensures.any.earlier honest) in
     let turned = c.in_ok-select_slot.ensures.honest (c.sync-2.ensures.any.earlier honest) in
-    let safe = at_selector c.args.in_use old.now limit es c.args.blocks c.args.entries.now rest fits _ _ ready turn.dirty turn.count turn.others turn.others_dirty in
+    let safe = at_selector c.args.in_use old.now limit es c.args.blocks c.args.entries.now rest fits _ _ ready turn.dirty turn.count turn.sure turn.others turn.others_dirty in
     let last = c.sync-2.ensures.honest honest in
     goes_on _ _ _ _ (goes_on _ _ _ _ (goes_on _ _ _ _ (weaken _ _ _ _ before writes) sync.time (before _ spares)) turn.time safe) last.time
     (ends_safely c.args.in_use old.now limit es c.args.blocks c.args.entries.now rest fits _ _ _ _ (record { is_ready = ready; chosen = turned.written; count = turn.count; others = turn.others }) safe last)

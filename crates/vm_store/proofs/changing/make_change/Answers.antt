@@ -11,13 +11,13 @@ use Rattle.vm_store.proofs.changing.make_change.Goals as goal
 
 pub returns-in-Some-clause-changed : goal.returns-in-Some-clause-changed
 returns-in-Some-clause-changed g c honest m grown =
-    put_makes _ _ _ _ _ _ m c.args.change.now _ _ c.in-Some.is (held_kept _ _ _ (c.put.ensures.moments honest)) grown (c.put.ensures.put honest m grown.stands_in grown.rooted)
+    put_makes _ _ _ _ _ _ m c.args.change.now _ _ c.in-Some.is (held_kept _ _ _ (c.put.ensures.writes.moments honest)) grown (c.put.ensures.put honest m grown.stands_in grown.rooted)
 
 pub returns-in-Ok-None-clause-changed : goal.returns-in-Ok-None-clause-changed
 returns-in-Ok-None-clause-changed g c honest m grown =
     let none = c.in-Ok-None.is ∙ ap Ok c.in-Ok-None.field-0-is in
     let absent = rw c.in-Ok-None.field-0-is at (c.in-Ok-None.ensures.remove honest m grown.stands_in grown.rooted) in
-    absent_makes _ _ _ _ _ _ m c.args.change.now c.in-None.is (same_medium _ _ (c.remove.ensures.reads honest none)) (c.remove.ensures.kept none) absent grown
+    absent_makes _ _ _ _ _ _ m c.args.change.now c.in-None.is (same_medium _ _ (c.remove.ensures.kept.reads honest none)) (c.remove.ensures.kept.kept none) absent grown
 
 pub returns-in-Ok-Some-clause-changed : goal.returns-in-Ok-Some-clause-changed
 returns-in-Ok-Some-clause-changed g c honest m grown =

@@ -7,26 +7,26 @@ use Rattle.vm_store.proofs.versions.mark_versions.Goals as goal
 pub returns-in-Err-clause-reads : goal.returns-in-Err-clause-reads
 returns-in-Err-clause-reads g c honest =
     let so_far = c.loop-version.invariant in
-    reads_then _ _ _ (so_far.reads (c.mark.ensures.any.earlier honest)) (c.mark.ensures.reads honest)
+    reads_then _ _ _ (so_far.reads (c.mark.ensures.looks.goes.earlier honest)) (c.mark.ensures.looks.reads honest)
 
 pub returns-in-Err-clause-marked : goal.returns-in-Err-clause-marked
 returns-in-Err-clause-marked g c honest bs joined closed =
     let so_far = c.loop-version.invariant in
-    reached_fault _ _ _ _ c.version-item.result c.loop-version-test.true c.version-item.is _ _ _ (so_far.marked (c.in-Err.ensures.any.earlier honest))
-    (fault_both _ _ _ _ c.version-item.result _ _ (same_medium _ _ (so_far.reads (c.in-Err.ensures.any.earlier honest))) so_far.many (λ ds. c.in-Err.ensures.marked honest sizes ds)) bs joined closed
+    reached_fault _ _ _ _ c.version-item.result c.loop-version-test.true c.version-item.is _ _ _ (so_far.marked (c.in-Err.ensures.looks.goes.earlier honest))
+    (fault_both _ _ _ _ c.version-item.result _ _ (same_medium _ _ (so_far.reads (c.in-Err.ensures.looks.goes.earlier honest))) so_far.many (λ ds. c.in-Err.ensures.marked honest sizes ds)) bs joined closed
 
 pub loop-version-preserved : goal.loop-version-preserved
 loop-version-preserved g c =
     let so_far = c.loop-version.invariant in
-    let any = c.mark.ensures.any in
+    let any = c.mark.ensures.looks.goes in
     record {
       blocks = any.same_blocks ∙ so_far.blocks;
       earlier = λ honest. so_far.earlier (any.earlier honest);
       rising = omega (arith, any.rising, so_far.rising);
       many = c.mark.ensures.growing.same_length ∙ so_far.many;
-      reads = λ honest. reads_then _ _ _ (so_far.reads (c.in-Ok.ensures.any.earlier honest)) (c.mark.ensures.reads honest);
-      marked = λ honest. reached_more _ _ _ _ c.version-item.result c.loop-version-test.true c.version-item.is _ _ _ (so_far.marked (c.in-Ok.ensures.any.earlier honest))
-          (marks_both _ _ _ _ c.version-item.result _ _ (same_medium _ _ (so_far.reads (c.in-Ok.ensures.any.earlier honest))) so_far.many
+      reads = λ honest. reads_then _ _ _ (so_far.reads (c.in-Ok.ensures.looks.goes.earlier honest)) (c.mark.ensures.looks.reads honest);
+      marked = λ honest. reached_more _ _ _ _ c.version-item.result c.loop-version-test.true c.version-item.is _ _ _ (so_far.marked (c.in-Ok.ensures.looks.goes.earlier honest))
+          (marks_both _ _ _ _ c.version-item.result _ _ (same_medium _ _ (so_far.reads (c.in-Ok.ensures.looks.goes.earlier honest))) so_far.many
           (λ ds. c.in-Ok.ensures.marked honest sizes ds) (λ ds. c.in-Ok.ensures.closed honest sizes ds));
     }
 

@@ -15,7 +15,7 @@ pub returns-clause-honest : goal.returns-clause-honest
 returns-clause-honest c honest =
     let there : get_by_text c.args.self.now.slots c.args.file.now ≡ Some c.in_ok-slot.slot.now = sym c.get_mut.ensures.value ∙ ap option_copied_mut c.in_ok-slot.was in
     let held = c.in_ok-slot.slot.now.same c.in_ok-disk.disk (sym c.take.ensures.value ∙ c.in_ok-disk.was) in
-    let kept = crash_keeps (memory_state c.in_ok-disk.disk).now (memory_state c.crash.result).now c.crash.ensures.left c.crash.ensures.filled in
+    let kept = crash_keeps (memory_state c.in_ok-disk.disk).now (memory_state c.crash.result).now c.crash.ensures.blocks c.crash.ensures.filled in
     finds c.args.self.now.honest c.args.file.now c.args.self.now.slots (c.get_mut.follows.lender _) _ c.args.file.now refl
     ((c.get_mut.follows.holds _).3 (search rules)) c.in_ok-slot.slot.now there refl
     (Some (memory_state c.crash.result)) (kept ∙ held, c.crash.ensures.clean, c.crash.ensures.past)

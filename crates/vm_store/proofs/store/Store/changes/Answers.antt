@@ -20,7 +20,7 @@ returns-in-Ok-clause-value g c honest well s rests =
     ap changes_of own.is ∙ ap Ok (sym (c.in-Ok.ensures.changes honest sizes _ _ _ _ own.stands.base.rooted own.stands.current.rooted))
 
 pub returns-in-Ok-clause-state : goal.returns-in-Ok-clause-state
-returns-in-Ok-clause-state g c honest s rests = read_rests _ _ _ _ _ _ _ s (c.in-Ok.ensures.reads honest) rests
+returns-in-Ok-clause-state g c honest s rests = read_rests _ _ _ _ _ _ _ s (c.in-Ok.ensures.looks.reads honest) rests
 
 pub returns-in-Err-clause-value : goal.returns-in-Err-clause-value
 returns-in-Err-clause-value g c honest well s rests =
@@ -30,7 +30,7 @@ returns-in-Err-clause-value g c honest well s rests =
     list_refused c.in-Err.fault c.refusal_of.result _ _ c.refusal_of.ensures (c.in-Err.ensures.changes honest sizes _ _ _ _ own.stands.base.rooted own.stands.current.rooted)
 
 pub returns-in-Err-clause-state : goal.returns-in-Err-clause-state
-returns-in-Err-clause-state g c honest s rests = read_rests _ _ _ _ _ _ _ s (c.in-Err.ensures.reads honest) rests
+returns-in-Err-clause-state g c honest s rests = read_rests _ _ _ _ _ _ _ s (c.in-Err.ensures.looks.reads honest) rests
 
 pub returns-in-Ok-clause-bound : goal.returns-in-Ok-clause-bound
 returns-in-Ok-clause-bound g c honest s rests =

@@ -14,17 +14,17 @@ returns-in-Ok-clause-value g c honest well s rests =
     let e = c.index.result.now in
     let is = found_at c.args.alt.now _ _ c.in-Some.i e c.deref.ensures.value c.in-Some.ensures.found ∙ ap Some (sym c.index.ensures) in
     let found = found_entry _ _ _ _ _ _ s rests c.args.alt.now e is in
-    inr (value_found _ _ _ _ _ _ s rests c.args.alt.now e is c.args.key c.in-Ok.value (c.in-Ok.ensures.value honest sizes found.filed.current found.stands.current.stands_in found.stands.current.rooted))
+    inr (value_found _ _ _ _ _ _ s rests c.args.alt.now e is c.args.key c.in-Ok.value (c.in-Ok.ensures.value sizes honest found.filed.current found.stands.current.stands_in found.stands.current.rooted))
 
 pub returns-in-Ok-clause-state : goal.returns-in-Ok-clause-state
-returns-in-Ok-clause-state g c honest s rests = read_rests _ _ _ _ _ _ _ s (c.in-Ok.ensures.reads honest) rests
+returns-in-Ok-clause-state g c honest s rests = read_rests _ _ _ _ _ _ _ s (c.in-Ok.ensures.looks.reads honest) rests
 
 pub returns-in-Err-clause-value : goal.returns-in-Err-clause-value
 returns-in-Err-clause-value g c honest well s rests =
     let e = c.index.result.now in
     let is = found_at c.args.alt.now _ _ c.in-Some.i e c.deref.ensures.value c.in-Some.ensures.found ∙ ap Some (sym c.index.ensures) in
     let found = found_entry _ _ _ _ _ _ s rests c.args.alt.now e is in
-    inl (ap Err (c.refusal_of.ensures ∙ ap refusal_of (c.in-Err.ensures.value honest sizes found.filed.current found.stands.current.stands_in found.stands.current.rooted)))
+    inl (ap Err (c.refusal_of.ensures ∙ ap refusal_of (c.in-Err.ensures.value sizes honest found.filed.current found.stands.current.stands_in found.stands.current.rooted)))
 
 pub returns-in-Err-clause-state : goal.returns-in-Err-clause-state
-returns-in-Err-clause-state g c honest s rests = read_rests _ _ _ _ _ _ _ s (c.in-Err.ensures.reads honest) rests
+returns-in-Err-clause-state g c honest s rests = read_rests _ _ _ _ _ _ _ s (c.in-Err.ensures.looks.reads honest) rests

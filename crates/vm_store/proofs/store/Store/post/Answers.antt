@@ -35,14 +35,14 @@ returns-in-Ok-false-clause-answer g c honest s rests =
     answers_refused s (spare_of rests) ⊥ (Post alt) _ (post_refused _ _ _ _ _ _ s rests alt c.in-Ok.pair is (told_other _ _ _ told c.in-Ok-false.field-0-test))
 
 pub returns-in-Ok-false-clause-state : goal.returns-in-Ok-false-clause-state
-returns-in-Ok-false-clause-state g c honest s rests = read_rests _ _ _ _ _ _ _ s (c.in-Ok-false.ensures.reads honest) rests
+returns-in-Ok-false-clause-state g c honest s rests = read_rests _ _ _ _ _ _ _ s (c.in-Ok-false.ensures.looks.reads honest) rests
 
 pub returns-in-Ok-false-clause-crash : goal.returns-in-Ok-false-clause-crash
 returns-in-Ok-false-clause-crash g c honest s rests =
-    reads_keep _ _ _ (c.in-Ok-false.ensures.reads honest) (λ left may. inl (shows_old _ _ _ _ _ _ s rests _ (spares_itself _ _) left may))
+    reads_keep _ _ _ (c.in-Ok-false.ensures.looks.reads honest) (λ left may. inl (shows_old _ _ _ _ _ _ s rests _ (spares_itself _ _) left may))
 
 pub returns-in-Ok-false-clause-guarded : goal.returns-in-Ok-false-clause-guarded
-returns-in-Ok-false-clause-guarded g c honest s rests = reads_keep _ _ _ (c.in-Ok-false.ensures.reads honest) (guarded_at_rest _ _ _ _ _ _ s rests)
+returns-in-Ok-false-clause-guarded g c honest s rests = reads_keep _ _ _ (c.in-Ok-false.ensures.looks.reads honest) (guarded_at_rest _ _ _ _ _ _ s rests)
 
 pub returns-in-Err-same-clause-answer : goal.returns-in-Err-same-clause-answer
 returns-in-Err-same-clause-answer g c honest s rests =
@@ -53,14 +53,14 @@ returns-in-Err-same-clause-answer g c honest s rests =
     inl (ap Err (c.refusal_of.ensures ∙ ap refusal_of (c.in-Err-same.ensures.equal honest sizes _ _ _ _ own.stands.base.rooted parent.stands.current.rooted)))
 
 pub returns-in-Err-same-clause-state : goal.returns-in-Err-same-clause-state
-returns-in-Err-same-clause-state g c honest s rests = read_rests _ _ _ _ _ _ _ s (c.in-Err-same.ensures.reads honest) rests
+returns-in-Err-same-clause-state g c honest s rests = read_rests _ _ _ _ _ _ _ s (c.in-Err-same.ensures.looks.reads honest) rests
 
 pub returns-in-Err-same-clause-crash : goal.returns-in-Err-same-clause-crash
 returns-in-Err-same-clause-crash g c honest s rests =
-    reads_keep _ _ _ (c.in-Err-same.ensures.reads honest) (λ left may. inl (shows_old _ _ _ _ _ _ s rests _ (spares_itself _ _) left may))
+    reads_keep _ _ _ (c.in-Err-same.ensures.looks.reads honest) (λ left may. inl (shows_old _ _ _ _ _ _ s rests _ (spares_itself _ _) left may))
 
 pub returns-in-Err-same-clause-guarded : goal.returns-in-Err-same-clause-guarded
-returns-in-Err-same-clause-guarded g c honest s rests = reads_keep _ _ _ (c.in-Err-same.ensures.reads honest) (guarded_at_rest _ _ _ _ _ _ s rests)
+returns-in-Err-same-clause-guarded g c honest s rests = reads_keep _ _ _ (c.in-Err-same.ensures.looks.reads honest) (guarded_at_rest _ _ _ _ _ _ s rests)
 
 pub returns-clause-answer : goal.returns-clause-answer
 returns-clause-answer g c honest s rests =
@@ -86,12 +86,12 @@ returns-clause-state g c honest s rests =
     let both = given_back _ second _ (c.set_base.ensures.many ∙ c.deref_mut-2.ensures.len) in
     let one = c.set_current.ensures.items ∙ ap (change_first (is_alternative_of c.in-Ok.pair.1.name) (with_current c.in-Ok.pair.0.current)) c.deref_mut.ensures.value in
     let two = c.set_base.ensures.items ∙ ap (change_first (is_alternative_of alt) (with_base c.in-Ok.pair.0.current)) (c.deref_mut-2.ensures.value ∙ turned ∙ one) in
-    read_rests _ _ _ _ _ _ _ _ (c.in-Ok-true.ensures.reads honest)
+    read_rests _ _ _ _ _ _ _ _ (c.in-Ok-true.ensures.looks.reads honest)
     (rests_as _ _ _ _ _ _ _ _ (sym (both ∙ two)) (post_rests _ _ _ _ _ _ s rests alt c.in-Ok.pair is same))
 
 pub returns-clause-crash : goal.returns-clause-crash
 returns-clause-crash g c honest s rests =
-    reads_keep _ _ _ (c.in-Ok-true.ensures.reads honest) (λ left may. inl (shows_old _ _ _ _ _ _ s rests _ (spares_itself _ _) left may))
+    reads_keep _ _ _ (c.in-Ok-true.ensures.looks.reads honest) (λ left may. inl (shows_old _ _ _ _ _ _ s rests _ (spares_itself _ _) left may))
 
 pub returns-clause-guarded : goal.returns-clause-guarded
-returns-clause-guarded g c honest s rests = reads_keep _ _ _ (c.in-Ok-true.ensures.reads honest) (guarded_at_rest _ _ _ _ _ _ s rests)
+returns-clause-guarded g c honest s rests = reads_keep _ _ _ (c.in-Ok-true.ensures.looks.reads honest) (guarded_at_rest _ _ _ _ _ _ s rests)

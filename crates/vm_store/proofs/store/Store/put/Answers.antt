@@ -58,8 +58,8 @@ returns-in-Err-clause-guarded g c honest s rests =
 pub returns-in-Ok-clause-answer : goal.returns-in-Ok-clause-answer
 returns-in-Ok-clause-answer g c honest s rests =
     let mid = c.has_spare.new.self in
-    let read = same_medium _ _ (c.has_spare.ensures.reads (c.in-Ok.ensures.any.earlier honest)) in
-    let rests' = c.has_spare.ensures.state (c.in-Ok.ensures.any.earlier honest) s rests in
+    let read = same_medium _ _ (c.has_spare.ensures.reads (c.in-Ok.ensures.writes.goes.earlier honest)) in
+    let rests' = c.has_spare.ensures.state (c.in-Ok.ensures.writes.goes.earlier honest) s rests in
     let e = c.index.result.now in
     let same = c.deref.ensures.value ∙ sym (ap (λ p. p.1) c.has_spare.ensures.same) in
     let is = found_at c.args.alt.now _ mid.working.items c.in-Some.i e same c.in-Some.ensures.found ∙ ap Some (sym c.index.ensures) in
@@ -67,7 +67,7 @@ returns-in-Ok-clause-answer g c honest s rests =
     let found = found_entry _ _ _ _ _ _ s rests' c.args.alt.now e is in
     let current = found.stands.current in
     let put = c.in-Ok.ensures.put honest found.filed.current current.stands_in (rooted_of _ _ _ e.current _ _ mid.bits current.rooted) in
-    answers_done _ _ _ _ _ _ s rests c.args.alt.now c.args.key c.args.value.now _ is_old _ _ (room_for _ _ _ (c.in-Ok-true.ensures.spare (c.in-Ok.ensures.any.earlier honest) s rests) c.in-Ok-true.field-0-test)
+    answers_done _ _ _ _ _ _ s rests c.args.alt.now c.args.key c.args.value.now _ is_old _ _ (room_for _ _ _ (c.in-Ok-true.ensures.spare (c.in-Ok.ensures.writes.goes.earlier honest) s rests) c.in-Ok-true.field-0-test)
     (λ deep. put.1 (lacks_over _ e.current _ _ (deep_here _ _ _ _ _ _ s rests' c.args.alt.now c.args.key c.args.value.now e is (g.D.Disk.state mid.disk).now.contents
     (subst (λ (m : Medium). LacksRoom m.contents (root_of mid c.args.alt.now) (current_of s.working c.args.alt.now) c.args.key) (sym read)
     (subst (λ f. LacksRoom (g.D.Disk.state c.args.self.now.disk).now.contents (f c.args.alt.now) (current_of s.working c.args.alt.now) c.args.key) (sym c.has_spare.ensures.roots) deep)))))
@@ -75,7 +75,7 @@ returns-in-Ok-clause-answer g c honest s rests =
 pub returns-in-Ok-clause-state : goal.returns-in-Ok-clause-state
 returns-in-Ok-clause-state g c honest s rests =
     let mid = c.has_spare.new.self in
-    let rests' = c.has_spare.ensures.state (c.in-Ok.ensures.any.earlier honest) s rests in
+    let rests' = c.has_spare.ensures.state (c.in-Ok.ensures.writes.goes.earlier honest) s rests in
     let e = c.index.result.now in
     let same = c.deref.ensures.value ∙ sym (ap (λ p. p.1) c.has_spare.ensures.same) in
     let is = found_at c.args.alt.now _ mid.working.items c.in-Some.i e same c.in-Some.ensures.found ∙ ap Some (sym c.index.ensures) in
@@ -84,26 +84,26 @@ returns-in-Ok-clause-state g c honest s rests =
     let put = c.in-Ok.ensures.put honest found.filed.current current.stands_in (rooted_of _ _ _ e.current _ _ mid.bits current.rooted) in
     let grown = grown_of _ _ _ _ c.in-Ok.root _ mid.bits (put.0 current.each) in
     rests_as _ _ _ _ _ _ _ _ (placed c.args.alt.now _ mid.working.items c.in-Some.i c.in-Ok.root c.index_mut.result.now same c.in-Some.ensures.found c.index_mut.ensures.value)
-    (put_rests _ _ _ _ _ _ s rests' c.args.alt.now e is c.args.key c.args.value.now _ c.put.new.held c.in-Ok.root (omega (arith, c.in-Ok.ensures.root.0.inside, c.in-Ok.ensures.still.same_length, mid.bits, mid.most))
-    (at_end _ _ _ (c.in-Ok.ensures.moments honest)) c.in-Ok.ensures.still grown)
+    (put_rests _ _ _ _ _ _ s rests' c.args.alt.now e is c.args.key c.args.value.now _ c.put.new.held c.in-Ok.root (omega (arith, c.in-Ok.ensures.root.0.inside, c.in-Ok.ensures.writes.still.same_length, mid.bits, mid.most))
+    (at_end _ _ _ (c.in-Ok.ensures.writes.moments honest)) c.in-Ok.ensures.writes.still grown)
 
 pub returns-in-Ok-clause-crash : goal.returns-in-Ok-clause-crash
 returns-in-Ok-clause-crash g c honest s rests =
     let Q = Leaves (LeftBy Shows s (Put c.args.alt.now c.args.key c.args.value.now)) in
-    reads_first _ _ _ Q (c.has_spare.ensures.reads (c.in-Ok.ensures.any.earlier honest))
-    (weaken _ _ _ Q (λ m spares left may. inl (shows_old _ _ _ _ _ _ s (c.has_spare.ensures.state (c.in-Ok.ensures.any.earlier honest) s rests) m spares left may)) (c.in-Ok.ensures.moments honest))
+    reads_first _ _ _ Q (c.has_spare.ensures.reads (c.in-Ok.ensures.writes.goes.earlier honest))
+    (weaken _ _ _ Q (λ m spares left may. inl (shows_old _ _ _ _ _ _ s (c.has_spare.ensures.state (c.in-Ok.ensures.writes.goes.earlier honest) s rests) m spares left may)) (c.in-Ok.ensures.writes.moments honest))
 
 pub returns-in-Ok-clause-guarded : goal.returns-in-Ok-clause-guarded
 returns-in-Ok-clause-guarded g c honest s rests =
     let Q = IsGuarded c.put.new.held in
-    reads_first _ _ _ Q (c.has_spare.ensures.reads (c.in-Ok.ensures.any.earlier honest))
-    (weaken _ _ _ Q (λ m spares. guarded_on _ _ _ _ _ _ s (c.has_spare.ensures.state (c.in-Ok.ensures.any.earlier honest) s rests) m _ spares c.in-Ok.ensures.still) (c.in-Ok.ensures.moments honest))
+    reads_first _ _ _ Q (c.has_spare.ensures.reads (c.in-Ok.ensures.writes.goes.earlier honest))
+    (weaken _ _ _ Q (λ m spares. guarded_on _ _ _ _ _ _ s (c.has_spare.ensures.state (c.in-Ok.ensures.writes.goes.earlier honest) s rests) m _ spares c.in-Ok.ensures.writes.still) (c.in-Ok.ensures.writes.moments honest))
 
 pub returns-in-Err-put-clause-answer : goal.returns-in-Err-put-clause-answer
 returns-in-Err-put-clause-answer g c honest s rests =
     let mid = c.has_spare.new.self in
-    let read = same_medium _ _ (c.has_spare.ensures.reads (c.in-Err-put.ensures.any.earlier honest)) in
-    let rests' = c.has_spare.ensures.state (c.in-Err-put.ensures.any.earlier honest) s rests in
+    let read = same_medium _ _ (c.has_spare.ensures.reads (c.in-Err-put.ensures.writes.goes.earlier honest)) in
+    let rests' = c.has_spare.ensures.state (c.in-Err-put.ensures.writes.goes.earlier honest) s rests in
     let e = c.index.result.now in
     let same = c.deref.ensures.value ∙ sym (ap (λ p. p.1) c.has_spare.ensures.same) in
     let is = found_at c.args.alt.now _ mid.working.items c.in-Some.i e same c.in-Some.ensures.found ∙ ap Some (sym c.index.ensures) in
@@ -111,7 +111,7 @@ returns-in-Err-put-clause-answer g c honest s rests =
     let found = found_entry _ _ _ _ _ _ s rests' c.args.alt.now e is in
     let current = found.stands.current in
     let put = c.in-Err-put.ensures.put honest found.filed.current current.stands_in (rooted_of _ _ _ e.current _ _ mid.bits current.rooted) in
-    answers_fault _ _ _ _ _ _ s rests c.args.alt.now c.args.key c.args.value.now _ is_old _ _ _ c.in-Err-put.fault c.refusal_of.result _ (room_for _ _ _ (c.in-Ok-true.ensures.spare (c.in-Err-put.ensures.any.earlier honest) s rests) c.in-Ok-true.field-0-test)
+    answers_fault _ _ _ _ _ _ s rests c.args.alt.now c.args.key c.args.value.now _ is_old _ _ _ c.in-Err-put.fault c.refusal_of.result _ (room_for _ _ _ (c.in-Ok-true.ensures.spare (c.in-Err-put.ensures.writes.goes.earlier honest) s rests) c.in-Ok-true.field-0-test)
     (λ here. subst (λ f. LacksRoom (g.D.Disk.state c.args.self.now.disk).now.contents (f c.args.alt.now) (current_of s.working c.args.alt.now) c.args.key) c.has_spare.ensures.roots
     (subst (λ (m : Medium). LacksRoom m.contents (root_of mid c.args.alt.now) (current_of s.working c.args.alt.now) c.args.key) read
     (here_deep _ _ _ _ _ _ s rests' c.args.alt.now c.args.key c.args.value.now e is (g.D.Disk.state mid.disk).now.contents (lacks_under _ e.current _ _ here))))
@@ -119,16 +119,16 @@ returns-in-Err-put-clause-answer g c honest s rests =
 
 pub returns-in-Err-put-clause-state : goal.returns-in-Err-put-clause-state
 returns-in-Err-put-clause-state g c honest s rests =
-    rests_more _ _ _ _ _ _ s (c.has_spare.ensures.state (c.in-Err-put.ensures.any.earlier honest) s rests) _ _ (at_end _ _ _ (c.in-Err-put.ensures.moments honest)) c.in-Err-put.ensures.still
+    rests_more _ _ _ _ _ _ s (c.has_spare.ensures.state (c.in-Err-put.ensures.writes.goes.earlier honest) s rests) _ _ (at_end _ _ _ (c.in-Err-put.ensures.writes.moments honest)) c.in-Err-put.ensures.writes.still
 
 pub returns-in-Err-put-clause-crash : goal.returns-in-Err-put-clause-crash
 returns-in-Err-put-clause-crash g c honest s rests =
     let Q = Leaves (LeftBy Shows s (Put c.args.alt.now c.args.key c.args.value.now)) in
-    reads_first _ _ _ Q (c.has_spare.ensures.reads (c.in-Err-put.ensures.any.earlier honest))
-    (weaken _ _ _ Q (λ m spares left may. inl (shows_old _ _ _ _ _ _ s (c.has_spare.ensures.state (c.in-Err-put.ensures.any.earlier honest) s rests) m spares left may)) (c.in-Err-put.ensures.moments honest))
+    reads_first _ _ _ Q (c.has_spare.ensures.reads (c.in-Err-put.ensures.writes.goes.earlier honest))
+    (weaken _ _ _ Q (λ m spares left may. inl (shows_old _ _ _ _ _ _ s (c.has_spare.ensures.state (c.in-Err-put.ensures.writes.goes.earlier honest) s rests) m spares left may)) (c.in-Err-put.ensures.writes.moments honest))
 
 pub returns-in-Err-put-clause-guarded : goal.returns-in-Err-put-clause-guarded
 returns-in-Err-put-clause-guarded g c honest s rests =
     let Q = IsGuarded c.put.new.held in
-    reads_first _ _ _ Q (c.has_spare.ensures.reads (c.in-Err-put.ensures.any.earlier honest))
-    (weaken _ _ _ Q (λ m spares. guarded_on _ _ _ _ _ _ s (c.has_spare.ensures.state (c.in-Err-put.ensures.any.earlier honest) s rests) m _ spares c.in-Err-put.ensures.still) (c.in-Err-put.ensures.moments honest))
+    reads_first _ _ _ Q (c.has_spare.ensures.reads (c.in-Err-put.ensures.writes.goes.earlier honest))
+    (weaken _ _ _ Q (λ m spares. guarded_on _ _ _ _ _ _ s (c.has_spare.ensures.state (c.in-Err-put.ensures.writes.goes.earlier honest) s rests) m _ spares c.in-Err-put.ensures.writes.still) (c.in-Err-put.ensures.writes.moments honest))

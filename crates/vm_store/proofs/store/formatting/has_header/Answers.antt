@@ -1,4 +1,3 @@
-use Rattle.std.proofs.Common.{◌∙◌}
 use Rattle.vm_disk.proofs.MomentLemmas.{read_on}
 use Rattle.vm_store.proofs.OpeningLemmas.{settles}
 use Rattle.vm_store.proofs.store.formatting.has_header.Goals as goal

@@ -1,4 +1,4 @@
-use Rattle.std.proofs.Common.{◌∙◌, ap, ◌∷◌, []}
+use Rattle.std.proofs.Common.{ap, ◌∷◌, []}
 use Rattle.vm_disk.proofs.MomentLemmas.{weaken, goes_on, at_end}
 use Rattle.vm_store.proofs.FormattingLemmas.{KeepsFirst, no_header, first_spared, first_kept, first_synced, laid_now, fresh_fits, top_is_name}
 use Rattle.vm_store.proofs.store.formatting.lay_out.Goals as goal

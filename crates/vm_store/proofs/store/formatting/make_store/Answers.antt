@@ -1,4 +1,4 @@
-use Rattle.std.proofs.Common.{refl, ◌∙◌}
+use Rattle.std.proofs.Common.{refl}
 use Rattle.vm_disk.proofs.MomentLemmas.{weaken, and_then, at_end}
 use Rattle.vm_store.specs.Formatting.{IsFormatting}
 use Rattle.vm_store.proofs.FormattingLemmas.{still_there, not_yet, formatting, none_synced, not_true}

@@ -1,4 +1,3 @@
-use Rattle.std.proofs.Common.{◌∙◌}
 use Rattle.vm_disk.proofs.MomentLemmas.{then_reads}
 use Rattle.vm_store.proofs.OpeningLemmas.{settles, settled, settled_then}
 use Rattle.vm_store.proofs.store.opening.find_slot.Goals as goal

@@ -35,9 +35,9 @@ pub returns-in-Some-clause-holds : goal.returns-in-Some-clause-holds
 returns-in-Some-clause-holds g c honest clean store in_use slot =
     let m = (g.D.Disk.state c.args.disk.now).now in
     let limit = c.args.slot.blocks in
-    let whole = g.met.D.Disk.whole c.args.disk.now (c.verify.ensures.any.earlier honest) in
+    let whole = g.met.D.Disk.whole c.args.disk.now (c.verify.ensures.looks.goes.earlier honest) in
     let inside : limit ≤ length m.contents = omega (arith, whole, c.requires.inside) in
-    let read = same_medium _ _ (c.verify.ensures.reads honest) in
+    let read = same_medium _ _ (c.verify.ensures.looks.reads honest) in
     let found = found_here _ _ _ _ _ _ _ _ c.deref-2.ensures.value c.in-Some-Ok.ensures c.deref.ensures.value (c.in-Ok.ensures.found honest) in
     let are = c.in-Some.ensures.items in
     let alike = found_alike _ _ _ _ c.deref-in-Ok.ensures.value c.deref-in-Ok-2.ensures.value in
@@ -56,7 +56,7 @@ pub returns-in-Err-clause-refused : goal.returns-in-Err-clause-refused
 returns-in-Err-clause-refused g c honest store in_use slot =
     let m = (g.D.Disk.state c.args.disk.now).now in
     let limit = c.args.slot.blocks in
-    let whole = g.met.D.Disk.whole c.args.disk.now (c.verify.ensures.any.earlier honest) in
+    let whole = g.met.D.Disk.whole c.args.disk.now (c.verify.ensures.looks.goes.earlier honest) in
     let inside : limit ≤ length m.contents = omega (arith, whole, c.requires.inside) in
     fault_refused m limit c.args.slot_b c.args.slot.entries.items store in_use slot inside c.in-Err.fault c.refusal_of.result c.refusal_of.ensures (λ same. c.in-Err.ensures.deep (ap Err same))
     (λ trees. fault_lists c.in-Err.fault _ _ (c.in-Err.ensures.only honest (trees_here _ _ _ _ _ _ c.deref-2.ensures.value c.in-Some-Ok.ensures c.deref.ensures.value trees)))
