@@ -9,6 +9,7 @@ mod differences;
 mod failing;
 mod formats;
 mod library;
+mod longer;
 mod merging;
 mod new_at;
 mod opening;

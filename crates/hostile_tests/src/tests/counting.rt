@@ -64,4 +64,8 @@ impl Disk for CountingDisk {
     fn sync(&mut self) -> Result<(), DeviceFault> {
         self.inner.sync()
     }
+
+    fn extend(&mut self, blocks: u32) -> Result<(), DeviceFault> {
+        self.inner.extend(blocks)
+    }
 }

@@ -131,4 +131,12 @@ impl Disk for RecordingDisk {
         }
         self.inner.sync()
     }
+
+    fn extend(&mut self, blocks: u32) -> Result<(), DeviceFault> {
+        self.inner.extend(blocks)?;
+        // Where memory is refused, the record is as long as it was.
+        let _ = self.written.resize(blocks as usize, [0; 4096]);
+        let _ = self.synced.resize(blocks as usize, [0; 4096]);
+        Ok(())
+    }
 }

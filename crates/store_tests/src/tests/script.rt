@@ -35,6 +35,8 @@
 //! | `zero 2` | the same, after a block was set to zeros |
 //! | `set 18 0:534C 195:40` | the same, after bytes of a block were set, from these places on |
 //! | `cut 21` | the same, with so many blocks of it |
+//! | `longer 80` | `ok`, or `fault`: the disk is asked to have so many blocks |
+//! | `short 64`, `short 64 35=FF` | `ok`: the device is taken anew after a crash that leaves so many blocks, and may fill some |
 use super::answers::{answer, refusal_text};
 use super::blocks::{cut, look, set_block, set_bytes};
 use super::over::OverMemory;
@@ -119,6 +121,15 @@ fn filling(alloc: Global, blocks: u32, words: &[&str]) -> Result<Vec<(u32, [u8; 
     Ok(filling)
 }
 
+// The disk after a crash that leaves so many blocks.
+fn short(alloc: Global, disk: MemDisk, blocks: u32, fills: &[&str]) -> Result<MemDisk, Wrong> {
+    if blocks < disk.sure() || blocks > disk.blocks() {
+        return Err(Wrong::Unreadable);
+    }
+    let filling = filling(alloc, blocks, fills)?;
+    Ok(disk.crash_short(&filling, blocks))
+}
+
 // The disk with other bytes.
 fn changed(alloc: Global, mut disk: MemDisk, words: &[&str]) -> Result<MemDisk, Wrong> {
     match words {
@@ -127,6 +138,7 @@ fn changed(alloc: Global, mut disk: MemDisk, words: &[&str]) -> Result<MemDisk, 
             let filling = filling(alloc, disk.blocks(), fills)?;
             return Ok(disk.crash(&filling));
         }
+        ["short", blocks, fills @ ..] => return short(alloc, disk, number(blocks)?, fills),
         ["set", block, runs @ ..] => set_bytes(&mut disk, number(block)?, runs)?,
         ["zero", block] => set_block(&mut disk, number(block)?, &[0; 4096])?,
         ["cut", blocks] => return cut(alloc, disk, number(blocks)?),
@@ -152,6 +164,17 @@ fn renewed<M: OverMemory>(
     }
 }
 
+// Asks for so many blocks, and tells whether they are there.
+fn lengthen<D: Disk>(disk: &mut D, blocks: u32) -> Result<&'static str, Wrong> {
+    if blocks < disk.blocks() {
+        return Err(Wrong::Unreadable);
+    }
+    match disk.extend(blocks) {
+        Ok(()) => Ok("ok"),
+        Err(_) => Ok("fault"),
+    }
+}
+
 fn dirty_blocks(alloc: Global, disk: &MemDisk) -> Result<String, Wrong> {
     let mut text = String::new(alloc);
     for n in 0..disk.blocks() {
@@ -163,7 +186,7 @@ fn dirty_blocks(alloc: Global, disk: &MemDisk) -> Result<String, Wrong> {
 }
 
 // Plays a step while no store is open.
-fn play_shut<M: OverMemory>(alloc: Global, disk: FuseDisk<M>, words: &[&str]) -> Played<M> {
+fn play_shut<M: OverMemory>(alloc: Global, mut disk: FuseDisk<M>, words: &[&str]) -> Played<M> {
     let ok = String::from_str(alloc, "ok")?;
     match words {
         ["format", blocks] => match format(disk, number(blocks)?) {
@@ -183,6 +206,10 @@ fn play_shut<M: OverMemory>(alloc: Global, disk: FuseDisk<M>, words: &[&str]) ->
         ["calls"] => {
             let calls = format!(in alloc; "{}", disk.calls())?;
             Ok((Bench::Shut(disk), calls))
+        }
+        ["longer", blocks] => {
+            let text = String::from_str(alloc, lengthen(&mut disk, number(blocks)?)?)?;
+            Ok((Bench::Shut(disk), text))
         }
         ["dirty"] => {
             let blocks = dirty_blocks(alloc, disk.inner().memory())?;
@@ -308,7 +335,15 @@ pub(super) fn in_memory<R: AllocGlobal + Abort>(rt: &R, texts: &[&str]) {
     plays_all::<MemDisk, R>(rt, "in memory", blank, texts);
 }
 
-/// The same, and once more over a cache.
+/// The same on a blank disk of 64 blocks with room for 80, and once more over a cache.
+pub(super) fn with_room<R: AllocGlobal + Abort>(rt: &R, texts: &[&str]) {
+    let blank = MemDisk::with_room(rt.alloc(), 64, 80);
+    plays_all::<MemDisk, R>(rt, "in memory", blank, texts);
+    let blank = MemDisk::with_room(rt.alloc(), 64, 80);
+    plays_all::<CachedDisk<MemDisk>, R>(rt, "over a cache", blank, texts);
+}
+
+/// The same on a blank disk of 64 blocks, and once more over a cache.
 pub(super) fn on_both<R: AllocGlobal + Abort>(rt: &R, texts: &[&str]) {
     in_memory(rt, texts);
     let blank = MemDisk::new(rt.alloc(), 64);

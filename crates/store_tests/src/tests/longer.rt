@@ -1,0 +1,63 @@
+//! A store on a disk that has more blocks than the store, and that a crash may leave shorter.
+use super::script::{DUCT, with_room};
+
+// The disk was made longer behind the store's back: its blocks from 64 on are none of the store's.
+#[test]
+fn a_longer_disk_shows_the_same_store(rt: HostRuntime) {
+    let row = "
+        longer 80
+        dirty -> 64 65 66 67 68 69 70 71 72 73 74 75 76 77 78 79
+        open
+        get top 7:1 -> duct
+        free -> 29
+        put top 7:2 pipe
+        free -> 28
+        commit
+        close
+        dirty -> none
+        short 80
+        open
+        list top -> 7:1=duct 7:2=pipe
+        # Both records lie in one leaf, as the only block of 30.
+        free -> 29";
+    with_room(&rt, &[DUCT, row]);
+}
+
+// The rest of a row, after a crash that left some of the new blocks.
+const ONLY_DUCT: &str = "
+    open
+    list top -> 7:1=duct
+    free -> 29
+    put top 7:2 pipe
+    commit
+    close
+    longer 80
+    crash all=41
+    open
+    list top -> 7:1=duct 7:2=pipe
+    free -> 29";
+
+#[test]
+fn a_crash_that_takes_new_blocks_shows_what_was_committed(rt: HostRuntime) {
+    for crash in [
+        "short 64 all=41",
+        "short 65 all=41",
+        "short 79",
+        "short 80 all=41",
+    ] {
+        with_room(&rt, &[DUCT, "longer 80", crash, ONLY_DUCT]);
+    }
+}
+
+#[test]
+fn a_disk_gets_no_longer_than_its_room(rt: HostRuntime) {
+    let row = "
+        longer 81 -> fault
+        open
+        get top 7:1 -> duct
+        close
+        longer 80
+        longer 80
+        longer 81 -> fault";
+    with_room(&rt, &[DUCT, row]);
+}
