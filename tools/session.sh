@@ -12,7 +12,8 @@ case $altctl in
 esac
 
 work=$(mktemp -d)
-trap 'rm -rf "$work"' EXIT
+device=
+trap '[ -z "$device" ] || losetup -d "$device"; rm -rf "$work"' EXIT
 trap 'exit 1' HUP INT TERM
 cd "$work"
 differences=0
@@ -490,7 +491,7 @@ for file in absent h; do
     program "tree of $file" 1 tree $file
 done
 
-# What is no plain file: nobody waits for a pipe to be written to.
+# What is neither a plain file nor a block device: nobody waits for a pipe to be written to.
 mkfifo pipe
 mkdir folder
 ln -s pipe link
@@ -502,10 +503,10 @@ for file in pipe folder link /dev/null; do
     : >output
     for word in check tree run; do
         echo "altctl: cannot open $file" >faults
-        program "$word of $file, which is no plain file" 1 $word $file
+        program "$word of $file, which has no blocks" 1 $word $file
     done
     echo "altctl: cannot create $file" >faults
-    program "create over $file, which is no plain file" 1 create $file 64
+    program "create over $file, which has no blocks" 1 create $file 64
 done
 altctl=$able
 
@@ -515,6 +516,39 @@ if [ -w /proc/self/comm ]; then
     program 'check of a file that knows no sync' 1 check /proc/self/comm
     echo 'altctl: 15 Device' >faults
     program 'run on a file that knows no sync' 1 run /proc/self/comm
+fi
+
+# A store on a block device, where this machine gives one: of 80 blocks, for a store of 64.
+head -c 327680 /dev/zero >volume
+cp counted small
+if device=$(losetup --show -f volume 2>/dev/null); then
+    : >lines
+    : >output
+    echo "altctl: cannot create $device" >faults
+    program 'create over a device' 1 create "$device" 64
+    echo 'altctl: 19 NotAStore' >faults
+    program 'run on a device without a store' 1 run "$device"
+    dd if=small of="$device" bs=4096 conv=fsync 2>/dev/null
+    checked 'check of a device' "$device" <<'END'
+alternatives 2
+checkpoints 1
+free 29
+END
+    session 'lines on a device' "$device" <<'END'
+> put top 9 9 on_a_device
+ok
+> commit
+ok
+END
+    session 'the device opened again' "$device" <<'END'
+> get top 9 9
+value on_a_device
+END
+    losetup -d "$device"
+    device=
+else
+    device=
+    echo 'session: this machine gives no block device, so that part was left out'
 fi
 
 ln -s counted other
