@@ -9,6 +9,7 @@ pub mod GuardLemmas
 pub mod LedgerLemmas
 pub mod LedgerMoves
 pub mod Listing
+pub mod LongerLemmas
 pub mod MarkedLemmas
 pub mod MarkingLemmas
 pub mod MergeSteps

@@ -153,7 +153,7 @@ module _ (m : Medium) (limit : ℕ) (slot_b : Bool) (bits : List Bool) (committe
         let turned = change_first (is_alternative_of alt) (with_current root) working in
         let both = change_first (is_alternative_of alt) (with_base pair.1.current) turned in
         let above = grown_in (IsHeld bits) (IsHeld after) m.contents now.contents limit (λ n held. spares.same n (ap not held)) more.still pair.1.current parent (parent_there m limit slot_b bits committed working s rests alt pair is).stands.current in
-        subst (λ (t : Tree). Rests now limit slot_b after committed both (record { committed = s.committed; working = t })) (sym (ap (tree_after s.working) merge_step))
+        subst (λ (t : Tree). Rests now limit slot_b after committed both (record s { working = t })) (sym (ap (tree_after s.working) merge_step))
         (rests_on m limit slot_b bits committed working s rests now after both (change_first (is_filed alt) (refiled_both (λ c. c) (λ _. parent)) first) merged_tree spares more
         (subst (SlotFits limit) (sym (slot_changed (is_alternative_of alt) (slot.is_alternative_of alt) (λ v. refl) (with_base pair.1.current) (ledger.with_base pair.1.current.block) (λ v. refl) turned))
         (fits_alike limit (slot_entries turned) _ (alike_based alt pair.1.current.block parent_small (not_top m limit slot_b bits committed working s rests alt pair is) (slot_entries turned))

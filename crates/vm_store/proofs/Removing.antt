@@ -110,7 +110,7 @@ module _ (m : Medium) (limit : ℕ) (slot_b : Bool) (bits : List Bool) (committe
   remove_rests value there now after root small spares more new =
       let g : Map → Map = λ m. without m key in
       let found = found_entry m limit slot_b bits committed working s rests name e is in
-      subst (λ (t : Tree). Rests now limit slot_b after committed (change_first (is_alternative_of name) (with_current root) working) (record { committed = s.committed; working = t }))
+      subst (λ (t : Tree). Rests now limit slot_b after committed (change_first (is_alternative_of name) (with_current root) working) (record s { working = t }))
       (sym (ap (tree_after s.working) (step_there s.working name key value there)))
       (rests_on m limit slot_b bits committed working s rests now after (change_first (is_alternative_of name) (with_current root) working) (change_first (is_filed name) (refiled g) rests.new)
       (changed s.working name (recurrent g)) spares more

@@ -10,7 +10,7 @@ use Rattle.vm_types.specs.Firsts.{change_first, IsFirst}
 use Rattle.vm_types.specs.Map.{Map, get, with_value}
 use Rattle.vm_types.specs.Tree.{Tree, Alternative, named, changed, current_of}
 use Rattle.vm_types.specs.Step.{step, done, or_refuse}
-use Rattle.vm_types.specs.State.{State, next, tree_after}
+use Rattle.vm_types.specs.State.{State, committed_of, working_of, next, tree_after}
 use Rattle.vm_types.specs.Kept.{LeftBy}
 use Rattle.vm_disk.specs.Disk as disk
 use Rattle.vm_disk.specs.Disk.{Contents, block, Medium, MayLeave, IsClean}
@@ -54,7 +54,7 @@ held_not_free : (bits : List Bool) (n : ℕ) → IsHeld bits n → is_free bits 
 held_not_free bits n is = ap not is
 
 -- the used blocks of a slot are the store's own
-used_low : (slot_b : Bool) (count n : ℕ) → count ≤ 511 → is_used slot_b count n ≡ true → n < 34
+pub used_low : (slot_b : Bool) (count n : ℕ) → count ≤ 511 → is_used slot_b count n ≡ true → n < 34
 used_low slot_b count n few is = low slot_b (used_cases slot_b count n is)
   where
     low : (slot_b : Bool) → (n < 2) ⊎ ((slot_at slot_b ≤ n) × (n < slot_at slot_b + used_blocks count)) → n < 34
@@ -76,30 +76,29 @@ module _ (m : Medium) (limit : ℕ) (slot_b : Bool) (bits : List Bool) (committe
       spared (is_free bits) m now spares left may n (held_not_free bits n (rests.system n (used_low slot_b (length (slot_entries committed)) n few used))) (rests.rest.clean n used)
 
   -- a crash after calls that write free blocks alone shows what was committed
-  pub shows_old : (now : Medium) → Spares (is_free bits) m now → (left : Contents) → MayLeave now left → Shows left s.committed
+  pub shows_old : (now : Medium) → Spares (is_free bits) m now → (left : Contents) → MayLeave now left → Shows left (committed_of s)
   shows_old now spares left may = record {
-    limit = rests.kept;
     versions = committed;
     filed = rests.old;
-    names = names_in m.contents left slot_b rests.kept (slot_entries committed) (kept_used now spares left may) rests.rest.in_use rests.rest.names;
+    names = names_in m.contents left slot_b s.kept (slot_entries committed) (kept_used now spares left may) rests.rest.in_use rests.rest.names;
     inside = omega (arith, may.least, spares.sure, rests.sure);
-    stands = standing_in (IsSafe bits m) (λ n. Unit {0}) m.contents left rests.kept (kept_safe now spares left may) (λ n safe. tt) committed rests.old rests.safe;
+    stands = standing_in (IsSafe bits m) (λ n. Unit {0}) m.contents left s.kept (kept_safe now spares left may) (λ n safe. tt) committed rests.old rests.safe;
     gives = rests.gives_old;
   }
 
   -- the committed entries are at rest after calls that write free blocks alone
-  pub at_rest : (now : Medium) → Spares (is_free bits) m now → AtRest slot_b now rests.kept (slot_entries committed)
+  pub at_rest : (now : Medium) → Spares (is_free bits) m now → AtRest slot_b now s.kept (slot_entries committed)
   at_rest now spares =
       let same : (n : ℕ) → is_used slot_b (length (slot_entries committed)) n ≡ true → is_free bits n ≡ false = λ n used. held_not_free bits n (rests.system n (used_low slot_b (length (slot_entries committed)) n few used)) in
       record {
-        names = names_in m.contents now.contents slot_b rests.kept (slot_entries committed) (λ n used. spares.same n (same n used)) rests.rest.in_use rests.rest.names;
+        names = names_in m.contents now.contents slot_b s.kept (slot_entries committed) (λ n used. spares.same n (same n used)) rests.rest.in_use rests.rest.names;
         in_use = ap (λ b. names_b b) (spares.same 1 (held_not_free bits 1 (rests.system 1 (omega arith)))) ∙ rests.rest.in_use;
         clean = λ n used. spares.clean n (same n used) (rests.rest.clean n used);
       }
 
-  pub safe_on : (now : Medium) (after : List Bool) → Spares (is_free bits) m now → HoldsMore bits after → Standing (IsSafe after now) now.contents rests.kept committed rests.old
+  pub safe_on : (now : Medium) (after : List Bool) → Spares (is_free bits) m now → HoldsMore bits after → Standing (IsSafe after now) now.contents s.kept committed rests.old
   safe_on now after spares more =
-      standing_in (IsSafe bits m) (IsSafe after now) m.contents now.contents rests.kept (λ n safe. spares.same n (held_not_free bits n safe.held))
+      standing_in (IsSafe bits m) (IsSafe after now) m.contents now.contents s.kept (λ n safe. spares.same n (held_not_free bits n safe.held))
       (λ n safe. record { held = more.still n safe.held; clean = spares.clean n (held_not_free bits n safe.held) safe.clean }) committed rests.old rests.safe
 
   pub stands_on : (now : Medium) (after : List Bool) → Spares (is_free bits) m now → HoldsMore bits after → Standing (IsHeld after) now.contents limit working rests.new
@@ -109,11 +108,11 @@ module _ (m : Medium) (limit : ℕ) (slot_b : Bool) (bits : List Bool) (committe
   -- the store stands for other working entries, after calls that write free blocks alone
   pub rests_on : (now : Medium) (after : List Bool) (changed : List Version) (new : List Filed) (tree : Tree) → Spares (is_free bits) m now → HoldsMore bits after
       → SlotFits limit (slot_entries changed) → Standing (IsHeld after) now.contents limit changed new → tree_of new ≡ tree
-      → Rests now limit slot_b after committed changed (record { committed = s.committed; working = tree })
+      → Rests now limit slot_b after committed changed (record s { working = tree })
   rests_on now after changed new tree spares more fits stands gives = record {
     old = rests.old;
     new = new;
-    kept = rests.kept;
+    blocks = rests.blocks;
     fewer = rests.fewer;
     inside = subst (λ n. limit ≤ n) (sym spares.count) rests.inside;
     sure = omega (arith, rests.sure, spares.sure);
@@ -131,31 +130,30 @@ module _ (m : Medium) (limit : ℕ) (slot_b : Bool) (bits : List Bool) (committe
   rests_more now after spares more = rests_on now after working rests.new s.working spares more rests.fits (stands_on now after spares more) rests.gives_new
 
   -- a crash in a publish shows what was committed, or what was working
-  pub published_left : (left : Contents) → PublishLeaves m rests.kept (slot_entries committed) limit (slot_entries working) left → LeftBy Shows s Commit left
+  pub published_left : (left : Contents) → PublishLeaves m s.kept (slot_entries committed) limit (slot_entries working) left → LeftBy Shows s Commit left
   published_left left leaves = by_names leaves.2
     where
-      by_names : (Names left rests.kept (slot_entries committed) × ((n : ℕ) → 34 ≤ n → m.dirty n ≡ false → block left n ≡ block m.contents n))
+      by_names : (Names left s.kept (slot_entries committed) × ((n : ℕ) → 34 ≤ n → m.dirty n ≡ false → block left n ≡ block m.contents n))
           ⊎ (Names left limit (slot_entries working) × (length left ≡ length m.contents) × ((n : ℕ) → 34 ≤ n → block left n ≡ block m.contents n)) → LeftBy Shows s Commit left
       by_names (inl old) = inl (record {
-        limit = rests.kept;
         versions = committed;
         filed = rests.old;
         names = old.0;
         inside = omega (arith, leaves.0, rests.sure);
-        stands = standing_in (λ n. IsSafe bits m n × IsData rests.kept n) (λ n. Unit {0}) m.contents left rests.kept (λ n safe. old.1 n safe.1.0 safe.0.clean) (λ n safe. tt) committed rests.old
-            (standing_data (IsSafe bits m) m.contents rests.kept committed rests.old rests.safe);
+        stands = standing_in (λ n. IsSafe bits m n × IsData s.kept n) (λ n. Unit {0}) m.contents left s.kept (λ n safe. old.1 n safe.1.0 safe.0.clean) (λ n safe. tt) committed rests.old
+            (standing_data (IsSafe bits m) m.contents s.kept committed rests.old rests.safe);
         gives = rests.gives_old;
       })
       by_names (inr new) = inr (
         refl,
         record {
-          limit = limit;
           versions = working;
           filed = rests.new;
-          names = new.0;
-          inside = omega (arith, new.1, rests.inside);
-          stands = standing_in (λ n. IsHeld bits n × IsData limit n) (λ n. Unit {0}) m.contents left limit (λ n held. new.2 n held.1.0) (λ n held. tt) working rests.new
-              (standing_data (IsHeld bits) m.contents limit working rests.new rests.stands);
+          names = subst (λ n. Names left n (slot_entries working)) rests.blocks new.0;
+          inside = omega (arith, new.1, rests.inside, rests.blocks);
+          stands = subst (λ n. Standing (λ k. Unit {0}) left n working rests.new) rests.blocks
+              (standing_in (λ n. IsHeld bits n × IsData limit n) (λ n. Unit {0}) m.contents left limit (λ n held. new.2 n held.1.0) (λ n held. tt) working rests.new
+              (standing_data (IsHeld bits) m.contents limit working rests.new rests.stands));
           gives = rests.gives_new;
         },
       )
@@ -168,14 +166,15 @@ module _ (m : Medium) (limit : ℕ) (slot_b : Bool) (bits : List Bool) (committe
       let rests' : Rests now limit (not slot_b) bits working working (next s Commit (Ok answer)) = record {
         old = rests.new;
         new = rests.new;
-        kept = limit;
-        fewer = omega arith;
+        blocks = rests.blocks;
+        fewer = omega (arith, rests.blocks);
         inside = subst (λ n. limit ≤ n) (sym done.count) rests.inside;
-        sure = omega (arith, clean_sure now done.clean, done.count, rests.inside);
+        sure = omega (arith, clean_sure now done.clean, done.count, rests.inside, rests.blocks);
         system = rests.system;
-        rest = done.rest;
+        rest = subst (λ n. AtRest (not slot_b) now n (slot_entries working)) rests.blocks done.rest;
         fits = rests.fits;
-        safe = standing_in (λ n. IsHeld bits n × IsData limit n) (IsSafe bits now) m.contents now.contents limit (λ n held. done.same n held.1.0) (λ n held. record { held = held.0; clean = done.clean n }) working rests.new stands;
+        safe = subst (λ n. Standing (IsSafe bits now) now.contents n working rests.new) rests.blocks
+            (standing_in (λ n. IsHeld bits n × IsData limit n) (IsSafe bits now) m.contents now.contents limit (λ n held. done.same n held.1.0) (λ n held. record { held = held.0; clean = done.clean n }) working rests.new stands);
         stands = standing_in (λ n. IsHeld bits n × IsData limit n) (IsHeld bits) m.contents now.contents limit (λ n held. done.same n held.1.0) (λ n held. held.0) working rests.new stands;
         gives_old = rests.gives_new;
         gives_new = rests.gives_new;
@@ -248,7 +247,7 @@ module _ (m : Medium) (limit : ℕ) (slot_b : Bool) (bits : List Bool) (committe
     put_rests now after root small spares more new =
         let g : Map → Map = λ m. with_value m key value in
         let found = found_entry name e is in
-        subst (λ (t : Tree). Rests now limit slot_b after committed (change_first (is_alternative_of name) (with_current root) working) (record { committed = s.committed; working = t }))
+        subst (λ (t : Tree). Rests now limit slot_b after committed (change_first (is_alternative_of name) (with_current root) working) (record s { working = t }))
         (sym (ap (tree_after s.working) put_step))
         (rests_on now after (change_first (is_alternative_of name) (with_current root) working) (change_first (is_filed name) (refiled g) rests.new) (put_tree name key value) spares more
         (subst (SlotFits limit) (sym (slot_changed (is_alternative_of name) (slot.is_alternative_of name) (λ v. refl) (with_current root) (ledger.with_current root.block) (λ v. refl) working))
@@ -259,9 +258,9 @@ module _ (m : Medium) (limit : ℕ) (slot_b : Bool) (bits : List Bool) (committe
 
 -- a crash in a publish of the working entries, written to a list of their own
 pub lent_left : (m : Medium) (limit : ℕ) (slot_b : Bool) (bits : List Bool) (committed working : List Version) (s : State) → (rests : Rests m limit slot_b bits committed working s)
-    → (lent : List Entry) → lent ≡ slot_entries working → (left : Contents) → PublishLeaves m rests.kept (slot_entries committed) limit lent left → LeftBy Shows s Commit left
+    → (lent : List Entry) → lent ≡ slot_entries working → (left : Contents) → PublishLeaves m s.kept (slot_entries committed) limit lent left → LeftBy Shows s Commit left
 lent_left m limit slot_b bits committed working s rests lent same left leaves =
-    published_left m limit slot_b bits committed working s rests left (subst (λ (es : List Entry). PublishLeaves m rests.kept (slot_entries committed) limit es left) same leaves)
+    published_left m limit slot_b bits committed working s rests left (subst (λ (es : List Entry). PublishLeaves m s.kept (slot_entries committed) limit es left) same leaves)
 
 -- reads change nothing
 pub read_rests : (old new : disk.State) (limit : ℕ) (slot_b : Bool) (bits : List Bool) (committed working : List Version) (s : State) → OnlyReads old new
@@ -270,14 +269,13 @@ read_rests old new limit slot_b bits committed working s reads rests =
     subst (λ (m : Medium). Rests m limit slot_b bits committed working s) (sym (same_medium old new reads)) rests
 
 -- what is committed is shown
-pub shows_now : (m : Medium) (limit : ℕ) (slot_b : Bool) (bits : List Bool) (committed working : List Version) (s : State) → Rests m limit slot_b bits committed working s → Shows m.contents s.committed
+pub shows_now : (m : Medium) (limit : ℕ) (slot_b : Bool) (bits : List Bool) (committed working : List Version) (s : State) → Rests m limit slot_b bits committed working s → Shows m.contents (committed_of s)
 shows_now m limit slot_b bits committed working s rests = record {
-  limit = rests.kept;
   versions = committed;
   filed = rests.old;
   names = rests.rest.names;
   inside = omega (arith, rests.sure, m.within);
-  stands = standing_in (IsSafe bits m) (λ n. Unit {0}) m.contents m.contents rests.kept (λ n safe. refl) (λ n safe. tt) committed rests.old rests.safe;
+  stands = standing_in (IsSafe bits m) (λ n. Unit {0}) m.contents m.contents s.kept (λ n safe. refl) (λ n safe. tt) committed rests.old rests.safe;
   gives = rests.gives_old;
 }
 

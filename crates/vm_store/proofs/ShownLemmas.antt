@@ -1,6 +1,7 @@
 -- What contents show is one tree.
 use Rattle.std.proofs.Common.{◌≡◌, ℕ, List, [], ◌∷◌, refl, sym, ap, ◌∙◌, subst}
 use Rattle.vm_types.specs.Map.{Map}
+use Rattle.vm_types.specs.State.{Seen}
 use Rattle.vm_types.specs.Tree.{Tree}
 use Rattle.vm_disk.specs.Disk.{Contents}
 use Rattle.vm_block.proofs.TreeLemmas.{tree_one}
@@ -51,10 +52,11 @@ all_filed_one P x limit [] [] [] (g ∷ gs) same s t = absurd t
 all_filed_one P x limit (v ∷ vs) (w ∷ ws) [] gs same s t = absurd s
 all_filed_one P x limit (v ∷ vs) (w ∷ ws) (f ∷ fs) [] same s t = absurd t
 
-pub shown_one : (x : Contents) (t u : Tree) → Shows x t → Shows x u → t ≡ u
+pub shown_one : (x : Contents) (t u : Seen) → Shows x t → Shows x u → t ≡ u
 shown_one x t u one other =
     let P : ℕ → Type 0 = λ n. Unit {0} in
-    let named = names_one x one.limit other.limit (slot_entries one.versions) (slot_entries other.versions) one.names other.names in
+    let named = names_one x t.blocks u.blocks (slot_entries one.versions) (slot_entries other.versions) one.names other.names in
     let stands = subst (λ l. Standing P x l one.versions one.filed) named.0 one.stands in
-    let same = all_filed_one P x other.limit one.versions other.versions one.filed other.filed named.1 stands other.stands in
-    sym one.gives ∙ ap tree_of same ∙ other.gives
+    let same = all_filed_one P x u.blocks one.versions other.versions one.filed other.filed named.1 stands other.stands in
+    let tree : t.tree ≡ u.tree = sym one.gives ∙ ap tree_of same ∙ other.gives in
+    ap (λ (a : Tree). record { tree = a; blocks = t.blocks }) tree ∙ ap (λ n. record { tree = u.tree; blocks = n }) named.0

@@ -11,7 +11,7 @@ use Rattle.vm_types.specs.Firsts.{IsFirst, change_first, without_first}
 use Rattle.vm_types.specs.Shape.{shape, saved_names}
 use Rattle.vm_types.specs.Tree.{Tree, Alternative, named, saved_as, changed, has_children, entry_count, is_full}
 use Rattle.vm_types.specs.Step.{Outcome, done, new_alternative, step}
-use Rattle.vm_types.specs.State.{State, next, tree_after, edits, is_commit}
+use Rattle.vm_types.specs.State.{State, next, tree_after, edits, outcome}
 use Rattle.vm_types.specs.Kept.{LeftBy}
 use Rattle.vm_types.specs.declared.answer.Answer.{Answer}
 use Rattle.vm_types.specs.declared.answer.Answer.TheVariants.{Done}
@@ -134,11 +134,11 @@ none_less : (n : ℕ) → nat_lt n 0 ≡ false
 none_less n = grind (arith, nat_tests)
 
 -- a command that the model refuses
-pub answers_refused : (s : State) (spare : ℕ) (deep : Type 0) (command : Command) (r : Refusal) → step s.working command ≡ Err r → IsAnswer s spare deep command (Err r)
+pub answers_refused : (s : State) (spare : ℕ) (deep : Type 0) (command : Command) (r : Refusal) → outcome s command ≡ Err r → IsAnswer s spare deep command (Err r)
 answers_refused s spare deep command r is = inr (subst (λ (o : Outcome). IsDue o (nat_lt spare (16 * edits s.working command)) deep (Err r)) (sym is) refl)
 
 -- a command without record changes that the model accepts
-pub answers_done : (s : State) (spare : ℕ) (deep : Type 0) (command : Command) (tree : Tree) → edits s.working command ≡ 0 → (deep → ⊥) → step s.working command ≡ done tree → IsAnswer s spare deep command (Ok Done)
+pub answers_done : (s : State) (spare : ℕ) (deep : Type 0) (command : Command) (tree : Tree) → edits s.working command ≡ 0 → (deep → ⊥) → outcome s command ≡ done tree → IsAnswer s spare deep command (Ok Done)
 answers_done s spare deep command tree none shallow is =
     inr (subst (λ (o : Outcome). IsDue o (nat_lt spare (16 * edits s.working command)) deep (Ok Done)) (sym is)
     (subst (λ (b : Bool). IsDue (done tree) b deep (Ok Done)) (sym (ap (λ n. nat_lt spare (16 * n)) none ∙ none_less spare)) (inl (refl, shallow))))
@@ -158,18 +158,11 @@ module _ (m : Medium) (limit : ℕ) (slot_b : Bool) (bits : List Bool) (committe
   in_order = ledger_in_order (IsHeld bits) m.contents limit working rests.new rests.stands rests.fits.ledger
 
   -- other entries, which stand in blocks that are held, without a device call
-  pub stepped : (command : Command) (changed : List Version) (new : List Filed) (tree : Tree) → is_commit command ≡ false → step s.working command ≡ done tree → SlotFits limit (slot_entries changed)
+  pub stepped : (command : Command) (changed : List Version) (new : List Filed) (tree : Tree) → next s command (Ok Done) ≡ record s { working = tree_after s.working (step s.working command) } → step s.working command ≡ done tree → SlotFits limit (slot_entries changed)
       → Standing (IsHeld bits) m.contents limit changed new → tree_of new ≡ tree → Rests m limit slot_b bits committed changed (next s command (Ok Done))
   stepped command changed new tree plain is fits stands gives =
-      subst (λ (t : State). Rests m limit slot_b bits committed changed t) (sym (is_next command tree plain is))
+      subst (λ (t : State). Rests m limit slot_b bits committed changed t) (sym (plain ∙ ap (λ (o : Outcome). record s { working = tree_after s.working o }) is))
       (rests_on m limit slot_b bits committed working s rests m bits changed new tree (spares_itself _ m) (record { same_length = refl; still = λ n h. h }) fits stands gives)
-    where
-      is_next : (command : Command) (tree : Tree) → is_commit command ≡ false → step s.working command ≡ done tree → next s command (Ok Done) ≡ record { committed = s.committed; working = tree }
-      is_next command tree plain is = λ i. record { committed = if_not (is_commit command) plain i; working = ap (tree_after s.working) is i }
-        where
-          if_not : (b : Bool) → b ≡ false → (cond b s.working s.committed) ≡ s.committed
-          if_not true h = absurd (true≢false h)
-          if_not false h = refl
 
   -- an alternative that an entry is
   pub record IsThere (name : List ℕ) (e : Version) : Type 0 where
@@ -248,7 +241,7 @@ module _ (m : Medium) (limit : ℕ) (slot_b : Bool) (bits : List Bool) (committe
       new_step free few = new_accepted s.working name parent _ (there parent p found).is (ap is_some (absent name free)) (room few)
 
       -- an alternative more under the parent, with the root of these records for both of its trees
-      pub added_rests : (command : Command) (root : Root) (records : Map) → is_commit command ≡ false → Grown sizes (IsHeld bits) m.contents limit root records → root.block < 2 ^ 32
+      pub added_rests : (command : Command) (root : Root) (records : Map) → next s command (Ok Done) ≡ record s { working = tree_after s.working (step s.working command) } → Grown sizes (IsHeld bits) m.contents limit root records → root.block < 2 ^ 32
           → find (is_alternative_of name) working ≡ None → length working < 511 → IsName name → step s.working command ≡ done (s.working ++ new_alternative name (whole parent rests.new (there parent p found).filed) records ∷ [])
           → Rests m limit slot_b bits committed (working ++ alternative_under parent name root ∷ []) (next s command (Ok Done))
       added_rests command root records plain stands small free few is_name is =

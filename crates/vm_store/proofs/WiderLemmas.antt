@@ -5,9 +5,11 @@ use Rattle.vm_disk.specs.Disk.{Contents}
 use Rattle.vm_block.specs.Leaf.{Record}
 use Rattle.vm_block.specs.Tree.{IsData, Children, Subtree}
 use Rattle.vm_block.specs.declared.node.Child.{Child}
-use Rattle.vm_tree.specs.Root.{IsRooted}
+use Rattle.vm_tree.specs.Root.{Grown, IsRooted}
 use Rattle.vm_tree.specs.declared.root.Root.{Root}
+use Rattle.vm_store.specs.Filed.{Filed, Standing}
 use Rattle.vm_store.specs.Sizes.{sizes}
+use Rattle.vm_store.specs.declared.versions.Version.{Version}
 
 -- what holds under each child
 children_so : (T U : ℕ → List Record → List ℕ → Type 0) → ((b : ℕ) (rs : List Record) (bs : List ℕ) → T b rs bs → U b rs bs)
@@ -40,3 +42,27 @@ pub rooted_wider : (x : Contents) (limit more : ℕ) → limit ≤ more → (roo
 rooted_wider x limit more few root m bs (inl bare) = inl bare
 rooted_wider x limit more few root m bs (inr top) =
     inr (record { level = top.level; subtree = subtree_wider x limit more few root.level root.block m bs top.subtree; rising = top.rising; lowest = top.lowest })
+
+-- a map in blocks of a kind
+grown_wider : (P : ℕ → Type 0) (x : Contents) (limit more : ℕ) → limit ≤ more → (root : Root) (m : Map) → Grown sizes P x limit root m → Grown sizes P x more root m
+grown_wider P x limit more few root m grown = record {
+  stands_in = grown.stands_in;
+  rooted = rooted_wider x limit more few root m grown.stands_in grown.rooted;
+  each = grown.each;
+}
+
+-- what versions stand for
+pub standing_wider : (P : ℕ → Type 0) (x : Contents) (limit more : ℕ) → limit ≤ more → (vs : List Version) (fs : List Filed) → Standing P x limit vs fs → Standing P x more vs fs
+standing_wider P x limit more few [] [] s = tt
+standing_wider P x limit more few (v ∷ vs) (f ∷ fs) s = (
+  record {
+    kind = s.0.kind;
+    name = s.0.name;
+    owner = s.0.owner;
+    current = grown_wider P x limit more few v.current f.current s.0.current;
+    base = grown_wider P x limit more few v.base f.base s.0.base;
+  },
+  standing_wider P x limit more few vs fs s.1,
+)
+standing_wider P x limit more few [] (f ∷ fs) s = absurd s
+standing_wider P x limit more few (v ∷ vs) [] s = absurd s

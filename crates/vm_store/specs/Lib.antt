@@ -3,6 +3,7 @@ pub mod Changing
 pub mod Faults
 pub mod Filed
 pub mod Formatting
+pub mod Growing
 pub mod Guarded
 pub mod Marking
 pub mod Opening

@@ -2,16 +2,17 @@
 use Rattle.std.specs.Prelude.{◌≡◌, ℕ, Bool, true, List, find, Result, IfErr}
 use Rattle.vm_types.specs.declared.answer.Answer.{Answer}
 use Rattle.vm_types.specs.declared.command.Command.{Command}
-use Rattle.vm_types.specs.declared.command.Command.TheVariants.{Merge}
+use Rattle.vm_types.specs.declared.command.Command.TheVariants.{Grow, Merge}
 use Rattle.vm_types.specs.declared.refusal.Refusal.{Refusal}
 use Rattle.vm_types.specs.Kept.{LeftBy}
-use Rattle.vm_types.specs.State.{State}
+use Rattle.vm_types.specs.State.{State, outcome}
 use Rattle.vm_types.specs.Tree.{current_of}
 use Rattle.vm_disk.specs.Disk.{Goes}
 use Rattle.vm_disk.specs.Moments.{Leaves, OnlyReads, Throughout}
 use Rattle.vm_alloc.specs.Held.{free_count}
-use Rattle.vm_store.specs.Answers.{IsAnswer, IsDeep, IsEarly, IsMergeAnswer, merge_changes}
+use Rattle.vm_store.specs.Answers.{IsAnswer, IsDeep, IsEarly, IsGrowDue, IsMergeAnswer, merge_changes}
 use Rattle.vm_store.specs.Changing.{MeetsFullPath}
+use Rattle.vm_store.specs.Growing.{Grows}
 use Rattle.vm_store.specs.Guarded.{IsGuarded}
 use Rattle.vm_store.specs.Resting.{Rests, spare_of}
 use Rattle.vm_store.specs.Roots.{current_root}
@@ -53,7 +54,11 @@ module _ {D : Type 0} {members : _} where
   abbrev pub IsHonest : Store D members → Type 0
   IsHonest store = (members.state store.disk).honest ≡ true
 
-  -- what a call of the store does to its disk, on any disk, where `fails` says that the device failed in it
+  -- what a call of the store does to its disk, on any disk, where `fails` says that the device failed in it; it may give it more blocks
+  abbrev pub GrowsOn : Type 0 → (old new : Store D members) → Type 0
+  GrowsOn fails old new = Grows fails (members.state old.disk) (members.state new.disk)
+
+  -- the same of a call that leaves the number of its blocks
   abbrev pub GoesOn : Type 0 → (old new : Store D members) → Type 0
   GoesOn fails old new = Goes fails (members.state old.disk) (members.state new.disk)
 
@@ -94,5 +99,6 @@ module _ {D : Type 0} {members : _} where
   abbrev pub Answers : (old new : Store D members) (s : State) → Holds old s → Command → Result Answer Refusal → Type 0
   Answers old new s holds (Merge alt settled) result =
       IsMergeAnswer s (spare_of holds) (MeetsFullPath (members.state new.disk).now.contents new.blocks (current_of s.working alt) (merge_changes s.working alt settled)) alt settled result
+  Answers old new s holds (Grow blocks) result = IsGrowDue (outcome s (Grow blocks)) result
   Answers old new s holds command result =
       IsAnswer s (spare_of holds) (IsDeep (members.state old.disk).now.contents (root_of old) s.working command) command result

@@ -1,9 +1,10 @@
 //! A store, and its commands and queries.
-ghost use Rattle.std.specs.Prelude.{◌≡◌, ◌≢◌, ◌⊎◌, ◌↔◌, ◌<◌, ◌≤◌, ◌*◌, ◌^◌, true, false, length, ℕ, vec_capacity, OnErr, OnOk, IfOk, IfErr, IsTrue};
-ghost use Rattle.vm_types.specs.State.{State, next};
+ghost use Rattle.std.specs.Prelude.{◌≡◌, ◌≢◌, ◌⊎◌, ◌↔◌, ◌<◌, ◌≤◌, ◌+◌, ◌-◌, ◌*◌, ◌^◌, true, false, length, ℕ, vec_capacity, OnErr, OnOk, IfOk, IfErr, IsTrue};
+ghost use Rattle.vm_types.specs.State.{State, committed_of, next};
+ghost use Rattle.vm_types.specs.declared.command.Command.TheVariants.{Grow};
 ghost use Rattle.vm_disk.specs.Moments.{Leaves};
 ghost use Rattle.vm_types.specs.Queries.{value_in};
-ghost use Rattle.vm_store.specs.Answers.{ChangesEntriesAlone, IsEarly, IsMerge};
+ghost use Rattle.vm_store.specs.Answers.{ChangesEntriesAlone, IsEarly, IsGrow, TakesMemory};
 ghost use Rattle.vm_store.specs.Resting.{spare_of};
 ghost use Rattle.vm_store.specs.Shown.{Shows};
 
@@ -11,6 +12,7 @@ mod alternatives;
 mod checkpoints;
 mod differences;
 mod formatting;
+mod growing;
 mod listing;
 mod merging;
 mod opening;
@@ -69,13 +71,13 @@ pub struct Store<D: Disk> {
 }
 
 impl<D: Disk> Store<D> {
-    ghost use Rattle.vm_store.specs.Store.{disk_of, has_failed, entries_of, root_of, Answers, Holds, IsSameButDisk, held_of, free_of, IsHonest, GoesOn, ReadsAlone, StaysGuarded, CrashLeaves, EarlyKeeps};
+    ghost use Rattle.vm_store.specs.Store.{disk_of, has_failed, entries_of, root_of, Answers, Holds, IsSameButDisk, held_of, free_of, IsHonest, GoesOn, GrowsOn, ReadsAlone, StaysGuarded, CrashLeaves, EarlyKeeps};
 
     /// Carries out one command. After an answer `Device` the store answers `Failed` to every call but
     /// `close`: close it, and open the disk again.
     pub fn apply(&mut self, command: &Command) -> Result<Answer, Refusal>
         // On any disk.
-        ensures any { GoesOn (result ≡ Err Refusal.Device) self.old self.new }
+        ensures any { GrowsOn (result ≡ Err Refusal.Device) self.old self.new }
         ensures failed { has_failed self.old ≡ false
             → (has_failed self.new ≡ true ↔ result ≡ Err Refusal.Device) }
         ensures refused { has_failed self.old ≡ true → result ≡ Err Refusal.Failed }
@@ -84,7 +86,13 @@ impl<D: Disk> Store<D> {
         ensures same { OnErr result (result ≢ Err Refusal.Device
             → entries_of self.new ≡ entries_of self.old) }
         ensures unchanged { EarlyKeeps result self.old self.new }
-        ensures memory { result ≡ Err Refusal.Memory → IsMerge command.now }
+        ensures memory { result ≡ Err Refusal.Memory → TakesMemory command.now }
+
+        // No command but a Grow gives the disk blocks, and one that is refused early makes no device call.
+        ensures as_long { (IsGrow command.now → ⊥)
+            → (D.state (disk_of self.new)).blocks ≡ (D.state (disk_of self.old)).blocks }
+        ensures untouched { IsGrow command.now
+            → IfErr result (λ refusal. IsEarly refusal → disk_of self.new ≡ disk_of self.old) }
 
         // To make, drop or go back to alternatives and checkpoints takes no device call and no block.
         ensures blocks { ChangesEntriesAlone command.now
@@ -113,6 +121,11 @@ impl<D: Disk> Store<D> {
             → command.now ≡ Command.Reclaim
             → (s : State) (holds : Holds self.old s)
             → OnOk result (free_of self.new ≡ spare_of holds) }
+
+        // After a Grow the new blocks are free, too.
+        ensures grown { has_failed self.old ≡ false → (blocks : ℕ) → command.now ≡ Grow blocks
+            → (s : State) → Holds self.old s
+            → OnOk result (free_of self.new ≡ free_of self.old + (blocks - s.blocks)) }
     {
         if self.failed {
             return Err(Refusal::Failed);
@@ -124,9 +137,13 @@ impl<D: Disk> Store<D> {
 
     // Carries out one command, and leaves it to `apply` to note that the device failed.
     fn carry_out(&mut self, command: &Command) -> Result<Answer, Refusal>
-        ensures any { GoesOn (result ≡ Err Refusal.Device) self.old self.new }
+        ensures any { GrowsOn (result ≡ Err Refusal.Device) self.old self.new }
+        ensures as_long { (IsGrow command.now → ⊥)
+            → (D.state (disk_of self.new)).blocks ≡ (D.state (disk_of self.old)).blocks }
+        ensures untouched { IsGrow command.now
+            → IfErr result (λ refusal. IsEarly refusal → disk_of self.new ≡ disk_of self.old) }
         ensures never { result ≢ Err Refusal.Failed }
-        ensures memory { result ≡ Err Refusal.Memory → IsMerge command.now }
+        ensures memory { result ≡ Err Refusal.Memory → TakesMemory command.now }
         ensures blocks { ChangesEntriesAlone command.now
             → (disk_of self.new ≡ disk_of self.old) × (held_of self.new ≡ held_of self.old) }
         ensures same { OnErr result (entries_of self.new ≡ entries_of self.old) }
@@ -142,6 +159,9 @@ impl<D: Disk> Store<D> {
         ensures reclaimed { IsHonest self.new → command.now ≡ Command.Reclaim
             → (s : State) (holds : Holds self.old s)
             → OnOk result (free_of self.new ≡ spare_of holds) }
+        ensures grown { (blocks : ℕ) → command.now ≡ Grow blocks → (s : State)
+            → Holds self.old s
+            → OnOk result (free_of self.new ≡ free_of self.old + (blocks - s.blocks)) }
     {
         match command {
             Command::Put { alt, key, value } => self.put(alt, *key, value),
@@ -160,6 +180,7 @@ impl<D: Disk> Store<D> {
             Command::Post { alt } => self.post(alt),
             Command::Commit => self.commit(),
             Command::Reclaim => self.reclaim(),
+            Command::Grow { blocks } => self.grow(*blocks),
         }
     }
 
@@ -316,12 +337,12 @@ impl<D: Disk> Store<D> {
         ensures disk { result ≡ disk_of self }
         ensures shown { (D.state result).honest ≡ true → has_failed self ≡ false → (s : State)
             → Holds self s
-            → Shows (D.state result).now.contents s.committed }
+            → Shows (D.state result).now.contents (committed_of s) }
 
         // A crash after it leaves what was committed.
         ensures crash { (D.state result).honest ≡ true → has_failed self ≡ false → (s : State)
             → Holds self s
-            → Leaves (λ x. Shows x s.committed) (D.state result).now }
+            → Leaves (λ x. Shows x (committed_of s)) (D.state result).now }
     {
         let Store {
             disk,

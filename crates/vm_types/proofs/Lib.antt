@@ -3,6 +3,7 @@ mod Rows
 pub mod Bridge
 pub mod Changes
 pub mod FirstsLemmas
+pub mod Growing
 pub mod IsolationLemmas
 pub mod KeptLemmas
 pub mod Keys

@@ -48,6 +48,11 @@ returns-in-Back-clause-answer g c honest s holds =
     let answers = λ (command : Command). Answers c.args.self.now c.go_back.new.self s holds command c.go_back.result in
     subst answers (sym c.in-Back.is) (c.go_back.ensures.answer honest s holds)
 
+pub returns-in-Grow-clause-answer : goal.returns-in-Grow-clause-answer
+returns-in-Grow-clause-answer g c honest s holds =
+    let answers = λ (command : Command). Answers c.args.self.now c.grow.new.self s holds command c.grow.result in
+    subst answers (sym c.in-Grow.is) (c.grow.ensures.answer honest s holds)
+
 pub returns-in-New-clause-guarded : goal.returns-in-New-clause-guarded
 returns-in-New-clause-guarded g c honest s holds =
     let Q = IsGuarded c.make_alternative.new.self.held in

@@ -1,5 +1,5 @@
 use Rattle.std.proofs.Common.{◌≤◌, Err, length, refl, subst, sym, ap, ◌∙◌, arith}
-use Rattle.vm_types.specs.State.{opened}
+use Rattle.vm_types.specs.State.{Seen, opened}
 use Rattle.vm_disk.specs.Disk.{Medium}
 use Rattle.vm_disk.proofs.MomentLemmas.{same_medium}
 use Rattle.vm_alloc.specs.Marks.{IsMarked}
@@ -41,12 +41,13 @@ returns-in-Some-clause-holds g c honest clean store in_use slot =
     let found = found_here _ _ _ _ _ _ _ _ c.deref-2.ensures.value c.in-Some-Ok.ensures c.deref.ensures.value (c.in-Ok.ensures.found honest) in
     let are = c.in-Some.ensures.items in
     let alike = found_alike _ _ _ _ c.deref-in-Ok.ensures.value c.deref-in-Ok-2.ensures.value in
+    let seen : Seen = record { tree = tree_of found.filed; blocks = limit } in
     let rests = rests_found m limit c.args.slot_b c.args.slot.entries.items clean store in_use slot inside c.in-Ok.marks c.replace.new.self _ found.filed found.same c.replace.ensures.system c.replace.ensures.marked found.stands in
     record {
-      tree = tree_of found.filed;
-      shown = subst (λ (n : Medium). Shows n.contents (tree_of found.filed)) (sym read) (shows_found m limit c.args.slot_b c.args.slot.entries.items clean store in_use slot inside (IsMarked c.in-Ok.marks) _ found.filed found.same found.stands);
-      holds = subst (λ (n : Medium). Rests n limit c.args.slot_b c.replace.new.self c.in-Some.committed.items c.in-Some.working.items (opened (tree_of found.filed))) (sym read)
-          (rests_named m limit c.args.slot_b c.replace.new.self _ c.in-Some.committed.items c.in-Some.working.items (opened (tree_of found.filed)) (are.0 ∙ alike) (are.1 ∙ alike) rests);
+      seen = seen;
+      shown = subst (λ (n : Medium). Shows n.contents seen) (sym read) (shows_found m limit c.args.slot_b c.args.slot.entries.items clean store in_use slot inside (IsMarked c.in-Ok.marks) _ found.filed found.same found.stands);
+      holds = subst (λ (n : Medium). Rests n limit c.args.slot_b c.replace.new.self c.in-Some.committed.items c.in-Some.working.items (opened seen)) (sym read)
+          (rests_named m limit c.args.slot_b c.replace.new.self _ c.in-Some.committed.items c.in-Some.working.items (opened seen) (are.0 ∙ alike) (are.1 ∙ alike) rests);
       free = freed_on m _ limit c.args.slot_b c.replace.new.self c.in-Some.committed.items c.in-Some.working.items read
           (freed m limit c.args.slot_b c.replace.new.self c.in-Some.committed.items c.in-Some.working.items c.args.slot.entries.items c.in-Ok.roots.items c.in-Ok.marks (are.0 ∙ alike) (are.1 ∙ alike)
           (found_as_named _ _ _ _ _ _ _ _ c.deref-2.ensures.value c.in-Some-Ok.ensures c.deref.ensures.value (c.in-Ok.ensures.found honest)) (c.replace.ensures.count ∙ c.in-Some-Ok.ensures'.count) c.replace.ensures.system c.replace.ensures.marked);
