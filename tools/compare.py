@@ -13,7 +13,8 @@ import tempfile
 BLOCK, FIRST = 4096, 34
 LETTERS = {*b"ABCDEFGHIJKLMNOPQRSTUVWXYZabcdefghijklmnopqrstuvwxyz0123456789_-."}
 NAMES = "NoSuchAlternative AlternativeExists NoSuchCheckpoint CheckpointExists NoSuchRecord IsTop HasChildren NotMerged Unsettled"
-NAMES = [None, *NAMES.split(), "NotInConflict", "SettledTwice", "TooMany", "Full", "Deep"]
+NAMES = [None, *NAMES.split(), "NotInConflict", "SettledTwice", "TooMany", "Full", "Deep", "Device", "Memory", "Failed"]
+NAMES += ["Damaged", "NotAStore", "AlreadyAStore", "BadSize"]
 
 
 class Refused(Exception):
@@ -37,17 +38,18 @@ class Alternative:
 
 
 class Store:
-    """A file: blocks are bytes, and trees are decoded from them anew for each use."""
+    """A file: blocks are bytes, and trees are decoded from them anew for each use. The file may have more blocks than the store,
+    which has as many as the last commit said, and in a session those of its growths."""
 
     def __init__(self, blocks):
-        self.disk = [bytes(BLOCK)] * blocks
+        self.disk, self.kept, self.blocks = [bytes(BLOCK)] * blocks, blocks, blocks
         self.disk[2] = self.slot_blocks([Alternative(b"A", "top", "", 0, 0)])[0]
         self.disk[0] = (b"ALTSTORE" + struct.pack("<II", 1, BLOCK)).ljust(BLOCK, b"\0")
 
     # --- the slots
 
     def slot_blocks(self, entries):
-        head = b"SLOT" + struct.pack("<III", 1, len(self.disk), len(entries))
+        head = b"SLOT" + struct.pack("<III", 1, self.blocks, len(entries))
         text = head.ljust(128, b"\0") + b"".join(it.encoded() for it in entries)
         text = text.ljust((len(entries) + 32) // 32 * BLOCK, b"\0")
         return [text[at : at + BLOCK] for at in range(0, len(text), BLOCK)]
@@ -55,7 +57,8 @@ class Store:
     def open(self):
         """What a session begins with."""
         slot = 18 if self.disk[1][0] & 1 else 2
-        count = struct.unpack_from("<I", self.disk[slot], 12)[0]
+        self.kept, count = struct.unpack_from("<II", self.disk[slot], 8)
+        self.blocks = self.kept
         text = b"".join(self.disk[slot : slot + 16])
         self.working = []
         for at in range(128, 128 * (count + 1), 128):
@@ -70,7 +73,7 @@ class Store:
         for at, block in enumerate(self.slot_blocks(self.working)):
             self.disk[slot + at] = block
         self.disk[1] = bytes([1 if slot == 18 else 0]).ljust(BLOCK, b"\0")
-        self.committed = [it.copy() for it in self.working]
+        self.committed, self.kept = [it.copy() for it in self.working], self.blocks
 
     # --- trees
 
@@ -90,7 +93,7 @@ class Store:
 
     def write(self, level, items):
         """Writes items into the lowest block that isn't held, and gives their first key, and the block."""
-        block = next(it for it in range(FIRST, len(self.disk)) if it not in self.held)
+        block = next(it for it in range(FIRST, self.blocks) if it not in self.held)
         self.held.add(block)
         if level == 0:
             body = b"".join(struct.pack("<HQH", *key, len(value)) + value.ljust(240, b"\0") for key, value in items)
@@ -183,7 +186,14 @@ class Store:
     # --- space
 
     def free(self):
-        return len(self.disk) - FIRST - len(self.held)
+        return self.blocks - FIRST - len(self.held)
+
+    def grow(self, blocks):
+        """Blocks that the file lacks are zeros; others keep the bytes that they have."""
+        if not self.blocks < blocks <= 1 << 20:
+            raise Refused(21)
+        self.disk += [bytes(BLOCK)] * (blocks - len(self.disk))
+        self.blocks = blocks
 
     def demand(self, changes):
         if self.free() < 16 * changes:
@@ -292,6 +302,8 @@ class Store:
             self.commit()
         elif verb == "reclaim":
             self.held = self.reached(self.committed) | self.reached(self.working)
+        elif verb == "grow":
+            self.grow(rest[0])
         else:
             return self.asked(verb, rest)
         return "ok"
@@ -472,7 +484,6 @@ def opened(altctl, rng, file, disk):
             store = Store(64)
             store.disk = blocks
             store.open()
-            store.disk = blocks[: struct.unpack_from("<I", blocks[18 if blocks[1][0] & 1 else 2], 8)[0]]
             answers = "".join(store.apply(words) + "\n" for words in (["alts"], ["list", "top"], ["free"]))
         wanted = (1, b"", f"altctl: {why}\n".encode()) if why else (0, answers.encode(), b"")
         if (ran.returncode, ran.stdout, ran.stderr) != wanted:
@@ -486,7 +497,7 @@ def opened(altctl, rng, file, disk):
 def checked(altctl, file, store):
     """Checks a store, and says what differs from the model."""
     alternatives = sum(it.tag == b"A" for it in store.committed)
-    free = len(store.disk) - FIRST - len(store.reached(store.committed))
+    free = store.kept - FIRST - len(store.reached(store.committed))
     wanted = f"alternatives {alternatives}\ncheckpoints {len(store.committed) - alternatives}\nfree {free}\n"
     ran = subprocess.run([altctl, "check", file], stdin=subprocess.DEVNULL, stdout=subprocess.PIPE, stderr=subprocess.PIPE)
     if (ran.returncode, ran.stdout.decode(), ran.stderr) != (0, wanted, b""):
@@ -502,6 +513,7 @@ class Editor:
         self.names = ["top", "top", "a", "b", "c", "d-1", "e.f_G"]
         self.marks = ["k", "l", "m" * 32]
         self.width = rng.choice([3, 20, 60, 400, 3000])
+        self.growth = rng.choice([0, 0.01, 0.04])
 
     def key(self):
         if self.rng.random() < 0.02:
@@ -534,14 +546,24 @@ class Editor:
     def odd(self):
         bad = ["PUT top 1 1 a", "get top x 1", "get top 65536 1", "get top 1 18446744073709551616", "commit now", "put top 1 1", "put top 1 1 %z1"]
         bad += ["put top 1 1 " + "x" * 241, "new a", "new a~ top", "new a top c!", "new a top c d", "new " + "n" * 33 + " top", "merge", "merge top 1:1=ours", "get\ttop 1 1", "free\r\r"]
+        bad += ["grow", "grow 4294967296", "grow 18446744073709551616", "grow " + "0" * 20 + "1", "grow -1", "grow +70", "grow 70 80", "grow many"]
         if self.rng.random() < 0.3:
             return self.rng.choice(["", "# note", "   ", "  #x"]) + "\n", None
         return self.rng.choice(bad) + "\n", "error 22 BadLine"
+
+    def grown(self, store):
+        """A growth by some blocks, or one that is refused."""
+        more = self.rng.choice([0, -1, 1, 1, 2, 5, 16, 16, 40, 300])
+        blocks = self.rng.choice([store.blocks + more] * 6 + [0, 63, 64, 1048577, 2**32 - 1])
+        typed = self.rng.choice([str(blocks), str(blocks), str(blocks).rjust(20, "0")])
+        return self.spaced(["grow", typed]), ["grow", blocks]
 
     def line(self, store):
         draw, name = self.rng.random(), self.rng.choice(self.names)
         if draw < 0.02:
             return self.odd()
+        if draw < 0.02 + self.growth:
+            return self.grown(store)
         if draw < 0.45:
             key, value = self.key(), self.value()
             table = self.rng.choice([str(key[0]), str(key[0]).rjust(5, "0")])
@@ -615,8 +637,8 @@ def compared(altctl, rng, folder):
         for at, block in enumerate(store.disk):
             if found[at * BLOCK : (at + 1) * BLOCK] != block:
                 return f"block {at} differs after these lines:\n{lines}"
-        if len(found) != BLOCK * blocks:
-            return "the file has another length"
+        if len(found) != BLOCK * len(store.disk):
+            return f"the file has {len(found)} bytes, and not {BLOCK * len(store.disk)}, after these lines:\n{lines}"
     why = opened(altctl, rng, file, store.disk)
     if why:
         os.replace(file, "spoiled.alt")

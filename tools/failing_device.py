@@ -2,9 +2,9 @@
 """Fails device calls of the program over real files: `tools/failing_device.py`. Where something is lost, it says so and ends with
 status 1.
 
-One list of lines is run over a store, and one of its reads, writes and syncs fails, the first, the second and so on; or that one and
-all after it. A write that fails leaves none, a half or all of its block. Then the store has to open again with what was
-acknowledged, and the rest of the lines ends as usual. And each block of a store with a tree of two levels can't be read once it was
+One list of lines is run over a store, which grows in it, and one of its reads, writes and syncs fails, the first, the second and so
+on; or that one and all after it. A write that fails leaves nothing, half a block or one block. Then the store has to open again with
+what was acknowledged, and the rest of the lines ends as usual. And each block of a store with a tree of two levels can't be read once it was
 opened: what lies in it is answered with `error 15 Device`, and everything else as usual.
 
 It needs a C compiler, and a program that is linked against glibc. It stands beside the gate, as `tools/space.py` does.

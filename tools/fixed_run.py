@@ -1,12 +1,14 @@
 """One list of lines, run by the program over a file, and what the file shows then. `tools/space.py` and `tools/failing_device.py`
-stop it in many ways. Whatever stops it, what was acknowledged is shown."""
+stop it in many ways. Whatever stops it, what was acknowledged is shown, and the file has got no shorter."""
+import os
 import subprocess
 
-BLOCK, BLOCKS = 4096, 64
+# A store has so many blocks at first, and is grown to so many.
+BLOCK, BLOCKS, MORE = 4096, 64, 90
 LINES = [
     *("put top 1 1 a", "new x top", "put x 1 1 b", "checkpoint x c", "commit"),
     *("put top 1 2 d", "merge x", "post x", "uncheck x c", "commit"),
-    *("put top 1 3 e", "remove top 1 1", "commit"),
+    *("put top 1 3 e", f"grow {MORE}", "remove top 1 1", "commit"),
 ]
 QUERIES = ["alts", "list top", "list x", "changes x", "checks x", "free"]
 NONE = ["error 1 NoSuchAlternative"] * 3
@@ -16,7 +18,7 @@ SHOWN = {
     0: ["alternative top ~", "end 1", "end 0", *NONE, "free 30"],
     5: [*BOTH, "record 1 1 a", "end 1", "record 1 1 b", "end 1", "change 1 1 a b", "end 1", "checkpoint c", "end 1", "free 28"],
     10: [*BOTH, *["record 1 1 b", "record 1 2 d", "end 2"] * 2, "end 0", "end 0", "free 29"],
-    13: [*BOTH, "record 1 2 d", "record 1 3 e", "end 2", "record 1 1 b", "record 1 2 d", "end 2", "end 0", "end 0", "free 28"],
+    14: [*BOTH, "record 1 2 d", "record 1 3 e", "end 2", "record 1 1 b", "record 1 2 d", "end 2", "end 0", "end 0", "free 54"],
 }
 
 
@@ -68,7 +70,11 @@ def check_answers(status, answers, faults, how):
 
 
 def shown_after(altctl, file, answers, how):
-    """Opens a file again, and gives after how many lines the state is that it shows."""
+    """Opens a file again, and gives after how many lines the state is that it shows. A growth that was stopped may have left some
+    of its blocks."""
+    blocks = os.path.getsize(file) / BLOCK
+    if not BLOCKS <= blocks <= MORE:
+        raise Failure(f"{how}: the file has {blocks} blocks")
     status, shown, faults = start(altctl, ["run", file], QUERIES)
     expect(f"{how}, opened again", (0, ""), (status, faults))
     for after in allowed(answers):
@@ -82,6 +88,7 @@ def finish(altctl, file, after, how):
     due = [usual(n) for n in range(after, len(LINES))]
     expect(f"{how}: the rest", (0, due, ""), start(altctl, ["run", file], LINES[after:]))
     expect(f"{how}: the end", (0, SHOWN[len(LINES)], ""), start(altctl, ["run", file], QUERIES))
+    expect(f"{how}: blocks of the file", MORE, os.path.getsize(file) / BLOCK)
 
 
 def run_and_finish(altctl, file, how, program=None, **started):

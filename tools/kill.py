@@ -16,7 +16,9 @@ from itertools import zip_longest
 from pathlib import Path
 from typing import NamedTuple
 
-BLOCKS = 1024
+# A store begins with so many blocks, and grows by at most so many at once.
+BLOCKS = 256
+MOST_NEW = 40
 LONGEST_LIFE = 0.2
 NAMES = ["a", "b", "c", "d", "e", "f", "g", "h"]
 CHECKPOINTS = ["before", "between", "after"]
@@ -37,11 +39,18 @@ class Alternative(NamedTuple):
     checkpoints: dict
 
 
+class State(NamedTuple):
+    """The alternatives, and how many blocks the store has."""
+
+    tree: dict
+    blocks: int
+
+
 class Refused(Exception):
     """A refusal: its number, its name, and what it has beside them."""
 
 
-EMPTY = {"top": Alternative("~", {}, {}, {})}
+EMPTY = State({"top": Alternative("~", {}, {}, {})}, BLOCKS)
 
 
 def find(tree, name):
@@ -200,17 +209,26 @@ def row(word, key, values):
 QUERIES = {"alts", "list", "checks", "changes", "conflicts"}
 
 
-def answered(tree, line):
-    """The lines that a line is answered, and the tree that it leaves."""
+def grown(state, blocks):
+    if not state.blocks < blocks <= 1048576:
+        raise Refused("21 BadSize")
+    return "ok", state._replace(blocks=blocks)
+
+
+def answered(state, line):
+    """The lines that a line is answered, and the state that it leaves."""
     verb, *words = line.split(" ")
     try:
         if verb in QUERIES:
-            lines = query(tree, verb, words)
-            return [*lines, f"end {len(lines)}"], tree
-        answer, after = step(tree, verb, words)
-        return [answer], after
+            lines = query(state.tree, verb, words)
+            return [*lines, f"end {len(lines)}"], state
+        if verb == "grow":
+            answer, after = grown(state, int(*words))
+            return [answer], after
+        answer, tree = step(state.tree, verb, words)
+        return [answer], state._replace(tree=tree)
     except Refused as refusal:
-        return [f"error {refusal}"], tree
+        return [f"error {refusal}"], state
 
 
 # --- the program ----------------------------------------------------------------------------------
@@ -276,15 +294,18 @@ def pick(chance, entries, others):
     return chance.choice(list(entries) if entries and chance.random() < 0.8 else others)
 
 
-def change(chance, tree, merges):
-    """A random line that changes an alternative, or is refused."""
-    verbs = {"put": 60, "remove": 14, "new": 6, "drop": 3, "checkpoint": 5, "uncheck": 3, "back": 3, "reclaim": 1}
+def change(chance, state, merges):
+    """A random line that changes an alternative or the number of blocks, or is refused."""
+    tree = state.tree
+    verbs = {"put": 60, "remove": 14, "new": 6, "drop": 3, "checkpoint": 5, "uncheck": 3, "back": 3, "reclaim": 1, "grow": 2}
     if merges:
         verbs |= {"merge": 2, "post": 3}
     verb = chance.choices(list(verbs), list(verbs.values()))[0]
     name = pick(chance, tree, NAMES)
     if verb == "reclaim":
         return verb
+    if verb == "grow":
+        return f"grow {state.blocks + chance.randrange(-1, MOST_NEW + 1)}"
     if verb == "new":
         at = f" {chance.choice(CHECKPOINTS)}" if chance.random() < 0.5 else ""
         return f"new {chance.choice(NAMES)} {name}{at}"
@@ -299,8 +320,8 @@ def change(chance, tree, merges):
     return " ".join(map(str, ["remove", name, *pick(chance, records, keys)]))
 
 
-def changes(chance, tree, merges, most):
-    return [change(chance, tree, merges) for _ in range(chance.randrange(most))]
+def changes(chance, state, merges, most):
+    return [change(chance, state, merges) for _ in range(chance.randrange(most))]
 
 
 def commit(tree, stamp):
@@ -329,18 +350,26 @@ class Life:
         self.count = count
 
     def look(self, allowed):
-        """Which of the allowed trees the store shows."""
+        """Which of the allowed states the store shows. It has a block more then, which is not committed."""
         seen = {"alts": self.shown("alts")}
         for alternative in seen["alts"][:-1]:
             name = alternative.split(" ")[1]
             for verb in ["list", "checks", *(["changes"] if self.merges else [])]:
                 seen[f"{verb} {name}"] = self.shown(f"{verb} {name}")
-        for tree in allowed:
-            if all(answered(tree, line)[0] == came for line, came in seen.items()):
+        for state in allowed:
+            if all(answered(state, line)[0] == came for line, came in seen.items()):
                 self.count["commits under way"] += len(allowed) > 1
-                self.count["commits under way that are shown"] += tree is not allowed[0]
-                return tree
-        raise Failure("\n".join(self.difference(tree, seen) for tree in allowed))
+                self.count["commits under way that are shown"] += state is not allowed[0]
+                self.look_at_blocks(state.blocks)
+                return state
+        raise Failure("\n".join(self.difference(state, seen) for state in allowed))
+
+    def look_at_blocks(self, blocks):
+        """Whether the store has so many blocks: it can't grow to that many, and it can to one more."""
+        for due, line in ["error 21 BadSize", f"grow {blocks}"], ["ok", f"grow {blocks + 1}"]:
+            came = self.shown(line)
+            if came != [due]:
+                raise Failure(f"after the opening, {unlike(line, [due], came)}")
 
     def shown(self, line):
         """The answer to a query before the program is killed."""
@@ -349,58 +378,60 @@ class Life:
             raise Failure(f"after the opening, {line}: no answer")
         return came
 
-    def difference(self, tree, seen):
-        """The first answer that a tree has otherwise."""
+    def difference(self, state, seen):
+        """The first answer that a state has otherwise."""
         for line, came in seen.items():
-            expected = answered(tree, line)[0]
+            expected = answered(state, line)[0]
             if came != expected:
                 return f"after the opening, {unlike(line, expected, came)}"
         return ""
 
     def work(self, committed):
-        """Has lines carried out until the program is killed. Gives the trees that may be shown then."""
-        tree = committed
+        """Has lines carried out, after a look, until the program is killed. Gives the states that may be shown then."""
+        state = committed._replace(blocks=committed.blocks + 1)
         while True:
-            lines = self.batch(tree)
+            lines = self.batch(state)
             if lines is None:
                 return [committed]
             self.program.send(lines)
             for line in lines:
                 came = self.program.answer(line)
                 if came is None:
-                    return [committed, tree] if line == "commit" else [committed]
-                tree = self.after(tree, line, came)
+                    return [committed, state] if line == "commit" else [committed]
+                state = self.after(state, line, came)
                 if line == "commit":
-                    committed = tree
+                    committed = state
 
-    def batch(self, tree):
+    def batch(self, state):
         """The next lines, or None where the program was killed."""
         self.count["batches"] += 1
-        lines = changes(self.chance, tree, self.merges, 12)
+        tree = state.tree
+        lines = changes(self.chance, state, self.merges, 12)
         if self.merges and len(tree) > 1 and self.chance.random() < 0.4:
             name = self.chance.choice([name for name in tree if name != "top"])
             came = self.program.ask(f"conflicts {name}")
             if came is None:
                 return None
-            self.after(tree, f"conflicts {name}", came)
+            self.after(state, f"conflicts {name}", came)
             lines = [merge(self.chance, name, came), *([f"post {name}"] if self.chance.random() < 0.7 else []), *lines]
         if self.chance.random() < 0.6:
             lines += commit(tree, f"commit-{self.count['batches']}")
-            lines += changes(self.chance, tree, self.merges, 4)
+            lines += changes(self.chance, state, self.merges, 4)
         return lines
 
-    def after(self, tree, line, came):
-        """The tree after a line with its answer. A change may always be refused for want of blocks."""
+    def after(self, state, line, came):
+        """The state after a line with its answer. A change may always be refused for want of blocks."""
         verb = line.split(" ")[0]
         refused = came[0].startswith("error ")
         self.count["answers"] += 1
         self.count["refusals"] += refused
         self.count["merges"] += verb == "merge" and not refused
         self.count["posts"] += verb == "post" and not refused
-        expected, after = answered(tree, line)
+        self.count["growths"] += verb == "grow" and not refused
+        expected, after = answered(state, line)
         if came == ["error 13 Full"] and verb in ("put", "remove", "merge"):
             self.count["refusals for want of blocks"] += 1
-            return tree
+            return state
         if came != expected:
             raise Failure(unlike(line, expected, came))
         return after
@@ -409,11 +440,11 @@ class Life:
 def live(program, allowed, chance, merges, count):
     """Looks at the store, works on it until the program is killed, and gives what may be shown then."""
     life = Life(program, chance, merges, count)
-    tree = life.look(allowed)
+    committed = life.look(allowed)
     killer = threading.Timer(chance.uniform(0, LONGEST_LIFE), program.process.kill)
     killer.start()
     try:
-        return life.work(tree)
+        return life.work(committed)
     finally:
         killer.join()
 

@@ -304,6 +304,19 @@ measure_margins() {
     stop
 }
 
+# A growth of a store to twice its blocks.
+measure_growth() {
+    "$altctl" create "$work/store" "$small_blocks" >/dev/null
+    start "$work/store" "$work/none"
+    echo "grow $((2 * small_blocks))" >"$work/grow"
+    echo ok >"$work/grown"
+    ask "$work/grow"
+    answers_are "$work/grown"
+    row "a growth from $(grouped "$small_blocks") blocks to twice as many" 1 0 $((2 * small_blocks))
+    stop
+    rm "$work/store"
+}
+
 # Has lines answered that are as those of a file, but name an alternative that isn't there: all their time goes
 # to lines and answers.
 measure_refused() {
@@ -463,6 +476,7 @@ measure_order rising
 measure_order random
 measure_margins
 rm -f "$work/store"
+measure_growth
 
 echo
 echo "| $(grouped "$line_records") records in four alternatives | All | Each | Block reads | Block writes | Lines and answers | The store and its blocks | Plain loop |"

@@ -1,13 +1,15 @@
 #!/usr/bin/env python3
-"""Has the program make, open, list and check a store over a device that is slow: `tools/progress.py`. On a terminal the standard
-error tells how far a job is, and nothing of that is left on the screen when it is done; anywhere else no byte is written there, nor
-on a terminal where the job is short. What is answered is the same each time. Where it isn't so, it says so and ends with status 1.
+"""Has the program make, open, list, check and grow a store over a device that is slow: `tools/progress.py`. On a terminal the
+standard error tells how far a job is, and nothing of that is left on the screen when it is done; anywhere else no byte is written
+there, nor on a terminal where the job is short. What is answered is the same each time. Where it isn't so, it says so and ends with
+status 1.
 
 It needs a C compiler, and a program that is linked against glibc. It stands beside the gate, as `tools/space.py` does.
 """
 import os
 import pty
 import re
+import shutil
 import subprocess
 import sys
 import tempfile
@@ -72,29 +74,31 @@ def screen(written):
     return ["".join(row).rstrip() for row in rows]
 
 
-def expect_progress(what, written, jobs):
-    """Looks whether the terminal told how far so many jobs are, each with rising numbers, and is blank after."""
+def expect_progress(what, written, jobs, total):
+    """Looks whether the terminal told how far so many jobs are, each with rising numbers, of so many blocks or, where that is 0, of no
+    number, and is blank after."""
     told = [(int(it[1]), int(it[2] or 0)) for it in LINE.finditer(written)]
     begun = sum(n == 0 or told[n - 1][0] >= blocks for n, (blocks, _) in enumerate(told))
     expect(f"{what}: jobs that were told", jobs, begun)
-    expect(f"{what}: of how many blocks", {BLOCKS}, {total for _, total in told})
+    expect(f"{what}: of how many blocks", {total}, {told_total for _, told_total in told})
     expect(f"{what}: lines, one job", True, len(told) >= 2 * jobs)
     expect(f"{what}: the screen", [""], screen(written))
 
 
-def try_job(what, words, lines, slow, jobs, remake=None):
-    """Runs one job with its standard error on a pipe, on a terminal with its output, and on a terminal alone."""
+def try_job(what, words, lines, slow, jobs, total=BLOCKS, prepare=None):
+    """Runs one job with its standard error on a pipe, on a terminal with its output, and on a terminal alone. Where the job changes
+    the file, `prepare` is called before each time."""
     came = {}
     for how in ("pipe", "screen", "terminal"):
-        if remake and os.path.exists(remake):
-            os.remove(remake)
+        if prepare:
+            prepare()
         came[how] = run(words, lines, slow, how != "pipe", how == "screen")
     status, output, faults = came["pipe"]
     expect(f"{what}: status and standard error", (0, b""), (status, faults))
     expect(f"{what}: the same on a terminal", (0, output), came["terminal"][:2])
     expect(f"{what}: what stands on the screen", output.decode().split("\n"), screen(came["screen"][2]))
-    expect_progress(what, came["terminal"][2], jobs)
-    status, quick, faults = run(words, lines, {}, True) if not remake else (0, output, b"")
+    expect_progress(what, came["terminal"][2], jobs, total)
+    status, quick, faults = run(words, lines, {}, True) if not prepare else (0, output, b"")
     expect(f"{what}: a short job on a terminal", (0, output, b""), (status, quick, faults))
 
 
@@ -105,18 +109,22 @@ def main():
         library = os.path.join(folder, "slow_calls.so")
         subprocess.run([os.environ.get("CC", "cc"), "-O1", "-shared", "-fPIC", "-o", library, source], check=True)
         slow = {"LD_PRELOAD": library, "SLOW": str(SLOW)}
-        file = os.path.join(folder, "store")
+        file, small, grown = (os.path.join(folder, name) for name in ("store", "small", "grown"))
         try:
-            try_job("create", ["create", file, str(BLOCKS)], [], slow, 1, remake=file)
+            remove = lambda: os.path.exists(file) and os.remove(file)
+            try_job("create", ["create", file, str(BLOCKS)], [], slow, 1, prepare=remove)
             puts = [f"put top 1 {number} v" for number in range(RECORDS)]
             status, _, faults = run(["run", file], [*puts, "commit"], {}, True)
             expect("puts on a terminal", (0, b""), (status, faults))
             try_job("open and list", ["run", "--cache", "0", file], ["list top"], slow, 2)
             try_job("check", ["check", file], [], slow, 1)
+            run(["create", small, "64"], [], {}, False)
+            # How many blocks there will be is not known where they are counted.
+            try_job("growth", ["run", grown], [f"grow {BLOCKS}"], slow, 1, total=0, prepare=lambda: shutil.copy(small, grown))
         except Failure as it:
             print(f"progress: {it}")
             return 1
-    print("progress: a terminal was told how far three jobs are, and nothing else was")
+    print("progress: a terminal was told how far four jobs are, and nothing else was")
     return 0
 
 

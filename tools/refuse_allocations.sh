@@ -4,13 +4,13 @@
 #
 # The program `refused` carries out one list of commands over disks in memory: by calls, as a list, as lines, and up
 # to its merge. It looks itself whether anything was lost at the refusal, asks once more, and says what was refused:
-# an `open`, a merge, a list of commands, a query that lists, or a line, and nothing else. Its output is the same
-# each time.
+# an `open`, a merge, a grow, a list of commands, a query that lists, or a line, and nothing else. Its output is the
+# same each time.
 #
 # The program `altctl` answers two sessions of lines over a file. Each line is answered as in a run without refusal,
-# or with `error 16 Memory`. After that the store is as before the line, and the same line gets its usual answer. In
-# the end the file is the usual one, byte by byte. A run that ends before its first line leaves the file as it was,
-# and the file opens again.
+# or with `error 16 Memory`. After that the store is as before the line, the file is as long, and the same line gets
+# its usual answer. In the end the file is the usual one, byte by byte. A run that ends before its first line leaves
+# the file as it was, and the file opens again.
 #
 # It needs a C compiler, and programs that are linked against glibc. Its verdict is its exit status.
 set -eu
@@ -44,7 +44,10 @@ merge a 1:1=theirs => ok 6
 list a => end 7
 changes a => end 1
 conflicts a => end 0
+grow 300 => ok
 commit => ok
+grow 300 => error 21 BadSize
+grow 1000 => ok
 post a => ok
 list top => end 7
 back a before => ok
@@ -52,7 +55,7 @@ list a => end 2
 checks a => end 1
 alts => end 2
 reclaim => ok
-free => free 219
+free => free 963
 END
 
 # The list of commands as lines, and each listing.
@@ -66,6 +69,7 @@ put top 1 2 d => ok
 merge x => ok 1
 post x => ok
 uncheck x c => ok
+grow 80 => ok
 commit => ok
 put top 1 3 e => ok
 remove top 1 1 => ok
@@ -75,7 +79,7 @@ changes x => end 0
 conflicts x => end 0
 alts => end 2
 checks x => end 0
-free => free 24
+free => free 40
 END
 
 fail() {
@@ -146,11 +150,12 @@ run_refused() {
     answered=0
     while read -r pair; do
         line=${pair%% => *}
+        length=$(stat -c %s "$room/store")
         ask "$line" >"$room/answer" || break
         if [ "$(cat "$room/answer")" = 'error 16 Memory' ]; then
             echo "$line" >>"$room/wanting"
             state >"$room/state" || fail "allocation $1: the program ended after $line"
-            cmp -s "$room/state" "$room/state.$answered" ||
+            cmp -s "$room/state" "$room/state.$answered" && [ "$(stat -c %s "$room/store")" = "$length" ] ||
                 fail "allocation $1: $line was refused and changed the store"
             ask "$line" >"$room/answer" || fail "allocation $1: no answer to $line, said again"
         fi
@@ -324,7 +329,8 @@ run_all_commands() {
         [ -e "$room/refused" ]
     do :; done
     refusals=$((refusals + number - 1))
-    for what in open merge 'merge in a list' 'merge before closing' run line alternatives list changes checkpoints; do
+    for what in open merge 'merge in a list' 'merge before closing' grow 'grow in a list' run line alternatives list \
+        changes checkpoints; do
         grep -qx "$what" "$room/refused_commands" || fail "commands: $what was never refused"
     done
 }
@@ -346,7 +352,9 @@ run_session x 64
 run_checks 0
 echo '      0        2         0   no  `- x' | run_trees
 do_all_lines
-grep -q '^merge' "$room/wanting" || fail 'no merge was refused'
+for line in 'merge .*' 'grow 300' 'grow 1000'; do
+    grep -qx "$line" "$room/wanting" || fail "no $line was refused"
+done
 echo 'How often each was refused, by calls:'
 sort "$room/refused_commands" | uniq -c
 echo 'and each line:'

@@ -105,6 +105,10 @@ ok
 ok
 > free
 free 30
+> grow 128
+ok
+> free
+free 94
 > any other
 error 22 BadLine
 END
@@ -238,6 +242,122 @@ session 'a conflict, opened again' store <<'END'
 value cable%20A
 END
 
+# --- a store that grows ----------------------------------------------------------------------------
+
+# Compares the number of bytes of a file.
+has_bytes() {
+    echo "$2" >due
+    stat -c %s "$1" >came
+    compare "the bytes of $1" due came
+}
+
+create growing 64
+session 'numbers of blocks' growing <<'END'
+> grow 64
+error 21 BadSize
+> grow 63
+error 21 BadSize
+> grow 0
+error 21 BadSize
+> grow 1048577
+error 21 BadSize
+> grow 4294967295
+error 21 BadSize
+> grow 00000000004294967295
+error 21 BadSize
+> grow 4294967296
+error 22 BadLine
+> grow 18446744073709551616
+error 22 BadLine
+> grow 000000000000000000128
+error 22 BadLine
+> grow
+error 22 BadLine
+> grow 128 128
+error 22 BadLine
+> grow -1
+error 22 BadLine
+> grow +128
+error 22 BadLine
+> grow 0x80
+error 22 BadLine
+> GROW 128
+error 22 BadLine
+> free
+free 30
+END
+has_bytes growing 262144
+
+session 'a growth' growing <<'END'
+> grow 128
+ok
+> free
+free 94
+> grow 128
+error 21 BadSize
+> put top 1 1 x
+ok
+> free
+free 93
+END
+has_bytes growing 524288
+session 'a growth that no commit followed' growing <<'END'
+> free
+free 30
+> list top
+end 0
+> grow 100
+ok
+> free
+free 66
+> grow 128
+ok
+> put top 1 1 x
+ok
+> commit
+ok
+> grow 00000000000000000130
+ok
+END
+has_bytes growing 532480
+session 'a growth that was committed' growing <<'END'
+> free
+free 93
+> grow 128
+error 21 BadSize
+> get top 1 1
+value x
+END
+
+# The smallest store is full with 15 records of one leaf in as many checkpoints, and takes more once it has grown.
+create full 64
+for n in 1 2 3 4 5 6 7 8 9 10 11 12 13 14 15; do
+    printf 'put top 1 %d x\ncheckpoint top c%d\n' $n $n
+done >lines
+for n in 1 2 3 4 5 6 7 8 9 10 11 12 13 14 15; do
+    printf 'ok\nok\n'
+done >output
+printf 'put top 1 16 x\nfree\ngrow 65\nput top 1 16 x\nfree\ncommit\n' >>lines
+printf 'error 13 Full\nfree 15\nok\nok\nfree 15\nok\n' >>output
+: >faults
+program 'a full store that grows' 0 run full
+has_bytes full 266240
+
+# Room that is in the file already needs no more of it.
+create wider 64
+head -c 262144 /dev/zero >>wider
+session 'a file longer than its store' wider <<'END'
+> free
+free 30
+> grow 96
+ok
+> free
+free 62
+> commit
+ok
+END
+has_bytes wider 524288
+
 # --- lines as words, and refused lines -----------------------------------------------------------
 
 create batch 64
@@ -344,6 +464,16 @@ value duct
 > free
 free 29
 END
+cp longer tailed
+session '100 bytes behind 64 blocks, which a growth takes' tailed <<'END'
+> grow 65
+ok
+> free
+free 30
+END
+head -c 4096 /dev/zero >tail
+tail -c +262145 tailed >tail.came
+compare '100 bytes behind 64 blocks, which a growth takes: the bytes' tail tail.came
 
 # A store that was cut.
 for length in 0 1 86016 258048 262143; do
@@ -421,6 +551,11 @@ drawn() {
 }
 
 create counted 64
+checked 'check of a store that has grown' growing <<'END'
+alternatives 1
+checkpoints 0
+free 93
+END
 checked 'check of a new store' counted <<'END'
 alternatives 1
 checkpoints 0
@@ -540,9 +675,30 @@ ok
 > commit
 ok
 END
+    session 'a growth on a device' "$device" <<'END'
+> get top 9 9
+value on_a_device
+> grow 80
+ok
+> free
+free 44
+> commit
+ok
+END
+    checked 'check of a device on which a store has grown' "$device" <<'END'
+alternatives 2
+checkpoints 1
+free 44
+END
+    printf 'grow 81\nfree\n' >lines
+    echo 'error 15 Device' >output
+    echo 'altctl: stopped' >faults
+    program 'a growth over the end of a device' 3 run "$device"
     session 'the device opened again' "$device" <<'END'
 > get top 9 9
 value on_a_device
+> grow 80
+error 21 BadSize
 END
     losetup -d "$device"
     device=
@@ -756,6 +912,18 @@ echo 'altctl: stopped' >faults
 cp spelled before
 program 'run over a limit' 3 run spelled
 compare 'run over a limit: the file' before spelled
+
+limit=560
+printf 'put top 1 2 b\ngrow 70\nfree\n' >lines
+printf 'ok\nok\nfree 34\n' >output
+: >faults
+program 'a growth up to a limit' 0 run spelled
+has_bytes spelled 286720
+printf 'grow 71\nfree\n' >lines
+echo 'error 15 Device' >output
+echo 'altctl: stopped' >faults
+program 'a growth over a limit' 3 run spelled
+has_bytes spelled 286720
 
 # A build that is refused, one that is interrupted, and one that goes on from there: `rt` is a script here, which stops
 # at a crate until it may go on, and is refused there then.

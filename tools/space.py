@@ -3,10 +3,12 @@
 ends with status 1.
 
 Room is wanting in two ways: by a limit on the size of a file, for each number of blocks; and in a small file system of its own, in
-memory, that has each number of blocks left. Each time one list of lines is run over a store. It may stop with `error 15 Device`;
-then the store has to open again with what was acknowledged, and the rest of the lines, with room, ends as usual. The small file
-system is mounted in a namespace of its own; where the machine does not allow that, this part is left out, and the last line says so.
-It stands beside the gate: a full device is a device that fails, over which the store is proved; this tries files and the program.
+memory, that has each number of blocks left. Each time one list of lines is run over a store, which grows in it. It may stop with
+`error 15 Device`; then the store has to open again with what was acknowledged, in a file that is no shorter than it was, and the
+rest of the lines, with room, ends as usual. Where there is no room for a growth, it is that line which is answered so, and no later
+one. The small file system is mounted in a namespace of its own; where the machine does not allow that, this part is left out, and
+the last line says so. It stands beside the gate: a full device is a device that fails, over which the store is proved; this tries
+files and the program.
 """
 import os
 import resource
@@ -15,7 +17,7 @@ import sys
 import tempfile
 
 sys.dont_write_bytecode = True
-from fixed_run import BLOCK, BLOCKS, LINES, Failure, check_answers, create, expect, finish, run_and_finish, shown_after, start
+from fixed_run import BLOCK, BLOCKS, LINES, MORE, Failure, check_answers, create, expect, finish, run_and_finish, shown_after, start
 
 
 def limited_to(blocks):
@@ -41,12 +43,33 @@ def try_limits(altctl, folder):
     for blocks in range(BLOCKS):
         create_without_room(altctl, file, blocks, limited_to(blocks))
     stops = 0
-    for blocks in range(BLOCKS + 1):
+    for blocks in range(MORE + 1):
         create(altctl, file)
         how = f"with a limit of {blocks} blocks"
         stops += run_and_finish(altctl, file, how, prepare=limited_to(blocks))
         os.remove(file)
     return stops
+
+
+def try_growths(altctl, file, prepared):
+    """Grows a store where there is no room for it, to each number of blocks that is too many: it stops at the growth, with as much
+    of the file as there is room for. `prepared` makes the file, with room for 10 blocks more, and gives what limits the program, and
+    what gives the room back. Gives how many growths were stopped."""
+    for more in range(11, 41):
+        prepare, release = prepared()
+        came = start(altctl, ["run", file], ["put top 1 1 a", "commit", f"grow {BLOCKS + more}", "put top 1 2 b"], prepare=prepare)
+        expect(f"a growth by {more} blocks", (3, ["ok", "ok", "error 15 Device"], "altctl: stopped\n"), came)
+        expect(f"a growth by {more} blocks: blocks of the file", BLOCKS + 10, os.path.getsize(file) / BLOCK)
+        due = (0, ["record 1 1 a", "end 1", "free 29", "error 21 BadSize", "ok", "free 39"], "")
+        queries = ["list top", "free", f"grow {BLOCKS}", f"grow {BLOCKS + 10}", "free"]
+        expect(f"a growth by {more} blocks, opened again", due, start(altctl, ["run", file], queries, prepare=prepare))
+        release()
+        due = (0, ["ok", f"free {29 + more}", "ok"], "")
+        lines = [f"grow {BLOCKS + more}", "free", "commit"]
+        expect(f"a growth by {more} blocks, with room", due, start(altctl, ["run", file], lines))
+        expect(f"a growth by {more} blocks: its end", BLOCKS + more, os.path.getsize(file) / BLOCK)
+        os.remove(file)
+    return 30
 
 
 def leave_free(folder, blocks):
@@ -63,6 +86,29 @@ def leave_free(folder, blocks):
     space = os.statvfs(folder)
     expect("blocks that are left free", blocks, space.f_bavail * space.f_frsize // BLOCK)
     return filler
+
+
+def limited_growths(altctl, folder):
+    """Growths over a limit on the size of a file."""
+    file = os.path.join(folder, "grown")
+
+    def prepared():
+        create(altctl, file)
+        return limited_to(BLOCKS + 10), lambda: None
+
+    return try_growths(altctl, file, prepared)
+
+
+def full_growths(altctl, folder):
+    """Growths over the end of a small file system."""
+    file = os.path.join(folder, "grown")
+
+    def prepared():
+        create(altctl, file)
+        filler = leave_free(folder, 10)
+        return None, lambda: os.remove(filler)
+
+    return try_growths(altctl, file, prepared)
 
 
 def copy_with_holes(whole, file):
@@ -104,7 +150,7 @@ def mount_and_try(altctl):
     with tempfile.TemporaryDirectory() as folder:
         subprocess.run(["mount", "-t", "tmpfs", "-o", f"size={4 * BLOCKS * BLOCK}", "none", folder], check=True)
         try:
-            print(try_small_disk(altctl, folder))
+            print(try_small_disk(altctl, folder) + full_growths(altctl, folder))
         finally:
             subprocess.run(["umount", folder], check=True)
 
@@ -134,7 +180,7 @@ def main():
             mount_and_try(altctl)
             return 0
         with tempfile.TemporaryDirectory() as folder:
-            limited = try_limits(altctl, folder)
+            limited = try_limits(altctl, folder) + limited_growths(altctl, folder)
         full = small_disk(altctl)
     except Failure as failure:
         print(f"space: {failure}", file=sys.stderr)

@@ -223,6 +223,10 @@ class Store:
     def reclaim(self):
         self._ask("reclaim")
 
+    def grow(self, blocks):
+        """Gives the store so many blocks in all. It stays so large from the next commit on."""
+        self._ask("grow", blocks)
+
     def free(self):
         """The number of free blocks."""
         return int(self._ask("free")[1])

@@ -108,6 +108,35 @@ class StoreTests(unittest.TestCase):
             store.reclaim()
             self.assertEqual(30, store.free())
 
+    def test_a_store_grows(self):
+        with self.open() as store:
+            for blocks in (0, 63, 64, 2**20 + 1, 2**32 - 1):
+                self.refused(21, "BadSize", "", store.grow, blocks)
+            for blocks in (-1, 2**32, "many"):
+                self.refused(22, "BadLine", "", store.grow, blocks)
+            store.grow(128)
+            self.assertEqual(94, store.free())
+        with self.open() as store:
+            self.assertEqual(30, store.free())
+            store.grow(128)
+            store.put("top", 7, 1, b"duct")
+            store.commit()
+        with self.open() as store:
+            self.refused(21, "BadSize", "", store.grow, 128)
+            self.assertEqual(93, store.free())
+            self.assertEqual(b"duct", store.get("top", 7, 1))
+        self.assertEqual(128 * 4096, os.path.getsize(self.file))
+
+    def test_a_store_that_is_full_grows(self):
+        with self.open() as store:
+            for number in range(15):
+                store.put("top", 1, number, b"")
+                store.checkpoint("top", f"c{number}")
+            self.refused(13, "Full", "", store.put, "top", 1, 15, b"")
+            store.grow(65)
+            store.put("top", 1, 15, b"")
+            self.assertEqual(15, store.free())
+
     def test_rows_stay_whole_where_other_lines_come_between(self):
         with self.open() as store:
             for number in range(40):

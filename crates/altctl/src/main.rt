@@ -10,7 +10,7 @@ use vm_cli::{Cleared, Progress, RealFiles, refuse_words, run_words, stop};
 
 fn main(rt: HostRuntime) -> ExitCode {
     let progress = Progress::new(&rt);
-    let mut faults = Cleared::new(rt.stderr(), &progress);
+    let mut errors = Cleared::new(rt.stderr(), &progress);
     // Before anything is opened.
     let mut files = RealFiles::<_, Brand>::new(&rt, &progress);
     let status = match words(&rt) {
@@ -20,10 +20,10 @@ fn main(rt: HostRuntime) -> ExitCode {
             &mut files,
             &mut Cleared::new(rt.stdin(), &progress),
             &mut Cleared::new(rt.stdout(), &progress),
-            &mut faults,
+            &mut errors,
         ),
-        Err(error) if error.kind() == ErrorKind::OutOfMemory => stop(&mut faults),
-        Err(_) => refuse_words(&mut faults),
+        Err(error) if error.kind() == ErrorKind::OutOfMemory => stop(&mut errors),
+        Err(_) => refuse_words(&mut errors),
     };
     ExitCode::from(status)
 }

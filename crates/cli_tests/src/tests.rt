@@ -5,6 +5,7 @@ mod checks;
 mod faults;
 mod files;
 mod flushes;
+mod growing;
 mod help;
 mod lines;
 mod trees;
@@ -14,19 +15,19 @@ use std::process::Abort;
 use std::test::Fail;
 use vm_cli::{MemFiles, run_words};
 
-/// What a run of the program gave: its status, its output and its faults.
+/// What a run of the program gave: its status, its output and its errors.
 #[derive(Drop)]
 struct Outcome {
     status: u8,
     output: Vec<u8>,
-    faults: Vec<u8>,
+    errors: Vec<u8>,
 }
 
 impl Outcome {
-    fn expect<R: Abort>(&self, rt: &R, status: u8, output: &[u8], faults: &[u8]) {
+    fn expect<R: Abort>(&self, rt: &R, status: u8, output: &[u8], errors: &[u8]) {
         assert_eq!(rt; self.status, status);
         assert_eq!(rt; self.output.as_slice(), output);
-        assert_eq!(rt; self.faults.as_slice(), faults);
+        assert_eq!(rt; self.errors.as_slice(), errors);
     }
 }
 
@@ -38,13 +39,13 @@ fn ran(alloc: Global, files: &mut MemFiles, words: &[&str], input: &[u8]) -> Res
     }
     let mut input = input;
     let mut output = Vec::new(alloc);
-    let mut faults = Vec::new(alloc);
+    let mut errors = Vec::new(alloc);
     let words = owned.as_slice();
-    let status = run_words(alloc, words, files, &mut input, &mut output, &mut faults);
+    let status = run_words(alloc, words, files, &mut input, &mut output, &mut errors);
     Ok(Outcome {
         status,
         output,
-        faults,
+        errors,
     })
 }
 

@@ -18,6 +18,9 @@ use vm_types::{Answer, Name, Refusal};
 /// How many blocks a store has at least.
 const BLOCKS: u32 = 64;
 
+/// How many blocks a store has that grew. Disks have room for as many.
+const GROWN_BLOCKS: u32 = 80;
+
 /// What a command is answered.
 type Reply = Result<Answer, Refusal>;
 

@@ -5,13 +5,12 @@ use Rattle.vm_types.specs.declared.command.Command.{Command}
 use Rattle.vm_types.specs.declared.refusal.Refusal.{Refusal}
 use Rattle.vm_types.specs.declared.refusal.Refusal.TheVariants.{NoSuchAlternative, IsTop, Memory}
 use Rattle.vm_types.specs.Firsts.{IsFirst}
-use Rattle.vm_types.specs.State.{State, answer_of}
-use Rattle.vm_types.specs.Step.{step}
+use Rattle.vm_types.specs.State.{State, answer_of, outcome}
 use Rattle.vm_types.specs.Tree.{Alternative, Tree, named}
 
 -- the answer of the model, or want of memory
 abbrev pub IsAnswer : State → Command → Result Answer Refusal → Type 0
-IsAnswer s command answer = (answer ≡ Err Memory) ⊎ (answer ≡ answer_of (step s.working command))
+IsAnswer s command answer = (answer ≡ Err Memory) ⊎ (answer ≡ answer_of (outcome s command))
 
 -- the alternative of this name stands at i, and none before it has the name; its parent stands at j
 pub record IsUnder (tree : Tree) (alt : List ℕ) (i j : ℕ) : Type 0 where

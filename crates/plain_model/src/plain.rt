@@ -1,7 +1,7 @@
-//! The plain model: two trees of alternatives, with whole copies of all maps.
+//! The plain model: two trees of alternatives, with whole copies of all maps, and a number of blocks beside each.
 ghost use Rattle.std.specs.Prelude.{◌≡◌, ◌≢◌, IfOk, OnOk, OnErr};
 ghost use Rattle.vm_types.specs.Shape.{shape};
-ghost use Rattle.vm_types.specs.State.{opened, next};
+ghost use Rattle.vm_types.specs.State.{opened, committed_of, answer_of, outcome, next};
 ghost use Rattle.vm_types.specs.Tree.{fresh};
 ghost use Rattle.vm_types.specs.Queries.{value_in};
 ghost use Rattle.vm_types.specs.Queries.{IsList, records_in, checkpoints_in, changes_in, conflicts_in};
@@ -13,12 +13,17 @@ use std::alloc::{AllocError, Global};
 use std::marker::Model;
 use vm_types::{Answer, Change, Command, Conflict, Key, Name, Refusal, Value};
 
+/// The greatest number of blocks of a store.
+const MAX_BLOCKS: u32 = 1_048_576;
+
 /// A store as the definitions have it: slow, and obvious.
 #[derive(Drop)]
 pub struct Plain {
     alloc: Global,
     committed: Vec<Alternative>,
+    kept: u32,
     working: Vec<Alternative>,
+    blocks: u32,
 }
 
 impl Model for Plain {
@@ -26,7 +31,7 @@ impl Model for Plain {
 
     ghost Value = { State };
 
-    ghost view = { λ p. record { committed = p.committed.items; working = p.working.items } };
+    ghost view = { λ p. record { committed = p.committed.items; kept = p.kept; working = p.working.items; blocks = p.blocks } };
 }
 
 // The tree of a new store.
@@ -52,25 +57,29 @@ fn reply_of(reply: Result<Reply, AllocError>) -> Reply
 }
 
 impl Plain {
-    /// The model of a new store.
-    pub fn new(alloc: Global) -> Result<Plain, AllocError>
-        ensures { IfOk result (λ plain. plain ≡ opened fresh) }
+    /// The model of a new store of so many blocks.
+    pub fn new(alloc: Global, blocks: u32) -> Result<Plain, AllocError>
+        ensures { IfOk result (λ plain. plain ≡ opened (record { tree = fresh; blocks = blocks })) }
     {
         Ok(Plain {
             alloc,
             committed: fresh_tree(alloc)?,
+            kept: blocks,
             working: fresh_tree(alloc)?,
+            blocks,
         })
     }
 
     /// What the store is once it was closed and opened again: what was not committed is gone.
     pub fn reopened(&self) -> Result<Plain, AllocError>
-        ensures { IfOk result (λ plain. plain ≡ opened self.now.committed) }
+        ensures { IfOk result (λ plain. plain ≡ opened (committed_of self.now)) }
     {
         Ok(Plain {
             alloc: self.alloc,
             committed: alternative::copy_tree(self.alloc, &self.committed)?,
+            kept: self.kept,
             working: alternative::copy_tree(self.alloc, &self.committed)?,
+            blocks: self.kept,
         })
     }
 
@@ -81,7 +90,9 @@ impl Plain {
         Ok(Plain {
             alloc: self.alloc,
             committed: alternative::copy_tree(self.alloc, &self.committed)?,
+            kept: self.kept,
             working: alternative::copy_tree(self.alloc, &self.working)?,
+            blocks: self.blocks,
         })
     }
 
@@ -116,6 +127,7 @@ impl Plain {
             Command::Post { alt } => reply_of(steps::post(alloc, tree, alt)),
             Command::Commit => self.commit(),
             Command::Reclaim => Ok(Answer::Done),
+            Command::Grow { blocks } => self.grow(*blocks),
         }
     }
 
@@ -126,10 +138,29 @@ impl Plain {
         match alternative::copy_tree(self.alloc, &self.working) {
             Ok(tree) => {
                 self.committed = tree;
+                self.kept = self.blocks;
                 Ok(Answer::Done)
             }
             Err(_) => Err(Refusal::Memory),
         }
+    }
+
+    fn grow(&mut self, blocks: u32) -> Reply
+        ensures answer { result ≡ answer_of (outcome self.old (Command.Grow blocks)) }
+        ensures state { self.new ≡ next self.old (Command.Grow blocks) result }
+    {
+        if blocks <= self.blocks || blocks > MAX_BLOCKS {
+            return Err(Refusal::BadSize);
+        }
+        self.blocks = blocks;
+        Ok(Answer::Done)
+    }
+
+    /// How many blocks the working state has.
+    pub fn blocks(&self) -> u32
+        ensures { result ≡ self.now.blocks }
+    {
+        self.blocks
     }
 
     /// The value of a record in the working state of an alternative.

@@ -1,5 +1,5 @@
 //! The commands by a call for each.
-use crate::commands::{COMMANDS, MERGE, Reply, command, write_reply};
+use crate::commands::{COMMANDS, GROW, MERGE, Reply, command, write_reply};
 use crate::opening::{new_store, reopen};
 use crate::sight::{expect, look};
 use crate::wanting::{Wanting, Wrong};
@@ -8,7 +8,8 @@ use vm_disk::MemDisk;
 use vm_store::Store;
 use vm_types::Refusal;
 
-// Carries out a command. Only a merge may want memory: then nothing has changed, and it is carried out once more.
+// Carries out a command. Only a merge and a grow may want memory: then nothing has changed, and it
+// is carried out once more.
 fn apply(
     alloc: Global,
     store: &mut Store<MemDisk>,
@@ -20,15 +21,16 @@ fn apply(
     if reply != Err(Refusal::Memory) {
         return Ok(reply);
     }
-    if n != MERGE {
-        return Err(Wrong::Found("a command that is no merge wants memory"));
+    match n {
+        MERGE => wanting.note("merge"),
+        GROW => wanting.note("grow"),
+        _ => return Err(Wrong::Found("a command that takes no memory wants it")),
     }
-    wanting.note("merge");
     expect(
         alloc,
         store,
         before.as_str(),
-        "a refused merge has changed the store",
+        "a refused command has changed the store",
     )?;
     Ok(store.apply(&command(alloc, n)))
 }

@@ -1,4 +1,5 @@
 //! The list of commands, and the same as lines.
+use crate::opening::GROWN;
 use crate::wanting::Wrong;
 use std::alloc::Global;
 use vm_types::{Answer, Command, Key, Name, Refusal, Settled, Value};
@@ -7,10 +8,13 @@ use vm_types::{Answer, Command, Key, Name, Refusal, Settled, Value};
 pub type Reply = Result<Answer, Refusal>;
 
 /// How many commands there are.
-pub const COMMANDS: usize = 13;
+pub const COMMANDS: usize = 14;
 
 /// Which of them is the merge, counted from 0.
 pub const MERGE: usize = 6;
+
+/// Which of them makes the store larger.
+pub const GROW: usize = 9;
 
 /// The commands as lines, and the queries behind them.
 pub const LINES: [&str; COMMANDS + 5] = [
@@ -23,6 +27,7 @@ pub const LINES: [&str; COMMANDS + 5] = [
     "merge x",
     "post x",
     "uncheck x c",
+    "grow 80",
     "commit",
     "put top 1 3 e",
     "remove top 1 1",
@@ -76,8 +81,9 @@ pub(crate) fn command(alloc: Global, n: usize) -> Command {
         },
         7 => Command::Post { alt: x },
         8 => Command::Uncheck { alt: x, name: c },
-        10 => put(top(), 3, b"e"),
-        11 => Command::Remove {
+        GROW => Command::Grow { blocks: GROWN },
+        11 => put(top(), 3, b"e"),
+        12 => Command::Remove {
             alt: top(),
             key: key(1),
         },
@@ -85,11 +91,11 @@ pub(crate) fn command(alloc: Global, n: usize) -> Command {
     }
 }
 
-/// All of them, or all but the merge.
-pub(crate) fn commands(alloc: Global, merges: bool) -> Result<Vec<Command>, Wrong> {
+/// All of them, or all but one.
+pub(crate) fn commands(alloc: Global, without: Option<usize>) -> Result<Vec<Command>, Wrong> {
     let mut commands = Vec::new(alloc);
     for n in 0..COMMANDS {
-        if merges || n != MERGE {
+        if without != Some(n) {
             commands.push(command(alloc, n)).map_err(|_| Wrong::Again)?;
         }
     }

@@ -1,5 +1,5 @@
 //! The commands as one list.
-use crate::commands::{MERGE, Reply, commands, write_reply};
+use crate::commands::{GROW, MERGE, Reply, commands, write_reply};
 use crate::opening::{new_store, reopen};
 use crate::sight::{expect, look};
 use crate::wanting::{Wanting, Wrong};
@@ -49,16 +49,18 @@ fn run_whole(
     Ok((answers?, reopen(alloc, disk, shown?, wanting)?))
 }
 
-// Whether a list whose merge was refused was answered, and has left, what the list without it does.
-fn is_without_merge(
+// Whether a list of which a command was refused was answered, and has left, what the list without it
+// does.
+fn is_without(
     alloc: Global,
+    refused: usize,
     answers: &[Reply],
     shown: &str,
     wanting: &mut Wanting,
 ) -> Result<bool, Wrong> {
-    let list = commands(alloc, false)?;
+    let list = commands(alloc, Some(refused))?;
     let (due, due_shown) = run_whole(alloc, list.as_slice(), wanting)?;
-    let others = answers.iter().enumerate().filter(|it| it.0 != MERGE);
+    let others = answers.iter().enumerate().filter(|it| it.0 != refused);
     Ok(
         answers.len() == due.len().saturating_add(1)
             && others.zip(&due).all(|(answer, due)| answer.1 == due)
@@ -67,14 +69,16 @@ fn is_without_merge(
 }
 
 pub(crate) fn carry_out(alloc: Global, wanting: &mut Wanting) -> Result<String, Wrong> {
-    let list = commands(alloc, true)?;
+    let list = commands(alloc, None)?;
     let (answers, shown) = run_whole(alloc, list.as_slice(), wanting)?;
-    if matches!(answers.get(MERGE), Some(Err(Refusal::Memory))) {
-        wanting.note("merge in a list");
-        if !is_without_merge(alloc, answers.as_slice(), shown.as_str(), wanting)? {
-            return Err(Wrong::Found("a refused merge in a list has changed the store"));
+    for (n, what) in [(MERGE, "merge in a list"), (GROW, "grow in a list")] {
+        if matches!(answers.get(n), Some(Err(Refusal::Memory))) {
+            wanting.note(what);
+            if !is_without(alloc, n, answers.as_slice(), shown.as_str(), wanting)? {
+                return Err(Wrong::Found("a refused command of a list has changed the store"));
+            }
+            return Err(Wrong::Again);
         }
-        return Err(Wrong::Again);
     }
     let mut text = String::from_str(alloc, "as a list:\n")?;
     for answer in &answers {

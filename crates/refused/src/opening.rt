@@ -9,6 +9,9 @@ use vm_types::Refusal;
 /// How many blocks a store has at least.
 pub const BLOCKS: u32 = 64;
 
+/// How many it has once it has grown, for which its disk has room.
+pub const GROWN: u32 = 80;
+
 /// Opens a disk. Where memory is refused, the disk comes back and is opened once more.
 pub(crate) fn open_disk(
     alloc: Global,
@@ -30,7 +33,7 @@ pub(crate) fn open_disk(
 
 /// A new store.
 pub(crate) fn new_store(alloc: Global, wanting: &mut Wanting) -> Result<Store<MemDisk>, Wrong> {
-    let disk = MemDisk::new(alloc, BLOCKS)?;
+    let disk = MemDisk::with_room(alloc, BLOCKS, GROWN)?;
     match format(disk, BLOCKS) {
         Ok(disk) => open_disk(alloc, disk, wanting),
         Err(_) => Err(Wrong::Found("format")),

@@ -30,10 +30,15 @@ fn given<T>(query: &'static str, answer: Result<T, Refusal>) -> Result<T, Blind>
     }
 }
 
+// The bytes of a value as a text.
+fn shown(value: &[u8]) -> &str {
+    str::from_utf8(value).unwrap_or("?")
+}
+
 // A value as a text, `~` for none.
 fn text_of(value: Option<&Value>) -> &str {
     match value {
-        Some(value) => str::from_utf8(value.as_bytes()).unwrap_or("?"),
+        Some(value) => shown(value.as_bytes()),
         None => "~",
     }
 }
@@ -46,7 +51,7 @@ fn write_maps(
     text: &mut String,
 ) -> Result<(), Blind> {
     for (key, value) in &given("list", store.list(alloc, alt))? {
-        writeln!(text, "{alt}: record {key} {}", text_of(Some(value)))?;
+        writeln!(text, "{alt}: record {key} {}", shown(value))?;
     }
     for change in &given("changes", store.changes(alloc, alt))? {
         let (before, after) = (
@@ -95,15 +100,15 @@ fn see(alloc: Global, store: &mut Store<MemDisk>) -> Result<String, Blind> {
             write_conflicts(alloc, store, alt, &mut text)?;
         }
     }
-    match store.free() {
-        Ok(free) => writeln!(text, "free {free}")?,
-        Err(_) => return Err(Blind::Other(Wrong::Found("free"))),
-    }
+    let (Ok(blocks), Ok(free)) = (store.blocks(), store.free()) else {
+        return Err(Blind::Other(Wrong::Found("blocks or free")));
+    };
+    writeln!(text, "blocks {blocks}\nfree {free}")?;
     Ok(text)
 }
 
-/// All that a store shows: alternatives, records, changes, conflicts, checkpoints, and how many blocks
-/// are free. Where a query is refused for want of memory, all is asked once more.
+/// All that a store shows: alternatives, records, changes, conflicts, checkpoints, how many blocks it
+/// has, and how many are free. Where a query is refused for want of memory, all is asked once more.
 pub(crate) fn look(
     alloc: Global,
     store: &mut Store<MemDisk>,

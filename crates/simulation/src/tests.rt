@@ -38,6 +38,8 @@ enum Wrong {
     Answer(Reply, Reply),
     /// The store has more blocks free than the model, or fewer.
     Free,
+    /// The store has more blocks than the model, or fewer.
+    Blocks,
     /// The store shows something else than the model.
     Differs,
     /// What is shown is neither what was committed nor what the last Commit commits.

@@ -8,6 +8,7 @@ mod crashes;
 mod differences;
 mod failing;
 mod formats;
+mod growing;
 mod library;
 mod longer;
 mod merging;

@@ -6,6 +6,7 @@ mod bench;
 mod blocks;
 mod changes;
 mod damage;
+mod differences;
 mod marking;
 mod random;
 mod reading;

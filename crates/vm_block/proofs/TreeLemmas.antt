@@ -5,13 +5,42 @@ use Rattle.std.specs.List.{AllByRecursion}
 use Rattle.vm_disk.specs.Disk.{Contents, block}
 use Rattle.vm_block.specs.declared.node.Child.{Child}
 use Rattle.vm_types.specs.Places.{KeyFits, FitKeys, RisesFrom, places}
-use Rattle.vm_block.specs.Leaf.{Record, RecordFits, IsLeaf}
+use Rattle.vm_block.specs.Leaf.{Record, RecordFits}
 use Rattle.vm_block.specs.Node.{IsNode}
-use Rattle.vm_block.specs.Tree.{Sizes, IsData, Children, Subtree, IsTree, Stands}
+use Rattle.vm_block.specs.Tree.{Sizes, IsData, LeafHolds, Children, Subtree, IsTree, Stands}
 use Rattle.vm_block.proofs.LeafLemmas.{leaf_one}
 use Rattle.vm_block.proofs.NodeLemmas.{node_one}
 use Rattle.vm_block.proofs.FormLemmas.{leaf_or_node}
 use Rattle.vm_block.proofs.EachLemmas.{each_front, each_back, each_join, each_so, each_both}
+
+-- # What a leaf holds
+
+module _ (x : Contents) (limit : ℕ) where
+  -- contents that agree on the blocks beside a leaf have the same records in it
+  holds_in : (P : ℕ → Type 0) (y : Contents) → ((n : ℕ) → P n → block y n ≡ block x n)
+      → (bytes : List ℕ) (rs : List Record) (under : List ℕ) → LeafHolds x limit bytes rs under → AllByRecursion P under → LeafHolds y limit bytes rs under
+  holds_in P y same bytes rs under holds all = record { leaf = holds.leaf; none = holds.none }
+
+  -- the blocks beside a leaf are for data
+  pub holds_data : (bytes : List ℕ) (rs : List Record) (under : List ℕ) → LeafHolds x limit bytes rs under → AllByRecursion (IsData limit) under
+  holds_data bytes rs under holds = subst (AllByRecursion (IsData limit)) (sym holds.none) tt
+
+  -- a leaf holds one list of records, beside one list of blocks
+  pub holds_one : (bytes : List ℕ) (rs qs : List Record) (bs ds : List ℕ) → LeafHolds x limit bytes rs bs → LeafHolds x limit bytes qs ds → (rs ≡ qs) × (bs ≡ ds)
+  holds_one bytes rs qs bs ds one other = (leaf_one bytes rs qs one.leaf other.leaf, one.none ∙ sym other.none)
+
+  -- a leaf is no inner block
+  pub holds_or_node : (bytes : List ℕ) (rs : List Record) (under : List ℕ) (level : ℕ) (cs : List Child) → LeafHolds x limit bytes rs under → IsNode bytes level cs → ⊥
+  holds_or_node bytes rs under level cs holds node = leaf_or_node bytes rs level cs holds.leaf node
+
+  -- the records of a leaf are some, and within their limits
+  pub holds_some : (bytes : List ℕ) (rs : List Record) (under : List ℕ) → LeafHolds x limit bytes rs under → 0 < length rs
+  holds_some bytes rs under holds = holds.leaf.some
+
+  holds_fit : (bytes : List ℕ) (rs : List Record) (under : List ℕ) → LeafHolds x limit bytes rs under → AllByRecursion RecordFits rs
+  holds_fit bytes rs under holds = holds.leaf.fit
+
+-- # Other contents
 
 -- what lies under children, in other contents
 children_in : (P : ℕ → Type 0) (T U : ℕ → List Record → List ℕ → Type 0) → ((b : ℕ) (rs : List Record) (bs : List ℕ) → T b rs bs → AllByRecursion P bs → U b rs bs)
@@ -28,8 +57,9 @@ pub subtree_in : (P : ℕ → Type 0) (sizes : Sizes) (x y : Contents) (limit : 
     → (l b : ℕ) (rs : List Record) (bs : List ℕ) → Subtree sizes x limit l b rs bs → AllByRecursion P bs → Subtree sizes y limit l b rs bs
 unfolding Subtree
 subtree_in P sizes x y limit same zero b rs bs t all =
-    let here = (subst (AllByRecursion P) t.3 all).0 in
-    (t.0, subst (λ (bytes : List ℕ). IsLeaf bytes rs) (sym (same b here)) t.1, t.2, t.3)
+    let whole = subst (AllByRecursion P) t.4 all in
+    let holds = holds_in x limit P y same (block x b) rs t.1 t.2 whole.1 in
+    (t.0, t.1, subst (λ (bytes : List ℕ). LeafHolds y limit bytes rs t.1) (sym (same b whole.0)) holds, t.3, t.4)
 subtree_in P sizes x y limit same (suc l) b rs bs t all =
     let whole = subst (AllByRecursion P) t.6 all in (
       t.0,
@@ -68,7 +98,7 @@ children_data limit T so (c ∷ cs) rs bs t =
 
 subtree_data : (sizes : Sizes) (x : Contents) (limit l b : ℕ) (rs : List Record) (bs : List ℕ) → Subtree sizes x limit l b rs bs → AllByRecursion (IsData limit) bs
 unfolding Subtree
-subtree_data sizes x limit zero b rs bs t = subst (AllByRecursion (IsData limit)) (sym t.3) (t.0, tt)
+subtree_data sizes x limit zero b rs bs t = subst (AllByRecursion (IsData limit)) (sym t.4) (t.0, holds_data x limit (block x b) rs t.1 t.2)
 subtree_data sizes x limit (suc l) b rs bs t =
     subst (AllByRecursion (IsData limit)) (sym t.6) (t.0, children_data limit (Subtree sizes x limit l) (subtree_data sizes x limit l) t.1 rs t.2 t.5)
 
@@ -93,9 +123,10 @@ children_one T U so (c ∷ cs) rs qs bs ds t u =
 -- the same block is the top of one subtree
 pub subtree_one : (sizes : Sizes) (x : Contents) (limit l k b : ℕ) (rs qs : List Record) (bs ds : List ℕ) → Subtree sizes x limit l b rs bs → Subtree sizes x limit k b qs ds → (rs ≡ qs) × (bs ≡ ds)
 unfolding Subtree
-subtree_one sizes x limit zero zero b rs qs bs ds t u = (leaf_one (block x b) rs qs t.1 u.1, t.3 ∙ sym u.3)
-subtree_one sizes x limit zero (suc k) b rs qs bs ds t u = absurd (leaf_or_node (block x b) rs (suc k) u.1 t.1 u.3)
-subtree_one sizes x limit (suc l) zero b rs qs bs ds t u = absurd (leaf_or_node (block x b) qs (suc l) t.1 u.1 t.3)
+subtree_one sizes x limit zero zero b rs qs bs ds t u =
+    let both = holds_one x limit (block x b) rs qs t.1 u.1 t.2 u.2 in (both.0, t.4 ∙ ap (λ z. b ∷ z) both.1 ∙ sym u.4)
+subtree_one sizes x limit zero (suc k) b rs qs bs ds t u = absurd (holds_or_node x limit (block x b) rs t.1 (suc k) u.1 t.2 u.3)
+subtree_one sizes x limit (suc l) zero b rs qs bs ds t u = absurd (holds_or_node x limit (block x b) qs u.1 (suc l) t.1 u.2 t.3)
 subtree_one sizes x limit (suc l) (suc k) b rs qs bs ds t u =
     let node = node_one (block x b) (suc l) (suc k) t.1 u.1 t.3 u.3 in
     let below = subst (λ (cs : List Child). Children (Subtree sizes x limit l) cs rs t.2) node.1 t.5 in
@@ -120,7 +151,7 @@ children_fit T so (c ∷ cs) rs bs t =
 -- the records of a subtree are within their limits
 pub subtree_fit : (sizes : Sizes) (x : Contents) (limit l b : ℕ) (rs : List Record) (bs : List ℕ) → Subtree sizes x limit l b rs bs → AllByRecursion RecordFits rs
 unfolding Subtree
-subtree_fit sizes x limit zero b rs bs t = t.1.fit
+subtree_fit sizes x limit zero b rs bs t = holds_fit x limit (block x b) rs t.1 t.2
 subtree_fit sizes x limit (suc l) b rs bs t = children_fit (Subtree sizes x limit l) (subtree_fit sizes x limit l) t.1 rs t.2 t.5
 
 -- the records of a tree are within their limits
@@ -140,9 +171,10 @@ tree_rises sizes x limit (suc b) m bs t = (t.3, each_so RecordFits (λ r. KeyFit
 -- block b is a leaf of a tree
 pub record LeafAt (sizes : Sizes) (x : Contents) (limit b : ℕ) (rs : List Record) (bs : List ℕ) : Type 0 where
   pub place : IsData limit b
-  pub leaf : IsLeaf (block x b) rs
+  pub under : List ℕ
+  pub holds : LeafHolds x limit (block x b) rs under
   pub few : length rs ≤ sizes.leaf
-  pub alone : bs ≡ b ∷ []
+  pub first : bs ≡ b ∷ under
 
 -- block b is an inner block of a tree, l levels above its leaves but one
 pub record NodeAt (sizes : Sizes) (x : Contents) (limit l b : ℕ) (rs : List Record) (bs : List ℕ) : Type 0 where
@@ -157,12 +189,12 @@ pub record NodeAt (sizes : Sizes) (x : Contents) (limit l b : ℕ) (rs : List Re
 module _ (sizes : Sizes) (x : Contents) (limit : ℕ) where
   pub leaf_opens : (l b : ℕ) (rs : List Record) (bs : List ℕ) → l ≡ 0 → Subtree sizes x limit l b rs bs → LeafAt sizes x limit b rs bs
   unfolding Subtree
-  leaf_opens zero b rs bs e t = record { place = t.0; leaf = t.1; few = t.2; alone = t.3 }
+  leaf_opens zero b rs bs e t = record { place = t.0; under = t.1; holds = t.2; few = t.3; first = t.4 }
   leaf_opens (suc l) b rs bs e t = absurd (omega arith)
 
   pub leaf_closes : (b : ℕ) (rs : List Record) (bs : List ℕ) → LeafAt sizes x limit b rs bs → Subtree sizes x limit 0 b rs bs
   unfolding Subtree
-  leaf_closes b rs bs at = (at.place, at.leaf, at.few, at.alone)
+  leaf_closes b rs bs at = (at.place, at.under, at.holds, at.few, at.first)
 
   pub node_opens : (l k b : ℕ) (rs : List Record) (bs : List ℕ) → l ≡ suc k → Subtree sizes x limit l b rs bs → NodeAt sizes x limit k b rs bs
   unfolding Subtree

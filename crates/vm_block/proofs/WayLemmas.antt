@@ -13,7 +13,7 @@ use Rattle.vm_block.specs.FullPath.{IsChosen}
 use Rattle.vm_block.specs.Padding.{zeros, padded}
 use Rattle.vm_block.specs.Leaf.{Record, RecordFits, IsLeaf, key_bytes, record_bytes, leaf_head, leaf_bytes}
 use Rattle.vm_block.specs.Node.{ChildFits, IsNode, lows, child_bytes, node_head, node_bytes}
-use Rattle.vm_block.specs.Tree.{Begins}
+use Rattle.vm_block.specs.Tree.{BeginsWith}
 use Rattle.vm_block.specs.Way.{KeysStand, Lowest}
 use Rattle.vm_block.proofs.EachLemmas.{each_front, each_back, each_join}
 use Rattle.vm_block.proofs.LeafLemmas.{length-leaf, length-leaf_head, length-records, leaf_parts, leaf_whole}
@@ -111,7 +111,7 @@ leaf_choice bytes rs n i k p q key leaf count same choose fits enough is =
     (chosen, keys i key chosen.within fits (sym (take-take 10 k (drop (16 + 252 * i) bytes) enough) ∙ is))
 
 -- the lowest key of a leaf stands behind its head
-pub begin_read : (bytes : List ℕ) (rs : List Record) (key : Key) (k : ℕ) → IsLeaf bytes rs → KeyFits key → 10 ≤ k → take 10 (take k (drop 16 bytes)) ≡ key_bytes key → Begins key rs
+pub begin_read : (bytes : List ℕ) (rs : List Record) (key : Key) (k : ℕ) → IsLeaf bytes rs → KeyFits key → 10 ≤ k → take 10 (take k (drop 16 bytes)) ≡ key_bytes key → BeginsWith key rs
 begin_read bytes [] key k leaf fits enough is = absurd (omega (arith, leaf.some))
 begin_read bytes (r ∷ rs) key k leaf fits enough is =
     let piece = leaf_piece bytes (r ∷ rs) 0 r leaf (omega arith) in

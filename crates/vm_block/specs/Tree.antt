@@ -19,22 +19,28 @@ abbrev pub IsData : ℕ → ℕ → Type 0
 IsData limit b = (34 ≤ b) × (b < limit)
 
 -- the records begin with this key
-abbrev pub Begins : Key → List Record → Type 0
-Begins low [] = ⊥
-Begins low (r ∷ rs) = r.0 ≡ low
+abbrev pub BeginsWith : Key → List Record → Type 0
+BeginsWith low [] = ⊥
+BeginsWith low (r ∷ rs) = r.0 ≡ low
 
 -- under these children lie these records, joined, in these blocks; T tells what lies under one of them
 abbrev pub Children : (ℕ → List Record → List ℕ → Type 0) → List Child → List Record → List ℕ → Type 0
 Children T [] rs bs = (rs ≡ []) × (bs ≡ [])
 Children T (c ∷ cs) rs bs =
     (first : List Record) × (rest : List Record) × (own : List ℕ) × (others : List ℕ)
-    × T c.block first own × Begins c.low first × Children T cs rest others
+    × T c.block first own × BeginsWith c.low first × Children T cs rest others
     × (rs ≡ first ++ rest) × (bs ≡ own ++ others)
+
+-- the leaf of these bytes holds these records, beside these blocks of the contents: none, as each value lies in the leaf itself
+pub record LeafHolds (x : Contents) (limit : ℕ) (bytes : List ℕ) (rs : List Record) (under : List ℕ) : Type 0 where
+  pub leaf : IsLeaf bytes rs
+  pub none : under ≡ []
 
 -- block b is the top of a subtree of so many levels above its leaves, with these records, in these blocks
 unfoldable pub Subtree : Sizes → Contents → ℕ → ℕ → ℕ → List Record → List ℕ → Type 0
 Subtree sizes x limit zero b rs bs =
-    IsData limit b × IsLeaf (block x b) rs × (length rs ≤ sizes.leaf) × (bs ≡ b ∷ [])
+    IsData limit b × (under : List ℕ)
+    × LeafHolds x limit (block x b) rs under × (length rs ≤ sizes.leaf) × (bs ≡ b ∷ under)
 Subtree sizes x limit (suc l) b rs bs =
     IsData limit b × (cs : List Child) × (under : List ℕ)
     × IsNode (block x b) (suc l) cs × (length cs ≤ sizes.fan) × Children (Subtree sizes x limit l) cs rs under

@@ -24,7 +24,7 @@ Lowest key [] = ⊥
 Lowest key (c ∷ cs) = c.low ≡ key
 
 -- what a record that was to be put in a leaf of these records leaves of its bytes
-abbrev pub Leaves : Placed → ℕ → Record → List Record → List ℕ → List ℕ → Type 0
-Leaves Put most r rs old new = (new ≡ leaf_bytes (with_record r rs)) × (length (with_record r rs) ≤ most)
-Leaves Full most r rs old new = (new ≡ old) × (most < length (with_record r rs))
-Leaves NoLeaf most r rs old new = ⊥
+abbrev pub IsAfterPut : Placed → ℕ → Record → List Record → List ℕ → List ℕ → Type 0
+IsAfterPut Put most r rs old new = (new ≡ leaf_bytes (with_record r rs)) × (length (with_record r rs) ≤ most)
+IsAfterPut Full most r rs old new = (new ≡ old) × (most < length (with_record r rs))
+IsAfterPut NoLeaf most r rs old new = ⊥

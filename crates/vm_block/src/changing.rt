@@ -3,7 +3,7 @@ ghost use Rattle.std.specs.Prelude.{◌≡◌, ◌≢◌, ◌↔◌, ℕ, ◌+�
 ghost use Rattle.vm_block.specs.Head.{IsLeafHead};
 ghost use Rattle.vm_block.specs.Leaf.{Record, RecordFits, IsLeaf, leaf_bytes};
 ghost use Rattle.vm_block.specs.Node.{IsNode, node_bytes};
-ghost use Rattle.vm_block.specs.Way.{Leaves};
+ghost use Rattle.vm_block.specs.Way.{IsAfterPut};
 ghost use Rattle.vm_block.specs.declared.node.Child.{Child};
 
 use crate::head::leaf_count;
@@ -60,7 +60,7 @@ pub fn put_record(bytes: &mut [u8; 4096], most: usize, key: Key, value: &Value) 
     ensures fits { RecordFits (key, value.now) }
     ensures head { (result ≢ Placed.NoLeaf) ↔ ((n : ℕ) × IsLeafHead bytes.old most n) }
     ensures kept { result ≢ Placed.Put → bytes.new ≡ bytes.old }
-    ensures only { (rs : List Record) → IsLeaf bytes.old rs → length rs ≤ most → Leaves result most (key, value.now) rs bytes.old bytes.new }
+    ensures only { (rs : List Record) → IsLeaf bytes.old rs → length rs ≤ most → IsAfterPut result most (key, value.now) rs bytes.old bytes.new }
 {
     let short = value.as_bytes().len() <= Value::MAX_LEN;
     prove!(short);

@@ -1,5 +1,5 @@
 //! Block 0, by which a store is known.
-ghost use Rattle.std.specs.Prelude.{◌≡◌, ◌↔◌, IsSome};
+ghost use Rattle.std.specs.Prelude.{◌≡◌, ◌↔◌, IsTrue};
 ghost use Rattle.vm_block.specs.Header.{header_bytes, IsHeader};
 
 use crate::spelling::{put, put_zeros};
@@ -15,11 +15,11 @@ pub fn write_header(out: &mut [u8; 4096])
     put_zeros(&mut out[16..]);
 }
 
-/// Whether the block is the header of a store: Some, which says no more.
-pub fn read_header(bytes: &[u8; 4096]) -> Option<()>
-    ensures { IsSome result ↔ IsHeader bytes.now }
+/// Whether the block is the header of a store.
+pub fn is_header(bytes: &[u8; 4096]) -> bool
+    ensures { IsTrue result ↔ IsHeader bytes.now }
 {
     let mut header = [0; 4096];
     write_header(&mut header);
-    (*bytes == header).then_some(())
+    *bytes == header
 }

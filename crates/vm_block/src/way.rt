@@ -5,7 +5,7 @@ ghost use Rattle.vm_block.specs.Head.{IsLeafHead, IsNodeHead};
 ghost use Rattle.vm_block.specs.Leaf.{Record, RecordFits, IsLeaf, key_bytes, record_bytes};
 ghost use Rattle.vm_block.specs.Node.{ChildFits, IsNode, child_bytes};
 ghost use Rattle.vm_block.specs.FullPath.{IsChosen};
-ghost use Rattle.vm_block.specs.Tree.{Begins};
+ghost use Rattle.vm_block.specs.Tree.{BeginsWith};
 ghost use Rattle.vm_block.specs.Way.{KeysStand, Lowest, Takes};
 ghost use Rattle.vm_block.specs.declared.node.Child.{Child};
 
@@ -94,7 +94,7 @@ pub fn lowest_key(bytes: &[u8; 4096]) -> Key
     ensures fits { KeyFits result }
     ensures spelled { take 10 (drop 16 bytes.now) ≡ key_bytes result }
     ensures node { (level : ℕ) (cs : List Child) → IsNode bytes.now level cs → Lowest result cs }
-    ensures leaf { (rs : List Record) → IsLeaf bytes.now rs → Begins result rs }
+    ensures leaf { (rs : List Record) → IsLeaf bytes.now rs → BeginsWith result rs }
 {
     read_key(&bytes[16..])
 }

@@ -1,8 +1,8 @@
 -- How each moment of a publish follows from the one before it.
 use Rattle.std.proofs.Common.{◌≡◌, ◌≢◌, ◌⊎◌, inl, inr, ⊎_elim, ℕ, ◌+◌, ◌<◌, ◌≤◌, Bool, true, false, not, List, length, refl, sym, ap, ◌∙◌, subst, Result, Ok, Err, OnOk, arith}
 use Rattle.std.proofs.lemmas.Bool.{false≢true}
-use Rattle.vm_disk.specs.Disk.{Contents, block, Medium, MayLeave, IsClean, State, Syncs}
-use Rattle.vm_disk.specs.Moments.{Spares}
+use Rattle.vm_disk.specs.Disk.{Contents, block, Medium, MayLeave, IsClean, DiskState, Syncs}
+use Rattle.vm_disk.specs.Moments.{TouchesOnly}
 use Rattle.vm_disk.proofs.MomentLemmas.{clean_sure}
 use Rattle.vm_disk.specs.declared.disk.DeviceFault.{DeviceFault}
 use Rattle.vm_block.specs.Header.{IsHeader}
@@ -59,13 +59,13 @@ module _ (slot_b : Bool) (old : Medium) (limit : ℕ) (es : List Entry) (new_lim
   less = fits.head.few
 
   -- the blocks that name the old entries are spared where only the other slot is written
-  kept : (m : Medium) → Spares (region (slot_at (not slot_b)) (used_blocks (length new))) old m → (n : ℕ) → is_used slot_b (length es) n ≡ true → (block m.contents n ≡ block old.contents n) × (m.dirty n ≡ false)
+  kept : (m : Medium) → TouchesOnly (region (slot_at (not slot_b)) (used_blocks (length new))) old m → (n : ℕ) → is_used slot_b (length es) n ≡ true → (block m.contents n ≡ block old.contents n) × (m.dirty n ≡ false)
   kept m spares n used =
       let out = apart slot_b (length es) (length new) n few less used in
       (spares.same n out, spares.clean n out (rest.clean n used))
 
   -- the old entries are named still
-  still_named : (m : Medium) → Spares (region (slot_at (not slot_b)) (used_blocks (length new))) old m → AtRest slot_b m limit es
+  still_named : (m : Medium) → TouchesOnly (region (slot_at (not slot_b)) (used_blocks (length new))) old m → AtRest slot_b m limit es
   still_named m spares =
       record {
         names = names_in old.contents m.contents slot_b limit es (λ n used. (kept m spares n used).0) rest.in_use rest.names;
@@ -74,7 +74,7 @@ module _ (slot_b : Bool) (old : Medium) (limit : ℕ) (es : List Entry) (new_lim
       }
 
   -- while the other slot is written
-  pub before_selector : (m : Medium) → Spares (region (slot_at (not slot_b)) (used_blocks (length new))) old m → IsSafelyPublishing slot_b old limit es new_limit new m
+  pub before_selector : (m : Medium) → TouchesOnly (region (slot_at (not slot_b)) (used_blocks (length new))) old m → IsSafelyPublishing slot_b old limit es new_limit new m
   before_selector m spares =
       let named = still_named m spares in
       record {
@@ -89,7 +89,7 @@ module _ (slot_b : Bool) (old : Medium) (limit : ℕ) (es : List Entry) (new_lim
 
   -- the new entries stand in the other slot, whole and clean, and the old ones are named still
   pub record IsReady (m : Medium) : Type 0 where
-    pub spares : Spares (region (slot_at (not slot_b)) (used_blocks (length new))) old m
+    pub spares : TouchesOnly (region (slot_at (not slot_b)) (used_blocks (length new))) old m
     pub clean : IsClean m
     pub slot : SlotAt m.contents (not slot_b) new_limit new
 
@@ -146,7 +146,7 @@ module _ (slot_b : Bool) (old : Medium) (limit : ℕ) (es : List Entry) (new_lim
       }
 
   -- the slot that is not in use is written, and synced
-  pub ready_by : (written : Contents) (ready : Medium) → Spares (region (slot_at (not slot_b)) (used_blocks (length new))) old ready → IsClean ready → ready.contents ≡ written → blocks_from written (slot_at (not slot_b)) (used_blocks (length new)) ≡ slot_blocks new_limit new → IsReady ready
+  pub ready_by : (written : Contents) (ready : Medium) → TouchesOnly (region (slot_at (not slot_b)) (used_blocks (length new))) old ready → IsClean ready → ready.contents ≡ written → blocks_from written (slot_at (not slot_b)) (used_blocks (length new)) ≡ slot_blocks new_limit new → IsReady ready
   ready_by written ready spares clean same blocks =
       let P : List (List ℕ) → Type 0 = λ bs. IsSlot bs new_limit new in
       let there : blocks_from ready.contents (slot_at (not slot_b)) (used_blocks (length new)) ≡ slot_blocks new_limit new = ap (λ (x : Contents). blocks_from x (slot_at (not slot_b)) (used_blocks (length new))) same ∙ blocks in
@@ -160,12 +160,12 @@ module _ (slot_b : Bool) (old : Medium) (limit : ℕ) (es : List Entry) (new_lim
     pub others : (n : ℕ) → n ≢ 1 → block turned.contents n ≡ block ready.contents n
 
   -- the last sync is done
-  pub ends_published : {T : Type 0} (result : Result T DeviceFault) (ready : Medium) (turned last : State) → IsTurned ready turned.now → Syncs result turned last → OnOk result (IsPublished (not slot_b) old last.now new_limit new)
+  pub ends_published : {T : Type 0} (result : Result T DeviceFault) (ready : Medium) (turned last : DiskState) → IsTurned ready turned.now → Syncs result turned last → OnOk result (IsPublished (not slot_b) old last.now new_limit new)
   ends_published (Ok x) ready turned last is sync =
       after_selector ready turned.now last.now is.is_ready is.others is.count is.chosen sync.same sync.synced
   ends_published (Err e) ready turned last is sync = tt
 
-  pub ends_safely : {T : Type 0} (result : Result T DeviceFault) (ready : Medium) (turned last : State) → IsTurned ready turned.now → IsSafelyPublishing slot_b old limit es new_limit new turned.now → Syncs result turned last → IsSafelyPublishing slot_b old limit es new_limit new last.now
+  pub ends_safely : {T : Type 0} (result : Result T DeviceFault) (ready : Medium) (turned last : DiskState) → IsTurned ready turned.now → IsSafelyPublishing slot_b old limit es new_limit new turned.now → Syncs result turned last → IsSafelyPublishing slot_b old limit es new_limit new last.now
   ends_safely (Ok x) ready turned last is safe sync =
       when_published ready last.now is.is_ready (λ n other. ap (λ (x : Contents). block x n) sync.same ∙ is.others n other) (ends_published (Ok x) ready turned last is sync)
   ends_safely (Err e) ready turned last is safe sync =

@@ -10,7 +10,7 @@ use Rattle.vm_block.proofs.Rows.{all_push, rows_read, length-rows}
 use Rattle.vm_disk.specs.Disk.{Contents, block}
 use Rattle.vm_catalog.specs.Place.{blocks_from, slot_at}
 use Rattle.vm_catalog.specs.Written.{joined}
-use Rattle.vm_catalog.specs.Reading.{cell_of, HasEntry, HasTaken, FitsSoFar, Begins, Loads}
+use Rattle.vm_catalog.specs.Reading.{cell_of, HasEntry, HasTaken, FitsSoFar, BeginsSlot, Loads}
 use Rattle.vm_catalog.specs.Catalog.{SlotAt}
 use Rattle.vm_catalog.specs.declared.reader.LoadFault.{LoadFault}
 use Rattle.vm_catalog.specs.declared.reader.LoadFault.TheVariants.{Device, Memory, Damaged}
@@ -41,7 +41,7 @@ taken_more bytes first i old mid new e so_far is pushed =
 -- # The first block
 
 -- it begins with the head, and these entries
-pub first_begins : (x : Contents) (at limit n count : ℕ) (bytes b : List ℕ) (old new : List Entry) → b ≡ block x at → length b ≡ 4096 → bytes ≡ take 128 b → IsHead bytes limit n → HasTaken b 1 count old new → old ≡ [] → Begins (blocks_from x at 1) limit n new
+pub first_begins : (x : Contents) (at limit n count : ℕ) (bytes b : List ℕ) (old new : List Entry) → b ≡ block x at → length b ≡ 4096 → bytes ≡ take 128 b → IsHead bytes limit n → HasTaken b 1 count old new → old ≡ [] → BeginsSlot (blocks_from x at 1) limit n new
 first_begins x at limit n count bytes b old new is size front head taken none =
     let all : new ≡ taken.more = taken.items ∙ ap (λ (es : List Entry). es ++ taken.more) none in
     let P : List ℕ → Type 0 = λ c. length c ≡ 4096 in
@@ -65,7 +65,7 @@ other_fits b limit n k count mid new so_far inside taken many =
       many = omega (arith, ap length taken.items, length-append mid taken.more, taken.many, so_far.many);
     }
 
-pub other_begins : (x : Contents) (at limit n k count : ℕ) (b : List ℕ) (mid new : List Entry) → FitsSoFar limit n k mid → k < used_blocks n → Begins (blocks_from x at k) limit n mid → b ≡ block x (at + k) → length b ≡ 4096 → HasTaken b 0 count mid new → Begins (blocks_from x at (k + 1)) limit n new
+pub other_begins : (x : Contents) (at limit n k count : ℕ) (b : List ℕ) (mid new : List Entry) → FitsSoFar limit n k mid → k < used_blocks n → BeginsSlot (blocks_from x at k) limit n mid → b ≡ block x (at + k) → length b ≡ 4096 → HasTaken b 0 count mid new → BeginsSlot (blocks_from x at (k + 1)) limit n new
 other_begins x at limit n k count b mid new so_far inside begins is size taken =
     let front = blocks_from x at k in
     let head = head_bytes limit n in
@@ -111,7 +111,7 @@ front_is x slot_b limit es bytes slot is =
     }
 
 -- another block
-pub other_is : (x : Contents) (slot_b : Bool) (limit : ℕ) (es : List Entry) (l n k count : ℕ) (bytes : List ℕ) (mid : List Entry) → SlotAt x slot_b limit es → FitsSoFar l n k mid → Begins (blocks_from x (slot_at slot_b) k) l n mid → 1 ≤ k → k < used_blocks n → count ≡ min (n - length mid) 32 → bytes ≡ block x (slot_at slot_b + k) → (i : ℕ) → i < count → HasEntry bytes (0 + i)
+pub other_is : (x : Contents) (slot_b : Bool) (limit : ℕ) (es : List Entry) (l n k count : ℕ) (bytes : List ℕ) (mid : List Entry) → SlotAt x slot_b limit es → FitsSoFar l n k mid → BeginsSlot (blocks_from x (slot_at slot_b) k) l n mid → 1 ≤ k → k < used_blocks n → count ≡ min (n - length mid) 32 → bytes ≡ block x (slot_at slot_b + k) → (i : ℕ) → i < count → HasEntry bytes (0 + i)
 other_is x slot_b limit es l n k count bytes mid slot so_far begins some inside many is i lt =
     let at = slot_at slot_b in
     let used = used_blocks (length es) in
@@ -131,7 +131,7 @@ pub all_read : (limit n : ℕ) (es : List Entry) → FitsSoFar limit n (used_blo
 all_read limit n es fits = omega (arith, fits.many)
 
 -- they are those of the slot
-pub loaded : (x : Contents) (slot_b : Bool) (limit n : ℕ) (es : List Entry) → FitsSoFar limit n (used_blocks n) es → Begins (blocks_from x (slot_at slot_b) (used_blocks n)) limit n es → IsLedger es → SlotAt x slot_b limit es
+pub loaded : (x : Contents) (slot_b : Bool) (limit n : ℕ) (es : List Entry) → FitsSoFar limit n (used_blocks n) es → BeginsSlot (blocks_from x (slot_at slot_b) (used_blocks n)) limit n es → IsLedger es → SlotAt x slot_b limit es
 loaded x slot_b limit n es fits begins ledger =
     let all = all_read limit n es fits in
     let P : ℕ → Type 0 = λ k. IsSlot (blocks_from x (slot_at slot_b) (used_blocks k)) limit es in
@@ -144,7 +144,7 @@ loaded x slot_b limit n es fits begins ledger =
     })
 
 -- and no others
-pub loaded_one : (x : Contents) (slot_b : Bool) (limit n : ℕ) (es : List Entry) (limit' : ℕ) (es' : List Entry) → FitsSoFar limit n (used_blocks n) es → Begins (blocks_from x (slot_at slot_b) (used_blocks n)) limit n es → SlotAt x slot_b limit' es' → (limit ≡ limit') × (es ≡ es')
+pub loaded_one : (x : Contents) (slot_b : Bool) (limit n : ℕ) (es : List Entry) (limit' : ℕ) (es' : List Entry) → FitsSoFar limit n (used_blocks n) es → BeginsSlot (blocks_from x (slot_at slot_b) (used_blocks n)) limit n es → SlotAt x slot_b limit' es' → (limit ≡ limit') × (es ≡ es')
 loaded_one x slot_b limit n es limit' es' fits begins slot =
     read_one x slot_b limit n es limit' es' fits.head fits.each (all_read limit n es fits) begins slot
 

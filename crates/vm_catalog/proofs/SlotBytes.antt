@@ -10,7 +10,7 @@ use Rattle.vm_block.proofs.EachLemmas.{each_front, each_back}
 use Rattle.vm_block.proofs.Rows.{length-rows, found_at}
 use Rattle.vm_catalog.specs.Place.{blocks_from}
 use Rattle.vm_catalog.specs.Written.{joined}
-use Rattle.vm_catalog.specs.Reading.{cell_of, HasEntry, Begins}
+use Rattle.vm_catalog.specs.Reading.{cell_of, HasEntry, BeginsSlot}
 use Rattle.vm_catalog.proofs.PlaceLemmas.{blocks_split, length-blocks}
 use Rattle.vm_block.proofs.SlotLemmas.{length-head, length-entry}
 
@@ -83,7 +83,7 @@ module _ (x : Contents) (at count limit : ℕ) (es : List Entry) (slot : IsSlot 
       }
 
 -- blocks that begin with a head have it in the first of them
-pub begins_head : (x : Contents) (at k limit n : ℕ) (es : List Entry) → Begins (blocks_from x at k) limit n es → 0 < k → take 128 (block x at) ≡ head_bytes limit n
+pub begins_head : (x : Contents) (at k limit n : ℕ) (es : List Entry) → BeginsSlot (blocks_from x at k) limit n es → 0 < k → take 128 (block x at) ≡ head_bytes limit n
 begins_head x at zero limit n es begins some = absurd (omega arith)
 begins_head x at (suc k) limit n es begins some =
     let tail = joined (blocks_from x (at + 1) k) in

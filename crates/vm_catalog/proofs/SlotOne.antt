@@ -10,7 +10,7 @@ use Rattle.vm_disk.specs.Disk.{Contents, block}
 use Rattle.vm_catalog.specs.Place.{blocks_from, slot_at, selected}
 use Rattle.vm_catalog.specs.Written.{joined}
 use Rattle.vm_catalog.specs.Catalog.{SlotAt, Names}
-use Rattle.vm_catalog.specs.Reading.{Begins}
+use Rattle.vm_catalog.specs.Reading.{BeginsSlot}
 use Rattle.vm_catalog.proofs.SlotBytes.{head_is, begins_head}
 
 -- entries of one spelling are one
@@ -31,7 +31,7 @@ one_row limit n es fs xs ys p q many e =
     (sym (take_at (flat_map entry_bytes es) xs (128 * length es) a) ∙ ap (take (128 * length es)) from ∙ take_at (flat_map entry_bytes fs) ys (128 * length es) b)
 
 -- blocks that begin with a head and its entries, and are a slot, are the slot of those entries
-pub read_one : (x : Contents) (slot_b : Bool) (limit n : ℕ) (es : List Entry) (limit' : ℕ) (es' : List Entry) → HeadFits limit n → AllByRecursion EntryFits es → length es ≡ n → Begins (blocks_from x (slot_at slot_b) (used_blocks n)) limit n es → SlotAt x slot_b limit' es' → (limit ≡ limit') × (es ≡ es')
+pub read_one : (x : Contents) (slot_b : Bool) (limit n : ℕ) (es : List Entry) (limit' : ℕ) (es' : List Entry) → HeadFits limit n → AllByRecursion EntryFits es → length es ≡ n → BeginsSlot (blocks_from x (slot_at slot_b) (used_blocks n)) limit n es → SlotAt x slot_b limit' es' → (limit ≡ limit') × (es ≡ es')
 read_one x slot_b limit n es limit' es' fits each many begins slot =
     let at = slot_at slot_b in
     let head = begins_head x at (used_blocks n) limit n es begins (omega (arith, fits.some)) in

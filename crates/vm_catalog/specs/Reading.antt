@@ -39,7 +39,7 @@ pub record FitsSoFar (limit n count : ℕ) (es : List Entry) : Type 0 where
   pub many : length es + 1 ≡ min (n + 1) (32 * count)
 
 -- the blocks begin with this head and these entries
-pub record Begins (blocks : List (List ℕ)) (limit n : ℕ) (es : List Entry) : Type 0 where
+pub record BeginsSlot (blocks : List (List ℕ)) (limit n : ℕ) (es : List Entry) : Type 0 where
   pub whole : AllByRecursion (λ block. length block ≡ 4096) blocks
   pub rest : List ℕ
   pub spelled : joined blocks ≡ (head_bytes limit n ++ flat_map entry_bytes es) ++ rest

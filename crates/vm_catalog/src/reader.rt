@@ -7,7 +7,7 @@ ghost use Rattle.vm_block.specs.Slot.{SlotFits, used_blocks, IsHead, IsEntry};
 ghost use Rattle.vm_block.specs.declared.slot.Entry.{Entry};
 ghost use Rattle.vm_catalog.specs.Place.{blocks_from, slot_at};
 ghost use Rattle.vm_catalog.specs.Catalog.{SlotAt};
-ghost use Rattle.vm_catalog.specs.Reading.{cell_of, HasEntry, HasTaken, FitsSoFar, Begins, Loads};
+ghost use Rattle.vm_catalog.specs.Reading.{cell_of, HasEntry, HasTaken, FitsSoFar, BeginsSlot, Loads};
 
 use crate::ledger::is_ledger;
 use crate::place::{MAX_ENTRIES, first_block, used_blocks};
@@ -101,7 +101,7 @@ fn read_first<D: Disk>(
     ensures room { vec_capacity entries.new ≡ vec_capacity entries.old }
     ensures fits { IfOk result (λ head. FitsSoFar head.blocks head.entries 1 entries.new.items) }
     ensures found { (D.state disk.new).honest ≡ true
-        → IfOk result (λ head. Begins (blocks_from (D.state disk.old).now.contents (slot_at slot_b) 1)
+        → IfOk result (λ head. BeginsSlot (blocks_from (D.state disk.old).now.contents (slot_at slot_b) 1)
         head.blocks head.entries entries.new.items) }
     ensures only { (D.state disk.new).honest ≡ true → (limit : ℕ) (es : List Entry)
         → SlotAt (D.state disk.old).now.contents slot_b limit es → result ≢ Err LoadFault.Damaged }
@@ -127,7 +127,7 @@ fn read_others<D: Disk>(
     requires room { MAX_ENTRIES ≤ vec_capacity entries.old }
     requires fits { FitsSoFar head.blocks head.entries 1 entries.old.items }
     requires found { (D.state disk.old).honest ≡ true
-        → Begins (blocks_from (D.state disk.old).now.contents (slot_at slot_b) 1)
+        → BeginsSlot (blocks_from (D.state disk.old).now.contents (slot_at slot_b) 1)
         head.blocks head.entries entries.old.items }
     ensures any { Goes (result ≡ Err LoadFault.Device) (D.state disk.old) (D.state disk.new) }
     ensures reads { (D.state disk.new).honest ≡ true
@@ -137,7 +137,7 @@ fn read_others<D: Disk>(
     ensures room { vec_capacity entries.new ≡ vec_capacity entries.old }
     ensures fits { OnOk result (FitsSoFar head.blocks head.entries (used_blocks head.entries) entries.new.items) }
     ensures found { (D.state disk.new).honest ≡ true
-        → OnOk result (Begins (blocks_from (D.state disk.old).now.contents (slot_at slot_b) (used_blocks head.entries))
+        → OnOk result (BeginsSlot (blocks_from (D.state disk.old).now.contents (slot_at slot_b) (used_blocks head.entries))
         head.blocks head.entries entries.new.items) }
     ensures only { (D.state disk.new).honest ≡ true → (limit : ℕ) (es : List Entry)
         → SlotAt (D.state disk.old).now.contents slot_b limit es → result ≢ Err LoadFault.Damaged }

@@ -5,7 +5,7 @@ ghost use Rattle.vm_disk.specs.Moments.{OnlyReads};
 ghost use Rattle.vm_block.specs.Selector.{selector_bytes};
 ghost use Rattle.vm_catalog.specs.Catalog.{Selects};
 
-use vm_block::{read_header, read_selector, write_selector};
+use vm_block::{is_header, read_selector, write_selector};
 use vm_disk::{DeviceFault, Disk};
 
 /// The slot in use, slot B where true; None where block 0 is no header. It reads block 0, and behind
@@ -20,7 +20,7 @@ pub fn slot_in_use<D: Disk>(disk: &mut D) -> Result<Option<bool>, DeviceFault>
 {
     let mut block = [0; 4096];
     disk.read(0, &mut block)?;
-    if read_header(&block).is_none() {
+    if !is_header(&block) {
         return Ok(None);
     }
     disk.read(1, &mut block)?;

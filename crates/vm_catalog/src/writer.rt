@@ -1,7 +1,7 @@
 //! How new entries take the place of those in use.
 ghost use Rattle.std.specs.Prelude.{◌≡◌, ℕ, ◌+◌, ◌*◌, ◌<◌, ◌≤◌, ◌++◌, true, not, List, [], length, take, drop, slice_index_or, OnOk, IsErr};
 ghost use Rattle.vm_disk.specs.Disk.{Goes};
-ghost use Rattle.vm_disk.specs.Moments.{Throughout, Leaves, Spares};
+ghost use Rattle.vm_disk.specs.Moments.{Throughout, Leaves, TouchesOnly};
 ghost use Rattle.vm_block.specs.Padding.{padded};
 ghost use Rattle.vm_block.specs.Slot.{SlotFits, used_blocks};
 ghost use Rattle.vm_block.specs.declared.slot.Entry.{Entry};
@@ -75,7 +75,7 @@ pub fn write_slot<D: Disk>(
         ≡ slot_blocks blocks entries.now) }
     ensures moments { (D.state disk.new).honest ≡ true
         → Throughout (D.state disk.old) (D.state disk.new)
-        (Spares (region (slot_at slot_b) (used_blocks (length entries.now))) (D.state disk.old).now) }
+        (TouchesOnly (region (slot_at slot_b) (used_blocks (length entries.now))) (D.state disk.old).now) }
 {
     let first = first_block(slot_b);
     let mut block = [0; 4096];

@@ -10,13 +10,13 @@ use Rattle.vm_alloc.specs.Marks.{IsMarked}
 use Rattle.vm_alloc.proofs.HeldLemmas.{holds_more_then}
 use Rattle.vm_block.specs.Leaf.{Record, IsLeaf}
 use Rattle.vm_block.specs.Node.{IsNode, lows}
-use Rattle.vm_block.specs.Tree.{Sizes, Begins, Children, Subtree}
+use Rattle.vm_block.specs.Tree.{Sizes, BeginsWith, Children, Subtree}
 use Rattle.vm_block.specs.declared.node.Child.{Child}
 use Rattle.vm_block.proofs.EachLemmas.{each_so, each_join}
 use Rattle.vm_block.proofs.FormLemmas.{leaf_or_node}
 use Rattle.vm_block.proofs.LeafLemmas.{leaf_one}
 use Rattle.vm_block.proofs.NodeLemmas.{node_one}
-use Rattle.vm_block.proofs.TreeLemmas.{subtree_one}
+use Rattle.vm_block.proofs.TreeLemmas.{holds_or_node, subtree_one}
 use Rattle.vm_tree.proofs.Rising.{rises_front, rises_back}
 use Rattle.vm_tree.proofs.Splitting.{split_at, children_join, child_alone}
 use Rattle.vm_tree.specs.Reading.{IsLeafAt, IsNodeAt}
@@ -42,13 +42,13 @@ adds_then most bs cs a b c s t u first then = record {
 
 module _ (T : ℕ → List Record → List ℕ → Type 0) where
   rises_more : (i : ℕ) (cs : List Child) (xs ys : List Record) (bs : List ℕ) (high next : Key) → i < length cs → Children T (take i cs) xs bs → RisesFrom 0 (places xs) → (0 < length (take i cs) → IsHighest high xs)
-      → (0 < i → place high < place next) → Begins next ys → RisesFrom 0 (places ys) → RisesFrom 0 (places (xs ++ ys))
+      → (0 < i → place high < place next) → BeginsWith next ys → RisesFrom 0 (places ys) → RisesFrom 0 (places (xs ++ ys))
   rises_more zero cs xs ys bs high next lt under rises top below begins later = subst (λ (zs : List Record). RisesFrom 0 (places (zs ++ ys))) (sym under.0) later
   rises_more (suc i) cs xs ys bs high next lt under rises top below begins later =
       let highest = top (omega (arith, length-take (suc i) cs)) in rises_join 0 next xs ys rises (highest.above (place next) (below (omega arith))) (omega arith) begins later
 
   highest_more : (i : ℕ) (cs : List Child) (xs ys : List Record) (bs : List ℕ) (high next last : Key) → i < length cs → Children T (take i cs) xs bs → (0 < length (take i cs) → IsHighest high xs)
-      → (0 < i → place high < place next) → Begins next ys → IsHighest last ys → IsHighest last (xs ++ ys)
+      → (0 < i → place high < place next) → BeginsWith next ys → IsHighest last ys → IsHighest last (xs ++ ys)
   highest_more zero cs xs ys bs high next last lt under top below begins highest = subst (λ (zs : List Record). IsHighest last (zs ++ ys)) (sym under.0) highest
   highest_more (suc i) cs xs ys bs high next last lt under top below begins highest =
       highest_join high last xs ys (top (omega (arith, length-take (suc i) cs))) highest (omega (arith, below (omega arith), lowest_highest next last ys begins highest))
@@ -64,7 +64,7 @@ module _ (sizes : Sizes) (x : Contents) (limit level : ℕ) where
       let same : span.level ≡ level = omega (arith, v.at_least, v.at_most) in
       let child = get_or cs i d in
       let sub : T child.block v.whole.records v.whole.blocks = subst (λ n. Subtree sizes x limit n child.block v.whole.records v.whole.blocks) same v.whole.subtree in
-      let begins : Begins child.low v.whole.records = subst (λ k. Begins k v.whole.records) low v.whole.lowest in
+      let begins : BeginsWith child.low v.whole.records = subst (λ k. BeginsWith k v.whole.records) low v.whole.lowest in
       let under : (0 < i → place high < place child.low) = λ some. omega (arith, below some lt, get_or-map (λ (c : Child). place c.low) cs i d 0 lt) in
       let here = children_join T (take i cs) (child ∷ []) all.records v.whole.records all.blocks v.whole.blocks all.under (child_alone T child v.whole.records v.whole.blocks sub begins) in
       record {
@@ -86,7 +86,7 @@ module _ (sizes : Sizes) (x : Contents) (limit level : ℕ) where
     pub blocks : List ℕ
     pub subtree : Subtree sizes x limit level (get_or cs i d).block records blocks
     pub rising : RisesFrom 0 (places records)
-    pub lowest : Begins (get_or cs i d).low records
+    pub lowest : BeginsWith (get_or cs i d).low records
     pub below : (high : Key) → IsHighest high records → i + 1 < length cs → place high < slice_index_or (lows cs) (i + 1) 0
 
   pub child_of : (cs : List Child) (i : ℕ) (d : Child) (rs : List Record) (bs : List ℕ) → i < length cs → Children (Subtree sizes x limit level) cs rs bs → RisesFrom 0 (places rs) → ChildOf cs i d
@@ -118,7 +118,7 @@ module _ (sizes : Sizes) (x : Contents) (limit level : ℕ) where
   child_agrees cs i d span a b s t at v =
       let one = subtree_one sizes x limit span.level level (get_or cs i d).block v.whole.records at.records v.whole.blocks at.blocks v.whole.subtree at.subtree in
       record {
-        low = begins_one span.low (get_or cs i d).low at.records (subst (Begins span.low) one.0 v.whole.lowest) at.lowest;
+        low = begins_one span.low (get_or cs i d).low at.records (subst (BeginsWith span.low) one.0 v.whole.lowest) at.lowest;
         below = at.below span.high (subst (IsHighest span.high) one.0 v.whole.highest);
       }
 
@@ -130,7 +130,7 @@ module _ (sizes : Sizes) (x : Contents) (limit : ℕ) where
 
   pub leaf_top : (l b : ℕ) (qs rs : List Record) (bs : List ℕ) → IsLeaf (block x b) qs → Subtree sizes x limit l b rs bs → LeafTop l qs
   unfolding Subtree
-  leaf_top zero b qs rs bs leaf t = record { level = refl; few = subst (λ (zs : List Record). length zs ≤ sizes.leaf) (leaf_one (block x b) rs qs t.1 leaf) t.2 }
+  leaf_top zero b qs rs bs leaf t = record { level = refl; few = subst (λ (zs : List Record). length zs ≤ sizes.leaf) (leaf_one (block x b) rs qs t.2.leaf leaf) t.3 }
   leaf_top (suc l) b qs rs bs leaf t = absurd (leaf_or_node (block x b) qs (suc l) t.1 leaf t.3)
 
   pub record NodeTop (l level : ℕ) (cs : List Child) (rs : List Record) : Type 0 where
@@ -141,7 +141,7 @@ module _ (sizes : Sizes) (x : Contents) (limit : ℕ) where
 
   pub node_top : (l level b : ℕ) (cs : List Child) (rs : List Record) (bs : List ℕ) → IsNode (block x b) level cs → Subtree sizes x limit l b rs bs → NodeTop l level cs rs
   unfolding Subtree
-  node_top zero level b cs rs bs node t = absurd (leaf_or_node (block x b) rs level cs t.1 node)
+  node_top zero level b cs rs bs node t = absurd (holds_or_node x limit (block x b) rs t.1 level cs t.2 node)
   node_top (suc l) level b cs rs bs node t =
       let one = node_one (block x b) (suc l) level t.1 cs t.3 node in
       let down : l ≡ level - 1 = omega (arith, one.0) in
@@ -155,5 +155,5 @@ module _ (sizes : Sizes) (x : Contents) (limit : ℕ) where
   -- what follows from either form of the block on top
   pub top_form : (l b : ℕ) (rs : List Record) (bs : List ℕ) (F : Type 0) → Subtree sizes x limit l b rs bs → ((qs : List Record) → IsLeafAt x limit b qs → F) → ((level : ℕ) (cs : List Child) → IsNodeAt x limit level b cs → F) → F
   unfolding Subtree
-  top_form zero b rs bs F t leaf node = leaf rs (record { inside = t.0; leaf = t.1 })
+  top_form zero b rs bs F t leaf node = leaf rs (record { inside = t.0; leaf = t.2.leaf })
   top_form (suc l) b rs bs F t leaf node = node (suc l) t.1 (record { inside = t.0; node = t.3 })

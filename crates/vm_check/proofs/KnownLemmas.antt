@@ -9,7 +9,7 @@ use Rattle.vm_alloc.specs.Marks.{IsMarked}
 use Rattle.vm_alloc.proofs.HeldLemmas.{holds_more_then, taken_holds_more, taken_is_held, others_as_before}
 use Rattle.vm_block.specs.Leaf.{Record, IsLeaf}
 use Rattle.vm_block.specs.Node.{IsNode}
-use Rattle.vm_block.specs.Tree.{Sizes, IsData, Begins, Children, Subtree}
+use Rattle.vm_block.specs.Tree.{Sizes, IsData, BeginsWith, Children, Subtree}
 use Rattle.vm_block.specs.declared.node.Child.{Child}
 use Rattle.vm_block.proofs.EachLemmas.{each_so}
 use Rattle.vm_block.proofs.FormLemmas.{leaf_or_node}
@@ -31,7 +31,7 @@ level_one bytes (suc l) (suc k) a b = (node_one bytes (suc l) (suc k) a.0 b.0 a.
 
 pub subtree_level : (sizes : Sizes) (x : Contents) (limit l b : ℕ) (rs : List Record) (bs : List ℕ) → Subtree sizes x limit l b rs bs → HasLevel (block x b) l
 unfolding Subtree
-subtree_level sizes x limit zero b rs bs t = (rs, t.1)
+subtree_level sizes x limit zero b rs bs t = (rs, t.2.leaf)
 subtree_level sizes x limit (suc l) b rs bs t = (t.1, t.3)
 
 node_level : (bytes : List ℕ) (level : ℕ) (cs : List Child) → IsNode bytes level cs → HasLevel bytes level
@@ -51,13 +51,13 @@ span_there : (spans : List Met) (b n : ℕ) (span : Span) → (n ≡ b → ⊥) 
 span_there spans b n span other = ap (λ (m : Met). span_of m) (get_or-set_other spans b n (met_of span) no_met other)
 
 -- children begin with the lowest key of the first one
-begins_join : (low : _) (xs ys : List Record) → Begins low xs → Begins low (xs ++ ys)
+begins_join : (low : _) (xs ys : List Record) → BeginsWith low xs → BeginsWith low (xs ++ ys)
 begins_join low [] ys begins = absurd begins
 begins_join low (x ∷ xs) ys begins = begins
 
-pub children_begin : (T : ℕ → List Record → List ℕ → Type 0) (cs : List Child) (d : Child) (rs : List Record) (bs : List ℕ) → 0 < length cs → Children T cs rs bs → Begins (get_or cs 0 d).low rs
+pub children_begin : (T : ℕ → List Record → List ℕ → Type 0) (cs : List Child) (d : Child) (rs : List Record) (bs : List ℕ) → 0 < length cs → Children T cs rs bs → BeginsWith (get_or cs 0 d).low rs
 children_begin T [] d rs bs some t = absurd (omega arith)
-children_begin T (c ∷ cs) d rs bs some t = subst (Begins c.low) (sym t.7) (begins_join c.low t.0 t.1 t.5)
+children_begin T (c ∷ cs) d rs bs some t = subst (BeginsWith c.low) (sym t.7) (begins_join c.low t.0 t.1 t.5)
 
 module _ (sizes : Sizes) (x : Contents) (limit : ℕ) where
   pub whole_more : (marks later : List Bool) (n : ℕ) (span : Span) → HoldsMore marks later → Whole sizes x limit marks n span → Whole sizes x limit later n span
@@ -77,14 +77,14 @@ module _ (sizes : Sizes) (x : Contents) (limit : ℕ) where
     pub leaf : IsLeaf (block x b) rs
     pub few : length rs ≤ sizes.leaf
     pub level : span.level ≡ 0
-    pub lowest : Begins span.low rs
+    pub lowest : BeginsWith span.low rs
     pub highest : IsHighest span.high rs
 
   leaf_whole : (b : ℕ) (rs : List Record) (span : Span) (marks : List Bool) → IsMarked marks b → LeafFound b rs span → Whole sizes x limit marks b span
   leaf_whole b rs span marks is at = record {
     records = rs;
     blocks = b ∷ [];
-    subtree = subst (λ l. Subtree sizes x limit l b rs (b ∷ [])) (sym at.level) (leaf_closes sizes x limit b rs (b ∷ []) (record { place = at.inside; leaf = at.leaf; few = at.few; alone = refl }));
+    subtree = subst (λ l. Subtree sizes x limit l b rs (b ∷ [])) (sym at.level) (leaf_closes sizes x limit b rs (b ∷ []) (record { place = at.inside; under = []; holds = record { leaf = at.leaf; none = refl }; few = at.few; first = refl }));
     rising = at.leaf.rising;
     lowest = at.lowest;
     highest = at.highest;
@@ -184,7 +184,7 @@ module _ (sizes : Sizes) (x : Contents) (limit : ℕ) where
           blocks = b ∷ all.blocks;
           subtree = subst (λ l. Subtree sizes x limit l b all.records (b ∷ all.blocks)) up tree;
           rising = all.rising;
-          lowest = subst (λ k. Begins k all.records) (sym at.low) (children_begin (Subtree sizes x limit (span.level - 1)) cs d all.records all.blocks at.node.some all.under);
+          lowest = subst (λ k. BeginsWith k all.records) (sym at.low) (children_begin (Subtree sizes x limit (span.level - 1)) cs d all.records all.blocks at.node.some all.under);
           highest = all.highest at.node.some;
           each = (all.adds.grows.still b (taken_is_held marks b inside), all.each);
         }

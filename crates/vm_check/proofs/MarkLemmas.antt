@@ -13,9 +13,8 @@ use Rattle.vm_block.specs.Node.{IsNode}
 use Rattle.vm_block.specs.Tree.{Sizes, IsData, Children, Subtree}
 use Rattle.vm_block.specs.declared.node.Child.{Child}
 use Rattle.vm_block.proofs.EachLemmas.{each_so, each_join}
-use Rattle.vm_block.proofs.FormLemmas.{leaf_or_node}
 use Rattle.vm_block.proofs.NodeLemmas.{node_one}
-use Rattle.vm_block.proofs.TreeLemmas.{leaf_opens, node_opens}
+use Rattle.vm_block.proofs.TreeLemmas.{holds_or_node, leaf_opens, node_opens}
 use Rattle.vm_tree.specs.Reading.{IsNodeAt}
 use Rattle.vm_check.specs.Marking.{Joined, MarksMore, ClosedTo, unmarked}
 use Rattle.vm_check.proofs.JoinLemmas.{LastOf, last_of, joined_front}
@@ -108,15 +107,17 @@ children_sealed x T so (c ∷ cs) rs bs t =
 -- the top of a subtree is one of its blocks
 pub top_within : (sizes : Sizes) (x : Contents) (limit l b : ℕ) (rs : List Record) (bs : List ℕ) → Subtree sizes x limit l b rs bs → Contains bs b
 unfolding Subtree
-top_within sizes x limit zero b rs bs t = subst (λ (ds : List ℕ). Contains ds b) (sym t.3) (is_first b [])
+top_within sizes x limit zero b rs bs t = subst (λ (ds : List ℕ). Contains ds b) (sym t.4) (is_first b t.1)
 top_within sizes x limit (suc l) b rs bs t = subst (λ (ds : List ℕ). Contains ds b) (sym t.6) (is_first b t.2)
 
 pub subtree_sealed : (sizes : Sizes) (x : Contents) (limit l b : ℕ) (rs : List Record) (bs : List ℕ) → Subtree sizes x limit l b rs bs → Sealed x bs
 unfolding Subtree
-subtree_sealed sizes x limit zero b rs bs t = subst (Sealed x) (sym t.3) record { sealed = λ n level cs at node. leaf_alone n level cs node (first_or_other b [] n at) }
+subtree_sealed sizes x limit zero b rs bs t =
+    let only : b ∷ t.1 ≡ b ∷ [] = ap (λ (ds : List ℕ). b ∷ ds) t.2.none in
+    subst (Sealed x) (sym (t.4 ∙ only)) record { sealed = λ n level cs at node. leaf_alone n level cs node (first_or_other b [] n at) }
   where
     leaf_alone : (n level : ℕ) (cs : List Child) → IsNode (block x n) level cs → (b ≡ n) ⊎ Contains [] n → AllByRecursion (λ c. Contains (b ∷ []) c.block) cs
-    leaf_alone n level cs node (inl same) = absurd (leaf_or_node (block x b) rs level cs t.1 (subst (λ k. IsNode (block x k) level cs) (sym same) node))
+    leaf_alone n level cs node (inl same) = absurd (holds_or_node x limit (block x b) rs t.1 level cs t.2 (subst (λ k. IsNode (block x k) level cs) (sym same) node))
     leaf_alone n level cs node (inr at) = absurd (none_of [] n refl at)
 subtree_sealed sizes x limit (suc l) b rs bs t =
     let below = children_sealed x (Subtree sizes x limit l) (subtree_sealed sizes x limit l) t.1 rs t.2 t.5 in
@@ -166,7 +167,8 @@ children_marked marks T so (c ∷ cs) rs bs t all =
 pub under_marked : (sizes : Sizes) (x : Contents) (limit most : ℕ) (marks : List Bool) → ClosedTo x most marks → (l b : ℕ) (rs : List Record) (bs : List ℕ) → l ≤ most
     → Subtree sizes x limit l b rs bs → IsMarked marks b → AllByRecursion (IsMarked marks) bs
 unfolding Subtree
-under_marked sizes x limit most marks closed zero b rs bs le t is = subst (AllByRecursion (IsMarked marks)) (sym t.3) (is, tt)
+under_marked sizes x limit most marks closed zero b rs bs le t is =
+    subst (AllByRecursion (IsMarked marks)) (sym t.4) (is, subst (AllByRecursion (IsMarked marks)) (sym t.2.none) tt)
 under_marked sizes x limit most marks closed (suc l) b rs bs le t is =
     subst (AllByRecursion (IsMarked marks)) (sym t.6) (
       is,
@@ -280,7 +282,7 @@ pub leaf_marked : (sizes : Sizes) (x : Contents) (limit level b : ℕ) (rs : Lis
     → Subtree sizes x limit level b rs bs → MarksMore bs marks new
 leaf_marked sizes x limit level b rs bs marks new none inside is tree =
     let at = leaf_opens sizes x limit level b rs bs none tree in
-    subst (λ (ds : List ℕ). MarksMore ds marks new) (sym at.alone) (subst (λ (z : List Bool). MarksMore (b ∷ []) marks z) (sym is) (first_more b marks inside))
+    subst (λ (ds : List ℕ). MarksMore ds marks new) (sym (at.first ∙ ap (λ (ds : List ℕ). b ∷ ds) at.holds.none)) (subst (λ (z : List Bool). MarksMore (b ∷ []) marks z) (sym is) (first_more b marks inside))
 
 -- a fault under an inner block
 pub node_fault : (sizes : Sizes) (old mid : Medium) (limit level b i : ℕ) (bs : List ℕ) (cs : List Child) (d : Child) (marks first now : List Bool) (F : Type 0) → mid ≡ old → b < length marks → first ≡ slice_set marks b true

@@ -6,7 +6,7 @@ use Rattle.std.specs.List.{AllByRecursion}
 use Rattle.vm_types.specs.declared.key.Key.{Key}
 use Rattle.vm_types.specs.Places.{RisesFrom, place, places}
 use Rattle.vm_block.specs.Leaf.{Record}
-use Rattle.vm_block.specs.Tree.{Begins}
+use Rattle.vm_block.specs.Tree.{BeginsWith}
 use Rattle.vm_block.proofs.EachLemmas.{each_join, each_back}
 use Rattle.vm_tree.proofs.Rising.{rises_before}
 use Rattle.vm_check.specs.Visiting.{IsHighest}
@@ -46,7 +46,7 @@ highest_last (r ∷ rs) d low some rises =
     let same : length rs ≡ length (r ∷ rs) - 1 = omega arith in subst (λ k. IsHighest (get_or (r ∷ rs) k d).0 (r ∷ rs)) same (highest_at r rs d low rises)
 
 -- records have one lowest key
-pub begins_one : (a b : Key) (rs : List Record) → Begins a rs → Begins b rs → a ≡ b
+pub begins_one : (a b : Key) (rs : List Record) → BeginsWith a rs → BeginsWith b rs → a ≡ b
 begins_one a b [] x y = absurd x
 begins_one a b (r ∷ rs) x y = sym x ∙ y
 
@@ -58,13 +58,13 @@ highest_join g h xs ys first then lt = record {
 }
 
 -- the lowest key stands no higher than the highest
-pub lowest_highest : (low high : Key) (rs : List Record) → Begins low rs → IsHighest high rs → place low ≤ place high
+pub lowest_highest : (low high : Key) (rs : List Record) → BeginsWith low rs → IsHighest high rs → place low ≤ place high
 lowest_highest low high [] begins highest = absurd begins
 lowest_highest low high (r ∷ rs) begins highest =
     let all = highest.above (place high + 1) (omega arith) in let here : place r.0 ≡ place low = ap place begins in omega (arith, all.0, here)
 
 -- rising records, and rising ones behind them that begin higher
-pub rises_join : (low : ℕ) (next : Key) (xs ys : List Record) → RisesFrom low (places xs) → AllByRecursion (λ r. place r.0 < place next) xs → low ≤ place next → Begins next ys → RisesFrom 0 (places ys)
+pub rises_join : (low : ℕ) (next : Key) (xs ys : List Record) → RisesFrom low (places xs) → AllByRecursion (λ r. place r.0 < place next) xs → low ≤ place next → BeginsWith next ys → RisesFrom 0 (places ys)
     → RisesFrom low (places (xs ++ ys))
 rises_join low next [] [] rises below le begins later = absurd begins
 rises_join low next [] (y ∷ ys) rises below le begins later = let here : place y.0 ≡ place next = ap place begins in (omega (arith, here), later.1)
@@ -72,7 +72,7 @@ rises_join low next (x ∷ xs) ys rises below le begins later =
     (rises.0, rises_join (place x.0 + 1) next xs ys rises.1 below.1 (omega (arith, below.0)) begins later)
 
 -- in rising records, the highest key of the first ones stands below the lowest of the others
-pub highest_below : (high next : Key) (low : ℕ) (xs ys : List Record) → IsHighest high xs → Begins next ys → RisesFrom low (places (xs ++ ys)) → place high < place next
+pub highest_below : (high next : Key) (low : ℕ) (xs ys : List Record) → IsHighest high xs → BeginsWith next ys → RisesFrom low (places (xs ++ ys)) → place high < place next
 highest_below high next low xs [] highest begins rises = absurd begins
 highest_below high next low xs (y ∷ ys) highest begins rises =
     let under = rises_before low xs y ys rises in

@@ -9,7 +9,7 @@ use Rattle.vm_alloc.specs.Held.{HoldsMore}
 use Rattle.vm_alloc.specs.Marks.{IsMarked}
 use Rattle.vm_block.specs.Leaf.{Record, IsLeaf}
 use Rattle.vm_block.specs.Node.{IsNode}
-use Rattle.vm_block.specs.Tree.{Sizes, Begins, Children, Subtree}
+use Rattle.vm_block.specs.Tree.{Sizes, BeginsWith, Children, Subtree}
 use Rattle.vm_block.specs.declared.node.Child.{Child}
 use Rattle.vm_tree.specs.Root.{IsRooted}
 use Rattle.vm_tree.specs.declared.root.Root.{Root}
@@ -47,7 +47,7 @@ pub record Whole (sizes : Sizes) (x : Contents) (limit : ℕ) (marks : List Bool
   pub blocks : List ℕ
   pub subtree : Subtree sizes x limit span.level n records blocks
   pub rising : RisesFrom 0 (places records)
-  pub lowest : Begins span.low records
+  pub lowest : BeginsWith span.low records
   pub highest : IsHighest span.high records
   pub each : AllByRecursion (IsMarked marks) blocks
 

@@ -6,7 +6,7 @@ ghost use Rattle.vm_alloc.specs.Held.{HoldsMore};
 ghost use Rattle.vm_block.specs.Leaf.{Record, IsLeaf};
 ghost use Rattle.vm_block.specs.Node.{IsNode, lows};
 ghost use Rattle.vm_block.specs.declared.node.Child.{Child};
-ghost use Rattle.vm_block.specs.Tree.{Begins, Subtree, Children, IsTree};
+ghost use Rattle.vm_block.specs.Tree.{BeginsWith, Subtree, Children, IsTree};
 ghost use Rattle.vm_tree.specs.Answers.{OkOrDevice, Lists};
 ghost use Rattle.vm_tree.specs.Calls.{OnlyLooks};
 ghost use Rattle.vm_tree.specs.Root.{AreSizes, sizes_of};
@@ -152,7 +152,7 @@ fn leaf_span(bytes: &[u8; 4096], count: usize) -> Span
     requires some { 0 < count }
     requires few { count ≤ 16 }
     ensures level { result.level ≡ 0 }
-    ensures low { (rs : List Record) → IsLeaf bytes.now rs → Begins result.low rs }
+    ensures low { (rs : List Record) → IsLeaf bytes.now rs → BeginsWith result.low rs }
     ensures high { (rs : List Record) → IsLeaf bytes.now rs → length rs ≡ count
         → IsHighest result.high rs }
 {

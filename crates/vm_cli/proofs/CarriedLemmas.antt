@@ -1,7 +1,7 @@
 -- Texts that are written in part.
 use Rattle.std.proofs.Common.{◌≡◌, ◌<◌, ◌+◌, ◌++◌, ◌∙◌, ℕ, zero, suc, List, [], ◌∷◌, Option, Result, Ok, Err, OnErr, OnOk, flat_map, slice_index_or, sym, refl, arith, add-one, subst, append-nil, append_assoc, length, take, drop, take-append-drop}
 use Rattle.std.specs.Io.KnownBytes.{Appends}
-use Rattle.vm_cli.specs.Carried.{Begins, Carries}
+use Rattle.vm_cli.specs.Carried.{WritesStart, Carries}
 use Rattle.vm_cli.proofs.Known.{Appends-nil, Appends-then}
 
 -- nothing was written
@@ -33,18 +33,18 @@ pub carries-end : (a b c : Option (List ℕ)) (rest whole : List ℕ) → Carrie
 carries-end a b c rest whole p q = rw p.split (Appends-then a b c p.sent rest p.written q)
 
 -- a write failed
-pub begins-cut : (a b : Option (List ℕ)) (text : List ℕ) (k : ℕ) → Appends a b (take k text) → Begins a b text
+pub begins-cut : (a b : Option (List ℕ)) (text : List ℕ) (k : ℕ) → Appends a b (take k text) → WritesStart a b text
 begins-cut a b text k p = record {
   rest = drop k text;
   carries = record { sent = take k text; split = sym (take-append-drop k text); written = p };
 }
 
 -- what was left was begun
-pub begins-then : (a b c : Option (List ℕ)) (rest whole : List ℕ) → Carries a b rest whole → Begins b c rest → Begins a c whole
+pub begins-then : (a b c : Option (List ℕ)) (rest whole : List ℕ) → Carries a b rest whole → WritesStart b c rest → WritesStart a c whole
 begins-then a b c rest whole p q = record { rest = q.rest; carries = carries-then a b c rest q.rest whole p q.carries }
 
 -- a beginning of more
-pub begins-more : (a b : Option (List ℕ)) (whole more : List ℕ) → Begins a b whole → Begins a b (whole ++ more)
+pub begins-more : (a b : Option (List ℕ)) (whole more : List ℕ) → WritesStart a b whole → WritesStart a b (whole ++ more)
 begins-more a b whole more p = record { rest = p.rest ++ more; carries = carries-more a b p.rest (p.rest ++ more) whole more p.carries refl }
 
 pub on_err : {T E P : Type 0} (r : Result T E) → P → OnErr r P
@@ -60,9 +60,9 @@ flat_map-more f (y ∷ xs) (suc i) x lt e =
     rw (add-one (suc i), rest) (sym (append_assoc (f y) (flat_map f (take i xs)) (f x)))
 
 -- the beginning of a list is the beginning of its lines
-pub begins-list : {X : Type 0} (f : X → List ℕ) (xs : List X) (i : ℕ) (a b : Option (List ℕ)) → Begins a b (flat_map f (take i xs)) → Begins a b (flat_map f xs)
+pub begins-list : {X : Type 0} (f : X → List ℕ) (xs : List X) (i : ℕ) (a b : Option (List ℕ)) → WritesStart a b (flat_map f (take i xs)) → WritesStart a b (flat_map f xs)
 begins-list f xs i a b h =
-    subst (Begins a b) (sym (flat_map-split f xs i)) (begins-more a b (flat_map f (take i xs)) (flat_map f (drop i xs)) h)
+    subst (WritesStart a b) (sym (flat_map-split f xs i)) (begins-more a b (flat_map f (take i xs)) (flat_map f (drop i xs)) h)
   where
     flat_map-split : {X : Type 0} (f : X → List ℕ) (xs : List X) (i : ℕ) → flat_map f xs ≡ flat_map f (take i xs) ++ flat_map f (drop i xs)
     flat_map-split f xs zero = refl
@@ -74,5 +74,5 @@ on_ok (Ok t) p = p
 on_ok (Err e) p = tt
 
 -- the whole is a beginning
-pub begins-whole : (a b : Option (List ℕ)) (whole : List ℕ) → Appends a b whole → Begins a b whole
+pub begins-whole : (a b : Option (List ℕ)) (whole : List ℕ) → Appends a b whole → WritesStart a b whole
 begins-whole a b whole p = record { rest = []; carries = carries-all a b whole p }

@@ -14,16 +14,18 @@ use Rattle.vm_types.specs.State.{State, opened}
 use Rattle.vm_types.specs.Tree.{Alternative, Saved, Tree, changed, entry_count, named}
 use Rattle.vm_disk.specs.Disk.{Contents}
 use Rattle.vm_disk.specs.declared.disk.Disk.{Ghosts}
-use Rattle.vm_store.specs.Filed.{Filed, add, bare, grown, saved_of, with_saved}
+use Rattle.vm_store.specs.Filed.{Filed, add, bare, with_filed, saved_of, with_saved}
 use Rattle.vm_store.specs.Opening.{OpensAs}
 use Rattle.vm_store.specs.Store.{Holds, disk_of, free_of}
 use Rattle.vm_store.specs.declared.store.Store.{Store}
 use Rattle.vm_store.proofs.FiledLemmas.{named_back}
 use Rattle.vm_store.proofs.GrownLemmas.{InOrder, MayBeAdded, count_grown, not_eq}
 use Rattle.vm_store.proofs.MovedLemmas.{standing_length}
-use Rattle.vm_store.proofs.VersionLemmas.{in_order}
+use Rattle.vm_store.proofs.SlotLemmas.{slot-length}
+use Rattle.vm_store.proofs.TurnLemmas.{in_order}
+use Rattle.vm_store.proofs.VersionLemmas.{standing}
 use Rattle.vm_cli.specs.Counting.{IsCounted, checkpoint_count}
-use Rattle.vm_cli.specs.declared.counting.Counts.{Counts}
+use Rattle.vm_cli.specs.declared.program.counting.Counts.{Counts}
 
 -- no alternative is called like an earlier one
 abbrev Apart : Tree → Type 0
@@ -76,7 +78,7 @@ apart_add t f h may = either _ _ _ (λ is. apart_more t (bare f) h (may.new is))
     let owned = may.owned is in
     subst (λ o. Apart (changed t (unwrap_or o []) (with_saved (saved_of f)))) (sym owned.1) (apart_saved owned.0 (saved_of f) t h))
 
-apart_grown : (t : Tree) (fs : List Filed) → Apart t → InOrder t fs → Apart (grown t fs)
+apart_grown : (t : Tree) (fs : List Filed) → Apart t → InOrder t fs → Apart (with_filed t fs)
 apart_grown t [] h order = h
 apart_grown t (f ∷ fs) h order = apart_grown (add t f) fs (apart_add t f h order.0) order.1
 
@@ -111,7 +113,7 @@ nothing = record { name = []; parent = None; current = []; base = []; saved = []
 
 module _ {D : Type 0} {members : _} (store : Store D members) (s : State) (holds : Holds store s) where
   order : InOrder [] holds.new
-  order = in_order (members.state store.disk).now store.blocks store.slot_b store.held store.committed.items store.working.items s holds
+  order = in_order (standing holds)
 
   apart : Apart s.working
   apart = subst Apart holds.gives_new (apart_grown [] holds.new tt order)
@@ -119,12 +121,12 @@ module _ {D : Type 0} {members : _} (store : Store D members) (s : State) (holds
   -- there are few checkpoints
   few : checkpoint_count s.working ≤ 511
   few =
-      let counted : entry_count (grown [] holds.new) ≡ entry_count [] + length holds.new = count_grown [] holds.new order in
+      let counted : entry_count (with_filed [] holds.new) ≡ entry_count [] + length holds.new = count_grown [] holds.new order in
       let none : entry_count [] ≡ 0 = refl in
-      let long : length holds.new ≡ length store.working.items =
-      standing_length _ _ _ store.working.items holds.new holds.stands in
-      let same : entry_count (grown [] holds.new) ≡ entry_count s.working = ap entry_count holds.gives_new in
-      let entries : length store.working.items ≤ 511 = store.few in
+      let long : length holds.new ≡ length store.working =
+      standing_length _ _ _ store.working holds.new holds.stands in
+      let same : entry_count (with_filed [] holds.new) ≡ entry_count s.working = ap entry_count holds.gives_new in
+      let entries : length store.working ≤ 511 = subst (λ n. n ≤ 511) (slot-length store.working) holds.fits.head.few in
       let among = few_among s.working in
       omega arith
 
@@ -185,7 +187,7 @@ is_err P result x is p = subst (λ r. IfErr r P) is p
 
 -- the numbers of an opened store are those of what its disk shows
 pub counted_shown : {D : Type 0} (members : Ghosts D) (x : Contents) (store : Store D members) → (members.state (disk_of store)).now.contents ≡ x → (opens : OpensAs x store) → (counts : Counts)
-    → (counts.alternatives ≡ length opens.tree) × (counts.checkpoints ≡ checkpoint_count opens.tree) × (counts.free ≡ free_of store)
+    → (counts.alternatives ≡ length opens.seen.tree) × (counts.checkpoints ≡ checkpoint_count opens.seen.tree) × (counts.free ≡ free_of store)
     → IsCounted members x counts.alternatives counts.checkpoints counts.free
 counted_shown members x store over opens counts said = record {
   store = store;
@@ -193,5 +195,5 @@ counted_shown members x store over opens counts said = record {
   opens = opens;
   alternatives_are = said.0;
   checkpoints_are = said.1;
-  free_are = said.2 ∙ opens.free (opened opens.tree) opens.holds;
+  free_are = said.2 ∙ opens.free (opened opens.seen) opens.holds;
 }

@@ -4,7 +4,7 @@ use Rattle.std.specs.Io.KnownBytes.{Appends}
 use Rattle.clap.specs.Words.{IsAmong, Text, fault_of}
 use Rattle.clap.specs.declared.error.kind.ErrorKind.{ErrorKind}
 use Rattle.clap.specs.declared.error.kind.ErrorKind.TheVariants.{DisplayHelp, DisplayVersion}
-use Rattle.vm_cli.specs.Carried.{Begins}
+use Rattle.vm_cli.specs.Carried.{WritesStart}
 use Rattle.vm_cli.specs.Drawing.{Branch, drawing}
 use Rattle.vm_cli.specs.Exits.{AskTalk, Ends, IsHelp, IsJob, MayEnd, SaysRefused, Tells, check_text, created_text, file_text, status_of}
 use Rattle.vm_cli.specs.Words.{Wanted, altctl}
@@ -17,11 +17,11 @@ use Rattle.vm_cli.proofs.CarriedLemmas.{begins-more, begins-then}
 -- ---- a line with the name of a file
 
 -- the words before the name were written in part
-pub file_first : (a b : Option (List ℕ)) (what file : List ℕ) → Begins a b what → Begins a b (file_text what file)
+pub file_first : (a b : Option (List ℕ)) (what file : List ℕ) → WritesStart a b what → WritesStart a b (file_text what file)
 file_first a b what file h = begins-more a b what (file ++ 10 ∷ []) h
 
 -- they were written whole, and of the rest a beginning
-pub file_then : (a b c : Option (List ℕ)) (what rest : List ℕ) → Appends a b what → Begins b c rest → Begins a c (what ++ rest)
+pub file_then : (a b c : Option (List ℕ)) (what rest : List ℕ) → Appends a b what → WritesStart b c rest → WritesStart a c (what ++ rest)
 file_then a b c what rest p h = begins-then a b c rest (what ++ rest) (record { sent = what; split = refl; written = p }) h
 
 -- ---- the end of a status
@@ -76,12 +76,12 @@ help_or_mistake DisplayHelp = inl (inl refl)
 help_or_mistake DisplayVersion = inl (inr refl)
 help_or_mistake kind = inr (λ h. elim h [ inl e ↦ cc | inr e ↦ cc ])
 
-module _ {W F : Type 0} (in_output : W → Option (List ℕ)) (in_faults : F → Option (List ℕ)) (words : List Text) (output output' : W) (faults faults' : F) where
+module _ {W F : Type 0} (in_output : W → Option (List ℕ)) (in_errors : F → Option (List ℕ)) (words : List Text) (output output' : W) (errors errors' : F) where
   -- a store was to be made
   pub made : (file : Text) (blocks : ℕ) (exit : Exit) → IsJob words (create file blocks)
-      → ((faults' ≡ faults) × Tells Done exit (in_output output) (in_output output') (created_text blocks))
-      ⊎ ((output' ≡ output) × ((text : List ℕ) × SaysRefused (create file blocks) text × Tells Refused exit (in_faults faults) (in_faults faults') text))
-      → Ends in_output in_faults exit words output output' faults faults'
+      → ((errors' ≡ errors) × Tells Done exit (in_output output) (in_output output') (created_text blocks))
+      ⊎ ((output' ≡ output) × ((text : List ℕ) × SaysRefused (create file blocks) text × Tells Refused exit (in_errors errors) (in_errors errors') text))
+      → Ends in_output in_errors exit words output output' errors errors'
   made file blocks exit job (inl (same, inl (is, written))) = rw is (same, inl (created_text blocks, inr (inl (file, blocks, job, refl)), written))
   made file blocks exit job (inl (same, inr (is, begun))) = rw is (inl (same, inr (inl (created_text blocks, inr (inl (file, blocks, job, refl)), begun))))
   made file blocks exit job (inr (same, (text, says, inl (is, written)))) = rw is (same, (text, (create file blocks, job, says), written))
@@ -89,9 +89,9 @@ module _ {W F : Type 0} (in_output : W → Option (List ℕ)) (in_faults : F →
 
   -- lines were to be answered
   pub talked : (job : Wanted) (on : OnRefusal) (exit : Exit) → IsJob words job → AskTalk words on
-      → ((faults' ≡ faults) × MayEnd on exit)
-      ⊎ ((output' ≡ output) × ((text : List ℕ) × SaysRefused job text × Tells Refused exit (in_faults faults) (in_faults faults') text))
-      → Ends in_output in_faults exit words output output' faults faults'
+      → ((errors' ≡ errors) × MayEnd on exit)
+      ⊎ ((output' ≡ output) × ((text : List ℕ) × SaysRefused job text × Tells Refused exit (in_errors errors) (in_errors errors') text))
+      → Ends in_output in_errors exit words output output' errors errors'
   talked job on exit asked asks (inl (same, inl is)) = rw is (same, inr (on, asks))
   talked job on exit asked asks (inl (same, inr (inl is))) = rw is (inl (same, inr (inr (on, asks))))
   talked job on exit asked asks (inl (same, inr (inr (is, told)))) = rw is (same, (on, told, asks))
@@ -100,9 +100,9 @@ module _ {W F : Type 0} (in_output : W → Option (List ℕ)) (in_faults : F →
 
   -- a store was to be checked
   pub checked : (file : Text) (exit : Exit) → IsJob words (check file)
-      → ((faults' ≡ faults) × ((alternatives : ℕ) × (checkpoints : ℕ) × (free : ℕ) × Tells Done exit (in_output output) (in_output output') (check_text alternatives checkpoints free)))
-      ⊎ ((output' ≡ output) × ((text : List ℕ) × SaysRefused (check file) text × Tells Refused exit (in_faults faults) (in_faults faults') text))
-      → Ends in_output in_faults exit words output output' faults faults'
+      → ((errors' ≡ errors) × ((alternatives : ℕ) × (checkpoints : ℕ) × (free : ℕ) × Tells Done exit (in_output output) (in_output output') (check_text alternatives checkpoints free)))
+      ⊎ ((output' ≡ output) × ((text : List ℕ) × SaysRefused (check file) text × Tells Refused exit (in_errors errors) (in_errors errors') text))
+      → Ends in_output in_errors exit words output output' errors errors'
   checked file exit job (inl (same, (alternatives, checkpoints, free, inl (is, written)))) =
       rw is (same, inl (check_text alternatives checkpoints free, inr (inr (inl (file, alternatives, checkpoints, free, job, refl))), written))
   checked file exit job (inl (same, (alternatives, checkpoints, free, inr (is, begun)))) =
@@ -112,28 +112,28 @@ module _ {W F : Type 0} (in_output : W → Option (List ℕ)) (in_faults : F →
 
   -- a tree was to be drawn
   pub drawn : (file : Text) (exit : Exit) → IsJob words (draw file)
-      → ((faults' ≡ faults) × ((branches : List Branch) × Tells Done exit (in_output output) (in_output output') (drawing branches)))
-      ⊎ ((output' ≡ output) × ((text : List ℕ) × SaysRefused (draw file) text × Tells Refused exit (in_faults faults) (in_faults faults') text))
-      → Ends in_output in_faults exit words output output' faults faults'
+      → ((errors' ≡ errors) × ((branches : List Branch) × Tells Done exit (in_output output) (in_output output') (drawing branches)))
+      ⊎ ((output' ≡ output) × ((text : List ℕ) × SaysRefused (draw file) text × Tells Refused exit (in_errors errors) (in_errors errors') text))
+      → Ends in_output in_errors exit words output output' errors errors'
   drawn file exit job (inl (same, (branches, inl (is, written)))) = rw is (same, inl (drawing branches, inr (inr (inr (file, branches, job, refl))), written))
   drawn file exit job (inl (same, (branches, inr (is, begun)))) = rw is (inl (same, inr (inl (drawing branches, inr (inr (inr (file, branches, job, refl))), begun))))
   drawn file exit job (inr (same, (text, says, inl (is, written)))) = rw is (same, (text, (draw file, job, says), written))
   drawn file exit job (inr (same, (text, says, inr (is, begun)))) = rw is (inr (same, (text, inl (draw file, job, says), begun)))
 
   -- memory was wanting
-  pub no_memory : (exit : Exit) → exit ≡ Stopped → output' ≡ output → faults' ≡ faults → Ends in_output in_faults exit words output output' faults faults'
+  pub no_memory : (exit : Exit) → exit ≡ Stopped → output' ≡ output → errors' ≡ errors → Ends in_output in_errors exit words output output' errors errors'
   no_memory exit is out same = rw is (inl (same, inl out))
 
   -- help was to be shown
   pub helped : (kind : ErrorKind) (exit : Exit) → IsHelp kind → IsAmong kind (fault_of altctl words)
-      → (faults' ≡ faults) × ((text : List ℕ) × Tells Done exit (in_output output) (in_output output') text)
-      → Ends in_output in_faults exit words output output' faults faults'
+      → (errors' ≡ errors) × ((text : List ℕ) × Tells Done exit (in_output output) (in_output output') text)
+      → Ends in_output in_errors exit words output output' errors errors'
   helped kind exit help among (same, (text, inl (is, written))) = rw is (same, inl (text, inl (kind, help, among), written))
   helped kind exit help among (same, (text, inr (is, begun))) = rw is (inl (same, inr (inl (text, inl (kind, help, among), begun))))
 
   -- a mistake was to be shown
   pub mistaken : (kind : ErrorKind) (exit : Exit) → (¬ IsHelp kind) → IsAmong kind (fault_of altctl words)
-      → (output' ≡ output) × ((text : List ℕ) × Tells WrongWords exit (in_faults faults) (in_faults faults') text)
-      → Ends in_output in_faults exit words output output' faults faults'
+      → (output' ≡ output) × ((text : List ℕ) × Tells WrongWords exit (in_errors errors) (in_errors errors') text)
+      → Ends in_output in_errors exit words output output' errors errors'
   mistaken kind exit wrong among (same, (text, inl (is, written))) = rw is (same, (kind, wrong, among), (text, written))
   mistaken kind exit wrong among (same, (text, inr (is, begun))) = rw is (inr (same, (text, inr (kind, wrong, among), begun)))

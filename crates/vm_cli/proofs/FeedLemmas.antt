@@ -11,7 +11,7 @@ use Rattle.vm_types.specs.declared.refusal.Refusal.{Refusal}
 use Rattle.vm_types.specs.State.{State, after}
 use Rattle.vm_store.specs.Store.{Holds, has_failed}
 use Rattle.vm_store.specs.declared.store.Store.{Store}
-use Rattle.vm_cli.specs.Carried.{Begins}
+use Rattle.vm_cli.specs.Carried.{WritesStart}
 use Rattle.vm_cli.specs.Feeding.{Fed, Writes}
 use Rattle.vm_cli.specs.Lines.{IsPart, lines_of, onto_first}
 use Rattle.vm_cli.specs.Talk.{Done, EndsTalk, HandlesLine, HasTalked, ServesLines, Stood, Stops, Talks, after_line, with_answer, with_command}
@@ -170,7 +170,7 @@ module _ {D : Type 0} {members : _} where
           stops = λ last. subst (λ t. Stops e.mid new t) (sym state) (e.stops last);
         }
 
-    begins-after : (a b c : Option (List ℕ)) (second : List ℕ) → Appends a b text → Begins b c second → Begins a c (text ++ second)
+    begins-after : (a b c : Option (List ℕ)) (second : List ℕ) → Appends a b text → WritesStart b c second → WritesStart a c (text ++ second)
     begins-after a b c second written p = record {
       rest = p.rest;
       carries = record {

@@ -5,10 +5,9 @@ use Rattle.std.proofs.lemmas.Slice.Eq.{bytes_eq-Decides}
 use Rattle.std.specs.Str.{bytes_eq}
 use Rattle.clap.specs.Words.{IsAmong, Text, fault_of}
 use Rattle.clap.specs.declared.error.kind.ErrorKind.{ErrorKind}
-use Rattle.vm_types.specs.State.{opened}
-use Rattle.vm_types.specs.Tree.{Tree}
+use Rattle.vm_types.specs.State.{Seen, opened}
 use Rattle.vm_disk.specs.Cached.{cached_state, inner_of}
-use Rattle.vm_disk.specs.Disk.{IsClean, State}
+use Rattle.vm_disk.specs.Disk.{IsClean, DiskState}
 use Rattle.vm_disk.specs.Moments.{Leaves, Throughout}
 use Rattle.vm_disk.specs.declared.cached.CachedDisk.{CachedDisk}
 use Rattle.vm_disk.specs.declared.disk.Disk.{Ghosts}
@@ -30,7 +29,7 @@ use Rattle.vm_cli.proofs.CachingLemmas.{keeps_below}
 use Rattle.vm_cli.proofs.SessionLemmas.{clean_leaves}
 
 -- a disk that was at most synced holds what it held
-pub synced_alone : (old new : State) → Throughout old new (IsAtMostSynced old.now) → new.now.contents ≡ old.now.contents
+pub synced_alone : (old new : DiskState) → Throughout old new (IsAtMostSynced old.now) → new.now.contents ≡ old.now.contents
 synced_alone old new moments = elim (at_end old new (IsAtMostSynced old.now) moments) [
   | inl same ↦ rw same refl
   | inr synced ↦ synced.same
@@ -84,36 +83,36 @@ module _ {D : Type 0} (members : Ghosts D) (cached : Ghosts (CachedDisk D member
           subst (λ (d : D). (members.state d).honest ≡ true) over.empty.inner below
 
   -- what a crash leaves at each moment, the commands so far keep
-  pub kept_told : IsClean (members.state found).now → (tree : Tree) → Shows (members.state found).now.contents tree
-      → Keeps (members.state found) (members.state back) (opened tree) (commands_told members cached served (opened tree)) (answers_told members cached served (opened tree))
-  kept_told clean tree shows = go served
+  pub kept_told : IsClean (members.state found).now → (seen : Seen) → Shows (members.state found).now.contents seen
+      → Keeps (members.state found) (members.state back) (opened seen) (commands_told members cached served (opened seen)) (answers_told members cached served (opened seen))
+  kept_told clean seen shows = go served
     where
       go : (served : IsServed members cached cache on found back exit input before after)
-          → Keeps (members.state found) (members.state back) (opened tree) (commands_told members cached served (opened tree)) (answers_told members cached served (opened tree))
-      go (inl served) = served.kept honest tree (clean_leaves (λ x. Shows x tree) (members.state found).now clean shows)
+          → Keeps (members.state found) (members.state back) (opened seen) (commands_told members cached served (opened seen)) (answers_told members cached served (opened seen))
+      go (inl served) = served.kept honest seen (clean_leaves (λ x. Shows x seen) (members.state found).now clean shows)
       go (inr over) =
-          let commands = commands_of (over.done.serves (opened tree)) in
-          let answers = answers_of (over.done.serves (opened tree)) in
+          let commands = commands_of (over.done.serves (opened seen)) in
+          let answers = answers_of (over.done.serves (opened seen)) in
           let last : (members.state (inner_of over.last)).honest ≡ true = subst (λ (d : D). (members.state d).honest ≡ true) over.given_back honest in
           let there : (cached.state over.last).honest ≡ true = rw (same over.last) last in
-          let leaves : Leaves (λ x. Shows x tree) (members.state (inner_of over.first)).now =
-          subst (λ (d : D). Leaves (λ x. Shows x tree) (members.state d).now) (sym over.empty.inner) (clean_leaves (λ x. Shows x tree) (members.state found).now clean shows) in
-          let above : Leaves (λ x. Shows x tree) (cached.state over.first).now = rw (same over.first) leaves in
-          let kept : Keeps (cached_state members.state over.first) (cached_state members.state over.last) (opened tree) commands answers =
-          subst (λ (t : State). Keeps (cached_state members.state over.first) t (opened tree) commands answers) (same over.last)
-          (subst (λ (t : State). Keeps t (cached.state over.last) (opened tree) commands answers) (same over.first) (over.done.kept there tree above)) in
-          let below = keeps_below members over.first over.last (opened tree) commands answers kept in
-          subst (λ (d : D). Keeps (members.state found) (members.state d) (opened tree) commands answers) (sym over.given_back)
-          (subst (λ (d : D). Keeps (members.state d) (members.state (inner_of over.last)) (opened tree) commands answers) over.empty.inner below)
+          let leaves : Leaves (λ x. Shows x seen) (members.state (inner_of over.first)).now =
+          subst (λ (d : D). Leaves (λ x. Shows x seen) (members.state d).now) (sym over.empty.inner) (clean_leaves (λ x. Shows x seen) (members.state found).now clean shows) in
+          let above : Leaves (λ x. Shows x seen) (cached.state over.first).now = rw (same over.first) leaves in
+          let kept : Keeps (cached_state members.state over.first) (cached_state members.state over.last) (opened seen) commands answers =
+          subst (λ (t : DiskState). Keeps (cached_state members.state over.first) t (opened seen) commands answers) (same over.last)
+          (subst (λ (t : DiskState). Keeps t (cached.state over.last) (opened seen) commands answers) (same over.first) (over.done.kept there seen above)) in
+          let below = keeps_below members over.first over.last (opened seen) commands answers kept in
+          subst (λ (d : D). Keeps (members.state found) (members.state d) (opened seen) commands answers) (sym over.given_back)
+          (subst (λ (d : D). Keeps (members.state d) (members.state (inner_of over.last)) (opened seen) commands answers) over.empty.inner below)
 
 module _ {D : Type 0} (members : Ghosts D) (cached : Ghosts (CachedDisk D members)) (Untouched Reads Denied : Type 0) (words : List Text) (exit : Exit)
-    (old new : PlaceState) (input before after faults faults' : Option (List ℕ)) where
+    (old new : PlaceState) (input before after errors errors' : Option (List ℕ)) where
   -- what was done
   abbrev Did : Type 0
-  Did = Does members cached Untouched Reads Denied words exit old new input before after faults faults'
+  Did = Does members cached Untouched Reads Denied words exit old new input before after errors errors'
 
   -- a store was to be made
-  pub did_create : (name : Text) (blocks : ℕ) → IsJob words (create name blocks) → Makes members Denied name blocks exit old new before after faults faults' → Did
+  pub did_create : (name : Text) (blocks : ℕ) → IsJob words (create name blocks) → Makes members Denied name blocks exit old new before after errors errors' → Did
   did_create name blocks job makes = record {
     creates = λ other size asked. let same : create other size ≡ create name blocks = one_job words (create name blocks) (create other size) job asked in
         let name_is : other ≡ name = cc in
@@ -128,7 +127,7 @@ module _ {D : Type 0} (members : Ghosts D) (cached : Ghosts (CachedDisk D member
 
   -- lines were to be answered
   pub did_run : (name : Text) (cache : ℕ) (on : OnRefusal) → IsJob words (run name cache on)
-      → Answers members cached name cache on exit old new input before after ⊎ Declines members Denied name exit old new faults faults' → Did
+      → Answers members cached name cache on exit old new input before after ⊎ Declines members Denied name exit old new errors errors' → Did
   did_run name cache on job answers = record {
     creates = λ other size asked. let same : create other size ≡ run name cache on = one_job words (run name cache on) (create other size) job asked in absurd (cc);
     runs = λ other size refusal asked. let same : run other size refusal ≡ run name cache on = one_job words (run name cache on) (run other size refusal) job asked in
@@ -142,14 +141,14 @@ module _ {D : Type 0} (members : Ghosts D) (cached : Ghosts (CachedDisk D member
     none = λ no. absurd (no (run name cache on) job);
   }
     where
-      told : Answers members cached name cache on exit old new input before after ⊎ Declines members Denied name exit old new faults faults'
-          → Answers members cached name cache on exit old new input before after ⊎ (Declines members Denied name exit old new faults faults' ⊎ ((exit ≡ Stopped) × Untouched))
+      told : Answers members cached name cache on exit old new input before after ⊎ Declines members Denied name exit old new errors errors'
+          → Answers members cached name cache on exit old new input before after ⊎ (Declines members Denied name exit old new errors errors' ⊎ ((exit ≡ Stopped) × Untouched))
       told (inl answers) = inl answers
       told (inr declines) = inr (inl declines)
 
   -- lines that were given were to be answered
   pub did_lines : (name : Text) (lines : List ℕ) (cache : ℕ) (on : OnRefusal) → IsJob words (do_lines name lines cache on)
-      → Answers members cached name cache on exit old new (Some lines) before after ⊎ Declines members Denied name exit old new faults faults' → Did
+      → Answers members cached name cache on exit old new (Some lines) before after ⊎ Declines members Denied name exit old new errors errors' → Did
   did_lines name lines cache on job answers = record {
     creates = λ other size asked. let same : create other size ≡ do_lines name lines cache on = one_job words (do_lines name lines cache on) (create other size) job asked in absurd (cc);
     runs = λ other size refusal asked. let same : run other size refusal ≡ do_lines name lines cache on = one_job words (do_lines name lines cache on) (run other size refusal) job asked in absurd (cc);
@@ -164,14 +163,14 @@ module _ {D : Type 0} (members : Ghosts D) (cached : Ghosts (CachedDisk D member
     none = λ no. absurd (no (do_lines name lines cache on) job);
   }
     where
-      told : Answers members cached name cache on exit old new (Some lines) before after ⊎ Declines members Denied name exit old new faults faults'
-          → Answers members cached name cache on exit old new (Some lines) before after ⊎ (Declines members Denied name exit old new faults faults' ⊎ ((exit ≡ Stopped) × Untouched))
+      told : Answers members cached name cache on exit old new (Some lines) before after ⊎ Declines members Denied name exit old new errors errors'
+          → Answers members cached name cache on exit old new (Some lines) before after ⊎ (Declines members Denied name exit old new errors errors' ⊎ ((exit ≡ Stopped) × Untouched))
       told (inl answers) = inl answers
       told (inr declines) = inr (inl declines)
 
   -- a store was to be checked
   pub did_check : (name : Text) → IsJob words (check name) → Reads
-      → Counts members name exit old new before after ⊎ Declines members Denied name exit old new faults faults' → Did
+      → Counts members name exit old new before after ⊎ Declines members Denied name exit old new errors errors' → Did
   did_check name job reads counts = record {
     creates = λ other size asked. let same : create other size ≡ check name = one_job words (check name) (create other size) job asked in absurd (cc);
     runs = λ other cache on asked. let same : run other cache on ≡ check name = one_job words (check name) (run other cache on) job asked in absurd (cc);
@@ -183,14 +182,14 @@ module _ {D : Type 0} (members : Ghosts D) (cached : Ghosts (CachedDisk D member
     none = λ no. absurd (no (check name) job);
   }
     where
-      told : Counts members name exit old new before after ⊎ Declines members Denied name exit old new faults faults'
-          → Counts members name exit old new before after ⊎ (Declines members Denied name exit old new faults faults' ⊎ ((exit ≡ Stopped) × Untouched))
+      told : Counts members name exit old new before after ⊎ Declines members Denied name exit old new errors errors'
+          → Counts members name exit old new before after ⊎ (Declines members Denied name exit old new errors errors' ⊎ ((exit ≡ Stopped) × Untouched))
       told (inl counts) = inl counts
       told (inr declines) = inr (inl declines)
 
   -- a tree was to be drawn
   pub did_draw : (name : Text) → IsJob words (draw name) → Reads
-      → Draws members name exit old new before after ⊎ Declines members Denied name exit old new faults faults' → Did
+      → Draws members name exit old new before after ⊎ Declines members Denied name exit old new errors errors' → Did
   did_draw name job reads drawn = record {
     creates = λ other size asked. let same : create other size ≡ draw name = one_job words (draw name) (create other size) job asked in absurd (cc);
     runs = λ other cache on asked. let same : run other cache on ≡ draw name = one_job words (draw name) (run other cache on) job asked in absurd (cc);
@@ -202,8 +201,8 @@ module _ {D : Type 0} (members : Ghosts D) (cached : Ghosts (CachedDisk D member
     none = λ no. absurd (no (draw name) job);
   }
     where
-      told : Draws members name exit old new before after ⊎ Declines members Denied name exit old new faults faults'
-          → Draws members name exit old new before after ⊎ (Declines members Denied name exit old new faults faults' ⊎ ((exit ≡ Stopped) × Untouched))
+      told : Draws members name exit old new before after ⊎ Declines members Denied name exit old new errors errors'
+          → Draws members name exit old new before after ⊎ (Declines members Denied name exit old new errors errors' ⊎ ((exit ≡ Stopped) × Untouched))
       told (inl drawn) = inl drawn
       told (inr declines) = inr (inl declines)
 

@@ -5,25 +5,24 @@ use Rattle.vm_types.specs.declared.command.Command.{Command}
 use Rattle.vm_types.specs.declared.refusal.Refusal.{Refusal}
 use Rattle.vm_types.specs.declared.refusal.Refusal.TheVariants.{Device, Failed, Memory}
 use Rattle.vm_types.specs.State.{State}
-use Rattle.vm_disk.specs.Disk.{Goes}
 use Rattle.vm_store.specs.Running.{CarriesOut}
-use Rattle.vm_store.specs.Store.{Holds, has_failed}
+use Rattle.vm_store.specs.Store.{GrowsOn, Holds, has_failed}
 use Rattle.vm_store.specs.declared.store.Store.{Store}
 use Rattle.vm_cli.specs.Feeding.{HandlesRequest, Replied, Replies}
-use Rattle.vm_cli.specs.Reading.{Holds as HoldsLine, KindHolds, without_return}
+use Rattle.vm_cli.specs.Reading.{HoldsLine, KindHolds, without_return}
 use Rattle.vm_cli.specs.Replies.{ends_talk, reply_text}
 use Rattle.vm_cli.specs.Requests.{request_of}
 use Rattle.vm_cli.specs.Spaces.{words_of}
 use Rattle.vm_cli.specs.Talk.{Answered, AnsweredRequest, Done, Handled, HandlesLine, Meets, Passes, SaysFailed, Stood, Stops, answer_text, error_text}
-use Rattle.vm_cli.specs.declared.line.Kind.TheVariants.{Kept, Long}
-use Rattle.vm_cli.specs.declared.line.Line.{Line}
-use Rattle.vm_cli.specs.declared.reply.Reply.{Reply}
-use Rattle.vm_cli.specs.declared.reply.Reply.TheVariants as reply
-use Rattle.vm_cli.specs.declared.request.Request.{Request}
-use Rattle.vm_cli.specs.declared.request.Request.TheVariants as request
-use Rattle.vm_cli.specs.declared.writing.WriteFault.{WriteFault}
+use Rattle.vm_cli.specs.declared.lines.line.LineKind.TheVariants.{Kept, Long}
+use Rattle.vm_cli.specs.declared.lines.line.Line.{Line}
+use Rattle.vm_cli.specs.declared.answers.reply.Reply.{Reply}
+use Rattle.vm_cli.specs.declared.answers.reply.Reply.TheVariants as reply
+use Rattle.vm_cli.specs.declared.lines.request.Request.{Request}
+use Rattle.vm_cli.specs.declared.lines.request.Request.TheVariants as request
+use Rattle.vm_cli.specs.declared.answers.writing.WriteFault.{WriteFault}
 use Rattle.vm_cli.proofs.CarriedLemmas.{carries-nothing}
-use Rattle.vm_cli.proofs.PassLemmas.{failed_or, goes_any, never_both, passes_command, passes_left, passes_none}
+use Rattle.vm_cli.proofs.PassLemmas.{failed_or, grows_any, never_both, passes_command, passes_left, passes_none}
 
 -- a reply that is the whole answer
 pub replied_whole : (P : List ℕ → Bool → Type 0) (reply : Reply) (a : Option (List ℕ)) (rest : List ℕ) → rest ≡ [] → P (reply_text reply) (ends_talk reply) → Replied P reply a a rest
@@ -124,7 +123,7 @@ module _ {D : Type 0} {members : _} (old new : Store D members) (s : State) wher
 
 -- what `apply` promises of a command and its answer
 pub record Applied {D : Type 0} {members : _} (old new : Store D members) (s : State) (command : Command) (answer : Result Answer Refusal) : Type 0 where
-  pub any : Goes (answer ≡ Err Device) (members.state old.disk) (members.state new.disk)
+  pub any : GrowsOn (answer ≡ Err Device) old new
   pub refused : has_failed old ≡ true → answer ≡ Err Failed
   pub left : has_failed old ≡ true → new ≡ old
   pub carries : has_failed old ≡ false → CarriesOut old new s command answer
@@ -141,7 +140,7 @@ module _ {D : Type 0} {members : _} (old new : Store D members) (s : State) (com
           record {
             done = Some (command, answer);
             answers = inl (sound, last sound, (refl, carries, says));
-            passes = passes_command old new command answer (goes_any _ _ _ applied.any);
+            passes = passes_command old new command answer (grows_any _ _ _ applied.any);
             still = λ e. sym (last sound) ∙ e ∙ sym sound;
             holds = λ stood fine. carries.holds stood.honest stood.holds (λ device. never_both _ fine (carries.failed.1 device));
           }

@@ -8,19 +8,17 @@ use Rattle.vm_types.specs.declared.refusal.Refusal.{Refusal}
 use Rattle.vm_types.specs.declared.refusal.Refusal.TheVariants.{Device}
 use Rattle.vm_types.specs.Kept.{EndsInCommit, Kept, LeftBy, MayHaveHappened, committed_by}
 use Rattle.vm_types.specs.Moments.{KeptBetween}
-use Rattle.vm_types.specs.State.{State, after, next}
-use Rattle.vm_types.specs.Tree.{Tree}
+use Rattle.vm_types.specs.State.{Seen, State, after, committed_of, next, working_of}
 use Rattle.vm_types.proofs.KeptLemmas.{kept_call, kept_rest}
 use Rattle.vm_types.proofs.MomentsLemmas.{HasRun, HasRun-more, HasRun-none, KeptBetween-onward}
 use Rattle.vm_types.proofs.Runs.{after_fewer, after_more}
-use Rattle.vm_disk.specs.Disk as disk
-use Rattle.vm_disk.specs.Disk.{Contents, LeftAt, MayLeave, Medium, moment}
+use Rattle.vm_disk.specs.Disk.{Contents, DiskState, LeftAt, Medium, moment}
 use Rattle.vm_disk.specs.Moments.{Leaves, Throughout}
 use Rattle.vm_disk.proofs.MomentLemmas.{leaves_only, moment_rises, past_stays, started}
 use Rattle.vm_store.specs.Shown.{Shows}
 use Rattle.vm_cli.specs.Keeps.{Keeps}
 
-module _ {X : Type 0} (shows : X → Tree → Type 0) (s : State) where
+module _ {X : Type 0} (shows : X → Seen → Type 0) (s : State) where
   -- it is kept where no more may be left
   pub KeptBetween-past : (left left' : ℕ → X → Type 0) (before : List Command) (told : List (Result Answer Refusal)) (start : ℕ) (commands : List Command) (answers : List (Result Answer Refusal)) (end : ℕ)
       → KeptBetween shows left s before told start commands answers end
@@ -68,7 +66,7 @@ ok_told [] (suc n) answer e = cc
 ok_told (b ∷ answers) zero answer e = e
 ok_told (b ∷ answers) (suc n) answer e = ok_told answers n answer e
 
-module _ {X : Type 0} (shows : X → Tree → Type 0) (s : State) (commands : List Command) (answers : List (Result Answer Refusal)) (each : length commands ≡ suc (length answers)) where
+module _ {X : Type 0} (shows : X → Seen → Type 0) (s : State) (commands : List Command) (answers : List (Result Answer Refusal)) (each : length commands ≡ suc (length answers)) where
   few_told : (n : ℕ) → suc n ≤ length commands → length (take n commands) ≤ length answers
   few_told n within = let few : n ≤ length commands = omega (arith, within) in omega (arith, within, each, length-take-le n commands few)
 
@@ -80,7 +78,7 @@ module _ {X : Type 0} (shows : X → Tree → Type 0) (s : State) (commands : Li
   committed_told : (n : ℕ) → n ≤ length commands
       → committed_by s commands (answers ++ Err Device ∷ []) n ≡ committed_by s commands answers n
   committed_told zero within = refl
-  committed_told (suc n) within = ap (λ (t : State). t.working) (after_fewer s (take n commands) answers (Err Device ∷ []) (few_told n within))
+  committed_told (suc n) within = ap working_of (after_fewer s (take n commands) answers (Err Device ∷ []) (few_told n within))
 
   -- what was kept of a call without an answer is kept where the device failed in it
   pub kept_failed : (x : X) → Kept shows s commands answers x → Kept shows s commands (answers ++ Err Device ∷ []) x
@@ -93,25 +91,25 @@ module _ {X : Type 0} (shows : X → Tree → Type 0) (s : State) (commands : Li
   }
 
 -- what a disk holds is among what a crash may leave of it
-pub left_held : (now : disk.State) → LeftAt now (moment now) now.now.contents
+pub left_held : (now : DiskState) → LeftAt now (moment now) now.now.contents
 left_held now = inl (refl, record { least = now.now.within; most = omega arith; clean = λ n clean. refl })
 
--- the tree that a crash shows once a state is committed
+-- what a crash shows once a state is committed
 abbrev pub ShowsCommitted : State → Medium → Type 0
-ShowsCommitted s = Leaves (λ x. Shows x s.committed)
+ShowsCommitted s = Leaves (λ x. Shows x (committed_of s))
 
 -- the device failed in no command, and since the last of them a crash shows what is committed
-pub record Keeping (old now : disk.State) (s : State) (commands : List Command) (answers : List (Result Answer Refusal)) : Type 0 where
+pub record Keeping (old now : DiskState) (s : State) (commands : List Command) (answers : List (Result Answer Refusal)) : Type 0 where
   pub time : ℕ
   pub within : time ≤ moment now
   pub run : HasRun Shows (LeftAt now) s (moment old) commands answers (after s commands answers) time
   pub rest : (t : ℕ) (x : Contents) → time ≤ t → t ≤ moment now → LeftAt now t x
-      → Shows x (after s commands answers).committed
+      → Shows x (committed_of (after s commands answers))
 
 -- at first
-pub keeping_none : (old : disk.State) (s : State) → ShowsCommitted s old.now → Keeping old old s [] []
+pub keeping_none : (old : DiskState) (s : State) → ShowsCommitted s old.now → Keeping old old s [] []
 keeping_none old s shows =
-    let first : (t : ℕ) (x : Contents) → moment old ≤ t → LeftAt old t x → Shows x s.committed = leaves_only old old (λ x. Shows x s.committed) (started old (ShowsCommitted s) shows) in
+    let first : (t : ℕ) (x : Contents) → moment old ≤ t → LeftAt old t x → Shows x (committed_of s) = leaves_only old old (λ x. Shows x (committed_of s)) (started old (ShowsCommitted s) shows) in
     record {
       time = moment old;
       within = omega arith;
@@ -119,7 +117,7 @@ keeping_none old s shows =
       rest = λ t x from to was. first t x from was;
     }
 
-module _ (old mid : disk.State) (s : State) (commands : List Command) (answers : List (Result Answer Refusal)) (keeping : Keeping old mid s commands answers) where
+module _ (old mid : DiskState) (s : State) (commands : List Command) (answers : List (Result Answer Refusal)) (keeping : Keeping old mid s commands answers) where
   -- what is committed so far
   abbrev reached : State
   reached = after s commands answers
@@ -137,7 +135,7 @@ module _ (old mid : disk.State) (s : State) (commands : List Command) (answers :
       }
 
   -- a crash shows what is committed, also at each moment that comes to it
-  pub keeping_quiet : (new : disk.State) → Throughout mid new (ShowsCommitted reached) → Keeping old new s commands answers
+  pub keeping_quiet : (new : DiskState) → Throughout mid new (ShowsCommitted reached) → Keeping old new s commands answers
   keeping_quiet new quiet = record {
     time = keeping.time;
     within = le_trans keeping.within (moment_rises mid new _ quiet);
@@ -150,7 +148,7 @@ module _ (old mid : disk.State) (s : State) (commands : List Command) (answers :
   }
 
   -- one command more
-  module _ (new : disk.State) (c : Command) (a : Result Answer Refusal) (crash : Throughout mid new (Leaves (LeftBy Shows reached c))) where
+  module _ (new : DiskState) (c : Command) (a : Result Answer Refusal) (crash : Throughout mid new (Leaves (LeftBy Shows reached c))) where
     call_since : (t : ℕ) (x : Contents) → keeping.time ≤ t → LeftAt new t x → LeftBy Shows reached c x
     call_since t x from was =
         ⊎_elim

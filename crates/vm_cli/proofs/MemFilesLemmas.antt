@@ -11,12 +11,12 @@ use Rattle.std.specs.Ordering.{nat_cmp}
 use Rattle.std.specs.Result.{result_ok}
 use Rattle.std.specs.Str.{bytes_eq}
 use Rattle.std.specs.String.{string_cmp}
-use Rattle.vm_disk.specs.Disk.{IsClean, Medium, State, block}
+use Rattle.vm_disk.specs.Disk.{IsClean, Medium, DiskState, block}
 use Rattle.vm_disk.specs.Memory.{IsBlank, filled, memory_state}
 use Rattle.vm_disk.specs.declared.memory.MemDisk.{MemDisk}
 use Rattle.vm_cli.specs.MemFiles.{slot_contents, slot_state}
 use Rattle.vm_cli.specs.Places.{Creates, Finds, PlaceState, TakesBack}
-use Rattle.vm_cli.specs.declared.mem_files.Slot.{Slot}
+use Rattle.vm_cli.specs.declared.program.mem_files.Slot.{Slot}
 
 -- a crash that takes each block as it is keeps what a disk holds
 pub crash_keeps : (old new : Medium) → length new.contents ≡ length old.contents
@@ -73,7 +73,7 @@ module _ {Y : Type 0} (honest : Bool) (path : List ℕ) (old new : BTreeMap (Str
         }
 
     -- a disk was taken out of its slot, or none was there
-    pub finds : (was : Slot) → get_by_text old path ≡ Some was → slot_contents slot ≡ slot_contents was → (found : Option State)
+    pub finds : (was : Slot) → get_by_text old path ≡ Some was → slot_contents slot ≡ slot_contents was → (found : Option DiskState)
         → IfSome found (λ s. (s.now.contents ≡ slot_contents was) × IsClean s.now × (s.past ≡ []))
         → Finds path found (known old) (known new)
     finds was there same found told = record {
@@ -82,12 +82,12 @@ module _ {Y : Type 0} (honest : Bool) (path : List ℕ) (old new : BTreeMap (Str
       same = λ other. go_same other (bytes_eq path other) refl;
     }
       where
-        go : (found : Option State) → IfSome found (λ s. (s.now.contents ≡ slot_contents was) × IsClean s.now × (s.past ≡ []))
+        go : (found : Option DiskState) → IfSome found (λ s. (s.now.contents ≡ slot_contents was) × IsClean s.now × (s.past ≡ []))
             → IfSome found (λ s. s.honest ≡ true → (option_map slot_contents (get_by_text old path) ≡ Some s.now.contents) × IsClean s.now)
         go None told = tt
         go (Some s) told = λ honest. (ap (option_map slot_contents) there ∙ ap Some (sym told.0), told.1)
 
-        go_fresh : (found : Option State) → IfSome found (λ s. (s.now.contents ≡ slot_contents was) × IsClean s.now × (s.past ≡ [])) → IfSome found (λ s. s.past ≡ [])
+        go_fresh : (found : Option DiskState) → IfSome found (λ s. (s.now.contents ≡ slot_contents was) × IsClean s.now × (s.past ≡ [])) → IfSome found (λ s. s.past ≡ [])
         go_fresh None told = tt
         go_fresh (Some s) told = told.2
 

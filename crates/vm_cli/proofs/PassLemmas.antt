@@ -3,13 +3,14 @@ use Rattle.std.proofs.Common.{◌≡◌, ◌⊎◌, inl, inr, Bool, true, false,
 use Rattle.vm_types.specs.declared.answer.Answer.{Answer}
 use Rattle.vm_types.specs.declared.command.Command.{Command}
 use Rattle.vm_types.specs.declared.refusal.Refusal.{Refusal}
-use Rattle.vm_disk.specs.Disk as disk
-use Rattle.vm_disk.specs.Disk.{Goes}
+use Rattle.vm_disk.specs.Disk.{DiskState, Goes}
 use Rattle.vm_disk.specs.Moments.{OnlyReads}
 use Rattle.vm_disk.proofs.GoesLemmas.{goes_at, goes_nowhere, goes_then}
 use Rattle.vm_disk.proofs.MomentLemmas.{started}
-use Rattle.vm_store.specs.Store.{IsSameButDisk, has_failed}
+use Rattle.vm_store.specs.Growing.{Grows}
+use Rattle.vm_store.specs.Store.{GoesOn, GrowsOn, IsSameButDisk, has_failed}
 use Rattle.vm_store.specs.declared.store.Store.{Store}
+use Rattle.vm_store.proofs.LongerLemmas.{goes_grow}
 use Rattle.vm_cli.specs.Talk.{Failing, Passes}
 use Rattle.vm_cli.specs.declared.talk.ServeFault.{ServeFault}
 use Rattle.vm_cli.specs.declared.talk.ServeFault.TheVariants as fault
@@ -23,16 +24,31 @@ pub never_both : (b : Bool) → b ≡ false → b ≡ true → ⊥
 never_both b e f = cc
 
 -- whatever failed
-pub goes_any : (fails : Type 0) (old new : disk.State) → Goes fails old new → Goes ⊥ old new
+pub goes_any : (fails : Type 0) (old new : DiskState) → Goes fails old new → Goes ⊥ old new
 goes_any fails old new goes = goes_at fails ⊥ old new goes (λ no. absurd no)
 
 -- no call
-pub goes_none : (now : disk.State) → Goes ⊥ now now
+pub goes_none : (now : DiskState) → Goes ⊥ now now
 goes_none now = goes_nowhere ⊥ now now refl (λ no. no)
 
 -- further calls
-pub goes_both : (old mid new : disk.State) → Goes ⊥ old mid → Goes ⊥ mid new → Goes ⊥ old new
+pub goes_both : (old mid new : DiskState) → Goes ⊥ old mid → Goes ⊥ mid new → Goes ⊥ old new
 goes_both old mid new first second = goes_then ⊥ ⊥ ⊥ old mid new first second (λ no. no)
+
+-- the same where calls may make the disk longer
+pub grows_any : (fails : Type 0) (old new : DiskState) → Grows fails old new → Grows ⊥ old new
+grows_any fails old new grows = record { more_blocks = grows.more_blocks; earlier = grows.earlier; rising = grows.rising; fault = λ no. absurd no }
+
+pub grows_none : (now : DiskState) → Grows ⊥ now now
+grows_none now = goes_grow ⊥ now now (goes_none now)
+
+pub grows_both : (old mid new : DiskState) → Grows ⊥ old mid → Grows ⊥ mid new → Grows ⊥ old new
+grows_both old mid new first second = record {
+  more_blocks = omega (arith, first.more_blocks, second.more_blocks);
+  earlier = λ honest. first.earlier (second.earlier honest);
+  rising = omega (arith, first.rising, second.rising);
+  fault = λ no. absurd no;
+}
 
 module _ {D : Type 0} {members : _} where
   -- a store is as it was
@@ -52,25 +68,30 @@ module _ {D : Type 0} {members : _} where
   -- a store passes into itself
   pub passes_none : (store : Store D members) → Passes store store None
   passes_none store = record {
-    goes = goes_none (members.state store.disk);
+    goes = grows_none (members.state store.disk);
+    as_long = λ e. refl;
     reads = λ honest e. started (members.state store.disk) (λ m. m ≡ (members.state store.disk).now) refl;
     unchanged = λ e. same_store store;
   }
 
   -- into one that only read
-  pub passes_reads : (old new : Store D members) → Goes ⊥ (members.state old.disk) (members.state new.disk) → ((members.state new.disk).honest ≡ true → OnlyReads (members.state old.disk) (members.state new.disk)) → IsSameButDisk old new → Passes old new None
-  passes_reads old new goes reads unchanged = record { goes = goes; reads = λ honest e. reads honest; unchanged = λ e. unchanged }
+  pub passes_reads : (old new : Store D members) → GoesOn ⊥ old new → ((members.state new.disk).honest ≡ true → OnlyReads (members.state old.disk) (members.state new.disk)) → IsSameButDisk old new → Passes old new None
+  passes_reads old new goes reads unchanged = record { goes = goes_grow ⊥ _ _ goes; as_long = λ e. goes.same_blocks; reads = λ honest e. reads honest; unchanged = λ e. unchanged }
 
   -- into one that carried out a command
-  pub passes_command : (old new : Store D members) (command : Command) (answer : Result Answer Refusal) → Goes ⊥ (members.state old.disk) (members.state new.disk) → Passes old new (Some (command, answer))
-  passes_command old new command answer goes = record { goes = goes; reads = λ honest e. cc; unchanged = λ e. cc }
+  pub passes_command : (old new : Store D members) (command : Command) (answer : Result Answer Refusal) → GrowsOn ⊥ old new → Passes old new (Some (command, answer))
+  passes_command old new command answer goes = record { goes = goes; as_long = λ e. cc; reads = λ honest e. cc; unchanged = λ e. cc }
+
+  -- no command makes the disk longer
+  pub passes_goes : (old new : Store D members) → Passes old new None → GoesOn ⊥ old new
+  passes_goes old new passes = record { same_blocks = passes.as_long refl; earlier = passes.goes.earlier; rising = passes.goes.rising; fault = λ no. absurd no }
 
   -- into one that was left as it was
   pub passes_left : (old new : Store D members) → new ≡ old → Passes old new None
   passes_left old new same = subst (λ (t : Store D members). Passes old t None) (sym same) (passes_none old)
 
   -- the device failed later
-  pub failing_later : (old mid new : Store D members) → Goes ⊥ (members.state old.disk) (members.state mid.disk) → Failing mid new → Failing old new
+  pub failing_later : (old mid new : Store D members) → GrowsOn ⊥ old mid → Failing mid new → Failing old new
   failing_later old mid new goes failing = omega (arith, goes.rising, failing)
 
   -- a store that had failed is left as it was, and again
@@ -83,7 +104,7 @@ module _ {D : Type 0} {members : _} where
   abbrev pub EndsBy : Store D members → Store D members → ServeFault → Type 0
   EndsBy old new why = (why ≡ fault.Write) ⊎ ((why ≡ fault.Refused) ⊎ ((why ≡ fault.Store) × (has_failed new ≡ true) × Failing old new))
 
-  pub ends_later : (old mid new : Store D members) (why : ServeFault) → Goes ⊥ (members.state old.disk) (members.state mid.disk) → EndsBy mid new why → EndsBy old new why
+  pub ends_later : (old mid new : Store D members) (why : ServeFault) → GrowsOn ⊥ old mid → EndsBy mid new why → EndsBy old new why
   ends_later old mid new why goes (inl is) = inl is
   ends_later old mid new why goes (inr (inl is)) = inr (inl is)
   ends_later old mid new why goes (inr (inr (is, failed, failing))) = inr (inr (is, failed, failing_later old mid new goes failing))

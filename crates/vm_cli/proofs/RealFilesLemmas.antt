@@ -1,11 +1,11 @@
 -- The files of the system keep the rules of a place.
-use Rattle.std.proofs.Common.{◌≡◌, ◌≢◌, ℕ, Bool, true, false, List, [], ◌∷◌, Option, Some, None, IfSome, Result, Ok, Err, IfOk, map, replicate, reverse, option_map, refl, sym, ap, ◌∙◌, subst}
+use Rattle.std.proofs.Common.{◌≡◌, ◌≢◌, ℕ, Bool, true, false, List, [], ◌∷◌, Option, Some, None, IfSome, Result, Ok, Err, IfOk, replicate, reverse, option_map, refl, sym, ap, ◌∙◌, subst}
 use Rattle.std.proofs.lemmas.Bool.{and_parts}
 use Rattle.std.proofs.lemmas.Slice.Eq.{bytes_eq-Decides}
 use Rattle.std.specs.Result.{result_ok}
 use Rattle.std.specs.Str.{bytes_eq}
 use Rattle.std.specs.declared.snapshot.Snapshot.{Snapshot}
-use Rattle.vm_disk.specs.Disk.{Contents, IsClean, Medium, State}
+use Rattle.vm_disk.specs.Disk.{Contents, IsClean, Medium, DiskState}
 use Rattle.vm_disk.specs.File.{IsMade, IsOpened, IsOver, IsPart, IsZero, Part, file_blocks, file_of}
 use Rattle.vm_disk.specs.Positional.{FileState}
 use Rattle.vm_disk.specs.Past.{noted}
@@ -17,9 +17,9 @@ use Rattle.vm_disk.proofs.FileLemmas.{disk_file_is_honest, sure_is_clean}
 use Rattle.vm_cli.specs.Places.{Creates, Finds, PlaceState, TakesBack}
 use Rattle.vm_cli.specs.Progress.{file_below}
 use Rattle.vm_cli.specs.RealFiles.{blocks_held, came_after, files_after, honest_after, is_absent, is_as_left, real_disk, same_contents, whole_blocks}
-use Rattle.vm_cli.specs.declared.place.Event.{Event}
-use Rattle.vm_cli.specs.declared.progress.Watched.{Watched}
-use Rattle.vm_cli.specs.declared.place.Event.TheVariants.{Found, Made, Given}
+use Rattle.vm_cli.specs.declared.program.place.Event.{Event}
+use Rattle.vm_cli.specs.declared.program.progress.Watched.{Watched}
+use Rattle.vm_cli.specs.declared.program.place.Event.TheVariants.{Found, Made, Given}
 
 -- contents that are the same, block by block, are the same
 pub contents_are : (x y : Contents) → same_contents x y ≡ true → x ≡ y
@@ -48,7 +48,7 @@ not_there None e = refl
 not_there (Some x) e = absurd cc
 
 -- a file that was opened holds these blocks, and all of them last
-opened_clean : (bytes : List ℕ) (file : FileState) (s : State) → file ≡ fresh bytes → IsOpened file s → (s.now.contents ≡ whole_blocks bytes) × IsClean s.now
+opened_clean : (bytes : List ℕ) (file : FileState) (s : DiskState) → file ≡ fresh bytes → IsOpened file s → (s.now.contents ≡ whole_blocks bytes) × IsClean s.now
 opened_clean bytes file s is opened =
     let over : IsOpened (fresh bytes) s = rw is at opened in
     let held : s.now.contents ≡ file_blocks s.blocks bytes = ap (λ (m : Medium). m.contents) over.now in

@@ -1,12 +1,12 @@
 -- What a crash leaves from the moment at which a disk is found to that at which it comes back.
 use Rattle.std.proofs.Common.{◌≡◌, inl, inr, ℕ, Bool, true, false, List, [], length, Option, Result, Ok, Err, refl, sym, ap, ◌∙◌, subst, arith}
 use Rattle.std.proofs.lemmas.List.{ext_get_or}
-use Rattle.vm_types.specs.State.{State, opened}
-use Rattle.vm_types.specs.Tree.{Tree}
+use Rattle.vm_types.specs.State.{Seen, State, opened}
 use Rattle.vm_disk.specs.Disk as disk
-use Rattle.vm_disk.specs.Disk.{Contents, Goes, IsClean, MayLeave, Medium}
+use Rattle.vm_disk.specs.Disk.{Contents, DiskState, IsClean, MayLeave, Medium}
 use Rattle.vm_disk.specs.Moments.{Leaves, Throughout}
 use Rattle.vm_disk.proofs.MomentLemmas.{clean_sure, weaken}
+use Rattle.vm_store.specs.Growing.{Grows}
 use Rattle.vm_store.specs.Opening.{OpensAs}
 use Rattle.vm_store.specs.Refused.{IsAtMostSynced}
 use Rattle.vm_store.specs.Shown.{Shows}
@@ -43,34 +43,34 @@ synced_leaves P old m leaves (inr synced) = λ left may. leaves left record {
   clean = λ n clean. may.clean n (synced.clean n) ∙ ap (λ (x : Contents). disk.block x n) synced.same;
 }
 
--- a disk that is at most synced keeps the tree
-module _ (old new : disk.State) (tree : Tree) (leaves : Leaves (λ x. Shows x tree) old.now) (synced : Throughout old new (IsAtMostSynced old.now)) where
-  pub synced_keeping : Keeping old new (opened tree) [] []
+-- a disk that is at most synced keeps what it shows
+module _ (old new : DiskState) (seen : Seen) (leaves : Leaves (λ x. Shows x seen) old.now) (synced : Throughout old new (IsAtMostSynced old.now)) where
+  pub synced_keeping : Keeping old new (opened seen) [] []
   synced_keeping =
-      keeping_quiet old old (opened tree) [] [] (keeping_none old (opened tree) leaves) new
-      (weaken old new (IsAtMostSynced old.now) (Leaves (λ x. Shows x tree)) (λ m at_most. synced_leaves (λ x. Shows x tree) old.now m leaves at_most) synced)
+      keeping_quiet old old (opened seen) [] [] (keeping_none old (opened seen) leaves) new
+      (weaken old new (IsAtMostSynced old.now) (Leaves (λ x. Shows x seen)) (λ m at_most. synced_leaves (λ x. Shows x seen) old.now m leaves at_most) synced)
 
 -- and so does one on which lines were answered
-module _ {D : Type 0} {members : _} (old : disk.State) (first last : Store D members) (opens : (members.state first.disk).honest ≡ true → OpensAs old.now.contents first)
-    (synced : (members.state first.disk).honest ≡ true → Throughout old (members.state first.disk) (IsAtMostSynced old.now)) (well : has_failed first ≡ false) (goes : Goes ⊥ (members.state first.disk) (members.state last.disk)) where
+module _ {D : Type 0} {members : _} (old : DiskState) (first last : Store D members) (opens : (members.state first.disk).honest ≡ true → OpensAs old.now.contents first)
+    (synced : (members.state first.disk).honest ≡ true → Throughout old (members.state first.disk) (IsAtMostSynced old.now)) (well : has_failed first ≡ false) (goes : Grows ⊥ (members.state first.disk) (members.state last.disk)) where
   session_keeps : (on : OnRefusal) (result : Result Bool ServeFault) (before then known : Option (List ℕ)) (serves : (s : State) → Serves first last s on result before then known)
-      → (members.state last.disk).honest ≡ true → (tree : Tree) → Leaves (λ x. Shows x tree) old.now
-      → Keeps old (members.state last.disk) (opened tree) (commands_of (serves (opened tree))) (answers_of (serves (opened tree)))
-  session_keeps on result before then known serves honest tree leaves =
+      → (members.state last.disk).honest ≡ true → (seen : Seen) → Leaves (λ x. Shows x seen) old.now
+      → Keeps old (members.state last.disk) (opened seen) (commands_of (serves (opened seen))) (answers_of (serves (opened seen)))
+  session_keeps on result before then known serves honest seen leaves =
       let honest_first = goes.earlier honest in
       let at_first = opens honest_first in
-      let same : at_first.tree ≡ tree = shown_one old.now.contents at_first.tree tree at_first.shown (leaves_held (λ x. Shows x tree) old.now leaves) in
-      serves_keeps old (opened tree) first last (synced_keeping old (members.state first.disk) tree leaves (synced honest_first)) honest well
-      (subst (λ t. Holds first (opened t)) same at_first.holds) on result before then known (serves (opened tree))
+      let same : at_first.seen ≡ seen = shown_one old.now.contents at_first.seen seen at_first.shown (leaves_held (λ x. Shows x seen) old.now leaves) in
+      serves_keeps old (opened seen) first last (synced_keeping old (members.state first.disk) seen leaves (synced honest_first)) honest well
+      (subst (λ t. Holds first (opened t)) same at_first.holds) on result before then known (serves (opened seen))
 
   -- also on the disk that the store gives back
   pub session_kept : (on : OnRefusal) (result : Result Bool ServeFault) (before then known : Option (List ℕ)) (serves : (s : State) → Serves first last s on result before then known)
-      → (new : D) → new ≡ disk_of last → (members.state new).honest ≡ true → (tree : Tree)
-      → Leaves (λ x. Shows x tree) old.now
-      → Keeps old (members.state new) (opened tree) (commands_of (serves (opened tree))) (answers_of (serves (opened tree)))
-  session_kept on result before then known serves new given honest tree leaves =
-      subst (λ d. Keeps old (members.state d) (opened tree) (commands_of (serves (opened tree))) (answers_of (serves (opened tree)))) (sym given)
-      (session_keeps on result before then known serves (subst (λ d. (members.state d).honest ≡ true) given honest) tree leaves)
+      → (new : D) → new ≡ disk_of last → (members.state new).honest ≡ true → (seen : Seen)
+      → Leaves (λ x. Shows x seen) old.now
+      → Keeps old (members.state new) (opened seen) (commands_of (serves (opened seen))) (answers_of (serves (opened seen)))
+  session_kept on result before then known serves new given honest seen leaves =
+      subst (λ d. Keeps old (members.state d) (opened seen) (commands_of (serves (opened seen))) (answers_of (serves (opened seen)))) (sym given)
+      (session_keeps on result before then known serves (subst (λ d. (members.state d).honest ≡ true) given honest) seen leaves)
 
 -- how the program may end after a talk
 pub may_end : {D : Type 0} {members : _} (first last : Store D members) (s : State) (on : OnRefusal) (result : Result Bool ServeFault) (before then known : Option (List ℕ)) → Serves first last s on result before then known

@@ -14,13 +14,14 @@ use Rattle.vm_store.specs.declared.store.Store.{Store}
 use Rattle.vm_cli.specs.Drawing.{Branch, branch_of, branches_of, numbers}
 use Rattle.vm_cli.specs.Talk.{Passes}
 use Rattle.vm_cli.proofs.CountingLemmas.{entry, its_own, listed_all, nothing, within}
-use Rattle.vm_cli.proofs.PassLemmas.{goes_both}
+use Rattle.vm_cli.proofs.PassLemmas.{grows_both}
 
 module _ {D : Type 0} {members : _} where
   -- one query after another
   pub passes_both : (old mid new : Store D members) → Passes old mid None → Passes mid new None → Passes old new None
   passes_both old mid new first second = record {
-    goes = goes_both _ _ _ first.goes second.goes;
+    goes = grows_both _ _ _ first.goes second.goes;
+    as_long = λ e. second.as_long e ∙ first.as_long e;
     reads = λ honest e. reads_then _ _ _ (first.reads (second.goes.earlier honest) e) (second.reads honest e);
     unchanged = λ e.
         let a = first.unchanged e in

@@ -5,8 +5,7 @@ use Rattle.vm_types.specs.declared.command.Command.{Command}
 use Rattle.vm_types.specs.declared.refusal.Refusal.{Refusal}
 use Rattle.vm_types.specs.State.{State, after}
 use Rattle.vm_types.proofs.Runs.{after_more}
-use Rattle.vm_disk.specs.Disk as disk
-use Rattle.vm_disk.specs.Disk.{Medium}
+use Rattle.vm_disk.specs.Disk.{DiskState}
 use Rattle.vm_disk.proofs.MomentLemmas.{weaken}
 use Rattle.vm_store.specs.Running.{CarriesOut}
 use Rattle.vm_store.specs.Store.{Holds, has_failed}
@@ -17,8 +16,8 @@ use Rattle.vm_cli.specs.Reading.{without_return}
 use Rattle.vm_cli.specs.Requests.{request_of}
 use Rattle.vm_cli.specs.Spaces.{words_of}
 use Rattle.vm_cli.specs.Talk.{Answered, AnsweredRequest, Done, EndsTalk, HasTalked, Meets, Passes, Serves, Talks, after_line, with_answer, with_command}
-use Rattle.vm_cli.specs.declared.request.Request.{Request}
-use Rattle.vm_cli.specs.declared.request.Request.TheVariants as request
+use Rattle.vm_cli.specs.declared.lines.request.Request.{Request}
+use Rattle.vm_cli.specs.declared.lines.request.Request.TheVariants as request
 use Rattle.vm_cli.specs.declared.talk.OnRefusal.{OnRefusal}
 use Rattle.vm_cli.specs.declared.talk.ServeFault.{ServeFault}
 use Rattle.vm_cli.specs.declared.talk.ServeFault.TheVariants as fault
@@ -77,9 +76,9 @@ module _ {D : Type 0} {members : _} where
 
   -- before a command a crash shows what is committed
   stands_show : (store : Store D members) (s : State) → Holds store s → ShowsCommitted s (members.state store.disk).now
-  stands_show store s holds = rests_show (members.state store.disk).now store.blocks store.slot_b store.held store.committed.items store.working.items s holds
+  stands_show store s holds = rests_show (members.state store.disk).now store.blocks store.slot_b store.held store.committed store.working s holds
 
-  module _ (start : disk.State) (s : State) where
+  module _ (start : DiskState) (s : State) where
     -- the lines so far, up to this store
     abbrev SoFar : Store D members → List Command → List (Result Answer Refusal) → Type 0
     SoFar store commands answers = Keeping start (members.state store.disk) s commands answers

@@ -3,13 +3,13 @@ use Rattle.std.proofs.Common.{◌≡◌, ◌≢◌, ◌↔◌, ◌⊎◌, inl, i
 use Rattle.vm_types.specs.declared.answer.Answer.{Answer}
 use Rattle.vm_types.specs.declared.refusal.Refusal.{Refusal}
 use Rattle.vm_types.specs.declared.refusal.Refusal.TheVariants.{Device, Failed, Memory}
-use Rattle.vm_cli.specs.Carried.{Begins, Carries}
+use Rattle.vm_cli.specs.Carried.{WritesStart, Carries}
 use Rattle.vm_cli.specs.Feeding.{Replies}
 use Rattle.vm_cli.specs.Replies.{is_error, reply_text}
 use Rattle.vm_cli.specs.Talk.{SaysList, error_text, list_text, value_line}
-use Rattle.vm_cli.specs.declared.reply.Reply.{Reply}
-use Rattle.vm_cli.specs.declared.reply.Reply.TheVariants.{End}
-use Rattle.vm_cli.specs.declared.writing.WriteFault.{WriteFault}
+use Rattle.vm_cli.specs.declared.answers.reply.Reply.{Reply}
+use Rattle.vm_cli.specs.declared.answers.reply.Reply.TheVariants.{End}
+use Rattle.vm_cli.specs.declared.answers.writing.WriteFault.{WriteFault}
 use Rattle.vm_cli.proofs.CarriedLemmas.{begins-more}
 
 -- the answer to a command ends the talk just where the store has failed
@@ -41,7 +41,7 @@ plain_list line plain (x ∷ xs) count = ap is_error (append_assoc (line x) (fla
 -- a list is written as is due
 pub list_replies : {X : Type 0} (C : Type 0) (P : List ℕ → Bool → Type 0) (Fails : Type 0) (line : X → List ℕ) (items : List X) (due : Result (List X) Refusal) (r : Result Reply WriteFault) (a b : Option (List ℕ)) (rest : List ℕ)
     → ((x : X) (rest : List ℕ) → is_error (line x ++ rest) ≡ false) → ((text : List ℕ) → (C → SaysList Fails line due text) → P text false)
-    → (C → due ≡ Ok items) → IfOk r (λ reply. reply ≡ End (length items)) → OnOk r (Carries a b rest (flat_map line items)) → OnErr r (Begins a b (flat_map line items))
+    → (C → due ≡ Ok items) → IfOk r (λ reply. reply ≡ End (length items)) → OnOk r (Carries a b rest (flat_map line items)) → OnErr r (WritesStart a b (flat_map line items))
     → Replies P r a b rest
 list_replies C P Fails line items due (Ok reply) a b rest plain lift is ends carries begins = record {
   whole = flat_map line items;

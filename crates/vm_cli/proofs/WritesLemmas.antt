@@ -1,10 +1,10 @@
 -- How an answer is written.
 use Rattle.std.proofs.Common.{◌≡◌, ◌++◌, ◌∙◌, ℕ, Bool, true, false, List, Option, Ok, Err, refl, subst, sym}
 use Rattle.std.specs.Io.KnownBytes.{Appends}
-use Rattle.vm_cli.specs.Carried.{Begins, Carries}
+use Rattle.vm_cli.specs.Carried.{WritesStart, Carries}
 use Rattle.vm_cli.specs.Feeding.{Halted, Replied, Writes}
 use Rattle.vm_cli.specs.Replies.{ends_talk, is_error, reply_text}
-use Rattle.vm_cli.specs.declared.reply.Reply.{Reply}
+use Rattle.vm_cli.specs.declared.answers.reply.Reply.{Reply}
 use Rattle.vm_cli.specs.declared.talk.OnRefusal.{OnRefusal}
 use Rattle.vm_cli.specs.declared.talk.OnRefusal.TheVariants.{Stop}
 use Rattle.vm_cli.specs.declared.talk.ServeFault.TheVariants.{Refused, Store, Write}
@@ -23,7 +23,7 @@ module _ (on : OnRefusal) (P : List ℕ → Bool → Type 0) (a b : Option (List
     all p = carries-end a b c (rest ++ reply_text reply) (h.whole ++ reply_text reply) carried p
 
     -- it failed then
-    pub writes-begun : Begins b c (rest ++ reply_text reply) → Writes on P (Err Write) a c
+    pub writes-begun : WritesStart b c (rest ++ reply_text reply) → Writes on P (Err Write) a c
     writes-begun p = (h.whole ++ reply_text reply, ends_talk reply, h.says, begins-then a b c (rest ++ reply_text reply) (h.whole ++ reply_text reply) carried p)
 
     -- all was written

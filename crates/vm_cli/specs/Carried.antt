@@ -9,6 +9,6 @@ pub record Carries (before after : Option (List ℕ)) (rest whole : List ℕ) : 
   pub written : Appends before after sent
 
 -- the first bytes of a whole were written, and not more
-pub record Begins (before after : Option (List ℕ)) (whole : List ℕ) : Type 0 where
+pub record WritesStart (before after : Option (List ℕ)) (whole : List ℕ) : Type 0 where
   pub rest : List ℕ
   pub carries : Carries before after rest whole

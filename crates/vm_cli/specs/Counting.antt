@@ -19,6 +19,6 @@ module _ {D : Type 0} (members : Ghosts D) where
     pub store : Store D members
     pub over : (members.state (disk_of store)).now.contents ≡ x
     pub opens : OpensAs x store
-    pub alternatives_are : alternatives ≡ length opens.tree
-    pub checkpoints_are : checkpoints ≡ checkpoint_count opens.tree
+    pub alternatives_are : alternatives ≡ length opens.seen.tree
+    pub checkpoints_are : checkpoints ≡ checkpoint_count opens.seen.tree
     pub free_are : free ≡ spare_of opens.holds

@@ -8,7 +8,7 @@ use Rattle.clap.specs.declared.error.kind.ErrorKind.TheVariants.{DisplayHelp, Di
 use Rattle.vm_types.specs.Texts.{refusal_text}
 use Rattle.vm_types.specs.declared.refusal.Refusal.{Refusal}
 use Rattle.vm_types.specs.declared.refusal.Refusal.TheVariants.{AlreadyAStore, BadSize, Device}
-use Rattle.vm_cli.specs.Carried.{Begins}
+use Rattle.vm_cli.specs.Carried.{WritesStart}
 use Rattle.vm_cli.specs.Drawing.{Branch, drawing}
 use Rattle.vm_cli.specs.Words.{Wanted, altctl, asked_of}
 use Rattle.vm_cli.specs.Words.Wanted.{check, create, do_lines, draw, run}
@@ -90,7 +90,7 @@ IsNews words text =
     ⊎ (((file : Text) × (alternatives : ℕ) × (checkpoints : ℕ) × (free : ℕ) × IsJob words (check file) × (text ≡ check_text alternatives checkpoints free))
     ⊎ ((file : Text) × (branches : List Branch) × IsJob words (draw file) × (text ≡ drawing branches))))
 
--- a text for the faults: why a job was refused
+-- a text for the errors: why a job was refused
 abbrev pub IsRefusal : List Text → List ℕ → Type 0
 IsRefusal words text = (job : Wanted) × IsJob words job × SaysRefused job text
 
@@ -114,49 +114,49 @@ MayEnd on exit = (exit ≡ Done) ⊎ ((exit ≡ Stopped) ⊎ ((exit ≡ LineRefu
 
 -- a text was meant for a writer, with this end: it was written whole, or begun where the program stopped
 abbrev pub Tells : Exit → Exit → Option (List ℕ) → Option (List ℕ) → List ℕ → Type 0
-Tells meant exit before after text = ((exit ≡ meant) × Appends before after text) ⊎ ((exit ≡ Stopped) × Begins before after text)
+Tells meant exit before after text = ((exit ≡ meant) × Appends before after text) ⊎ ((exit ≡ Stopped) × WritesStart before after text)
 
--- a text for the faults was begun, and then it was begun to say that the program stopped
+-- a text for the errors was begun, and then it was begun to say that the program stopped
 abbrev pub IsCutShort : {F : Type 0} → (F → Option (List ℕ)) → List ℕ → F → F → Type 0
-IsCutShort {F} in_faults text faults faults' = (said : F) × Begins (in_faults faults) (in_faults said) text × Begins (in_faults said) (in_faults faults') stopped_text
+IsCutShort {F} in_errors text errors errors' = (said : F) × WritesStart (in_errors errors) (in_errors said) text × WritesStart (in_errors said) (in_errors errors') stopped_text
 
-module _ {W F : Type 0} (in_output : W → Option (List ℕ)) (in_faults : F → Option (List ℕ)) where
-  -- all was done: a text was written to the output, or lines were answered, and nothing was said to the faults
+module _ {W F : Type 0} (in_output : W → Option (List ℕ)) (in_errors : F → Option (List ℕ)) where
+  -- all was done: a text was written to the output, or lines were answered, and nothing was said to the errors
   abbrev pub IsDone : List Text → W → W → F → F → Type 0
-  IsDone words output output' faults faults' = (faults' ≡ faults) × (((text : List ℕ) × IsNews words text × Appends (in_output output) (in_output output') text) ⊎ AskLines words)
+  IsDone words output output' errors errors' = (errors' ≡ errors) × (((text : List ℕ) × IsNews words text × Appends (in_output output) (in_output output') text) ⊎ AskLines words)
 
-  -- lines were answered, and one was refused, which the words ask to be told: nothing was said to the faults
+  -- lines were answered, and one was refused, which the words ask to be told: nothing was said to the errors
   abbrev pub IsLineRefused : List Text → F → F → Type 0
-  IsLineRefused words faults faults' = (faults' ≡ faults) × AskTold words
+  IsLineRefused words errors errors' = (errors' ≡ errors) × AskTold words
 
-  -- the file was refused: the faults say so, and nothing was written to the output
+  -- the file was refused: the errors say so, and nothing was written to the output
   abbrev pub IsRefused : List Text → W → W → F → F → Type 0
-  IsRefused words output output' faults faults' = (output' ≡ output) × ((text : List ℕ) × IsRefusal words text × Appends (in_faults faults) (in_faults faults') text)
+  IsRefused words output output' errors errors' = (output' ≡ output) × ((text : List ℕ) × IsRefusal words text × Appends (in_errors errors) (in_errors errors') text)
 
-  -- the words were wrong: the faults say so, and nothing was written to the output
+  -- the words were wrong: the errors say so, and nothing was written to the output
   abbrev pub IsWrong : List Text → W → W → F → F → Type 0
-  IsWrong words output output' faults faults' = (output' ≡ output) × AreWrong words × ((text : List ℕ) × Appends (in_faults faults) (in_faults faults') text)
+  IsWrong words output output' errors errors' = (output' ≡ output) × AreWrong words × ((text : List ℕ) × Appends (in_errors errors) (in_errors errors') text)
 
   -- the program stopped with the output: a text for it was begun, or lines were answered, or memory was wanting
   abbrev pub StopsOutput : List Text → W → W → Type 0
-  StopsOutput words output output' = (output' ≡ output) ⊎ (((text : List ℕ) × IsNews words text × Begins (in_output output) (in_output output') text) ⊎ AskLines words)
+  StopsOutput words output output' = (output' ≡ output) ⊎ (((text : List ℕ) × IsNews words text × WritesStart (in_output output) (in_output output') text) ⊎ AskLines words)
 
-  -- the program stopped with the faults: a text for them was begun
-  abbrev pub StopsFaults : List Text → F → F → Type 0
-  StopsFaults words faults faults' = (text : List ℕ) × (IsRefusal words text ⊎ AreWrong words) × Begins (in_faults faults) (in_faults faults') text
+  -- the program stopped with the errors: a text for them was begun
+  abbrev pub StopsErrors : List Text → F → F → Type 0
+  StopsErrors words errors errors' = (text : List ℕ) × (IsRefusal words text ⊎ AreWrong words) × WritesStart (in_errors errors) (in_errors errors') text
 
   -- the program stopped, and hasn't said so yet
   abbrev pub Stops : List Text → W → W → F → F → Type 0
-  Stops words output output' faults faults' = ((faults' ≡ faults) × StopsOutput words output output') ⊎ ((output' ≡ output) × StopsFaults words faults faults')
+  Stops words output output' errors errors' = ((errors' ≡ errors) × StopsOutput words output output') ⊎ ((output' ≡ output) × StopsErrors words errors errors')
 
   -- the program stopped, and said so
   abbrev pub IsStopped : List Text → W → W → F → F → Type 0
-  IsStopped words output output' faults faults' = (said : F) × Stops words output output' faults said × Begins (in_faults said) (in_faults faults') stopped_text
+  IsStopped words output output' errors errors' = (said : F) × Stops words output output' errors said × WritesStart (in_errors said) (in_errors errors') stopped_text
 
   -- the end, before it is said that the program stopped
   abbrev pub Ends : Exit → List Text → W → W → F → F → Type 0
-  Ends Done words output output' faults faults' = IsDone words output output' faults faults'
-  Ends LineRefused words output output' faults faults' = IsLineRefused words faults faults'
-  Ends Refused words output output' faults faults' = IsRefused words output output' faults faults'
-  Ends WrongWords words output output' faults faults' = IsWrong words output output' faults faults'
-  Ends Stopped words output output' faults faults' = Stops words output output' faults faults'
+  Ends Done words output output' errors errors' = IsDone words output output' errors errors'
+  Ends LineRefused words output output' errors errors' = IsLineRefused words errors errors'
+  Ends Refused words output output' errors errors' = IsRefused words output output' errors errors'
+  Ends WrongWords words output output' errors errors' = IsWrong words output output' errors errors'
+  Ends Stopped words output output' errors errors' = Stops words output output' errors errors'

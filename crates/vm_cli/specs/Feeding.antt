@@ -1,19 +1,22 @@
 -- How a talk goes on inside: answers that are written in part, and bytes that are fed to it.
-use Rattle.std.specs.Prelude.{◌≡◌, ℕ, Bool, true, false, List, ◌++◌, Option, Result, Ok, Err}
+use Rattle.std.specs.Prelude.{◌≡◌, ◌≢◌, ℕ, Bool, true, false, List, [], ◌++◌, Option, Result, Ok, Err, flat_map, length}
 use Rattle.std.specs.Io.KnownBytes.{Appends}
 use Rattle.vm_types.specs.State.{State}
+use Rattle.vm_types.specs.declared.refusal.Refusal.{Refusal}
+use Rattle.vm_types.specs.declared.refusal.Refusal.TheVariants.{Failed}
 use Rattle.vm_store.specs.declared.store.Store.{Store}
-use Rattle.vm_cli.specs.Carried.{Begins, Carries}
+use Rattle.vm_cli.specs.Carried.{WritesStart, Carries}
 use Rattle.vm_cli.specs.Lines.{lines_of}
 use Rattle.vm_cli.specs.Replies.{ends_talk, is_error, reply_text}
-use Rattle.vm_cli.specs.Talk.{AnsweredRequest, Handled, HasTalked}
-use Rattle.vm_cli.specs.declared.reply.Reply.{Reply}
-use Rattle.vm_cli.specs.declared.request.Request.{Request}
+use Rattle.vm_cli.specs.Talk.{AnsweredRequest, Handled, HasTalked, error_text}
+use Rattle.vm_cli.specs.declared.answers.reply.Reply.{Reply}
+use Rattle.vm_cli.specs.declared.answers.reply.Reply.TheVariants.{End}
+use Rattle.vm_cli.specs.declared.lines.request.Request.{Request}
 use Rattle.vm_cli.specs.declared.talk.OnRefusal.{OnRefusal}
 use Rattle.vm_cli.specs.declared.talk.OnRefusal.TheVariants.{Stop}
 use Rattle.vm_cli.specs.declared.talk.ServeFault.{ServeFault}
 use Rattle.vm_cli.specs.declared.talk.ServeFault.TheVariants as fault
-use Rattle.vm_cli.specs.declared.writing.WriteFault.{WriteFault}
+use Rattle.vm_cli.specs.declared.answers.writing.WriteFault.{WriteFault}
 
 -- a reply ends an answer, and of what stands before it the rest is still to be written; `IsAnswer` tells of a text, and of whether
 -- the talk ends with it, if it is the answer. The answer is that the line was refused where the reply is
@@ -28,12 +31,30 @@ pub record Halted (IsAnswer : List ℕ → Bool → Type 0) (before after : Opti
   pub whole : List ℕ
   pub ends : Bool
   pub says : IsAnswer whole ends
-  pub begins : Begins before after whole
+  pub begins : WritesStart before after whole
 
 -- what a call that gives a reply did to the writer, which it may have failed
 abbrev pub Replies : (List ℕ → Bool → Type 0) → Result Reply WriteFault → Option (List ℕ) → Option (List ℕ) → List ℕ → Type 0
 Replies IsAnswer (Ok reply) before after rest = Replied IsAnswer reply before after rest
 Replies IsAnswer (Err fault) before after rest = Halted IsAnswer before after
+
+-- the reply says why there is no answer, and ends the talk just where the store had failed before
+pub record Refuses (refusal : Refusal) (reply : Reply) : Type 0 where
+  pub text : reply_text reply ≡ error_text refusal
+  pub last : refusal ≢ Failed → ends_talk reply ≡ false
+  pub failed : refusal ≡ Failed → ends_talk reply ≡ true
+
+-- lines, one after another
+abbrev pub joined : List (List ℕ) → List ℕ
+joined lines = flat_map (λ line. line) lines
+
+-- a list is answered by its lines and its end, of which the rest is still to be written, or by why there is none; what the writer
+-- has where it failed is a beginning of the lines
+abbrev pub ListReplied : {T : Type 0} → (T → List (List ℕ)) → Result T Refusal → Result Reply WriteFault → Option (List ℕ) → Option (List ℕ) → List ℕ → Type 0
+ListReplied lines (Ok list) (Ok reply) before after rest = (reply ≡ End (length (lines list))) × Carries before after rest (joined (lines list))
+ListReplied lines (Ok list) (Err fault) before after rest = WritesStart before after (joined (lines list))
+ListReplied lines (Err refusal) (Ok reply) before after rest = Refuses refusal reply × (after ≡ before) × (rest ≡ [])
+ListReplied lines (Err refusal) (Err fault) before after rest = ⊥
 
 -- an answer was written whole, and the talk goes on or ends with it; or a beginning of it, where the writer failed
 abbrev pub Writes : OnRefusal → (List ℕ → Bool → Type 0) → Result Bool ServeFault → Option (List ℕ) → Option (List ℕ) → Type 0
@@ -43,7 +64,7 @@ Writes on IsAnswer (Err fault.Read) before after = ⊥
 Writes on IsAnswer (Err fault.Store) before after = (text : List ℕ) × IsAnswer text true × Appends before after text
 Writes on IsAnswer (Err fault.Refused) before after =
     (text : List ℕ) × IsAnswer text false × (is_error text ≡ true) × (on ≡ Stop) × Appends before after text
-Writes on IsAnswer (Err fault.Write) before after = (text : List ℕ) × (ends : Bool) × IsAnswer text ends × Begins before after text
+Writes on IsAnswer (Err fault.Write) before after = (text : List ℕ) × (ends : Bool) × IsAnswer text ends × WritesStart before after text
 
 module _ {D : Type 0} {members : _} where
   -- a request was answered so

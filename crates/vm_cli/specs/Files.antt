@@ -2,8 +2,7 @@
 use Rattle.std.specs.Prelude.{◌≡◌, ◌⊎◌, ℕ, List, Option, Some, None, codes, replicate}
 use Rattle.clap.specs.Words.{Text}
 use Rattle.vm_types.specs.declared.refusal.Refusal.{Refusal}
-use Rattle.vm_types.specs.State.{opened}
-use Rattle.vm_types.specs.Tree.{Tree}
+use Rattle.vm_types.specs.State.{Seen, opened}
 use Rattle.vm_disk.specs.Disk.{Contents, IsClean, Medium}
 use Rattle.vm_disk.specs.Moments.{Throughout}
 use Rattle.vm_disk.specs.declared.cached.CachedDisk.{CachedDisk}
@@ -30,45 +29,45 @@ module _ {D : Type 0} (members : Ghosts D) where
   -- a disk of so many zero blocks was made, a store was to be made on it, and the file of this name holds what it held when it came back:
   -- at each moment it is as it was made, at most synced, or a crash shows at most the new store. The store was made, and that is told; or
   -- it is told why it was not, and that the device failed only where a call of this disk did
-  pub record LaysOut (name : List ℕ) (blocks : ℕ) (exit : Exit) (new : PlaceState) (before after faults faults' : Option (List ℕ)) : Type 0 where
+  pub record LaysOut (name : List ℕ) (blocks : ℕ) (exit : Exit) (new : PlaceState) (before after errors errors' : Option (List ℕ)) : Type 0 where
     pub start : D
     pub end : D
     pub zero : (members.state start).now.contents ≡ replicate blocks (replicate 4096 0)
     pub lent : WasLent name (members.state start) (members.state end) new
-    pub moments : Throughout (members.state start) (members.state end) (IsFormatting (members.state start).now)
+    pub moments : Throughout (members.state start) (members.state end) (IsFormatting blocks (members.state start).now)
     pub told : (HasMade (members.state start) (members.state end) blocks × Tells Done exit before after (created_text blocks))
         ⊎ ((refusal : Refusal) × MayRefuse refusal × HasMadeNone (members.state start) (members.state end) blocks refusal
-        × Tells Refused exit faults faults' (refused_text refusal))
+        × Tells Refused exit errors errors' (refused_text refusal))
 
   -- a file of this name was to be made, with a new store of so many blocks. `Denied` says that the place gave no disk; the last four are
-  -- the output before and after, and the faults
-  pub record Makes (Denied : Type 0) (name : List ℕ) (blocks : ℕ) (exit : Exit) (old new : PlaceState) (before after faults faults' : Option (List ℕ)) : Type 0 where
+  -- the output before and after, and the errors
+  pub record Makes (Denied : Type 0) (name : List ℕ) (blocks : ℕ) (exit : Exit) (old new : PlaceState) (before after errors errors' : Option (List ℕ)) : Type 0 where
     -- at Done there was none, and now it shows the new store
     pub made : exit ≡ Done → (old.files name ≡ None) × ((m : Medium) × (new.files name ≡ Some m.contents) × IsFormatted blocks m)
     -- there was none, and its disk was made, and laid out; or it is told that it could not be made
-    pub lays : ((old.files name ≡ None) × LaysOut name blocks exit new before after faults faults')
-        ⊎ (Denied × Tells Refused exit faults faults' (file_text (codes "altctl: cannot create ") name))
+    pub lays : ((old.files name ≡ None) × LaysOut name blocks exit new before after errors errors')
+        ⊎ (Denied × Tells Refused exit errors errors' (file_text (codes "altctl: cannot create ") name))
     -- a file that was there is as it was
     pub stays : (contents : Contents) → old.files name ≡ Some contents → new.files name ≡ Some contents
     pub others : KeepsOthers name old new
 
   -- the disk of the file of this name was found, it was refused for a reason that is told, and it was given back: that the device failed
   -- is told only where a call of this disk did, and at each moment it was as it was found, at most synced
-  pub record Refuses (name : List ℕ) (exit : Exit) (old new : PlaceState) (faults faults' : Option (List ℕ)) : Type 0 where
+  pub record Refuses (name : List ℕ) (exit : Exit) (old new : PlaceState) (errors errors' : Option (List ℕ)) : Type 0 where
     pub found : D
     pub back : D
     pub held : old.files name ≡ Some (members.state found).now.contents
     pub lent : WasLent name (members.state found) (members.state back) new
     pub refusal : Refusal
     pub refused : HasRefused (members.state found) (members.state back) refusal
-    pub told : Tells Refused exit faults faults' (refused_text refusal)
+    pub told : Tells Refused exit errors errors' (refused_text refusal)
 
   -- the store in the file of this name was to be served, counted or drawn, and no file changed: it is told that the place gave no disk, or why
   -- its disk was refused
-  pub record Declines (Denied : Type 0) (name : List ℕ) (exit : Exit) (old new : PlaceState) (faults faults' : Option (List ℕ)) : Type 0 where
+  pub record Declines (Denied : Type 0) (name : List ℕ) (exit : Exit) (old new : PlaceState) (errors errors' : Option (List ℕ)) : Type 0 where
     pub same : KeepsAll old new
-    pub told : (Denied × Tells Refused exit faults faults' (file_text (codes "altctl: cannot open ") name))
-        ⊎ Refuses name exit old new faults faults'
+    pub told : (Denied × Tells Refused exit errors errors' (file_text (codes "altctl: cannot open ") name))
+        ⊎ Refuses name exit old new errors errors'
 
   -- the store in the file of this name was counted, and no file changed: at each moment its disk was as it was found, at most synced,
   -- and the numbers are those of the tree that the file showed
@@ -91,9 +90,9 @@ module _ {D : Type 0} (members : Ghosts D) where
     pub back : D
     pub held : old.files name ≡ Some (members.state found).now.contents
     pub lent : WasLent name (members.state found) (members.state back) new
-    pub tree : Tree
-    pub shown : HasShown (members.state found) (members.state back) tree
-    pub told : Tells Done exit before after (tree_text tree)
+    pub seen : Seen
+    pub shown : HasShown (members.state found) (members.state back) seen
+    pub told : Tells Done exit before after (tree_text seen.tree)
 
 module _ {D : Type 0} (members : Ghosts D) (cached : Ghosts (CachedDisk D members)) where
   -- the lines of an input were answered over the file of this name, of which up to so many blocks stayed in memory
@@ -106,30 +105,30 @@ module _ {D : Type 0} (members : Ghosts D) (cached : Ghosts (CachedDisk D member
     pub clean : IsClean (members.state found).now
     pub lent : WasLent name (members.state found) (members.state back) new
     pub others : KeepsOthers name old new
-    -- where the file showed a tree, the commands go on from it: a crash at any moment leaves what those so far keep, and so does the
+    -- where the file showed something, the commands go on from it: a crash at any moment leaves what those so far keep, and so does the
     -- file at the end
-    pub kept : (tree : Tree) → Shows (members.state found).now.contents tree
-        → Keeps (members.state found) (members.state back) (opened tree)
-        (commands_told members cached served (opened tree)) (answers_told members cached served (opened tree))
+    pub kept : (seen : Seen) → Shows (members.state found).now.contents seen
+        → Keeps (members.state found) (members.state back) (opened seen)
+        (commands_told members cached served (opened seen)) (answers_told members cached served (opened seen))
 
   -- what a run of the program does to the files, where `Untouched` says that no call of the place was made, `Reads` that no file was made
   -- or opened to be written, and `Denied` that a call gave no disk. A job is left undone without a call only where the program stops, as
   -- where memory for the words is wanting
-  pub record Does (Untouched Reads Denied : Type 0) (words : List Text) (exit : Exit) (old new : PlaceState) (input before after faults faults' : Option (List ℕ)) : Type 0 where
+  pub record Does (Untouched Reads Denied : Type 0) (words : List Text) (exit : Exit) (old new : PlaceState) (input before after errors errors' : Option (List ℕ)) : Type 0 where
     -- words that ask for a new store make its file
     pub creates : (name : Text) (blocks : ℕ) → IsJob words (create name blocks)
-        → Makes members Denied name blocks exit old new before after faults faults' ⊎ ((exit ≡ Stopped) × Untouched)
+        → Makes members Denied name blocks exit old new before after errors errors' ⊎ ((exit ≡ Stopped) × Untouched)
     -- words that ask that lines are answered have them answered over the file, or it is said why not
     pub runs : (name : Text) (cache : ℕ) (on : OnRefusal) → IsJob words (run name cache on)
-        → Answers name cache on exit old new input before after ⊎ (Declines members Denied name exit old new faults faults' ⊎ ((exit ≡ Stopped) × Untouched))
+        → Answers name cache on exit old new input before after ⊎ (Declines members Denied name exit old new errors errors' ⊎ ((exit ≡ Stopped) × Untouched))
     -- so have words that give lines, whose input they are
     pub does : (name : Text) (lines : List ℕ) (cache : ℕ) (on : OnRefusal) → IsJob words (do_lines name lines cache on)
-        → Answers name cache on exit old new (Some lines) before after ⊎ (Declines members Denied name exit old new faults faults' ⊎ ((exit ≡ Stopped) × Untouched))
+        → Answers name cache on exit old new (Some lines) before after ⊎ (Declines members Denied name exit old new errors errors' ⊎ ((exit ≡ Stopped) × Untouched))
     -- words that ask for a check have the store in the file counted, or it is said why not; either way files are only read
     pub checks : (name : Text) → IsJob words (check name)
-        → Reads × (Counts members name exit old new before after ⊎ (Declines members Denied name exit old new faults faults' ⊎ ((exit ≡ Stopped) × Untouched)))
+        → Reads × (Counts members name exit old new before after ⊎ (Declines members Denied name exit old new errors errors' ⊎ ((exit ≡ Stopped) × Untouched)))
     -- words that ask for a drawing have the tree that the file showed drawn, or it is said why not; files are only read, too
     pub draws : (name : Text) → IsJob words (draw name)
-        → Reads × (Draws members name exit old new before after ⊎ (Declines members Denied name exit old new faults faults' ⊎ ((exit ≡ Stopped) × Untouched)))
+        → Reads × (Draws members name exit old new before after ⊎ (Declines members Denied name exit old new errors errors' ⊎ ((exit ≡ Stopped) × Untouched)))
     -- words that ask for no job touch no file
     pub none : ((job : Wanted) → IsJob words job → ⊥) → Untouched

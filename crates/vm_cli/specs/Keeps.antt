@@ -6,8 +6,7 @@ use Rattle.vm_types.specs.declared.refusal.Refusal.{Refusal}
 use Rattle.vm_types.specs.Kept.{Kept}
 use Rattle.vm_types.specs.Moments.{KeptThroughout}
 use Rattle.vm_types.specs.State.{State}
-use Rattle.vm_disk.specs.Disk as disk
-use Rattle.vm_disk.specs.Disk.{Contents, LeftAt, moment}
+use Rattle.vm_disk.specs.Disk.{Contents, DiskState, LeftAt, moment}
 use Rattle.vm_store.specs.Shown.{Shows}
 use Rattle.vm_store.specs.declared.store.Store.{Store}
 use Rattle.vm_cli.specs.Talk.{EndsTalk, Serves, with_answer, with_command}
@@ -16,8 +15,8 @@ use Rattle.vm_cli.specs.declared.talk.ServeFault.{ServeFault}
 use Rattle.vm_cli.specs.declared.talk.ServeFault.TheVariants as fault
 
 -- commands were answered so while the disk went from the one state to the other, and what a crash leaves at each moment of it shows
--- the committed tree after a beginning of them, which is empty or ends in a commit, and holds each commit acknowledged by then
-pub record Keeps (old new : disk.State) (s : State) (commands : List Command) (answers : List (Result Answer Refusal)) : Type 0 where
+-- what is committed after a beginning of them, which is empty or ends in a commit, and holds each commit acknowledged by then
+pub record Keeps (old new : DiskState) (s : State) (commands : List Command) (answers : List (Result Answer Refusal)) : Type 0 where
   -- the last command has ended
   pub time : ℕ
   pub within : time ≤ moment new

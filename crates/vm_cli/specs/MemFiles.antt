@@ -1,14 +1,14 @@
 -- What files in memory hold.
-use Rattle.std.specs.Prelude.{option_map}
+use Rattle.std.specs.Prelude.{ℕ, option_map}
 use Rattle.std.specs.BTreeMap.{get_by_text}
-use Rattle.vm_disk.specs.Disk.{Contents, State}
+use Rattle.vm_disk.specs.Disk.{Contents, DiskState}
 use Rattle.vm_disk.specs.Memory.{memory_state}
 use Rattle.vm_cli.specs.Places.{PlaceState}
-use Rattle.vm_cli.specs.declared.mem_files.MemFiles.{MemFiles}
-use Rattle.vm_cli.specs.declared.mem_files.Slot.{Slot}
+use Rattle.vm_cli.specs.declared.program.mem_files.MemFiles.{MemFiles}
+use Rattle.vm_cli.specs.declared.program.mem_files.Slot.{Slot}
 
 -- the disk of a file when it was made or came back last
-abbrev pub slot_state : Slot → State
+abbrev pub slot_state : Slot → DiskState
 slot_state slot = memory_state slot.held.value
 
 -- what a file holds, also while its disk is out
@@ -23,3 +23,7 @@ files_state place =
       files = λ name. option_map slot_contents (get_by_text place.slots name);
       came = λ name. option_map slot_state (get_by_text place.slots name);
     }
+
+-- for how many blocks a disk that is made has room, where it has no more of its own
+abbrev pub room_given : MemFiles → ℕ
+room_given place = place.room

@@ -1,7 +1,6 @@
 -- What is known of a place where disks are found by name, and what its calls do to it.
 use Rattle.std.specs.Prelude.{◌≡◌, ◌≢◌, ℕ, Bool, true, List, [], Option, Some, None, IfSome, replicate}
-use Rattle.vm_disk.specs.Disk.{Contents, IsClean}
-use Rattle.vm_disk.specs.Disk as disk
+use Rattle.vm_disk.specs.Disk.{Contents, DiskState, IsClean}
 
 -- what is known of a place
 pub record PlaceState : Type 0 where
@@ -10,14 +9,14 @@ pub record PlaceState : Type 0 where
   -- what the disk of this name holds; None where there is no such file
   pub files : List ℕ → Option Contents
   -- the disk of this name as it was when it came back last; None where none did
-  pub came : List ℕ → Option disk.State
+  pub came : List ℕ → Option DiskState
 
 -- all files but the one of this name are as they were
 abbrev pub KeepsOthers : List ℕ → PlaceState → PlaceState → Type 0
 KeepsOthers name old new = (other : List ℕ) → other ≢ name → new.files other ≡ old.files other
 
 -- a disk of so many zero blocks is made where there was no file of this name, and no moment of it is past; a file that was there stays as it was
-pub record Creates (name : List ℕ) (blocks : ℕ) (made : Option disk.State) (old new : PlaceState) : Type 0 where
+pub record Creates (name : List ℕ) (blocks : ℕ) (made : Option DiskState) (old new : PlaceState) : Type 0 where
   pub absent : IfSome made (λ s. old.files name ≡ None)
   pub zero : IfSome made (λ s. s.honest ≡ true → (s.blocks ≡ blocks) × (s.now.contents ≡ replicate blocks (replicate 4096 0)))
   pub fresh : IfSome made (λ s. s.past ≡ [])
@@ -25,13 +24,13 @@ pub record Creates (name : List ℕ) (blocks : ℕ) (made : Option disk.State) (
   pub others : KeepsOthers name old new
 
 -- the disk of this name is found as it was left, what it holds is lasting, and no moment of it is past; no file changes
-pub record Finds (name : List ℕ) (found : Option disk.State) (old new : PlaceState) : Type 0 where
+pub record Finds (name : List ℕ) (found : Option DiskState) (old new : PlaceState) : Type 0 where
   pub held : IfSome found (λ s. s.honest ≡ true → (old.files name ≡ Some s.now.contents) × IsClean s.now)
   pub fresh : IfSome found (λ s. s.past ≡ [])
   pub same : (other : List ℕ) → new.files other ≡ old.files other
 
 -- a disk comes back: the file of this name holds what the disk holds
-pub record TakesBack (name : List ℕ) (given : disk.State) (old new : PlaceState) : Type 0 where
+pub record TakesBack (name : List ℕ) (given : DiskState) (old new : PlaceState) : Type 0 where
   pub honest : given.honest ≡ true
   pub holds : new.files name ≡ Some given.now.contents
   pub came : new.came name ≡ Some given
@@ -39,7 +38,7 @@ pub record TakesBack (name : List ℕ) (given : disk.State) (old new : PlaceStat
 
 -- a disk was given out in the one state and came back in the other, under this name, and none came back later: it was given out without a
 -- past, so what it went through is all that is past of it now. The file holds what it holds
-pub record WasLent (name : List ℕ) (given back : disk.State) (new : PlaceState) : Type 0 where
+pub record WasLent (name : List ℕ) (given back : DiskState) (new : PlaceState) : Type 0 where
   pub fresh : given.past ≡ []
   pub honest : back.honest ≡ true
   pub holds : new.files name ≡ Some back.now.contents

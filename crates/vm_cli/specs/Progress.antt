@@ -1,6 +1,6 @@
 -- What lies below a file that is watched, and below a stream over which a line is cleared.
-use Rattle.vm_cli.specs.declared.progress.Cleared.{Cleared}
-use Rattle.vm_cli.specs.declared.progress.Watched.{Watched}
+use Rattle.vm_cli.specs.declared.program.progress.Cleared.{Cleared}
+use Rattle.vm_cli.specs.declared.program.progress.Watched.{Watched}
 
 -- the file that the calls are handed on to
 abbrev pub file_below : {F : Type 0} → Watched F → F

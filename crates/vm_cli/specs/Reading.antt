@@ -1,9 +1,9 @@
 -- A line that is being read.
 use Rattle.std.specs.Prelude.{◌≡◌, ◌<◌, ◌≤◌, ◌-◌, ◌==◌, ◌&&◌, ℕ, Bool, true, false, List, [], ◌∷◌, length, take, nat_lt, slice_index, if◌then◌else◌}
 use Rattle.vm_cli.specs.Lines.{IsPart}
-use Rattle.vm_cli.specs.declared.line.Kind.{Kind}
-use Rattle.vm_cli.specs.declared.line.Kind.TheVariants.{Kept, Long, NoMemory}
-use Rattle.vm_cli.specs.declared.line.Line.{Line}
+use Rattle.vm_cli.specs.declared.lines.line.LineKind.{LineKind}
+use Rattle.vm_cli.specs.declared.lines.line.LineKind.TheVariants.{Kept, Long, NoMemory}
+use Rattle.vm_cli.specs.declared.lines.line.Line.{Line}
 
 -- there are no bytes
 abbrev pub is_nil : List ℕ → Bool
@@ -11,13 +11,13 @@ is_nil [] = true
 is_nil (b ∷ bytes) = false
 
 -- a line's bytes are kept whole, or there are too many, or memory was refused
-abbrev pub KindHolds : Kind → List ℕ → List ℕ → Type 0
+abbrev pub KindHolds : LineKind → List ℕ → List ℕ → Type 0
 KindHolds Kept bytes part = (bytes ≡ part) × (length part ≤ 1048576)
 KindHolds Long bytes part = 1048576 < length part
 KindHolds NoMemory bytes part = Unit {0}
 
 -- the bytes of a line so far
-pub record Holds (line : Line) (part : List ℕ) : Type 0 where
+pub record HoldsLine (line : Line) (part : List ℕ) : Type 0 where
   pub unbroken : IsPart part
   pub kind : KindHolds line.kind line.bytes.items part
   pub empty : line.is_empty ≡ is_nil part

@@ -1,6 +1,6 @@
 -- What the files of the system hold, by what was done with them.
 use Rattle.std.specs.Prelude.{ℕ, ◌+◌, ◌-◌, ◌/◌, ◌^◌, ◌&&◌, min, Bool, true, false, List, [], ◌∷◌, Option, Some, None, if◌then◌else◌, length, reverse, bytes_eq, option_map}
-use Rattle.vm_disk.specs.Disk.{Contents, State}
+use Rattle.vm_disk.specs.Disk.{Contents, DiskState}
 use Rattle.vm_disk.specs.File.{file_blocks, file_of, file_state}
 use Rattle.vm_disk.specs.Past.{noted}
 use Rattle.vm_disk.specs.System.{is_read_alone, name_of, opening_of, system_state}
@@ -8,10 +8,10 @@ use Rattle.vm_disk.specs.declared.file.FileDisk.{FileDisk}
 use Rattle.vm_disk.specs.declared.system.SystemFile.{SystemFile}
 use Rattle.vm_cli.specs.Places.{PlaceState}
 use Rattle.vm_cli.specs.Progress.{file_below}
-use Rattle.vm_cli.specs.declared.place.Event.{Event}
-use Rattle.vm_cli.specs.declared.place.Event.TheVariants.{Found, Made, Missed, Given}
-use Rattle.vm_cli.specs.declared.place.RealFiles.{RealFiles}
-use Rattle.vm_cli.specs.declared.progress.Watched.{Watched}
+use Rattle.vm_cli.specs.declared.program.place.Event.{Event}
+use Rattle.vm_cli.specs.declared.program.place.Event.TheVariants.{Found, Made, Missed, Given}
+use Rattle.vm_cli.specs.declared.program.place.RealFiles.{RealFiles}
+use Rattle.vm_cli.specs.declared.program.progress.Watched.{Watched}
 
 -- the whole blocks of these bytes, as many as a disk may have
 abbrev pub whole_blocks : List ℕ → Contents
@@ -61,7 +61,7 @@ untouched held = record { honest = true; files = blocks_held held 0; came = λ n
 
 module _ {W : Type 0} (held : ℕ → List ℕ → Option (List ℕ)) (torn : ℕ → List ℕ → ℕ → List ℕ) where
   -- what is known of a file's disk
-  abbrev pub real_disk : FileDisk (Watched (SystemFile W)) → State
+  abbrev pub real_disk : FileDisk (Watched (SystemFile W)) → DiskState
   real_disk = file_state (λ file. system_state held torn (file_below file))
 
   -- the name of a disk's file
@@ -78,7 +78,7 @@ module _ {W : Type 0} (held : ℕ → List ℕ → Option (List ℕ)) (torn : �
   files_after (Given given disk ∷ events) name = if bytes_eq name (reverse (noted given)) then Some (real_disk disk.value).now.contents else files_after events name
 
   -- the disk of a name as it was when it came back last
-  abbrev pub came_after : List (Event W) → List ℕ → Option State
+  abbrev pub came_after : List (Event W) → List ℕ → Option DiskState
   came_after [] name = None
   came_after (Found file ∷ events) name = came_after events name
   came_after (Made file ∷ events) name = came_after events name

@@ -4,8 +4,8 @@ use Rattle.std.specs.Prelude.{◌++◌, ℕ, Bool, true, false, List, [], ◌∷
 use Rattle.std.specs.Str.{bytes_eq}
 use Rattle.vm_types.specs.Texts.{refusal_text}
 use Rattle.vm_cli.specs.Escapes.{value_text}
-use Rattle.vm_cli.specs.declared.reply.Reply.{Reply}
-use Rattle.vm_cli.specs.declared.reply.Reply.TheVariants.{Nothing, Done, Merged, Found, Free, End, Refused, Last, BadLine, LongLine}
+use Rattle.vm_cli.specs.declared.answers.reply.Reply.{Reply}
+use Rattle.vm_cli.specs.declared.answers.reply.Reply.TheVariants.{Nothing, Done, Merged, Found, Free, End, Refused, Last, BadLine, LongLine}
 
 -- the line of an answer, with the line feed (10) at its end
 abbrev pub reply_text : Reply → List ℕ

@@ -3,13 +3,13 @@ use Rattle.std.specs.Prelude.{◌≡◌, ◌==◌, ◌&&◌, ◌||◌, ℕ, Bool
 use Rattle.std.specs.List.{list_all}
 use Rattle.std.specs.Str.{bytes_eq}
 use Rattle.vm_types.specs.declared.command.Command.{Command}
-use Rattle.vm_types.specs.declared.command.Command.TheVariants.{New, NewAt, Drop, Put, Remove, Checkpoint, Uncheck, Back, Merge, Post, Commit, Reclaim}
+use Rattle.vm_types.specs.declared.command.Command.TheVariants.{New, NewAt, Drop, Put, Remove, Checkpoint, Uncheck, Back, Merge, Post, Commit, Reclaim, Grow}
 use Rattle.vm_types.specs.declared.key.Key.{Key}
 use Rattle.vm_cli.specs.Escapes.{value_of}
-use Rattle.vm_cli.specs.Numbers.{key_of}
+use Rattle.vm_cli.specs.Numbers.{key_of, number_of}
 use Rattle.vm_cli.specs.Settlements.{settled_of}
-use Rattle.vm_cli.specs.declared.request.Request.{Request}
-use Rattle.vm_cli.specs.declared.request.Request.TheVariants as request
+use Rattle.vm_cli.specs.declared.lines.request.Request.{Request}
+use Rattle.vm_cli.specs.declared.lines.request.Request.TheVariants as request
 
 -- a byte may stand in a name: an ASCII letter or digit, `_`, `-` or `.`
 abbrev pub is_name_byte : ℕ → Bool
@@ -48,6 +48,11 @@ put_of (alt ∷ table ∷ number ∷ value ∷ []) =
     option_and_then (λ a. option_and_then (λ k. option_map (λ v. Put a k v) (value_of value)) (key_of table number)) (name_of alt)
 put_of _ = None
 
+-- `grow BLOCKS`: a number that 32 bits hold
+abbrev pub grow_of : List (List ℕ) → Option Command
+grow_of (blocks ∷ []) = option_map Grow (number_of 4294967295 blocks)
+grow_of _ = None
+
 -- `merge ALT` and settlements
 abbrev pub merge_of : List (List ℕ) → Option Command
 merge_of [] = None
@@ -72,10 +77,11 @@ command_of verb words =
     else (if bytes_eq verb (codes "remove") then option_map (λ r. Remove r.0 r.1) (record_of words)
     else (if bytes_eq verb (codes "commit") then alone Commit words
     else (if bytes_eq verb (codes "reclaim") then alone Reclaim words
+    else (if bytes_eq verb (codes "grow") then grow_of words
     else (if bytes_eq verb (codes "drop") then option_map Drop (named_of words)
     else (if bytes_eq verb (codes "post") then option_map Post (named_of words)
     else (if bytes_eq verb (codes "new") then new_of words
-    else option_and_then (λ names. two_named verb names.0 names.1) (names_of words)))))))
+    else option_and_then (λ names. two_named verb names.0 names.1) (names_of words))))))))
 
 -- the query that the words after the first complete
 abbrev pub query_of : List ℕ → List (List ℕ) → Option Request
@@ -99,7 +105,7 @@ asked_by verb words =
     if bytes_eq verb (codes "merge") then option_map request.Command (merge_of words)
     else command_or (command_of verb words) (query_of verb words)
 
--- a merge with further words after its alternative: only such a line takes memory
+-- a merge with further words after its alternative: to read a line takes memory only where it is one
 abbrev pub IsLongMerge : List (List ℕ) → Type 0
 IsLongMerge (verb ∷ alt ∷ word ∷ words) = verb ≡ codes "merge"
 IsLongMerge _ = ⊥

@@ -2,13 +2,12 @@
 use Rattle.std.specs.Prelude.{◌≡◌, ◌↔◌, ℕ, Bool, List, true, false, Option, Result, Ok, Err}
 use Rattle.vm_types.specs.declared.refusal.Refusal.{Refusal}
 use Rattle.vm_types.specs.declared.refusal.Refusal.TheVariants.{AlreadyAStore, BadSize, Device}
-use Rattle.vm_types.specs.State.{State, opened}
-use Rattle.vm_types.specs.Tree.{Tree}
-use Rattle.vm_disk.specs.Disk as disk
-use Rattle.vm_disk.specs.Disk.{Goes, NoCalls}
+use Rattle.vm_types.specs.State.{Seen, State, committed_of, opened}
+use Rattle.vm_disk.specs.Disk.{DiskState, Goes, NoCalls}
 use Rattle.vm_disk.specs.Moments.{Leaves, Throughout}
 use Rattle.vm_disk.specs.declared.disk.Disk.{Ghosts}
 use Rattle.vm_store.specs.Formatting.{IsBadSize, IsFormatted}
+use Rattle.vm_store.specs.Growing.{Grows}
 use Rattle.vm_store.specs.Opening.{OpensAs}
 use Rattle.vm_store.specs.Refused.{IsAtMostSynced, IsNoStore, IsRefused, IsStore}
 use Rattle.vm_store.specs.Shown.{Shows}
@@ -38,14 +37,14 @@ end_of on (Err Refused) = LineRefused
 end_of on (Err fault) = Stopped
 
 -- a store of so many blocks was made where there was none, and is shown
-pub record HasMade (old new : disk.State) (blocks : ℕ) : Type 0 where
+pub record HasMade (old new : DiskState) (blocks : ℕ) : Type 0 where
   pub goes : Goes ⊥ old new
   pub none : new.honest ≡ true → IsNoStore old.now.contents
   pub shown : new.honest ≡ true → IsFormatted blocks new.now
 
 -- no store was made, for this reason, Device only where a call of this disk failed, and AlreadyAStore only where there is one: that stands
 -- as it was, and for a bad size no call was made
-pub record HasMadeNone (old new : disk.State) (blocks : ℕ) (refusal : Refusal) : Type 0 where
+pub record HasMadeNone (old new : DiskState) (blocks : ℕ) (refusal : Refusal) : Type 0 where
   pub goes : Goes (refusal ≡ Device) old new
   pub size : refusal ≡ BadSize ↔ IsBadSize blocks old.blocks
   pub untouched : refusal ≡ BadSize → NoCalls old new
@@ -54,15 +53,15 @@ pub record HasMadeNone (old new : disk.State) (blocks : ℕ) (refusal : Refusal)
 
 -- the disk was refused for this reason, Device only where a call of this disk failed, and at each moment nothing has changed, or all is
 -- synced
-pub record HasRefused (old new : disk.State) (refusal : Refusal) : Type 0 where
+pub record HasRefused (old new : DiskState) (refusal : Refusal) : Type 0 where
   pub goes : Goes (refusal ≡ Device) old new
   pub why : new.honest ≡ true → IsRefused old.now.contents refusal
   pub moments : new.honest ≡ true → Throughout old new (IsAtMostSynced old.now)
 
--- this disk was opened as one that shows this tree, and came back: at each moment nothing has changed, or all is synced
-pub record HasShown (old new : disk.State) (tree : Tree) : Type 0 where
+-- this disk was opened as one that shows this, and came back: at each moment nothing has changed, or all is synced
+pub record HasShown (old new : DiskState) (seen : Seen) : Type 0 where
   pub goes : Goes ⊥ old new
-  pub shown : Shows old.now.contents tree
+  pub shown : Shows old.now.contents seen
   pub moments : Throughout old new (IsAtMostSynced old.now)
 
 module _ {D : Type 0} (members : Ghosts D) where
@@ -80,18 +79,18 @@ module _ {D : Type 0} (members : Ghosts D) where
     pub last : Store D members
     pub served : Result Bool ServeFault
     pub found : Goes ⊥ (members.state old) (members.state first.disk)
-    pub goes : Goes ⊥ (members.state first.disk) (members.state new)
+    pub goes : Grows ⊥ (members.state first.disk) (members.state new)
     pub well : has_failed first ≡ false
     pub opens : (members.state first.disk).honest ≡ true → OpensAs (members.state old).now.contents first
     pub serves : (s : State) → Serves first last s on served before after input
     pub ends : exit ≡ end_of on served
     pub given_back : new ≡ disk_of last
     pub shown : (members.state new).honest ≡ true → has_failed last ≡ false → (s : State) → Holds last s
-        → Shows (members.state new).now.contents s.committed
+        → Shows (members.state new).now.contents (committed_of s)
     -- so does a crash after the talk
     pub left : (members.state new).honest ≡ true → has_failed last ≡ false → (s : State) → Holds last s
-        → Leaves (λ x. Shows x s.committed) (members.state new).now
-    -- where a crash before the opening leaves a tree, one at any moment since leaves what the commands so far keep
-    pub kept : (members.state new).honest ≡ true → (tree : Tree) → Leaves (λ x. Shows x tree) (members.state old).now
-        → Keeps (members.state old) (members.state new) (opened tree)
-        (commands_of (serves (opened tree))) (answers_of (serves (opened tree)))
+        → Leaves (λ x. Shows x (committed_of s)) (members.state new).now
+    -- where a crash before the opening leaves something shown, one at any moment since leaves what the commands so far keep
+    pub kept : (members.state new).honest ≡ true → (seen : Seen) → Leaves (λ x. Shows x seen) (members.state old).now
+        → Keeps (members.state old) (members.state new) (opened seen)
+        (commands_of (serves (opened seen))) (answers_of (serves (opened seen)))

@@ -9,24 +9,23 @@ use Rattle.vm_types.specs.declared.refusal.Refusal.{Refusal}
 use Rattle.vm_types.specs.declared.refusal.Refusal.TheVariants.{Device, Failed, Memory}
 use Rattle.vm_types.specs.Shape.{shape}
 use Rattle.vm_types.specs.State.{State, after, next}
-use Rattle.vm_disk.specs.Disk.{Goes}
 use Rattle.vm_disk.specs.Moments.{OnlyReads}
 use Rattle.vm_types.specs.Queries.{value_in}
 use Rattle.vm_types.specs.Queries.{changes_in, checkpoints_in, conflicts_in, records_in}
 use Rattle.vm_store.specs.Resting.{spare_of}
 use Rattle.vm_store.specs.Running.{CarriesOut}
-use Rattle.vm_store.specs.Store.{Holds, IsSameButDisk, free_of, has_failed}
+use Rattle.vm_store.specs.Store.{GrowsOn, Holds, IsSameButDisk, free_of, has_failed}
 use Rattle.vm_store.specs.declared.store.Store.{Store}
-use Rattle.vm_cli.specs.Carried.{Begins}
+use Rattle.vm_cli.specs.Carried.{WritesStart}
 use Rattle.vm_cli.specs.Lines.{lines_of}
 use Rattle.vm_cli.specs.Listings.{alternative_text, change_text, checkpoint_text, conflict_text, record_text}
 use Rattle.vm_cli.specs.Reading.{without_return}
 use Rattle.vm_cli.specs.Replies.{is_error, reply_text}
 use Rattle.vm_cli.specs.Requests.{request_of}
 use Rattle.vm_cli.specs.Spaces.{words_of}
-use Rattle.vm_cli.specs.declared.reply.Reply.TheVariants as reply
-use Rattle.vm_cli.specs.declared.request.Request.{Request}
-use Rattle.vm_cli.specs.declared.request.Request.TheVariants as request
+use Rattle.vm_cli.specs.declared.answers.reply.Reply.TheVariants as reply
+use Rattle.vm_cli.specs.declared.lines.request.Request.{Request}
+use Rattle.vm_cli.specs.declared.lines.request.Request.TheVariants as request
 use Rattle.vm_cli.specs.declared.talk.OnRefusal.{OnRefusal}
 use Rattle.vm_cli.specs.declared.talk.OnRefusal.TheVariants.{Stop}
 use Rattle.vm_cli.specs.declared.talk.ServeFault.{ServeFault}
@@ -109,10 +108,11 @@ module _ {D : Type 0} {members : _} where
     pub honest : (members.state new.disk).honest ≡ true
     pub holds : Holds old s
 
-  -- what a line did on any disk, and what it asked of the device: any but a command only read, and changed nothing of the store but
-  -- its disk
+  -- what a line did on any disk, and what it asked of the device: any but a command left the number of blocks, only read, and changed
+  -- nothing of the store but its disk
   pub record Passes (old new : Store D members) (done : Done) : Type 0 where
-    pub goes : Goes ⊥ (members.state old.disk) (members.state new.disk)
+    pub goes : GrowsOn ⊥ old new
+    pub as_long : done ≡ None → (members.state new.disk).blocks ≡ (members.state old.disk).blocks
     pub reads : (members.state new.disk).honest ≡ true → done ≡ None → OnlyReads (members.state old.disk) (members.state new.disk)
     pub unchanged : done ≡ None → IsSameButDisk old new
 
@@ -212,7 +212,7 @@ module _ {D : Type 0} {members : _} where
   ServesLines old new s on (Err fault.Store) before after all = (text : List ℕ) × EndsTalk old new s on true all text × Appends before after text
   ServesLines old new s on (Err fault.Refused) before after all =
       (text : List ℕ) × (ended : EndsTalk old new s on false all text) × (is_error ended.last ≡ true) × (on ≡ Stop) × Appends before after text
-  ServesLines old new s on (Err fault.Write) before after all = (text : List ℕ) × (ends : Bool) × EndsTalk old new s on ends all text × Begins before after text
+  ServesLines old new s on (Err fault.Write) before after all = (text : List ℕ) × (ends : Bool) × EndsTalk old new s on ends all text × WritesStart before after text
 
   -- a talk over some input, which is what the reader had to give, where that is known
   pub record Serves (old new : Store D members) (s : State) (on : OnRefusal) (result : Result Bool ServeFault) (before after : Option (List ℕ)) (known : Option (List ℕ)) : Type 0 where

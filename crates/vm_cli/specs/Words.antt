@@ -9,8 +9,8 @@ use Rattle.clap.specs.declared.builder.action.ArgAction.TheVariants.{Append, Set
 use Rattle.clap.specs.declared.builder.value_parser.ValueParser.TheVariants as vp
 use Rattle.vm_cli.specs.declared.talk.OnRefusal.{OnRefusal}
 use Rattle.vm_cli.specs.declared.talk.OnRefusal.TheVariants.{Ignore, Stop, Tell}
-use Rattle.vm_cli.specs.declared.task.Job.{Job}
-use Rattle.vm_cli.specs.declared.task.Job.TheVariants.{Check, Create, Do, Run, Tree}
+use Rattle.vm_cli.specs.declared.program.task.Job.{Job}
+use Rattle.vm_cli.specs.declared.program.task.Job.TheVariants.{Check, Create, Do, Run, Tree}
 use Rattle.vm_cli.specs.Given.{input_of}
 
 -- the name of a file, which has to be there

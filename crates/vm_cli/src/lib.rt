@@ -6,36 +6,16 @@
 //! to 4.
 #![tactic(auto)]
 
-mod caching;
-mod counting;
-mod drawing;
-mod escape;
-mod given;
-mod help;
-mod line;
-mod listing;
-mod mem_files;
-mod number;
-mod pieces;
-mod place;
+mod answers;
+mod lines;
 mod program;
-mod progress;
-mod reply;
-mod request;
-mod settlement;
-mod showing;
-mod surveying;
 mod talk;
-mod task;
-mod text;
-mod words;
-mod writing;
 
-pub use mem_files::MemFiles;
-pub use place::{Place, RealFiles};
+pub use program::mem_files::MemFiles;
+pub use program::place::{Place, RealFiles};
+pub use program::progress::{Cleared, Progress, Watched};
+pub use program::task::Job;
+pub use program::words::job;
 pub use program::{refuse_words, run_words, stop};
-pub use progress::{Cleared, Progress, Watched};
 pub use talk::{OnRefusal, ServeFault, serve};
-pub use task::Job;
 pub use vm_disk::FileDisk;
-pub use words::job;

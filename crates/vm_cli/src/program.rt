@@ -1,22 +1,35 @@
 //! All that the program does.
 
-use crate::caching::answer_lines_cached;
-use crate::counting::{Counts, count};
-use crate::place::Place;
-use crate::reply::push_refusal;
-use crate::showing::tree;
+pub mod caching;
+pub mod counting;
+pub mod drawing;
+pub mod given;
+pub mod help;
+pub mod mem_files;
+pub mod place;
+pub mod progress;
+pub mod showing;
+pub mod surveying;
+pub mod task;
+pub mod words;
+
+use crate::answers::reply::push_refusal;
+use crate::answers::text::Text;
+use crate::answers::writing::{WriteFault, flush, put_all};
 use crate::talk::{OnRefusal, ServeFault, serve};
-use crate::task::Job;
-use crate::text::Text;
-use crate::words::job;
-use crate::writing::{WriteFault, flush, put_all};
+use caching::answer_lines_cached;
 use clap::Error;
 use clap::error::ErrorKind;
+use counting::{Counts, count};
+use place::Place;
+use showing::tree;
 use std::alloc::Global;
 use std::io::{Read, Write};
+use task::Job;
 use vm_disk::{CachedDisk, Disk};
 use vm_store::{format, open};
 use vm_types::Refusal;
+use words::job;
 
 /// How the program ends.
 #[derive(Clone, Copy, Debug, PartialEq, Eq)]
@@ -52,7 +65,7 @@ ghost use Rattle.std.specs.Prelude.{◌≡◌, ◌≢◌, ◌+◌, ◌≤◌, �
 ghost use Rattle.std.specs.Io.KnownBytes.{Appends};
 ghost use Rattle.std.specs.String.{string_bytes};
 ghost use Rattle.clap.specs.Words.{kind_of};
-ghost use Rattle.vm_cli.specs.Carried.{Begins};
+ghost use Rattle.vm_cli.specs.Carried.{WritesStart};
 ghost use Rattle.vm_types.specs.declared.refusal.Refusal.{Refusal as RefusalValue};
 ghost use Rattle.vm_disk.specs.Moments.{Throughout};
 ghost use Rattle.vm_store.specs.Formatting.{IsFormatting};
@@ -69,73 +82,73 @@ pub fn run_words<P: Place, R: Read, W: Write, F: Write>(
     place: &mut P,
     input: &mut R,
     output: &mut W,
-    faults: &mut F,
+    errors: &mut F,
 ) -> u8
     ensures status { result ≤ 4 }
-    ensures done { result ≡ 0 → IsDone W.contents F.contents (map string_bytes words.now) output.old output.new faults.old faults.new }
-    ensures refused { result ≡ 1 → IsRefused W.contents F.contents (map string_bytes words.now) output.old output.new faults.old faults.new }
-    ensures wrong { result ≡ 2 → IsWrong W.contents F.contents (map string_bytes words.now) output.old output.new faults.old faults.new }
-    ensures stopped { result ≡ 3 → IsStopped W.contents F.contents (map string_bytes words.now) output.old output.new faults.old faults.new }
+    ensures done { result ≡ 0 → IsDone W.contents F.contents (map string_bytes words.now) output.old output.new errors.old errors.new }
+    ensures refused { result ≡ 1 → IsRefused W.contents F.contents (map string_bytes words.now) output.old output.new errors.old errors.new }
+    ensures wrong { result ≡ 2 → IsWrong W.contents F.contents (map string_bytes words.now) output.old output.new errors.old errors.new }
+    ensures stopped { result ≡ 3 → IsStopped W.contents F.contents (map string_bytes words.now) output.old output.new errors.old errors.new }
     ensures line_refused { result ≡ 4
-        → IsLineRefused W.contents F.contents (map string_bytes words.now) faults.old faults.new }
+        → IsLineRefused W.contents F.contents (map string_bytes words.now) errors.old errors.new }
     // As long as the place has kept its rules, and its disks theirs, the files are what the job makes of them. Where the program stopped
-    // that is said to the faults behind what the job said.
+    // that is said to the errors behind what the job said.
     ensures files { (P.state place.new).honest ≡ true
         → ((exit : Exit) × (said : F) × (result ≡ status_of exit)
-        × (exit ≢ Exit.Stopped → said ≡ faults.new)
+        × (exit ≢ Exit.Stopped → said ≡ errors.new)
         × Does P.D.Disk ⟦<CachedDisk<P::D> as Disk>⟧ (place.new ≡ place.old) (P.to_write place.new ≡ P.to_write place.old) (P.denied place.new ≡ P.denied place.old + 1) (map string_bytes words.now) exit (P.state place.old) (P.state place.new)
-        (R.remaining input.old) (W.contents output.old) (W.contents output.new) (F.contents faults.old) (F.contents said)) }
+        (R.remaining input.old) (W.contents output.old) (W.contents output.new) (F.contents errors.old) (F.contents said)) }
 {
-    match carry_out(alloc, words, place, input, output, faults) {
-        Exit::Stopped => stop(faults),
+    match do_job(alloc, words, place, input, output, errors) {
+        Exit::Stopped => stop(errors),
         exit => exit.status(),
     }
 }
 
 /// Says that one of the words is no text, and gives the exit status: 2, or 3 where that could not be
 /// said.
-pub fn refuse_words<F: Write>(faults: &mut F) -> u8
-    ensures { ((result ≡ 2) × Appends (F.contents faults.old) (F.contents faults.new) unreadable_text)
-        ⊎ ((result ≡ 3) × IsCutShort F.contents unreadable_text faults.old faults.new) }
+pub fn refuse_words<F: Write>(errors: &mut F) -> u8
+    ensures { ((result ≡ 2) × Appends (F.contents errors.old) (F.contents errors.new) unreadable_text)
+        ⊎ ((result ≡ 3) × IsCutShort F.contents unreadable_text errors.old errors.new) }
 {
-    match say(faults, b"altctl: the words are not UTF-8\n") {
+    match say(errors, b"altctl: the words are not UTF-8\n") {
         Ok(()) => 2,
-        Err(WriteFault) => stop(faults),
+        Err(WriteFault) => stop(errors),
     }
 }
 
 /// Says that the program stopped, where that can be said, and gives the exit status.
-pub fn stop<F: Write>(faults: &mut F) -> u8
+pub fn stop<F: Write>(errors: &mut F) -> u8
     ensures status { result ≡ 3 }
-    ensures said { Begins (F.contents faults.old) (F.contents faults.new) stopped_text }
+    ensures said { WritesStart (F.contents errors.old) (F.contents errors.new) stopped_text }
 {
-    let _ = say(faults, b"altctl: stopped\n");
+    let _ = say(errors, b"altctl: stopped\n");
     3
 }
 
 // Does what the words say. That the program stopped is still to be said.
-fn carry_out<P: Place, R: Read, W: Write, F: Write>(
+fn do_job<P: Place, R: Read, W: Write, F: Write>(
     alloc: Global,
     words: &[String],
     place: &mut P,
     input: &mut R,
     output: &mut W,
-    faults: &mut F,
+    errors: &mut F,
 ) -> Exit
-    ensures ends { Ends W.contents F.contents result (map string_bytes words.now) output.old output.new faults.old faults.new }
+    ensures ends { Ends W.contents F.contents result (map string_bytes words.now) output.old output.new errors.old errors.new }
     ensures files { (P.state place.new).honest ≡ true
         → Does P.D.Disk ⟦<CachedDisk<P::D> as Disk>⟧ (place.new ≡ place.old) (P.to_write place.new ≡ P.to_write place.old) (P.denied place.new ≡ P.denied place.old + 1) (map string_bytes words.now) result (P.state place.old) (P.state place.new)
-        (R.remaining input.old) (W.contents output.old) (W.contents output.new) (F.contents faults.old) (F.contents faults.new) }
+        (R.remaining input.old) (W.contents output.old) (W.contents output.new) (F.contents errors.old) (F.contents errors.new) }
 {
     match job(alloc, words) {
-        Ok(Job::Create { file, blocks }) => create(file, blocks, place, output, faults),
+        Ok(Job::Create { file, blocks }) => create(file, blocks, place, output, errors),
         Ok(
             Job::Run {
                 file,
                 cache,
                 on_refusal,
             },
-        ) => run(alloc, file, cache, on_refusal, place, input, output, faults),
+        ) => run(alloc, file, cache, on_refusal, place, input, output, errors),
         Ok(
             Job::Do {
                 file,
@@ -146,12 +159,12 @@ fn carry_out<P: Place, R: Read, W: Write, F: Write>(
         ) => {
             let mut lines = input.as_slice();
             run(
-                alloc, file, cache, on_refusal, place, &mut lines, output, faults,
+                alloc, file, cache, on_refusal, place, &mut lines, output, errors,
             )
         }
-        Ok(Job::Check { file }) => check(alloc, file, place, output, faults),
-        Ok(Job::Tree { file }) => tree(alloc, file, place, output, faults),
-        Err(error) => explain(alloc, &error, output, faults),
+        Ok(Job::Check { file }) => check(alloc, file, place, output, errors),
+        Ok(Job::Tree { file }) => tree(alloc, file, place, output, errors),
+        Err(error) => explain(alloc, &error, output, errors),
     }
 }
 
@@ -161,20 +174,20 @@ fn create<P: Place, W: Write, F: Write>(
     blocks: u32,
     place: &mut P,
     output: &mut W,
-    faults: &mut F,
+    errors: &mut F,
 ) -> Exit
-    ensures says { ((faults.new ≡ faults.old)
+    ensures says { ((errors.new ≡ errors.old)
         × Tells Exit.Done result (W.contents output.old) (W.contents output.new) (created_text blocks))
         ⊎ ((output.new ≡ output.old) × ((text : List ℕ) × SaysRefused (create_wanted file.now blocks) text
-        × Tells Exit.Refused result (F.contents faults.old) (F.contents faults.new) text)) }
+        × Tells Exit.Refused result (F.contents errors.old) (F.contents errors.new) text)) }
     ensures files { (P.state place.new).honest ≡ true
         → Makes P.D.Disk (P.denied place.new ≡ P.denied place.old + 1) file.now blocks result (P.state place.old) (P.state place.new)
-        (W.contents output.old) (W.contents output.new) (F.contents faults.old) (F.contents faults.new) }
+        (W.contents output.old) (W.contents output.new) (F.contents errors.old) (F.contents errors.new) }
 {
     let Some(disk) = place.create(file, blocks) else {
-        return no_file(b"altctl: cannot create ", file, faults);
+        return no_file(b"altctl: cannot create ", file, errors);
     };
-    let (exit, disk) = make_store(disk, blocks, output, faults);
+    let (exit, disk) = make_store(disk, blocks, output, errors);
     place.give_back(file, disk);
     exit
 }
@@ -184,20 +197,20 @@ fn make_store<D: Disk, W: Write, F: Write>(
     disk: D,
     blocks: u32,
     output: &mut W,
-    faults: &mut F,
+    errors: &mut F,
 ) -> (Exit, D)
     // On an honest disk the new store is shown; a store that was there stands as it was.
-    ensures made { ((faults.new ≡ faults.old) × HasMade (D.state disk) (D.state result.1) blocks
+    ensures made { ((errors.new ≡ errors.old) × HasMade (D.state disk) (D.state result.1) blocks
         × Tells Exit.Done result.0 (W.contents output.old) (W.contents output.new) (created_text blocks))
         ⊎ ((output.new ≡ output.old) × ((refusal : RefusalValue) × MayRefuse refusal × HasMadeNone (D.state disk) (D.state result.1) blocks refusal
-        × Tells Exit.Refused result.0 (F.contents faults.old) (F.contents faults.new) (refused_text refusal))) }
+        × Tells Exit.Refused result.0 (F.contents errors.old) (F.contents errors.new) (refused_text refusal))) }
     // At each moment nothing has changed, or all is synced; or there was no store, and a crash shows at most the new one.
     ensures moments { (D.state result.1).honest ≡ true
-        → Throughout (D.state disk) (D.state result.1) (IsFormatting (D.state disk).now) }
+        → Throughout (D.state disk) (D.state result.1) (IsFormatting blocks (D.state disk).now) }
 {
     match format(disk, blocks) {
         Ok(disk) => (created(blocks, output), disk),
-        Err((disk, refusal)) => (refused(&refusal, faults), disk),
+        Err((disk, refusal)) => (refused(&refusal, errors), disk),
     }
 }
 
@@ -210,20 +223,20 @@ fn run<P: Place, R: Read, W: Write, F: Write>(
     place: &mut P,
     input: &mut R,
     output: &mut W,
-    faults: &mut F,
+    errors: &mut F,
 ) -> Exit
-    ensures says { ((faults.new ≡ faults.old) × MayEnd on_refusal result)
+    ensures says { ((errors.new ≡ errors.old) × MayEnd on_refusal result)
         ⊎ ((output.new ≡ output.old) × ((text : List ℕ) × SaysRefused (run_wanted file.now cache on_refusal) text
-        × Tells Exit.Refused result (F.contents faults.old) (F.contents faults.new) text)) }
+        × Tells Exit.Refused result (F.contents errors.old) (F.contents errors.new) text)) }
     ensures files { (P.state place.new).honest ≡ true
         → Answers P.D.Disk ⟦<CachedDisk<P::D> as Disk>⟧ file.now cache on_refusal result (P.state place.old) (P.state place.new)
         (R.remaining input.old) (W.contents output.old) (W.contents output.new)
-        ⊎ Declines P.D.Disk (P.denied place.new ≡ P.denied place.old + 1) file.now result (P.state place.old) (P.state place.new) (F.contents faults.old) (F.contents faults.new) }
+        ⊎ Declines P.D.Disk (P.denied place.new ≡ P.denied place.old + 1) file.now result (P.state place.old) (P.state place.new) (F.contents errors.old) (F.contents errors.new) }
 {
     let Some(disk) = place.find(file) else {
-        return no_file(b"altctl: cannot open ", file, faults);
+        return no_file(b"altctl: cannot open ", file, errors);
     };
-    let (exit, served) = answer_lines_cached(alloc, disk, cache, on_refusal, input, output, faults);
+    let (exit, served) = answer_lines_cached(alloc, disk, cache, on_refusal, input, output, errors);
     place.give_back(file, served);
     exit
 }
@@ -235,22 +248,22 @@ pub(crate) fn answer_lines<D: Disk, R: Read, W: Write, F: Write>(
     on_refusal: OnRefusal,
     input: &mut R,
     output: &mut W,
-    faults: &mut F,
+    errors: &mut F,
 ) -> (Exit, D)
-    ensures ends { ((faults.new ≡ faults.old) × MayEnd on_refusal result.0)
-        ⊎ ((output.new ≡ output.old) × ((refusal : RefusalValue) × Tells Exit.Refused result.0 (F.contents faults.old) (F.contents faults.new) (refused_text refusal))) }
+    ensures ends { ((errors.new ≡ errors.old) × MayEnd on_refusal result.0)
+        ⊎ ((output.new ≡ output.old) × ((refusal : RefusalValue) × Tells Exit.Refused result.0 (F.contents errors.old) (F.contents errors.new) (refused_text refusal))) }
     // As long as the disk is honest the lines are answered as `serve` promises, from what it shows, and a crash at any moment
     // leaves what the commands so far keep; or it is said why it shows no store, and it is at most synced.
     ensures served { HasServed D.Disk on_refusal disk result.1 result.0 (R.remaining input.old) (W.contents output.old) (W.contents output.new)
         ⊎ ((refusal : RefusalValue) × HasRefused (D.state disk) (D.state result.1) refusal
-        × Tells Exit.Refused result.0 (F.contents faults.old) (F.contents faults.new) (refused_text refusal)) }
+        × Tells Exit.Refused result.0 (F.contents errors.old) (F.contents errors.new) (refused_text refusal)) }
 {
     match open(alloc, disk) {
         Ok(mut store) => {
             let served = serve(alloc, input, output, &mut store, on_refusal);
             (end_of(on_refusal, &served), store.close())
         }
-        Err((disk, refusal)) => (refused(&refusal, faults), disk),
+        Err((disk, refusal)) => (refused(&refusal, errors), disk),
     }
 }
 
@@ -276,21 +289,21 @@ fn check<P: Place, W: Write, F: Write>(
     file: &str,
     place: &mut P,
     output: &mut W,
-    faults: &mut F,
+    errors: &mut F,
 ) -> Exit
-    ensures says { ((faults.new ≡ faults.old) × ((alternatives : ℕ) × (checkpoints : ℕ) × (free : ℕ)
+    ensures says { ((errors.new ≡ errors.old) × ((alternatives : ℕ) × (checkpoints : ℕ) × (free : ℕ)
         × Tells Exit.Done result (W.contents output.old) (W.contents output.new) (check_text alternatives checkpoints free)))
         ⊎ ((output.new ≡ output.old) × ((text : List ℕ) × SaysRefused (check_wanted file.now) text
-        × Tells Exit.Refused result (F.contents faults.old) (F.contents faults.new) text)) }
+        × Tells Exit.Refused result (F.contents errors.old) (F.contents errors.new) text)) }
     ensures reads { P.to_write place.new ≡ P.to_write place.old }
     ensures files { (P.state place.new).honest ≡ true
         → CountsFile P.D.Disk file.now result (P.state place.old) (P.state place.new) (W.contents output.old) (W.contents output.new)
-        ⊎ Declines P.D.Disk (P.denied place.new ≡ P.denied place.old + 1) file.now result (P.state place.old) (P.state place.new) (F.contents faults.old) (F.contents faults.new) }
+        ⊎ Declines P.D.Disk (P.denied place.new ≡ P.denied place.old + 1) file.now result (P.state place.old) (P.state place.new) (F.contents errors.old) (F.contents errors.new) }
 {
     let Some(disk) = place.look(file) else {
-        return no_file(b"altctl: cannot open ", file, faults);
+        return no_file(b"altctl: cannot open ", file, errors);
     };
-    let (exit, checked) = check_disk(alloc, disk, output, faults);
+    let (exit, checked) = check_disk(alloc, disk, output, errors);
     place.give_back(file, checked);
     exit
 }
@@ -300,18 +313,18 @@ fn check_disk<D: Disk, W: Write, F: Write>(
     alloc: Global,
     disk: D,
     output: &mut W,
-    faults: &mut F,
+    errors: &mut F,
 ) -> (Exit, D)
-    ensures ends { ((faults.new ≡ faults.old) × ((alternatives : ℕ) × (checkpoints : ℕ) × (free : ℕ)
+    ensures ends { ((errors.new ≡ errors.old) × ((alternatives : ℕ) × (checkpoints : ℕ) × (free : ℕ)
         × Tells Exit.Done result.0 (W.contents output.old) (W.contents output.new) (check_text alternatives checkpoints free)))
-        ⊎ ((output.new ≡ output.old) × ((refusal : RefusalValue) × Tells Exit.Refused result.0 (F.contents faults.old) (F.contents faults.new) (refused_text refusal))) }
+        ⊎ ((output.new ≡ output.old) × ((refusal : RefusalValue) × Tells Exit.Refused result.0 (F.contents errors.old) (F.contents errors.new) (refused_text refusal))) }
     // The numbers are those of the tree that the disk shows, or it is said why the disk was refused. At each moment nothing has changed,
     // or all is synced.
     ensures told { ((alternatives : ℕ) × (checkpoints : ℕ) × (free : ℕ)
         × HasCounted D.Disk disk result.1 alternatives checkpoints free
         × Tells Exit.Done result.0 (W.contents output.old) (W.contents output.new) (check_text alternatives checkpoints free))
         ⊎ ((refusal : RefusalValue) × HasRefused (D.state disk) (D.state result.1) refusal
-        × Tells Exit.Refused result.0 (F.contents faults.old) (F.contents faults.new) (refused_text refusal)) }
+        × Tells Exit.Refused result.0 (F.contents errors.old) (F.contents errors.new) (refused_text refusal)) }
 {
     match open(alloc, disk) {
         Ok(store) => {
@@ -319,10 +332,10 @@ fn check_disk<D: Disk, W: Write, F: Write>(
             let disk = store.close();
             match counts {
                 Ok(counts) => (counted(&counts, output), disk),
-                Err(refusal) => (refused(&refusal, faults), disk),
+                Err(refusal) => (refused(&refusal, errors), disk),
             }
         }
-        Err((disk, refusal)) => (refused(&refusal, faults), disk),
+        Err((disk, refusal)) => (refused(&refusal, errors), disk),
     }
 }
 
@@ -347,16 +360,16 @@ fn created<W: Write>(blocks: u32, output: &mut W) -> Exit
 }
 
 /// Says that a file could not be made or opened.
-pub(crate) fn no_file<F: Write>(what: &[u8], file: &str, faults: &mut F) -> Exit
-    ensures { Tells Exit.Refused result (F.contents faults.old) (F.contents faults.new) (file_text what.now file.now) }
+pub(crate) fn no_file<F: Write>(what: &[u8], file: &str, errors: &mut F) -> Exit
+    ensures { Tells Exit.Refused result (F.contents errors.old) (F.contents errors.new) (file_text what.now file.now) }
 {
-    unless_fault(say_with_file(what, file, faults), Exit::Refused)
+    unless_fault(say_with_file(what, file, errors), Exit::Refused)
 }
 
 // Writes a text and the name of a file as one line, and hands it on.
 fn say_with_file<W: Write>(what: &[u8], file: &str, writer: &mut W) -> Result<(), WriteFault>
     ensures ok { OnOk result (Appends (W.contents writer.old) (W.contents writer.new) (file_text what.now file.now)) }
-    ensures err { OnErr result (Begins (W.contents writer.old) (W.contents writer.new) (file_text what.now file.now)) }
+    ensures err { OnErr result (WritesStart (W.contents writer.old) (W.contents writer.new) (file_text what.now file.now)) }
 {
     put_all(writer, what)?;
     put_all(writer, file.as_bytes())?;
@@ -364,24 +377,24 @@ fn say_with_file<W: Write>(what: &[u8], file: &str, writer: &mut W) -> Result<()
 }
 
 /// Says why a disk is no store, or cannot become one.
-pub(crate) fn refused<F: Write>(refusal: &Refusal, faults: &mut F) -> Exit
-    ensures { Tells Exit.Refused result (F.contents faults.old) (F.contents faults.new) (refused_text refusal.now) }
+pub(crate) fn refused<F: Write>(refusal: &Refusal, errors: &mut F) -> Exit
+    ensures { Tells Exit.Refused result (F.contents errors.old) (F.contents errors.new) (refused_text refusal.now) }
 {
     let mut text = Text::new();
     text.push_bytes(b"altctl: ");
     push_refusal(&mut text, refusal);
     text.push(b'\n');
-    unless_fault(say(faults, text.as_bytes()), Exit::Refused)
+    unless_fault(say(errors, text.as_bytes()), Exit::Refused)
 }
 
 // Says what is wrong with the words, or gives the help that they ask for.
-fn explain<W: Write, F: Write>(alloc: Global, error: &Error, output: &mut W, faults: &mut F) -> Exit
+fn explain<W: Write, F: Write>(alloc: Global, error: &Error, output: &mut W, errors: &mut F) -> Exit
     ensures memory { kind_of error.now ≡ ErrorKind.OutOfMemory
-        → (result ≡ Exit.Stopped) × (output.new ≡ output.old) × (faults.new ≡ faults.old) }
-    ensures help { IsHelp (kind_of error.now) → (faults.new ≡ faults.old)
+        → (result ≡ Exit.Stopped) × (output.new ≡ output.old) × (errors.new ≡ errors.old) }
+    ensures help { IsHelp (kind_of error.now) → (errors.new ≡ errors.old)
         × ((text : List ℕ) × Tells Exit.Done result (W.contents output.old) (W.contents output.new) text) }
     ensures wrong { (¬ IsHelp (kind_of error.now)) → (output.new ≡ output.old)
-        × ((text : List ℕ) × Tells Exit.WrongWords result (F.contents faults.old) (F.contents faults.new) text) }
+        × ((text : List ℕ) × Tells Exit.WrongWords result (F.contents errors.old) (F.contents errors.new) text) }
 {
     if let ErrorKind::OutOfMemory = error.kind() {
         return Exit::Stopped;
@@ -390,7 +403,7 @@ fn explain<W: Write, F: Write>(alloc: Global, error: &Error, output: &mut W, fau
         return Exit::Stopped;
     };
     if error.use_stderr() {
-        return unless_fault(say(faults, text.as_bytes()), Exit::WrongWords);
+        return unless_fault(say(errors, text.as_bytes()), Exit::WrongWords);
     }
     unless_fault(say(output, text.as_bytes()), Exit::Done)
 }
@@ -398,7 +411,7 @@ fn explain<W: Write, F: Write>(alloc: Global, error: &Error, output: &mut W, fau
 /// Writes a text, and hands it on.
 pub(crate) fn say<W: Write>(writer: &mut W, text: &[u8]) -> Result<(), WriteFault>
     ensures ok { OnOk result (Appends (W.contents writer.old) (W.contents writer.new) text.now) }
-    ensures err { OnErr result (Begins (W.contents writer.old) (W.contents writer.new) text.now) }
+    ensures err { OnErr result (WritesStart (W.contents writer.old) (W.contents writer.new) text.now) }
 {
     put_all(writer, text)?;
     flush(writer)

@@ -1,21 +1,21 @@
 //! The talk: lines in, answers out.
 ghost use Rattle.std.specs.Prelude.{◌≡◌, ◌≢◌, ◌⊎◌, ◌+◌, ◌≤◌, ◌++◌, ◌∷◌, ℕ, List, [], length, true, false, Err, flat_map, IfErr, IfOk, OnErr, OnOk};
 ghost use Rattle.std.specs.Io.KnownBytes.{Appends, IsAtEnd};
-ghost use Rattle.vm_cli.specs.Carried.{Begins, Carries};
+ghost use Rattle.vm_cli.specs.Carried.{WritesStart, Carries};
 ghost use Rattle.vm_cli.specs.Feeding.{Fed, HandlesRequest, Replies, Writes};
 ghost use Rattle.vm_cli.specs.Lines.{IsPart, lines_of};
-ghost use Rattle.vm_cli.specs.Reading.{Holds as HoldsLine};
+ghost use Rattle.vm_cli.specs.Reading.{HoldsLine};
 ghost use Rattle.vm_cli.specs.Replies.{ends_talk, reply_text};
 ghost use Rattle.vm_cli.specs.Talk.{Failing, HandlesLine, Serves, ServesLines, answer_text, error_text};
-ghost use Rattle.vm_store.specs.Store.{Holds, has_failed, GoesOn};
+ghost use Rattle.vm_store.specs.Store.{Holds, has_failed, GoesOn, GrowsOn};
 ghost use Rattle.vm_types.specs.State.{State};
 
-use crate::line::{Kind, Line};
-use crate::listing::Listed;
-use crate::reply::Reply;
-use crate::request::{Request, read_request};
-use crate::text::Text;
-use crate::writing::{WriteFault, flush, put_all};
+use crate::answers::lists::reply_with_list;
+use crate::answers::reply::Reply;
+use crate::answers::text::Text;
+use crate::answers::writing::{WriteFault, flush, put_all};
+use crate::lines::line::{Line, LineKind};
+use crate::lines::request::{Request, read_request};
 use memchr::memchr;
 use std::alloc::{AllocError, Global};
 use std::io::{Read, Write};
@@ -23,9 +23,6 @@ use thiserror::Error;
 use vm_disk::Disk;
 use vm_store::Store;
 use vm_types::{Answer, Command, Key, Name, Refusal};
-
-/// No line of an answer has more bytes.
-const LONGEST_LINE: usize = 2304;
 
 /// What a line that is refused means, whose answer is an error.
 #[derive(Clone, Copy, Debug, PartialEq, Eq)]
@@ -69,7 +66,7 @@ pub fn serve<R: Read, W: Write, D: Disk>(
 
     // On any disk the talk ends with Store only where a device call failed in it, or the store had failed before; such a
     // store is left as it was.
-    ensures goes { GoesOn ⊥ store.old store.new }
+    ensures goes { GrowsOn ⊥ store.old store.new }
     ensures ok { has_failed store.old ≡ false → OnOk result (has_failed store.new ≡ false) }
     ensures err { has_failed store.old ≡ false
         → IfErr result (λ fault. fault ≡ ServeFault.Store
@@ -124,7 +121,7 @@ fn feed<W: Write, D: Disk>(
     store: &mut Store<D>,
     on_refusal: OnRefusal,
 ) -> Result<bool, ServeFault>
-    ensures goes { GoesOn ⊥ store.old store.new }
+    ensures goes { GrowsOn ⊥ store.old store.new }
     ensures ok { has_failed store.old ≡ false → OnOk result (has_failed store.new ≡ false) }
     ensures err { has_failed store.old ≡ false
         → IfErr result (λ fault. (fault ≡ ServeFault.Write)
@@ -165,7 +162,7 @@ fn feed_line<W: Write, D: Disk>(
     on_refusal: OnRefusal,
 ) -> Result<bool, ServeFault>
     requires { IsPart bytes.now }
-    ensures goes { GoesOn ⊥ store.old store.new }
+    ensures goes { GrowsOn ⊥ store.old store.new }
     ensures ok { has_failed store.old ≡ false → OnOk result (has_failed store.new ≡ false) }
     ensures err { has_failed store.old ≡ false
         → IfErr result (λ fault. (fault ≡ ServeFault.Write)
@@ -201,7 +198,7 @@ fn answer<W: Write, D: Disk>(
     store: &mut Store<D>,
     on_refusal: OnRefusal,
 ) -> Result<bool, ServeFault>
-    ensures goes { GoesOn ⊥ store.old store.new }
+    ensures goes { GrowsOn ⊥ store.old store.new }
     ensures ok { has_failed store.old ≡ false → OnOk result (has_failed store.new ≡ false) }
     ensures err { has_failed store.old ≡ false
         → IfErr result (λ fault. (fault ≡ ServeFault.Write)
@@ -235,9 +232,9 @@ fn answer<W: Write, D: Disk>(
 
 // Writes what is left of an answer, with its last line.
 fn send<W: Write>(reply: Reply, text: &mut Text, writer: &mut W) -> Result<(), WriteFault>
-    requires { length text.old + 1024 ≤ 4096 }
+    requires { length text.old + 1024 ≤ 65536 }
     ensures ok { OnOk result (Appends (W.contents writer.old) (W.contents writer.new) (text.old ++ reply_text reply)) }
-    ensures err { OnErr result (Begins (W.contents writer.old) (W.contents writer.new) (text.old ++ reply_text reply)) }
+    ensures err { OnErr result (WritesStart (W.contents writer.old) (W.contents writer.new) (text.old ++ reply_text reply)) }
 {
     reply.push_onto(text);
     put_all(writer, text.as_bytes())?;
@@ -254,8 +251,8 @@ fn reply_to<W: Write, D: Disk>(
     store: &mut Store<D>,
 ) -> Result<Reply, WriteFault>
     requires { text.old ≡ [] }
-    ensures room { OnOk result (length text.new + 1024 ≤ 4096) }
-    ensures goes { GoesOn ⊥ store.old store.new }
+    ensures room { OnOk result (length text.new + 1024 ≤ 65536) }
+    ensures goes { GrowsOn ⊥ store.old store.new }
     ensures last { has_failed store.old ≡ false
         → IfOk result (λ reply. ends_talk reply ≡ has_failed store.new) }
     ensures failing { has_failed store.old ≡ false → has_failed store.new ≡ true
@@ -266,9 +263,9 @@ fn reply_to<W: Write, D: Disk>(
         → Replies (HandlesLine store.old store.new s part) result (W.contents writer.old) (W.contents writer.new) text.new }
 {
     match line.kind {
-        Kind::Long => Ok(Reply::LongLine),
-        Kind::NoMemory => Ok(Reply::Refused(Refusal::Memory)),
-        Kind::Kept => match read_request(alloc, line.text()) {
+        LineKind::Long => Ok(Reply::LongLine),
+        LineKind::NoMemory => Ok(Reply::Refused(Refusal::Memory)),
+        LineKind::Kept => match read_request(alloc, line.text()) {
             Ok(request) => reply_to_request(alloc, request, text, writer, store),
             Err(AllocError) => Ok(Reply::Refused(Refusal::Memory)),
         },
@@ -284,8 +281,8 @@ fn reply_to_request<W: Write, D: Disk>(
     store: &mut Store<D>,
 ) -> Result<Reply, WriteFault>
     requires { text.old ≡ [] }
-    ensures room { OnOk result (length text.new + 1024 ≤ 4096) }
-    ensures goes { GoesOn ⊥ store.old store.new }
+    ensures room { OnOk result (length text.new + 1024 ≤ 65536) }
+    ensures goes { GrowsOn ⊥ store.old store.new }
     ensures last { has_failed store.old ≡ false
         → IfOk result (λ reply. ends_talk reply ≡ has_failed store.new) }
     ensures failing { has_failed store.old ≡ false → has_failed store.new ≡ true
@@ -297,20 +294,22 @@ fn reply_to_request<W: Write, D: Disk>(
     match request {
         Request::Nothing => Ok(Reply::Nothing),
         Request::Bad => Ok(Reply::BadLine),
-        Request::Command(command) => Ok(carry_out(&command, store)),
+        Request::Command(command) => Ok(reply_to_command(&command, store)),
         Request::Get { alt, key } => Ok(get(&alt, key, store)),
         Request::Free => Ok(free(store)),
-        Request::List { alt } => list(alloc, &alt, text, writer, store),
-        Request::Alternatives => alternatives(alloc, text, writer, store),
-        Request::Checkpoints { alt } => checkpoints(alloc, &alt, text, writer, store),
-        Request::Changes { alt } => changes(alloc, &alt, text, writer, store),
-        Request::Conflicts { alt } => conflicts(alloc, &alt, text, writer, store),
+        Request::List { alt } => reply_with_list(store.list(alloc, &alt), text, writer),
+        Request::Alternatives => reply_with_list(store.alternatives(alloc), text, writer),
+        Request::Checkpoints { alt } => {
+            reply_with_list(store.checkpoints(alloc, &alt), text, writer)
+        }
+        Request::Changes { alt } => reply_with_list(store.changes(alloc, &alt), text, writer),
+        Request::Conflicts { alt } => reply_with_list(store.conflicts(alloc, &alt), text, writer),
     }
 }
 
 // Carries out a command. Where the device failed in it, the store carries out nothing more.
-fn carry_out<D: Disk>(command: &Command, store: &mut Store<D>) -> Reply
-    ensures goes { GoesOn ⊥ store.old store.new }
+fn reply_to_command<D: Disk>(command: &Command, store: &mut Store<D>) -> Reply
+    ensures goes { GrowsOn ⊥ store.old store.new }
     ensures last { has_failed store.old ≡ false → ends_talk result ≡ has_failed store.new }
     ensures failing { has_failed store.old ≡ false → has_failed store.new ≡ true
         → Failing store.old store.new }
@@ -333,7 +332,7 @@ fn answered(answer: Result<Answer, Refusal>) -> Reply
         Ok(Answer::Done) => Reply::Done,
         Ok(Answer::Merged(changes)) => Reply::Merged(changes),
         Err(Refusal::Device) => Reply::Last(Refusal::Device),
-        Err(refusal) => refused(refusal),
+        Err(refusal) => Reply::from_refusal(refusal),
     }
 }
 
@@ -348,7 +347,7 @@ fn get<D: Disk>(alt: &Name, key: Key, store: &mut Store<D>) -> Reply
 {
     match store.get(alt, key) {
         Ok(value) => Reply::Found(value),
-        Err(refusal) => refused(refusal),
+        Err(refusal) => Reply::from_refusal(refusal),
     }
 }
 
@@ -360,159 +359,6 @@ fn free<D: Disk>(store: &Store<D>) -> Reply
 {
     match store.free() {
         Ok(count) => Reply::Free(count),
-        Err(refusal) => refused(refusal),
+        Err(refusal) => Reply::from_refusal(refusal),
     }
-}
-
-// What is answered to a line that is refused, where the device didn't fail in a command.
-fn refused(refusal: Refusal) -> Reply
-    ensures text { reply_text result ≡ error_text refusal }
-    ensures last { refusal ≢ Refusal.Failed → ends_talk result ≡ false }
-    ensures failed { refusal ≡ Refusal.Failed → ends_talk result ≡ true }
-{
-    match refusal {
-        Refusal::Failed => Reply::Last(refusal),
-        _ => Reply::Refused(refusal),
-    }
-}
-
-// Answers a query for all records of an alternative.
-fn list<W: Write, D: Disk>(
-    alloc: Global,
-    alt: &Name,
-    text: &mut Text,
-    writer: &mut W,
-    store: &mut Store<D>,
-) -> Result<Reply, WriteFault>
-    requires { text.old ≡ [] }
-    ensures room { OnOk result (length text.new + 1024 ≤ 4096) }
-    ensures goes { GoesOn ⊥ store.old store.new }
-    ensures failed { has_failed store.new ≡ has_failed store.old }
-    ensures last { has_failed store.old ≡ false → IfOk result (λ reply. ends_talk reply ≡ false) }
-    ensures left { has_failed store.old ≡ true → store.new ≡ store.old }
-    ensures answer { (s : State)
-        → Replies (HandlesRequest store.old store.new s (Request.List alt.now)) result (W.contents writer.old) (W.contents writer.new) text.new }
-{
-    match store.list(alloc, alt) {
-        Ok(records) => write_list(&records, text, writer),
-        Err(refusal) => Ok(refused(refusal)),
-    }
-}
-
-// Answers a query for all alternatives.
-fn alternatives<W: Write, D: Disk>(
-    alloc: Global,
-    text: &mut Text,
-    writer: &mut W,
-    store: &Store<D>,
-) -> Result<Reply, WriteFault>
-    requires { text.old ≡ [] }
-    ensures room { OnOk result (length text.new + 1024 ≤ 4096) }
-    ensures last { has_failed store.now ≡ false → IfOk result (λ reply. ends_talk reply ≡ false) }
-    ensures answer { (s : State)
-        → Replies (HandlesRequest store.now store.now s Request.Alternatives) result (W.contents writer.old) (W.contents writer.new) text.new }
-{
-    match store.alternatives(alloc) {
-        Ok(alternatives) => write_list(&alternatives, text, writer),
-        Err(refusal) => Ok(refused(refusal)),
-    }
-}
-
-// Answers a query for the checkpoints of an alternative.
-fn checkpoints<W: Write, D: Disk>(
-    alloc: Global,
-    alt: &Name,
-    text: &mut Text,
-    writer: &mut W,
-    store: &Store<D>,
-) -> Result<Reply, WriteFault>
-    requires { text.old ≡ [] }
-    ensures room { OnOk result (length text.new + 1024 ≤ 4096) }
-    ensures last { has_failed store.now ≡ false → IfOk result (λ reply. ends_talk reply ≡ false) }
-    ensures answer { (s : State)
-        → Replies (HandlesRequest store.now store.now s (Request.Checkpoints alt.now)) result (W.contents writer.old) (W.contents writer.new) text.new }
-{
-    match store.checkpoints(alloc, alt) {
-        Ok(names) => write_list(&names, text, writer),
-        Err(refusal) => Ok(refused(refusal)),
-    }
-}
-
-// Answers a query for what changed in an alternative since its base.
-fn changes<W: Write, D: Disk>(
-    alloc: Global,
-    alt: &Name,
-    text: &mut Text,
-    writer: &mut W,
-    store: &mut Store<D>,
-) -> Result<Reply, WriteFault>
-    requires { text.old ≡ [] }
-    ensures room { OnOk result (length text.new + 1024 ≤ 4096) }
-    ensures goes { GoesOn ⊥ store.old store.new }
-    ensures failed { has_failed store.new ≡ has_failed store.old }
-    ensures last { has_failed store.old ≡ false → IfOk result (λ reply. ends_talk reply ≡ false) }
-    ensures left { has_failed store.old ≡ true → store.new ≡ store.old }
-    ensures answer { (s : State)
-        → Replies (HandlesRequest store.old store.new s (Request.Changes alt.now)) result (W.contents writer.old) (W.contents writer.new) text.new }
-{
-    match store.changes(alloc, alt) {
-        Ok(changes) => write_list(&changes, text, writer),
-        Err(refusal) => Ok(refused(refusal)),
-    }
-}
-
-// Answers a query for the conflicts of an alternative with its parent.
-fn conflicts<W: Write, D: Disk>(
-    alloc: Global,
-    alt: &Name,
-    text: &mut Text,
-    writer: &mut W,
-    store: &mut Store<D>,
-) -> Result<Reply, WriteFault>
-    requires { text.old ≡ [] }
-    ensures room { OnOk result (length text.new + 1024 ≤ 4096) }
-    ensures goes { GoesOn ⊥ store.old store.new }
-    ensures failed { has_failed store.new ≡ has_failed store.old }
-    ensures last { has_failed store.old ≡ false → IfOk result (λ reply. ends_talk reply ≡ false) }
-    ensures left { has_failed store.old ≡ true → store.new ≡ store.old }
-    ensures answer { (s : State)
-        → Replies (HandlesRequest store.old store.new s (Request.Conflicts alt.now)) result (W.contents writer.old) (W.contents writer.new) text.new }
-{
-    match store.conflicts(alloc, alt) {
-        Ok(conflicts) => write_list(&conflicts, text, writer),
-        Err(refusal) => Ok(refused(refusal)),
-    }
-}
-
-// Writes the lines of a list, but for what the text still has room for, and gives its end back.
-fn write_list<L: Listed, W: Write>(
-    list: &[L],
-    text: &mut Text,
-    writer: &mut W,
-) -> Result<Reply, WriteFault>
-    requires { text.old ≡ [] }
-    ensures room { OnOk result (length text.new + 1024 ≤ 4096) }
-    ensures reply { IfOk result (λ reply. reply ≡ Reply.End (length list.now)) }
-    ensures ok { OnOk result (Carries (W.contents writer.old) (W.contents writer.new) text.new (flat_map L.line list.now)) }
-    ensures err { OnErr result (Begins (W.contents writer.old) (W.contents writer.new) (flat_map L.line list.now)) }
-{
-    for listed in list {
-        make_room(text, writer)?;
-        listed.push_onto(text);
-    }
-    make_room(text, writer)?;
-    Ok(Reply::End(list.len()))
-}
-
-// Makes room for one more line, and writes what there is where that is too much.
-fn make_room<W: Write>(text: &mut Text, writer: &mut W) -> Result<(), WriteFault>
-    ensures room { OnOk result (length text.new + 2304 ≤ 4096) }
-    ensures ok { OnOk result (Carries (W.contents writer.old) (W.contents writer.new) text.new text.old) }
-    ensures err { OnErr result (Begins (W.contents writer.old) (W.contents writer.new) text.old) }
-{
-    if text.as_bytes().len() > Text::MAX_LEN - LONGEST_LINE {
-        put_all(writer, text.as_bytes())?;
-        text.clear();
-    }
-    Ok(())
 }

@@ -5,12 +5,11 @@ use Rattle.vm_types.specs.declared.key.Key.{Key}
 use Rattle.vm_types.specs.Places.{place, RisesFrom, places}
 use Rattle.vm_disk.specs.Disk.{Contents, block}
 use Rattle.vm_block.specs.Leaf.{Record}
-use Rattle.vm_block.specs.Tree.{Sizes, Begins, Children, Subtree}
+use Rattle.vm_block.specs.Tree.{Sizes, BeginsWith, Children, Subtree}
 use Rattle.vm_block.specs.declared.node.Child.{Child}
 use Rattle.vm_block.proofs.EachLemmas.{each_front, each_back, each_join}
-use Rattle.vm_block.proofs.FormLemmas.{leaf_or_node}
 use Rattle.vm_block.proofs.NodeLemmas.{node_one}
-use Rattle.vm_block.proofs.TreeLemmas.{subtree_one}
+use Rattle.vm_block.proofs.TreeLemmas.{holds_or_node, holds_some, subtree_one}
 use Rattle.vm_tree.specs.declared.root.Root.{Root}
 use Rattle.vm_tree.proofs.Rising.{Above, rises_front, rises_back, rises_above}
 use Rattle.vm_diff.specs.Walk.{Under}
@@ -21,7 +20,7 @@ abbrev pub Heads : ℕ → List Record → Type 0
 Heads p [] = ⊥
 Heads p (r ∷ rs) = place r.0 ≡ p
 
-heads_begin : (low : Key) (rs : List Record) → Begins low rs → Heads (place low) rs
+heads_begin : (low : Key) (rs : List Record) → BeginsWith low rs → Heads (place low) rs
 heads_begin low [] begins = absurd begins
 heads_begin low (r ∷ rs) begins = ap place begins
 
@@ -33,12 +32,12 @@ not_above : (p : ℕ) (rs : List Record) → Heads p rs → Above p rs → ⊥
 not_above p [] heads above = absurd heads
 not_above p (r ∷ rs) heads above = omega (arith, heads, above.0)
 
-pub heads_join : (low : Key) (first rest : List Record) → Begins low first → Heads (place low) (first ++ rest)
+pub heads_join : (low : Key) (first rest : List Record) → BeginsWith low first → Heads (place low) (first ++ rest)
 heads_join low [] rest begins = absurd begins
 heads_join low (r ∷ first) rest begins = ap place begins
 
 -- what comes after a part of rising records is above where they start
-pub heads_parts : (p : ℕ) (low : Key) (first rest : List Record) → Begins low first → Heads p (first ++ rest) → RisesFrom 0 (places (first ++ rest)) → Heads p first × Above p rest
+pub heads_parts : (p : ℕ) (low : Key) (first rest : List Record) → BeginsWith low first → Heads p (first ++ rest) → RisesFrom 0 (places (first ++ rest)) → Heads p first × Above p rest
 heads_parts p low [] rest begins heads rises = absurd begins
 heads_parts p low (r ∷ first) rest begins heads rises =
     (heads, rises_above p (place r.0 + 1) rest (omega (arith, heads)) (rises_back (place r.0 + 1) first rest rises.1))
@@ -56,7 +55,7 @@ module _ (T : ℕ → List Record → List ℕ → Type 0) where
   children_some [] rs bs some t = absurd (omega (arith, some))
   children_some (c ∷ cs) rs bs some t = subst (λ (qs : List Record). 0 < length qs) (sym t.7) (begins_some t.0 t.5)
     where
-      begins_some : (first : List Record) → Begins c.low first → 0 < length (first ++ t.1)
+      begins_some : (first : List Record) → BeginsWith c.low first → 0 < length (first ++ t.1)
       begins_some [] begins = absurd begins
       begins_some (r ∷ first) begins = omega arith
 
@@ -96,15 +95,15 @@ module _ (T : ℕ → List Record → List ℕ → Type 0) where
 module _ (sizes : Sizes) (x : Contents) (limit : ℕ) where
   subtree_some : (l b : ℕ) (rs : List Record) (bs : List ℕ) → Subtree sizes x limit l b rs bs → 0 < length rs
   unfolding Subtree
-  subtree_some zero b rs bs t = t.1.some
+  subtree_some zero b rs bs t = holds_some x limit (block x b) rs t.1 t.2
   subtree_some (suc l) b rs bs t = children_some (Subtree sizes x limit l) t.1 rs t.2 t.3.some t.5
 
   -- the same block is the top of subtrees of one level
   level_one : (l k b : ℕ) (rs qs : List Record) (bs ds : List ℕ) → Subtree sizes x limit l b rs bs → Subtree sizes x limit k b qs ds → l ≡ k
   unfolding Subtree
   level_one zero zero b rs qs bs ds t u = refl
-  level_one zero (suc k) b rs qs bs ds t u = absurd (leaf_or_node (block x b) rs (suc k) u.1 t.1 u.3)
-  level_one (suc l) zero b rs qs bs ds t u = absurd (leaf_or_node (block x b) qs (suc l) t.1 u.1 t.3)
+  level_one zero (suc k) b rs qs bs ds t u = absurd (holds_or_node x limit (block x b) rs t.1 (suc k) u.1 t.2 u.3)
+  level_one (suc l) zero b rs qs bs ds t u = absurd (holds_or_node x limit (block x b) qs u.1 (suc l) t.1 u.2 t.3)
   level_one (suc l) (suc k) b rs qs bs ds t u = (node_one (block x b) (suc l) (suc k) t.1 u.1 t.3 u.3).0
 
   -- block b is the top of a subtree of level k, with records that start at place p
@@ -114,7 +113,7 @@ module _ (sizes : Sizes) (x : Contents) (limit : ℕ) where
     pub subtree : Subtree sizes x limit k b sub own
     pub heads : Heads p sub
 
-  pub top_at : (k b : ℕ) (low : Key) (sub : List Record) (own : List ℕ) → Subtree sizes x limit k b sub own → Begins low sub → IsTopAt k b (place low)
+  pub top_at : (k b : ℕ) (low : Key) (sub : List Record) (own : List ℕ) → Subtree sizes x limit k b sub own → BeginsWith low sub → IsTopAt k b (place low)
   top_at k b low sub own tree begins = record { sub = sub; own = own; subtree = tree; heads = heads_begin low sub begins }
 
   module _ (k b p : ℕ) (top : IsTopAt k b p) where
@@ -134,14 +133,14 @@ module _ (sizes : Sizes) (x : Contents) (limit : ℕ) where
     -- so it does not lie in a subtree whose records are above
     far : (l c : ℕ) (rs : List Record) (bs : List ℕ) → Subtree sizes x limit l c rs bs → Above p rs → Lacks b bs
     unfolding Subtree
-    far zero c rs bs t above = subst (Lacks b) (sym t.3) (top_far zero c rs bs t above, tt)
+    far zero c rs bs t above = subst (Lacks b) (sym t.4) (top_far zero c rs bs t above, subst (Lacks b) (sym t.2.none) tt)
     far (suc l) c rs bs t above =
         subst (Lacks b) (sym t.6) (top_far (suc l) c rs bs t above, children_far (Subtree sizes x limit l) b p (far l) t.1 rs t.2 t.5 above)
 
     -- nor in one that starts at the same place and isn't higher, unless it is that one
     near : (l c : ℕ) (rs : List Record) (bs : List ℕ) → l ≤ k → (l ≡ k → c ≢ b) → Subtree sizes x limit l c rs bs → Heads p rs → RisesFrom 0 (places rs) → Lacks b bs
     unfolding Subtree
-    near zero c rs bs low other t heads rises = subst (Lacks b) (sym t.3) (top_other zero c rs bs t other, tt)
+    near zero c rs bs low other t heads rises = subst (Lacks b) (sym t.4) (top_other zero c rs bs t other, subst (Lacks b) (sym t.2.none) tt)
     near (suc l) c rs bs low other t heads rises =
         subst (Lacks b) (sym t.6) (
           top_other (suc l) c rs bs t other,
@@ -177,7 +176,7 @@ module _ (sizes : Sizes) (x : Contents) (limit : ℕ) where
   -- the first of the blocks of a subtree is its top, which does not come again
   pub subtree_once : (l b : ℕ) (rs : List Record) (bs : List ℕ) → Subtree sizes x limit l b rs bs → RisesFrom 0 (places rs) → (under : List ℕ) × (bs ≡ b ∷ under) × Lacks b under
   unfolding Subtree
-  subtree_once zero b rs bs t rises = ([], t.3, tt)
+  subtree_once zero b rs bs t rises = (t.1, t.4, subst (Lacks b) (sym t.2.none) tt)
   subtree_once (suc l) b rs bs t rises =
       let heads = heads_some rs (subtree_some (suc l) b rs bs t) in
       (t.2, t.6, lacks_itself (suc l) b heads.0 (record { sub = rs; own = bs; subtree = t; heads = heads.1 }) l t.1 rs t.2 (omega arith) t.5 heads.1 rises)
@@ -190,6 +189,7 @@ module _ (sizes : Sizes) (x : Contents) (limit : ℕ) where
     -- the blocks of a subtree are none of those under tops whose records come after
     pub subtree_apart : (l c : ℕ) (rs : List Record) (bs : List ℕ) → Subtree sizes x limit l c rs bs → AllByRecursion (λ r. Above (place r.0) rest) rs → Apart bs others
     unfolding Subtree
-    subtree_apart zero c rs bs t above = subst (λ (ds : List ℕ). Apart ds others) (sym t.3) (top_apart zero c rs bs t above, tt)
+    subtree_apart zero c rs bs t above =
+        subst (λ (ds : List ℕ). Apart ds others) (sym t.4) (top_apart zero c rs bs t above, subst (λ (ds : List ℕ). Apart ds others) (sym t.2.none) tt)
     subtree_apart (suc l) c rs bs t above =
         subst (λ (ds : List ℕ). Apart ds others) (sym t.6) (top_apart (suc l) c rs bs t above, children_apart (Subtree sizes x limit l) rest others (subtree_apart l) t.1 rs t.2 t.5 above)

@@ -3,7 +3,7 @@ use Rattle.std.proofs.Common.{◌≡◌, ◌≢◌, ℕ, zero, suc, ◌+◌, ◌
 use Rattle.vm_types.specs.declared.change.Change.{Change}
 use Rattle.vm_types.specs.declared.key.Key.{Key}
 use Rattle.vm_types.specs.Map.{Map, delta}
-use Rattle.vm_disk.specs.Disk.{State, Contents, Medium}
+use Rattle.vm_disk.specs.Disk.{DiskState, Contents, Medium}
 use Rattle.vm_disk.proofs.MomentLemmas.{same_medium}
 use Rattle.vm_block.specs.Tree.{Sizes, Subtree}
 use Rattle.vm_block.proofs.TreeLemmas.{subtree_one}
@@ -73,12 +73,12 @@ none_left [] ys e = e
 none_left (x ∷ xs) ys e = cc
 
 -- so many differences were found on the way from two walks to two others, by reads alone
-pub record Compares (old new : State) (limit : ℕ) (one_first other_first one other : Walk) (found : List Change) : Type 0 where
+pub record Compares (old new : DiskState) (limit : ℕ) (one_first other_first one other : Walk) (found : List Change) : Type 0 where
   pub looks : OnlyLooks {T = Unit {0}} (Ok tt) old new
   pub left : new.honest ≡ true → (sizes : Sizes) (most : ℕ) (changes : List Change) → Differ sizes old.now.contents limit one_first other_first old.reads most changes
       → (rest : List Change) × (changes ≡ found ++ rest) × Differ sizes old.now.contents limit one other new.reads most rest
 
-module _ (old mid new : State) (back : new.honest ≡ true → mid.honest ≡ true) (limit : ℕ) (one_first other_first one other : Walk) (found : List Change) (so_far : Compares old mid limit one_first other_first one other found) where
+module _ (old mid new : DiskState) (back : new.honest ≡ true → mid.honest ≡ true) (limit : ℕ) (one_first other_first one other : Walk) (found : List Change) (so_far : Compares old mid limit one_first other_first one other found) where
   -- what holds of one step on trees
   abbrev pub Stepped : (Sizes → ℕ → List Change → Type 0) → Type 0
   Stepped P = new.honest ≡ true → (sizes : Sizes) (most : ℕ) (changes : List Change) → Differ sizes mid.now.contents limit one other mid.reads most changes → P sizes most changes

@@ -5,7 +5,7 @@ use Rattle.vm_types.specs.declared.key.Key.{Key}
 use Rattle.vm_disk.specs.Disk.{Contents, block}
 use Rattle.vm_block.specs.Leaf.{Record}
 use Rattle.vm_block.specs.Node.{IsNode}
-use Rattle.vm_block.specs.Tree.{Sizes, Begins, Children, Subtree}
+use Rattle.vm_block.specs.Tree.{Sizes, BeginsWith, Children, Subtree}
 use Rattle.vm_block.specs.declared.node.Child.{Child}
 use Rattle.vm_block.proofs.TreeLemmas.{leaf_opens, node_opens}
 use Rattle.vm_tree.specs.Reading.{IsLeafAt, IsNodeAt}
@@ -110,7 +110,7 @@ pub record TopAhead (sizes : Sizes) (x : Contents) (limit : ℕ) (top : Root) (t
   pub own : List ℕ
   pub others : List ℕ
   pub subtree : Subtree sizes x limit top.level top.block sub own
-  pub begins : Begins top.low sub
+  pub begins : BeginsWith top.low sub
   pub after : Under sizes x limit ts rest others
   pub records : rs ≡ sub ++ rest
   pub blocks : bs ≡ own ++ others
@@ -138,6 +138,7 @@ module _ (sizes : Sizes) (x : Contents) (limit : ℕ) where
   leaf_opened old new top rs bs front zero_is ahead only =
       let t = top_ahead old top rs bs front ahead in
       let leaf = leaf_read sizes x limit top.level top.block t.sub t.own zero_is t.subtree in
+      let here = leaf_opens sizes x limit top.level top.block t.sub t.own zero_is t.subtree in
       let next : IsAhead sizes x limit (record { pending = t.sub; tops = drop 1 old.tops }) rs t.others =
       record { later = t.rest; under = t.after; records = t.records } in
       record {
@@ -145,7 +146,7 @@ module _ (sizes : Sizes) (x : Contents) (limit : ℕ) where
         rest_blocks = t.others;
         ahead = subst (λ (w : Walk). IsAhead sizes x limit w rs t.others) (sym (only t.sub leaf.0)) next;
         records = refl;
-        blocks = t.blocks ∙ ap (λ (ds : List ℕ). ds ++ t.others) (leaf_opens sizes x limit top.level top.block t.sub t.own zero_is t.subtree).alone;
+        blocks = t.blocks ∙ ap (λ (ds : List ℕ). ds ++ t.others) (here.first ∙ ap (λ (ds : List ℕ). top.block ∷ ds) here.holds.none);
       }
 
   -- what lies under children lies under their tops

@@ -3,7 +3,7 @@ use Rattle.std.proofs.Common.{◌≡◌, ℕ, ◌+◌, ◌^◌, ◌<◌, List, [
 use Rattle.vm_types.specs.Places.{place, RisesFrom, places}
 use Rattle.vm_disk.specs.Disk.{Contents}
 use Rattle.vm_block.specs.Leaf.{Record}
-use Rattle.vm_block.specs.Tree.{Sizes, Begins}
+use Rattle.vm_block.specs.Tree.{Sizes, BeginsWith}
 use Rattle.vm_tree.specs.declared.root.Root.{Root}
 use Rattle.vm_diff.specs.Walk.{Walk, IsAhead, Under}
 use Rattle.vm_diff.specs.Front.{first_of, front_of, place_of}
@@ -24,7 +24,7 @@ module _ (sizes : Sizes) (x : Contents) (limit : ℕ) where
   starts_later [] rs bs u = subst (StartsAt (2 ^ 80)) (sym u.0) refl
   starts_later (t ∷ ts) rs bs u = subst (StartsAt (place t.low)) (sym u.7) (begins u.0 u.5)
     where
-      begins : (first : List Record) → Begins t.low first → StartsAt (place t.low) (first ++ u.1)
+      begins : (first : List Record) → BeginsWith t.low first → StartsAt (place t.low) (first ++ u.1)
       begins [] b = absurd b
       begins (r ∷ first) b = ap place b
 

@@ -3,7 +3,7 @@ use Rattle.std.specs.Prelude.{◌≡◌, ℕ, ◌+◌, ◌≤◌, true, List, �
 use Rattle.vm_types.specs.declared.change.Change.{Change}
 use Rattle.vm_types.specs.Map.{Map, delta}
 use Rattle.vm_types.specs.Places.{FitKeys, RisesFrom, places}
-use Rattle.vm_disk.specs.Disk.{Contents, State}
+use Rattle.vm_disk.specs.Disk.{Contents, DiskState}
 use Rattle.vm_block.specs.Leaf.{Record}
 use Rattle.vm_block.specs.Tree.{Sizes}
 use Rattle.vm_tree.specs.Root.{IsRooted}
@@ -41,12 +41,12 @@ pub record Passes (sizes : Sizes) (x : Contents) (limit : ℕ) (front : Front) (
   pub blocks : bs ≡ opened_at front ++ rest_blocks
 
 -- on a disk that is honest after the call: P holds of the maps that lay under both roots before it, and of their blocks
-abbrev pub OnMaps : State → State → ℕ → Root → Root → (Map → Map → List ℕ → List ℕ → Type 0) → Type 0
+abbrev pub OnMaps : DiskState → DiskState → ℕ → Root → Root → (Map → Map → List ℕ → List ℕ → Type 0) → Type 0
 OnMaps old new limit first second P =
     new.honest ≡ true → (sizes : Sizes) (m n : Map) (bs cs : List ℕ) → IsRooted sizes old.now.contents limit first m bs → IsRooted sizes old.now.contents limit second n cs
     → P m n bs cs
 
 -- on a disk that is honest after the call: P holds of the differences of what was ahead of both walks before it, and of the most reads
-abbrev pub IfDiffer : State → State → ℕ → Walk → Walk → (Sizes → ℕ → List Change → Type 0) → Type 0
+abbrev pub IfDiffer : DiskState → DiskState → ℕ → Walk → Walk → (Sizes → ℕ → List Change → Type 0) → Type 0
 IfDiffer old new limit one other P =
     new.honest ≡ true → (sizes : Sizes) (most : ℕ) (changes : List Change) → Differ sizes old.now.contents limit one other old.reads most changes → P sizes most changes

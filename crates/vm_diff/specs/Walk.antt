@@ -2,7 +2,7 @@
 use Rattle.std.specs.Prelude.{◌≡◌, ℕ, zero, suc, ◌+◌, ◌*◌, List, [], ◌∷◌, ◌++◌, length, map, drop}
 use Rattle.vm_disk.specs.Disk.{Contents}
 use Rattle.vm_block.specs.Leaf.{Record}
-use Rattle.vm_block.specs.Tree.{Sizes, Begins, Subtree}
+use Rattle.vm_block.specs.Tree.{Sizes, BeginsWith, Subtree}
 use Rattle.vm_block.specs.declared.node.Child.{Child}
 use Rattle.vm_tree.specs.declared.root.Root.{Root}
 
@@ -43,7 +43,7 @@ abbrev pub Under : Sizes → Contents → ℕ → List Root → List Record → 
 Under sizes x limit [] rs bs = (rs ≡ []) × (bs ≡ [])
 Under sizes x limit (t ∷ ts) rs bs =
     (first : List Record) × (rest : List Record) × (own : List ℕ) × (others : List ℕ)
-    × Subtree sizes x limit t.level t.block first own × Begins t.low first × Under sizes x limit ts rest others
+    × Subtree sizes x limit t.level t.block first own × BeginsWith t.low first × Under sizes x limit ts rest others
     × (rs ≡ first ++ rest) × (bs ≡ own ++ others)
 
 -- these records are ahead of the walk, and the subtrees that it has not opened lie in these blocks

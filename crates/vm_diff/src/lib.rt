@@ -16,8 +16,6 @@ mod opening;
 mod records;
 mod skipping;
 mod stepping;
-#[cfg(test)]
-mod tests;
 
 pub use comparing::{changed, same};
 pub use merging::{changes_by_merge, conflicts_between, settled_refusal};

@@ -3,12 +3,12 @@ use Rattle.std.proofs.Common.{◌≡◌, ◌⊎◌, ℕ, ◌<◌, Bool, true, fa
 use Rattle.std.specs.Bool.{OnTrue, OnFalse}
 use Rattle.std.specs.Map.{lookup, remove_entry}
 use Rattle.vm_disk.specs.declared.disk.DeviceFault.{DeviceFault}
-use Rattle.vm_disk.specs.Disk.{State, Medium, Contents, block, Counts, Reads, Writes, Extends, Enlarges}
+use Rattle.vm_disk.specs.Disk.{DiskState, Medium, Contents, block, Counts, Reads, Writes, Idles, Forgets, Extends, Enlarges}
 use Rattle.vm_disk.specs.Kept.{Entries, keeps, with_first, AreOf}
 use Rattle.vm_disk.proofs.KeptLemmas.{first_are_of, others_are_of, rest_are_of}
 
 -- the kept blocks are right while the disk is honest
-abbrev pub AreRight : State → Entries → Type 0
+abbrev pub AreRight : DiskState → Entries → Type 0
 AreRight s es = s.honest ≡ true → AreOf s.now.contents es
 
 on_true : (P : Type 0) (b : Bool) → b ≡ true → OnTrue b P → P
@@ -21,17 +21,17 @@ same_right : (contents : Contents) (es es' : Entries) → es' ≡ es → AreOf c
 same_right contents es es' is right = subst (AreOf contents) (sym is) right
 
 -- block n was one of the disk's, which then holds each of its blocks where it is honest
-pub record IsInside (n : ℕ) (old new : State) : Type 0 where
+pub record IsInside (n : ℕ) (old new : DiskState) : Type 0 where
   pub there : n < old.blocks
   pub whole : new.honest ≡ true → length new.now.contents ≡ new.blocks
 
-is_inside : {T : Type 0} (reads : ℕ) (result : Result T DeviceFault) (old new : State) (n : ℕ) → IsInside n old new → Counts reads result old new → new.honest ≡ true → n < length new.now.contents
+is_inside : {T : Type 0} (reads : ℕ) (result : Result T DeviceFault) (old new : DiskState) (n : ℕ) → IsInside n old new → Counts reads result old new → new.honest ≡ true → n < length new.now.contents
 is_inside reads result old new n inside counts honest =
     let all = inside.whole honest in
     omega (arith, all, inside.there, counts.same_blocks)
 
 -- a kept block was read
-pub right_after_hit : (s : State) (n limit : ℕ) (bytes : List ℕ) (es es' : Entries) (hit : Bool) → hit ≡ true
+pub right_after_hit : (s : DiskState) (n limit : ℕ) (bytes : List ℕ) (es es' : Entries) (hit : Bool) → hit ≡ true
     → OnTrue hit (lookup (nat_eq n) es ≡ Some bytes) → OnTrue hit (es' ≡ with_first limit n bytes es)
     → AreRight s es → AreRight s es'
 right_after_hit s n limit bytes es es' hit hits found is right honest =
@@ -46,7 +46,7 @@ either_right contents first es es' kept refused (inl w) right_first right = same
 either_right contents first es es' kept refused (inr w) right_first right = same_right contents es es' w.1 right
 
 -- another block was read below
-pub right_after_miss : {T : Type 0} (result : Result T DeviceFault) (x : T) (old new : State) (n limit : ℕ) (bytes : List ℕ) (es mid es' : Entries) (hit : Bool) (kept refused : Type 0)
+pub right_after_miss : {T : Type 0} (result : Result T DeviceFault) (x : T) (old new : DiskState) (n limit : ℕ) (bytes : List ℕ) (es mid es' : Entries) (hit : Bool) (kept refused : Type 0)
     → result ≡ Ok x → hit ≡ false → OnFalse hit (mid ≡ es) → IsInside n old new
     → Counts 1 result old new → (new.honest ≡ true → Reads n bytes result old new)
     → ((kept × (es' ≡ with_first limit n bytes mid)) ⊎ (refused × (es' ≡ mid)))
@@ -63,7 +63,7 @@ right_after_miss {T} result x old new n limit bytes es mid es' hit kept refused 
     (first_are_of contents contents n refl (λ k apart. refl) limit bytes mid (is_inside 1 result old new n inside counts honest) (ap (λ c. block c n) same ∙ sym read.bytes_are) now) now
 
 -- a kept block was written
-pub right_after_change : {T : Type 0} (result : Result T DeviceFault) (x : T) (old new : State) (n limit : ℕ) (bytes : List ℕ) (es es' : Entries) (changed : Bool)
+pub right_after_change : {T : Type 0} (result : Result T DeviceFault) (x : T) (old new : DiskState) (n limit : ℕ) (bytes : List ℕ) (es es' : Entries) (changed : Bool)
     → result ≡ Ok x → changed ≡ true → OnTrue changed (es' ≡ with_first limit n bytes es) → IsInside n old new
     → Counts 0 result old new → (new.honest ≡ true → Writes n bytes result old new)
     → AreRight old es → AreRight new es'
@@ -74,7 +74,7 @@ right_after_change {T} result x old new n limit bytes es es' changed ok hits is 
     (first_are_of old.now.contents new.now.contents n written.count written.others limit bytes es (is_inside 0 result old new n inside counts honest) written.written (right (counts.earlier honest)))
 
 -- another block was written
-pub right_after_write : {T : Type 0} (result : Result T DeviceFault) (x : T) (old new : State) (n limit : ℕ) (bytes : List ℕ) (es mid es' : Entries) (changed : Bool) (kept refused : Type 0)
+pub right_after_write : {T : Type 0} (result : Result T DeviceFault) (x : T) (old new : DiskState) (n limit : ℕ) (bytes : List ℕ) (es mid es' : Entries) (changed : Bool) (kept refused : Type 0)
     → result ≡ Ok x → changed ≡ false → changed ≡ keeps n es → OnFalse changed (mid ≡ es) → IsInside n old new
     → Counts 0 result old new → (new.honest ≡ true → Writes n bytes result old new)
     → ((kept × (es' ≡ with_first limit n bytes mid)) ⊎ (refused × (es' ≡ mid)))
@@ -90,7 +90,7 @@ right_after_write {T} result x old new n limit bytes es mid es' changed kept ref
     (others_are_of old.now.contents new.now.contents n written.count written.others mid gone was)
 
 -- a write failed
-pub right_after_fault : {T : Type 0} (result : Result T DeviceFault) (old new : State) (n : ℕ) (bytes : List ℕ) (es es' : Entries)
+pub right_after_fault : {T : Type 0} (result : Result T DeviceFault) (old new : DiskState) (n : ℕ) (bytes : List ℕ) (es es' : Entries)
     → es' ≡ remove_entry (nat_eq n) es → keeps n es' ≡ false
     → Counts 0 result old new → (new.honest ≡ true → Writes n bytes result old new)
     → AreRight old es → AreRight new es'
@@ -98,8 +98,17 @@ right_after_fault result old new n bytes es es' is gone counts writes right hone
     same_right new.now.contents _ es' is
     (rest_are_of old.now.contents new.now.contents n (writes honest).count (writes honest).others es (sym (ap (keeps n) is) ∙ gone) (right (counts.earlier honest)))
 
+-- a block was forgotten
+pub right_after_forgetting : (old new : DiskState) (n : ℕ) (es es' : Entries)
+    → es' ≡ remove_entry (nat_eq n) es → keeps n es' ≡ false
+    → Idles old new → (new.honest ≡ true → Forgets n old new)
+    → AreRight old es → AreRight new es'
+right_after_forgetting old new n es es' is gone idles forgets right honest =
+    same_right new.now.contents _ es' is
+    (rest_are_of old.now.contents new.now.contents n (forgets honest).count (forgets honest).others es (sym (ap (keeps n) is) ∙ gone) (right (idles.earlier honest)))
+
 -- the disk grew
-pub right_after_growing : {T : Type 0} (blocks : ℕ) (result : Result T DeviceFault) (old new : State) (es : Entries)
+pub right_after_growing : {T : Type 0} (blocks : ℕ) (result : Result T DeviceFault) (old new : DiskState) (es : Entries)
     → Extends blocks result old new → (new.honest ≡ true → Enlarges old new)
     → AreRight old es → AreRight new es
 right_after_growing blocks result old new es extends enlarges right honest n bytes found =

@@ -11,14 +11,14 @@ use Rattle.vm_disk.specs.Disk.{Contents, block}
 use Rattle.vm_disk.specs.Kept.{Entries, keeps, with_first, AreOf}
 
 -- either answer of a test
-by_answer : {P : Type 0} (b : Bool) → (b ≡ true → P) → (b ≡ false → P) → P
+pub by_answer : {P : Type 0} (b : Bool) → (b ≡ true → P) → (b ≡ false → P) → P
 by_answer true p q = p refl
 by_answer false p q = q refl
 
-cond_yes : {A : Type 0} {b : Bool} (x y : A) → b ≡ true → cond b x y ≡ x
+pub cond_yes : {A : Type 0} {b : Bool} (x y : A) → b ≡ true → cond b x y ≡ x
 cond_yes {A} {b} x y h = cond-true b x y h
 
-cond_no : {A : Type 0} {b : Bool} (x y : A) → b ≡ false → cond b x y ≡ y
+pub cond_no : {A : Type 0} {b : Bool} (x y : A) → b ≡ false → cond b x y ≡ y
 cond_no {A} {b} x y h = cond-false b x y h
 
 -- entries, with f of each value
@@ -109,7 +109,7 @@ module _ {V : Type 0} (f : V → List ℕ) where
       ∙ ap (option_map f) (lookup-remove_entry nat_eq_equiv (nat_eq n) (λ x y. nat_eq_equiv.congr n x y) n es distinct ∙ cond_yes None (lookup (nat_eq n) es) (eq-eqb n n refl)))
 
 -- what a look-up of another block finds, and of one among the first
-lookup_others : (n k : ℕ) (es : Entries) → k ≢ n → lookup (nat_eq k) (remove_entry (nat_eq n) es) ≡ lookup (nat_eq k) es
+pub lookup_others : (n k : ℕ) (es : Entries) → k ≢ n → lookup (nat_eq k) (remove_entry (nat_eq n) es) ≡ lookup (nat_eq k) es
 lookup_others n k [] apart = refl
 lookup_others n k (e ∷ es) apart = by_answer (nat_eq n e.0)
     (λ y. let other : nat_eq k e.0 ≡ false = ne_eqb k e.0 (λ same. apart (same ∙ sym (eqb-true n e.0 y))) in

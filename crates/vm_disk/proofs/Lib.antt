@@ -1,9 +1,15 @@
 pub mod FillLemmas
 pub mod GoesLemmas
 pub mod MomentLemmas
+pub mod RunLemmas
 pub mod OverwrittenLemmas
 pub mod ZeroLemmas
 pub mod FileLemmas
+pub mod FileRunLemmas
 pub mod SystemLemmas
 pub mod KeptLemmas
 pub mod CachedLemmas
+pub mod WaitingLemmas
+pub mod LaidLemmas
+pub mod LayersLemmas
+pub mod DelayedLemmas

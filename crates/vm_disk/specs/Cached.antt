@@ -1,7 +1,7 @@
 -- What a `CachedDisk` shows, and which blocks it keeps.
 use Rattle.std.specs.Prelude.{◌≡◌, ◌≢◌, ℕ, true, List, [], length}
 use Rattle.vm_disk.specs.declared.cached.CachedDisk.{CachedDisk}
-use Rattle.vm_disk.specs.Disk.{State}
+use Rattle.vm_disk.specs.Disk.{DiskState}
 use Rattle.vm_disk.specs.Kept.{Entries, keeps, with_first, entries_of, limit_of, refusals_in}
 use Rattle.vm_disk.specs.Past.{noted}
 
@@ -23,7 +23,7 @@ module _ {D : Type 0} {members : _} where
   refusals_of cached = refusals_in cached.kept
 
   -- it counts its own reads, and all else is as below
-  abbrev pub cached_state : (D → State) → CachedDisk D members → State
+  abbrev pub cached_state : (D → DiskState) → CachedDisk D members → DiskState
   cached_state state cached =
       let below = state (inner_of cached) in record {
         blocks = below.blocks;

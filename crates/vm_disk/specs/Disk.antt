@@ -22,7 +22,7 @@ pub record Medium : Type 0 where
   pub unsure : (n : ℕ) → sure ≤ n → n < length contents → dirty n ≡ true
 
 -- what is known of a disk
-pub record State : Type 0 where
+pub record DiskState : Type 0 where
   pub blocks : ℕ
   -- it has kept the rules of a disk in every call so far
   pub honest : Bool
@@ -45,7 +45,7 @@ pub record MayLeave (m : Medium) (left : Contents) : Type 0 where
   pub clean : (n : ℕ) → m.dirty n ≡ false → block left n ≡ block m.contents n
 
 -- the number of the present moment
-abbrev pub moment : State → ℕ
+abbrev pub moment : DiskState → ℕ
 moment s = length s.past
 
 -- a crash at moment t, one of so many, may have left these contents
@@ -54,12 +54,12 @@ LeftPast [] t left = ⊥
 LeftPast (m ∷ earlier) t left = ((t ≡ length earlier) × MayLeave m left) ⊎ LeftPast earlier t left
 
 -- a crash at moment t may have left these contents
-abbrev pub LeftAt : State → ℕ → Contents → Type 0
+abbrev pub LeftAt : DiskState → ℕ → Contents → Type 0
 LeftAt s t left = LeftPast (s.now ∷ s.past) t left
 
 -- what each device call does, on any disk: it keeps the blocks, a disk that is honest after it was so before, it counts its reads, and
 -- the count of failures rises just where it answers a fault
-pub record Counts {T : Type 0} (reads : ℕ) (result : Result T DeviceFault) (old new : State) : Type 0 where
+pub record Counts {T : Type 0} (reads : ℕ) (result : Result T DeviceFault) (old new : DiskState) : Type 0 where
   pub same_blocks : new.blocks ≡ old.blocks
   pub earlier : new.honest ≡ true → old.honest ≡ true
   pub read : new.reads ≡ old.reads + reads
@@ -68,14 +68,14 @@ pub record Counts {T : Type 0} (reads : ℕ) (result : Result T DeviceFault) (ol
   pub fine : OnOk result (new.failures ≡ old.failures)
 
 -- what any number of device calls does, on any disk, where `fails` says that the device failed in one of them
-pub record Goes (fails : Type 0) (old new : State) : Type 0 where
+pub record Goes (fails : Type 0) (old new : DiskState) : Type 0 where
   pub same_blocks : new.blocks ≡ old.blocks
   pub earlier : new.honest ≡ true → old.honest ≡ true
   pub rising : old.failures ≤ new.failures
   pub fault : fails → old.failures < new.failures
 
 -- what a growing to so many blocks does, on any disk: where it fails, the disk may have some of the new blocks
-pub record Extends {T : Type 0} (blocks : ℕ) (result : Result T DeviceFault) (old new : State) : Type 0 where
+pub record Extends {T : Type 0} (blocks : ℕ) (result : Result T DeviceFault) (old new : DiskState) : Type 0 where
   pub least : old.blocks ≤ new.blocks
   pub most : new.blocks ≤ blocks
   pub all : OnOk result (new.blocks ≡ blocks)
@@ -86,21 +86,21 @@ pub record Extends {T : Type 0} (blocks : ℕ) (result : Result T DeviceFault) (
   pub fine : OnOk result (new.failures ≡ old.failures)
 
 -- no device call was made: all that is known of the disk is as it was
-abbrev pub NoCalls : State → State → Type 0
+abbrev pub NoCalls : DiskState → DiskState → Type 0
 NoCalls old new = new ≡ old
 
 -- the moment before the call is past, or nothing was done
-pub record Elapses (old new : State) : Type 0 where
+pub record Elapses (old new : DiskState) : Type 0 where
   pub step : (new.past ≡ old.now ∷ old.past) ⊎ ((new.past ≡ old.past) × (new.now ≡ old.now))
 
 -- what a read does, on a disk that is honest after it
-pub record Reads {T : Type 0} (n : ℕ) (bytes : List ℕ) (result : Result T DeviceFault) (old new : State) : Type 0 where
+pub record Reads {T : Type 0} (n : ℕ) (bytes : List ℕ) (result : Result T DeviceFault) (old new : DiskState) : Type 0 where
   pub bytes_are : OnOk result (bytes ≡ block old.now.contents n)
   pub same : new.now ≡ old.now
   pub time : Elapses old new
 
 -- what a write does, on a disk that is honest after it: where it fails, the block holds any bytes
-pub record Writes {T : Type 0} (n : ℕ) (bytes : List ℕ) (result : Result T DeviceFault) (old new : State) : Type 0 where
+pub record Writes {T : Type 0} (n : ℕ) (bytes : List ℕ) (result : Result T DeviceFault) (old new : DiskState) : Type 0 where
   pub written : OnOk result (block new.now.contents n ≡ bytes)
   pub dirty : new.now.dirty n ≡ true
   pub count : length new.now.contents ≡ length old.now.contents
@@ -109,8 +109,24 @@ pub record Writes {T : Type 0} (n : ℕ) (bytes : List ℕ) (result : Result T D
   pub sure : new.now.sure ≡ old.now.sure
   pub time : Elapses old new
 
+-- what forgetting a block does, on any disk: it reads nothing, and cannot fail
+pub record Idles (old new : DiskState) : Type 0 where
+  pub same_blocks : new.blocks ≡ old.blocks
+  pub earlier : new.honest ≡ true → old.honest ≡ true
+  pub read : new.reads ≡ old.reads
+  pub fine : new.failures ≡ old.failures
+
+-- what it does, on a disk that is honest after it: as after a write that failed, the block holds any bytes
+pub record Forgets (n : ℕ) (old new : DiskState) : Type 0 where
+  pub dirty : new.now.dirty n ≡ true
+  pub count : length new.now.contents ≡ length old.now.contents
+  pub others : (k : ℕ) → k ≢ n → block new.now.contents k ≡ block old.now.contents k
+  pub others_dirty : (k : ℕ) → k ≢ n → new.now.dirty k ≡ old.now.dirty k
+  pub sure : new.now.sure ≡ old.now.sure
+  pub time : Elapses old new
+
 -- what a sync does, on a disk that is honest after it: it makes all blocks sure, and where it fails, nothing changes
-pub record Syncs {T : Type 0} (result : Result T DeviceFault) (old new : State) : Type 0 where
+pub record Syncs {T : Type 0} (result : Result T DeviceFault) (old new : DiskState) : Type 0 where
   pub synced : OnOk result (IsClean new.now)
   pub failed : OnErr result (new.now ≡ old.now)
   pub same : new.now.contents ≡ old.now.contents
@@ -126,6 +142,6 @@ pub record Lengthens (old new : Medium) : Type 0 where
   pub sure : new.sure ≡ old.sure
 
 -- what a growing does, on a disk that is honest after it
-pub record Enlarges (old new : State) : Type 0 where
+pub record Enlarges (old new : DiskState) : Type 0 where
   pub longer : Lengthens old.now new.now
   pub time : Elapses old new

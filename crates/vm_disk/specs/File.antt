@@ -7,7 +7,7 @@ use Rattle.std.proofs.lemmas.Bool.{and_from, or_right, le-leb, lt-ltb}
 use Rattle.std.proofs.lemmas.List.FromFn.{length-map-range_with_len}
 use Rattle.vm_disk.specs.declared.file.Earlier.{Earlier}
 use Rattle.vm_disk.specs.declared.file.FileDisk.{FileDisk}
-use Rattle.vm_disk.specs.Disk.{Contents, Medium, State}
+use Rattle.vm_disk.specs.Disk.{Contents, Medium, DiskState}
 use Rattle.vm_disk.specs.Past.{noted}
 use Rattle.vm_disk.specs.Positional.{FileState}
 
@@ -27,6 +27,15 @@ touches write n = nat_lt write.0 (4096 * n + 4096) && nat_lt (4096 * n) (write.0
 abbrev pub is_touched : List (ℕ × ℕ) → ℕ → Bool
 is_touched [] n = false
 is_touched (write ∷ writes) n = touches write n || is_touched writes n
+
+-- the writes that wait, and one of each of these blocks, which were forgotten
+abbrev pub waits_with : List ℕ → List (ℕ × ℕ) → List (ℕ × ℕ)
+waits_with [] writes = writes
+waits_with (n ∷ forgotten) writes = (4096 * n, 4096) ∷ waits_with forgotten writes
+
+-- a file of which these blocks were forgotten: they hold any bytes, as if a write of them waited
+abbrev pub forgetting : List ℕ → FileState → FileState
+forgetting forgotten file = record file { waiting = waits_with forgotten file.waiting }
 
 -- the first blocks of a file, and how many of them it surely keeps
 pub record Part : Type 0 where
@@ -75,7 +84,7 @@ was_whole [] = true
 was_whole (part ∷ parts) = nat_le (4096 * part.blocks) (length part.file.bytes) && was_whole parts
 
 -- a disk of this part of a file, of which no call was made so far
-pub record IsPart (part : Part) (s : State) : Type 0 where
+pub record IsPart (part : Part) (s : DiskState) : Type 0 where
   pub blocks : s.blocks ≡ part.blocks
   pub honest : s.honest ≡ (part.file.honest && was_whole (part ∷ []))
   pub reads : s.reads ≡ 0
@@ -84,22 +93,22 @@ pub record IsPart (part : Part) (s : State) : Type 0 where
   pub past : s.past ≡ []
 
 -- so many blocks of this file that was there, all of them sure, and no call was made of the disk so far
-abbrev pub IsOver : ℕ → FileState → State → Type 0
+abbrev pub IsOver : ℕ → FileState → DiskState → Type 0
 IsOver count file s = IsPart (record { file = file; blocks = count; sure = count }) s
 
 -- so many blocks of this file that was just made, none of them sure, and no call was made of the disk so far
-abbrev pub IsMade : ℕ → FileState → State → Type 0
+abbrev pub IsMade : ℕ → FileState → DiskState → Type 0
 IsMade count file s = IsPart (record { file = file; blocks = count; sure = 0 }) s
 
 -- an honest disk of the whole blocks of this file, all of them sure
-pub record IsOpened (file : FileState) (s : State) : Type 0 where
+pub record IsOpened (file : FileState) (s : DiskState) : Type 0 where
   pub file_honest : file.honest ≡ true
   pub honest : s.honest ≡ true
   pub blocks : s.blocks ≡ min (length file.bytes / 4096) (2 ^ 32 - 1)
   pub now : s.now ≡ file_medium (record { file = file; blocks = s.blocks; sure = s.blocks })
 
 -- an honest disk of zero blocks
-pub record IsZero (s : State) : Type 0 where
+pub record IsZero (s : DiskState) : Type 0 where
   pub honest : s.honest ≡ true
   pub zero : s.now.contents ≡ replicate s.blocks (replicate 4096 0)
 
@@ -113,16 +122,20 @@ module _ {F : Type 0} where
   file_left (Ok disk) = file_of disk
   file_left (Err file) = file
 
+  -- the blocks that were forgotten since the last sync
+  abbrev pub forgotten_of : FileDisk F → List ℕ
+  forgotten_of disk = noted disk.forgotten
+
   -- the part of its file that the disk is
   abbrev pub part_of : (F → FileState) → FileDisk F → Part
-  part_of state disk = record { file = state disk.file; blocks = disk.blocks; sure = disk.sure }
+  part_of state disk = record { file = forgetting (forgotten_of disk) (state disk.file); blocks = disk.blocks; sure = disk.sure }
 
   -- the part that it was at an earlier moment
   abbrev pub part_then : (F → FileState) → Earlier F → Part
-  part_then state was = record { file = state was.file.value; blocks = was.blocks; sure = was.sure }
+  part_then state was = record { file = forgetting (noted was.forgotten.value) (state was.file.value); blocks = was.blocks; sure = was.sure }
 
   -- honest as long as its file is, and is long enough for the disk's blocks; its failures are the file's
-  abbrev pub file_state : (F → FileState) → FileDisk F → State
+  abbrev pub file_state : (F → FileState) → FileDisk F → DiskState
   file_state state disk =
       let now = part_of state disk in
       let past = map (part_then state) (noted disk.past) in record {

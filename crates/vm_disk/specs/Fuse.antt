@@ -1,7 +1,7 @@
 -- What a `FuseDisk` shows, and which calls it fails.
 use Rattle.std.specs.Prelude.{◌≡◌, ℕ, ◌+◌, ◌-◌, ◌^◌, ◌==◌, ◌||◌, min, nat_le, Bool, false, if◌then◌else◌, List, length}
 use Rattle.vm_disk.specs.declared.fuse.FuseDisk.{FuseDisk}
-use Rattle.vm_disk.specs.Disk.{State}
+use Rattle.vm_disk.specs.Disk.{DiskState}
 use Rattle.vm_disk.specs.Past.{noted}
 
 module _ {D : Type 0} where
@@ -50,8 +50,16 @@ module _ {D : Type 0} where
     pub stop : is_stop new ≡ is_stop old
     pub torn : torn_of new ≡ torn_of old
 
+  -- no device call is counted
+  pub record Stays (old new : FuseDisk D) : Type 0 where
+    pub calls : calls_of new ≡ calls_of old
+    pub blown : is_blown new ≡ is_blown old
+    pub passes : passes_of new ≡ passes_of old
+    pub stop : is_stop new ≡ is_stop old
+    pub torn : torn_of new ≡ torn_of old
+
   -- its own failures, and the reads among them, come on top of those below
-  abbrev pub fuse_state : (D → State) → FuseDisk D → State
+  abbrev pub fuse_state : (D → DiskState) → FuseDisk D → DiskState
   fuse_state state fuse =
       let below = state (inner_of fuse) in record {
         blocks = below.blocks;

@@ -5,6 +5,10 @@ pub mod Fuse
 pub mod Kept
 pub mod Cached
 pub mod Moments
+pub mod Laid
+pub mod Waiting
+pub mod Layers
+pub mod Delayed
 pub mod Positional
 pub mod File
 pub mod Syncing

@@ -2,7 +2,7 @@
 use Rattle.std.specs.Prelude.{◌≡◌, ℕ, ◌==◌, true, false, if◌then◌else◌, List, [], ◌∷◌, length, map, replicate, slice_index_or}
 use Rattle.vm_disk.specs.declared.memory.Platter.{Platter}
 use Rattle.vm_disk.specs.declared.memory.MemDisk.{MemDisk}
-use Rattle.vm_disk.specs.Disk.{Medium, State, IsClean}
+use Rattle.vm_disk.specs.Disk.{Medium, DiskState, IsClean}
 use Rattle.vm_disk.specs.Past.{noted}
 
 -- its blocks, which are dirty, and how many are sure
@@ -21,7 +21,7 @@ abbrev pub room_of : MemDisk → ℕ
 room_of m = m.platter.room
 
 -- always honest
-abbrev pub memory_state : MemDisk → State
+abbrev pub memory_state : MemDisk → DiskState
 memory_state m =
     record {
       blocks = length m.platter.blocks.items;
@@ -33,7 +33,7 @@ memory_state m =
     }
 
 -- a disk just made: so many blocks of zero bytes, none dirty and all sure, and no call so far
-pub record IsBlank (count : ℕ) (s : State) : Type 0 where
+pub record IsBlank (count : ℕ) (s : DiskState) : Type 0 where
   pub blocks : s.blocks ≡ count
   pub zero : s.now.contents ≡ replicate count (replicate 4096 0)
   pub clean : IsClean s.now

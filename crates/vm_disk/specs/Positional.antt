@@ -1,5 +1,6 @@
 -- What a file holds that is read and written at places, and what its calls do to it.
 use Rattle.std.specs.Prelude.{◌≡◌, ℕ, ◌+◌, ◌<◌, ◌≤◌, Bool, true, List, [], ◌∷◌, ◌++◌, length, take, drop, Result, IfOk, OnOk, OnErr}
+use Rattle.std.specs.List.{flat_map}
 use Rattle.vm_disk.specs.declared.disk.DeviceFault.{DeviceFault}
 
 -- what is known of a file
@@ -15,6 +16,10 @@ pub record FileState : Type 0 where
 -- the file's bytes, with these written over them from the offset on
 abbrev pub overwritten : ℕ → List ℕ → List ℕ → List ℕ
 overwritten offset bytes old = take offset old ++ bytes ++ drop (offset + length bytes) old
+
+-- the bytes of blocks, one behind another
+abbrev pub joined : List (List ℕ) → List ℕ
+joined blocks = flat_map (λ bytes. bytes) blocks
 
 -- a write of some bytes, at most so many, whatever they are
 pub record IsTorn (offset count : ℕ) (old new : List ℕ) : Type 0 where

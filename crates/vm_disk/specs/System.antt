@@ -2,10 +2,10 @@
 use Rattle.std.specs.Prelude.{◌≡◌, ℕ, ◌+◌, ◌==◌, ◌&&◌, Bool, true, List, [], ◌∷◌, Option, Some, None, Result, OnOk, if◌then◌else◌, length, reverse, take, drop, replicate, bytes_eq}
 use Rattle.vm_disk.specs.declared.disk.DeviceFault.{DeviceFault}
 use Rattle.vm_disk.specs.declared.system.Call.{Call}
-use Rattle.vm_disk.specs.declared.system.Call.TheVariants.{Created, Measured, Read, Written, Zeroed, Torn, Withheld, Synced, Failed}
+use Rattle.vm_disk.specs.declared.system.Call.TheVariants.{Created, Measured, Read, Written, Blocks, Zeroed, Torn, Withheld, Synced, Failed}
 use Rattle.vm_disk.specs.declared.system.SystemFile.{SystemFile}
 use Rattle.vm_disk.specs.Past.{noted}
-use Rattle.vm_disk.specs.Positional.{FileState, overwritten}
+use Rattle.vm_disk.specs.Positional.{FileState, overwritten, joined}
 use Rattle.vm_disk.specs.Syncing.{counts_as_synced}
 
 -- what stands in a file after these calls, the newest first, where it held these bytes at first, and failed writes left those
@@ -15,6 +15,7 @@ bytes_after first torn (Created ∷ calls) = []
 bytes_after first torn (Measured count ∷ calls) = bytes_after first torn calls
 bytes_after first torn (Read offset bytes ∷ calls) = bytes_after first torn calls
 bytes_after first torn (Written offset bytes ∷ calls) = overwritten offset bytes.value (bytes_after first torn calls)
+bytes_after first torn (Blocks offset blocks ∷ calls) = overwritten offset (joined (reverse (noted blocks))) (bytes_after first torn calls)
 bytes_after first torn (Zeroed offset count ∷ calls) = overwritten offset (replicate count 0) (bytes_after first torn calls)
 bytes_after first torn (Torn offset count ∷ calls) = overwritten offset (take count (torn (length calls))) (bytes_after first torn calls)
 bytes_after first torn (Withheld offset count ∷ calls) = bytes_after first torn calls
@@ -29,6 +30,7 @@ agrees first torn (Measured count ∷ calls) = (count == length (bytes_after fir
 agrees first torn (Read offset bytes ∷ calls) =
     bytes_eq bytes.value (take (length bytes.value) (drop offset (bytes_after first torn calls))) && agrees first torn calls
 agrees first torn (Written offset bytes ∷ calls) = agrees first torn calls
+agrees first torn (Blocks offset blocks ∷ calls) = agrees first torn calls
 agrees first torn (Zeroed offset count ∷ calls) = agrees first torn calls
 agrees first torn (Torn offset count ∷ calls) = agrees first torn calls
 agrees first torn (Withheld offset count ∷ calls) = agrees first torn calls
@@ -42,6 +44,7 @@ waiting_after reads_alone (Created ∷ calls) = waiting_after reads_alone calls
 waiting_after reads_alone (Measured count ∷ calls) = waiting_after reads_alone calls
 waiting_after reads_alone (Read offset bytes ∷ calls) = waiting_after reads_alone calls
 waiting_after reads_alone (Written offset bytes ∷ calls) = (offset, length bytes.value) ∷ waiting_after reads_alone calls
+waiting_after reads_alone (Blocks offset blocks ∷ calls) = (offset, length (joined (reverse (noted blocks)))) ∷ waiting_after reads_alone calls
 waiting_after reads_alone (Zeroed offset count ∷ calls) = (offset, count) ∷ waiting_after reads_alone calls
 waiting_after reads_alone (Torn offset count ∷ calls) = (offset, count) ∷ waiting_after reads_alone calls
 waiting_after reads_alone (Withheld offset count ∷ calls) = (offset, count) ∷ waiting_after reads_alone calls
@@ -55,6 +58,7 @@ failures_after reads_alone (Created ∷ calls) = failures_after reads_alone call
 failures_after reads_alone (Measured count ∷ calls) = failures_after reads_alone calls
 failures_after reads_alone (Read offset bytes ∷ calls) = failures_after reads_alone calls
 failures_after reads_alone (Written offset bytes ∷ calls) = failures_after reads_alone calls
+failures_after reads_alone (Blocks offset blocks ∷ calls) = failures_after reads_alone calls
 failures_after reads_alone (Zeroed offset count ∷ calls) = failures_after reads_alone calls
 failures_after reads_alone (Torn offset count ∷ calls) = failures_after reads_alone calls + 1
 failures_after reads_alone (Withheld offset count ∷ calls) = failures_after reads_alone calls + 1

@@ -1,7 +1,7 @@
 //! A disk that keeps the blocks which were used last.
 ghost use Rattle.std.specs.Prelude.{◌≡◌, ◌<◌, ◌≤◌, true, false, Some, nat_eq, IfOk, IfErr, OnOk, OnErr, IsOk};
 ghost use Rattle.std.specs.Map.{lookup, remove_entry};
-ghost use Rattle.vm_disk.specs.Disk.{Counts, Reads, Writes, Syncs, Extends, Enlarges};
+ghost use Rattle.vm_disk.specs.Disk.{Counts, Reads, Writes, Idles, Forgets, Syncs, Extends, Enlarges};
 ghost use Rattle.vm_disk.specs.Kept.{AreOf, entries_of};
 
 use crate::disk::{DeviceFault, Disk};
@@ -132,6 +132,19 @@ impl<D: Disk> Disk for CachedDisk<D> {
                 Err(fault)
             }
         }
+    }
+
+    fn forget(&mut self, n: u32)
+        requires { n < (cached_state D.state self.old).blocks }
+        ensures any { Idles (cached_state D.state self.old) (cached_state D.state self.new) }
+        ensures honest { (cached_state D.state self.new).honest ≡ true
+            → Forgets n (cached_state D.state self.old) (cached_state D.state self.new) }
+
+        ensures kept { KeepsJust (remove_entry (nat_eq n) (kept_of self.old)) self.old self.new }
+        ensures gone { keeps n (kept_of self.new) ≡ false }
+    {
+        self.inner.forget(n);
+        self.kept.forget(n)
     }
 
     fn sync(&mut self) -> Result<(), DeviceFault>

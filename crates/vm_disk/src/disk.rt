@@ -1,6 +1,7 @@
 //! The trait of a disk.
-ghost use Rattle.std.specs.Prelude.{◌≡◌, ◌<◌, ◌≤◌, ◌^◌, true, length};
-ghost use Rattle.vm_disk.specs.Disk.{State, Counts, Reads, Writes, Syncs, Extends, Enlarges};
+ghost use Rattle.std.specs.Prelude.{◌≡◌, ◌+◌, ◌<◌, ◌≤◌, ◌^◌, true, length};
+ghost use Rattle.vm_disk.specs.Moments.{WritesRun};
+ghost use Rattle.vm_disk.specs.Disk.{DiskState, Counts, Reads, Writes, Idles, Forgets, Syncs, Extends, Enlarges};
 
 /// The device failed in this call.
 #[derive(Clone, Copy, Debug, PartialEq, Eq)]
@@ -11,7 +12,7 @@ pub struct DeviceFault;
 /// Of a disk that is not honest only the clauses `any` say something: what it holds is then unknown.
 pub trait Disk {
     /// What is known of it, for contracts alone.
-    ghost state: { Self → State };
+    ghost state: { Self → DiskState };
 
     /// How many blocks it has.
     fn blocks(&self) -> u32
@@ -30,6 +31,29 @@ pub trait Disk {
         ensures any { Counts 0 result (state self.old) (state self.new) }
         ensures honest { (state self.new).honest ≡ true
             → Writes n from.now result (state self.old) (state self.new) };
+
+    /// Writes blocks in a row, from block n on, as single writes do.
+    fn write_run(&mut self, n: u32, blocks: &[[u8; 4096]]) -> Result<(), DeviceFault>
+        requires { n + length blocks.now ≤ (state self.old).blocks }
+        ensures any { Counts 0 result (state self.old) (state self.new) }
+        ensures honest { (state self.new).honest ≡ true
+            → WritesRun n blocks.now result (state self.old) (state self.new) }
+    {
+        let mut at = n;
+        for block in blocks {
+            self.write(at, block)?;
+            at += 1;
+        }
+        Ok(())
+    }
+
+    /// Says that what block n holds is not needed before it is written again. From then on it holds any
+    /// bytes, as after a write that failed.
+    fn forget(&mut self, n: u32)
+        requires { n < (state self.old).blocks }
+        ensures any { Idles (state self.old) (state self.new) }
+        ensures honest { (state self.new).honest ≡ true
+            → Forgets n (state self.old) (state self.new) };
 
     /// Makes each write so far last.
     fn sync(&mut self) -> Result<(), DeviceFault>

@@ -1,6 +1,7 @@
 //! A file as a disk.
-ghost use Rattle.std.specs.Prelude.{◌≡◌, ◌<◌, ◌≤◌, ◌^◌, ◌/◌, ◌*◌, true, [], length, IfOk, OnOk};
-ghost use Rattle.vm_disk.specs.Disk.{Counts, Reads, Writes, Syncs, Extends, Enlarges};
+ghost use Rattle.std.specs.Prelude.{◌≡◌, ◌+◌, ◌<◌, ◌≤◌, ◌^◌, ◌/◌, ◌*◌, true, [], length, IfOk, OnOk};
+ghost use Rattle.vm_disk.specs.Disk.{Counts, Reads, Writes, Idles, Forgets, Syncs, Extends, Enlarges};
+ghost use Rattle.vm_disk.specs.Moments.{WritesRun};
 ghost use Rattle.vm_disk.specs.Positional.{CountsFailures};
 
 use crate::disk::{DeviceFault, Disk};
@@ -19,6 +20,7 @@ struct Earlier<F> {
     file: Snapshot<F>,
     blocks: u32,
     sure: u32,
+    forgotten: Snapshot<History<u32>>,
 }
 
 impl<F> Drop for Earlier<F> {
@@ -27,6 +29,7 @@ impl<F> Drop for Earlier<F> {
             file: _,
             blocks: _,
             sure: _,
+            forgotten: _,
         } = self;
     }
 }
@@ -38,6 +41,7 @@ pub struct FileDisk<F> {
     file: F,
     blocks: u32,
     sure: u32,
+    forgotten: History<u32>,
     past: History<Earlier<F>>,
     reads: History<()>,
     ghost small: { blocks < 2 ^ 32 },
@@ -107,6 +111,7 @@ impl<F: Positional> FileDisk<F> {
             file,
             blocks,
             sure,
+            forgotten: History::new(),
             past: History::new(),
             reads: History::new(),
         }
@@ -120,6 +125,7 @@ impl<F: Positional> FileDisk<F> {
             file: Snapshot::of(&self.file),
             blocks: self.blocks,
             sure: self.sure,
+            forgotten: Snapshot::of(&self.forgotten),
         }
     }
 
@@ -192,6 +198,33 @@ impl<F: Positional> Disk for FileDisk<F> {
         self.file.write_at(from, offset_of(n))
     }
 
+    fn write_run(&mut self, n: u32, blocks: &[[u8; 4096]]) -> Result<(), DeviceFault>
+        requires { n + length blocks.now ≤ (file_state F.state self.old).blocks }
+        ensures any { Counts 0 result (file_state F.state self.old) (file_state F.state self.new) }
+        ensures honest { (file_state F.state self.new).honest ≡ true
+            → WritesRun n blocks.now result (file_state F.state self.old) (file_state F.state self.new) }
+
+        ensures stays { StaysHonest F.state self.old self.new }
+    {
+        let was = self.earlier();
+        self.past.note(&was);
+        self.file.write_blocks_at(blocks, offset_of(n))
+    }
+
+    fn forget(&mut self, n: u32)
+        requires { n < (file_state F.state self.old).blocks }
+        ensures any { Idles (file_state F.state self.old) (file_state F.state self.new) }
+        ensures honest { (file_state F.state self.new).honest ≡ true
+            → Forgets n (file_state F.state self.old) (file_state F.state self.new) }
+
+        ensures file { file_of self.new ≡ file_of self.old }
+        ensures stays { StaysHonest F.state self.old self.new }
+    {
+        let was = self.earlier();
+        self.past.note(&was);
+        self.forgotten.note(&n);
+    }
+
     fn sync(&mut self) -> Result<(), DeviceFault>
         ensures any { Counts 0 result (file_state F.state self.old) (file_state F.state self.new) }
         ensures honest { (file_state F.state self.new).honest ≡ true
@@ -204,6 +237,7 @@ impl<F: Positional> Disk for FileDisk<F> {
         match self.file.sync() {
             Ok(()) => {
                 self.sure = self.blocks;
+                self.forgotten = History::new();
                 Ok(())
             }
             Err(fault) => Err(fault),

@@ -1,6 +1,6 @@
 //! A disk that fails at a call which a test picks.
 ghost use Rattle.std.specs.Prelude.{◌≡◌, ◌+◌, ◌-◌, ◌<◌, ◌≤◌, ◌^◌, ◌||◌, true, false, min, if◌then◌else◌, length, IsErr};
-ghost use Rattle.vm_disk.specs.Disk.{block, Counts, Reads, Writes, Syncs, Extends, Enlarges};
+ghost use Rattle.vm_disk.specs.Disk.{block, Counts, Reads, Writes, Idles, Forgets, Syncs, Extends, Enlarges};
 
 use crate::disk::{DeviceFault, Disk};
 use crate::history::History;
@@ -115,7 +115,7 @@ impl<D: Disk> FuseDisk<D> {
 }
 
 impl<D: Disk> Disk for FuseDisk<D> {
-    ghost use Rattle.vm_disk.specs.Fuse.{inner_of, torn_of, fails_next, Burns, fuse_state};
+    ghost use Rattle.vm_disk.specs.Fuse.{inner_of, torn_of, fails_next, Burns, Stays, fuse_state};
 
     ghost state = { fuse_state D.state };
 
@@ -168,6 +168,17 @@ impl<D: Disk> Disk for FuseDisk<D> {
             return Err(DeviceFault);
         }
         self.inner.write(n, from)
+    }
+
+    fn forget(&mut self, n: u32)
+        requires { n < (fuse_state D.state self.old).blocks }
+        ensures any { Idles (fuse_state D.state self.old) (fuse_state D.state self.new) }
+        ensures honest { (fuse_state D.state self.new).honest ≡ true
+            → Forgets n (fuse_state D.state self.old) (fuse_state D.state self.new) }
+
+        ensures stays { Stays self.old self.new }
+    {
+        self.inner.forget(n);
     }
 
     fn sync(&mut self) -> Result<(), DeviceFault>

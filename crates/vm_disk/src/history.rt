@@ -63,3 +63,14 @@ pub fn noted_bytes(bytes: &[u8]) -> History<u8>
     }
     kept
 }
+
+/// Blocks, as if each had been noted in turn.
+pub(crate) fn noted_blocks(blocks: &[[u8; 4096]]) -> History<[u8; 4096]>
+    ensures { reverse (noted result) ≡ blocks.now }
+{
+    let mut kept = History::new();
+    for block in blocks {
+        kept.note(block);
+    }
+    kept
+}

@@ -1,26 +1,28 @@
 //! Disks of blocks of 4,096 bytes: the trait that the layers above are written against, what it
 //! promises while the device is honest and when it is not, and disks that keep the promise: in memory,
-//! over a file, one that fails where a test asks it to, and one that keeps the blocks of another which
-//! were used last.
+//! over a file, one that fails where a test asks it to, one that keeps the blocks of another which
+//! were used last, and one that writes the blocks of another late.
 //!
-//! It stands on std, and on `lru` for the order of the kept blocks. Its one promise: what an honest
-//! disk holds at each moment is known to contracts, and with it everything that a crash at that moment
-//! may leave.
+//! It stands on std, and on `lru` for the order of the blocks that are kept or wait. Its one
+//! promise: what an honest disk holds at each moment is known to contracts, and with it everything
+//! that a crash at that moment may leave.
 #![tactic(auto)]
 
 mod cached;
+mod delayed;
 mod disk;
 mod file;
 mod fuse;
 mod history;
 mod kept;
+mod layers;
 mod memory;
 mod positional;
 mod system;
-#[cfg(test)]
-mod tests;
+mod waiting;
 
 pub use cached::CachedDisk;
+pub use delayed::DelayedDisk;
 pub use disk::{DeviceFault, Disk};
 pub use file::FileDisk;
 pub use fuse::FuseDisk;

@@ -1,10 +1,13 @@
 //! A disk in memory, for tests.
 ghost use Rattle.std.specs.Prelude.{◌≡◌, ◌<◌, ◌≤◌, ◌&&◌, ◌==◌, ◌^◌, ◌+◌, ◌-◌, ℕ, true, false, if◌then◌else◌, [], ◌++◌, length, take, replicate, slice_index_or, vec_capacity, IfOk, OnOk, OnErr, IsOk, IsErr};
-ghost use Rattle.vm_disk.specs.Disk.{block, IsClean, MayLeave, Counts, Reads, Writes, Syncs, Extends, Enlarges};
+ghost use Rattle.vm_disk.specs.Disk.{block, IsClean, MayLeave, Counts, Reads, Writes, Idles, Forgets, Syncs, Extends, Enlarges};
 
 use crate::disk::{DeviceFault, Disk};
 use crate::history::History;
 use std::alloc::{AllocError, Global};
+
+/// What each byte of a block is once it was forgotten.
+const FORGOTTEN: u8 = 0xa5;
 
 /// Blocks, which of them are not synced, how many there were at the last sync, and for how many there
 /// is room.
@@ -280,6 +283,22 @@ impl Disk for MemDisk {
         self.platter.blocks[n as usize] = *from;
         self.platter.dirty[n as usize] = true;
         Ok(())
+    }
+
+    fn forget(&mut self, n: u32)
+        requires { n < (memory_state self.old).blocks }
+        ensures any { Idles (memory_state self.old) (memory_state self.new) }
+        ensures honest { (memory_state self.new).honest ≡ true
+            → Forgets n (memory_state self.old) (memory_state self.new) }
+
+        // Other bytes stand there then, so that a test finds who reads them.
+        ensures other { block (memory_state self.new).now.contents n ≡ replicate 4096 165 }
+        ensures room { room_of self.new ≡ room_of self.old }
+    {
+        self.past.note(&self.platter);
+        let at = n as usize;
+        self.platter.blocks[at] = [FORGOTTEN; 4096];
+        self.platter.dirty[at] = true;
     }
 
     fn sync(&mut self) -> Result<(), DeviceFault>

@@ -1,6 +1,6 @@
 //! The trait of a file that is read and written at places.
 ghost use Rattle.std.specs.Prelude.{◌≡◌, ◌≤◌, true, length, replicate};
-ghost use Rattle.vm_disk.specs.Positional.{FileState, CountsFailures, ReadsAt, WritesAt, SyncsFile, Measures};
+ghost use Rattle.vm_disk.specs.Positional.{FileState, joined, CountsFailures, ReadsAt, WritesAt, SyncsFile, Measures};
 
 use crate::disk::DeviceFault;
 
@@ -30,6 +30,13 @@ pub trait Positional {
         ensures honest { (state self.new).honest ≡ true
             → offset ≤ length (state self.old).bytes
             → WritesAt offset from.now result (state self.old) (state self.new) };
+
+    /// Writes blocks one behind another from an offset on, as `write_at` writes one.
+    fn write_blocks_at(&mut self, from: &[[u8; 4096]], offset: u64) -> Result<(), DeviceFault>
+        ensures any { CountsFailures result (state self.old) (state self.new) }
+        ensures honest { (state self.new).honest ≡ true
+            → offset ≤ length (state self.old).bytes
+            → WritesAt offset (joined from.now) result (state self.old) (state self.new) };
 
     /// Writes so many zeros as `write_at` writes bytes, at most 65,536.
     fn write_zeros_at(&mut self, count: usize, offset: u64) -> Result<(), DeviceFault>

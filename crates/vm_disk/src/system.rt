@@ -3,11 +3,11 @@ ghost use Rattle.std.specs.Prelude.{◌≡◌, ℕ, ◌<ℤ◌, pos, ◌≤◌, 
 ghost use Rattle.std.specs.Fd.{file_raw_fd};
 ghost use Rattle.std.specs.Fs.{asks_write};
 ghost use Rattle.vm_disk.specs.Past.{noted};
-ghost use Rattle.vm_disk.specs.Positional.{CountsFailures, ReadsAt, WritesAt, SyncsFile, Measures};
+ghost use Rattle.vm_disk.specs.Positional.{joined, CountsFailures, ReadsAt, WritesAt, SyncsFile, Measures};
 ghost use Rattle.vm_disk.specs.Syncing.{counts_as_synced};
 
 use crate::disk::DeviceFault;
-use crate::history::{History, noted_bytes};
+use crate::history::{History, noted_blocks, noted_bytes};
 use crate::positional::Positional;
 use std::fs::{self, File, Metadata, OpenOptions};
 use std::io::{self, Seek, SeekFrom};
@@ -48,6 +48,7 @@ enum Call {
     Measured(u64),
     Read(u64, Snapshot<[u8; 4096]>),
     Written(u64, Snapshot<[u8; 4096]>),
+    Blocks(u64, History<[u8; 4096]>),
     Zeroed(u64, usize),
     Torn(u64, usize),
     Withheld(u64, usize),
@@ -261,6 +262,29 @@ impl<W: World> Positional for SystemFile<W> {
             return Err(DeviceFault);
         }
         self.calls.note(&Call::Written(offset, Snapshot::of(from)));
+        Ok(())
+    }
+
+    fn write_blocks_at(&mut self, from: &[[u8; 4096]], offset: u64) -> Result<(), DeviceFault>
+        ensures any { CountsFailures result (system_state W.held W.torn self.old) (system_state W.held W.torn self.new) }
+        ensures honest { (system_state W.held W.torn self.new).honest ≡ true
+            → offset ≤ length (system_state W.held W.torn self.old).bytes
+            → WritesAt offset (joined from.now) result (system_state W.held W.torn self.old) (system_state W.held W.torn self.new) }
+
+        ensures mode { is_read_alone self.new ≡ is_read_alone self.old }
+        ensures withheld { is_read_alone self.old ≡ true
+            → IsWithheld result (system_state W.held W.torn self.old) (system_state W.held W.torn self.new) }
+    {
+        let bytes = from.as_flattened();
+        if self.reads_alone {
+            self.calls.note(&Call::Withheld(offset, bytes.len()));
+            return Err(DeviceFault);
+        }
+        if self.file.write_all_at(bytes, offset).is_err() {
+            self.calls.note(&Call::Torn(offset, bytes.len()));
+            return Err(DeviceFault);
+        }
+        self.calls.note(&Call::Blocks(offset, noted_blocks(from)));
         Ok(())
     }
 

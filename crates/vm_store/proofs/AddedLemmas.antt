@@ -3,7 +3,7 @@ use Rattle.std.proofs.Common.{◌≡◌, ℕ, zero, suc, ◌+◌, ◌*◌, ◌<�
 use Rattle.vm_block.specs.declared.slot.Entry.{Entry}
 use Rattle.vm_tree.specs.declared.root.Root.{Root}
 use Rattle.vm_store.specs.Versions.{numbers_of, versions_of}
-use Rattle.vm_store.specs.declared.versions.Version.{Version}
+use Rattle.vm_store.specs.declared.version.Version.{Version}
 
 -- the numbers of one entry more
 more_numbers : (es : List Entry) (i : ℕ) (e : Entry) → i < length es → e ≡ get_or es i e → numbers_of (take (suc i) es) ≡ numbers_of (take i es) ++ e.current ∷ e.base ∷ []

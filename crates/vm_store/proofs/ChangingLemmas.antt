@@ -19,7 +19,7 @@ use Rattle.vm_block.specs.declared.node.Child.{Child}
 use Rattle.vm_block.proofs.EachLemmas.{each_front, each_back}
 use Rattle.vm_block.proofs.NodeLemmas.{node_one}
 use Rattle.vm_tree.specs.Answers.{LacksRoom, Puts}
-use Rattle.vm_tree.specs.Root.{IsRooted, Grown}
+use Rattle.vm_tree.specs.Root.{IsRooted, IsRootedIn}
 use Rattle.vm_tree.specs.declared.root.Root.{Root}
 use Rattle.vm_tree.specs.declared.root.TreeFault.{TreeFault}
 use Rattle.vm_tree.specs.declared.root.TreeFault.TheVariants.{Device, Damaged, Deep, Memory}
@@ -50,7 +50,7 @@ full_in : (P : ℕ → Type 0) (x y : Contents) (limit p : ℕ) → ((n : ℕ) �
     → (l b : ℕ) (rs : List Record) (bs : List ℕ) → Subtree sizes x limit l b rs bs → AllByRecursion P bs → FullBelow sizes x p l b → FullBelow sizes y p l b
 unfolding Subtree FullBelow
 full_in P x y limit p same zero b rs bs tree all full =
-    let here = (subst (AllByRecursion P) tree.3 all).0 in
+    let here = (subst (AllByRecursion P) tree.4 all).0 in
     (full.0, subst (λ (bytes : List ℕ). IsLeaf bytes full.0) (sym (same b here)) full.1, full.2)
 full_in P x y limit p same (suc l) b rs bs tree all full =
     let whole = subst (AllByRecursion P) tree.6 all in
@@ -79,7 +79,7 @@ full_path_in P x y limit p same root m bs (inr top) all some full =
 
 module _ (x y : Contents) (held now : List Bool) (limit : ℕ) (root : Root) (m : Map) (change : Change) where
   -- where a record finds no room, the blocks of the tree keep their bytes, and it meets a full path
-  lacks_meets : (P : ℕ → Type 0) → ((n : ℕ) → P n → block y n ≡ block x n) → Grown sizes P x limit root m → change.after ≢ None → LacksRoom sizes x root m change.key
+  lacks_meets : (P : ℕ → Type 0) → ((n : ℕ) → P n → block y n ≡ block x n) → IsRootedIn sizes P x limit root m → change.after ≢ None → LacksRoom sizes x root m change.key
       → MeetsFullPath y limit m (change ∷ [])
   lacks_meets P same grown adds lacks =
       let stays = grown_in P P x y limit same (λ n is. is) root m grown in
@@ -98,11 +98,11 @@ module _ (x y : Contents) (held now : List Bool) (limit : ℕ) (root : Root) (m 
       }
 
   -- a change to a value answers what a Put of it answers
-  pub put_makes : (value : List ℕ) (result : Result Root TreeFault) → change.after ≡ Some value → ((n : ℕ) → IsHeld held n → block y n ≡ block x n) → (grown : Grown sizes (IsHeld held) x limit root m)
-      → Puts result (LacksRoom sizes x root m change.key) (λ r. AllByRecursion (IsHeld held) grown.stands_in → Grown sizes (IsHeld now) y limit r (with_value m change.key value))
-      → Makes result (MeetsFullPath y limit m (change ∷ [])) (λ r. Grown sizes (IsHeld now) y limit r (with_change m change))
+  pub put_makes : (value : List ℕ) (result : Result Root TreeFault) → change.after ≡ Some value → ((n : ℕ) → IsHeld held n → block y n ≡ block x n) → (grown : IsRootedIn sizes (IsHeld held) x limit root m)
+      → Puts result (LacksRoom sizes x root m change.key) (λ r. AllByRecursion (IsHeld held) grown.stands_in → IsRootedIn sizes (IsHeld now) y limit r (with_value m change.key value))
+      → Makes result (MeetsFullPath y limit m (change ∷ [])) (λ r. IsRootedIn sizes (IsHeld now) y limit r (with_change m change))
   put_makes value (Ok r) is same grown put =
-      subst (λ (after : Option (List ℕ)). Grown sizes (IsHeld now) y limit r (put_or_taken m change.key after)) (sym is) (put.0 grown.each)
+      subst (λ (after : Option (List ℕ)). IsRootedIn sizes (IsHeld now) y limit r (put_or_taken m change.key after)) (sym is) (put.0 grown.each)
   put_makes value (Err Device) is same grown put = tt
   put_makes value (Err (Damaged b)) is same grown put = put
   put_makes value (Err Deep) is same grown put = lacks_meets (IsHeld held) same grown (λ none. cc) put
@@ -110,12 +110,12 @@ module _ (x y : Contents) (held now : List Bool) (limit : ℕ) (root : Root) (m 
 
 -- the old root has the map where the record to be taken out is absent
 pub absent_makes : (old new : Medium) (held now : List Bool) (limit : ℕ) (root : Root) (m : Map) (change : Change) → change.after ≡ None → new ≡ old → now ≡ held → get m change.key ≡ None
-    → Grown sizes (IsHeld held) old.contents limit root m → Grown sizes (IsHeld now) new.contents limit root (with_change m change)
+    → IsRootedIn sizes (IsHeld held) old.contents limit root m → IsRootedIn sizes (IsHeld now) new.contents limit root (with_change m change)
 absent_makes old new held now limit root m change is same still absent grown =
-    subst (λ (after : Option (List ℕ)). Grown sizes (IsHeld now) new.contents limit root (put_or_taken m change.key after)) (sym is)
-    (subst (λ (n : Map). Grown sizes (IsHeld now) new.contents limit root n) (sym (without_absent m change.key absent))
-    (subst (λ (flags : List Bool). Grown sizes (IsHeld flags) new.contents limit root m) (sym still)
-    (subst (λ (medium : Medium). Grown sizes (IsHeld held) medium.contents limit root m) (sym same) grown)))
+    subst (λ (after : Option (List ℕ)). IsRootedIn sizes (IsHeld now) new.contents limit root (put_or_taken m change.key after)) (sym is)
+    (subst (λ (n : Map). IsRootedIn sizes (IsHeld now) new.contents limit root n) (sym (without_absent m change.key absent))
+    (subst (λ (flags : List Bool). IsRootedIn sizes (IsHeld flags) new.contents limit root m) (sym still)
+    (subst (λ (medium : Medium). IsRootedIn sizes (IsHeld held) medium.contents limit root m) (sym same) grown)))
 
 -- what is left without a record is what a change to no value makes
 pub rest_makes : (P : Map → Type 0) (m : Map) (change : Change) → change.after ≡ None → P (without m change.key) → P (with_change m change)
@@ -154,12 +154,12 @@ meets_among y limit m before changes after meets =
 
 module _ (m : Map) (changes : List Change) (i : ℕ) (change : Change) (lt : i < length changes) (is : change ≡ get_or changes i change) where
   -- the change at i makes the first i changes i + 1
-  pub made_more : (Q : ℕ → Type 0) (y : Contents) (limit other : ℕ) (root : Root) → other ≡ limit → Grown sizes Q y other root (with_change (with_changes m (take i changes)) change)
-      → Grown sizes Q y limit root (with_changes m (take (i + 1) changes))
+  pub made_more : (Q : ℕ → Type 0) (y : Contents) (limit other : ℕ) (root : Root) → other ≡ limit → IsRootedIn sizes Q y other root (with_change (with_changes m (take i changes)) change)
+      → IsRootedIn sizes Q y limit root (with_changes m (take (i + 1) changes))
   made_more Q y limit other root same grown =
       let more : with_change (with_changes m (take i changes)) change ≡ with_changes m (take (i + 1) changes) =
       ap (with_change (with_changes m (take i changes))) is ∙ sym (with_changes-more m (take i changes) (get_or changes i change)) ∙ ap (with_changes m) (sym (take_more changes i change lt)) in
-      subst (λ (k : Map). Grown sizes Q y limit root k) more (grown_of Q y other limit root _ same grown)
+      subst (λ (k : Map). IsRootedIn sizes Q y limit root k) more (grown_of Q y other limit root _ same grown)
 
   meets_later : (y : Contents) (limit : ℕ) → MeetsFullPath y limit (with_changes m (take i changes)) (change ∷ []) → MeetsFullPath y limit m changes
   meets_later y limit meets =

@@ -5,7 +5,7 @@ use Rattle.vm_types.specs.Map.{Map}
 use Rattle.vm_types.specs.Firsts.{change_first}
 use Rattle.vm_types.specs.Tree.{Tree, Alternative, Saved, named, changed}
 use Rattle.vm_block.specs.Slot.{is_alternative}
-use Rattle.vm_store.specs.Filed.{Filed, saved_of, bare, with_saved, add, grown}
+use Rattle.vm_store.specs.Filed.{Filed, saved_of, bare, with_saved, add, with_filed}
 
 -- whether it is the alternative of this name
 abbrev pub is_filed : List ℕ → Filed → Bool
@@ -104,7 +104,7 @@ some_maps (Some a) None e = cc
 some_maps (Some a) (Some b) e = refl
 
 -- one entry more at the end
-pub grown_more : (t : Tree) (fs : List Filed) (f : Filed) → grown t (fs ++ f ∷ []) ≡ add (grown t fs) f
+pub grown_more : (t : Tree) (fs : List Filed) (f : Filed) → with_filed t (fs ++ f ∷ []) ≡ add (with_filed t fs) f
 grown_more t [] f = refl
 grown_more t (g ∷ fs) f = grown_more (add t g) fs f
 
@@ -149,19 +149,19 @@ module _ (n : List ℕ) where
       maps_none None e = refl
       maps_none (Some a) e = cc
 
-  grown_present : (t : Tree) (fs : List Filed) → is_some (named t n) ≡ true → option_map maps_of (named (grown t fs) n) ≡ option_map maps_of (named t n)
+  grown_present : (t : Tree) (fs : List Filed) → is_some (named t n) ≡ true → option_map maps_of (named (with_filed t fs) n) ≡ option_map maps_of (named t n)
   grown_present t [] h = refl
   grown_present t (f ∷ fs) h = grown_present (add t f) fs (there t f h) ∙ add_present t f h
 
   -- the maps of an alternative are those of the first entry that is it
-  pub grown_named : (t : Tree) (fs : List Filed) → is_some (named t n) ≡ false → option_map maps_of (named (grown t fs) n) ≡ option_map filed_maps (find (is_filed n) fs)
+  pub grown_named : (t : Tree) (fs : List Filed) → is_some (named t n) ≡ false → option_map maps_of (named (with_filed t fs) n) ≡ option_map filed_maps (find (is_filed n) fs)
   grown_named t [] h = add_nothing (named t n) h
     where
       add_nothing : (o : Option Alternative) → is_some o ≡ false → option_map maps_of o ≡ None
       add_nothing None e = refl
       add_nothing (Some a) e = cc
   grown_named t (f ∷ fs) h =
-      elim (is_filed n f) as (λ b. is_filed n f ≡ b → option_map maps_of (named (grown (add t f) fs) n) ≡ option_map filed_maps (cond b (Some f) (find (is_filed n) fs))) [
+      elim (is_filed n f) as (λ b. is_filed n f ≡ b → option_map maps_of (named (with_filed (add t f) fs) n) ≡ option_map filed_maps (cond b (Some f) (find (is_filed n) fs))) [
         | true ↦ λ is. grown_present (add t f) fs (now_there t f h is) ∙ add_absent t f h ∙ ap (λ b. cond b (Some (filed_maps f)) None) is
         | false ↦ λ is. grown_named (add t f) fs (not_there t f h is)
       ] refl
@@ -174,9 +174,9 @@ module _ (n : List ℕ) where
           | false ↦ commute n t (unwrap_or f.owner []) (saved_of f) g h
         ]
 
-    grown_commute : (t : Tree) (fs : List Filed) → is_some (named t n) ≡ true → grown (changed t n (with_maps g h)) fs ≡ changed (grown t fs) n (with_maps g h)
+    grown_commute : (t : Tree) (fs : List Filed) → is_some (named t n) ≡ true → with_filed (changed t n (with_maps g h)) fs ≡ changed (with_filed t fs) n (with_maps g h)
     grown_commute t [] is_there = refl
-    grown_commute t (f ∷ fs) is_there = ap (λ t. grown t fs) (add_commute t f is_there) ∙ grown_commute (add t f) fs (there t f is_there)
+    grown_commute t (f ∷ fs) is_there = ap (λ t. with_filed t fs) (add_commute t f is_there) ∙ grown_commute (add t f) fs (there t f is_there)
 
     -- the first entry of the name, where it is added to a tree without one, with other maps
     add_changed : (t : Tree) (f : Filed) → is_some (named t n) ≡ false → is_filed n f ≡ true → add t (refiled_both g h f) ≡ changed (add t f) n (with_maps g h)
@@ -187,7 +187,7 @@ module _ (n : List ℕ) where
         ] is_it
 
     -- other maps of the first entry of the name are other maps of that alternative
-    pub grown_turned : (t : Tree) (fs : List Filed) → is_some (named t n) ≡ false → grown t (change_first (is_filed n) (refiled_both g h) fs) ≡ changed (grown t fs) n (with_maps g h)
+    pub grown_turned : (t : Tree) (fs : List Filed) → is_some (named t n) ≡ false → with_filed t (change_first (is_filed n) (refiled_both g h) fs) ≡ changed (with_filed t fs) n (with_maps g h)
     grown_turned t [] none = sym (absent t none)
       where
         absent : (t : Tree) → is_some (named t n) ≡ false → changed t n (with_maps g h) ≡ t
@@ -198,11 +198,11 @@ module _ (n : List ℕ) where
               | false ↦ λ none. ap (λ v. a ∷ v) (absent t none)
             ] none
     grown_turned t (f ∷ fs) none =
-        elim (is_filed n f) as (λ b. is_filed n f ≡ b → grown t (cond b (refiled_both g h f ∷ fs) (f ∷ change_first (is_filed n) (refiled_both g h) fs)) ≡ changed (grown (add t f) fs) n (with_maps g h)) [
-          | true ↦ λ is. ap (λ t. grown t fs) (add_changed t f none is) ∙ grown_commute (add t f) fs (now_there t f none is)
+        elim (is_filed n f) as (λ b. is_filed n f ≡ b → with_filed t (cond b (refiled_both g h f ∷ fs) (f ∷ change_first (is_filed n) (refiled_both g h) fs)) ≡ changed (with_filed (add t f) fs) n (with_maps g h)) [
+          | true ↦ λ is. ap (λ t. with_filed t fs) (add_changed t f none is) ∙ grown_commute (add t f) fs (now_there t f none is)
           | false ↦ λ is. grown_turned (add t f) fs (not_there t f none is)
         ] refl
 
   -- other records of the first entry of the name are other records of that alternative
-  pub grown_changed : (g : Map → Map) (t : Tree) (fs : List Filed) → is_some (named t n) ≡ false → grown t (change_first (is_filed n) (refiled g) fs) ≡ changed (grown t fs) n (recurrent g)
+  pub grown_changed : (g : Map → Map) (t : Tree) (fs : List Filed) → is_some (named t n) ≡ false → with_filed t (change_first (is_filed n) (refiled g) fs) ≡ changed (with_filed t fs) n (recurrent g)
   grown_changed g t fs absent = grown_turned g (λ b. b) t fs absent

@@ -4,15 +4,14 @@ use Rattle.vm_types.specs.Map.{Map}
 use Rattle.std.proofs.lemmas.Bool.{false≢true}
 use Rattle.std.proofs.lemmas.List.Elements.{All-from_recursion}
 use Rattle.vm_types.specs.Name.{IsName, IsNameByte}
-use Rattle.vm_types.specs.Tree.{fresh}
-use Rattle.vm_disk.specs.Disk as disk
-use Rattle.vm_disk.specs.Disk.{Contents, block, Medium, MayLeave, IsClean, Writes, Syncs}
+use Rattle.vm_types.specs.Tree.{Tree, fresh}
+use Rattle.vm_disk.specs.Disk.{Contents, DiskState, IsClean, Medium, Syncs, Writes, block}
 use Rattle.vm_disk.specs.declared.disk.DeviceFault.{DeviceFault}
-use Rattle.vm_disk.specs.Moments.{Leaves, Spares}
+use Rattle.vm_disk.specs.Moments.{Leaves, TouchesOnly}
 use Rattle.vm_block.specs.Header.{IsHeader}
 use Rattle.vm_block.specs.Selector.{names_b, selector_bytes}
 use Rattle.vm_block.specs.Slot.{SlotFits, IsSlot, used_blocks}
-use Rattle.vm_tree.specs.Root.{Grown}
+use Rattle.vm_tree.specs.Root.{IsRootedIn}
 use Rattle.vm_tree.specs.declared.root.Root.{Root}
 use Rattle.vm_tree.proofs.RootRemoval.{rooted_bare}
 use Rattle.vm_block.specs.declared.slot.Kind.TheVariants as kind
@@ -25,11 +24,11 @@ use Rattle.vm_catalog.proofs.SlotLaw.{written_slot}
 use Rattle.vm_catalog.proofs.SlotOne.{slot_one}
 use Rattle.vm_store.specs.Sizes.{sizes}
 use Rattle.vm_store.specs.Filed.{Filed, Standing, tree_of}
-use Rattle.vm_store.specs.Shown.{ShowsAtMostFresh}
+use Rattle.vm_store.specs.Shown.{ShowsAtMostNew, new_store}
 use Rattle.vm_store.specs.Refused.{IsSynced, IsAtMostSynced}
 use Rattle.vm_store.specs.Formatting.{fresh_entry, IsLaidOut, IsFormatted, IsFormatting}
 use Rattle.vm_store.specs.Versions.{entry_of, slot_entries}
-use Rattle.vm_store.specs.declared.versions.Version.{Version}
+use Rattle.vm_store.specs.declared.version.Version.{Version}
 use Rattle.vm_store.proofs.TopLemmas.{none_grown}
 
 -- block 0 is as it was, and clean
@@ -38,19 +37,19 @@ pub record KeepsFirst (old m : Medium) : Type 0 where
   pub clean : m.dirty 0 ≡ false
 
 -- without a header nothing is shown
-pub no_header : (old m : Medium) → (IsHeader (block old.contents 0) → ⊥) → KeepsFirst old m → Leaves ShowsAtMostFresh m
-no_header old m none keeps left may tree shown = absurd (none (subst IsHeader (may.clean 0 keeps.clean ∙ keeps.same) shown.names.header))
+pub no_header : (blocks : ℕ) (old m : Medium) → (IsHeader (block old.contents 0) → ⊥) → KeepsFirst old m → Leaves (ShowsAtMostNew blocks) m
+no_header blocks old m none keeps left may seen shown = absurd (none (subst IsHeader (may.clean 0 keeps.clean ∙ keeps.same) shown.names.header))
 
-pub first_spared : (old m : Medium) → IsClean old → Spares (region 2 1) old m → KeepsFirst old m
+pub first_spared : (old m : Medium) → IsClean old → TouchesOnly (region 2 1) old m → KeepsFirst old m
 first_spared old m clean spares = record { same = spares.same 0 refl; clean = spares.clean 0 refl (clean 0) }
 
-pub first_kept : {T : Type 0} (bytes : List ℕ) (result : Result T DeviceFault) (old : Medium) (mid new : disk.State) → KeepsFirst old mid.now → Writes 1 bytes result mid new → KeepsFirst old new.now
+pub first_kept : {T : Type 0} (bytes : List ℕ) (result : Result T DeviceFault) (old : Medium) (mid new : DiskState) → KeepsFirst old mid.now → Writes 1 bytes result mid new → KeepsFirst old new.now
 first_kept bytes result old mid new keeps writes = record {
   same = writes.others 0 (λ (e : 0 ≡ 1). omega arith) ∙ keeps.same;
   clean = writes.others_dirty 0 (λ (e : 0 ≡ 1). omega arith) ∙ keeps.clean;
 }
 
-pub first_synced : {T : Type 0} (result : Result T DeviceFault) (old : Medium) (mid new : disk.State) → KeepsFirst old mid.now → Syncs result mid new → KeepsFirst old new.now
+pub first_synced : {T : Type 0} (result : Result T DeviceFault) (old : Medium) (mid new : DiskState) → KeepsFirst old mid.now → Syncs result mid new → KeepsFirst old new.now
 first_synced (Ok x) old mid new keeps sync = record { same = ap (λ (x : Contents). block x 0) sync.same ∙ keeps.same; clean = sync.synced 0 }
 first_synced (Err e) old mid new keeps sync = record { same = ap (λ (x : Contents). block x 0) sync.same ∙ keeps.same; clean = ap (λ (m : Medium). m.dirty 0) sync.failed ∙ keeps.clean }
 
@@ -63,7 +62,7 @@ abbrev fresh_version : Version
 fresh_version = record { kind = kind.Alternative; name = fresh_entry.name; owner = None; current = no_root; base = no_root }
 
 -- what is under block 0 is empty
-empty_map : (x : Contents) (limit : ℕ) (root : Root) (m : Map) → root.block ≡ 0 → Grown sizes (λ n. Unit {0}) x limit root m → m ≡ []
+empty_map : (x : Contents) (limit : ℕ) (root : Root) (m : Map) → root.block ≡ 0 → IsRootedIn sizes (λ n. Unit {0}) x limit root m → m ≡ []
 empty_map x limit root m none grown = (rooted_bare sizes x limit root m grown.stands_in grown.rooted none).empty
 
 one_filed : (x : Contents) (limit : ℕ) (vs : List Version) (fs : List Filed) → slot_entries vs ≡ fresh_entry ∷ [] → Standing (λ n. Unit {0}) x limit vs fs → tree_of fs ≡ fresh
@@ -88,10 +87,11 @@ one_filed x limit (v ∷ []) (f ∷ []) is s =
         ∙ ap (λ (b : Map). record f { kind = kind.Alternative; name = fresh_entry.name; owner = None; current = []; base = b }) b
 
 -- where slot A holds the one entry of a new store, and is named, only a new store can be shown
-pub only_fresh : (x : Contents) (blocks : ℕ) → selected x ≡ false → SlotAt x false blocks (fresh_entry ∷ []) → ShowsAtMostFresh x
-only_fresh x blocks in_use slot tree shown =
-    let same = slot_one x false shown.limit blocks (slot_entries shown.versions) (fresh_entry ∷ []) (subst (λ b. SlotAt x b shown.limit (slot_entries shown.versions)) in_use shown.names.slot) slot in
-    sym shown.gives ∙ one_filed x shown.limit shown.versions shown.filed same.1 shown.stands
+pub only_fresh : (x : Contents) (blocks : ℕ) → selected x ≡ false → SlotAt x false blocks (fresh_entry ∷ []) → ShowsAtMostNew blocks x
+only_fresh x blocks in_use slot seen shown =
+    let same = slot_one x false seen.blocks blocks (slot_entries shown.versions) (fresh_entry ∷ []) (subst (λ b. SlotAt x b seen.blocks (slot_entries shown.versions)) in_use shown.names.slot) slot in
+    let tree : seen.tree ≡ fresh = sym shown.gives ∙ one_filed x seen.blocks shown.versions shown.filed same.1 shown.stands in
+    ap (λ (t : Tree). record { tree = t; blocks = seen.blocks }) tree ∙ ap new_store same.0
 
 -- all but block 0 is as in a disk that is laid out, and clean
 pub record KeepsRest (old m : Medium) : Type 0 where
@@ -99,23 +99,23 @@ pub record KeepsRest (old m : Medium) : Type 0 where
   pub same : (n : ℕ) → n ≢ 0 → block m.contents n ≡ block old.contents n
   pub clean : (n : ℕ) → n ≢ 0 → m.dirty n ≡ false
 
-rest_fresh : (blocks : ℕ) (old : Medium) (x : Contents) → IsLaidOut blocks old → ((n : ℕ) → n ≢ 0 → block x n ≡ block old.contents n) → ShowsAtMostFresh x
+rest_fresh : (blocks : ℕ) (old : Medium) (x : Contents) → IsLaidOut blocks old → ((n : ℕ) → n ≢ 0 → block x n ≡ block old.contents n) → ShowsAtMostNew blocks x
 rest_fresh blocks old x laid same =
     only_fresh x blocks (ap (λ b. names_b b) (same 1 (λ (e : 1 ≡ 0). omega arith)) ∙ laid.selected)
     (slot_in old.contents x false blocks (fresh_entry ∷ []) (λ n low high. same n (λ (e : n ≡ 0). omega (arith, low))) laid.slot)
 
-pub at_header : (blocks : ℕ) (old m : Medium) → IsLaidOut blocks old → KeepsRest old m → Leaves ShowsAtMostFresh m
+pub at_header : (blocks : ℕ) (old m : Medium) → IsLaidOut blocks old → KeepsRest old m → Leaves (ShowsAtMostNew blocks) m
 at_header blocks old m laid keeps left may = rest_fresh blocks old left laid (λ n other. may.clean n (keeps.clean n other) ∙ keeps.same n other)
 
-pub header_written : {T : Type 0} (bytes : List ℕ) (result : Result T DeviceFault) (old new : disk.State) → IsClean old.now → Writes 0 bytes result old new → KeepsRest old.now new.now
+pub header_written : {T : Type 0} (bytes : List ℕ) (result : Result T DeviceFault) (old new : DiskState) → IsClean old.now → Writes 0 bytes result old new → KeepsRest old.now new.now
 header_written bytes result old new clean writes = record { count = writes.count; same = writes.others; clean = λ n other. writes.others_dirty n other ∙ clean n }
 
-pub header_synced : {T : Type 0} (result : Result T DeviceFault) (old : Medium) (mid new : disk.State) → KeepsRest old mid.now → Syncs result mid new → KeepsRest old new.now
+pub header_synced : {T : Type 0} (result : Result T DeviceFault) (old : Medium) (mid new : DiskState) → KeepsRest old mid.now → Syncs result mid new → KeepsRest old new.now
 header_synced (Ok x) old mid new keeps sync = record { count = ap length sync.same ∙ keeps.count; same = λ n other. ap (λ (x : Contents). block x n) sync.same ∙ keeps.same n other; clean = λ n other. sync.synced n }
 header_synced (Err e) old mid new keeps sync = record { count = ap length sync.same ∙ keeps.count; same = λ n other. ap (λ (x : Contents). block x n) sync.same ∙ keeps.same n other; clean = λ n other. ap (λ (m : Medium). m.dirty n) sync.failed ∙ keeps.clean n other }
 
 -- the header is there, and so a new store is shown
-pub formatted_now : {T : Type 0} (blocks : ℕ) (result : Result T DeviceFault) (old : Medium) (mid new : disk.State) → IsLaidOut blocks old → KeepsRest old mid.now → IsHeader (block mid.now.contents 0) → blocks ≤ length old.contents
+pub formatted_now : {T : Type 0} (blocks : ℕ) (result : Result T DeviceFault) (old : Medium) (mid new : DiskState) → IsLaidOut blocks old → KeepsRest old mid.now → IsHeader (block mid.now.contents 0) → blocks ≤ length old.contents
     → Syncs result mid new → OnOk result (IsFormatted blocks new.now)
 formatted_now blocks (Err e) old mid new laid keeps header inside sync = tt
 formatted_now blocks (Ok y) old mid new laid keeps header inside sync =
@@ -125,7 +125,6 @@ formatted_now blocks (Ok y) old mid new laid keeps header inside sync =
     let slot : SlotAt x false blocks (fresh_entry ∷ []) = slot_in old.contents x false blocks (fresh_entry ∷ []) (λ n low high. same n (λ (e : n ≡ 0). omega (arith, low))) laid.slot in
     record {
       shown = record {
-        limit = blocks;
         versions = fresh_version ∷ [];
         filed = record { kind = kind.Alternative; name = fresh_entry.name; owner = None; current = []; base = [] } ∷ [];
         names = record { header = ap (λ (x : Contents). block x 0) sync.same ∙ header; slot = subst (λ b. SlotAt x b blocks (fresh_entry ∷ [])) (sym in_use) slot };
@@ -133,15 +132,14 @@ formatted_now blocks (Ok y) old mid new laid keeps header inside sync =
         stands = (record { kind = refl; name = refl; owner = refl; current = empty x; base = empty x }, tt);
         gives = refl;
       };
-      size = refl;
       clean = sync.synced;
     }
   where
-    empty : (x : Contents) → Grown sizes (λ n. Unit {0}) x blocks no_root []
+    empty : (x : Contents) → IsRootedIn sizes (λ n. Unit {0}) x blocks no_root []
     empty x = none_grown (λ n. Unit {0}) x blocks no_root refl
 
 -- the slot and the selector are written, and synced
-pub laid_now : {T : Type 0} (blocks : ℕ) (es : List Entry) (result : Result T DeviceFault) (written chosen new : disk.State) {U : Type 0} (select : Result U DeviceFault) (u : U) → es ≡ fresh_entry ∷ []
+pub laid_now : {T : Type 0} (blocks : ℕ) (es : List Entry) (result : Result T DeviceFault) (written chosen new : DiskState) {U : Type 0} (select : Result U DeviceFault) (u : U) → es ≡ fresh_entry ∷ []
     → SlotFits blocks (fresh_entry ∷ [])
     → blocks_from written.now.contents 2 (used_blocks (length es)) ≡ slot_blocks blocks es → select ≡ Ok u → Writes 1 (selector_bytes false) select written chosen → Syncs result chosen new → OnOk result (IsLaidOut blocks new.now)
 laid_now blocks es (Err e) written chosen new select u is fits slot ok writes sync = tt
@@ -172,11 +170,11 @@ still_there old m (inl same) = ap (λ (n : Medium). n.contents) same
 still_there old m (inr synced) = synced.same
 
 -- a part of a formatting in which nothing is written
-pub not_yet : (old m : Medium) → IsAtMostSynced old m → IsFormatting old m
-not_yet old m so_far = inl so_far
+pub not_yet : (blocks : ℕ) (old m : Medium) → IsAtMostSynced old m → IsFormatting blocks old m
+not_yet blocks old m so_far = inl so_far
 
-pub formatting : (old m : Medium) → (IsHeader (block old.contents 0) → ⊥) → Leaves ShowsAtMostFresh m → IsFormatting old m
-formatting old m none leaves = inr (none, leaves)
+pub formatting : (blocks : ℕ) (old m : Medium) → (IsHeader (block old.contents 0) → ⊥) → Leaves (ShowsAtMostNew blocks) m → IsFormatting blocks old m
+formatting blocks old m none leaves = inr (none, leaves)
 
 pub rest_itself : (old : Medium) → IsClean old → KeepsRest old old
 rest_itself old clean = record { count = refl; same = λ n other. refl; clean = λ n other. clean n }

@@ -1,7 +1,7 @@
 -- Finding in a list: where an item passes a test, and where none does.
-use Rattle.std.proofs.Common.{◌≡◌, ℕ, suc, ◌<◌, ◌≤◌, ◌||◌, Bool, true, false, cond, List, [], ◌∷◌, length, get_or, filter, find, None, Some, refl, sym, ap, ◌∙◌, arith}
+use Rattle.std.proofs.Common.{◌≡◌, ℕ, suc, ◌<◌, ◌≤◌, ◌||◌, Bool, true, false, cond, List, [], ◌∷◌, length, get_or, set, subst, filter, find, None, Some, refl, sym, ap, ◌∙◌, arith}
 use Rattle.std.specs.List.{AllByRecursion, list_any}
-use Rattle.vm_types.specs.Firsts.{change_first, without_first}
+use Rattle.vm_types.specs.Firsts.{IsFirst, change_first, without_first}
 
 pub find_none : {X : Type 0} (test : X → Bool) (xs : List X) → ((k : ℕ) (d : X) → k < length xs → test (get_or xs k d) ≡ false) → find test xs ≡ None
 find_none test [] fails = refl
@@ -28,6 +28,12 @@ any_none test (y ∷ ys) h = elim (test y) as (λ b. cond b (Some y) (find test 
 pub any_same : {X : Type 0} (test other : X → Bool) (xs : List X) → ((x : X) → test x ≡ other x) → list_any test xs ≡ list_any other xs
 any_same test other [] same = refl
 any_same test other (x ∷ xs) same = ap (λ b. b || list_any test xs) (same x) ∙ ap (λ b. other x || b) (any_same test other xs same)
+
+-- what is found at a place, changed
+pub changed_at : {X : Type 0} (test : X → Bool) (f : X → X) (lent xs : List X) (i : ℕ) (d : X) → lent ≡ xs → IsFirst test lent i → d ≡ get_or xs i d → set xs i (f d) ≡ change_first test f xs
+changed_at test f lent xs i d same first is =
+    let first' : IsFirst test xs i = subst (λ es. IsFirst test es i) same first in
+    ap (λ e. set xs i (f e)) is ∙ sym (first'.change f d)
 
 -- two changes that do the same to what is found
 pub change_first-same : {X : Type 0} (test : X → Bool) (f g : X → X) (xs : List X) (x : X) → find test xs ≡ Some x → f x ≡ g x → change_first test f xs ≡ change_first test g xs

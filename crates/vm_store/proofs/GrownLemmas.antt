@@ -10,7 +10,7 @@ use Rattle.vm_types.specs.Tree.{Tree, Alternative, Saved, named, changed, has_ch
 use Rattle.vm_types.specs.Shape.{shape}
 use Rattle.vm_types.proofs.ShapeLemmas.{shape_changed}
 use Rattle.vm_block.specs.Slot.{is_alternative}
-use Rattle.vm_store.specs.Filed.{Filed, saved_of, bare, with_saved, add, grown}
+use Rattle.vm_store.specs.Filed.{Filed, saved_of, bare, with_saved, add, with_filed}
 use Rattle.vm_store.proofs.FiledLemmas.{is_filed, there, now_there, not_there, named_front, named_back}
 
 -- whether it is a checkpoint of the alternative of this name
@@ -46,7 +46,7 @@ module _ (n : List ℕ) where
   ] refl
 
   -- an alternative is there where it was, or where an entry is it
-  pub there_grown : (t : Tree) (fs : List Filed) → is_some (named (grown t fs) n) ≡ (is_some (named t n) || list_any (is_filed n) fs)
+  pub there_grown : (t : Tree) (fs : List Filed) → is_some (named (with_filed t fs) n) ≡ (is_some (named t n) || list_any (is_filed n) fs)
   there_grown t [] = or_none (is_some (named t n))
     where
       or_none : (b : Bool) → b ≡ (b || false)
@@ -65,7 +65,7 @@ filed_shape fs = map (λ f. (f.name, f.owner)) (filter (λ f. is_alternative f.k
 shape_saved : (t : Tree) (o : List ℕ) (c : Saved) → shape (changed t o (with_saved c)) ≡ shape t
 shape_saved t o c = shape_changed t o (with_saved c) (record { name = λ x. refl; parent = λ x. refl })
 
-pub grown_shape : (t : Tree) (fs : List Filed) → shape (grown t fs) ≡ shape t ++ filed_shape fs
+pub grown_shape : (t : Tree) (fs : List Filed) → shape (with_filed t fs) ≡ shape t ++ filed_shape fs
 grown_shape t [] = sym (append-nil (shape t))
 grown_shape t (f ∷ fs) = grown_shape (add t f) fs ∙ elim (is_alternative f.kind) as (λ b. shape (cond b (t ++ bare f ∷ []) (changed t (unwrap_or f.owner []) (with_saved (saved_of f)))) ++ filed_shape fs ≡ shape t ++ map (λ (f : Filed). (f.name, f.owner)) (cond b (f ∷ filter (λ f. is_alternative f.kind) fs) (filter (λ f. is_alternative f.kind) fs))) [
   | true ↦ ap (λ s. s ++ filed_shape fs) (map-append (λ (a : Alternative). (a.name, a.parent)) t (bare f ∷ [])) ∙ append_assoc (shape t) ((f.name, f.owner) ∷ []) (filed_shape fs)
@@ -80,8 +80,8 @@ children_of_shape : (t : Tree) (n : List ℕ) → list_any (λ (e : List ℕ × 
 children_of_shape [] n = refl
 children_of_shape (a ∷ t) n = ap (λ b. option_eq bytes_eq a.parent (Some n) || b) (children_of_shape t n)
 
-pub children_filed : (n : List ℕ) (fs : List Filed) → has_children (grown [] fs) n ≡ list_any (is_filed_child n) fs
-children_filed n fs = sym (children_of_shape (grown [] fs) n) ∙ ap (list_any (λ (e : List ℕ × Option (List ℕ)). option_eq bytes_eq e.1 (Some n))) (grown_shape [] fs) ∙ of_entries fs
+pub children_filed : (n : List ℕ) (fs : List Filed) → has_children (with_filed [] fs) n ≡ list_any (is_filed_child n) fs
+children_filed n fs = sym (children_of_shape (with_filed [] fs) n) ∙ ap (list_any (λ (e : List ℕ × Option (List ℕ)). option_eq bytes_eq e.1 (Some n))) (grown_shape [] fs) ∙ of_entries fs
   where
     of_entries : (fs : List Filed) → list_any (λ (e : List ℕ × Option (List ℕ)). option_eq bytes_eq e.1 (Some n)) (filed_shape fs) ≡ list_any (is_filed_child n) fs
     of_entries [] = refl
@@ -128,7 +128,7 @@ count_add t f may = elim (is_alternative f.kind) as (λ b. is_alternative f.kind
       subst (λ o. entry_count (changed t (unwrap_or o []) (with_saved (saved_of f))) ≡ entry_count t + 1) (sym owned.1) (count_saved t owned.0 (saved_of f) owned.2)
 ] refl
 
-pub count_grown : (t : Tree) (fs : List Filed) → InOrder t fs → entry_count (grown t fs) ≡ entry_count t + length fs
+pub count_grown : (t : Tree) (fs : List Filed) → InOrder t fs → entry_count (with_filed t fs) ≡ entry_count t + length fs
 count_grown t [] h = omega arith
 count_grown t (f ∷ fs) h = let one = count_add t f h.0 in let more = count_grown (add t f) fs h.1 in omega arith
 
@@ -187,10 +187,10 @@ module _ (n : List ℕ) where
   ] refl
 
   -- an alternative that is there gets the checkpoints among the entries
-  named_there : (t : Tree) (fs : List Filed) (a : Alternative) → InOrder t fs → named t n ≡ Some a → named (grown t fs) n ≡ Some (more_saved (map saved_of (filter (is_filed_under n) fs)) a)
+  named_there : (t : Tree) (fs : List Filed) (a : Alternative) → InOrder t fs → named t n ≡ Some a → named (with_filed t fs) n ≡ Some (more_saved (map saved_of (filter (is_filed_under n) fs)) a)
   named_there t [] a h is = is ∙ ap (λ cs. Some (record a { saved = cs })) (sym (append-nil a.saved))
   named_there t (f ∷ fs) a h is =
-      elim (is_filed_under n f) as (λ b. named (add t f) n ≡ Some (cond b (with_saved (saved_of f) a) a) → named (grown (add t f) fs) n ≡ Some (more_saved (map saved_of (cond b (f ∷ filter (is_filed_under n) fs) (filter (is_filed_under n) fs))) a)) [
+      elim (is_filed_under n f) as (λ b. named (add t f) n ≡ Some (cond b (with_saved (saved_of f) a) a) → named (with_filed (add t f) fs) n ≡ Some (more_saved (map saved_of (cond b (f ∷ filter (is_filed_under n) fs) (filter (is_filed_under n) fs))) a)) [
         | true ↦ λ now. named_there (add t f) fs (with_saved (saved_of f) a) h.1 now ∙ ap (λ cs. Some (record a { saved = cs })) (append_assoc a.saved (saved_of f ∷ []) (map saved_of (filter (is_filed_under n) fs)))
         | false ↦ λ now. named_there (add t f) fs a h.1 now
       ] (named_add t f a h.0 is)
@@ -212,12 +212,12 @@ module _ (n : List ℕ) where
   ] it
 
   -- an alternative that an entry brings in, with its checkpoints
-  pub named_whole : (t : Tree) (fs : List Filed) (f : Filed) → InOrder t fs → is_some (named t n) ≡ false → find (is_filed n) fs ≡ Some f → named (grown t fs) n ≡ Some (whole n fs f)
+  pub named_whole : (t : Tree) (fs : List Filed) (f : Filed) → InOrder t fs → is_some (named t n) ≡ false → find (is_filed n) fs ≡ Some f → named (with_filed t fs) n ≡ Some (whole n fs f)
   named_whole t [] f h absent is = cc
   named_whole t (g ∷ gs) f h absent is =
       let under : is_filed_under n g ≡ false = not_under t g h.0 absent in
       let rest : filter (is_filed_under n) (g ∷ gs) ≡ filter (is_filed_under n) gs = ap (λ b. cond b (g ∷ filter (is_filed_under n) gs) (filter (is_filed_under n) gs)) under in
-      elim (is_filed n g) as (λ b. is_filed n g ≡ b → cond b (Some g) (find (is_filed n) gs) ≡ Some f → named (grown (add t g) gs) n ≡ Some (whole n (g ∷ gs) f)) [
+      elim (is_filed n g) as (λ b. is_filed n g ≡ b → cond b (Some g) (find (is_filed n) gs) ≡ Some f → named (with_filed (add t g) gs) n ≡ Some (whole n (g ∷ gs) f)) [
         | true ↦ λ it is.
             let same : g ≡ f = cc in
             named_there (add t g) gs (bare g) h.1 (bare_added t g absent it) ∙ ap (λ (d : Filed). Some (more_saved (map saved_of (filter (is_filed_under n) gs)) (bare d))) same

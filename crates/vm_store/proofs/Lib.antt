@@ -1,4 +1,5 @@
 pub mod AddedLemmas
+pub mod CarryLemmas
 pub mod ChangingLemmas
 pub mod EntryTests
 pub mod FiledLemmas
@@ -9,6 +10,7 @@ pub mod GuardLemmas
 pub mod LedgerLemmas
 pub mod LedgerMoves
 pub mod Listing
+pub mod LongerLemmas
 pub mod MarkedLemmas
 pub mod MarkingLemmas
 pub mod MergeSteps
@@ -29,5 +31,6 @@ pub mod StandingLemmas
 pub mod TakenLemmas
 pub mod TallyLemmas
 pub mod TopLemmas
+pub mod TurnLemmas
 pub mod VersionLemmas
 pub mod WiderLemmas

@@ -6,7 +6,7 @@ use Rattle.vm_types.specs.Map.{Map}
 use Rattle.vm_types.specs.State.{State}
 use Rattle.vm_disk.specs.Disk.{Medium}
 use Rattle.vm_store.specs.Versions.{is_alternative_of}
-use Rattle.vm_store.specs.declared.versions.Version.{Version}
+use Rattle.vm_store.specs.declared.version.Version.{Version}
 use Rattle.vm_store.specs.Faults.{refusal_of}
 use Rattle.vm_tree.specs.Answers.{Lists}
 use Rattle.vm_types.specs.Queries.{IsList, records_of, records_in}

@@ -9,7 +9,7 @@ use Rattle.vm_alloc.specs.Marks.{IsMarked}
 use Rattle.vm_check.specs.Marking.{IsClosed}
 use Rattle.vm_store.specs.Filed.{Filed, Standing, reach}
 use Rattle.vm_store.specs.Marking.{AreReached}
-use Rattle.vm_store.specs.declared.versions.Version.{Version}
+use Rattle.vm_store.specs.declared.version.Version.{Version}
 use Rattle.vm_store.proofs.WiderLemmas.{rooted_wider}
 
 -- standing versions reach just what is under their roots, also in a store of more blocks

@@ -18,12 +18,12 @@ use Rattle.vm_types.proofs.Steps.{merge_accepted, merge_refused}
 use Rattle.vm_types.proofs.Changes.{with_changes-delta}
 use Rattle.vm_types.proofs.Maps.{IsMap-merge}
 use Rattle.vm_disk.specs.Disk.{Contents, Medium}
-use Rattle.vm_disk.specs.Moments.{Spares}
+use Rattle.vm_disk.specs.Moments.{TouchesOnly}
 use Rattle.vm_alloc.specs.Held.{IsHeld, HoldsMore}
 use Rattle.vm_block.specs.Slot as slot
 use Rattle.vm_block.specs.Slot.{SlotFits}
 use Rattle.vm_tree.specs.Free.{is_free}
-use Rattle.vm_tree.specs.Root.{Grown}
+use Rattle.vm_tree.specs.Root.{IsRootedIn}
 use Rattle.vm_tree.specs.declared.root.Root.{Root}
 use Rattle.vm_tree.specs.declared.root.TreeFault.{TreeFault}
 use Rattle.vm_tree.specs.declared.root.TreeFault.TheVariants as fault
@@ -34,7 +34,7 @@ use Rattle.vm_store.specs.Resting.{Rests}
 use Rattle.vm_store.specs.Sides.{refusal_in}
 use Rattle.vm_store.specs.Sizes.{sizes}
 use Rattle.vm_store.specs.Versions.{slot_entries, is_alternative_of, with_current, with_base}
-use Rattle.vm_store.specs.declared.versions.Version.{Version}
+use Rattle.vm_store.specs.declared.version.Version.{Version}
 use Rattle.vm_store.proofs.FiledLemmas.{is_filed, refiled, recurrent, refiled_both, with_maps, grown_turned, grown_changed}
 use Rattle.vm_store.proofs.GrownLemmas.{whole}
 use Rattle.vm_store.proofs.LedgerLemmas as ledger
@@ -45,7 +45,8 @@ use Rattle.vm_store.proofs.RestingLemmas.{rests_on, stands_on}
 use Rattle.vm_store.proofs.SidesLemmas.{rooted_map}
 use Rattle.vm_store.proofs.SlotLemmas.{slot_changed}
 use Rattle.vm_store.proofs.TopLemmas.{grown_in}
-use Rattle.vm_store.proofs.VersionLemmas.{fits_of}
+use Rattle.vm_store.proofs.TurnLemmas.{fits_of}
+use Rattle.vm_store.proofs.VersionLemmas.{standing}
 
 -- ---- an alternative that is changed
 
@@ -86,8 +87,8 @@ module _ (s : State) (spare : ℕ) (deep : Type 0) (alt : List ℕ) (settled : L
     pub merges_done : nat_lt spare (16 * count) ≡ false → IsMergeAnswer s spare deep alt settled (Ok accepted.1)
     merges_done room = due (Ok accepted.1) false room (inl refl)
 
-    pub merges_deep : nat_lt spare (16 * count) ≡ false → deep → IsMergeAnswer s spare deep alt settled (Err Deep)
-    merges_deep room is_deep = due (Err Deep) false room (inr (refl, is_deep))
+    pub merges_deep : (refusal : Refusal) → refusal ≡ Deep → nat_lt spare (16 * count) ≡ false → deep → IsMergeAnswer s spare deep alt settled (Err refusal)
+    merges_deep refusal same room is_deep = due (Err refusal) false room (inr (ap Err same, is_deep))
 
 -- ---- a Merge of an alternative that has a parent
 
@@ -119,9 +120,9 @@ module _ (m : Medium) (limit : ℕ) (slot_b : Bool) (bits : List Bool) (committe
   own_rises = let at = (own_there m limit slot_b bits committed working s rests alt pair is).stands.current in rooted_map m.contents limit pair.0.current own at.stands_in at.rooted
 
   -- a tree of the own map with the changes made is one of the merged map
-  pub made_of : (P : ℕ → Type 0) (x : Contents) (size : ℕ) (root : Root) (changes : List Change) → changes ≡ delta own merged → Grown sizes P x size root (with_changes own changes) → Grown sizes P x size root merged
+  pub made_of : (P : ℕ → Type 0) (x : Contents) (size : ℕ) (root : Root) (changes : List Change) → changes ≡ delta own merged → IsRootedIn sizes P x size root (with_changes own changes) → IsRootedIn sizes P x size root merged
   made_of P x size root changes same grown =
-      subst (λ (n : Map). Grown sizes P x size root n) (ap (with_changes own) same ∙ with_changes-delta own merged own_rises (IsMap-merge base parent own settled own_rises)) grown
+      subst (λ (n : Map). IsRootedIn sizes P x size root n) (ap (with_changes own) same ∙ with_changes-delta own merged own_rises (IsMap-merge base parent own settled own_rises)) grown
 
   module _ (all : refusal_in base parent own settled ≡ None) where
     pub merge_step : step s.working (Merge alt settled) ≡ Ok (merged_tree, Merged (length (delta own merged)))
@@ -144,16 +145,16 @@ module _ (m : Medium) (limit : ℕ) (slot_b : Bool) (bits : List Bool) (committe
     merge_edits = ap (λ (cs : List Change). length cs) merge_is
 
     parent_small : pair.1.current.block < 2 ^ 32
-    parent_small = (fits_of m limit slot_b bits committed working s rests (is_alternative_of pair.1.name) (slot.is_alternative_of pair.1.name) (λ v. refl) pair.1 is.parent).current
+    parent_small = (fits_of (standing rests) (is_alternative_of pair.1.name) (slot.is_alternative_of pair.1.name) (λ v. refl) pair.1 is.parent).current
 
-    pub merge_rests : (now : Medium) (after : List Bool) (root : Root) → root.block < 2 ^ 32 → Spares (is_free bits) m now → HoldsMore bits after → Grown sizes (IsHeld after) now.contents limit root merged
+    pub merge_rests : (now : Medium) (after : List Bool) (root : Root) → root.block < 2 ^ 32 → TouchesOnly (is_free bits) m now → HoldsMore bits after → IsRootedIn sizes (IsHeld after) now.contents limit root merged
         → Rests now limit slot_b after committed (change_first (is_alternative_of alt) (with_base pair.1.current) (change_first (is_alternative_of alt) (with_current root) working)) (next s (Merge alt settled) (Ok (Merged (length (delta own merged)))))
     merge_rests now after root small spares more new =
         let first = change_first (is_filed alt) (refiled (λ _. merged)) rests.new in
         let turned = change_first (is_alternative_of alt) (with_current root) working in
         let both = change_first (is_alternative_of alt) (with_base pair.1.current) turned in
         let above = grown_in (IsHeld bits) (IsHeld after) m.contents now.contents limit (λ n held. spares.same n (ap not held)) more.still pair.1.current parent (parent_there m limit slot_b bits committed working s rests alt pair is).stands.current in
-        subst (λ (t : Tree). Rests now limit slot_b after committed both (record { committed = s.committed; working = t })) (sym (ap (tree_after s.working) merge_step))
+        subst (λ (t : Tree). Rests now limit slot_b after committed both (record s { working = t })) (sym (ap (tree_after s.working) merge_step))
         (rests_on m limit slot_b bits committed working s rests now after both (change_first (is_filed alt) (refiled_both (λ c. c) (λ _. parent)) first) merged_tree spares more
         (subst (SlotFits limit) (sym (slot_changed (is_alternative_of alt) (slot.is_alternative_of alt) (λ v. refl) (with_base pair.1.current) (ledger.with_base pair.1.current.block) (λ v. refl) turned))
         (fits_alike limit (slot_entries turned) _ (alike_based alt pair.1.current.block parent_small (not_top m limit slot_b bits committed working s rests alt pair is) (slot_entries turned))

@@ -6,7 +6,7 @@ use Rattle.std.specs.Str.{bytes_eq}
 use Rattle.vm_types.specs.Firsts.{change_first, without_first}
 use Rattle.vm_disk.specs.Disk.{Contents}
 use Rattle.vm_block.specs.Slot.{is_alternative}
-use Rattle.vm_store.specs.declared.versions.Version.{Version}
+use Rattle.vm_store.specs.declared.version.Version.{Version}
 use Rattle.vm_store.specs.Versions.{is_alternative_of, is_checkpoint_under, is_checkpoint_of, is_child_of, is_apart}
 use Rattle.vm_store.specs.Filed.{Filed, StandsAs, Standing}
 use Rattle.vm_store.proofs.FiledLemmas.{is_filed}

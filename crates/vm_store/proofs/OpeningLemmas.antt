@@ -4,8 +4,7 @@ use Rattle.vm_types.specs.Map.{Map}
 use Rattle.vm_types.specs.State.{State, opened}
 use Rattle.vm_types.specs.declared.refusal.Refusal.{Refusal}
 use Rattle.vm_types.specs.declared.refusal.Refusal.TheVariants as refusal
-use Rattle.vm_disk.specs.Disk as disk
-use Rattle.vm_disk.specs.Disk.{Contents, block, Medium, IsClean, Syncs}
+use Rattle.vm_disk.specs.Disk.{Contents, DiskState, IsClean, Medium, Syncs}
 use Rattle.vm_disk.specs.declared.disk.DeviceFault.{DeviceFault}
 use Rattle.vm_disk.specs.Moments.{Throughout, OnlyReads}
 use Rattle.vm_disk.proofs.MomentLemmas.{clean_sure, started, goes_on, same_medium}
@@ -35,7 +34,7 @@ use Rattle.vm_catalog.proofs.SlotOne.{slot_one}
 use Rattle.vm_store.specs.Faults.{refusal_of}
 use Rattle.vm_store.specs.Sizes.{sizes}
 use Rattle.vm_store.specs.Versions.{numbers_of, slot_entries, versions_of}
-use Rattle.vm_store.specs.declared.versions.Version.{Version}
+use Rattle.vm_store.specs.declared.version.Version.{Version}
 use Rattle.vm_store.proofs.TopLemmas.{rooted_tree}
 use Rattle.vm_store.proofs.WiderLemmas.{rooted_wider}
 use Rattle.vm_store.specs.Filed.{Filed, Standing, reach, tree_of}
@@ -45,19 +44,19 @@ use Rattle.vm_store.specs.Refused.{IsStore, LacksMap, IsRefused, IsSynced, IsAtM
 use Rattle.vm_store.proofs.StandingLemmas.{standing_in, standing_data}
 
 -- a sync leaves all as it was, or synced
-pub settles : {T : Type 0} (result : Result T DeviceFault) (old new : disk.State) → Syncs result old new → Throughout old new (IsAtMostSynced old.now)
+pub settles : {T : Type 0} (result : Result T DeviceFault) (old new : DiskState) → Syncs result old new → Throughout old new (IsAtMostSynced old.now)
 settles result old new sync = goes_on old old new (IsAtMostSynced old.now) (started old (IsAtMostSynced old.now) (inl refl)) sync.time (ending result sync)
   where
     ending : {T : Type 0} (result : Result T DeviceFault) → Syncs result old new → IsAtMostSynced old.now new.now
     ending (Ok x) sync = inr (record { same = sync.same; clean = sync.synced })
     ending (Err e) sync = inl sync.failed
 
-pub settled : {T : Type 0} (result : Result T DeviceFault) (x : T) (old new : disk.State) → result ≡ Ok x → Syncs result old new → IsSynced old.now new.now
+pub settled : {T : Type 0} (result : Result T DeviceFault) (x : T) (old new : DiskState) → result ≡ Ok x → Syncs result old new → IsSynced old.now new.now
 settled (Ok y) x old new ok sync = record { same = sync.same; clean = sync.synced }
 settled (Err e) x old new ok sync = cc
 
 -- reads after a sync
-pub settled_then : (old : Medium) (mid new : disk.State) → IsSynced old mid.now → OnlyReads mid new → IsSynced old new.now
+pub settled_then : (old : Medium) (mid new : DiskState) → IsSynced old mid.now → OnlyReads mid new → IsSynced old new.now
 settled_then old mid new synced reads = subst (IsSynced old) (sym (same_medium mid new reads)) synced
 
 -- the entry with these roots
@@ -120,9 +119,8 @@ module _ (m : Medium) (limit : ℕ) (slot_b : Bool) (es : List Entry) (clean : I
   names = names_slot m.contents slot_b limit es store.header (sym in_use) slot
 
   -- versions that all stand are shown
-  pub shows_found : (P : ℕ → Type 0) (vs : List Version) (fs : List Filed) → slot_entries vs ≡ es → Standing P m.contents limit vs fs → Shows m.contents (tree_of fs)
+  pub shows_found : (P : ℕ → Type 0) (vs : List Version) (fs : List Filed) → slot_entries vs ≡ es → Standing P m.contents limit vs fs → Shows m.contents (record { tree = tree_of fs; blocks = limit })
   shows_found P vs fs same s = record {
-    limit = limit;
     versions = vs;
     filed = fs;
     names = subst (λ (l : List Entry). Names m.contents limit l) (sym same) names;
@@ -133,13 +131,13 @@ module _ (m : Medium) (limit : ℕ) (slot_b : Bool) (es : List Entry) (clean : I
 
   -- and a store with them stands for the tree that is shown
   pub rests_found : (marks bits : List Bool) (vs : List Version) (fs : List Filed) → slot_entries vs ≡ es → ((n : ℕ) → n < 34 → IsHeld bits n) → ((n : ℕ) → 34 ≤ n → is_held bits n ≡ is_marked marks n) → Standing (IsMarked marks) m.contents limit vs fs
-      → Rests m limit slot_b bits vs vs (opened (tree_of fs))
+      → Rests m limit slot_b bits vs vs (opened (record { tree = tree_of fs; blocks = limit }))
   rests_found marks bits vs fs same system replaced s =
       let data_blocks = standing_data (IsMarked marks) m.contents limit vs fs s in
       record {
         old = fs;
         new = fs;
-        kept = limit;
+        blocks = refl;
         fewer = omega arith;
         inside = inside;
         sure = omega (arith, clean_sure m clean);
@@ -177,40 +175,40 @@ module _ (m : Medium) (limit : ℕ) (slot_b : Bool) (es : List Entry) (store : I
 
 -- what is refused shows nothing
 pub refused_none : (x : Contents) (r : Refusal) → IsRefused x r → r ≢ refusal.Device → r ≢ refusal.Memory → ShowsNothing x
-refused_none x refusal.NotAStore why no_device no_memory tree shown =
+refused_none x refusal.NotAStore why no_device no_memory seen shown =
     why (record { least = omega (arith, shown.inside, shown.names.slot.fits.head.least); header = shown.names.header })
-refused_none x refusal.BadSize why no_device no_memory tree shown =
+refused_none x refusal.BadSize why no_device no_memory seen shown =
     let large = why.1 in
-    let same = slot_one x (selected x) shown.limit large.limit (slot_entries shown.versions) large.entries shown.names.slot large.slot in
+    let same = slot_one x (selected x) seen.blocks large.limit (slot_entries shown.versions) large.entries shown.names.slot large.slot in
     let inside = shown.inside in
     let larger = large.larger in
     let is = same.0 in
     omega arith
-refused_none x (refusal.Damaged n) why no_device no_memory tree shown =
+refused_none x (refusal.Damaged n) why no_device no_memory seen shown =
     ⊎_elim
-    (λ none. none.1 shown.limit (slot_entries shown.versions) shown.names.slot)
+    (λ none. none.1 seen.blocks (slot_entries shown.versions) shown.names.slot)
     (λ lacks.
-    let same = slot_one x (selected x) shown.limit lacks.limit (slot_entries shown.versions) lacks.entries shown.names.slot lacks.slot in
+    let same = slot_one x (selected x) seen.blocks lacks.limit (slot_entries shown.versions) lacks.entries shown.names.slot lacks.slot in
     lacks.none shown.versions shown.filed same.1 (subst (λ l. Standing (λ n. Unit {0}) x l shown.versions shown.filed) same.0 shown.stands))
     why.1
-refused_none x refusal.Device why no_device no_memory tree shown = no_device refl
-refused_none x refusal.Memory why no_device no_memory tree shown = no_memory refl
-refused_none x refusal.NoSuchAlternative why no_device no_memory tree shown = why
-refused_none x refusal.AlternativeExists why no_device no_memory tree shown = why
-refused_none x refusal.NoSuchCheckpoint why no_device no_memory tree shown = why
-refused_none x refusal.CheckpointExists why no_device no_memory tree shown = why
-refused_none x refusal.NoSuchRecord why no_device no_memory tree shown = why
-refused_none x refusal.IsTop why no_device no_memory tree shown = why
-refused_none x refusal.HasChildren why no_device no_memory tree shown = why
-refused_none x refusal.NotMerged why no_device no_memory tree shown = why
-refused_none x (refusal.Unsettled n) why no_device no_memory tree shown = why
-refused_none x (refusal.NotInConflict k) why no_device no_memory tree shown = why
-refused_none x (refusal.SettledTwice k) why no_device no_memory tree shown = why
-refused_none x refusal.TooMany why no_device no_memory tree shown = why
-refused_none x refusal.Full why no_device no_memory tree shown = why
-refused_none x refusal.Deep why no_device no_memory tree shown = why
-refused_none x refusal.Failed why no_device no_memory tree shown = why
-refused_none x refusal.AlreadyAStore why no_device no_memory tree shown = why
+refused_none x refusal.Device why no_device no_memory seen shown = no_device refl
+refused_none x refusal.Memory why no_device no_memory seen shown = no_memory refl
+refused_none x refusal.NoSuchAlternative why no_device no_memory seen shown = why
+refused_none x refusal.AlternativeExists why no_device no_memory seen shown = why
+refused_none x refusal.NoSuchCheckpoint why no_device no_memory seen shown = why
+refused_none x refusal.CheckpointExists why no_device no_memory seen shown = why
+refused_none x refusal.NoSuchRecord why no_device no_memory seen shown = why
+refused_none x refusal.IsTop why no_device no_memory seen shown = why
+refused_none x refusal.HasChildren why no_device no_memory seen shown = why
+refused_none x refusal.NotMerged why no_device no_memory seen shown = why
+refused_none x (refusal.Unsettled n) why no_device no_memory seen shown = why
+refused_none x (refusal.NotInConflict k) why no_device no_memory seen shown = why
+refused_none x (refusal.SettledTwice k) why no_device no_memory seen shown = why
+refused_none x refusal.TooMany why no_device no_memory seen shown = why
+refused_none x refusal.Full why no_device no_memory seen shown = why
+refused_none x refusal.Deep why no_device no_memory seen shown = why
+refused_none x refusal.Failed why no_device no_memory seen shown = why
+refused_none x refusal.AlreadyAStore why no_device no_memory seen shown = why
 
 -- what the walk found under the numbers of lent entries
 pub found_here : (x : Contents) (limit : ℕ) (es first : List Entry) (numbers lent : List ℕ) (rs : List Root) (marks : List Bool) → lent ≡ numbers → numbers ≡ numbers_of first → first ≡ es
@@ -271,7 +269,7 @@ pub freed : (m : Medium) (limit : ℕ) (slot_b : Bool) (after : List Bool) (comm
     → length after ≡ limit → ((n : ℕ) → n < 34 → IsHeld after n) → ((n : ℕ) → 34 ≤ n → is_held after n ≡ is_marked marks n)
     → (s : State) (rests : Rests m limit slot_b after committed working s) → free_count after ≡ spare_of rests
 freed m limit slot_b after committed working es rs marks old new found many system replaced s rests =
-    let first = reached_named (IsSafe after m) m.contents rests.kept limit rests.fewer es rs found.blocks committed rests.old old found.are rests.safe in
+    let first = reached_named (IsSafe after m) m.contents s.kept limit rests.fewer es rs found.blocks committed rests.old old found.are rests.safe in
     let then = reached_named (IsHeld after) m.contents limit limit (omega arith) es rs found.blocks working rests.new new found.are rests.stands in
     let all : MarksMore (found.blocks ++ found.blocks) (replicate limit false) marks = record {
       grows = record { same_length = found.count ∙ sym (length-replicate {A = Bool} limit false); still = λ n is. absurd (none_marked limit n is) };

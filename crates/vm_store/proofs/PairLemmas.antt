@@ -1,6 +1,5 @@
 -- What a store stands for, through the commands on an alternative and its parent.
-use Rattle.std.proofs.Common.{◌≡◌, inl, inr, ℕ, ◌<◌, ◌^◌, Bool, true, false, not, ◌&&◌, List, [], ◌++◌, find, length, take, Some, Ok, Err, codes, IsTrue, refl, sym, ap, ◌∙◌, subst}
-use Rattle.std.proofs.Math.Seq.{take-append_seam}
+use Rattle.std.proofs.Common.{◌≡◌, inl, inr, ℕ, ◌<◌, ◌^◌, Bool, true, false, not, ◌&&◌, List, [], find, Some, Ok, Err, codes, IsTrue, refl, sym, ap, ◌∙◌, subst}
 use Rattle.std.specs.Str.{bytes_eq}
 use Rattle.std.proofs.lemmas.Bool.{false≢true, true≢false}
 use Rattle.std.proofs.lemmas.Slice.Eq.{bytes_eq-Decides}
@@ -24,7 +23,7 @@ use Rattle.vm_types.specs.Queries.{conflicts_with, conflicts_under, conflicts_of
 use Rattle.vm_store.specs.Pairs.{IsPair, LacksPair}
 use Rattle.vm_store.specs.Resting.{Rests}
 use Rattle.vm_store.specs.Versions.{entry_of, slot_entries, is_alternative_of, with_current, with_base}
-use Rattle.vm_store.specs.declared.versions.Version.{Version}
+use Rattle.vm_store.specs.declared.version.Version.{Version}
 use Rattle.vm_store.proofs.FiledLemmas.{is_filed, refiled, recurrent, refiled_both, with_maps, grown_turned, grown_changed}
 use Rattle.vm_store.proofs.GrownLemmas.{whole}
 use Rattle.vm_store.proofs.LedgerLemmas as ledger
@@ -32,7 +31,8 @@ use Rattle.vm_store.proofs.LedgerLemmas.{alike_turned, alike_based, fits_alike}
 use Rattle.vm_store.proofs.LedgerMoves.{owned_not_top}
 use Rattle.vm_store.proofs.MovedLemmas.{agree_alternative, standing_first}
 use Rattle.vm_store.proofs.SlotLemmas.{slot_changed}
-use Rattle.vm_store.proofs.VersionLemmas.{IsThere, there, absent, stepped, fits_of, entry_found}
+use Rattle.vm_store.proofs.TurnLemmas.{IsThere, there, absent, fits_of, entry_found}
+use Rattle.vm_store.proofs.VersionLemmas.{stepped, standing}
 
 -- an alternative that was found by a name has that name
 pub called : (vs : List Version) (name : List ℕ) (v : Version) → find (is_alternative_of name) vs ≡ Some v → v.name ≡ name
@@ -58,33 +58,33 @@ module _ (m : Medium) (limit : ℕ) (slot_b : Bool) (bits : List Bool) (committe
 
   -- why there are no such two is why the model refuses
   pub lacking : (rest : Alternative → List ℕ → Alternative → Outcome) (refusal : Refusal) → LacksPair working alt refusal → with_parent rest ≡ Err refusal
-  lacking rest refusal (inl none) = or_refuse-none _ _ _ (absent m limit slot_b bits committed working s rests alt none.1) ∙ ap Err (sym none.0)
+  lacking rest refusal (inl none) = or_refuse-none _ _ _ (absent (standing rests) alt none.1) ∙ ap Err (sym none.0)
   lacking rest refusal (inr (own, found, inl top)) =
-      let at = there m limit slot_b bits committed working s rests alt own found in
+      let at = there (standing rests) alt own found in
       or_refuse-some _ _ _ _ at.is ∙ or_refuse-none _ _ _ (at.stands.owner ∙ top.1) ∙ ap Err (sym top.0)
   lacking rest refusal (inr (own, found, inr gone)) =
-      let at = there m limit slot_b bits committed working s rests alt own found in
+      let at = there (standing rests) alt own found in
       or_refuse-some _ _ _ _ at.is ∙ or_refuse-some _ gone.0 _ _ (at.stands.owner ∙ gone.1)
-      ∙ or_refuse-none _ _ _ (absent m limit slot_b bits committed working s rests gone.0 gone.3) ∙ ap Err (sym gone.2)
+      ∙ or_refuse-none _ _ _ (absent (standing rests) gone.0 gone.3) ∙ ap Err (sym gone.2)
 
   -- and why their conflicts can't be asked for
   pub conflicts_lacking : (refusal : Refusal) → LacksPair working alt refusal → conflicts_in s.working alt ≡ Err refusal
-  conflicts_lacking refusal (inl none) = ap (conflicts_of s.working) (absent m limit slot_b bits committed working s rests alt none.1) ∙ ap Err (sym none.0)
+  conflicts_lacking refusal (inl none) = ap (conflicts_of s.working) (absent (standing rests) alt none.1) ∙ ap Err (sym none.0)
   conflicts_lacking refusal (inr (own, found, inl top)) =
-      let at = there m limit slot_b bits committed working s rests alt own found in
+      let at = there (standing rests) alt own found in
       ap (conflicts_of s.working) at.is ∙ ap (λ o. conflicts_under s.working o (whole alt rests.new at.filed)) (at.stands.owner ∙ top.1) ∙ ap Err (sym top.0)
   conflicts_lacking refusal (inr (own, found, inr gone)) =
-      let at = there m limit slot_b bits committed working s rests alt own found in
+      let at = there (standing rests) alt own found in
       ap (conflicts_of s.working) at.is ∙ ap (λ o. conflicts_under s.working o (whole alt rests.new at.filed)) (at.stands.owner ∙ gone.1)
-      ∙ ap (λ o. conflicts_with o (whole alt rests.new at.filed)) (absent m limit slot_b bits committed working s rests gone.0 gone.3) ∙ ap Err (sym gone.2)
+      ∙ ap (λ o. conflicts_with o (whole alt rests.new at.filed)) (absent (standing rests) gone.0 gone.3) ∙ ap Err (sym gone.2)
 
   module _ (pair : Version × Version) (is : IsPair working alt pair) where
     -- the alternative, and its parent
-    abbrev pub own_there : IsThere m limit slot_b bits committed working s rests alt pair.0
-    own_there = there m limit slot_b bits committed working s rests alt pair.0 is.own
+    abbrev pub own_there : IsThere (standing rests) alt pair.0
+    own_there = there (standing rests) alt pair.0 is.own
 
-    abbrev pub parent_there : IsThere m limit slot_b bits committed working s rests pair.1.name pair.1
-    parent_there = there m limit slot_b bits committed working s rests pair.1.name pair.1 is.parent
+    abbrev pub parent_there : IsThere (standing rests) pair.1.name pair.1
+    parent_there = there (standing rests) pair.1.name pair.1 is.parent
 
     -- the three maps
     abbrev pub base_map : Map
@@ -106,10 +106,10 @@ module _ (m : Medium) (limit : ℕ) (slot_b : Bool) (bits : List Bool) (committe
 
     -- an alternative with a parent is not the first one
     pub not_top : alt ≡ codes "top" → ⊥
-    not_top same = owned_not_top (slot_entries working) alt (entry_of pair.0) pair.1.name rests.fits.ledger (entry_found m limit slot_b bits committed working s rests alt pair.0 is.own) is.owner same
+    not_top same = owned_not_top (slot_entries working) alt (entry_of pair.0) pair.1.name rests.fits.ledger (entry_found (standing rests) alt pair.0 is.own) is.owner same
 
     own_small : pair.0.current.block < 2 ^ 32
-    own_small = (fits_of m limit slot_b bits committed working s rests (is_alternative_of alt) (slot.is_alternative_of alt) (λ v. refl) pair.0 is.own).current
+    own_small = (fits_of (standing rests) (is_alternative_of alt) (slot.is_alternative_of alt) (λ v. refl) pair.0 is.own).current
 
     -- ---- Post
 
@@ -153,7 +153,3 @@ told_equal b m n g h told is = delta-nil m n g h (told.0 is)
 
 pub told_other : (b : Bool) (m n : Map) → (IsTrue b → delta m n ≡ []) × (delta m n ≡ [] → IsTrue b) → b ≡ false → m ≡ n → ⊥
 told_other b m n told is same = true≢false (sym (told.1 (delta-same m n same)) ∙ is)
-
--- versions that were lent, and given back
-pub given_back : (len : ℕ) (now rest : List Version) → length now ≡ len → take len (now ++ rest) ≡ now
-given_back len now rest same = subst (λ n. take n (now ++ rest) ≡ now) same (take-append_seam now rest)

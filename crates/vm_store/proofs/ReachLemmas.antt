@@ -8,7 +8,7 @@ use Rattle.vm_check.proofs.MarkLemmas.{more_then}
 use Rattle.vm_check.proofs.RootLemmas.{in_blocks}
 use Rattle.vm_store.specs.Marking.{IsReached, AreReached}
 use Rattle.vm_store.specs.Sizes.{sizes}
-use Rattle.vm_store.specs.declared.versions.Version.{Version}
+use Rattle.vm_store.specs.declared.version.Version.{Version}
 
 -- the blocks of the first i versions were marked, and no others
 pub record ReachedSoFar (x : Contents) (limit : ℕ) (vs : List Version) (i : ℕ) (first now : List Bool) : Type 0 where

@@ -10,18 +10,17 @@ use Rattle.vm_types.specs.Map.{Map, get, without}
 use Rattle.vm_types.specs.Tree.{Tree, Alternative, named, changed}
 use Rattle.vm_types.specs.Step.{Outcome, step, done, or_refuse}
 use Rattle.vm_types.specs.State.{State, next, tree_after}
-use Rattle.vm_disk.specs.Disk as disk
-use Rattle.vm_disk.specs.Disk.{Medium}
-use Rattle.vm_disk.specs.Moments.{Spares, OnlyReads}
+use Rattle.vm_disk.specs.Disk.{DiskState, Medium}
+use Rattle.vm_disk.specs.Moments.{TouchesOnly, OnlyReads}
 use Rattle.vm_disk.proofs.MomentLemmas.{same_medium}
 use Rattle.vm_alloc.specs.Held.{IsHeld, HoldsMore}
 use Rattle.vm_store.specs.Versions.{is_alternative_of, with_current}
 use Rattle.vm_block.specs.Slot as slot
 use Rattle.vm_block.specs.Slot.{SlotFits}
 use Rattle.vm_tree.specs.Answers.{Removes}
-use Rattle.vm_tree.specs.Root.{Grown}
+use Rattle.vm_tree.specs.Root.{IsRootedIn}
 use Rattle.vm_tree.specs.declared.root.Root.{Root}
-use Rattle.vm_store.specs.declared.versions.Version.{Version}
+use Rattle.vm_store.specs.declared.version.Version.{Version}
 use Rattle.vm_store.specs.Filed.{Filed}
 use Rattle.vm_tree.specs.Free.{is_free}
 use Rattle.vm_store.specs.Faults.{refusal_of}
@@ -104,26 +103,26 @@ module _ (s : State) (name : List ℕ) (key : Key) (spare : ℕ) (deep : Type 0)
 module _ (m : Medium) (limit : ℕ) (slot_b : Bool) (bits : List Bool) (committed working : List Version) (s : State)
     (rests : Rests m limit slot_b bits committed working s) (name : List ℕ) (e : Version) (is : find (is_alternative_of name) working ≡ Some e) (key : Key) where
   -- after it the store stands for the next state
-  pub remove_rests : (value : List ℕ) → Ok (Some value) ≡ value_in s.working name key → (now : Medium) (after : List Bool) (root : Root) → root.block < 2 ^ 32 → Spares (is_free bits) m now → HoldsMore bits after
-      → Grown sizes (IsHeld after) now.contents limit root (without (found_entry m limit slot_b bits committed working s rests name e is).filed.current key)
+  pub remove_rests : (value : List ℕ) → Ok (Some value) ≡ value_in s.working name key → (now : Medium) (after : List Bool) (root : Root) → root.block < 2 ^ 32 → TouchesOnly (is_free bits) m now → HoldsMore bits after
+      → IsRootedIn sizes (IsHeld after) now.contents limit root (without (found_entry m limit slot_b bits committed working s rests name e is).filed.current key)
       → Rests now limit slot_b after committed (change_first (is_alternative_of name) (with_current root) working) (next s (Remove name key) (Ok Done))
   remove_rests value there now after root small spares more new =
       let g : Map → Map = λ m. without m key in
       let found = found_entry m limit slot_b bits committed working s rests name e is in
-      subst (λ (t : Tree). Rests now limit slot_b after committed (change_first (is_alternative_of name) (with_current root) working) (record { committed = s.committed; working = t }))
+      subst (λ (t : Tree). Rests now limit slot_b after committed (change_first (is_alternative_of name) (with_current root) working) (record s { working = t }))
       (sym (ap (tree_after s.working) (step_there s.working name key value there)))
       (rests_on m limit slot_b bits committed working s rests now after (change_first (is_alternative_of name) (with_current root) working) (change_first (is_filed name) (refiled g) rests.new)
       (changed s.working name (recurrent g)) spares more
       (subst (SlotFits limit) (sym (slot_changed (is_alternative_of name) (slot.is_alternative_of name) (λ v. refl) (with_current root) (ledger.with_current root.block) (λ v. refl) working))
       (fits_alike limit (slot_entries working) _ (alike_turned (slot.is_alternative_of name) root.block small (slot_entries working)) rests.fits))
       (standing_changed (IsHeld after) now.contents limit name root g working rests.new (stands_on m limit slot_b bits committed working s rests now after spares more)
-      (λ f' found'. let same : found.filed ≡ f' = cc (found.found, found') in subst (λ (f : Filed). Grown sizes (IsHeld after) now.contents limit root (g f.current)) same new))
+      (λ f' found'. let same : found.filed ≡ f' = cc (found.found, found') in subst (λ (f : Filed). IsRootedIn sizes (IsHeld after) now.contents limit root (g f.current)) same new))
       (grown_changed name g [] rests.new refl ∙ ap (λ t. changed t name (recurrent g)) rests.gives_new))
 
 -- ---- what is known between the look-up and the Remove
 
 -- a test whether so many blocks are spare, before reads and after them
-pub spare_after : (old new : disk.State) (limit : ℕ) (slot_b : Bool) (bits : List Bool) (committed working : List Version) (s : State) (count : ℕ) (b : Bool) → OnlyReads old new
+pub spare_after : (old new : DiskState) (limit : ℕ) (slot_b : Bool) (bits : List Bool) (committed working : List Version) (s : State) (count : ℕ) (b : Bool) → OnlyReads old new
     → ((s : State) (holds : Rests new.now limit slot_b bits committed working s) → (IsTrue b → count ≤ spare_of holds) × (count ≤ spare_of holds → IsTrue b))
     → (holds : Rests old.now limit slot_b bits committed working s) → (IsTrue b → count ≤ spare_of holds) × (count ≤ spare_of holds → IsTrue b)
 spare_after old new limit slot_b bits committed working s count b reads test =

@@ -1,26 +1,24 @@
 -- What a store stands for, through device calls, crashes, puts and commits.
-use Rattle.std.proofs.Common.{◌≡◌, ◌⊎◌, inl, inr, ℕ, ◌+◌, ◌<◌, ◌≤◌, ◌^◌, not, nat_lt, Bool, true, false, List, [], length, find, Option, Some, None, option_map, unwrap_or, get_or, set, Ok, Err, refl, sym, ap, ◌∙◌, subst, arith}
+use Rattle.std.proofs.Common.{◌≡◌, ◌⊎◌, inl, inr, ℕ, ◌+◌, ◌<◌, ◌≤◌, ◌^◌, not, nat_lt, Bool, true, false, List, [], length, find, Option, Some, None, option_map, unwrap_or, Ok, Err, refl, sym, ap, ◌∙◌, subst, arith}
 use Rattle.vm_types.specs.declared.answer.Answer.{Answer}
 use Rattle.vm_types.specs.declared.answer.Answer.TheVariants.{Done}
 use Rattle.vm_types.specs.declared.command.Command.TheVariants.{Put, Commit}
 use Rattle.vm_types.specs.declared.key.Key.{Key}
 use Rattle.vm_types.specs.declared.refusal.Refusal.{Refusal}
 use Rattle.vm_types.specs.declared.refusal.Refusal.TheVariants.{NoSuchAlternative, Full}
-use Rattle.vm_types.specs.Firsts.{change_first, IsFirst}
+use Rattle.vm_types.specs.Firsts.{change_first}
 use Rattle.vm_types.specs.Map.{Map, get, with_value}
 use Rattle.vm_types.specs.Tree.{Tree, Alternative, named, changed, current_of}
 use Rattle.vm_types.specs.Step.{step, done, or_refuse}
-use Rattle.vm_types.specs.State.{State, next, tree_after}
+use Rattle.vm_types.specs.State.{State, committed_of, next, tree_after}
 use Rattle.vm_types.specs.Kept.{LeftBy}
-use Rattle.vm_disk.specs.Disk as disk
-use Rattle.vm_disk.specs.Disk.{Contents, block, Medium, MayLeave, IsClean}
-use Rattle.vm_disk.specs.Moments.{Spares, OnlyReads}
+use Rattle.vm_disk.specs.Disk.{Contents, DiskState, MayLeave, Medium, block}
+use Rattle.vm_disk.specs.Moments.{TouchesOnly, OnlyReads}
 use Rattle.vm_disk.proofs.MomentLemmas.{clean_sure, spared, same_medium}
 use Rattle.vm_alloc.specs.Held.{IsHeld, HoldsMore}
 use Rattle.vm_block.specs.Slot.{SlotFits, used_blocks}
 use Rattle.vm_block.specs.Slot as slot
 use Rattle.vm_block.specs.Tree.{IsData}
-use Rattle.vm_block.specs.declared.slot.Kind.TheVariants as kind
 use Rattle.vm_block.specs.declared.slot.Entry.{Entry}
 use Rattle.vm_block.specs.Selector.{names_b}
 use Rattle.vm_catalog.specs.Place.{is_used, slot_at}
@@ -30,7 +28,7 @@ use Rattle.vm_catalog.proofs.PlaceLemmas.{used_cases, sixteen}
 use Rattle.vm_catalog.proofs.PublishLemmas.{names_in}
 use Rattle.vm_tree.specs.Answers.{Puts}
 use Rattle.vm_tree.specs.Free.{is_free}
-use Rattle.vm_tree.specs.Root.{Grown}
+use Rattle.vm_tree.specs.Root.{IsRootedIn}
 use Rattle.vm_tree.specs.declared.root.Root.{Root}
 use Rattle.vm_tree.specs.declared.root.TreeFault.{TreeFault}
 use Rattle.vm_tree.specs.declared.root.TreeFault.TheVariants as fault
@@ -43,7 +41,7 @@ use Rattle.vm_types.specs.Queries.{value_in, value_of}
 use Rattle.vm_store.specs.Answers.{LacksRoom, IsDue, IsAnswer}
 use Rattle.vm_store.specs.Roots.{current_root}
 use Rattle.vm_store.specs.Versions.{slot_entries, is_alternative_of, with_current}
-use Rattle.vm_store.specs.declared.versions.Version.{Version}
+use Rattle.vm_store.specs.declared.version.Version.{Version}
 use Rattle.vm_store.proofs.FiledLemmas.{is_filed, refiled, recurrent, maps_of, filed_maps, grown_named, grown_changed}
 use Rattle.vm_store.proofs.LedgerLemmas as ledger
 use Rattle.vm_store.proofs.LedgerLemmas.{alike_turned, fits_alike}
@@ -54,7 +52,7 @@ held_not_free : (bits : List Bool) (n : ℕ) → IsHeld bits n → is_free bits 
 held_not_free bits n is = ap not is
 
 -- the used blocks of a slot are the store's own
-used_low : (slot_b : Bool) (count n : ℕ) → count ≤ 511 → is_used slot_b count n ≡ true → n < 34
+pub used_low : (slot_b : Bool) (count n : ℕ) → count ≤ 511 → is_used slot_b count n ≡ true → n < 34
 used_low slot_b count n few is = low slot_b (used_cases slot_b count n is)
   where
     low : (slot_b : Bool) → (n < 2) ⊎ ((slot_at slot_b ≤ n) × (n < slot_at slot_b + used_blocks count)) → n < 34
@@ -68,52 +66,51 @@ module _ (m : Medium) (limit : ℕ) (slot_b : Bool) (bits : List Bool) (committe
   few = rests.rest.names.slot.fits.head.few
 
   -- blocks that are held and clean are kept by a crash after calls that write free blocks alone
-  kept_safe : (now : Medium) → Spares (is_free bits) m now → (left : Contents) → MayLeave now left → (n : ℕ) → IsSafe bits m n → block left n ≡ block m.contents n
+  kept_safe : (now : Medium) → TouchesOnly (is_free bits) m now → (left : Contents) → MayLeave now left → (n : ℕ) → IsSafe bits m n → block left n ≡ block m.contents n
   kept_safe now spares left may n safe = spared (is_free bits) m now spares left may n (held_not_free bits n safe.held) safe.clean
 
-  kept_used : (now : Medium) → Spares (is_free bits) m now → (left : Contents) → MayLeave now left → (n : ℕ) → is_used slot_b (length (slot_entries committed)) n ≡ true → block left n ≡ block m.contents n
+  kept_used : (now : Medium) → TouchesOnly (is_free bits) m now → (left : Contents) → MayLeave now left → (n : ℕ) → is_used slot_b (length (slot_entries committed)) n ≡ true → block left n ≡ block m.contents n
   kept_used now spares left may n used =
       spared (is_free bits) m now spares left may n (held_not_free bits n (rests.system n (used_low slot_b (length (slot_entries committed)) n few used))) (rests.rest.clean n used)
 
   -- a crash after calls that write free blocks alone shows what was committed
-  pub shows_old : (now : Medium) → Spares (is_free bits) m now → (left : Contents) → MayLeave now left → Shows left s.committed
+  pub shows_old : (now : Medium) → TouchesOnly (is_free bits) m now → (left : Contents) → MayLeave now left → Shows left (committed_of s)
   shows_old now spares left may = record {
-    limit = rests.kept;
     versions = committed;
     filed = rests.old;
-    names = names_in m.contents left slot_b rests.kept (slot_entries committed) (kept_used now spares left may) rests.rest.in_use rests.rest.names;
+    names = names_in m.contents left slot_b s.kept (slot_entries committed) (kept_used now spares left may) rests.rest.in_use rests.rest.names;
     inside = omega (arith, may.least, spares.sure, rests.sure);
-    stands = standing_in (IsSafe bits m) (λ n. Unit {0}) m.contents left rests.kept (kept_safe now spares left may) (λ n safe. tt) committed rests.old rests.safe;
+    stands = standing_in (IsSafe bits m) (λ n. Unit {0}) m.contents left s.kept (kept_safe now spares left may) (λ n safe. tt) committed rests.old rests.safe;
     gives = rests.gives_old;
   }
 
   -- the committed entries are at rest after calls that write free blocks alone
-  pub at_rest : (now : Medium) → Spares (is_free bits) m now → AtRest slot_b now rests.kept (slot_entries committed)
+  pub at_rest : (now : Medium) → TouchesOnly (is_free bits) m now → AtRest slot_b now s.kept (slot_entries committed)
   at_rest now spares =
       let same : (n : ℕ) → is_used slot_b (length (slot_entries committed)) n ≡ true → is_free bits n ≡ false = λ n used. held_not_free bits n (rests.system n (used_low slot_b (length (slot_entries committed)) n few used)) in
       record {
-        names = names_in m.contents now.contents slot_b rests.kept (slot_entries committed) (λ n used. spares.same n (same n used)) rests.rest.in_use rests.rest.names;
+        names = names_in m.contents now.contents slot_b s.kept (slot_entries committed) (λ n used. spares.same n (same n used)) rests.rest.in_use rests.rest.names;
         in_use = ap (λ b. names_b b) (spares.same 1 (held_not_free bits 1 (rests.system 1 (omega arith)))) ∙ rests.rest.in_use;
         clean = λ n used. spares.clean n (same n used) (rests.rest.clean n used);
       }
 
-  pub safe_on : (now : Medium) (after : List Bool) → Spares (is_free bits) m now → HoldsMore bits after → Standing (IsSafe after now) now.contents rests.kept committed rests.old
+  pub safe_on : (now : Medium) (after : List Bool) → TouchesOnly (is_free bits) m now → HoldsMore bits after → Standing (IsSafe after now) now.contents s.kept committed rests.old
   safe_on now after spares more =
-      standing_in (IsSafe bits m) (IsSafe after now) m.contents now.contents rests.kept (λ n safe. spares.same n (held_not_free bits n safe.held))
+      standing_in (IsSafe bits m) (IsSafe after now) m.contents now.contents s.kept (λ n safe. spares.same n (held_not_free bits n safe.held))
       (λ n safe. record { held = more.still n safe.held; clean = spares.clean n (held_not_free bits n safe.held) safe.clean }) committed rests.old rests.safe
 
-  pub stands_on : (now : Medium) (after : List Bool) → Spares (is_free bits) m now → HoldsMore bits after → Standing (IsHeld after) now.contents limit working rests.new
+  pub stands_on : (now : Medium) (after : List Bool) → TouchesOnly (is_free bits) m now → HoldsMore bits after → Standing (IsHeld after) now.contents limit working rests.new
   stands_on now after spares more =
       standing_in (IsHeld bits) (IsHeld after) m.contents now.contents limit (λ n held. spares.same n (held_not_free bits n held)) more.still working rests.new rests.stands
 
   -- the store stands for other working entries, after calls that write free blocks alone
-  pub rests_on : (now : Medium) (after : List Bool) (changed : List Version) (new : List Filed) (tree : Tree) → Spares (is_free bits) m now → HoldsMore bits after
+  pub rests_on : (now : Medium) (after : List Bool) (changed : List Version) (new : List Filed) (tree : Tree) → TouchesOnly (is_free bits) m now → HoldsMore bits after
       → SlotFits limit (slot_entries changed) → Standing (IsHeld after) now.contents limit changed new → tree_of new ≡ tree
-      → Rests now limit slot_b after committed changed (record { committed = s.committed; working = tree })
+      → Rests now limit slot_b after committed changed (record s { working = tree })
   rests_on now after changed new tree spares more fits stands gives = record {
     old = rests.old;
     new = new;
-    kept = rests.kept;
+    blocks = rests.blocks;
     fewer = rests.fewer;
     inside = subst (λ n. limit ≤ n) (sym spares.count) rests.inside;
     sure = omega (arith, rests.sure, spares.sure);
@@ -127,35 +124,34 @@ module _ (m : Medium) (limit : ℕ) (slot_b : Bool) (bits : List Bool) (committe
   }
 
   -- the store stands for the same, after calls that write free blocks alone
-  pub rests_more : (now : Medium) (after : List Bool) → Spares (is_free bits) m now → HoldsMore bits after → Rests now limit slot_b after committed working s
+  pub rests_more : (now : Medium) (after : List Bool) → TouchesOnly (is_free bits) m now → HoldsMore bits after → Rests now limit slot_b after committed working s
   rests_more now after spares more = rests_on now after working rests.new s.working spares more rests.fits (stands_on now after spares more) rests.gives_new
 
   -- a crash in a publish shows what was committed, or what was working
-  pub published_left : (left : Contents) → PublishLeaves m rests.kept (slot_entries committed) limit (slot_entries working) left → LeftBy Shows s Commit left
+  pub published_left : (left : Contents) → PublishLeaves m s.kept (slot_entries committed) limit (slot_entries working) left → LeftBy Shows s Commit left
   published_left left leaves = by_names leaves.2
     where
-      by_names : (Names left rests.kept (slot_entries committed) × ((n : ℕ) → 34 ≤ n → m.dirty n ≡ false → block left n ≡ block m.contents n))
+      by_names : (Names left s.kept (slot_entries committed) × ((n : ℕ) → 34 ≤ n → m.dirty n ≡ false → block left n ≡ block m.contents n))
           ⊎ (Names left limit (slot_entries working) × (length left ≡ length m.contents) × ((n : ℕ) → 34 ≤ n → block left n ≡ block m.contents n)) → LeftBy Shows s Commit left
       by_names (inl old) = inl (record {
-        limit = rests.kept;
         versions = committed;
         filed = rests.old;
         names = old.0;
         inside = omega (arith, leaves.0, rests.sure);
-        stands = standing_in (λ n. IsSafe bits m n × IsData rests.kept n) (λ n. Unit {0}) m.contents left rests.kept (λ n safe. old.1 n safe.1.0 safe.0.clean) (λ n safe. tt) committed rests.old
-            (standing_data (IsSafe bits m) m.contents rests.kept committed rests.old rests.safe);
+        stands = standing_in (λ n. IsSafe bits m n × IsData s.kept n) (λ n. Unit {0}) m.contents left s.kept (λ n safe. old.1 n safe.1.0 safe.0.clean) (λ n safe. tt) committed rests.old
+            (standing_data (IsSafe bits m) m.contents s.kept committed rests.old rests.safe);
         gives = rests.gives_old;
       })
       by_names (inr new) = inr (
         refl,
         record {
-          limit = limit;
           versions = working;
           filed = rests.new;
-          names = new.0;
-          inside = omega (arith, new.1, rests.inside);
-          stands = standing_in (λ n. IsHeld bits n × IsData limit n) (λ n. Unit {0}) m.contents left limit (λ n held. new.2 n held.1.0) (λ n held. tt) working rests.new
-              (standing_data (IsHeld bits) m.contents limit working rests.new rests.stands);
+          names = subst (λ n. Names left n (slot_entries working)) rests.blocks new.0;
+          inside = omega (arith, new.1, rests.inside, rests.blocks);
+          stands = subst (λ n. Standing (λ k. Unit {0}) left n working rests.new) rests.blocks
+              (standing_in (λ n. IsHeld bits n × IsData limit n) (λ n. Unit {0}) m.contents left limit (λ n held. new.2 n held.1.0) (λ n held. tt) working rests.new
+              (standing_data (IsHeld bits) m.contents limit working rests.new rests.stands));
           gives = rests.gives_new;
         },
       )
@@ -168,14 +164,15 @@ module _ (m : Medium) (limit : ℕ) (slot_b : Bool) (bits : List Bool) (committe
       let rests' : Rests now limit (not slot_b) bits working working (next s Commit (Ok answer)) = record {
         old = rests.new;
         new = rests.new;
-        kept = limit;
-        fewer = omega arith;
+        blocks = rests.blocks;
+        fewer = omega (arith, rests.blocks);
         inside = subst (λ n. limit ≤ n) (sym done.count) rests.inside;
-        sure = omega (arith, clean_sure now done.clean, done.count, rests.inside);
+        sure = omega (arith, clean_sure now done.clean, done.count, rests.inside, rests.blocks);
         system = rests.system;
-        rest = done.rest;
+        rest = subst (λ n. AtRest (not slot_b) now n (slot_entries working)) rests.blocks done.rest;
         fits = rests.fits;
-        safe = standing_in (λ n. IsHeld bits n × IsData limit n) (IsSafe bits now) m.contents now.contents limit (λ n held. done.same n held.1.0) (λ n held. record { held = held.0; clean = done.clean n }) working rests.new stands;
+        safe = subst (λ n. Standing (IsSafe bits now) now.contents n working rests.new) rests.blocks
+            (standing_in (λ n. IsHeld bits n × IsData limit n) (IsSafe bits now) m.contents now.contents limit (λ n held. done.same n held.1.0) (λ n held. record { held = held.0; clean = done.clean n }) working rests.new stands);
         stands = standing_in (λ n. IsHeld bits n × IsData limit n) (IsHeld bits) m.contents now.contents limit (λ n held. done.same n held.1.0) (λ n held. held.0) working rests.new stands;
         gives_old = rests.gives_new;
         gives_new = rests.gives_new;
@@ -242,55 +239,46 @@ module _ (m : Medium) (limit : ℕ) (slot_b : Bool) (bits : List Bool) (committe
         ap (λ o. unwrap_or (option_map (λ (a : Alternative). a.current) o) []) as_named.named ∙ as_named.current
 
     -- after it the store stands for the next state
-    pub put_rests : (now : Medium) (after : List Bool) (root : Root) → root.block < 2 ^ 32 → Spares (is_free bits) m now → HoldsMore bits after
-        → Grown sizes (IsHeld after) now.contents limit root (with_value (found_entry name e is).filed.current key value)
+    pub put_rests : (now : Medium) (after : List Bool) (root : Root) → root.block < 2 ^ 32 → TouchesOnly (is_free bits) m now → HoldsMore bits after
+        → IsRootedIn sizes (IsHeld after) now.contents limit root (with_value (found_entry name e is).filed.current key value)
         → Rests now limit slot_b after committed (change_first (is_alternative_of name) (with_current root) working) (next s (Put name key value) (Ok Done))
     put_rests now after root small spares more new =
         let g : Map → Map = λ m. with_value m key value in
         let found = found_entry name e is in
-        subst (λ (t : Tree). Rests now limit slot_b after committed (change_first (is_alternative_of name) (with_current root) working) (record { committed = s.committed; working = t }))
+        subst (λ (t : Tree). Rests now limit slot_b after committed (change_first (is_alternative_of name) (with_current root) working) (record s { working = t }))
         (sym (ap (tree_after s.working) put_step))
         (rests_on now after (change_first (is_alternative_of name) (with_current root) working) (change_first (is_filed name) (refiled g) rests.new) (put_tree name key value) spares more
         (subst (SlotFits limit) (sym (slot_changed (is_alternative_of name) (slot.is_alternative_of name) (λ v. refl) (with_current root) (ledger.with_current root.block) (λ v. refl) working))
         (fits_alike limit (slot_entries working) _ (alike_turned (slot.is_alternative_of name) root.block small (slot_entries working)) rests.fits))
         (standing_changed (IsHeld after) now.contents limit name root g working rests.new (stands_on now after spares more)
-        (λ f' found'. let same : found.filed ≡ f' = cc (found.found, found') in subst (λ (f : Filed). Grown sizes (IsHeld after) now.contents limit root (g f.current)) same new))
+        (λ f' found'. let same : found.filed ≡ f' = cc (found.found, found') in subst (λ (f : Filed). IsRootedIn sizes (IsHeld after) now.contents limit root (g f.current)) same new))
         (grown_changed name g [] rests.new refl ∙ ap (λ t. changed t name (recurrent g)) rests.gives_new))
 
 -- a crash in a publish of the working entries, written to a list of their own
 pub lent_left : (m : Medium) (limit : ℕ) (slot_b : Bool) (bits : List Bool) (committed working : List Version) (s : State) → (rests : Rests m limit slot_b bits committed working s)
-    → (lent : List Entry) → lent ≡ slot_entries working → (left : Contents) → PublishLeaves m rests.kept (slot_entries committed) limit lent left → LeftBy Shows s Commit left
+    → (lent : List Entry) → lent ≡ slot_entries working → (left : Contents) → PublishLeaves m s.kept (slot_entries committed) limit lent left → LeftBy Shows s Commit left
 lent_left m limit slot_b bits committed working s rests lent same left leaves =
-    published_left m limit slot_b bits committed working s rests left (subst (λ (es : List Entry). PublishLeaves m rests.kept (slot_entries committed) limit es left) same leaves)
+    published_left m limit slot_b bits committed working s rests left (subst (λ (es : List Entry). PublishLeaves m s.kept (slot_entries committed) limit es left) same leaves)
 
 -- reads change nothing
-pub read_rests : (old new : disk.State) (limit : ℕ) (slot_b : Bool) (bits : List Bool) (committed working : List Version) (s : State) → OnlyReads old new
+pub read_rests : (old new : DiskState) (limit : ℕ) (slot_b : Bool) (bits : List Bool) (committed working : List Version) (s : State) → OnlyReads old new
     → Rests old.now limit slot_b bits committed working s → Rests new.now limit slot_b bits committed working s
 read_rests old new limit slot_b bits committed working s reads rests =
     subst (λ (m : Medium). Rests m limit slot_b bits committed working s) (sym (same_medium old new reads)) rests
 
 -- what is committed is shown
-pub shows_now : (m : Medium) (limit : ℕ) (slot_b : Bool) (bits : List Bool) (committed working : List Version) (s : State) → Rests m limit slot_b bits committed working s → Shows m.contents s.committed
+pub shows_now : (m : Medium) (limit : ℕ) (slot_b : Bool) (bits : List Bool) (committed working : List Version) (s : State) → Rests m limit slot_b bits committed working s → Shows m.contents (committed_of s)
 shows_now m limit slot_b bits committed working s rests = record {
-  limit = rests.kept;
   versions = committed;
   filed = rests.old;
   names = rests.rest.names;
   inside = omega (arith, rests.sure, m.within);
-  stands = standing_in (IsSafe bits m) (λ n. Unit {0}) m.contents m.contents rests.kept (λ n safe. refl) (λ n safe. tt) committed rests.old rests.safe;
+  stands = standing_in (IsSafe bits m) (λ n. Unit {0}) m.contents m.contents s.kept (λ n safe. refl) (λ n safe. tt) committed rests.old rests.safe;
   gives = rests.gives_old;
 }
 
 pub is_published_as : (slot_b : Bool) (old new : Medium) (limit : ℕ) (lent working : List Entry) → lent ≡ working → IsPublished slot_b old new limit lent → IsPublished slot_b old new limit working
 is_published_as slot_b old new limit lent working same done = subst (λ (es : List Entry). IsPublished slot_b old new limit es) same done
-
--- some version, for places where none stands
-pub any_version : Version
-any_version = let none : Root = record { block = 0; level = 0; low = record { table = 0; number = 0 } } in record { kind = kind.Alternative; name = []; owner = None; current = none; base = none }
-
--- an entry found at a place of a lent list
-pub found_at : (alt : List ℕ) (lent working : List Version) (i : ℕ) (d : Version) → lent ≡ working → IsFirst (is_alternative_of alt) lent i → find (is_alternative_of alt) working ≡ Some (get_or working i d)
-found_at alt lent working i d same first = subst (λ (es : List Version). find (is_alternative_of alt) es ≡ Some (get_or es i d)) same (first.found d)
 
 -- which fault a put into a tree answers
 pub fault_of_put : (f : TreeFault) (deep : Type 0) (P : Root → Type 0) → Puts (Err f) deep P → (f ≡ fault.Device) ⊎ ((f ≡ fault.Deep) × deep)
@@ -344,13 +332,6 @@ module _ (m : Medium) (limit : ℕ) (slot_b : Bool) (bits : List Bool) (committe
     here_deep x here =
         subst (λ (o : Option Version). LacksRoom x (current_root o) (current_of s.working name) key) (sym is)
         (subst (λ (c : Map). LacksRoom x e.current.block c key) (sym (put_current m limit slot_b bits committed working s rests name e is key value)) here)
-
--- the entry at a place has another current root
-pub placed : (alt : List ℕ) (lent working : List Version) (i : ℕ) (root : Root) (d : Version) → lent ≡ working → IsFirst (is_alternative_of alt) lent i → d ≡ get_or working i d
-    → change_first (is_alternative_of alt) (with_current root) working ≡ set working i (with_current root d)
-placed alt lent working i root d same first is =
-    let first' : IsFirst (is_alternative_of alt) working i = subst (λ (es : List Version). IsFirst (is_alternative_of alt) es i) same first in
-    first'.change (with_current root) d ∙ ap (λ e. set working i (with_current root e)) (sym is)
 
 -- entries that are known by another name
 pub rests_as : (m : Medium) (limit : ℕ) (slot_b : Bool) (bits : List Bool) (committed working other : List Version) (s : State) → working ≡ other

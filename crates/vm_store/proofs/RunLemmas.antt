@@ -1,26 +1,27 @@
 -- A run so far: what it answered, and what a crash leaves at each moment of it.
-use Rattle.std.proofs.Common.{◌≡◌, ◌≢◌, ◌↔◌, ℕ, zero, suc, ◌+◌, ◌<◌, ◌≤◌, Bool, true, false, List, [], ◌∷◌, ◌++◌, drop, length, take, get_or, Result, Err, IfErr, OnErr, OnOk, refl, sym, ap, ◌∙◌, subst, arith}
+use Rattle.std.proofs.Common.{◌≡◌, ◌≢◌, ◌↔◌, ℕ, zero, suc, ◌+◌, ◌-◌, ◌<◌, ◌≤◌, Bool, true, false, List, [], ◌∷◌, ◌++◌, drop, length, take, get_or, Result, Err, IfErr, OnErr, OnOk, refl, sym, ap, ◌∙◌, subst, arith}
 use Rattle.std.proofs.lemmas.List.{drop-append-le, drop_all, length-append, take-append-le, take_all, take_more}
 use Rattle.vm_types.specs.declared.answer.Answer.{Answer}
 use Rattle.vm_types.specs.declared.command.Command.{Command}
-use Rattle.vm_types.specs.declared.command.Command.TheVariants.{New, NewAt, Drop, Put, Remove, Checkpoint, Uncheck, Back, Merge, Post, Commit, Reclaim}
+use Rattle.vm_types.specs.declared.command.Command.TheVariants.{New, NewAt, Drop, Put, Remove, Checkpoint, Uncheck, Back, Merge, Post, Commit, Reclaim, Grow}
 use Rattle.vm_types.specs.declared.refusal.Refusal.{Refusal}
 use Rattle.vm_types.specs.declared.refusal.Refusal.TheVariants.{Device, Failed, Memory}
 use Rattle.vm_types.specs.Kept.{LeftBy}
-use Rattle.vm_types.specs.State.{State, next, after}
+use Rattle.vm_types.specs.State.{State, committed_of, next, after}
 use Rattle.vm_types.specs.Tree.{current_of}
 use Rattle.vm_types.proofs.MomentsLemmas.{HasRun, HasRun-none, HasRun-more}
 use Rattle.vm_types.proofs.Runs.{after_more}
 use Rattle.vm_disk.specs.Disk as disk
-use Rattle.vm_disk.specs.Disk.{Contents, Medium}
+use Rattle.vm_disk.specs.Disk.{Contents, DiskState, Medium}
 use Rattle.vm_disk.specs.Moments.{Throughout, Leaves}
 use Rattle.vm_disk.proofs.MomentLemmas.{started, and_then, weaken, past_stays, moment_rises, leaves_only, spares_itself}
-use Rattle.vm_store.specs.declared.versions.Version.{Version}
-use Rattle.vm_store.specs.Answers.{ChangesEntriesAlone, IsEarly, IsMerge, IsMergeAnswer, merge_changes}
+use Rattle.vm_store.specs.declared.version.Version.{Version}
+use Rattle.vm_store.specs.Answers.{ChangesEntriesAlone, IsEarly, IsGrow, IsMergeAnswer, TakesMemory, merge_changes}
 use Rattle.vm_store.specs.Changing.{MeetsFullPath}
 use Rattle.vm_store.specs.Store.{Answers, Holds, IsSameButDisk, disk_of, entries_of, free_of, has_failed, held_of}
 use Rattle.vm_store.specs.declared.store.Store.{Store}
 use Rattle.vm_tree.specs.Free.{is_free}
+use Rattle.vm_store.specs.Growing.{Grows}
 use Rattle.vm_store.specs.Guarded.{IsGuarded}
 use Rattle.vm_store.specs.Resting.{Rests, spare_of}
 use Rattle.vm_store.specs.Running.{AnswersInTurn, CarriesOut, IsGuardedOnTheWay, IsOnTheWay, NoneIsDevice}
@@ -28,16 +29,16 @@ use Rattle.vm_store.specs.Shown.{Shows}
 use Rattle.vm_store.proofs.RestingLemmas.{shows_old}
 
 -- commands that were run, from s on, while the disk went from old to now
-abbrev pub Ran : disk.State → disk.State → State → List Command → List (Result Answer Refusal) → Type 0
+abbrev pub Ran : DiskState → DiskState → State → List Command → List (Result Answer Refusal) → Type 0
 Ran old now s commands answers = HasRun Shows (disk.LeftAt now) s (disk.moment old) commands answers (after s commands answers) (disk.moment now)
 
 -- before the first command, where a crash shows what is committed
-pub ran_none : (old : disk.State) (s : State) → Leaves (λ x. Shows x s.committed) old.now → Ran old old s [] []
+pub ran_none : (old : DiskState) (s : State) → Leaves (λ x. Shows x (committed_of s)) old.now → Ran old old s [] []
 ran_none old s shows =
-    HasRun-none Shows (disk.LeftAt old) s (disk.moment old) (λ x was. leaves_only old old (λ x. Shows x s.committed) (started old (Leaves (λ x. Shows x s.committed)) shows) (disk.moment old) x (omega arith) was)
+    HasRun-none Shows (disk.LeftAt old) s (disk.moment old) (λ x was. leaves_only old old (λ x. Shows x (committed_of s)) (started old (Leaves (λ x. Shows x (committed_of s))) shows) (disk.moment old) x (omega arith) was)
 
 -- one command more
-pub ran_more : (old mid new : disk.State) (s : State) (commands : List Command) (answers : List (Result Answer Refusal)) (c : Command) (a : Result Answer Refusal) → Ran old mid s commands answers
+pub ran_more : (old mid new : DiskState) (s : State) (commands : List Command) (answers : List (Result Answer Refusal)) (c : Command) (a : Result Answer Refusal) → Ran old mid s commands answers
     → Throughout mid new (Leaves (LeftBy Shows (after s commands answers) c)) → Ran old new s (commands ++ c ∷ []) (answers ++ a ∷ [])
 ran_more old mid new s commands answers c a ran crash =
     HasRun-more ran (disk.LeftAt new) c a _ _ (after_more s commands answers c a ran.last.same) (moment_rises mid new _ crash)
@@ -45,7 +46,7 @@ ran_more old mid new s commands answers c a ran crash =
     (λ t x from to was. leaves_only mid new _ crash t x from was)
 
 -- a crash before the first command shows what is committed
-pub rests_show : (m : Medium) (limit : ℕ) (slot_b : Bool) (bits : List Bool) (committed working : List Version) (s : State) → Rests m limit slot_b bits committed working s → Leaves (λ x. Shows x s.committed) m
+pub rests_show : (m : Medium) (limit : ℕ) (slot_b : Bool) (bits : List Bool) (committed working : List Version) (s : State) → Rests m limit slot_b bits committed working s → Leaves (λ x. Shows x (committed_of s)) m
 rests_show m limit slot_b bits committed working s rests left may = shows_old m limit slot_b bits committed working s rests m (spares_itself (is_free bits) m) left may
 
 -- one answer of a run
@@ -61,11 +62,12 @@ module _ {D : Type 0} {members : _} (old new : Store D members) (s : State) (hol
   answers_on other (Uncheck alt name) same size answer = answer
   answers_on other (Back alt name) same size answer = answer
   answers_on other (Merge alt settled) same size answer =
-      let told : disk.State → ℕ → Type 0 = λ t n. IsMergeAnswer s (spare_of holds) (MeetsFullPath t.now.contents n (current_of s.working alt) (merge_changes s.working alt settled)) alt settled r in
-      subst (λ n. told (members.state other.disk) n) (sym size) (subst (λ (t : disk.State). told t new.blocks) (sym same) answer)
+      let told : DiskState → ℕ → Type 0 = λ t n. IsMergeAnswer s (spare_of holds) (MeetsFullPath t.now.contents n (current_of s.working alt) (merge_changes s.working alt settled)) alt settled r in
+      subst (λ n. told (members.state other.disk) n) (sym size) (subst (λ (t : DiskState). told t new.blocks) (sym same) answer)
   answers_on other (Post alt) same size answer = answer
   answers_on other Commit same size answer = answer
   answers_on other Reclaim same size answer = answer
+  answers_on other (Grow blocks) same size answer = answer
 
 -- the others lead from the state after the first so many to the state after all
 after_through : (s : State) (n : ℕ) (commands : List Command) (answers : List (Result Answer Refusal)) → length answers ≡ length commands
@@ -79,16 +81,20 @@ after_through s (suc n) (c ∷ commands) (a ∷ answers) same = after_through (n
 module _ {D : Type 0} {members : _} where
   -- what `apply` promises of one command
   pub carried_out : (old new : Store D members) (s : State) (c : Command) (a : Result Answer Refusal) → ((members.state new.disk).honest ≡ true → (holds : Holds old s) → Answers old new s holds c a)
-      → disk.Goes (a ≡ Err Device) (members.state old.disk) (members.state new.disk) → (has_failed new ≡ true ↔ a ≡ Err Device)
-      → a ≢ Err Failed → (a ≡ Err Memory → IsMerge c)
+      → Grows (a ≡ Err Device) (members.state old.disk) (members.state new.disk)
+      → ((IsGrow c → ⊥) → (members.state new.disk).blocks ≡ (members.state old.disk).blocks) → (IsGrow c → IfErr a (λ refusal. IsEarly refusal → disk_of new ≡ disk_of old)) → (has_failed new ≡ true ↔ a ≡ Err Device)
+      → a ≢ Err Failed → (a ≡ Err Memory → TakesMemory c)
       → OnErr a (a ≢ Err Device → entries_of new ≡ entries_of old) → IfErr a (λ refusal. IsEarly refusal → IsSameButDisk old new)
       → (ChangesEntriesAlone c → (disk_of new ≡ disk_of old) × (held_of new ≡ held_of old)) → ((members.state new.disk).honest ≡ true → Holds old s → a ≢ Err Device → Holds new (next s c a))
       → ((members.state new.disk).honest ≡ true → Holds old s → Throughout (members.state old.disk) (members.state new.disk) (Leaves (LeftBy Shows s c)))
       → ((members.state new.disk).honest ≡ true → Holds old s → Throughout (members.state old.disk) (members.state new.disk) (IsGuarded (held_of new)))
-      → ((members.state new.disk).honest ≡ true → c ≡ Reclaim → (holds : Holds old s) → OnOk a (free_of new ≡ spare_of holds)) → CarriesOut old new s c a
-  carried_out old new s c a answers goes failed only_then memory same unchanged blocks holds crash guarded reclaimed = record {
+      → ((members.state new.disk).honest ≡ true → c ≡ Reclaim → (holds : Holds old s) → OnOk a (free_of new ≡ spare_of holds))
+      → ((blocks : ℕ) → c ≡ Grow blocks → Holds old s → OnOk a (free_of new ≡ free_of old + (blocks - s.blocks))) → CarriesOut old new s c a
+  carried_out old new s c a answers goes as_long untouched failed only_then memory same unchanged blocks holds crash guarded reclaimed grown = record {
     answers = answers;
     goes = goes;
+    as_long = as_long;
+    untouched = untouched;
     failed = failed;
     only_then = only_then;
     memory = memory;
@@ -99,6 +105,7 @@ module _ {D : Type 0} {members : _} where
     crash = crash;
     guarded = guarded;
     reclaimed = reclaimed;
+    grown = grown;
   }
 
   -- one command more

@@ -11,7 +11,7 @@ use Rattle.vm_store.specs.Resting.{Rests}
 use Rattle.vm_store.specs.Shared.{current_blocks, base_blocks, parent_name, unshared_from, unshared_with_parent}
 use Rattle.vm_store.specs.Sizes.{sizes}
 use Rattle.vm_store.specs.Versions.{is_alternative_of}
-use Rattle.vm_store.specs.declared.versions.Version.{Version}
+use Rattle.vm_store.specs.declared.version.Version.{Version}
 
 module _ (P : ℕ → Type 0) (x : Contents) (limit : ℕ) (alt : List ℕ) where
   current_under : (vs : List Version) (fs : List Filed) (s : Standing P x limit vs fs) (e : Version) → find (is_alternative_of alt) vs ≡ Some e → (m : Map) × IsRooted sizes x limit e.current m (current_blocks P x limit vs fs s alt)

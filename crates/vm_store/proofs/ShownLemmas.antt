@@ -1,22 +1,23 @@
 -- What contents show is one tree.
 use Rattle.std.proofs.Common.{◌≡◌, ℕ, List, [], ◌∷◌, refl, sym, ap, ◌∙◌, subst}
 use Rattle.vm_types.specs.Map.{Map}
+use Rattle.vm_types.specs.State.{Seen}
 use Rattle.vm_types.specs.Tree.{Tree}
 use Rattle.vm_disk.specs.Disk.{Contents}
 use Rattle.vm_block.proofs.TreeLemmas.{tree_one}
 use Rattle.vm_block.specs.Tree.{IsTree}
 use Rattle.vm_catalog.proofs.SlotOne.{names_one}
-use Rattle.vm_tree.specs.Root.{Grown}
+use Rattle.vm_tree.specs.Root.{IsRootedIn}
 use Rattle.vm_tree.specs.declared.root.Root.{Root}
 use Rattle.vm_store.specs.Sizes.{sizes}
 use Rattle.vm_store.specs.Filed.{Filed, StandsAs, Standing, tree_of}
 use Rattle.vm_store.specs.Shown.{Shows}
 use Rattle.vm_store.specs.Versions.{entry_of, slot_entries}
-use Rattle.vm_store.specs.declared.versions.Version.{Version}
+use Rattle.vm_store.specs.declared.version.Version.{Version}
 use Rattle.vm_store.proofs.TopLemmas.{rooted_tree}
 
 -- under two roots of one block lies one map
-map_one : (P : ℕ → Type 0) (x : Contents) (limit : ℕ) (r q : Root) (m n : Map) → r.block ≡ q.block → Grown sizes P x limit r m → Grown sizes P x limit q n → m ≡ n
+map_one : (P : ℕ → Type 0) (x : Contents) (limit : ℕ) (r q : Root) (m n : Map) → r.block ≡ q.block → IsRootedIn sizes P x limit r m → IsRootedIn sizes P x limit q n → m ≡ n
 map_one P x limit r q m n same one other =
     (tree_one sizes x limit q.block m n one.stands_in other.stands_in
     (subst (λ b. IsTree sizes x limit b m one.stands_in) same (rooted_tree x limit r m one.stands_in one.rooted))
@@ -51,10 +52,11 @@ all_filed_one P x limit [] [] [] (g ∷ gs) same s t = absurd t
 all_filed_one P x limit (v ∷ vs) (w ∷ ws) [] gs same s t = absurd s
 all_filed_one P x limit (v ∷ vs) (w ∷ ws) (f ∷ fs) [] same s t = absurd t
 
-pub shown_one : (x : Contents) (t u : Tree) → Shows x t → Shows x u → t ≡ u
+pub shown_one : (x : Contents) (t u : Seen) → Shows x t → Shows x u → t ≡ u
 shown_one x t u one other =
     let P : ℕ → Type 0 = λ n. Unit {0} in
-    let named = names_one x one.limit other.limit (slot_entries one.versions) (slot_entries other.versions) one.names other.names in
+    let named = names_one x t.blocks u.blocks (slot_entries one.versions) (slot_entries other.versions) one.names other.names in
     let stands = subst (λ l. Standing P x l one.versions one.filed) named.0 one.stands in
-    let same = all_filed_one P x other.limit one.versions other.versions one.filed other.filed named.1 stands other.stands in
-    sym one.gives ∙ ap tree_of same ∙ other.gives
+    let same = all_filed_one P x u.blocks one.versions other.versions one.filed other.filed named.1 stands other.stands in
+    let tree : t.tree ≡ u.tree = sym one.gives ∙ ap tree_of same ∙ other.gives in
+    ap (λ (a : Tree). record { tree = a; blocks = t.blocks }) tree ∙ ap (λ n. record { tree = u.tree; blocks = n }) named.0

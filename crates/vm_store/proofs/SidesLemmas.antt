@@ -4,7 +4,7 @@ use Rattle.vm_types.specs.declared.refusal.Refusal.{Refusal}
 use Rattle.vm_types.specs.declared.refusal.Refusal.TheVariants.{Device, Memory}
 use Rattle.vm_types.specs.Map.{Map, IsMap}
 use Rattle.vm_types.proofs.Bridge.{IsMap-rising_from}
-use Rattle.vm_disk.specs.Disk.{State, Contents, Medium}
+use Rattle.vm_disk.specs.Disk.{DiskState, Contents, Medium}
 use Rattle.vm_disk.specs.Moments.{OnlyReads}
 use Rattle.vm_disk.proofs.MomentLemmas.{same_medium}
 use Rattle.vm_tree.specs.Root.{IsRooted}
@@ -14,7 +14,7 @@ use Rattle.vm_store.specs.Sides.{ReadsOr}
 use Rattle.vm_store.specs.Sizes.{sizes}
 
 -- a tree stands after reads
-pub rooted_after : (old new : State) (limit : ℕ) (root : Root) (m : Map) (bs : List ℕ) → OnlyReads old new → IsRooted sizes old.now.contents limit root m bs → IsRooted sizes new.now.contents limit root m bs
+pub rooted_after : (old new : DiskState) (limit : ℕ) (root : Root) (m : Map) (bs : List ℕ) → OnlyReads old new → IsRooted sizes old.now.contents limit root m bs → IsRooted sizes new.now.contents limit root m bs
 rooted_after old new limit root m bs reads tree = subst (λ (m' : Medium). IsRooted sizes m'.contents limit root m bs) (sym (same_medium old new reads)) tree
 
 -- the records of a tree are a map

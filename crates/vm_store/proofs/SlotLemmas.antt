@@ -4,7 +4,7 @@ use Rattle.std.specs.List.{list_any}
 use Rattle.vm_types.specs.Firsts.{change_first, without_first}
 use Rattle.vm_block.specs.declared.slot.Entry.{Entry}
 use Rattle.vm_store.specs.Versions.{entry_of, slot_entries}
-use Rattle.vm_store.specs.declared.versions.Version.{Version}
+use Rattle.vm_store.specs.declared.version.Version.{Version}
 
 -- there are as many
 pub slot-length : (vs : List Version) → length (slot_entries vs) ≡ length vs

@@ -8,12 +8,12 @@ use Rattle.vm_disk.specs.Disk.{Contents, block}
 use Rattle.vm_block.specs.Slot.{is_alternative}
 use Rattle.vm_block.specs.Tree.{IsData}
 use Rattle.vm_block.proofs.EachLemmas.{each_join, each_front, each_back, each_both}
-use Rattle.vm_tree.specs.Root.{Grown}
+use Rattle.vm_tree.specs.Root.{IsRootedIn}
 use Rattle.vm_tree.specs.declared.root.Root.{Root}
 use Rattle.vm_store.specs.Sizes.{sizes}
 use Rattle.vm_store.specs.Filed.{Filed, StandsAs, Standing, reach}
 use Rattle.vm_store.specs.Versions.{is_alternative_of, with_current}
-use Rattle.vm_store.specs.declared.versions.Version.{Version}
+use Rattle.vm_store.specs.declared.version.Version.{Version}
 use Rattle.vm_store.proofs.TopLemmas.{grown_in, grown_data}
 use Rattle.vm_store.proofs.FiledLemmas.{is_filed, refiled}
 
@@ -116,7 +116,7 @@ not_found P x limit name (e' ∷ es) [] s is = absurd s
 
 -- the first version of a name has another root, under which its records lie, changed so
 pub standing_changed : (P : ℕ → Type 0) (x : Contents) (limit : ℕ) (name : List ℕ) (root : Root) (g : Map → Map) (es : List Version) (fs : List Filed) → Standing P x limit es fs
-    → ((f : Filed) → find (is_filed name) fs ≡ Some f → Grown sizes P x limit root (g f.current))
+    → ((f : Filed) → find (is_filed name) fs ≡ Some f → IsRootedIn sizes P x limit root (g f.current))
     → Standing P x limit (change_first (is_alternative_of name) (with_current root) es) (change_first (is_filed name) (refiled g) fs)
 standing_changed P x limit name root g [] [] s new = tt
 standing_changed P x limit name root g (e ∷ es) (f ∷ fs) s new =

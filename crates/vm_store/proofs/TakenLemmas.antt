@@ -6,7 +6,7 @@ use Rattle.std.proofs.lemmas.Slice.Eq.{bytes_eq-Decides}
 use Rattle.vm_types.specs.Firsts.{without_first}
 use Rattle.vm_types.specs.Tree.{Tree, Alternative, Saved, named, saved_as, changed}
 use Rattle.vm_block.specs.Slot.{is_alternative}
-use Rattle.vm_store.specs.Filed.{Filed, saved_of, bare, with_saved, add, grown}
+use Rattle.vm_store.specs.Filed.{Filed, saved_of, bare, with_saved, add, with_filed}
 use Rattle.vm_store.proofs.FiledLemmas.{is_filed, there, now_there, not_there, changed_front}
 use Rattle.vm_store.proofs.GrownLemmas.{is_filed_under, MayBeAdded, InOrder, not_eq, some_is, not_under, under_owner, named_add, bare_added}
 
@@ -111,31 +111,31 @@ module _ (n : List ℕ) where
       turned false true = refl
       turned false false = refl
 
-  cut_behind : (t : Tree) (fs : List Filed) → InOrder t fs → is_some (named t n) ≡ true → grown (cut t) (filter (is_filed_apart n) fs) ≡ cut (grown t fs)
+  cut_behind : (t : Tree) (fs : List Filed) → InOrder t fs → is_some (named t n) ≡ true → with_filed (cut t) (filter (is_filed_apart n) fs) ≡ cut (with_filed t fs)
   cut_behind t [] h is = refl
   cut_behind t (f ∷ fs) h is =
-      elim (is_filed_under n f) as (λ b. is_filed_under n f ≡ b → grown (cut t) (filter (is_filed_apart n) (f ∷ fs)) ≡ cut (grown (add t f) fs)) [
+      elim (is_filed_under n f) as (λ b. is_filed_under n f ≡ b → with_filed (cut t) (filter (is_filed_apart n) (f ∷ fs)) ≡ cut (with_filed (add t f) fs)) [
         | true ↦ λ under.
-            ap (grown (cut t)) (kept_if f fs false true (new_name t f h.0 is) under)
-            ∙ ap (λ u. grown u (filter (is_filed_apart n) fs)) (sym (cut_add t f h.0 is ∙ ap (λ b. cond b (cut t) (add (cut t) f)) under))
+            ap (with_filed (cut t)) (kept_if f fs false true (new_name t f h.0 is) under)
+            ∙ ap (λ u. with_filed u (filter (is_filed_apart n) fs)) (sym (cut_add t f h.0 is ∙ ap (λ b. cond b (cut t) (add (cut t) f)) under))
             ∙ cut_behind (add t f) fs h.1 (there n t f is)
         | false ↦ λ under.
-            ap (grown (cut t)) (kept_if f fs false false (new_name t f h.0 is) under)
-            ∙ ap (λ u. grown u (filter (is_filed_apart n) fs)) (sym (cut_add t f h.0 is ∙ ap (λ b. cond b (cut t) (add (cut t) f)) under))
+            ap (with_filed (cut t)) (kept_if f fs false false (new_name t f h.0 is) under)
+            ∙ ap (λ u. with_filed u (filter (is_filed_apart n) fs)) (sym (cut_add t f h.0 is ∙ ap (λ b. cond b (cut t) (add (cut t) f)) under))
             ∙ cut_behind (add t f) fs h.1 (there n t f is)
       ] refl
 
   -- without the entries of an alternative and of its checkpoints the tree is without the alternative
-  pub grown_apart : (t : Tree) (fs : List Filed) → InOrder t fs → is_some (named t n) ≡ false → grown t (filter (is_filed_apart n) fs) ≡ without_first (λ a. bytes_eq a.name n) (grown t fs)
+  pub grown_apart : (t : Tree) (fs : List Filed) → InOrder t fs → is_some (named t n) ≡ false → with_filed t (filter (is_filed_apart n) fs) ≡ without_first (λ a. bytes_eq a.name n) (with_filed t fs)
   grown_apart t [] h absent = sym (cut_absent t absent)
   grown_apart t (f ∷ fs) h absent =
       let under = not_under n t f h.0 absent in
-      elim (is_filed n f) as (λ b. is_filed n f ≡ b → grown t (filter (is_filed_apart n) (f ∷ fs)) ≡ cut (grown (add t f) fs)) [
+      elim (is_filed n f) as (λ b. is_filed n f ≡ b → with_filed t (filter (is_filed_apart n) (f ∷ fs)) ≡ cut (with_filed (add t f) fs)) [
         | true ↦ λ is.
-            ap (grown t) (kept_if f fs true false is under)
-            ∙ ap (λ u. grown u (filter (is_filed_apart n) fs)) (sym (brought t f absent is))
+            ap (with_filed t) (kept_if f fs true false is under)
+            ∙ ap (λ u. with_filed u (filter (is_filed_apart n) fs)) (sym (brought t f absent is))
             ∙ cut_behind (add t f) fs h.1 (present t f absent is)
-        | false ↦ λ is. ap (grown t) (kept_if f fs false false is under) ∙ grown_apart (add t f) fs h.1 (not_there n t f absent is)
+        | false ↦ λ is. ap (with_filed t) (kept_if f fs false false is under) ∙ grown_apart (add t f) fs h.1 (not_there n t f absent is)
       ] refl
     where
       brought : (t : Tree) (f : Filed) → is_some (named t n) ≡ false → is_filed n f ≡ true → cut (add t f) ≡ t
@@ -262,10 +262,10 @@ module _ (m : List ℕ) where
     still_saved f a true has = found_more a.saved (saved_of f) ∙ or_true (is_some (saved_as a m)) (is_m (saved_of f)) has
     still_saved f a false has = has
 
-    unsaved_grown : (t : Tree) (fs : List Filed) (a : Alternative) → InOrder t fs → named t n ≡ Some a → is_some (saved_as a m) ≡ true → grown (changed t n (unsaved m)) fs ≡ changed (grown t fs) n (unsaved m)
+    unsaved_grown : (t : Tree) (fs : List Filed) (a : Alternative) → InOrder t fs → named t n ≡ Some a → is_some (saved_as a m) ≡ true → with_filed (changed t n (unsaved m)) fs ≡ changed (with_filed t fs) n (unsaved m)
     unsaved_grown t [] a h is has = refl
     unsaved_grown t (f ∷ fs) a h is has =
-        ap (λ u. grown u fs) (unsaved_add t f a is has)
+        ap (λ u. with_filed u fs) (unsaved_add t f a is has)
         ∙ unsaved_grown (add t f) fs (cond (is_filed_under n f) (with_saved (saved_of f) a) a) h.1 (named_add n t f a h.0 is) (still_saved f a (is_filed_under n f) has)
 
     -- the alternative, if it is there, lacks the checkpoint
@@ -293,10 +293,10 @@ module _ (m : List ℕ) where
             ap (λ (d : Alternative). is_some (saved_as d m)) (sym same) ∙ lacking a (is_filed_under n f) (lacks a is) other
 
     -- without the entry of a checkpoint the alternative is without it
-    pub grown_unsaved : (t : Tree) (fs : List Filed) → InOrder t fs → Lacks t → is_some (find (is_filed_saved n m) fs) ≡ true → grown t (without_first (is_filed_saved n m) fs) ≡ changed (grown t fs) n (unsaved m)
+    pub grown_unsaved : (t : Tree) (fs : List Filed) → InOrder t fs → Lacks t → is_some (find (is_filed_saved n m) fs) ≡ true → with_filed t (without_first (is_filed_saved n m) fs) ≡ changed (with_filed t fs) n (unsaved m)
     grown_unsaved t [] h lacks some = cc
     grown_unsaved t (f ∷ fs) h lacks some =
-        elim (is_filed_saved n m f) as (λ b. is_filed_saved n m f ≡ b → is_some (cond b (Some f) (find (is_filed_saved n m) fs)) ≡ true → grown t (cond b fs (f ∷ without_first (is_filed_saved n m) fs)) ≡ changed (grown (add t f) fs) n (unsaved m)) [
+        elim (is_filed_saved n m f) as (λ b. is_filed_saved n m f ≡ b → is_some (cond b (Some f) (find (is_filed_saved n m) fs)) ≡ true → with_filed t (cond b fs (f ∷ without_first (is_filed_saved n m) fs)) ≡ changed (with_filed (add t f) fs) n (unsaved m)) [
           | true ↦ λ it some.
               let under : is_filed_under n f ≡ true = and_first (is_filed_under n f) (bytes_eq f.name m) it in
               let name : bytes_eq f.name m ≡ true = and_second (is_filed_under n f) (bytes_eq f.name m) it in
@@ -304,7 +304,7 @@ module _ (m : List ℕ) where
               let a = present.0 in
               let now : named (add t f) n ≡ Some (with_saved (saved_of f) a) = named_add n t f a h.0 present.1 ∙ ap (λ b. Some (cond b (with_saved (saved_of f) a) a)) under in
               let has : is_some (saved_as (with_saved (saved_of f) a) m) ≡ true = found_more a.saved (saved_of f) ∙ or_last (is_some (saved_as a m)) (bytes_eq f.name m) name in
-              ap (λ u. grown u fs) (sym (ap (λ u. changed u n (unsaved m)) (saved_add n t f h.0 under) ∙ undone t (saved_of f) a present.1 (lacks a present.1) name))
+              ap (λ u. with_filed u fs) (sym (ap (λ u. changed u n (unsaved m)) (saved_add n t f h.0 under) ∙ undone t (saved_of f) a present.1 (lacks a present.1) name))
               ∙ unsaved_grown (add t f) fs (with_saved (saved_of f) a) h.1 now has
           | false ↦ λ other some. grown_unsaved (add t f) fs h.1 (still_lacks t f h.0 lacks other) some
         ] refl some

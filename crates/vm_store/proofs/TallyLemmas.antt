@@ -19,10 +19,11 @@ use Rattle.vm_store.specs.Resting.{Rests}
 use Rattle.vm_store.specs.Sides.{ReadsOr}
 use Rattle.vm_store.specs.Tallies.{tally_between, tally_with, tally_under, tally_of, tally_in}
 use Rattle.vm_store.specs.declared.tally.Tally.{Tally}
-use Rattle.vm_store.specs.declared.versions.Version.{Version}
+use Rattle.vm_store.specs.declared.version.Version.{Version}
 use Rattle.vm_store.proofs.GrownLemmas.{whole}
 use Rattle.vm_store.proofs.PairLemmas.{base_map, called, own_map, own_there, parent_map, parent_there, post_refused, post_step, under}
-use Rattle.vm_store.proofs.VersionLemmas.{absent, there}
+use Rattle.vm_store.proofs.TurnLemmas.{absent, there}
+use Rattle.vm_store.proofs.VersionLemmas.{standing}
 
 -- maps are the same where their difference is empty, and only there
 none_differ : (base parent : Map) → IsMap base → IsMap parent → (length (delta base parent) == 0) ≡ same_map base parent
@@ -54,14 +55,14 @@ module _ (m : Medium) (limit : ℕ) (slot_b : Bool) (bits : List Bool) (committe
     (rests : Rests m limit slot_b bits committed working s) (alt : List ℕ) where
   -- why there is no alternative with a parent is why it has no numbers
   pub tally_lacking : (refusal : Refusal) → LacksPair working alt refusal → tally_in s.working alt ≡ Err refusal
-  tally_lacking refusal (inl none) = ap (tally_of s.working) (absent m limit slot_b bits committed working s rests alt none.1) ∙ ap Err (sym none.0)
+  tally_lacking refusal (inl none) = ap (tally_of s.working) (absent (standing rests) alt none.1) ∙ ap Err (sym none.0)
   tally_lacking refusal (inr (own, found, inl top)) =
-      let at = there m limit slot_b bits committed working s rests alt own found in
+      let at = there (standing rests) alt own found in
       ap (tally_of s.working) at.is ∙ ap (λ o. tally_under s.working o (whole alt rests.new at.filed)) (at.stands.owner ∙ top.1) ∙ ap Err (sym top.0)
   tally_lacking refusal (inr (own, found, inr gone)) =
-      let at = there m limit slot_b bits committed working s rests alt own found in
+      let at = there (standing rests) alt own found in
       ap (tally_of s.working) at.is ∙ ap (λ o. tally_under s.working o (whole alt rests.new at.filed)) (at.stands.owner ∙ gone.1)
-      ∙ ap (λ o. tally_with s.working o (whole alt rests.new at.filed)) (absent m limit slot_b bits committed working s rests gone.0 gone.3) ∙ ap Err (sym gone.2)
+      ∙ ap (λ o. tally_with s.working o (whole alt rests.new at.filed)) (absent (standing rests) gone.0 gone.3) ∙ ap Err (sym gone.2)
 
   module _ (pair : Version × Version) (is : IsPair working alt pair) where
     abbrev base : Map

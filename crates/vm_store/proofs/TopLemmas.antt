@@ -9,7 +9,7 @@ use Rattle.vm_block.proofs.EachLemmas.{each_so, each_both}
 use Rattle.vm_block.proofs.TreeLemmas.{subtree_in, tree_data, tree_none, tree_closes}
 use Rattle.vm_tree.proofs.Descent.{subtree_top}
 use Rattle.vm_tree.specs.Answers as tree
-use Rattle.vm_tree.specs.Root.{IsRooted, Grown}
+use Rattle.vm_tree.specs.Root.{IsRooted, IsRootedIn}
 use Rattle.vm_tree.specs.declared.root.Root.{Root}
 use Rattle.vm_store.specs.Answers.{LacksRoom}
 use Rattle.vm_store.specs.Sizes.{sizes}
@@ -32,7 +32,7 @@ rooted_in P x y limit same root m bs (inr top) all =
 
 -- and its blocks have another property as well
 pub grown_in : (P Q : ℕ → Type 0) (x y : Contents) (limit : ℕ) → ((n : ℕ) → P n → block y n ≡ block x n) → ((n : ℕ) → P n → Q n)
-    → (root : Root) (m : Map) → Grown sizes P x limit root m → Grown sizes Q y limit root m
+    → (root : Root) (m : Map) → IsRootedIn sizes P x limit root m → IsRootedIn sizes Q y limit root m
 grown_in P Q x y limit same so root m grown = record {
   stands_in = grown.stands_in;
   rooted = rooted_in P x y limit same root m grown.stands_in grown.rooted grown.each;
@@ -40,7 +40,7 @@ grown_in P Q x y limit same so root m grown = record {
 }
 
 -- all its blocks are for data
-pub grown_data : (P : ℕ → Type 0) (x : Contents) (limit : ℕ) (root : Root) (m : Map) → Grown sizes P x limit root m → Grown sizes (λ n. P n × IsData limit n) x limit root m
+pub grown_data : (P : ℕ → Type 0) (x : Contents) (limit : ℕ) (root : Root) (m : Map) → IsRootedIn sizes P x limit root m → IsRootedIn sizes (λ n. P n × IsData limit n) x limit root m
 grown_data P x limit root m grown = record {
   stands_in = grown.stands_in;
   rooted = grown.rooted;
@@ -48,11 +48,11 @@ grown_data P x limit root m grown = record {
 }
 
 -- in a store of so many blocks, counted otherwise
-pub grown_of : (P : ℕ → Type 0) (x : Contents) (limit other : ℕ) (root : Root) (m : Map) → limit ≡ other → Grown sizes P x limit root m → Grown sizes P x other root m
-grown_of P x limit other root m same grown = subst (λ n. Grown sizes P x n root m) same grown
+pub grown_of : (P : ℕ → Type 0) (x : Contents) (limit other : ℕ) (root : Root) (m : Map) → limit ≡ other → IsRootedIn sizes P x limit root m → IsRootedIn sizes P x other root m
+grown_of P x limit other root m same grown = subst (λ n. IsRootedIn sizes P x n root m) same grown
 
 -- the empty map stands under no block
-pub none_grown : (P : ℕ → Type 0) (x : Contents) (limit : ℕ) (root : Root) → root.block ≡ 0 → Grown sizes P x limit root []
+pub none_grown : (P : ℕ → Type 0) (x : Contents) (limit : ℕ) (root : Root) → root.block ≡ 0 → IsRootedIn sizes P x limit root []
 none_grown P x limit root none = record { stands_in = []; rooted = inl (record { none = none; empty = refl; blocks = refl }); each = tt }
 
 -- ---- room for one more record
@@ -68,7 +68,7 @@ pub rooted_of : (x : Contents) (limit other : ℕ) (root : Root) (m : Map) (bs :
 rooted_of x limit other root m bs same rooted = subst (λ n. IsRooted sizes x n root m bs) (sym same) rooted
 
 -- the block of a root is a small number
-pub grown_small : (P : ℕ → Type 0) (x : Contents) (limit : ℕ) (root : Root) (m : Map) → limit ≤ 2 ^ 20 → Grown sizes P x limit root m → root.block < 2 ^ 32
+pub grown_small : (P : ℕ → Type 0) (x : Contents) (limit : ℕ) (root : Root) (m : Map) → limit ≤ 2 ^ 20 → IsRootedIn sizes P x limit root m → root.block < 2 ^ 32
 grown_small P x limit root m most grown = by_case grown.rooted
   where
     by_case : IsRooted sizes x limit root m grown.stands_in → root.block < 2 ^ 32

@@ -4,13 +4,13 @@ use Rattle.vm_types.specs.declared.answer.Answer.{Answer}
 use Rattle.vm_types.specs.declared.change.Change.{Change}
 use Rattle.vm_types.specs.declared.command.Command.{Command}
 use Rattle.vm_types.specs.declared.command.Side.{Side}
-use Rattle.vm_types.specs.declared.command.Command.TheVariants.{New, NewAt, Drop, Put, Checkpoint, Uncheck, Back, Merge}
+use Rattle.vm_types.specs.declared.command.Command.TheVariants.{New, NewAt, Drop, Put, Checkpoint, Uncheck, Back, Merge, Grow}
 use Rattle.vm_types.specs.declared.key.Key.{Key}
 use Rattle.vm_types.specs.declared.refusal.Refusal.{Refusal}
 use Rattle.vm_types.specs.declared.refusal.Refusal.TheVariants.{Full, Deep, Device, Memory, Damaged}
 use Rattle.vm_types.specs.Map.{Map, get, delta}
 use Rattle.vm_types.specs.Places.{place}
-use Rattle.vm_types.specs.State.{State, tree_after, edits}
+use Rattle.vm_types.specs.State.{State, outcome, tree_after, edits}
 use Rattle.vm_types.specs.Step.{Outcome, step}
 use Rattle.vm_types.specs.Tree.{Tree, current_of}
 use Rattle.vm_disk.specs.Disk.{Contents}
@@ -35,7 +35,7 @@ IsDue (Ok accepted) false deep result = ((result ≡ Ok accepted.1) × (deep →
 -- what is answered to a command but a Merge, where so many blocks are spare: what is due, or that the device failed
 abbrev pub IsAnswer : State → ℕ → Type 0 → Command → Result Answer Refusal → Type 0
 IsAnswer s spare deep command result =
-    (result ≡ Err Device) ⊎ IsDue (step s.working command) (nat_lt spare (16 * edits s.working command)) deep result
+    (result ≡ Err Device) ⊎ IsDue (outcome s command) (nat_lt spare (16 * edits s.working command)) deep result
 
 -- the changes that a Merge makes in the records of the alternative
 abbrev pub merge_changes : Tree → List ℕ → List (Key × Side) → List Change
@@ -51,6 +51,11 @@ IsMergeDue (Ok accepted) false deep result = (result ≡ Ok accepted.1) ⊎ ((re
 abbrev pub IsMergeAnswer : State → ℕ → Type 0 → List ℕ → List (Key × Side) → Result Answer Refusal → Type 0
 IsMergeAnswer s spare deep alt settled result =
     (result ≡ Err Device) ⊎ ((result ≡ Err Memory) ⊎ IsMergeDue (step s.working (Merge alt settled)) (nat_lt spare (16 * edits s.working (Merge alt settled))) deep result)
+
+-- a Grow that the model refuses is answered so, and one that it accepts, too, unless memory is wanting or the device fails
+abbrev pub IsGrowDue : Outcome → Result Answer Refusal → Type 0
+IsGrowDue (Err refusal) result = result ≡ Err refusal
+IsGrowDue (Ok accepted) result = (result ≡ Err Device) ⊎ ((result ≡ Err Memory) ⊎ (result ≡ Ok accepted.1))
 
 -- a refusal that comes before blocks are marked, taken or written: each one but Full, Deep, Device and Damaged
 abbrev pub IsEarly : Refusal → Type 0
@@ -71,6 +76,12 @@ ChangesEntriesAlone (Back alt name) = Unit {0}
 ChangesEntriesAlone command = ⊥
 
 -- the commands that take memory
-abbrev pub IsMerge : Command → Type 0
-IsMerge (Merge alt settled) = Unit {0}
-IsMerge command = ⊥
+abbrev pub TakesMemory : Command → Type 0
+TakesMemory (Merge alt settled) = Unit {0}
+TakesMemory (Grow blocks) = Unit {0}
+TakesMemory command = ⊥
+
+-- the one command that makes a store larger
+abbrev pub IsGrow : Command → Type 0
+IsGrow (Grow blocks) = Unit {0}
+IsGrow command = ⊥

@@ -5,9 +5,9 @@ use Rattle.vm_types.specs.Tree.{Tree, Alternative, Saved, changed}
 use Rattle.vm_disk.specs.Disk.{Contents}
 use Rattle.vm_block.specs.Slot.{is_alternative}
 use Rattle.vm_block.specs.declared.slot.Kind.{Kind}
-use Rattle.vm_tree.specs.Root.{Grown}
+use Rattle.vm_tree.specs.Root.{IsRootedIn}
 use Rattle.vm_store.specs.Sizes.{sizes}
-use Rattle.vm_store.specs.declared.versions.Version.{Version}
+use Rattle.vm_store.specs.declared.version.Version.{Version}
 
 -- a version with maps in the place of its roots
 pub record Filed : Type 0 where
@@ -34,21 +34,21 @@ abbrev pub add : Tree → Filed → Tree
 add tree f = if is_alternative f.kind then tree ++ bare f ∷ [] else changed tree (unwrap_or f.owner []) (with_saved (saved_of f))
 
 -- the tree with all these more, one after another
-abbrev pub grown : Tree → List Filed → Tree
-grown tree [] = tree
-grown tree (f ∷ fs) = grown (add tree f) fs
+abbrev pub with_filed : Tree → List Filed → Tree
+with_filed tree [] = tree
+with_filed tree (f ∷ fs) = with_filed (add tree f) fs
 
 -- the tree that they give
 abbrev pub tree_of : List Filed → Tree
-tree_of fs = grown [] fs
+tree_of fs = with_filed [] fs
 
 -- under both roots of the version lie these maps, in blocks that have P
 pub record StandsAs (P : ℕ → Type 0) (x : Contents) (limit : ℕ) (v : Version) (f : Filed) : Type 0 where
   pub kind : f.kind ≡ v.kind
   pub name : f.name ≡ v.name
   pub owner : f.owner ≡ v.owner
-  pub current : Grown sizes P x limit v.current f.current
-  pub base : Grown sizes P x limit v.base f.base
+  pub current : IsRootedIn sizes P x limit v.current f.current
+  pub base : IsRootedIn sizes P x limit v.base f.base
 
 -- each version has its maps, in blocks that have P
 abbrev pub Standing : (ℕ → Type 0) → Contents → ℕ → List Version → List Filed → Type 0

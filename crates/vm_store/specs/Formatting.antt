@@ -1,7 +1,6 @@
 -- What a formatting leaves.
 use Rattle.std.specs.Prelude.{◌≡◌, ◌⊎◌, ℕ, ◌<◌, ◌^◌, false, [], ◌∷◌, None, Result, Ok, Err, codes}
 use Rattle.vm_types.specs.declared.refusal.Refusal.{Refusal}
-use Rattle.vm_types.specs.Tree.{fresh}
 use Rattle.vm_disk.specs.Disk.{Medium, IsClean, block}
 use Rattle.vm_disk.specs.Moments.{Leaves}
 use Rattle.vm_block.specs.Header.{IsHeader}
@@ -10,7 +9,7 @@ use Rattle.vm_block.specs.declared.slot.Entry.{Entry}
 use Rattle.vm_catalog.specs.Place.{selected}
 use Rattle.vm_catalog.specs.Catalog.{SlotAt}
 use Rattle.vm_store.specs.Refused.{IsAtMostSynced}
-use Rattle.vm_store.specs.Shown.{Shows, ShowsAtMostFresh}
+use Rattle.vm_store.specs.Shown.{Shows, ShowsAtMostNew, new_store}
 
 -- the one entry of a new store: `top` without a record
 abbrev pub fresh_entry : Entry
@@ -28,13 +27,12 @@ pub record IsLaidOut (blocks : ℕ) (m : Medium) : Type 0 where
 
 -- a new store of so many blocks is shown, and all is synced
 pub record IsFormatted (blocks : ℕ) (m : Medium) : Type 0 where
-  pub shown : Shows m.contents fresh
-  pub size : shown.limit ≡ blocks
+  pub shown : Shows m.contents (new_store blocks)
   pub clean : IsClean m
 
--- nothing has changed but that it may be synced; or there was no header, and a crash shows at most a new store
-abbrev pub IsFormatting : Medium → Medium → Type 0
-IsFormatting old m = IsAtMostSynced old m ⊎ ((IsHeader (block old.contents 0) → ⊥) × Leaves ShowsAtMostFresh m)
+-- nothing has changed but that it may be synced; or there was no header, and a crash shows at most a new store of so many blocks
+abbrev pub IsFormatting : ℕ → Medium → Medium → Type 0
+IsFormatting blocks old m = IsAtMostSynced old m ⊎ ((IsHeader (block old.contents 0) → ⊥) × Leaves (ShowsAtMostNew blocks) m)
 
 -- the disk that comes back, with a refusal or without one
 abbrev pub given_back : {D : Type 0} → Result D (D × Refusal) → D

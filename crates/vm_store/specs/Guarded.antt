@@ -7,7 +7,7 @@ use Rattle.vm_catalog.specs.Catalog.{SlotAt}
 use Rattle.vm_store.specs.Filed.{Filed, Standing}
 use Rattle.vm_store.specs.Resting.{IsSafe}
 use Rattle.vm_store.specs.Versions.{slot_entries}
-use Rattle.vm_store.specs.declared.versions.Version.{Version}
+use Rattle.vm_store.specs.declared.version.Version.{Version}
 
 -- a header stands before this slot, which names versions within the blocks that a crash leaves. The header, each block that names them and
 -- each block under their roots is clean, so no write has gone to any of these; those under the roots are held, too

@@ -3,6 +3,7 @@ pub mod Changing
 pub mod Faults
 pub mod Filed
 pub mod Formatting
+pub mod Growing
 pub mod Guarded
 pub mod Marking
 pub mod Opening
@@ -18,4 +19,5 @@ pub mod Sizes
 pub mod Spare
 pub mod Store
 pub mod Tallies
+pub mod Turns
 pub mod Versions

@@ -3,7 +3,7 @@ use Rattle.std.specs.Prelude.{◌≡◌, ℕ, List, ◌++◌}
 use Rattle.vm_disk.specs.Disk.{Contents}
 use Rattle.vm_check.specs.Marking.{IsUnder, Joined}
 use Rattle.vm_store.specs.Sizes.{sizes}
-use Rattle.vm_store.specs.declared.versions.Version.{Version}
+use Rattle.vm_store.specs.declared.version.Version.{Version}
 
 -- under both roots of the version lie maps, in these blocks together
 abbrev pub IsReached : Contents → ℕ → Version → List ℕ → Type 0

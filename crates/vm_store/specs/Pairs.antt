@@ -3,7 +3,7 @@ use Rattle.std.specs.Prelude.{◌≡◌, ◌⊎◌, ℕ, List, find, Some, None}
 use Rattle.vm_types.specs.declared.refusal.Refusal.{Refusal}
 use Rattle.vm_types.specs.declared.refusal.Refusal.TheVariants.{NoSuchAlternative, IsTop}
 use Rattle.vm_store.specs.Versions.{is_alternative_of}
-use Rattle.vm_store.specs.declared.versions.Version.{Version}
+use Rattle.vm_store.specs.declared.version.Version.{Version}
 
 -- the first of these two is the alternative of this name, the other one its parent
 pub record IsPair (vs : List Version) (alt : List ℕ) (pair : Version × Version) : Type 0 where

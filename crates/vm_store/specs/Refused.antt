@@ -9,7 +9,7 @@ use Rattle.vm_catalog.specs.Place.{slot_at, selected}
 use Rattle.vm_catalog.specs.Catalog.{SlotAt}
 use Rattle.vm_store.specs.Filed.{Filed, Standing}
 use Rattle.vm_store.specs.Versions.{slot_entries}
-use Rattle.vm_store.specs.declared.versions.Version.{Version}
+use Rattle.vm_store.specs.declared.version.Version.{Version}
 
 -- there are blocks enough for a store, and the first one is a header
 pub record IsStore (x : Contents) : Type 0 where

@@ -1,16 +1,16 @@
 -- What a command does to a store, and what a run of commands does.
-use Rattle.std.specs.Prelude.{◌≡◌, ◌≢◌, ◌↔◌, ◌≤◌, ℕ, true, List, [], ◌∷◌, ◌++◌, Result, Err, IfErr, OnErr, OnOk, drop, length, take}
+use Rattle.std.specs.Prelude.{◌≡◌, ◌≢◌, ◌↔◌, ◌≤◌, ℕ, ◌+◌, ◌-◌, true, List, [], ◌∷◌, ◌++◌, Result, Err, IfErr, OnErr, OnOk, drop, length, take}
 use Rattle.vm_types.specs.declared.answer.Answer.{Answer}
 use Rattle.vm_types.specs.declared.command.Command.{Command}
-use Rattle.vm_types.specs.declared.command.Command.TheVariants.{Reclaim}
+use Rattle.vm_types.specs.declared.command.Command.TheVariants.{Grow, Reclaim}
 use Rattle.vm_types.specs.declared.refusal.Refusal.{Refusal}
 use Rattle.vm_types.specs.declared.refusal.Refusal.TheVariants.{Device, Failed, Memory}
 use Rattle.vm_types.specs.State.{State, after, next}
 use Rattle.vm_disk.specs.Disk.{Medium}
-use Rattle.vm_store.specs.Answers.{ChangesEntriesAlone, IsMerge}
+use Rattle.vm_store.specs.Answers.{ChangesEntriesAlone, IsEarly, IsGrow, TakesMemory}
 use Rattle.vm_store.specs.Guarded.{IsGuarded}
 use Rattle.vm_store.specs.Resting.{spare_of}
-use Rattle.vm_store.specs.Store.{Answers, CrashLeaves, EarlyKeeps, GoesOn, Holds, IsHonest, StaysGuarded, disk_of, entries_of, free_of, has_failed, held_of}
+use Rattle.vm_store.specs.Store.{Answers, CrashLeaves, EarlyKeeps, GrowsOn, Holds, IsHonest, StaysGuarded, disk_of, entries_of, free_of, has_failed, held_of}
 use Rattle.vm_store.specs.declared.store.Store.{Store}
 
 module _ {D : Type 0} {members : _} where
@@ -18,11 +18,14 @@ module _ {D : Type 0} {members : _} where
   pub record CarriesOut (old new : Store D members) (s : State) (command : Command) (answer : Result Answer Refusal) : Type 0 where
     -- the answer is the one that is due, where Full and Deep come on their conditions, or Device, or Memory
     pub answers : IsHonest new → (holds : Holds old s) → Answers old new s holds command answer
-    -- Failed is the answer of a store that had failed before, and Memory comes to a Merge alone
+    -- Failed is the answer of a store that had failed before, and Memory comes to a Merge or a Grow alone
     pub only_then : answer ≢ Err Failed
-    pub memory : answer ≡ Err Memory → IsMerge command
+    pub memory : answer ≡ Err Memory → TakesMemory command
     -- it is Device only where a device call failed
-    pub goes : GoesOn (answer ≡ Err Device) old new
+    pub goes : GrowsOn (answer ≡ Err Device) old new
+    -- no command but a Grow gives the disk more blocks, and a Grow that is refused early makes no device call
+    pub as_long : (IsGrow command → ⊥) → (members.state new.disk).blocks ≡ (members.state old.disk).blocks
+    pub untouched : IsGrow command → IfErr answer (λ refusal. IsEarly refusal → disk_of new ≡ disk_of old)
     -- then, and only then, the store has failed
     pub failed : has_failed new ≡ true ↔ answer ≡ Err Device
     -- a refusal leaves the entries as they were
@@ -39,6 +42,8 @@ module _ {D : Type 0} {members : _} where
     pub guarded : IsHonest new → Holds old s → StaysGuarded old new
     -- after a Reclaim just the spare blocks are free
     pub reclaimed : IsHonest new → command ≡ Reclaim → (holds : Holds old s) → OnOk answer (free_of new ≡ spare_of holds)
+    -- after a Grow the new blocks are free, too
+    pub grown : (blocks : ℕ) → command ≡ Grow blocks → Holds old s → OnOk answer (free_of new ≡ free_of old + (blocks - s.blocks))
 
   -- commands are carried out one after another: each by the store that the one before left, from the first store to the last
   abbrev pub AnswersInTurn : Store D members → Store D members → State → List Command → List (Result Answer Refusal) → Type 0

@@ -7,7 +7,7 @@ use Rattle.vm_diff.specs.Shared.{unshared}
 use Rattle.vm_store.specs.Filed.{Filed, Standing}
 use Rattle.vm_store.specs.Resting.{Rests}
 use Rattle.vm_store.specs.Versions.{is_alternative_of}
-use Rattle.vm_store.specs.declared.versions.Version.{Version}
+use Rattle.vm_store.specs.declared.version.Version.{Version}
 
 module _ (P : ℕ → Type 0) (x : Contents) (limit : ℕ) where
   -- the blocks under the current root of an alternative, none where it is not there

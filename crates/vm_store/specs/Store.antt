@@ -1,24 +1,26 @@
 -- A store, and the state that it stands for.
-use Rattle.std.specs.Prelude.{◌≡◌, ℕ, Bool, true, List, find, Result, IfErr}
+use Rattle.std.specs.Prelude.{◌≡◌, ◌≢◌, ℕ, Bool, true, List, find, Result, Err, IfErr}
 use Rattle.vm_types.specs.declared.answer.Answer.{Answer}
 use Rattle.vm_types.specs.declared.command.Command.{Command}
-use Rattle.vm_types.specs.declared.command.Command.TheVariants.{Merge}
+use Rattle.vm_types.specs.declared.command.Command.TheVariants.{Grow, Merge}
 use Rattle.vm_types.specs.declared.refusal.Refusal.{Refusal}
+use Rattle.vm_types.specs.declared.refusal.Refusal.TheVariants.{Device}
 use Rattle.vm_types.specs.Kept.{LeftBy}
-use Rattle.vm_types.specs.State.{State}
+use Rattle.vm_types.specs.State.{State, next, outcome}
 use Rattle.vm_types.specs.Tree.{current_of}
 use Rattle.vm_disk.specs.Disk.{Goes}
 use Rattle.vm_disk.specs.Moments.{Leaves, OnlyReads, Throughout}
 use Rattle.vm_alloc.specs.Held.{free_count}
-use Rattle.vm_store.specs.Answers.{IsAnswer, IsDeep, IsEarly, IsMergeAnswer, merge_changes}
+use Rattle.vm_store.specs.Answers.{IsAnswer, IsDeep, IsEarly, IsGrowDue, IsMergeAnswer, merge_changes}
 use Rattle.vm_store.specs.Changing.{MeetsFullPath}
+use Rattle.vm_store.specs.Growing.{Grows}
 use Rattle.vm_store.specs.Guarded.{IsGuarded}
 use Rattle.vm_store.specs.Resting.{Rests, spare_of}
 use Rattle.vm_store.specs.Roots.{current_root}
 use Rattle.vm_store.specs.Shown.{Shows}
 use Rattle.vm_store.specs.Versions.{is_alternative_of}
 use Rattle.vm_store.specs.declared.store.Store.{Store}
-use Rattle.vm_store.specs.declared.versions.Version.{Version}
+use Rattle.vm_store.specs.declared.version.Version.{Version}
 
 module _ {D : Type 0} {members : _} where
   -- the disk below
@@ -31,11 +33,11 @@ module _ {D : Type 0} {members : _} where
 
   -- the entries, committed and working, with the tops of their trees
   abbrev pub entries_of : Store D members → List Version × List Version
-  entries_of store = (store.committed.items, store.working.items)
+  entries_of store = (store.committed, store.working)
 
   -- the block of the root of the working records of an alternative
   abbrev pub root_of : Store D members → List ℕ → ℕ
-  root_of store alt = current_root (find (is_alternative_of alt) store.working.items)
+  root_of store alt = current_root (find (is_alternative_of alt) store.working)
 
   -- the store is as before: its size, entries, held blocks and marks, and whether it has failed; of its disk nothing is said
   pub record IsSameButDisk (old new : Store D members) : Type 0 where
@@ -53,7 +55,11 @@ module _ {D : Type 0} {members : _} where
   abbrev pub IsHonest : Store D members → Type 0
   IsHonest store = (members.state store.disk).honest ≡ true
 
-  -- what a call of the store does to its disk, on any disk, where `fails` says that the device failed in it
+  -- what a call of the store does to its disk, on any disk, where `fails` says that the device failed in it; it may give it more blocks
+  abbrev pub GrowsOn : Type 0 → (old new : Store D members) → Type 0
+  GrowsOn fails old new = Grows fails (members.state old.disk) (members.state new.disk)
+
+  -- the same of a call that leaves the number of its blocks
   abbrev pub GoesOn : Type 0 → (old new : Store D members) → Type 0
   GoesOn fails old new = Goes fails (members.state old.disk) (members.state new.disk)
 
@@ -80,7 +86,7 @@ module _ {D : Type 0} {members : _} where
   -- the store stands for this state
   abbrev pub Holds : Store D members → State → Type 0
   Holds store s =
-      Rests (members.state store.disk).now store.blocks store.slot_b store.held store.committed.items store.working.items s
+      Rests (members.state store.disk).now store.blocks store.slot_b store.held store.committed store.working s
 
   -- a crash at any moment of the call leaves what was committed, or what the command commits
   abbrev pub CrashLeaves : (old new : Store D members) → State → Command → Type 0
@@ -94,5 +100,14 @@ module _ {D : Type 0} {members : _} where
   abbrev pub Answers : (old new : Store D members) (s : State) → Holds old s → Command → Result Answer Refusal → Type 0
   Answers old new s holds (Merge alt settled) result =
       IsMergeAnswer s (spare_of holds) (MeetsFullPath (members.state new.disk).now.contents new.blocks (current_of s.working alt) (merge_changes s.working alt settled)) alt settled result
+  Answers old new s holds (Grow blocks) result = IsGrowDue (outcome s (Grow blocks)) result
   Answers old new s holds command result =
       IsAnswer s (spare_of holds) (IsDeep (members.state old.disk).now.contents (root_of old) s.working command) command result
+
+  -- a command was carried out by a store that stands for the state, on an honest disk: it gives the answer that is due, and unless the
+  -- device failed the store stands for what that answer leaves; a crash at any moment shows what it may, and the slots stay whole
+  pub record Carries (old new : Store D members) (s : State) (holds : Holds old s) (command : Command) (answer : Result Answer Refusal) : Type 0 where
+    pub answers : Answers old new s holds command answer
+    pub state : answer ≢ Err Device → Holds new (next s command answer)
+    pub crash : CrashLeaves old new s command
+    pub guarded : StaysGuarded old new

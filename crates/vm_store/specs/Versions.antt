@@ -7,7 +7,7 @@ use Rattle.vm_block.specs.Slot.{is_alternative}
 use Rattle.vm_block.specs.declared.slot.Entry.{Entry}
 use Rattle.vm_block.specs.declared.slot.Kind.TheVariants.{Alternative}
 use Rattle.vm_tree.specs.declared.root.Root.{Root}
-use Rattle.vm_store.specs.declared.versions.Version.{Version}
+use Rattle.vm_store.specs.declared.version.Version.{Version}
 
 -- what a slot says of it
 abbrev pub entry_of : Version → Entry

@@ -2,10 +2,10 @@
 ghost use Rattle.std.specs.Prelude.{◌≡◌, ◌≢◌, ◌+◌, ◌*◌, ◌≤◌, ◌∷◌, [], true, length};
 ghost use Rattle.vm_types.specs.Map.{Map, with_change, with_changes};
 ghost use Rattle.vm_disk.specs.Disk.{Goes};
-ghost use Rattle.vm_disk.specs.Moments.{Throughout, Spares};
+ghost use Rattle.vm_disk.specs.Moments.{Throughout, TouchesOnly};
 ghost use Rattle.vm_alloc.specs.Held.{IsHeld, HoldsMore, free_count};
 ghost use Rattle.vm_tree.specs.Free.{is_free};
-ghost use Rattle.vm_tree.specs.Root.{Grown};
+ghost use Rattle.vm_tree.specs.Root.{IsRootedIn};
 ghost use Rattle.vm_store.specs.Changing.{Makes, MeetsFullPath};
 ghost use Rattle.vm_store.specs.Sizes.{sizes};
 
@@ -29,11 +29,11 @@ fn make_change<D: Disk>(
     ensures still { HoldsMore held.old held.new }
     ensures taken { free_count held.old ≤ free_count held.new + 15 }
     ensures moments { (D.state disk.new).honest ≡ true
-        → Throughout (D.state disk.old) (D.state disk.new) (Spares (is_free held.old) (D.state disk.old).now) }
+        → Throughout (D.state disk.old) (D.state disk.new) (TouchesOnly (is_free held.old) (D.state disk.old).now) }
     ensures changed { (D.state disk.new).honest ≡ true → (m : Map)
-        → Grown sizes (IsHeld held.old) (D.state disk.old).now.contents (length held.old) root m
+        → IsRootedIn sizes (IsHeld held.old) (D.state disk.old).now.contents (length held.old) root m
         → Makes result (MeetsFullPath (D.state disk.new).now.contents (length held.old) m (change.now ∷ []))
-        (λ r. Grown sizes (IsHeld held.new) (D.state disk.new).now.contents (length held.old) r (with_change m change.now)) }
+        (λ r. IsRootedIn sizes (IsHeld held.new) (D.state disk.new).now.contents (length held.old) r (with_change m change.now)) }
 {
     match &change.after {
         Some(value) => put::<D, LEAF, FAN, LEVELS>(disk, held, root, change.key, value),
@@ -61,14 +61,14 @@ pub fn make_changes<D: Disk>(
     // What is held stays held, and at no moment has a block that was held other bytes than before.
     ensures still { HoldsMore held.old held.new }
     ensures moments { (D.state disk.new).honest ≡ true
-        → Throughout (D.state disk.old) (D.state disk.new) (Spares (is_free held.old) (D.state disk.old).now) }
+        → Throughout (D.state disk.old) (D.state disk.new) (TouchesOnly (is_free held.old) (D.state disk.old).now) }
 
     // On a tree in held blocks the answer is a root that has the map with the changes made, or Deep where one of
     // them meets a full path, unless the device fails.
     ensures changed { (D.state disk.new).honest ≡ true → (m : Map)
-        → Grown sizes (IsHeld held.old) (D.state disk.old).now.contents (length held.old) root m
+        → IsRootedIn sizes (IsHeld held.old) (D.state disk.old).now.contents (length held.old) root m
         → Makes result (MeetsFullPath (D.state disk.new).now.contents (length held.old) m changes.now)
-        (λ r. Grown sizes (IsHeld held.new) (D.state disk.new).now.contents (length held.old) r (with_changes m changes.now)) }
+        (λ r. IsRootedIn sizes (IsHeld held.new) (D.state disk.new).now.contents (length held.old) r (with_changes m changes.now)) }
 {
     for change in changes {
         root = make_change(disk, held, root, change)?;

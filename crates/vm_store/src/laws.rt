@@ -1,10 +1,10 @@
 //! Laws of what a disk shows.
 ghost use Rattle.std.specs.Prelude.{◌≡◌};
-ghost use Rattle.vm_types.specs.Tree.{Tree};
+ghost use Rattle.vm_types.specs.State.{Seen};
 ghost use Rattle.vm_disk.specs.Disk.{Contents};
 ghost use Rattle.vm_store.specs.Shown.{Shows};
 
-/// Contents show at most one tree, so a store that is opened stands for the one that is shown.
+/// Contents show at most one tree and one number of blocks, so a store that is opened stands for the one that is shown.
 pub fn one_tree_shown()
-    ensures { (x : Contents) (t u : Tree) → Shows x t → Shows x u → t ≡ u }
+    ensures { (x : Contents) (t u : Seen) → Shows x t → Shows x u → t ≡ u }
 {}

@@ -12,6 +12,7 @@ mod laws;
 mod sides;
 mod store;
 mod tally;
+mod version;
 mod versions;
 
 pub use laws::one_tree_shown;

@@ -8,11 +8,11 @@ use Rattle.vm_disk.specs.Disk.{Contents, block, Medium}
 use Rattle.vm_block.specs.Leaf.{Record}
 use Rattle.vm_block.specs.Node.{IsNode, lows}
 use Rattle.vm_block.specs.FullPath.{IsChosen}
-use Rattle.vm_block.specs.Tree.{Sizes, IsData, Begins, Children, Subtree}
+use Rattle.vm_block.specs.Tree.{Sizes, IsData, BeginsWith, Children, Subtree}
 use Rattle.vm_block.specs.Way.{Lowest, Takes}
 use Rattle.vm_block.specs.declared.node.Child.{Child}
 use Rattle.vm_block.proofs.NodeLemmas.{node_one}
-use Rattle.vm_block.proofs.TreeLemmas.{LeafAt, leaf_opens, node_opens}
+use Rattle.vm_block.proofs.TreeLemmas.{leaf_opens, node_opens}
 use Rattle.vm_tree.specs.Answers.{OkOrDevice}
 use Rattle.vm_tree.specs.Reading.{IsLeafAt, IsNodeAt}
 use Rattle.vm_tree.specs.declared.root.TreeFault.{TreeFault}
@@ -20,7 +20,7 @@ use Rattle.vm_tree.proofs.Rising.{Below, Above, rises_front, rises_back, rises_b
 use Rattle.vm_tree.proofs.Splitting.{SplitAt, split_at}
 
 -- what stands before records that begin with a key is below the key
-before_begins : (low : _) (before sub after : List Record) → Begins low sub → RisesFrom 0 (places (before ++ (sub ++ after))) → Below (place low) before
+before_begins : (low : _) (before sub after : List Record) → BeginsWith low sub → RisesFrom 0 (places (before ++ (sub ++ after))) → Below (place low) before
 before_begins low before [] after begins rises = absurd begins
 before_begins low before (y ∷ sub) after begins rises =
     subst (λ key. Below (place key) before) begins (rises_before 0 before y (sub ++ after) rises)
@@ -33,7 +33,7 @@ after_above T (c ∷ cs) p low rs bs t lt rises =
     let R : List Record → Type 0 = λ qs. RisesFrom low (places qs) in
     subst (Above p) (sym t.7) (begins_above t.0 t.5 (subst R t.7 rises))
   where
-    begins_above : (first : List Record) → Begins c.low first → RisesFrom low (places (first ++ t.1)) → Above p (first ++ t.1)
+    begins_above : (first : List Record) → BeginsWith c.low first → RisesFrom low (places (first ++ t.1)) → Above p (first ++ t.1)
     begins_above [] begins rises = absurd begins
     begins_above (y ∷ first) begins rises =
         let here : p < place y.0 = omega (arith, ap place begins, lt (omega arith)) in
@@ -104,13 +104,6 @@ unfolding Subtree
 subtree_top sizes x limit zero b rs bs tree = tree.0
 subtree_top sizes x limit (suc l) b rs bs tree = tree.0
 
--- a leaf of a tree that was read
-pub opens_leaf : (sizes : Sizes) (x : Contents) (limit level b : ℕ) (rs : List Record) (bs : List ℕ) (lent : List Record) → level ≡ 0
-    → Subtree sizes x limit level b rs bs → ((qs : List Record) → IsLeafAt x limit b qs → length qs ≤ sizes.leaf → lent ≡ qs) → (lent ≡ rs) × LeafAt sizes x limit b rs bs
-opens_leaf sizes x limit level b rs bs lent zero_is tree only =
-    let at = leaf_opens sizes x limit level b rs bs zero_is tree in
-    (only rs (record { inside = at.place; leaf = at.leaf }) at.few, at)
-
 -- what follows from an answer follows from it under the same fault
 pub ok_map : {T : Type 0} (result : Result T TreeFault) (P Q : T → Type 0) → OkOrDevice result P → ((x : T) → P x → Q x) → OkOrDevice result Q
 ok_map (Ok x) P Q h so = so x h
@@ -120,7 +113,7 @@ ok_map (Err e) P Q h so = h
 pub node_value : (sizes : Sizes) (old mid : Medium) (limit level b p : ℕ) (rs : List Record) (bs : List ℕ) (cs : List Child) (i : ℕ) (d : Child) (result : Result (Option (List ℕ)) TreeFault)
     → mid ≡ old → 0 < level → Subtree sizes old.contents limit level b rs bs → RisesFrom 0 (places rs)
     → ((ds : List Child) → IsNodeAt old.contents limit level b ds → length ds ≤ sizes.fan → cs ≡ ds) → IsChosen (lows cs) p i
-    → ((sub : List Record) (own : List ℕ) → Subtree sizes mid.contents limit (level - 1) (get_or cs i d).block sub own → Begins (get_or cs i d).low sub → RisesFrom 0 (places sub) → OkOrDevice result (λ value. value ≡ value_at p sub))
+    → ((sub : List Record) (own : List ℕ) → Subtree sizes mid.contents limit (level - 1) (get_or cs i d).block sub own → BeginsWith (get_or cs i d).low sub → RisesFrom 0 (places sub) → OkOrDevice result (λ value. value ≡ value_at p sub))
     → OkOrDevice result (λ value. value ≡ value_at p rs)
 node_value sizes old mid limit level b p rs bs cs i d result still above tree rises only chosen below =
     let at = opens sizes old.contents limit level b p rs bs cs i d above tree rises only chosen in
@@ -132,17 +125,17 @@ node_value sizes old mid limit level b p rs bs cs i d result still above tree ri
 -- the same of a child that was found in the bytes of its parent
 pub way_value : (sizes : Sizes) (old mid : Medium) (limit level b p : ℕ) (rs : List Record) (bs : List ℕ) (cs : List Child) (i : ℕ) (c : Child) (result : Result (Option (List ℕ)) TreeFault)
     → mid ≡ old → 0 < level → Subtree sizes old.contents limit level b rs bs → RisesFrom 0 (places rs) → IsNodeAt old.contents limit level b cs → Takes cs p i c
-    → ((sub : List Record) (own : List ℕ) → Subtree sizes mid.contents limit (level - 1) c.block sub own → Begins c.low sub → RisesFrom 0 (places sub) → OkOrDevice result (λ value. value ≡ value_at p sub))
+    → ((sub : List Record) (own : List ℕ) → Subtree sizes mid.contents limit (level - 1) c.block sub own → BeginsWith c.low sub → RisesFrom 0 (places sub) → OkOrDevice result (λ value. value ≡ value_at p sub))
     → OkOrDevice result (λ value. value ≡ value_at p rs)
 way_value sizes old mid limit level b p rs bs cs i c result still above tree rises at takes below =
     node_value sizes old mid limit level b p rs bs cs i c result still above tree rises
     (λ ds other few. (node_one (block old.contents b) level level cs ds at.node other.node).1) takes.chosen
-    (λ sub own under begins rising. below sub own (subst (λ (d : Child). Subtree sizes mid.contents limit (level - 1) d.block sub own) takes.child under) (subst (λ (d : Child). Begins d.low sub) takes.child begins) rising)
+    (λ sub own under begins rising. below sub own (subst (λ (d : Child). Subtree sizes mid.contents limit (level - 1) d.block sub own) takes.child under) (subst (λ (d : Child). BeginsWith d.low sub) takes.child begins) rising)
 
 -- what is read of a leaf of a tree
 pub leaf_read : (sizes : Sizes) (x : Contents) (limit level b : ℕ) (rs : List Record) (bs : List ℕ) → level ≡ 0 → Subtree sizes x limit level b rs bs → IsLeafAt x limit b rs × (length rs ≤ sizes.leaf)
 leaf_read sizes x limit level b rs bs zero_is tree =
-    let at = leaf_opens sizes x limit level b rs bs zero_is tree in (record { inside = at.place; leaf = at.leaf }, at.few)
+    let at = leaf_opens sizes x limit level b rs bs zero_is tree in (record { inside = at.place; leaf = at.holds.leaf }, at.few)
 
 -- the same, where the count of blocks is named otherwise
 pub leaf_there : (sizes : Sizes) (x : Contents) (limit other level b : ℕ) (rs : List Record) (bs : List ℕ) → level ≡ 0 → other ≡ limit → Subtree sizes x limit level b rs bs → IsLeafAt x other b rs
@@ -150,17 +143,17 @@ leaf_there sizes x limit other level b rs bs none is tree =
     subst (λ n. IsLeafAt x n b rs) (sym is) (leaf_read sizes x limit level b rs bs none tree).0
 
 -- children over records have the lowest key with which these begin
-pub lowest_of : (T : ℕ → List Record → List ℕ → Type 0) (cs : List Child) (low : Key) (rs : List Record) (bs : List ℕ) → 0 < length cs → Children T cs rs bs → Begins low rs → Lowest low cs
+pub lowest_of : (T : ℕ → List Record → List ℕ → Type 0) (cs : List Child) (low : Key) (rs : List Record) (bs : List ℕ) → 0 < length cs → Children T cs rs bs → BeginsWith low rs → Lowest low cs
 lowest_of T [] low rs bs some t begins = absurd (omega arith)
-lowest_of T (c ∷ cs) low rs bs some t begins = first_key t.0 t.5 (subst (Begins low) t.7 begins)
+lowest_of T (c ∷ cs) low rs bs some t begins = first_key t.0 t.5 (subst (BeginsWith low) t.7 begins)
   where
-    first_key : (first : List Record) → Begins c.low first → Begins low (first ++ t.1) → c.low ≡ low
+    first_key : (first : List Record) → BeginsWith c.low first → BeginsWith low (first ++ t.1) → c.low ≡ low
     first_key [] own all = absurd own
     first_key (y ∷ first) own all = sym own ∙ all
 
 -- what is read of an inner block of a tree
 pub node_read : (sizes : Sizes) (x : Contents) (limit level b : ℕ) (rs : List Record) (bs : List ℕ) → 0 < level → Subtree sizes x limit level b rs bs
-    → (cs : List Child) × IsNodeAt x limit level b cs × (length cs ≤ sizes.fan) × ((low : Key) → Begins low rs → Lowest low cs)
+    → (cs : List Child) × IsNodeAt x limit level b cs × (length cs ≤ sizes.fan) × ((low : Key) → BeginsWith low rs → Lowest low cs)
 node_read sizes x limit level b rs bs above tree =
     let up : suc (level - 1) ≡ level = omega arith in
     let at = node_opens sizes x limit level (level - 1) b rs bs (sym up) tree in

@@ -24,7 +24,7 @@ pub leaf_splits : (sizes : Sizes) (x : Contents) (limit b : ℕ) (r : Record) (r
 unfolding FullBelow
 leaf_splits sizes x limit b r rs bs at rises over = record {
   absent = absent_before r 0 rs rises (omega (arith, at.few));
-  full = (rs, at.leaf, omega (arith, with_longest r rs));
+  full = (rs, at.holds.leaf, omega (arith, with_longest r rs));
 }
 
 pub splits_leaf : (sizes : Sizes) (x : Contents) (limit b : ℕ) (r : Record) (rs : List Record) (bs : List ℕ) → LeafAt sizes x limit b rs bs → Splits sizes x (place r.0) 0 b rs
@@ -32,7 +32,7 @@ pub splits_leaf : (sizes : Sizes) (x : Contents) (limit b : ℕ) (r : Record) (r
 unfolding FullBelow
 splits_leaf sizes x limit b r rs bs at splits =
     let full = splits.full in
-    omega (arith, with_longer r rs splits.absent, ap length (leaf_one (block x b) full.0 rs full.1 at.leaf), full.2)
+    omega (arith, with_longer r rs splits.absent, ap length (leaf_one (block x b) full.0 rs full.1 at.holds.leaf), full.2)
 
 -- numbers that rise stand in their order
 pub rises_at : (low : ℕ) (ps : List ℕ) (j k : ℕ) → j ≤ k → k < length ps → RisesFrom low ps → slice_index ps j ≤ slice_index ps k

@@ -7,7 +7,7 @@ use Rattle.vm_types.specs.Places.{place, RisesFrom, places}
 use Rattle.vm_disk.specs.Disk.{Contents, block}
 use Rattle.vm_block.specs.Leaf.{Record, RecordFits, leaf_bytes}
 use Rattle.vm_block.specs.Node.{ChildFits, IsNode, lows, node_bytes}
-use Rattle.vm_block.specs.Tree.{Sizes, IsData, Begins, Children, Subtree}
+use Rattle.vm_block.specs.Tree.{Sizes, IsData, BeginsWith, Children, Subtree}
 use Rattle.vm_block.specs.Way.{Lowest}
 use Rattle.vm_block.specs.declared.node.Child.{Child}
 use Rattle.vm_block.proofs.EachLemmas.{each_front, each_back, each_join, each_so}
@@ -23,21 +23,21 @@ lows_rise T (c ∷ cs) low rs bs t rises =
     let R : List Record → Type 0 = λ qs. RisesFrom low (places qs) in
     from_first t.0 t.5 (subst R t.7 rises) (λ from rest. lows_rise T cs from t.1 t.3 t.6 rest)
   where
-    from_first : (first : List Record) → Begins c.low first → RisesFrom low (places (first ++ t.1)) → ((from : ℕ) → RisesFrom from (places t.1) → RisesFrom from (lows cs)) → RisesFrom low (lows (c ∷ cs))
+    from_first : (first : List Record) → BeginsWith c.low first → RisesFrom low (places (first ++ t.1)) → ((from : ℕ) → RisesFrom from (places t.1) → RisesFrom from (lows cs)) → RisesFrom low (lows (c ∷ cs))
     from_first [] begins rising more = absurd begins
     from_first (y ∷ first) begins rising more =
         let here : place y.0 ≡ place c.low = ap place begins in
         (omega (arith, rising.0, here), subst (λ p. RisesFrom (p + 1) (lows cs)) here (more (place y.0 + 1) (rises_back (place y.0 + 1) first t.1 rising.1)))
 
 -- records that begin with a key begin with it, whatever follows
-pub begins_more : (low : Key) (xs ys : List Record) → Begins low xs → Begins low (xs ++ ys)
+pub begins_more : (low : Key) (xs ys : List Record) → BeginsWith low xs → BeginsWith low (xs ++ ys)
 begins_more low [] ys begins = absurd begins
 begins_more low (x ∷ xs) ys begins = begins
 
 -- what lies under children begins with the first lowest key
-pub children_begin : (T : ℕ → List Record → List ℕ → Type 0) (cs : List Child) (d : Child) (rs : List Record) (bs : List ℕ) → 0 < length cs → Children T cs rs bs → Begins (slice_index_or cs 0 d).low rs
+pub children_begin : (T : ℕ → List Record → List ℕ → Type 0) (cs : List Child) (d : Child) (rs : List Record) (bs : List ℕ) → 0 < length cs → Children T cs rs bs → BeginsWith (slice_index_or cs 0 d).low rs
 children_begin T [] d rs bs some t = absurd (omega arith)
-children_begin T (c ∷ cs) d rs bs some t = subst (Begins c.low) (sym t.7) (begins_more c.low t.0 t.1 t.5)
+children_begin T (c ∷ cs) d rs bs some t = subst (BeginsWith c.low) (sym t.7) (begins_more c.low t.0 t.1 t.5)
 
 -- the first of them
 first_of_each : {X : Type 0} (P : X → Type 0) (xs : List X) (d : X) → 0 < length xs → AllByRecursion P xs → P (slice_index_or xs 0 d)
@@ -45,7 +45,7 @@ first_of_each P [] d some all = absurd (omega arith)
 first_of_each P (x ∷ xs) d some all = all.0
 
 -- the lowest key that was read is that of the first record
-pub begins_low : (rs : List Record) (d : Record) (key : Key) → Begins key rs → (slice_index_or rs 0 d).0 ≡ key
+pub begins_low : (rs : List Record) (d : Record) (key : Key) → BeginsWith key rs → (slice_index_or rs 0 d).0 ≡ key
 begins_low [] d key begins = absurd begins
 begins_low (r ∷ rs) d key begins = begins
 
@@ -121,15 +121,16 @@ module _ (P : ℕ → Type 0) (sizes : Sizes) (x : Contents) (limit : ℕ) where
         blocks = n ∷ [];
         under = child_alone (Subtree sizes x limit 0) child rs (n ∷ []) (leaf_closes sizes x limit n rs (n ∷ []) (record {
           place = inside;
-          leaf = record { spelled = spelled; some = some; few = few; fit = fit; rising = rises };
+          under = [];
+          holds = record { leaf = record { spelled = spelled; some = some; few = few; fit = fit; rising = rises }; none = refl };
           few = leaf;
-          alone = refl;
+          first = refl;
         })) (begins_first rs some);
         each = (is, tt);
         fit = (((first_of_each RecordFits rs d some fit).0, small), tt);
       }
     where
-      begins_first : (qs : List Record) → 0 < length qs → Begins (slice_index_or qs 0 d).0 qs
+      begins_first : (qs : List Record) → 0 < length qs → BeginsWith (slice_index_or qs 0 d).0 qs
       begins_first [] some = absurd (omega arith)
       begins_first (q ∷ qs) some = refl
 

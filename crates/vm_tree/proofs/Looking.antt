@@ -1,6 +1,6 @@
 -- What calls do that only look at a disk, or write free blocks alone, one after another.
 use Rattle.std.proofs.Common.{◌≡◌, ◌∙◌, true, Bool, List, Result, Ok, Err, IsErrAnd, refl, ap}
-use Rattle.vm_disk.specs.Disk.{State}
+use Rattle.vm_disk.specs.Disk.{DiskState}
 use Rattle.vm_disk.proofs.GoesLemmas.{goes_nowhere, goes_then, goes_at}
 use Rattle.vm_disk.proofs.MomentLemmas.{after_reads, reads_keep, reads_then, spares_itself, started}
 use Rattle.vm_tree.specs.Calls.{OnlyLooks, LooksIf, WritesFree}
@@ -9,7 +9,7 @@ use Rattle.vm_tree.specs.declared.root.TreeFault.TheVariants.{Device}
 use Rattle.vm_tree.proofs.Sparing.{spares_then}
 
 -- a call that looks, after another one
-pub looks_on : {A B C : Type 0} {first : Result A TreeFault} {second : Result B TreeFault} {both : Result C TreeFault} {old mid new : State}
+pub looks_on : {A B C : Type 0} {first : Result A TreeFault} {second : Result B TreeFault} {both : Result C TreeFault} {old mid new : DiskState}
     → OnlyLooks first old mid → OnlyLooks second mid new → (both ≡ Err Device → second ≡ Err Device) → OnlyLooks both old new
 looks_on so_far more cause = record {
   goes = goes_then _ _ _ _ _ _ so_far.goes more.goes cause;
@@ -17,7 +17,7 @@ looks_on so_far more cause = record {
 }
 
 -- a call that looks, and writes nothing
-pub looks_free : {A B : Type 0} {result : Result A TreeFault} {answer : Result B TreeFault} {held : List Bool} {old new : State}
+pub looks_free : {A B : Type 0} {result : Result A TreeFault} {answer : Result B TreeFault} {held : List Bool} {old new : DiskState}
     → OnlyLooks result old new → (answer ≡ Err Device → result ≡ Err Device) → WritesFree answer held held old new
 looks_free looks cause = record {
   goes = goes_at _ _ _ _ looks.goes cause;
@@ -26,7 +26,7 @@ looks_free looks cause = record {
 }
 
 -- a call that writes, after one that looks
-pub looks_write : {A B C : Type 0} {first : Result A TreeFault} {second : Result B TreeFault} {both : Result C TreeFault} {held later : List Bool} {old mid new : State}
+pub looks_write : {A B C : Type 0} {first : Result A TreeFault} {second : Result B TreeFault} {both : Result C TreeFault} {held later : List Bool} {old mid new : DiskState}
     → OnlyLooks first old mid → WritesFree second held later mid new → (both ≡ Err Device → second ≡ Err Device) → WritesFree both held later old new
 looks_write so_far more cause = record {
   goes = goes_then _ _ _ _ _ _ so_far.goes more.goes cause;
@@ -35,7 +35,7 @@ looks_write so_far more cause = record {
 }
 
 -- a call that writes, after another one
-pub writes_on : {A B C : Type 0} {first : Result A TreeFault} {second : Result B TreeFault} {both : Result C TreeFault} {held between later : List Bool} {old mid new : State}
+pub writes_on : {A B C : Type 0} {first : Result A TreeFault} {second : Result B TreeFault} {both : Result C TreeFault} {held between later : List Bool} {old mid new : DiskState}
     → WritesFree first held between old mid → WritesFree second between later mid new → (both ≡ Err Device → second ≡ Err Device) → WritesFree both held later old new
 writes_on so_far more cause = record {
   goes = goes_then _ _ _ _ _ _ so_far.goes more.goes cause;
@@ -44,7 +44,7 @@ writes_on so_far more cause = record {
 }
 
 -- what was only looked at, after a call that looks
-pub looks_if : {A : Type 0} {when more : Type 0} {result : Result A TreeFault} {held later : List Bool} {old mid new : State}
+pub looks_if : {A : Type 0} {when more : Type 0} {result : Result A TreeFault} {held later : List Bool} {old mid new : DiskState}
     → OnlyLooks result old mid → (new.honest ≡ true → mid.honest ≡ true) → LooksIf when held later mid new → (more → when) → LooksIf more held later old new
 looks_if so_far earlier rest so = record {
   kept = λ is. rest.kept (so is);
@@ -57,11 +57,11 @@ passed_on (Ok x) is = absurd is
 passed_on (Err fault) is = ap Err is
 
 -- the same, under another condition
-pub looks_as : {when more : Type 0} {held later : List Bool} {old new : State} → LooksIf when held later old new → (more → when) → LooksIf more held later old new
+pub looks_as : {when more : Type 0} {held later : List Bool} {old new : DiskState} → LooksIf when held later old new → (more → when) → LooksIf more held later old new
 looks_as looks so = record { kept = λ is. looks.kept (so is); reads = λ honest is. looks.reads honest (so is) }
 
 -- what was only looked at, after what was only looked at
-pub looks_if_on : {first when more : Type 0} {held between later : List Bool} {old mid new : State} → LooksIf first held between old mid → first → LooksIf when between later mid new
+pub looks_if_on : {first when more : Type 0} {held between later : List Bool} {old mid new : DiskState} → LooksIf first held between old mid → first → LooksIf when between later mid new
     → (new.honest ≡ true → mid.honest ≡ true) → (more → when) → LooksIf more held later old new
 looks_if_on so_far looked rest earlier so = record {
   kept = λ is. rest.kept (so is) ∙ so_far.kept looked;
@@ -69,9 +69,9 @@ looks_if_on so_far looked rest earlier so = record {
 }
 
 -- no call so far
-pub looks_none : {A : Type 0} {answer : Result A TreeFault} (s : State) → (answer ≡ Err Device → ⊥) → OnlyLooks answer s s
+pub looks_none : {A : Type 0} {answer : Result A TreeFault} (s : DiskState) → (answer ≡ Err Device → ⊥) → OnlyLooks answer s s
 looks_none s fine = record { goes = goes_nowhere _ _ _ refl fine; reads = λ honest. started _ _ refl }
 
 -- the same calls, under another answer
-pub looks_so : {A B : Type 0} {result : Result A TreeFault} {answer : Result B TreeFault} {old new : State} → OnlyLooks result old new → (answer ≡ Err Device → result ≡ Err Device) → OnlyLooks answer old new
+pub looks_so : {A B : Type 0} {result : Result A TreeFault} {answer : Result B TreeFault} {old new : DiskState} → OnlyLooks result old new → (answer ≡ Err Device → result ≡ Err Device) → OnlyLooks answer old new
 looks_so looks cause = record { goes = goes_at _ _ _ _ looks.goes cause; reads = looks.reads }

@@ -8,7 +8,7 @@ use Rattle.vm_disk.specs.Disk.{Contents, block, Medium}
 use Rattle.vm_block.specs.Leaf.{Record}
 use Rattle.vm_block.specs.Node.{ChildFits, lows}
 use Rattle.vm_block.specs.FullPath.{IsChosen}
-use Rattle.vm_block.specs.Tree.{Sizes, Begins, Children, Subtree}
+use Rattle.vm_block.specs.Tree.{Sizes, BeginsWith, Children, Subtree}
 use Rattle.vm_block.specs.declared.node.Child.{Child}
 use Rattle.vm_block.proofs.EachLemmas.{each_front, each_back, each_so}
 use Rattle.vm_block.proofs.NodeLemmas.{node_one}
@@ -111,28 +111,28 @@ module _ (sizes : Sizes) (old mid : Medium) (limit level b : ℕ) (r : Record) (
     (tree : Subtree sizes old.contents limit level b rs bs) (rises : RisesFrom 0 (places rs)) (only : (ds : List Child) → IsNodeAt old.contents limit level b ds → length ds ≤ sizes.fan → cs ≡ ds) (chosen : IsChosen (lows cs) (place r.0) i) where
   -- what is asked of a Put under the chosen child
   abbrev pub Asked : Result Copied TreeFault → (ℕ → Type 0) → (List Child → List Record → Type 0) → Type 0
-  Asked result P M = (sub : List Record) (own : List ℕ) → Subtree sizes mid.contents limit (level - 1) (get_or cs i d).block sub own → Begins (get_or cs i d).low sub → RisesFrom 0 (places sub)
+  Asked result P M = (sub : List Record) (own : List ℕ) → Subtree sizes mid.contents limit (level - 1) (get_or cs i d).block sub own → BeginsWith (get_or cs i d).low sub → RisesFrom 0 (places sub)
       → PutsBelow result (Splits sizes mid.contents (place r.0) (level - 1) (get_or cs i d).block sub) (λ ds. AllByRecursion P own → M ds (with_record r sub))
 
   -- what is answered of a child is asked where a descent takes that child
   pub asked_of : (c : Child) (result : Result Copied TreeFault) (P : ℕ → Type 0) (M : List Child → List Record → Type 0) → get_or cs i d ≡ c
-      → ((sub : List Record) (own : List ℕ) → Subtree sizes mid.contents limit (level - 1) c.block sub own → Begins c.low sub → RisesFrom 0 (places sub)
+      → ((sub : List Record) (own : List ℕ) → Subtree sizes mid.contents limit (level - 1) c.block sub own → BeginsWith c.low sub → RisesFrom 0 (places sub)
       → PutsBelow result (Splits sizes mid.contents (place r.0) (level - 1) c.block sub) (λ ds. AllByRecursion P own → M ds (with_record r sub)))
       → Asked result P M
   asked_of c result P M is below =
-      subst (λ (e : Child). (sub : List Record) (own : List ℕ) → Subtree sizes mid.contents limit (level - 1) e.block sub own → Begins e.low sub → RisesFrom 0 (places sub)
+      subst (λ (e : Child). (sub : List Record) (own : List ℕ) → Subtree sizes mid.contents limit (level - 1) e.block sub own → BeginsWith e.low sub → RisesFrom 0 (places sub)
       → PutsBelow result (Splits sizes mid.contents (place r.0) (level - 1) e.block sub) (λ ds. AllByRecursion P own → M ds (with_record r sub))) (sym is) below
 
   -- where a record stands at the place, it stands under the chosen child
   pub there_below : (c : Child) (A : Type 0) → get_or cs i d ≡ c → value_at (place r.0) rs ≢ None
-      → ((sub : List Record) (own : List ℕ) → Subtree sizes mid.contents limit (level - 1) c.block sub own → Begins c.low sub → RisesFrom 0 (places sub) → value_at (place r.0) sub ≢ None → A) → A
+      → ((sub : List Record) (own : List ℕ) → Subtree sizes mid.contents limit (level - 1) c.block sub own → BeginsWith c.low sub → RisesFrom 0 (places sub) → value_at (place r.0) sub ≢ None → A) → A
   there_below c A is there below =
       let p = place r.0 in
       let at = opens sizes old.contents limit level b p rs bs cs i d above tree rises only chosen in
       let s = at.way.split in
       let child = subst (λ (m : Medium). Subtree sizes m.contents limit (level - 1) (get_or cs i d).block s.sub s.own) (sym still) s.child in
       let value = ap (value_at p) s.records ∙ value_between p s.before s.sub s.after at.way.below at.way.above in
-      below s.sub s.own (subst (λ (e : Child). Subtree sizes mid.contents limit (level - 1) e.block s.sub s.own) is child) (subst (λ (e : Child). Begins e.low s.sub) is s.begins) at.way.rising (λ none. there (value ∙ none))
+      below s.sub s.own (subst (λ (e : Child). Subtree sizes mid.contents limit (level - 1) e.block s.sub s.own) is child) (subst (λ (e : Child). BeginsWith e.low s.sub) is s.begins) at.way.rising (λ none. there (value ∙ none))
 
   -- an inner block, with the chosen child written anew
   pub node_put : (P0 P1 P2 : ℕ → Type 0) (x2 x3 : Contents) (other : ℕ) (copied : Copied) (lent : List Child) (result : Result Copied TreeFault) (Q : Copied → Type 0)

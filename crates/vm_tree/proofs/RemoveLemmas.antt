@@ -7,7 +7,7 @@ use Rattle.vm_disk.specs.Disk.{Contents, block, Medium}
 use Rattle.vm_block.specs.Leaf.{Record}
 use Rattle.vm_block.specs.Node.{ChildFits, IsNode, lows}
 use Rattle.vm_block.specs.FullPath.{IsChosen}
-use Rattle.vm_block.specs.Tree.{Sizes, Begins, Children, Subtree}
+use Rattle.vm_block.specs.Tree.{Sizes, BeginsWith, Children, Subtree}
 use Rattle.vm_block.specs.Way.{Lowest, Takes}
 use Rattle.vm_block.specs.declared.node.Child.{Child}
 use Rattle.vm_block.proofs.EachLemmas.{each_front, each_back, each_join, each_so}
@@ -15,7 +15,7 @@ use Rattle.vm_block.proofs.TreeLemmas.{node_opens}
 use Rattle.vm_tree.specs.Answers.{OkOrDevice}
 use Rattle.vm_tree.specs.Making.{Made}
 use Rattle.vm_tree.specs.Reading.{IsNodeAt}
-use Rattle.vm_tree.specs.Removing.{Narrows, Rests, RemovesBelow, child_of, without_place}
+use Rattle.vm_tree.specs.Removing.{Narrows, IsLeft, RemovesBelow, child_of, without_place}
 use Rattle.vm_tree.specs.declared.root.Root.{Root}
 use Rattle.vm_tree.specs.declared.root.TreeFault.{TreeFault}
 use Rattle.vm_tree.specs.declared.removing.Left.{Left}
@@ -28,11 +28,11 @@ use Rattle.vm_tree.proofs.Rising.{value_between}
 use Rattle.vm_tree.proofs.Splitting.{children_join}
 
 -- what lies under one child alone
-pub alone_opens : (T : ℕ → List Record → List ℕ → Type 0) (c : Child) (rs : List Record) (bs : List ℕ) → Children T (c ∷ []) rs bs → T c.block rs bs × Begins c.low rs
+pub alone_opens : (T : ℕ → List Record → List ℕ → Type 0) (c : Child) (rs : List Record) (bs : List ℕ) → Children T (c ∷ []) rs bs → T c.block rs bs × BeginsWith c.low rs
 alone_opens T c rs bs t =
     let records : rs ≡ t.0 = t.7 ∙ ap (λ z. t.0 ++ z) t.6.0 ∙ append-nil t.0 in
     let blocks : bs ≡ t.2 = t.8 ∙ ap (λ z. t.2 ++ z) t.6.1 ∙ append-nil t.2 in
-    (subst (λ (ds : List ℕ). T c.block rs ds) (sym blocks) (subst (λ (qs : List Record). T c.block qs t.2) (sym records) t.4), subst (Begins c.low) (sym records) t.5)
+    (subst (λ (ds : List ℕ). T c.block rs ds) (sym blocks) (subst (λ (qs : List Record). T c.block qs t.2) (sym records) t.4), subst (BeginsWith c.low) (sym records) t.5)
 
 -- a list of one
 pub one_child : (cs : List Child) (d : Child) → length cs ≡ 1 → cs ≡ get_or cs 0 d ∷ []
@@ -87,7 +87,7 @@ narrowed_made P Q sizes x y limit l top root rs bs still so fits all n = record 
 }
 
 -- what was written is answered
-pub rests_removes : (result : Result Left TreeFault) (p : ℕ) (rs : List Record) (P Q : Root → Type 0) → ((root : Root) → P root → Q root) → value_at p rs ≢ None → Rests result (without_place p rs) P → RemovesBelow result p rs Q
+pub rests_removes : (result : Result Left TreeFault) (p : ℕ) (rs : List Record) (P Q : Root → Type 0) → ((root : Root) → P root → Q root) → value_at p rs ≢ None → IsLeft result (without_place p rs) P → RemovesBelow result p rs Q
 rests_removes (Ok Same) p rs P Q so some rest = absurd rest
 rests_removes (Ok Nothing) p rs P Q so some rest = (some, rest)
 rests_removes (Ok (Rest root)) p rs P Q so some rest = (some, so root rest)
@@ -112,7 +112,7 @@ module _ (sizes : Sizes) (old mid : Medium) (limit level b p : ℕ) (rs : List R
 
   -- what is asked under the chosen child
   abbrev pub Asks : Child → (List Record → List ℕ → Type 0) → Type 0
-  Asks c A = (sub : List Record) (own : List ℕ) → Subtree sizes mid.contents limit (level - 1) c.block sub own → Begins c.low sub → RisesFrom 0 (places sub) → A sub own
+  Asks c A = (sub : List Record) (own : List ℕ) → Subtree sizes mid.contents limit (level - 1) c.block sub own → BeginsWith c.low sub → RisesFrom 0 (places sub) → A sub own
 
   -- what is left of the records under it is Q's, where its blocks have P
   abbrev pub Kept : (P : ℕ → Type 0) → (List Record → Type 0) → List Record → List ℕ → Type 0
@@ -122,7 +122,7 @@ module _ (sizes : Sizes) (old mid : Medium) (limit level b p : ℕ) (rs : List R
   answered c is A below =
       let s = at_child.way.split in
       let there = subst (λ (m : Medium). Subtree sizes m.contents limit (level - 1) (get_or cs i d).block s.sub s.own) (sym still) s.child in
-      below s.sub s.own (subst (λ (e : Child). Subtree sizes mid.contents limit (level - 1) e.block s.sub s.own) is there) (subst (λ (e : Child). Begins e.low s.sub) is s.begins) at_child.way.rising
+      below s.sub s.own (subst (λ (e : Child). Subtree sizes mid.contents limit (level - 1) e.block s.sub s.own) is there) (subst (λ (e : Child). BeginsWith e.low s.sub) is s.begins) at_child.way.rising
 
   -- where no record stands there under the child, none stands there
   pub none_there : (c : Child) → get_or cs i d ≡ c → Asks c (λ sub own. value_at p sub ≡ None) → value_at p rs ≡ None

@@ -8,17 +8,17 @@ use Rattle.vm_types.proofs.Bridge.{value_at-get, with_record-value}
 use Rattle.vm_disk.specs.Disk.{Contents, block}
 use Rattle.vm_block.specs.Leaf.{Record, RecordFits}
 use Rattle.vm_block.specs.FullPath.{FullBelow}
-use Rattle.vm_block.specs.Tree.{Sizes, Begins, Subtree}
+use Rattle.vm_block.specs.Tree.{Sizes, BeginsWith, Subtree}
 use Rattle.vm_block.specs.declared.node.Child.{Child}
 use Rattle.vm_block.proofs.EachLemmas.{each_so}
 use Rattle.vm_block.proofs.FormLemmas.{leaf_or_node}
 use Rattle.vm_block.proofs.NodeLemmas.{node_one}
-use Rattle.vm_block.proofs.TreeLemmas.{subtree_fit}
+use Rattle.vm_block.proofs.TreeLemmas.{holds_or_node, subtree_fit}
 use Rattle.vm_tree.specs.Answers.{LacksRoom, OkOrDevice, Puts}
 use Rattle.vm_tree.specs.Making.{Made, PutsBelow, Splits, children_of, is_split}
 use Rattle.vm_tree.specs.declared.writing.Copied.{Copied}
 use Rattle.vm_tree.specs.declared.writing.Copied.TheVariants.{One, Two}
-use Rattle.vm_tree.specs.Root.{IsTop, Grown}
+use Rattle.vm_tree.specs.Root.{IsTop, IsRootedIn}
 use Rattle.vm_tree.specs.declared.root.Root.{Root}
 use Rattle.vm_tree.specs.declared.root.TreeFault.{TreeFault}
 use Rattle.vm_tree.specs.declared.root.TreeFault.TheVariants.{Device, Damaged, Deep, Memory}
@@ -27,12 +27,12 @@ use Rattle.vm_tree.proofs.Placing.{with_rises}
 
 -- one child that was made is a root
 pub made_root : (P : ℕ → Type 0) (sizes : Sizes) (x : Contents) (limit l : ℕ) (c : Child) (rs : List Record) → l < sizes.levels → RisesFrom 0 (places rs) → Made P sizes x limit l (c ∷ []) rs
-    → Grown sizes P x limit (record { block = c.block; level = l; low = c.low }) rs
+    → IsRootedIn sizes P x limit (record { block = c.block; level = l; low = c.low }) rs
 made_root P sizes x limit l c rs low rises made =
     let t = made.under in
     let records : rs ≡ t.0 = t.7 ∙ ap (λ z. t.0 ++ z) t.6.0 ∙ append-nil t.0 in
     let blocks : made.blocks ≡ t.2 = t.8 ∙ ap (λ z. t.2 ++ z) t.6.1 ∙ append-nil t.2 in
-    let begins = subst (Begins c.low) (sym records) t.5 in
+    let begins = subst (BeginsWith c.low) (sym records) t.5 in
     let subtree = subst (λ (bs : List ℕ). Subtree sizes x limit l c.block rs bs) (sym blocks) (subst (λ (qs : List Record). Subtree sizes x limit l c.block qs t.2) (sym records) t.4) in
     record { stands_in = made.blocks; rooted = inr (record { level = low; subtree = subtree; rising = rises; lowest = begins }); each = made.each }
 
@@ -41,7 +41,7 @@ pub full_level : (sizes : Sizes) (x : Contents) (limit p l k b : ℕ) (rs : List
 unfolding FullBelow Subtree
 full_level sizes x limit p zero zero b rs bs full tree = refl
 full_level sizes x limit p zero (suc k) b rs bs full tree = absurd (leaf_or_node (block x b) full.0 (suc k) tree.1 full.1 tree.3)
-full_level sizes x limit p (suc l) zero b rs bs full tree = absurd (leaf_or_node (block x b) rs (suc l) full.0 tree.1 full.2)
+full_level sizes x limit p (suc l) zero b rs bs full tree = absurd (holds_or_node x limit (block x b) rs tree.1 (suc l) full.0 tree.2 full.2)
 full_level sizes x limit p (suc l) (suc k) b rs bs full tree =
     (node_one (block x b) (suc l) (suc k) full.0 tree.1 full.2 tree.3).0
 
@@ -67,15 +67,15 @@ module _ (sizes : Sizes) (x : Contents) (limit : ℕ) (root : Root) (m : Map) (b
 
   -- what was made stands under a new root
   pub root_made : (P : ℕ → Type 0) (y : Contents) (l : ℕ) (c : Child) (value : List ℕ) → l < sizes.levels → Made P sizes y limit l (c ∷ []) (with_record (key, value) m)
-      → Grown sizes P y limit (record { block = c.block; level = l; low = c.low }) (with_value m key value)
+      → IsRootedIn sizes P y limit (record { block = c.block; level = l; low = c.low }) (with_value m key value)
   root_made P y l c value low made =
-      subst (λ (n : Map). Grown sizes P y limit (record { block = c.block; level = l; low = c.low }) n) (with_record-value key value m fits (subtree_keys sizes x limit root.level root.block m bs top.subtree))
+      subst (λ (n : Map). IsRootedIn sizes P y limit (record { block = c.block; level = l; low = c.low }) n) (with_record-value key value m fits (subtree_keys sizes x limit root.level root.block m bs top.subtree))
       (made_root P sizes y limit l c (with_record (key, value) m) low (with_rises (key, value) 0 m (omega arith) top.rising) made)
 
   -- the top was written anew as one block
   pub root_one : (P : ℕ → Type 0) (y : Contents) (value : List ℕ) (copied : Copied) (c : Child) (H : Type 0) → copied ≡ One c
       → PutsBelow (Ok copied) (Splits sizes x (place key) root.level root.block m) (λ cs. H → Made P sizes y limit root.level cs (with_record (key, value) m))
-      → (H → Grown sizes P y limit (record { block = c.block; level = root.level; low = c.low }) (with_value m key value)) × (LacksRoom sizes x root m key → ⊥)
+      → (H → IsRootedIn sizes P y limit (record { block = c.block; level = root.level; low = c.low }) (with_value m key value)) × (LacksRoom sizes x root m key → ⊥)
   root_one P y value copied c H is put = (
     λ h. root_made P y root.level c value top.level (subst (λ (z : Copied). Made P sizes y limit root.level (children_of z) (with_record (key, value) m)) is (put.0 h)),
     λ lacks. false≢true (ap is_split (sym is) ∙ put.1.1 (lacks_splits lacks).0),
@@ -85,7 +85,7 @@ module _ (sizes : Sizes) (x : Contents) (limit : ℕ) (root : Root) (m : Map) (b
   pub root_two : (P Q : ℕ → Type 0) (y z : Contents) (other : ℕ) (value : List ℕ) (copied : Copied) (a b c : Child) (H : Type 0) → copied ≡ Two a b → other ≡ limit → (is_split copied ≡ true → root.level + 1 < sizes.levels)
       → PutsBelow (Ok copied) (Splits sizes x (place key) root.level root.block m) (λ cs. H → Made P sizes y limit root.level cs (with_record (key, value) m))
       → ((rs : List Record) → RisesFrom 0 (places rs) → Made P sizes y other (root.level + 1 - 1) (a ∷ b ∷ []) rs → Made Q sizes z other (root.level + 1) (c ∷ []) rs)
-      → (H → Grown sizes Q z limit (record { block = c.block; level = root.level + 1; low = c.low }) (with_value m key value)) × (LacksRoom sizes x root m key → ⊥)
+      → (H → IsRootedIn sizes Q z limit (record { block = c.block; level = root.level + 1; low = c.low }) (with_value m key value)) × (LacksRoom sizes x root m key → ⊥)
   root_two P Q y z other value copied a b c H is limits room put made =
       let split : is_split copied ≡ true = ap is_split is in
       let low = room split in

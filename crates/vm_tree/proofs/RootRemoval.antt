@@ -8,7 +8,7 @@ use Rattle.vm_disk.specs.Disk.{Contents}
 use Rattle.vm_block.specs.Tree.{Sizes}
 use Rattle.vm_tree.specs.Making.{Made}
 use Rattle.vm_tree.specs.Removing.{child_of, without_place}
-use Rattle.vm_tree.specs.Root.{IsBare, IsTop, IsRooted, Grown}
+use Rattle.vm_tree.specs.Root.{IsBare, IsTop, IsRooted, IsRootedIn}
 use Rattle.vm_tree.specs.declared.root.Root.{Root}
 use Rattle.vm_tree.proofs.Descent.{subtree_top}
 use Rattle.vm_tree.proofs.Removal.{without_rises, without_is}
@@ -37,12 +37,12 @@ module _ (sizes : Sizes) (x : Contents) (limit : ℕ) (root : Root) (m : Map) (b
       ap (λ q. without_place q m) is ∙ without_is key m fits (subtree_keys sizes x limit root.level root.block m bs top.subtree) top.rising
 
   -- no record is left
-  pub nothing_left : (P : ℕ → Type 0) (y : Contents) (none : Root) → none.block ≡ 0 → without_place p m ≡ [] → Grown sizes P y limit none (without m key)
+  pub nothing_left : (P : ℕ → Type 0) (y : Contents) (none : Root) → none.block ≡ 0 → without_place p m ≡ [] → IsRootedIn sizes P y limit none (without m key)
   nothing_left P y none bare left =
       record { stands_in = []; rooted = inl (record { none = bare; empty = sym without_there ∙ left; blocks = refl }); each = tt }
 
   -- the rest was made
-  pub rest_left : (P : ℕ → Type 0) (y : Contents) (now : Root) → now.level ≤ root.level → Made P sizes y limit now.level (child_of now ∷ []) (without_place p m) → Grown sizes P y limit now (without m key)
+  pub rest_left : (P : ℕ → Type 0) (y : Contents) (now : Root) → now.level ≤ root.level → Made P sizes y limit now.level (child_of now ∷ []) (without_place p m) → IsRootedIn sizes P y limit now (without m key)
   rest_left P y now low made =
-      subst (λ (n : Map). Grown sizes P y limit now n) without_there
+      subst (λ (n : Map). IsRootedIn sizes P y limit now n) without_there
       (made_root P sizes y limit now.level (child_of now) (without_place p m) (omega (arith, low, top.level)) (without_rises p 0 m top.rising) made)

@@ -1,7 +1,7 @@
 -- Records under a list of children, read one child after another.
 use Rattle.std.proofs.Common.{◌≡◌, ℕ, ◌+◌, ◌-◌, ◌<◌, ◌≤◌, true, List, [], ◌∷◌, ◌++◌, length, get_or, take, Result, Ok, Err, sym, ap, ◌∙◌, subst, arith, append_assoc, append-nil, length-take-le}
 use Rattle.std.proofs.lemmas.List.{take_more, take_at, drop_at, take_all}
-use Rattle.vm_disk.specs.Disk.{State, Contents, Medium}
+use Rattle.vm_disk.specs.Disk.{DiskState, Contents, Medium}
 use Rattle.vm_disk.proofs.MomentLemmas.{same_medium}
 use Rattle.vm_block.specs.Leaf.{Record}
 use Rattle.vm_block.specs.Tree.{Sizes, Children, Subtree}
@@ -16,7 +16,7 @@ use Rattle.vm_tree.proofs.Looking.{looks_on}
 use Rattle.vm_tree.proofs.Splitting.{split_at, cut_at}
 
 -- the records under the first i children were added, by reads alone
-pub record Scans (old new : State) (limit level : ℕ) (cs : List Child) (i : ℕ) (before now : List Record) : Type 0 where
+pub record Scans (old new : DiskState) (limit level : ℕ) (cs : List Child) (i : ℕ) (before now : List Record) : Type 0 where
   pub looks : OnlyLooks {T = Unit {0}} (Ok tt) old new
   pub added : new.honest ≡ true → (sizes : Sizes) (front : List Record) (left : List ℕ) → Children (Subtree sizes old.now.contents limit (level - 1)) (take i cs) front left → now ≡ before ++ front
 
@@ -32,7 +32,7 @@ last_child T cs i d front left lt t =
     let last = subst (λ (ds : List Child). Children T ds cut.after cut.right) (drop_at (take i cs) (c ∷ []) i many) cut.back in
     (cut.before, last.0, cut.left, last.2, first, last.4, cut.records ∙ ap (λ (rs : List Record). cut.before ++ rs) (last.7 ∙ ap (λ (rs : List Record). last.0 ++ rs) last.6.0 ∙ append-nil last.0))
 
-pub scans_more : {T : Type 0} {result : Result T TreeFault} (old mid new : State) (limit level : ℕ) (cs : List Child) (i : ℕ) (d : Child) (before now more : List Record) → i < length cs → Scans old mid limit level cs i before now
+pub scans_more : {T : Type 0} {result : Result T TreeFault} (old mid new : DiskState) (limit level : ℕ) (cs : List Child) (i : ℕ) (d : Child) (before now more : List Record) → i < length cs → Scans old mid limit level cs i before now
     → OnlyLooks result mid new
     → (new.honest ≡ true → (sizes : Sizes) (rs : List Record) (bs : List ℕ) → Subtree sizes mid.now.contents limit (level - 1) (get_or cs i d).block rs bs → more ≡ now ++ rs)
     → Scans old new limit level cs (i + 1) before more
@@ -49,7 +49,7 @@ scans_more old mid new limit level cs i d before now more lt so_far looks added 
 }
 
 -- all of them
-pub scans_all : (sizes : Sizes) (x : Contents) (old new : State) (limit level b : ℕ) (cs : List Child) (i : ℕ) (before now rs : List Record) (bs : List ℕ) → length cs ≤ i → 0 < level → new.honest ≡ true → old.now.contents ≡ x
+pub scans_all : (sizes : Sizes) (x : Contents) (old new : DiskState) (limit level b : ℕ) (cs : List Child) (i : ℕ) (before now rs : List Record) (bs : List ℕ) → length cs ≤ i → 0 < level → new.honest ≡ true → old.now.contents ≡ x
     → Subtree sizes x limit level b rs bs → ((ds : List Child) → IsNodeAt x limit level b ds → cs ≡ ds) → Scans old new limit level cs i before now → now ≡ before ++ rs
 scans_all sizes x old new limit level b cs i before now rs bs all above honest same tree only scans =
     let at = node_under sizes x limit level b rs bs cs above tree only in
@@ -71,7 +71,7 @@ device_lists Deep P is = cc
 device_lists Memory P is = tt
 
 -- what lies under the child that fails
-pub child_fails : (sizes : Sizes) (x : Contents) (old mid new : State) (limit level b : ℕ) (cs : List Child) (i : ℕ) (d : Child) (before now rs : List Record) (bs : List ℕ) (e : TreeFault) (P : List Record → Unit {0} → Type 0) (Q : Unit {0} → Type 0)
+pub child_fails : (sizes : Sizes) (x : Contents) (old mid new : DiskState) (limit level b : ℕ) (cs : List Child) (i : ℕ) (d : Child) (before now rs : List Record) (bs : List ℕ) (e : TreeFault) (P : List Record → Unit {0} → Type 0) (Q : Unit {0} → Type 0)
     → i < length cs → 0 < level → new.honest ≡ true → (new.honest ≡ true → mid.honest ≡ true) → old.now.contents ≡ x → Subtree sizes x limit level b rs bs → ((ds : List Child) → IsNodeAt x limit level b ds → cs ≡ ds) → Scans old mid limit level cs i before now
     → (new.honest ≡ true → (qs : List Record) (ds : List ℕ) → Subtree sizes mid.now.contents limit (level - 1) (get_or cs i d).block qs ds → Lists (Err e) (P qs)) → Lists (Err e) Q
 child_fails sizes x old mid new limit level b cs i d before now rs bs e P Q lt above honest back same tree only scans child =

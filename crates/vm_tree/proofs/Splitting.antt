@@ -3,7 +3,7 @@ use Rattle.std.proofs.Common.{◌≡◌, ℕ, zero, suc, ◌<◌, List, [], ◌�
 use Rattle.std.specs.List.{AllByRecursion}
 use Rattle.vm_block.proofs.EachLemmas.{each_front, each_back}
 use Rattle.vm_block.specs.Leaf.{Record}
-use Rattle.vm_block.specs.Tree.{Begins, Children}
+use Rattle.vm_block.specs.Tree.{BeginsWith, Children}
 use Rattle.vm_block.specs.declared.node.Child.{Child}
 
 module _ (T : ℕ → List Record → List ℕ → Type 0) where
@@ -16,7 +16,7 @@ module _ (T : ℕ → List Record → List ℕ → Type 0) where
     pub own : List ℕ
     pub right : List ℕ
     pub child : T (get_or cs i d).block sub own
-    pub begins : Begins (get_or cs i d).low sub
+    pub begins : BeginsWith (get_or cs i d).low sub
     pub front : Children T (take i cs) before left
     pub back : Children T (drop (suc i) cs) after right
     pub records : rs ≡ before ++ (sub ++ after)
@@ -62,7 +62,7 @@ module _ (T : ℕ → List Record → List ℕ → Type 0) where
       (t.0, t.1 ++ qs, t.2, t.3 ++ es, t.4, t.5, children_join cs ds t.1 qs t.3 es t.6 u, ap (λ z. z ++ qs) t.7 ∙ append_assoc t.0 t.1 qs, ap (λ z. z ++ es) t.8 ∙ append_assoc t.2 t.3 es)
 
   -- one child alone
-  pub child_alone : (c : Child) (rs : List Record) (bs : List ℕ) → T c.block rs bs → Begins c.low rs → Children T (c ∷ []) rs bs
+  pub child_alone : (c : Child) (rs : List Record) (bs : List ℕ) → T c.block rs bs → BeginsWith c.low rs → Children T (c ∷ []) rs bs
   child_alone c rs bs t begins = (rs, [], bs, [], t, begins, (refl, refl), sym (append-nil rs), sym (append-nil bs))
 
   -- a list of children cut in two

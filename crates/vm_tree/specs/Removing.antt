@@ -36,11 +36,11 @@ pub record Narrows (sizes : Sizes) (x : Contents) (limit : ℕ) (top : Child) (r
   pub fit : ChildFits top → ChildFits (child_of root)
 
 -- what is left is answered: nothing of no records, and else a root with P
-abbrev pub Rests : Result Left TreeFault → List Record → (Root → Type 0) → Type 0
-Rests (Ok Same) rs P = ⊥
-Rests (Ok Nothing) rs P = rs ≡ []
-Rests (Ok (Rest root)) rs P = P root
-Rests (Err e) rs P = e ≡ Device
+abbrev pub IsLeft : Result Left TreeFault → List Record → (Root → Type 0) → Type 0
+IsLeft (Ok Same) rs P = ⊥
+IsLeft (Ok Nothing) rs P = rs ≡ []
+IsLeft (Ok (Rest root)) rs P = P root
+IsLeft (Err e) rs P = e ≡ Device
 
 -- what a Remove under a block answers: that no record stands at place p, or what is left without it, or that the device failed
 abbrev pub RemovesBelow : Result Left TreeFault → ℕ → List Record → (Root → Type 0) → Type 0

@@ -3,9 +3,9 @@ use Rattle.std.specs.Prelude.{◌≡◌, ◌⊎◌, ℕ, ◌<◌, ◌≤◌, tru
 use Rattle.std.specs.List.{AllByRecursion}
 use Rattle.vm_types.specs.Map.{Map}
 use Rattle.vm_types.specs.Places.{RisesFrom, places}
-use Rattle.vm_disk.specs.Disk.{Contents, State}
+use Rattle.vm_disk.specs.Disk.{Contents, DiskState}
 use Rattle.vm_block.specs.Leaf.{Record}
-use Rattle.vm_block.specs.Tree.{Sizes, Begins, Subtree}
+use Rattle.vm_block.specs.Tree.{Sizes, BeginsWith, Subtree}
 use Rattle.vm_block.specs.declared.node.Child.{Child}
 use Rattle.vm_tree.specs.declared.root.Root.{Root}
 
@@ -27,7 +27,7 @@ pub record IsTop (sizes : Sizes) (x : Contents) (limit : ℕ) (root : Root) (m :
   pub level : root.level < sizes.levels
   pub subtree : Subtree sizes x limit root.level root.block m bs
   pub rising : RisesFrom 0 (places m)
-  pub lowest : Begins root.low m
+  pub lowest : BeginsWith root.low m
 
 -- the root has no block: the empty map
 pub record IsBare (root : Root) (m : Map) (bs : List ℕ) : Type 0 where
@@ -40,18 +40,18 @@ abbrev pub IsRooted : Sizes → Contents → ℕ → Root → Map → List ℕ �
 IsRooted sizes x limit root m bs = IsBare root m bs ⊎ IsTop sizes x limit root m bs
 
 -- under the root lies this map, in blocks that have P
-pub record Grown (sizes : Sizes) (P : ℕ → Type 0) (x : Contents) (limit : ℕ) (root : Root) (m : Map) : Type 0 where
+pub record IsRootedIn (sizes : Sizes) (P : ℕ → Type 0) (x : Contents) (limit : ℕ) (root : Root) (m : Map) : Type 0 where
   pub stands_in : List ℕ
   pub rooted : IsRooted sizes x limit root m stands_in
   pub each : AllByRecursion P stands_in
 
 -- on a disk that is honest after the call: P holds of the map that lay under the root before it, and of the map's blocks
-abbrev pub IfWhole : State → State → Sizes → ℕ → Root → (Map → List ℕ → Type 0) → Type 0
+abbrev pub IfWhole : DiskState → DiskState → Sizes → ℕ → Root → (Map → List ℕ → Type 0) → Type 0
 IfWhole old new sizes limit root P =
     new.honest ≡ true → (m : Map) (bs : List ℕ) → IsRooted sizes old.now.contents limit root m bs → P m bs
 
 -- the same of the records under a child, the top of so many levels above the leaves
-abbrev pub IfUnder : State → State → Sizes → ℕ → ℕ → Child → (List Record → List ℕ → Type 0) → Type 0
+abbrev pub IfUnder : DiskState → DiskState → Sizes → ℕ → ℕ → Child → (List Record → List ℕ → Type 0) → Type 0
 IfUnder old new sizes limit level top P =
-    new.honest ≡ true → (rs : List Record) (bs : List ℕ) → Subtree sizes old.now.contents limit level top.block rs bs → Begins top.low rs → RisesFrom 0 (places rs)
+    new.honest ≡ true → (rs : List Record) (bs : List ℕ) → Subtree sizes old.now.contents limit level top.block rs bs → BeginsWith top.low rs → RisesFrom 0 (places rs)
     → P rs bs

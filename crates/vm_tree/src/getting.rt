@@ -3,7 +3,7 @@ ghost use Rattle.std.specs.Prelude.{◌≡◌, ◌≢◌, ℕ, ◌<◌, ◌≤�
 ghost use Rattle.vm_types.specs.Map.{Map, get};
 ghost use Rattle.vm_types.specs.Places.{KeyFits, RisesFrom, place, places, value_at};
 ghost use Rattle.vm_block.specs.Leaf.{Record};
-ghost use Rattle.vm_block.specs.Tree.{Sizes, Begins, Subtree};
+ghost use Rattle.vm_block.specs.Tree.{Sizes, BeginsWith, Subtree};
 ghost use Rattle.vm_tree.specs.Answers.{OkOrDevice};
 ghost use Rattle.vm_tree.specs.Calls.{OnlyLooks};
 ghost use Rattle.vm_tree.specs.Reading.{LeadsDown};

@@ -6,8 +6,8 @@
 //! A descent goes by the bytes of blocks. It compares the head and the first key of each with what
 //! stands above it, before any block is taken, and a block that differs there is refused and never
 //! copied. A change of one child is made in the bytes; `get` and `put` decode no block but a leaf
-//! that splits. For the walks of the crates above `data_at`, `leaf_at` and `node_at` read single
-//! blocks: one that is for data by one read, and another not at all.
+//! that splits, and `scan` no leaf. For the walks of the crates above `data_at`, `leaf_at` and
+//! `node_at` read single blocks: one that is for data by one read, and another not at all.
 #![tactic(auto)]
 
 mod getting;

@@ -6,14 +6,14 @@ ghost use Rattle.vm_types.specs.Places.{KeyFits, RisesFrom, place, places, value
 ghost use Rattle.vm_alloc.specs.Held.{IsHeld, free_count};
 ghost use Rattle.vm_block.specs.Leaf.{Record, RecordFits, IsLeaf};
 ghost use Rattle.vm_block.specs.Node.{IsNode};
-ghost use Rattle.vm_block.specs.Tree.{Sizes, Begins, Subtree};
+ghost use Rattle.vm_block.specs.Tree.{Sizes, BeginsWith, Subtree};
 ghost use Rattle.vm_block.specs.declared.node.Child.{Child};
 ghost use Rattle.vm_tree.specs.Answers.{LacksRoom, OkOrDevice, Puts};
 ghost use Rattle.vm_tree.specs.Calls.{LooksIfDamaged, WritesFree};
 ghost use Rattle.vm_tree.specs.Free.{IsTaken, AreTaken};
 ghost use Rattle.vm_tree.specs.Making.{Made, PutsBelow, Splits, children_of, is_split, with_copied};
 ghost use Rattle.vm_tree.specs.Reading.{LeadsDown};
-ghost use Rattle.vm_tree.specs.Root.{AreSizes, Grown, IfUnder, IfWhole, sizes_of};
+ghost use Rattle.vm_tree.specs.Root.{AreSizes, IsRootedIn, IfUnder, IfWhole, sizes_of};
 
 use crate::reading::{block_at, way_at};
 use crate::root::{Root, TreeFault, root_at};
@@ -279,7 +279,7 @@ fn put_first<D: Disk>(
     ensures taken { free_count held.old ≤ free_count held.new + 1 }
     ensures put { (D.state disk.new).honest ≡ true → (sizes : Sizes) → 0 < sizes.leaf
         → 0 < sizes.levels
-        → IfOk result (λ r. Grown sizes (IsHeld held.new) (D.state disk.new).now.contents
+        → IfOk result (λ r. IsRootedIn sizes (IsHeld held.new) (D.state disk.new).now.contents
         (length held.old) r ((key, value.now) ∷ [])) }
 {
     let record = with_record(&[], key, value);
@@ -340,7 +340,7 @@ pub fn put<D: Disk, const LEAF: usize, const FAN: usize, const LEVELS: usize>(
         (length held.old) root (λ m bs. Puts result
         (LacksRoom (sizes_of LEAF FAN LEVELS) (D.state disk.old).now.contents root m key)
         (λ r. AllByRecursion (IsHeld held.old) bs
-        → Grown (sizes_of LEAF FAN LEVELS) (IsHeld held.new) (D.state disk.new).now.contents
+        → IsRootedIn (sizes_of LEAF FAN LEVELS) (IsHeld held.new) (D.state disk.new).now.contents
         (length held.old) r (with_value m key value.now))) }
 {
     if root.block == 0 {

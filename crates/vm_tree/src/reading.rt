@@ -4,7 +4,7 @@ ghost use Rattle.vm_types.specs.Places.{place};
 ghost use Rattle.vm_disk.specs.Disk.{block as bytes_at};
 ghost use Rattle.vm_block.specs.Leaf.{Record, IsLeaf};
 ghost use Rattle.vm_block.specs.Node.{IsNode};
-ghost use Rattle.vm_block.specs.Tree.{IsData, Begins};
+ghost use Rattle.vm_block.specs.Tree.{IsData, BeginsWith};
 ghost use Rattle.vm_block.specs.Way.{Lowest, Takes};
 ghost use Rattle.vm_block.specs.declared.node.Child.{Child};
 ghost use Rattle.vm_tree.specs.Answers.{OkOrDevice};
@@ -67,7 +67,7 @@ pub(crate) fn block_at<D: Disk>(
         → IfOk result (λ done. IsBlockAt
         (D.state disk.old).now.contents blocks top.block top.low bytes.new) }
     ensures leaf { (D.state disk.new).honest ≡ true → (rs : List Record)
-        → IsLeafAt (D.state disk.old).now.contents blocks top.block rs → Begins top.low rs
+        → IsLeafAt (D.state disk.old).now.contents blocks top.block rs → BeginsWith top.low rs
         → OkOrDevice result (λ done. IsLeaf bytes.new rs) }
     ensures node { (D.state disk.new).honest ≡ true → (level : ℕ) (cs : List Child)
         → IsNodeAt (D.state disk.old).now.contents blocks level top.block cs → Lowest top.low cs
@@ -128,7 +128,7 @@ pub(crate) fn leaf_under<D: Disk, const MOST: usize>(
     ensures end { (D.state disk.new).honest ≡ true
         → IfOk result (λ records. EndsAt (D.state disk.old).now.contents blocks top.block top.low) }
     ensures only { (D.state disk.new).honest ≡ true → (rs : List Record)
-        → IsLeafAt (D.state disk.old).now.contents blocks top.block rs → Begins top.low rs
+        → IsLeafAt (D.state disk.old).now.contents blocks top.block rs → BeginsWith top.low rs
         → length rs ≤ MOST
         → OkOrDevice result (λ records. records.items ≡ rs) }
 {

@@ -6,14 +6,14 @@ ghost use Rattle.vm_types.specs.Places.{KeyFits, RisesFrom, place, places, value
 ghost use Rattle.vm_alloc.specs.Held.{IsHeld, free_count};
 ghost use Rattle.vm_block.specs.Leaf.{Record};
 ghost use Rattle.vm_block.specs.Node.{ChildFits, IsNode};
-ghost use Rattle.vm_block.specs.Tree.{Begins, Children, Subtree};
+ghost use Rattle.vm_block.specs.Tree.{BeginsWith, Children, Subtree};
 ghost use Rattle.vm_block.specs.declared.node.Child.{Child};
 ghost use Rattle.vm_tree.specs.Answers.{OkOrDevice, Removes};
 ghost use Rattle.vm_tree.specs.Calls.{OnlyLooks, LooksIf, LooksIfDamaged, WritesFree};
 ghost use Rattle.vm_tree.specs.Making.{Made};
 ghost use Rattle.vm_tree.specs.Reading.{LeadsDown};
-ghost use Rattle.vm_tree.specs.Removing.{Narrows, RemovesBelow, Rests, child_of, level_of, without_place};
-ghost use Rattle.vm_tree.specs.Root.{AreSizes, Grown, IfUnder, IfWhole, sizes_of};
+ghost use Rattle.vm_tree.specs.Removing.{Narrows, RemovesBelow, IsLeft, child_of, level_of, without_place};
+ghost use Rattle.vm_tree.specs.Root.{AreSizes, IsRootedIn, IfUnder, IfWhole, sizes_of};
 
 use crate::reading::{leaf_under, way_at};
 use crate::root::{Root, TreeFault, root_at};
@@ -194,7 +194,7 @@ fn write_rest<D: Disk, const FAN: usize>(
         → AllByRecursion ChildFits children.now
         → Children (Subtree (sizes_of leaf FAN levels) (D.state disk.old).now.contents
         (length held.old) (level - 1)) children.now rs bs
-        → Rests result rs (λ root. AllByRecursion (IsHeld held.old) bs
+        → IsLeft result rs (λ root. AllByRecursion (IsHeld held.old) bs
         → Made (IsHeld held.new) (sizes_of leaf FAN levels) (D.state disk.new).now.contents
         (length held.old) root.level (child_of root ∷ []) rs) }
 {
@@ -313,7 +313,7 @@ pub fn remove<D: Disk, const LEAF: usize, const FAN: usize, const LEVELS: usize>
     ensures remove { IfWhole (D.state disk.old) (D.state disk.new) (sizes_of LEAF FAN LEVELS)
         (length held.old) root (λ m bs. Removes result (get m key ≡ None)
         (λ r. AllByRecursion (IsHeld held.old) bs
-        → Grown (sizes_of LEAF FAN LEVELS) (IsHeld held.new) (D.state disk.new).now.contents
+        → IsRootedIn (sizes_of LEAF FAN LEVELS) (IsHeld held.new) (D.state disk.new).now.contents
         (length held.old) r (without m key))) }
 {
     if root.block == 0 {

@@ -1,24 +1,37 @@
 //! All records of a map, in order.
-ghost use Rattle.std.specs.Prelude.{◌≡◌, ◌≢◌, ℕ, ◌≤◌, ◌++◌, true, List};
+ghost use Rattle.std.specs.Prelude.{◌≡◌, ◌≢◌, ℕ, ◌≤◌, ◌++◌, true, List, length, OnOk};
 ghost use Rattle.vm_types.specs.Map.{Map};
-ghost use Rattle.vm_block.specs.Leaf.{Record};
+ghost use Rattle.vm_block.specs.Leaf.{Record, IsLeaf};
 ghost use Rattle.vm_block.specs.Tree.{Sizes, Subtree};
 ghost use Rattle.vm_tree.specs.Answers.{Lists};
 ghost use Rattle.vm_tree.specs.Calls.{OnlyLooks};
 ghost use Rattle.vm_tree.specs.Root.{IfWhole};
 
-use crate::reading::{leaf_at, node_at};
+use crate::reading::{leaf_into, node_at};
 use crate::root::{Root, TreeFault};
-use std::alloc::Global;
+use std::alloc::{AllocError, Global};
+use vm_block::{record_key, record_value};
 use vm_disk::Disk;
-use vm_types::{Key, Value};
+use vm_types::Records;
+
+/// Adds so many records of a leaf, each from where it stands in the leaf's bytes.
+fn push_records(bytes: &[u8; 4096], count: usize, into: &mut Records) -> Result<(), AllocError>
+    requires { count ≤ 16 }
+    ensures { (rs : List Record) → IsLeaf bytes.now rs → count ≡ length rs
+        → OnOk result (into.new ≡ into.old ++ rs) }
+{
+    for i in 0..count {
+        into.push(record_key(bytes, i), record_value(bytes, i))?;
+    }
+    Ok(())
+}
 
 /// Adds the records of a leaf.
 fn scan_leaf<D: Disk>(
     disk: &mut D,
     blocks: u32,
     block: u32,
-    into: &mut Vec<(Key, Value)>,
+    into: &mut Records,
 ) -> Result<(), TreeFault>
     requires { blocks ≤ (D.state disk.old).blocks }
     ensures looks { OnlyLooks result (D.state disk.old) (D.state disk.new) }
@@ -26,10 +39,11 @@ fn scan_leaf<D: Disk>(
     ensures added { (D.state disk.new).honest ≡ true
         → (sizes : Sizes) (rs : List Record) (bs : List ℕ)
         → Subtree sizes (D.state disk.old).now.contents blocks 0 block rs bs
-        → Lists result (λ _. into.new.items ≡ into.old.items ++ rs) }
+        → Lists result (λ _. into.new ≡ into.old ++ rs) }
 {
-    let records = leaf_at(disk, blocks, block)?;
-    match into.extend_from_slice(records.as_slice()) {
+    let mut bytes = [0; 4096];
+    let count = leaf_into(disk, blocks, block, &mut bytes)?;
+    match push_records(&bytes, count, into) {
         Ok(()) => Ok(()),
         Err(_) => Err(TreeFault::Memory),
     }
@@ -41,7 +55,7 @@ fn scan_below<D: Disk>(
     blocks: u32,
     level: u8,
     block: u32,
-    into: &mut Vec<(Key, Value)>,
+    into: &mut Records,
 ) -> Result<(), TreeFault>
     requires { blocks ≤ (D.state disk.old).blocks }
     ensures looks { OnlyLooks result (D.state disk.old) (D.state disk.new) }
@@ -49,7 +63,7 @@ fn scan_below<D: Disk>(
     ensures added { (D.state disk.new).honest ≡ true
         → (sizes : Sizes) (rs : List Record) (bs : List ℕ)
         → Subtree sizes (D.state disk.old).now.contents blocks level block rs bs
-        → Lists result (λ _. into.new.items ≡ into.old.items ++ rs) }
+        → Lists result (λ _. into.new ≡ into.old ++ rs) }
 {
     if level == 0 {
         return scan_leaf(disk, blocks, block, into);
@@ -67,7 +81,7 @@ pub fn scan<D: Disk>(
     disk: &mut D,
     blocks: u32,
     root: Root,
-) -> Result<Vec<(Key, Value)>, TreeFault>
+) -> Result<Records, TreeFault>
     requires { blocks ≤ (D.state disk.old).blocks }
     ensures looks { OnlyLooks result (D.state disk.old) (D.state disk.new) }
     ensures deep { result ≢ Err TreeFault.Deep }
@@ -75,9 +89,9 @@ pub fn scan<D: Disk>(
     // On a tree it is the whole map, whatever the sizes of its blocks, unless the device fails or no memory is found.
     ensures records { (sizes : Sizes)
         → IfWhole (D.state disk.old) (D.state disk.new) sizes blocks root
-        (λ m bs. Lists result (λ records. records.items ≡ m)) }
+        (λ m bs. Lists result (λ records. records ≡ m)) }
 {
-    let mut records = Vec::new(alloc);
+    let mut records = Records::new(alloc);
     if root.block == 0 {
         return Ok(records);
     }

@@ -1,5 +1,5 @@
 -- Keys in their order, and keys as numbers: for keys of the sizes that a key has, both say the same.
-use Rattle.std.proofs.Common.{◌≡◌, ℕ, ◌+◌, ◌^◌, ◌<◌, ◌≤◌, ◌==◌, if◌then◌else◌, Bool, true, false, cond, not, List, [], ◌∷◌, Some, Ordering, Less, Equal, Greater, nat_cmp, refl, sym, ap, ap₂, ◌∙◌, arith, le_trans, lt_of_lt_of_le, zero-le, ⊎_elim}
+use Rattle.std.proofs.Common.{◌≡◌, ℕ, ◌+◌, ◌^◌, ◌<◌, ◌≤◌, ◌==◌, if◌then◌else◌, Bool, true, false, cond, not, List, [], ◌∷◌, Some, Ordering, Less, Equal, Greater, nat_cmp, refl, sym, ap, ap₂, ◌∙◌, arith, le_trans, lt_of_lt_of_le, ⊎_elim}
 use Rattle.std.specs.Ordering.{ordering_then, is_eq, is_lt}
 use Rattle.std.proofs.lemmas.Bool.{cases_lt, cases_eq, cases_order, and_from, and_parts, false≢true, eq-eqb, ne_eqb, lt-ltb, le-ltb}
 use Rattle.std.specs.FinMap.Entries as entries

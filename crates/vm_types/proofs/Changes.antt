@@ -8,7 +8,7 @@ use Rattle.std.specs.FinMap.Entries.{by_order}
 use Rattle.std.proofs.lemmas.Bool.{and_parts, and_from}
 use Rattle.vm_types.specs.declared.key.Key.{Key}
 use Rattle.vm_types.specs.declared.change.Change.{Change}
-use Rattle.vm_types.specs.Map.{key_cmp, same_key, Map, IsMap, get, with_value, without, same_value, over, keys_of, change_at, delta, put_or_taken, with_change, with_changes}
+use Rattle.vm_types.specs.Map.{key_cmp, same_key, Map, IsMap, get, with_value, same_value, over, keys_of, change_at, delta, put_or_taken, with_change, with_changes}
 use Rattle.vm_types.proofs.Keys.{keys_total, same_key-Decides, get-with_value, get-without, IsMap-with_value, IsMap-without, same_maps, exact_keys, is_less}
 use Rattle.vm_types.proofs.Maps.{same_value-Decides, keys_of-any}
 

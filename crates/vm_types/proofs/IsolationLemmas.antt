@@ -5,7 +5,7 @@ use Rattle.std.proofs.lemmas.Slice.Eq.{bytes_eq-Decides}
 use Rattle.std.proofs.lemmas.List.Folds.{find-append}
 use Rattle.vm_types.specs.declared.answer.Answer.{Answer}
 use Rattle.vm_types.specs.declared.command.Command.{Command}
-use Rattle.vm_types.specs.declared.command.Command.TheVariants.{New, NewAt, Drop, Put, Remove, Checkpoint, Uncheck, Back, Merge, Post, Commit, Reclaim}
+use Rattle.vm_types.specs.declared.command.Command.TheVariants.{New, NewAt, Drop, Put, Remove, Checkpoint, Uncheck, Back, Merge, Post, Commit, Reclaim, Grow}
 use Rattle.vm_types.specs.declared.refusal.Refusal.{Refusal}
 use Rattle.vm_types.specs.Map.{Map}
 use Rattle.vm_types.specs.Firsts.{without_first}
@@ -98,6 +98,7 @@ module _ (name : List ℕ) where
         }))))
     isolated_step Commit h p = record { kept = refl }
     isolated_step Reclaim h p = record { kept = refl }
+    isolated_step (Grow blocks) h p = record { kept = refl }
 
   -- and so does each list of such commands
   pub isolated : (s : State) (commands : List Command) (answers : List (Result Answer Refusal)) → LeavesAlone s commands answers name → named (after s commands answers).working name ≡ named s.working name

@@ -7,9 +7,7 @@ use Rattle.vm_types.specs.declared.answer.Answer.{Answer}
 use Rattle.vm_types.specs.declared.command.Command.{Command}
 use Rattle.vm_types.specs.declared.command.Command.TheVariants.{Commit}
 use Rattle.vm_types.specs.declared.refusal.Refusal.{Refusal}
-use Rattle.vm_types.specs.declared.refusal.Refusal.TheVariants.{Device}
-use Rattle.vm_types.specs.Tree.{Tree}
-use Rattle.vm_types.specs.State.{State, next, after, is_commit}
+use Rattle.vm_types.specs.State.{Seen, State, committed_of, working_of, next, after, is_commit}
 use Rattle.vm_types.specs.Kept.{MayHaveHappened, committed_by, EndsInCommit, Kept, LeftBy}
 use Rattle.vm_types.proofs.Runs.{after_more, after_fewer}
 
@@ -47,7 +45,7 @@ pub record LastCommit (s : State) (commands : List Command) (answers : List (Res
   pub within : beginning ≤ length commands
   pub ends : EndsInCommit commands answers beginning
   pub acknowledged : (i : ℕ) (answer : Answer) → slice_get commands i ≡ Some Commit → slice_get answers i ≡ Some (Ok answer) → i < beginning
-  pub committed : committed_by s commands answers beginning ≡ (after s commands answers).committed
+  pub committed : committed_by s commands answers beginning ≡ committed_of (after s commands answers)
 
 pub LastCommit-none : (s : State) → LastCommit s [] []
 LastCommit-none s = record { same = refl; beginning = 0; within = omega arith; ends = tt; acknowledged = λ i answer is ok. cc; committed = refl }
@@ -82,16 +80,16 @@ module _ {s : State} {commands : List Command} {answers told : List (Result Answ
   committed_kept (suc n) h =
       let few : n ≤ length commands = omega arith in
       let many : length (take n commands) ≤ length answers = omega (arith, length-take-le n commands few, more.same) in
-      ap (λ (cs : List Command). (after s cs told).working) (take-append-le n commands (c ∷ []) few)
-      ∙ ap (λ (t : State). t.working) (more.past (take n commands) many)
+      ap (λ (cs : List Command). working_of (after s cs told)) (take-append-le n commands (c ∷ []) few)
+      ∙ ap working_of (more.past (take n commands) many)
 
-  -- where the last command is a commit that may have happened, what it commits is the working tree before it
-  committed_last : committed_by s (commands ++ c ∷ []) told (suc (length commands)) ≡ (after s commands answers).working
+  -- where the last command is a commit that may have happened, it commits what commands worked on before it
+  committed_last : committed_by s (commands ++ c ∷ []) told (suc (length commands)) ≡ working_of (after s commands answers)
   committed_last =
       let few : length commands ≤ length commands = omega arith in
       let same : length answers ≡ length commands = more.same in
-      ap (λ (cs : List Command). (after s cs told).working) (take-append-le (length commands) commands (c ∷ []) few ∙ take_all (length commands) commands few)
-      ∙ ap (λ (t : State). t.working) (more.past commands (omega arith))
+      ap (λ (cs : List Command). working_of (after s cs told)) (take-append-le (length commands) commands (c ∷ []) few ∙ take_all (length commands) commands few)
+      ∙ ap working_of (more.past commands (omega arith))
 
   -- what was acknowledged so far stands before the last command, if that isn't acknowledged
   acknowledged_kept : (n : ℕ) → ((answer : Answer) → c ≡ Commit → slice_get told (length commands) ≡ Some (Ok answer) → ⊥)
@@ -121,11 +119,11 @@ accepted_commit s commands answers answer last =
       within = omega (arith, length-append commands (Commit ∷ []));
       ends = (at_last commands Commit (length commands) refl, subst MayHaveHappened (sym (at_last answers (Ok answer) (length commands) (sym last.same))) tt);
       acknowledged = λ i _ is _. all_before more Commit i is;
-      committed = committed_last more Commit ∙ sym (ap (λ (t : State). t.committed) (after_more s commands answers Commit (Ok answer) last.same));
+      committed = committed_last more Commit ∙ sym (ap committed_of (after_more s commands answers Commit (Ok answer) last.same));
     }
 
 -- one more command that commits nothing
-no_commit : (s : State) (commands : List Command) (answers : List (Result Answer Refusal)) (c : Command) (a : Result Answer Refusal) → ((answer : Answer) → c ≡ Commit → a ≡ Ok answer → ⊥) → (next (after s commands answers) c a).committed ≡ (after s commands answers).committed → LastCommit s commands answers → LastCommit s (commands ++ c ∷ []) (answers ++ a ∷ [])
+no_commit : (s : State) (commands : List Command) (answers : List (Result Answer Refusal)) (c : Command) (a : Result Answer Refusal) → ((answer : Answer) → c ≡ Commit → a ≡ Ok answer → ⊥) → committed_of (next (after s commands answers) c a) ≡ committed_of (after s commands answers) → LastCommit s commands answers → LastCommit s (commands ++ c ∷ []) (answers ++ a ∷ [])
 no_commit s commands answers c a none stays last =
     let more = Continues-more s commands answers a last.same in
     record {
@@ -134,8 +132,14 @@ no_commit s commands answers c a none stays last =
       within = omega (arith, length-append commands (c ∷ []), last.within);
       ends = ends_kept more c last.beginning last.within last.ends;
       acknowledged = acknowledged_kept more c last.beginning (λ answer is ok. none answer is (same_Some a (Ok answer) (sym (at_last answers a (length commands) (sym last.same)) ∙ ok))) last.acknowledged;
-      committed = committed_kept more c last.beginning last.within ∙ last.committed ∙ sym stays ∙ sym (ap (λ (t : State). t.committed) (after_more s commands answers c a last.same));
+      committed = committed_kept more c last.beginning last.within ∙ last.committed ∙ sym stays ∙ sym (ap committed_of (after_more s commands answers c a last.same));
     }
+
+-- an accepted command that is no Commit leaves what is committed
+uncommitted : (s : State) (c : Command) (answer : Answer) → is_commit c ≡ false → committed_of (next s c (Ok answer)) ≡ committed_of s
+uncommitted s c answer other =
+    let left : Bool → Seen = λ t. record { tree = if t then s.working else s.committed; blocks = if t then s.blocks else s.kept } in
+    ap left other
 
 -- one more command, whatever it was answered
 pub LastCommit-more : (s : State) (commands : List Command) (answers : List (Result Answer Refusal)) (c : Command) (a : Result Answer Refusal) → LastCommit s commands answers → LastCommit s (commands ++ c ∷ []) (answers ++ a ∷ [])
@@ -143,12 +147,12 @@ LastCommit-more s commands answers c (Err refusal) last = no_commit s commands a
 LastCommit-more s commands answers c (Ok answer) last =
     ⊎_elim
     (λ (is : c ≡ Commit). subst (λ (d : Command). LastCommit s (commands ++ d ∷ []) (answers ++ Ok answer ∷ [])) (sym is) (accepted_commit s commands answers answer last))
-    (λ (no : is_commit c ≡ false). no_commit s commands answers c (Ok answer) (λ _ is _. not_commit c no is) (ap (λ (t : Bool). if t then (after s commands answers).working else (after s commands answers).committed) no) last)
+    (λ (no : is_commit c ≡ false). no_commit s commands answers c (Ok answer) (λ _ is _. not_commit c no is) (uncommitted (after s commands answers) c answer no) last)
     (commit_cases c)
 
-module _ {X : Type 0} (shows : X → Tree → Type 0) (s : State) (commands : List Command) (answers : List (Result Answer Refusal)) where
+module _ {X : Type 0} (shows : X → Seen → Type 0) (s : State) (commands : List Command) (answers : List (Result Answer Refusal)) where
   -- between two calls, what was committed last is shown
-  pub kept_rest : (x : X) → LastCommit s commands answers → shows x (after s commands answers).committed → Kept shows s commands answers x
+  pub kept_rest : (x : X) → LastCommit s commands answers → shows x (committed_of (after s commands answers)) → Kept shows s commands answers x
   kept_rest x last is = record {
     beginning = last.beginning;
     within = last.within;

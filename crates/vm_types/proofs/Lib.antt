@@ -3,11 +3,13 @@ mod Rows
 pub mod Bridge
 pub mod Changes
 pub mod FirstsLemmas
+pub mod Growing
 pub mod IsolationLemmas
 pub mod KeptLemmas
 pub mod Keys
 pub mod Maps
 pub mod MomentsLemmas
+pub mod PackedLemmas
 pub mod Runs
 pub mod ShapeLemmas
 pub mod SoundLemmas

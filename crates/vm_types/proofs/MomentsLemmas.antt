@@ -3,14 +3,13 @@ use Rattle.std.proofs.Common.{◌≡◌, ℕ, ◌≤◌, List, [], ◌∷◌, �
 use Rattle.vm_types.specs.declared.answer.Answer.{Answer}
 use Rattle.vm_types.specs.declared.command.Command.{Command}
 use Rattle.vm_types.specs.declared.refusal.Refusal.{Refusal}
-use Rattle.vm_types.specs.Tree.{Tree}
-use Rattle.vm_types.specs.State.{State, next, after}
+use Rattle.vm_types.specs.State.{Seen, State, committed_of, next, after}
 use Rattle.vm_types.specs.Kept.{Kept, LeftBy}
 use Rattle.vm_types.specs.Moments.{KeptBetween, KeptThroughout}
 use Rattle.vm_types.proofs.Runs.{after_more}
 use Rattle.vm_types.proofs.KeptLemmas.{LastCommit, LastCommit-none, LastCommit-more, kept_rest, kept_call}
 
-module _ {X : Type 0} (shows : X → Tree → Type 0) (s : State) where
+module _ {X : Type 0} (shows : X → Seen → Type 0) (s : State) where
   -- the end is not before the start
   pub KeptBetween-onward : (left : ℕ → X → Type 0) (before : List Command) (told : List (Result Answer Refusal)) (start : ℕ) (commands : List Command) (answers : List (Result Answer Refusal)) (end : ℕ)
       → KeptBetween shows left s before told start commands answers end → start ≤ end
@@ -46,13 +45,13 @@ module _ {X : Type 0} (shows : X → Tree → Type 0) (s : State) where
       )
 
 -- commands that were run: the state after them, and what a crash at each moment so far keeps
-pub record HasRun {X : Type 0} (shows : X → Tree → Type 0) (left : ℕ → X → Type 0) (s : State) (start : ℕ) (commands : List Command) (answers : List (Result Answer Refusal)) (now : State) (end : ℕ) : Type 0 where
+pub record HasRun {X : Type 0} (shows : X → Seen → Type 0) (left : ℕ → X → Type 0) (s : State) (start : ℕ) (commands : List Command) (answers : List (Result Answer Refusal)) (now : State) (end : ℕ) : Type 0 where
   pub state : now ≡ after s commands answers
   pub last : LastCommit s commands answers
   pub moments : KeptThroughout shows left s start commands answers end
 
 -- at the first moment, where what may be left shows what is committed
-pub HasRun-none : {X : Type 0} (shows : X → Tree → Type 0) (left : ℕ → X → Type 0) (s : State) (start : ℕ) → ((x : X) → left start x → shows x s.committed) → HasRun shows left s start [] [] s start
+pub HasRun-none : {X : Type 0} (shows : X → Seen → Type 0) (left : ℕ → X → Type 0) (s : State) (start : ℕ) → ((x : X) → left start x → shows x (committed_of s)) → HasRun shows left s start [] [] s start
 HasRun-none shows left s start first = record {
   state = refl;
   last = LastCommit-none s;
@@ -60,7 +59,7 @@ HasRun-none shows left s start first = record {
 }
 
 -- one more, by what is proved of one call
-pub HasRun-more : {X : Type 0} {shows : X → Tree → Type 0} {left : ℕ → X → Type 0} {s : State} {start : ℕ} {commands : List Command} {answers : List (Result Answer Refusal)} {now : State} {end : ℕ} → HasRun shows left s start commands answers now end
+pub HasRun-more : {X : Type 0} {shows : X → Seen → Type 0} {left : ℕ → X → Type 0} {s : State} {start : ℕ} {commands : List Command} {answers : List (Result Answer Refusal)} {now : State} {end : ℕ} → HasRun shows left s start commands answers now end
     → (left' : ℕ → X → Type 0) (c : Command) (a : Result Answer Refusal) (now' : State) (later : ℕ) → now' ≡ next now c a → end ≤ later
     → ((t : ℕ) (x : X) → t ≤ end → left' t x → left t x)
     → ((t : ℕ) (x : X) → end ≤ t → t ≤ later → left' t x → LeftBy shows now c x)

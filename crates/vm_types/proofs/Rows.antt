@@ -6,15 +6,15 @@ use Rattle.vm_types.specs.declared.answer.Answer.TheVariants.{Done, Merged}
 use Rattle.vm_types.specs.declared.command.Side.{Side}
 use Rattle.vm_types.specs.declared.command.Side.TheVariants.{Mine, Theirs}
 use Rattle.vm_types.specs.declared.command.Command.{Command}
-use Rattle.vm_types.specs.declared.command.Command.TheVariants.{New, NewAt, Drop, Put, Remove, Checkpoint, Uncheck, Back, Merge, Post, Reclaim}
+use Rattle.vm_types.specs.declared.command.Command.TheVariants.{New, NewAt, Drop, Put, Remove, Checkpoint, Uncheck, Back, Merge, Post, Commit, Reclaim, Grow}
 use Rattle.vm_types.specs.declared.refusal.Refusal.{Refusal}
-use Rattle.vm_types.specs.declared.refusal.Refusal.TheVariants.{NoSuchAlternative, AlternativeExists, NoSuchCheckpoint, CheckpointExists, NoSuchRecord, IsTop, HasChildren, NotMerged, Unsettled, NotInConflict, SettledTwice}
+use Rattle.vm_types.specs.declared.refusal.Refusal.TheVariants.{NoSuchAlternative, AlternativeExists, NoSuchCheckpoint, CheckpointExists, NoSuchRecord, IsTop, HasChildren, NotMerged, Unsettled, NotInConflict, SettledTwice, Device, Memory, BadSize}
 use Rattle.vm_types.specs.declared.change.Change.{Change}
 use Rattle.vm_types.specs.declared.change.Conflict.{Conflict}
 use Rattle.vm_types.specs.Map.{Map, get, delta, conflicts}
 use Rattle.vm_types.specs.Tree.{Alternative, Tree, top, fresh, named, current_of}
 use Rattle.vm_types.specs.Step.{or_refuse, refuse_if, refuse_found}
-use Rattle.vm_types.specs.State.{opened, answers_to, after, edits}
+use Rattle.vm_types.specs.State.{State, opened, committed_of, working_of, answers_to, after, edits}
 
 abbrev key : ℕ → ℕ → Key
 key table number = record { table = table; number = number }
@@ -53,12 +53,19 @@ ok = Ok Done
 abbrev no_sides : List (Key × Side)
 no_sides = []
 
--- the answers to commands on a new store, and the working tree after them
+-- a new store of 64 blocks
+abbrev new_store : State
+new_store = opened (record { tree = fresh; blocks = 64 })
+
+-- the answers to commands on a new store, the state after them, and its working tree
 abbrev answers : List Command → List (Result Answer Refusal)
-answers commands = answers_to (opened fresh) commands
+answers commands = answers_to new_store commands
+
+abbrev state_of : List Command → State
+state_of commands = after new_store commands (answers commands)
 
 abbrev tree_of : List Command → Tree
-tree_of commands = (after (opened fresh) commands (answers commands)).working
+tree_of commands = (state_of commands).working
 
 -- the records of an alternative after the commands
 abbrev records : List Command → List ℕ → Map
@@ -254,3 +261,60 @@ nine_are_counted = refl
 nine_stand_before_eight : records (nine_beside_eight ++ Merge a no_sides ∷ []) a ≡ rows 1 1 9 ++ rows 2 1 8
 unfolding or_refuse refuse_if refuse_found
 nine_stand_before_eight = refl
+
+-- a store of 64 blocks grows to more than it has, up to the greatest number, and no further
+abbrev growths : List Command
+growths = Grow 64 ∷ Grow 63 ∷ Grow 0 ∷ Grow 1048577 ∷ Grow 65 ∷ Grow 65 ∷ Grow 64 ∷ Grow 1048576 ∷ Grow 1048577 ∷ Grow 1048576 ∷ []
+
+growths_are_answered :
+    answers growths
+    ≡ Err BadSize ∷ Err BadSize ∷ Err BadSize ∷ Err BadSize ∷ ok ∷ Err BadSize ∷ Err BadSize ∷ ok ∷ Err BadSize ∷ Err BadSize ∷ []
+unfolding or_refuse refuse_if refuse_found
+growths_are_answered = refl
+
+growths_are_worked_on : working_of (state_of growths) ≡ record { tree = fresh; blocks = 1048576 }
+unfolding or_refuse refuse_if refuse_found
+growths_are_worked_on = refl
+
+growths_are_not_committed : committed_of (state_of growths) ≡ record { tree = fresh; blocks = 64 }
+unfolding or_refuse refuse_if refuse_found
+growths_are_not_committed = refl
+
+-- a Grow that is not committed is gone with the store's closing, and so is the record after it
+abbrev grown : List Command
+grown = Grow 64 ∷ Grow 63 ∷ Grow 1048577 ∷ Grow 128 ∷ Put top (key 1 1) x ∷ []
+
+grown_is_answered : answers grown ≡ Err BadSize ∷ Err BadSize ∷ Err BadSize ∷ ok ∷ ok ∷ []
+unfolding or_refuse refuse_if refuse_found
+grown_is_answered = refl
+
+grown_has_128_blocks : (state_of grown).blocks ≡ 128
+unfolding or_refuse refuse_if refuse_found
+grown_has_128_blocks = refl
+
+grown_is_not_kept : opened (committed_of (state_of grown)) ≡ new_store
+unfolding or_refuse refuse_if refuse_found
+grown_is_not_kept = refl
+
+-- a Commit keeps the number of blocks with the tree. A Grow marks nothing and changes no record, and a Reclaim no number
+abbrev committed_growth : List Command
+committed_growth = Grow 128 ∷ Put top (key 1 1) x ∷ Commit ∷ Grow 256 ∷ Reclaim ∷ []
+
+committed_growth_is_answered : answers committed_growth ≡ oks 5
+unfolding or_refuse refuse_if refuse_found
+committed_growth_is_answered = refl
+
+committed_growth_is_kept : committed_of (state_of committed_growth) ≡ record { tree = tree_of committed_growth; blocks = 128 }
+unfolding or_refuse refuse_if refuse_found
+committed_growth_is_kept = refl
+
+committed_growth_goes_on : working_of (state_of committed_growth) ≡ record { tree = tree_of (Put top (key 1 1) x ∷ []); blocks = 256 }
+unfolding or_refuse refuse_if refuse_found
+committed_growth_goes_on = refl
+
+growth_changes_no_record : edits fresh (Grow 128) ≡ 0
+growth_changes_no_record = refl
+
+-- a Grow for which there is no memory, or in which the device fails, leaves the state as it was
+refused_growth_changes_nothing : after new_store (Grow 65 ∷ Grow 66 ∷ []) (Err Memory ∷ Err Device ∷ []) ≡ new_store
+refused_growth_changes_nothing = refl

@@ -1,10 +1,9 @@
 -- Commands one after another: one more at the end.
-use Rattle.std.proofs.Common.{◌≡◌, ◌≤◌, suc, List, [], ◌∷◌, ◌++◌, length, Result, refl, ap, arith}
+use Rattle.std.proofs.Common.{◌≡◌, ◌≤◌, List, [], ◌∷◌, ◌++◌, length, Result, refl, arith}
 use Rattle.vm_types.specs.declared.answer.Answer.{Answer}
 use Rattle.vm_types.specs.declared.command.Command.{Command}
 use Rattle.vm_types.specs.declared.refusal.Refusal.{Refusal}
-use Rattle.vm_types.specs.Step.{step}
-use Rattle.vm_types.specs.State.{State, next, after, answers_to, answer_of}
+use Rattle.vm_types.specs.State.{State, next, after}
 
 -- the state after one more command is the next one
 pub after_more : (s : State) (commands : List Command) (answers : List (Result Answer Refusal)) (command : Command) (answer : Result Answer Refusal) → length answers ≡ length commands → after s (commands ++ command ∷ []) (answers ++ answer ∷ []) ≡ next (after s commands answers) command answer

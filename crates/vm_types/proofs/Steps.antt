@@ -1,5 +1,5 @@
 -- What a step comes to, once it is known what is found.
-use Rattle.std.proofs.Common.{◌≡◌, ℕ, Bool, true, false, not, List, [], ◌∷◌, ◌++◌, map, length, get_or, set, Option, Some, None, is_some, Result, Ok, Err, bytes_eq, refl, sym, ap, ◌∙◌}
+use Rattle.std.proofs.Common.{◌≡◌, ℕ, Bool, true, false, not, List, [], ◌∷◌, ◌++◌, map, length, get_or, set, Option, Some, None, is_some, Ok, Err, bytes_eq, refl, sym, ap, ◌∙◌}
 use Rattle.vm_types.specs.declared.key.Key.{Key}
 use Rattle.vm_types.specs.declared.answer.Answer.{Answer}
 use Rattle.vm_types.specs.declared.answer.Answer.TheVariants.{Done, Merged}
@@ -12,7 +12,6 @@ use Rattle.vm_types.specs.Tree.{Saved, Alternative, Tree, named, saved_as, has_c
 use Rattle.vm_types.specs.Step.{Outcome, or_refuse, refuse_found, refuse_if, done, settled_refusal, new_alternative, step}
 use Rattle.vm_types.specs.State.{tree_after, answer_of}
 use Rattle.vm_types.specs.Outcomes.{IsOutcome, gone_back}
-use Rattle.vm_types.proofs.FirstsLemmas.{change_first-none}
 
 -- ---- the tests of a step, one by one
 

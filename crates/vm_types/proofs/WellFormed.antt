@@ -1,15 +1,15 @@
 -- Each step keeps a tree well formed.
-use Rattle.std.proofs.Common.{◌≡◌, ℕ, Bool, true, false, cond, List, [], ◌∷◌, ◌++◌, Option, Some, None, is_some, option_map, Result, Ok, Err, bytes_eq, refl, sym, ap, ◌∙◌, subst}
+use Rattle.std.proofs.Common.{◌≡◌, ℕ, Bool, true, false, List, [], ◌∷◌, ◌++◌, Option, Some, None, is_some, option_map, Ok, bytes_eq, refl, sym, ap, ◌∙◌, subst}
 use Rattle.vm_types.specs.declared.answer.Answer.{Answer}
 use Rattle.vm_types.specs.declared.command.Command.{Command}
-use Rattle.vm_types.specs.declared.command.Command.TheVariants.{New, NewAt, Drop, Put, Remove, Checkpoint, Uncheck, Back, Merge, Post, Commit, Reclaim}
+use Rattle.vm_types.specs.declared.command.Command.TheVariants.{New, NewAt, Drop, Put, Remove, Checkpoint, Uncheck, Back, Merge, Post, Commit, Reclaim, Grow}
 use Rattle.vm_types.specs.declared.refusal.Refusal.{Refusal}
 use Rattle.vm_types.specs.Map.{Map, IsMap, with_value, without, merge}
 use Rattle.vm_types.specs.Firsts.{without_first}
 use Rattle.vm_types.specs.Tree.{Alternative, Tree, named, has_children, changed, fresh}
 use Rattle.vm_types.specs.Shape.{HasShape, IsRisingSaved, IsSound, IsWellFormed}
 use Rattle.vm_types.specs.Step.{Outcome, or_refuse, refuse_found, refuse_if, new_alternative, step}
-use Rattle.vm_types.specs.State.{State, tree_after, next, after, is_commit}
+use Rattle.vm_types.specs.State.{tree_after}
 use Rattle.vm_types.proofs.Keys.{IsMap-with_value, IsMap-without}
 use Rattle.vm_types.proofs.Maps.{IsMap-merge}
 use Rattle.vm_types.proofs.ShapeLemmas.{HasShape-new, HasShape-drop, KeepsPlace, shape_changed, parent_changed}
@@ -124,3 +124,4 @@ module _ (tree : Tree) (well : IsWellFormed tree) where
   step_stays (Post alt) = or_refuse_stays _ _ _ (λ a found. or_refuse_stays _ _ _ (λ parent under. or_refuse_stays _ _ _ (λ p above. refuse_if_stays _ _ _ (λ _. post_stays alt parent a p _ found under above))))
   step_stays Commit = record { well = well }
   step_stays Reclaim = record { well = well }
+  step_stays (Grow blocks) = record { well = well }

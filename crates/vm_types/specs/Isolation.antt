@@ -3,7 +3,7 @@ use Rattle.std.specs.Prelude.{◌≡◌, ℕ, Bool, false, List, ◌∷◌, Some
 use Rattle.std.specs.Option.{option_eq}
 use Rattle.vm_types.specs.declared.answer.Answer.{Answer}
 use Rattle.vm_types.specs.declared.command.Command.{Command}
-use Rattle.vm_types.specs.declared.command.Command.TheVariants.{New, NewAt, Drop, Put, Remove, Checkpoint, Uncheck, Back, Merge, Post, Commit, Reclaim}
+use Rattle.vm_types.specs.declared.command.Command.TheVariants.{New, NewAt, Drop, Put, Remove, Checkpoint, Uncheck, Back, Merge, Post, Commit, Reclaim, Grow}
 use Rattle.vm_types.specs.declared.refusal.Refusal.{Refusal}
 use Rattle.vm_types.specs.Tree.{Tree, named}
 use Rattle.vm_types.specs.State.{State, next}
@@ -22,6 +22,7 @@ target (Merge alt settled) name = bytes_eq alt name
 target (Post alt) name = bytes_eq alt name
 target Commit name = false
 target Reclaim name = false
+target (Grow blocks) name = false
 
 -- whether a command is a Post of a child of the alternative
 abbrev pub posts_into : Tree → Command → List ℕ → Bool

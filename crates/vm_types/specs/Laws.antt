@@ -1,5 +1,5 @@
 -- Laws of the model, each a sentence about every tree, map or list of commands.
-use Rattle.std.specs.Prelude.{◌≡◌, ◌↔◌, ℕ, List, [], Result}
+use Rattle.std.specs.Prelude.{◌≡◌, ◌↔◌, ℕ, ◌≤◌, List, [], Result, IsOk}
 use Rattle.vm_types.specs.declared.key.Key.{Key}
 use Rattle.vm_types.specs.declared.answer.Answer.{Answer}
 use Rattle.vm_types.specs.declared.command.Side.{Side}
@@ -9,7 +9,7 @@ use Rattle.vm_types.specs.Map.{Map, IsMap, get, delta, merged_at, merge}
 use Rattle.vm_types.specs.Tree.{Tree, fresh, named}
 use Rattle.vm_types.specs.Shape.{IsWellFormed}
 use Rattle.vm_types.specs.Step.{step}
-use Rattle.vm_types.specs.State.{State, tree_after, after}
+use Rattle.vm_types.specs.State.{State, tree_after, outcome, next, after}
 use Rattle.vm_types.specs.Isolation.{LeavesAlone}
 
 -- a new store's tree is well formed, and each command leaves a well formed tree well formed
@@ -24,6 +24,17 @@ MergesAreThreeWay = (base parent mine : Map) (settled : List (Key × Side)) →
 -- maps differ at no key exactly where they are equal
 abbrev pub DeltasTellEquality : Type 0
 DeltasTellEquality = (m n : Map) → IsMap m → IsMap n → (delta m n ≡ []) ↔ (m ≡ n)
+
+-- a store has 64 to 1,048,576 blocks, and no more of them are committed than commands work on
+pub record HasSizes (s : State) : Type 0 where
+  pub enough : 64 ≤ s.kept
+  pub fewer : s.kept ≤ s.blocks
+  pub few : s.blocks ≤ 1048576
+
+-- no command takes blocks from a store, or gives it too many, as long as none is answered Ok that the model refuses
+abbrev pub StoresOnlyGrow : Type 0
+StoresOnlyGrow = (s : State) (command : Command) (answer : Result Answer Refusal) → HasSizes s → (IsOk answer → IsOk (outcome s command)) →
+    HasSizes (next s command answer) × (s.kept ≤ (next s command answer).kept) × (s.blocks ≤ (next s command answer).blocks)
 
 -- an alternative is as before, with its base and checkpoints, where no command worked on it and no child was posted into it
 abbrev pub AlternativesAreIsolated : Type 0

@@ -8,6 +8,7 @@ pub mod Map
 pub mod Moments
 pub mod Name
 pub mod Outcomes
+pub mod Packed
 pub mod Places
 pub mod Queries
 pub mod Shape
@@ -15,3 +16,4 @@ pub mod State
 pub mod Step
 pub mod Texts
 pub mod Tree
+pub mod Walked

@@ -59,7 +59,16 @@ checkpoints_of (Some a) = Ok (saved_names a.saved)
 abbrev pub checkpoints_in : Tree → List ℕ → Result (List (List ℕ)) Refusal
 checkpoints_in tree alt = checkpoints_of (named tree alt)
 
--- the list that is due, or the refusal that is due, or that the device failed, or that there was no memory
+-- the list that is due, where `items` tells what is in one; or the refusal that is due, or that the device failed, or that there was
+-- no memory
+abbrev pub IsListOf : {T X : Type 0} → (T → List X) → Result T Refusal → Result (List X) Refusal → Type 0
+IsListOf items (Ok list) due = due ≡ Ok (items list)
+IsListOf items (Err refusal) due = (refusal ≡ Device) ⊎ ((refusal ≡ Memory) ⊎ (due ≡ Err refusal))
+
+-- the same of a Vec
 abbrev pub IsList : {X A : Type 0} → Result (Vec X A) Refusal → Result (List X) Refusal → Type 0
-IsList (Ok list) due = due ≡ Ok list.items
-IsList (Err refusal) due = (refusal ≡ Device) ⊎ ((refusal ≡ Memory) ⊎ (due ≡ Err refusal))
+IsList answer due = IsListOf (λ list. list.items) answer due
+
+-- and of a list that is seen as one
+abbrev pub IsListing : {X : Type 0} → Result (List X) Refusal → Result (List X) Refusal → Type 0
+IsListing answer due = IsListOf (λ list. list) answer due

@@ -1,40 +1,76 @@
--- The state of a store: the committed tree and the working one, and what commands make of them.
-use Rattle.std.specs.Prelude.{ℕ, Bool, true, false, List, [], ◌∷◌, length, Result, Ok, Err, if◌then◌else◌}
+-- The state of a store: what is committed and what commands work on, and what commands make of them.
+use Rattle.std.specs.Prelude.{ℕ, ◌||◌, Bool, true, false, List, [], ◌∷◌, length, nat_lt, nat_le, Result, Ok, Err, if◌then◌else◌}
 use Rattle.vm_types.specs.declared.answer.Answer.{Answer}
 use Rattle.vm_types.specs.declared.command.Command.{Command}
-use Rattle.vm_types.specs.declared.command.Command.TheVariants.{Put, Remove, Merge, Commit}
+use Rattle.vm_types.specs.declared.command.Command.TheVariants.{Put, Remove, Merge, Commit, Grow}
 use Rattle.vm_types.specs.declared.refusal.Refusal.{Refusal}
+use Rattle.vm_types.specs.declared.refusal.Refusal.TheVariants.{BadSize}
 use Rattle.vm_types.specs.Map.{delta}
 use Rattle.vm_types.specs.Tree.{Tree, current_of}
-use Rattle.vm_types.specs.Step.{Outcome, step}
+use Rattle.vm_types.specs.Step.{Outcome, refuse_if, step}
+
+-- what a disk shows: a tree of alternatives, and how many blocks the store has
+pub record Seen : Type 0 where
+  pub tree : Tree
+  pub blocks : ℕ
+
+-- the committed tree and the working one, each with a number of blocks: `kept` beside the committed tree, `blocks` beside
+-- the working one
+pub record State : Type 0 where
+  pub committed : Tree
+  pub kept : ℕ
+  pub working : Tree
+  pub blocks : ℕ
+
+-- both are what is shown, as they are when a store is opened
+abbrev pub opened : Seen → State
+opened seen = record { committed = seen.tree; kept = seen.blocks; working = seen.tree; blocks = seen.blocks }
+
+-- what is committed, as a disk shows it
+abbrev pub committed_of : State → Seen
+committed_of s = record { tree = s.committed; blocks = s.kept }
+
+-- what commands work on, as a disk shows it once it is committed
+abbrev pub working_of : State → Seen
+working_of s = record { tree = s.working; blocks = s.blocks }
 
 -- the tree after a command, which a refusal leaves as it was
 abbrev pub tree_after : Tree → Outcome → Tree
 tree_after tree (Ok o) = o.0
 tree_after tree (Err refusal) = tree
 
+-- the number of blocks after a command that was accepted: a Grow tells it, and each other command leaves it
+abbrev pub blocks_after : ℕ → Command → ℕ
+blocks_after blocks (Grow more) = more
+blocks_after blocks command = blocks
+
 -- the answer of a step
 abbrev pub answer_of : Outcome → Result Answer Refusal
 answer_of (Ok o) = Ok o.1
 answer_of (Err refusal) = Err refusal
 
--- what was committed, and what commands work on
-pub record State : Type 0 where
-  pub committed : Tree
-  pub working : Tree
+-- whether a store of so many blocks can't grow to so many: they are no more, or more than a store may have
+abbrev pub is_bad_size : ℕ → ℕ → Bool
+is_bad_size blocks more = nat_le more blocks || nat_lt 1048576 more
 
--- both trees are this one, as they are when a store is opened
-abbrev pub opened : Tree → State
-opened tree = record { committed = tree; working = tree }
+-- what a command comes to: a Grow is refused where its size is bad, and all else is as the step says
+abbrev pub outcome : State → Command → Outcome
+outcome s (Grow more) = refuse_if (is_bad_size s.blocks more) BadSize (step s.working (Grow more))
+outcome s command = step s.working command
 
 -- whether a command is Commit
 abbrev pub is_commit : Command → Bool
 is_commit Commit = true
 is_commit command = false
 
--- a command that was accepted: it changes the working tree, and Commit makes that the committed one
+-- a command that was accepted: it changes what commands work on, and Commit makes that the committed
 abbrev pub accepted : State → Command → State
-accepted s command = record { committed = (if is_commit command then s.working else s.committed); working = tree_after s.working (step s.working command) }
+accepted s command = record {
+  committed = if is_commit command then s.working else s.committed;
+  kept = if is_commit command then s.blocks else s.kept;
+  working = tree_after s.working (step s.working command);
+  blocks = blocks_after s.blocks command;
+}
 
 -- a command that was answered so: a refused one changes nothing
 abbrev pub next : State → Command → Result Answer Refusal → State
@@ -50,7 +86,7 @@ after s commands answers = s
 abbrev pub answers_to : State → List Command → List (Result Answer Refusal)
 answers_to s [] = []
 answers_to s (command ∷ commands) =
-    let answer = answer_of (step s.working command) in
+    let answer = answer_of (outcome s command) in
     answer ∷ answers_to (next s command answer) commands
 
 -- the number of record changes: one for a Put or a Remove, for a Merge the keys at which the alternative's records change

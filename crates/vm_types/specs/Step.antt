@@ -7,7 +7,7 @@ use Rattle.vm_types.specs.declared.answer.Answer.{Answer}
 use Rattle.vm_types.specs.declared.answer.Answer.TheVariants.{Done, Merged}
 use Rattle.vm_types.specs.declared.command.Side.{Side}
 use Rattle.vm_types.specs.declared.command.Command.{Command}
-use Rattle.vm_types.specs.declared.command.Command.TheVariants.{New, NewAt, Drop, Put, Remove, Checkpoint, Uncheck, Back, Merge, Post, Commit, Reclaim}
+use Rattle.vm_types.specs.declared.command.Command.TheVariants.{New, NewAt, Drop, Put, Remove, Checkpoint, Uncheck, Back, Merge, Post, Commit, Reclaim, Grow}
 use Rattle.vm_types.specs.declared.refusal.Refusal.{Refusal}
 use Rattle.vm_types.specs.declared.refusal.Refusal.TheVariants.{NoSuchAlternative, AlternativeExists, NoSuchCheckpoint, CheckpointExists, NoSuchRecord, IsTop, HasChildren, NotMerged, Unsettled, NotInConflict, SettledTwice, TooMany}
 use Rattle.vm_types.specs.Map.{Map, same_key, get, with_value, without, delta, conflicts, side_of, merge, same_map}
@@ -112,3 +112,4 @@ step tree (Post alt) =
     done (changed (changed tree parent (λ x. record x { current = a.current })) alt (λ x. record x { base = a.current }))))))
 step tree Commit = done tree
 step tree Reclaim = done tree
+step tree (Grow blocks) = done tree

@@ -106,4 +106,8 @@ pub enum Command {
     Commit,
     /// Frees each block that neither state needs.
     Reclaim,
+    /// Gives the store so many blocks in all, more than it has.
+    Grow {
+        blocks: u32,
+    },
 }

@@ -11,6 +11,7 @@ mod command;
 mod key;
 pub mod laws;
 mod name;
+mod records;
 mod refusal;
 mod value;
 
@@ -19,5 +20,6 @@ pub use change::{Change, Conflict};
 pub use command::{Command, Settled, Side};
 pub use key::Key;
 pub use name::Name;
+pub use records::{Records, RecordsIter};
 pub use refusal::Refusal;
 pub use value::Value;

@@ -47,7 +47,7 @@ pub enum Refusal {
     NotAStore,
     /// The disk to be formatted is a store already.
     AlreadyAStore,
-    /// A count of blocks is out of range, or above the disk's.
+    /// A count of blocks is out of range, above the disk's, or, for a store that is to grow, not above its own.
     BadSize,
 }
 

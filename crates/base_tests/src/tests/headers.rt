@@ -1,18 +1,18 @@
 //! Header and selector, byte for byte.
 use super::spelled::is_block;
-use vm_block::{read_header, read_selector, write_header, write_selector};
+use vm_block::{is_header, read_selector, write_header, write_selector};
 
 #[test]
 fn header_is_spelled_and_read(rt: HostRuntime) {
     let mut block = [7; 4096];
     write_header(&mut block);
     assert!(rt; is_block(&block, b"ALTSTORE\x01\0\0\0\0\x10\0\0"));
-    assert!(rt; read_header(&block).is_some());
+    assert!(rt; is_header(&block));
     block[4095] = 1;
-    assert!(rt; read_header(&block).is_none(), "a byte behind it");
+    assert!(rt; !is_header(&block), "a byte behind it");
     block[4095] = 0;
     block[8] = 2;
-    assert!(rt; read_header(&block).is_none(), "another number");
+    assert!(rt; !is_header(&block), "another number");
 }
 
 #[test]

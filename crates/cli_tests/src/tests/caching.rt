@@ -90,7 +90,7 @@ fn refuses_a_number_that_is_none_or_too_large(rt: HostRuntime) -> Result<(), Fai
     ] {
         let refused = ran(rt.alloc(), &mut files, words, b"free\n")?;
         assert_eq!(rt; refused.status, 2);
-        assert!(rt; refused.output.is_empty() && !refused.faults.is_empty());
+        assert!(rt; refused.output.is_empty() && !refused.errors.is_empty());
         assert!(rt; files.find("g").is_none());
         let Some(disk) = files.find("f") else {
             panic!(rt; "not there");

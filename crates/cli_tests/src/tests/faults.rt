@@ -45,7 +45,7 @@ impl Write for NarrowWriter {
 }
 
 /// A store of 64 blocks in memory.
-pub fn new_store<R: AllocGlobal + Abort>(rt: &R) -> Result<Store<MemDisk>, Fail> {
+pub(super) fn new_store<R: AllocGlobal + Abort>(rt: &R) -> Result<Store<MemDisk>, Fail> {
     let disk = match format(MemDisk::new(rt.alloc(), 64)?, 64) {
         Ok(disk) => disk,
         Err((disk, _)) => disk,
@@ -129,7 +129,7 @@ fn stops_where_a_text_cannot_be_written(rt: HostRuntime) -> Result<(), Fail> {
         taken: Vec::new(rt.alloc()),
         room: 3,
     };
-    let mut faults = Vec::new(rt.alloc());
+    let mut errors = Vec::new(rt.alloc());
     let words = words.as_slice();
     let status = run_words(
         rt.alloc(),
@@ -137,10 +137,10 @@ fn stops_where_a_text_cannot_be_written(rt: HostRuntime) -> Result<(), Fail> {
         &mut files,
         &mut input,
         &mut output,
-        &mut faults,
+        &mut errors,
     );
     assert_eq!(rt; status, 3);
-    assert_eq!(rt; faults.as_slice(), b"altctl: stopped\n".as_slice());
+    assert_eq!(rt; errors.as_slice(), b"altctl: stopped\n".as_slice());
     assert!(rt; files.find("f").is_some());
     Ok(())
 }
@@ -158,7 +158,7 @@ fn stops_where_a_check_cannot_be_written(rt: HostRuntime) -> Result<(), Fail> {
         taken: Vec::new(rt.alloc()),
         room: 20,
     };
-    let mut faults = Vec::new(rt.alloc());
+    let mut errors = Vec::new(rt.alloc());
     let words = words.as_slice();
     let status = run_words(
         rt.alloc(),
@@ -166,14 +166,14 @@ fn stops_where_a_check_cannot_be_written(rt: HostRuntime) -> Result<(), Fail> {
         &mut files,
         &mut input,
         &mut output,
-        &mut faults,
+        &mut errors,
     );
     assert_eq!(rt; status, 3);
     assert_eq!(rt;
         output.taken.as_slice(),
         b"alternatives 1\ncheck".as_slice()
     );
-    assert_eq!(rt; faults.as_slice(), b"altctl: stopped\n".as_slice());
+    assert_eq!(rt; errors.as_slice(), b"altctl: stopped\n".as_slice());
     assert!(rt; files.find("f").is_some());
     Ok(())
 }
@@ -191,7 +191,7 @@ fn stops_where_a_tree_cannot_be_written(rt: HostRuntime) -> Result<(), Fail> {
         taken: Vec::new(rt.alloc()),
         room: 40,
     };
-    let mut faults = Vec::new(rt.alloc());
+    let mut errors = Vec::new(rt.alloc());
     let words = words.as_slice();
     let status = run_words(
         rt.alloc(),
@@ -199,14 +199,14 @@ fn stops_where_a_tree_cannot_be_written(rt: HostRuntime) -> Result<(), Fail> {
         &mut files,
         &mut input,
         &mut output,
-        &mut faults,
+        &mut errors,
     );
     assert_eq!(rt; status, 3);
     assert_eq!(rt;
         output.taken.as_slice(),
         b"changed unmerged conflicts post\n      - ".as_slice()
     );
-    assert_eq!(rt; faults.as_slice(), b"altctl: stopped\n".as_slice());
+    assert_eq!(rt; errors.as_slice(), b"altctl: stopped\n".as_slice());
     assert!(rt; files.find("f").is_some());
     Ok(())
 }
@@ -228,9 +228,10 @@ fn served(alloc: Global, store: &mut Store<FuseDisk<MemDisk>>, lines: &[u8]) -> 
     (output, matches!(&ended, Err(ServeFault::Store)))
 }
 
-/// A command, or each query.
-const ASKED: [&[u8]; 9] = [
+/// Commands, and each query.
+const ASKED: [&[u8]; 10] = [
     b"commit\n",
+    b"grow 128\n",
     b"get top 1 1\n",
     b"list top\n",
     b"alts\n",

@@ -20,7 +20,7 @@ fn makes_no_file_out_of_range(rt: HostRuntime) -> Result<(), Fail> {
         let words = ["altctl", "create", "g", blocks];
         let refused = ran(rt.alloc(), &mut files, words.as_slice(), b"")?;
         assert_eq!(rt; refused.status, 2);
-        assert!(rt; refused.output.is_empty() && !refused.faults.is_empty());
+        assert!(rt; refused.output.is_empty() && !refused.errors.is_empty());
         assert!(rt; files.find("g").is_none());
     }
     Ok(())

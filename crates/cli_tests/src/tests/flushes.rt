@@ -100,26 +100,26 @@ fn stops_where_a_flush_fails(rt: HostRuntime) -> Result<(), Fail> {
     Ok(())
 }
 
-/// Runs the program with an output and faults that can be flushed this often.
-fn flushed(alloc: Global, words: &[&str], output: usize, faults: usize) -> Result<Outcome, Fail> {
+/// Runs the program with an output and errors that can be flushed this often.
+fn flushed(alloc: Global, words: &[&str], output: usize, errors: usize) -> Result<Outcome, Fail> {
     let mut owned = Vec::new(alloc);
     for word in words {
         owned.push(String::from_str(alloc, word)?)?;
     }
     let mut output = FlushedWriter::new(alloc, output);
-    let mut faults = FlushedWriter::new(alloc, faults);
+    let mut errors = FlushedWriter::new(alloc, errors);
     let status = run_words(
         alloc,
         owned.as_slice(),
         &mut MemFiles::new(alloc),
         &mut b"".as_slice(),
         &mut output,
-        &mut faults,
+        &mut errors,
     );
     Ok(Outcome {
         status,
         output: output.taken,
-        faults: faults.taken,
+        errors: errors.taken,
     })
 }
 
@@ -138,16 +138,16 @@ fn ends_by_what_could_be_flushed(rt: HostRuntime) -> Result<(), Fail> {
 
 #[test]
 fn says_that_a_word_is_no_text(rt: HostRuntime) -> Result<(), Fail> {
-    let mut faults = FlushedWriter::new(rt.alloc(), 1);
-    assert_eq!(rt; refuse_words(&mut faults), 2);
+    let mut errors = FlushedWriter::new(rt.alloc(), 1);
+    assert_eq!(rt; refuse_words(&mut errors), 2);
     let said = b"altctl: the words are not UTF-8\n|".as_slice();
-    assert_eq!(rt; faults.taken.as_slice(), said);
-    let mut faults = FlushedWriter::new(rt.alloc(), 0);
-    assert_eq!(rt; refuse_words(&mut faults), 3);
+    assert_eq!(rt; errors.taken.as_slice(), said);
+    let mut errors = FlushedWriter::new(rt.alloc(), 0);
+    assert_eq!(rt; refuse_words(&mut errors), 3);
     let said = b"altctl: the words are not UTF-8\naltctl: stopped\n".as_slice();
-    assert_eq!(rt; faults.taken.as_slice(), said);
-    let mut faults = FlushedWriter::new(rt.alloc(), 1);
-    assert_eq!(rt; stop(&mut faults), 3);
-    assert_eq!(rt; faults.taken.as_slice(), b"altctl: stopped\n|".as_slice());
+    assert_eq!(rt; errors.taken.as_slice(), said);
+    let mut errors = FlushedWriter::new(rt.alloc(), 1);
+    assert_eq!(rt; stop(&mut errors), 3);
+    assert_eq!(rt; errors.taken.as_slice(), b"altctl: stopped\n|".as_slice());
     Ok(())
 }

@@ -32,7 +32,7 @@ fn shown<R: AllocGlobal + Abort>(rt: &R, words: &[&str]) -> Result<String, Fail>
     let mut files = MemFiles::new(rt.alloc());
     let help = ran(rt.alloc(), &mut files, words, b"")?;
     assert_eq!(rt; help.status, 0);
-    assert!(rt; help.faults.is_empty());
+    assert!(rt; help.errors.is_empty());
     Ok(String::from_utf8(help.output)?)
 }
 
@@ -115,6 +115,7 @@ fn shows_how_to_choose_the_blocks(rt: HostRuntime) -> Result<(), Fail> {
         "Usage: altctl create <FILE> <BLOCKS>",
         "64 to 1048576",
         "4,096 bytes",
+        "A file may start small: the lines grow BLOCKS and then commit make it\nlarger",
         "docs/OPERATING.md",
         "  $ altctl create map.alt 1024\n  created 1024\n",
     ] {
@@ -163,6 +164,8 @@ fn shows_all_lines(rt: HostRuntime) -> Result<(), Fail> {
         "0 to 65536",
         "[default: 256]",
         "--strict",
+        "\nBLOCKS is how many blocks the store is to have: ",
+        "\n  Not a larger size 21 BadSize\n",
     ] {
         assert!(rt; text.contains(part));
     }
@@ -179,6 +182,7 @@ fn shows_all_lines(rt: HostRuntime) -> Result<(), Fail> {
         "post ALT",
         "commit",
         "reclaim",
+        "grow BLOCKS",
         "get ALT TABLE NUMBER",
         "list ALT",
         "alts",
@@ -277,7 +281,7 @@ fn refuses_wrong_words(rt: HostRuntime) -> Result<(), Fail> {
     ] {
         let refused = ran(rt.alloc(), &mut files, words, b"")?;
         assert_eq!(rt; refused.status, 2);
-        assert!(rt; refused.output.is_empty() && !refused.faults.is_empty());
+        assert!(rt; refused.output.is_empty() && !refused.errors.is_empty());
     }
     Ok(())
 }

@@ -406,8 +406,8 @@ fn refuses_lines_with_too_few_or_too_many_words(rt: HostRuntime) -> Result<(), F
     Ok(())
 }
 
-// Appends the line of a checkpoint of `top`, whose name is a number.
-fn push_checkpoint(into: &mut Vec<u8>, verb: &[u8], number: u32) -> Result<(), Fail> {
+/// Appends the line of a checkpoint of `top`, whose name is a number.
+pub(super) fn push_checkpoint(into: &mut Vec<u8>, verb: &[u8], number: u32) -> Result<(), Fail> {
     let mut buffer = itoa::Buffer::new();
     into.extend_from_slice(verb)?;
     into.extend_from_slice(b" top k")?;

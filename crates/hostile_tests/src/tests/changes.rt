@@ -32,7 +32,11 @@ fn has_lists(
         store.list(alloc, alt)?;
     }
     let records = store.list(alloc, &top())?;
-    Ok(records.as_slice() == content.records.as_slice())
+    Ok(
+        records.len() == content.records.len()
+            && records.iter().zip(content.records.iter()).all(|((key, value), due)| key == due.0
+                && value == due.1.as_bytes()),
+    )
 }
 
 // Whether a store that was just opened is what the second reader has found.

@@ -1,5 +1,5 @@
 //! The lists of commands that runs carry out.
-use super::{Reply, name, top};
+use super::{GROWN_BLOCKS, Reply, name, top};
 use std::alloc::Global;
 use vm_types::{Answer, Command, Key, Settled, Value};
 
@@ -8,15 +8,16 @@ use vm_types::{Answer, Command, Key, Settled, Value};
 pub enum Script {
     /// `x` is made, changed, merged and posted, and `top` is changed after that.
     Posted,
-    /// The same, and directly before the second Commit `y` begins at a checkpoint of `top`.
-    Branched,
+    /// The same, and directly before the second Commit `y` begins at a checkpoint of `top`, and the store
+    /// grows.
+    Grown,
 }
 
-/// How many device calls `format`, `open` and the commands make, whichever these are.
-pub const CALLS: u32 = 7 + 4 + 1 + 2 + 4 + 2 + 6 + 4 + 2 + 3 + 4;
+// How many device calls `format`, `open` and the commands make where the store doesn't grow.
+const CALLS: u32 = 7 + 4 + 1 + 2 + 4 + 2 + 6 + 4 + 2 + 3 + 4;
 
-/// How many of these are writes or syncs.
-pub const WRITES_AND_SYNCS: u32 = 6 + 1 + 1 + 1 + 4 + 1 + 1 + 4 + 1 + 1 + 4;
+// How many of these are writes or syncs.
+const WRITES_AND_SYNCS: u32 = 6 + 1 + 1 + 1 + 4 + 1 + 1 + 4 + 1 + 1 + 4;
 
 /// The key of this number in table 1.
 pub(super) fn key(number: u64) -> Key {
@@ -40,7 +41,7 @@ pub(super) fn merge(alloc: Global) -> Command {
     }
 }
 
-// The command of this number, from 0, without those that make `y`.
+// The command of this number, from 0, without those that make `y` and let the store grow.
 fn posted(alloc: Global, n: u32) -> Command {
     let (x, c) = (name(b"x"), name(b"c"));
     match n {
@@ -64,8 +65,8 @@ fn posted(alloc: Global, n: u32) -> Command {
     }
 }
 
-// The command of this number, from 0, with those that make `y`.
-fn branched(alloc: Global, n: u32) -> Command {
+// The command of this number, from 0, with those.
+fn grown(alloc: Global, n: u32) -> Command {
     let k = name(b"k");
     match n {
         0..=8 => posted(alloc, n),
@@ -78,16 +79,35 @@ fn branched(alloc: Global, n: u32) -> Command {
             parent: top(),
             checkpoint: k,
         },
-        _ => posted(alloc, n.saturating_sub(2)),
+        11 => Command::Grow {
+            blocks: GROWN_BLOCKS,
+        },
+        _ => posted(alloc, n.saturating_sub(3)),
     }
 }
 
 impl Script {
+    /// How many device calls `format`, `open` and the commands make.
+    pub(super) fn calls(self) -> u32 {
+        match self {
+            Script::Posted => CALLS,
+            Script::Grown => CALLS + 1,
+        }
+    }
+
+    /// How many of these are no reads.
+    pub(super) fn changing_calls(self) -> u32 {
+        match self {
+            Script::Posted => WRITES_AND_SYNCS,
+            Script::Grown => WRITES_AND_SYNCS + 1,
+        }
+    }
+
     /// How many commands are committed at first, and after each Commit.
     pub(super) fn kept(self) -> [u32; 4] {
         match self {
             Script::Posted => [0, 5, 10, 13],
-            Script::Branched => [0, 5, 12, 15],
+            Script::Grown => [0, 5, 13, 16],
         }
     }
 
@@ -100,7 +120,7 @@ impl Script {
     pub(super) fn command(self, alloc: Global, n: u32) -> Command {
         match self {
             Script::Posted => posted(alloc, n),
-            Script::Branched => branched(alloc, n),
+            Script::Grown => grown(alloc, n),
         }
     }
 

@@ -61,6 +61,10 @@ impl Disk for CountingDisk {
         self.inner.write(n, from)
     }
 
+    fn forget(&mut self, n: u32) {
+        self.inner.forget(n);
+    }
+
     fn sync(&mut self) -> Result<(), DeviceFault> {
         self.inner.sync()
     }

@@ -4,7 +4,7 @@ use super::image::Image;
 use super::layers::Layer;
 use super::running::{Due, Left, NEVER, Scene, run};
 use std::alloc::Global;
-use vm_disk::MemDisk;
+use vm_disk::{Disk, MemDisk};
 
 /// What a block holds that a run has torn, and that no store writes.
 const TORN: [u8; 4096] = [0x5A; 4096];
@@ -78,7 +78,13 @@ impl Halt {
 
     // Whether the call that is stopped is a sync that makes blocks last.
     fn is_sync(&self) -> bool {
-        (0..super::BLOCKS).any(|n| self.here.disk.is_dirty(n) && !self.later.disk.is_dirty(n))
+        let (here, later) = (&self.here.disk, &self.later.disk);
+        (0..here.blocks()).any(|n| here.is_dirty(n) && !later.is_dirty(n))
+    }
+
+    /// How many blocks a crash surely leaves, and how many it may leave.
+    pub(super) fn sizes(&self) -> (u32, u32) {
+        (self.here.disk.sure(), self.here.disk.blocks())
     }
 
     /// The same, stopped a call later.
@@ -99,23 +105,25 @@ impl Halt {
         })
     }
 
-    // What is left in this block.
-    fn bytes(&self, n: u32, fill: Fill) -> [u8; 4096] {
+    // What is left in this block, if it held anything then: a block that is new held nothing at the last
+    // sync.
+    fn bytes(&self, n: u32, fill: Fill) -> Option<[u8; 4096]> {
         match fill {
-            Fill::Synced => self.synced.block(n),
-            Fill::Byte(byte) => [byte; 4096],
-            Fill::Written if self.here.image.block(n) == TORN => self.later.image.block(n),
-            Fill::Written => self.here.image.block(n),
+            Fill::Synced => self.synced.get(n).copied(),
+            Fill::Byte(byte) => Some([byte; 4096]),
+            Fill::Written if self.here.image.block(n) == TORN => self.later.image.get(n).copied(),
+            Fill::Written => self.here.image.get(n).copied(),
         }
     }
 
-    /// What is left in all blocks that are not synced.
+    /// What is left in the blocks that are not synced. Those that are left out keep what they hold.
     pub(super) fn filling(&self, alloc: Global, fill: Fill) -> Result<Filling, Wrong> {
         let mut blocks = Vec::new(alloc);
         let mut torn = [0; 4096];
-        for n in 0..super::BLOCKS {
-            if self.here.disk.is_dirty(n) {
-                let bytes = self.bytes(n, fill);
+        for n in 0..self.here.disk.blocks() {
+            if self.here.disk.is_dirty(n)
+                && let Some(bytes) = self.bytes(n, fill)
+            {
                 blocks.push((n, bytes)).map_err(|_| Wrong::Memory)?;
                 if self.here.image.block(n) == TORN {
                     torn = bytes;
@@ -135,5 +143,21 @@ impl Halt {
         let filling = self.filling(alloc, fill)?;
         let left = run::<D>(alloc, scene, self.passes.min(NEVER), &filling.torn)?;
         Ok(left.disk.crash(&filling.blocks))
+    }
+
+    /// The same, where so many blocks are left.
+    pub(super) fn crash_short<D: Layer>(
+        &self,
+        alloc: Global,
+        scene: &Scene,
+        fill: Fill,
+        blocks: u32,
+    ) -> Result<MemDisk, Wrong> {
+        let filling = self.filling(alloc, fill)?;
+        let left = run::<D>(alloc, scene, self.passes.min(NEVER), &filling.torn)?;
+        if blocks < left.disk.sure() || blocks > left.disk.blocks() {
+            return Err(Wrong::Device);
+        }
+        Ok(left.disk.crash_short(&filling.blocks, blocks))
     }
 }

@@ -1,10 +1,10 @@
 //! What a list of commands commits, and whether a store shows it.
 use super::commands::{Script, key, merge, put};
-use super::{Wrong, name, top};
+use super::{BLOCKS, GROWN_BLOCKS, Wrong, name, top};
 use std::alloc::Global;
 use vm_disk::{Disk, MemDisk};
 use vm_store::{Store, open};
-use vm_types::{Answer, Change, Command, Key, Refusal, Value};
+use vm_types::{Answer, Change, Command, Records, Refusal, Value};
 
 /// The records of table 1.
 type Map = &'static [(u64, &'static [u8])];
@@ -17,13 +17,14 @@ struct Own {
     saved: bool,
 }
 
-/// What is committed of `top`, `x` and `y`, and how many blocks are free once it was opened. Where there
-/// is a `y`, `top` has the checkpoint `k`.
+/// What is committed of `top`, `x` and `y`, how many blocks there are, and how many of them are free once
+/// it was opened. Where there is a `y`, `top` has the checkpoint `k`.
 #[derive(Clone, Copy)]
 struct State {
     top: Map,
     own: Option<Own>,
     branch: Option<Own>,
+    blocks: u32,
     free: u32,
 }
 
@@ -59,21 +60,27 @@ const SAME: Own = Own {
 // What this number of commands has committed.
 fn committed_by(script: Script, commands: u32) -> State {
     let [_, first, second, last] = script.kept();
-    let (top, own, free) = match commands {
+    let (top, own, free): (Map, Option<Own>, u32) = match commands {
         _ if commands < first => (EMPTY, None, 30),
         _ if commands < second => (FIRST, Some(OWN), 28),
         _ if commands < last => (POSTED, Some(SAME), 29),
         _ => (LAST, Some(SAME), 28),
     };
-    let branch = match script {
-        Script::Branched if commands >= second => Some(SAME),
-        _ => None,
-    };
-    State {
-        top,
-        own,
-        branch,
-        free,
+    match script {
+        Script::Grown if commands >= second => State {
+            top,
+            own,
+            branch: Some(SAME),
+            blocks: GROWN_BLOCKS,
+            free: free.saturating_add(16),
+        },
+        _ => State {
+            top,
+            own,
+            branch: None,
+            blocks: BLOCKS,
+            free,
+        },
     }
 }
 
@@ -83,11 +90,10 @@ fn value_at(map: Map, number: u64) -> Option<Value> {
 }
 
 // Whether these are just the records of the map.
-fn are_records(records: &[(Key, Value)], map: Map) -> bool {
+fn are_records(records: &Records, map: Map) -> bool {
     records.len() == map.len()
-        && records.iter().zip(map).all(|(record, due)| {
-            record.0 == key(due.0) && Some(record.1) == Value::new(due.1)
-        })
+        && records.iter().zip(map).all(|((found, value), due)| found == key(due.0)
+            && value == due.1)
 }
 
 // Whether these are just the changes from one map to another, all of whose keys are below 10.
@@ -179,6 +185,7 @@ pub(super) fn shows<D: Disk>(
     let state = committed_by(script, commands);
     if !has_names(alloc, store, state)?
         || !are_records(&store.list(alloc, &top())?, state.top)
+        || store.blocks() != Ok(state.blocks)
         || store.free() != Ok(state.free)
     {
         return Ok(false);

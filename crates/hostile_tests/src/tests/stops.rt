@@ -1,13 +1,14 @@
 //! The commands on a device that stops or fails at each of its calls in turn, and once more after that.
 use super::Wrong;
-use super::commands::{CALLS, Script, WRITES_AND_SYNCS};
+use super::commands::Script;
 use super::halting::{FILLS, Fill, Halt};
 use super::image::Image;
 use super::layers::{Device, Layer};
 use super::running::{Due, Fault, NEVER, Scene, run};
 use super::states::{Shown, look};
 use std::alloc::Global;
-use vm_disk::CachedDisk;
+use std::process::Abort;
+use vm_disk::{CachedDisk, MemDisk};
 
 /// What is done at each device call.
 #[derive(Clone, Copy, PartialEq, Eq)]
@@ -62,7 +63,31 @@ fn stop_each<D: Layer>(
     Ok(())
 }
 
-// Crashes at a call. The rest of the commands, from what is shown on, may be stopped again.
+// Looks at what a crash left. The rest of the commands, from what is shown on, may be stopped again.
+fn go_on_from<D: Layer>(
+    alloc: Global,
+    script: Script,
+    mut disk: MemDisk,
+    due: Due,
+    again: bool,
+) -> Result<(), Wrong> {
+    let image = Image::of(alloc, &mut disk)?;
+    let from = look(alloc, disk, script)?;
+    expect(due, from)?;
+    if again {
+        let synced = image.copy(alloc)?;
+        let rest = Scene {
+            script,
+            image,
+            from,
+            fault: None,
+        };
+        stop_each::<D>(alloc, &rest, 0, synced, Due::of(from))?;
+    }
+    Ok(())
+}
+
+// Crashes at a call.
 fn stop_at<D: Layer>(
     alloc: Global,
     scene: &Scene,
@@ -71,19 +96,25 @@ fn stop_at<D: Layer>(
     fill: Fill,
     again: bool,
 ) -> Result<(), Wrong> {
-    let mut disk = halt.crash::<D>(alloc, scene, fill)?;
-    let image = Image::of(alloc, &mut disk)?;
-    let from = look(alloc, disk, scene.script)?;
-    expect(due, from)?;
-    if again {
-        let synced = image.copy(alloc)?;
-        let rest = Scene {
-            script: scene.script,
-            image,
-            from,
-            fault: None,
-        };
-        stop_each::<D>(alloc, &rest, 0, synced, Due::of(from))?;
+    let disk = halt.crash::<D>(alloc, scene, fill)?;
+    go_on_from::<D>(alloc, scene.script, disk, due, again)
+}
+
+// Crashes at a call where not all blocks are sure, and leaves each number of blocks that may be left. What
+// is left of the commands is stopped again once, with all but one of the blocks.
+fn stop_short<D: Layer>(
+    alloc: Global,
+    scene: &Scene,
+    halt: &Halt,
+    due: Due,
+    fill: Fill,
+    again: bool,
+) -> Result<(), Wrong> {
+    let (sure, blocks) = halt.sizes();
+    for left in sure..blocks {
+        let disk = halt.crash_short::<D>(alloc, scene, fill, left)?;
+        let again = again && fill == Fill::Written && left + 1 == blocks;
+        go_on_from::<D>(alloc, scene.script, disk, due, again)?;
     }
     Ok(())
 }
@@ -133,8 +164,11 @@ fn try_at<D: Layer>(
 ) -> Result<(), Wrong> {
     for fill in FILLS {
         match trial {
-            Trial::Stop => stop_at::<D>(alloc, scene, halt, due, fill, false)?,
-            Trial::StopTwice => stop_at::<D>(alloc, scene, halt, due, fill, true)?,
+            Trial::Stop | Trial::StopTwice => {
+                let again = trial == Trial::StopTwice;
+                stop_at::<D>(alloc, scene, halt, due, fill, again)?;
+                stop_short::<D>(alloc, scene, halt, due, fill, again)?;
+            }
             Trial::Fail => fail_at::<D>(alloc, scene.script, halt, due, fill, false)?,
             Trial::FailThenStop => fail_at::<D>(alloc, scene.script, halt, due, fill, true)?,
         }
@@ -159,113 +193,97 @@ fn try_script<D: Layer>(alloc: Global, script: Script, trial: Trial) -> Result<u
     Ok(NEVER)
 }
 
-fn try_each<D: Layer>(alloc: Global, trial: Trial) -> Result<u32, (Wrong, u32)> {
-    try_script::<D>(alloc, Script::Posted, trial)
+// Through a cache each write, each sync and each growth reaches the device, but not each read.
+fn are_cached_calls(script: Script, found: Result<u32, (Wrong, u32)>) -> bool {
+    found.is_ok_and(|calls| calls < script.calls() && calls >= script.changing_calls())
 }
 
-// The same, where an alternative begins at a checkpoint.
-fn try_branched<D: Layer>(alloc: Global, trial: Trial) -> Result<u32, (Wrong, u32)> {
-    try_script::<D>(alloc, Script::Branched, trial)
+fn try_all<R: AllocGlobal + Abort>(rt: &R, script: Script, trial: Trial) {
+    let found = try_script::<Device>(rt.alloc(), script, trial);
+    assert_eq!(rt; found, Ok(script.calls()));
+}
+
+fn try_cached<R: AllocGlobal + Abort>(rt: &R, script: Script, trial: Trial) {
+    let found = try_script::<CachedDisk<Device>>(rt.alloc(), script, trial);
+    assert!(rt; are_cached_calls(script, found), "{found:?}");
 }
 
 #[test]
 fn each_stop_shows_what_was_acknowledged(rt: HostRuntime) {
-    assert_eq!(rt; try_each::<Device>(rt.alloc(), Trial::Stop), Ok(CALLS));
+    try_all(&rt, Script::Posted, Trial::Stop);
 }
 
 #[test]
 fn each_stop_after_a_stop_shows_what_was_acknowledged(rt: HostRuntime) {
-    assert_eq!(rt; try_each::<Device>(rt.alloc(), Trial::StopTwice), Ok(CALLS));
+    try_all(&rt, Script::Posted, Trial::StopTwice);
 }
 
 #[test]
 fn commands_end_as_usual_after_each_fault(rt: HostRuntime) {
-    assert_eq!(rt; try_each::<Device>(rt.alloc(), Trial::Fail), Ok(CALLS));
+    try_all(&rt, Script::Posted, Trial::Fail);
 }
 
 #[test]
 fn each_stop_after_a_fault_shows_what_was_acknowledged(rt: HostRuntime) {
-    assert_eq!(rt;
-        try_each::<Device>(rt.alloc(), Trial::FailThenStop),
-        Ok(CALLS)
-    );
-}
-
-// Through a cache each write and each sync reaches the device, but not each read.
-fn are_cached_calls(found: Result<u32, (Wrong, u32)>) -> bool {
-    found.is_ok_and(|calls| calls < CALLS && calls >= WRITES_AND_SYNCS)
+    try_all(&rt, Script::Posted, Trial::FailThenStop);
 }
 
 #[test]
 fn each_stop_below_a_cache_shows_what_was_acknowledged(rt: HostRuntime) {
-    let found = try_each::<CachedDisk<Device>>(rt.alloc(), Trial::Stop);
-    assert!(rt; are_cached_calls(found), "{found:?}");
+    try_cached(&rt, Script::Posted, Trial::Stop);
 }
 
 #[test]
 fn each_stop_after_a_stop_below_a_cache_shows_what_was_acknowledged(rt: HostRuntime) {
-    let found = try_each::<CachedDisk<Device>>(rt.alloc(), Trial::StopTwice);
-    assert!(rt; are_cached_calls(found), "{found:?}");
+    try_cached(&rt, Script::Posted, Trial::StopTwice);
 }
 
 #[test]
 fn commands_over_a_cache_end_as_usual_after_each_fault(rt: HostRuntime) {
-    let found = try_each::<CachedDisk<Device>>(rt.alloc(), Trial::Fail);
-    assert!(rt; are_cached_calls(found), "{found:?}");
+    try_cached(&rt, Script::Posted, Trial::Fail);
 }
 
 #[test]
 fn each_stop_after_a_fault_below_a_cache_shows_what_was_acknowledged(rt: HostRuntime) {
-    let found = try_each::<CachedDisk<Device>>(rt.alloc(), Trial::FailThenStop);
-    assert!(rt; are_cached_calls(found), "{found:?}");
+    try_cached(&rt, Script::Posted, Trial::FailThenStop);
 }
 
 #[test]
-fn each_stop_shows_the_alternative_from_a_checkpoint(rt: HostRuntime) {
-    assert_eq!(rt; try_branched::<Device>(rt.alloc(), Trial::Stop), Ok(CALLS));
+fn each_stop_shows_the_branch_and_the_growth(rt: HostRuntime) {
+    try_all(&rt, Script::Grown, Trial::Stop);
 }
 
 #[test]
-fn each_stop_after_a_stop_shows_the_alternative_from_a_checkpoint(rt: HostRuntime) {
-    assert_eq!(rt;
-        try_branched::<Device>(rt.alloc(), Trial::StopTwice),
-        Ok(CALLS)
-    );
+fn each_stop_after_a_stop_shows_the_branch_and_the_growth(rt: HostRuntime) {
+    try_all(&rt, Script::Grown, Trial::StopTwice);
 }
 
 #[test]
-fn alternative_from_a_checkpoint_ends_as_usual_after_each_fault(rt: HostRuntime) {
-    assert_eq!(rt; try_branched::<Device>(rt.alloc(), Trial::Fail), Ok(CALLS));
+fn branch_and_growth_end_as_usual_after_each_fault(rt: HostRuntime) {
+    try_all(&rt, Script::Grown, Trial::Fail);
 }
 
 #[test]
-fn each_stop_after_a_fault_shows_the_alternative_from_a_checkpoint(rt: HostRuntime) {
-    assert_eq!(rt;
-        try_branched::<Device>(rt.alloc(), Trial::FailThenStop),
-        Ok(CALLS)
-    );
+fn each_stop_after_a_fault_shows_the_branch_and_the_growth(rt: HostRuntime) {
+    try_all(&rt, Script::Grown, Trial::FailThenStop);
 }
 
 #[test]
-fn each_stop_below_a_cache_shows_the_alternative_from_a_checkpoint(rt: HostRuntime) {
-    let found = try_branched::<CachedDisk<Device>>(rt.alloc(), Trial::Stop);
-    assert!(rt; are_cached_calls(found), "{found:?}");
+fn each_stop_below_a_cache_shows_the_branch_and_the_growth(rt: HostRuntime) {
+    try_cached(&rt, Script::Grown, Trial::Stop);
 }
 
 #[test]
-fn each_stop_after_a_stop_below_a_cache_shows_the_alternative_from_a_checkpoint(rt: HostRuntime) {
-    let found = try_branched::<CachedDisk<Device>>(rt.alloc(), Trial::StopTwice);
-    assert!(rt; are_cached_calls(found), "{found:?}");
+fn each_stop_after_a_stop_below_a_cache_shows_the_branch_and_the_growth(rt: HostRuntime) {
+    try_cached(&rt, Script::Grown, Trial::StopTwice);
 }
 
 #[test]
-fn alternative_from_a_checkpoint_over_a_cache_ends_as_usual_after_each_fault(rt: HostRuntime) {
-    let found = try_branched::<CachedDisk<Device>>(rt.alloc(), Trial::Fail);
-    assert!(rt; are_cached_calls(found), "{found:?}");
+fn branch_and_growth_over_a_cache_end_as_usual_after_each_fault(rt: HostRuntime) {
+    try_cached(&rt, Script::Grown, Trial::Fail);
 }
 
 #[test]
-fn each_stop_after_a_fault_below_a_cache_shows_the_alternative_from_a_checkpoint(rt: HostRuntime) {
-    let found = try_branched::<CachedDisk<Device>>(rt.alloc(), Trial::FailThenStop);
-    assert!(rt; are_cached_calls(found), "{found:?}");
+fn each_stop_after_a_fault_below_a_cache_shows_the_branch_and_the_growth(rt: HostRuntime) {
+    try_cached(&rt, Script::Grown, Trial::FailThenStop);
 }

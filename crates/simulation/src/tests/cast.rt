@@ -6,7 +6,7 @@ use plain_model::Plain;
 use std::alloc::Global;
 use vm_disk::Disk;
 use vm_store::{Store, open};
-use vm_types::{Command, Key, Name, Refusal};
+use vm_types::{Command, Key, Name, Records, Refusal, Value};
 
 /// How many alternatives are in use, with the first one.
 pub const ALTERNATIVES: u32 = 4;
@@ -64,6 +64,11 @@ pub(super) fn alternatives() -> [Name; 4] {
     ]
 }
 
+// The records that a store lists, in a Vec as the model's.
+fn whole(alloc: Global, list: Result<Records, Refusal>) -> Result<Vec<(Key, Value)>, Refusal> {
+    list?.to_vec(alloc).map_err(|_| Refusal::Memory)
+}
+
 // Whether the store lists what the model does, or both refuse for the same reason.
 fn is_same<T: PartialEq + Drop>(
     found: Result<Vec<T>, Refusal>,
@@ -103,7 +108,7 @@ fn has_lists<D: Disk>(
 ) -> Result<bool, Wrong> {
     Ok(
         is_same(store.checkpoints(alloc, alt), plain.checkpoints(alt))?
-            && is_same(store.list(alloc, alt), plain.list(alt))?
+            && is_same(whole(alloc, store.list(alloc, alt)), plain.list(alt))?
             && is_same(store.changes(alloc, alt), plain.changes(alt))?
             && is_same(store.conflicts(alloc, alt), plain.conflicts(alt))?,
     )
@@ -149,13 +154,14 @@ fn goes_back<D: Disk>(
 }
 
 // Whether a store that was just opened shows what the model does in each alternative and each
-// checkpoint, and has so many blocks free. It goes back to each checkpoint in turn.
+// checkpoint, and has as many blocks, and as many of them free. It goes back to each checkpoint in turn.
 fn agrees_anew<D: Disk>(
     alloc: Global,
     store: &mut Store<D>,
     opened: &mut Model,
 ) -> Result<bool, Wrong> {
-    if store.free() != Ok(opened.free())
+    if store.blocks() != Ok(opened.plain.blocks())
+        || store.free() != Ok(opened.free())
         || !agrees(alloc, store, &opened.plain, &alternatives(), key(0))?
     {
         return Ok(false);

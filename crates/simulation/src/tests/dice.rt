@@ -9,7 +9,10 @@ use std::alloc::{AllocError, Global};
 use vm_types::{Command, Conflict, Key, Name, Settled, Side, Value};
 
 /// How many draws make another command than a Drop, Uncheck or Remove.
-const ADDITIONS: u32 = 32;
+const ADDITIONS: u32 = 33;
+
+/// More blocks than a store may have.
+const TOO_MANY: u32 = 1_048_577;
 
 /// Whether no command takes anything out, some do, or most of them.
 #[derive(Clone, Copy, PartialEq, Eq)]
@@ -22,6 +25,7 @@ enum Season {
 #[derive(Drop)]
 pub struct Dice {
     rng: Xoshiro256PlusPlus,
+    room: u32,
     keeps: bool,
     season: Season,
     next: u32,
@@ -29,10 +33,11 @@ pub struct Dice {
 }
 
 impl Dice {
-    /// With an odd seed, no Drop, Uncheck or Remove comes.
-    pub(super) fn new(seed: u64) -> Dice {
+    /// With an odd seed, no Drop, Uncheck or Remove comes. The disk has room for so many blocks.
+    pub(super) fn new(seed: u64, room: u32) -> Dice {
         Dice {
             rng: Xoshiro256PlusPlus::seed_from_u64(seed),
+            room,
             keeps: seed % 2 == 1,
             season: Season::Growth,
             next: 0,
@@ -179,8 +184,21 @@ impl Dice {
         }
     }
 
-    // Any other command but a Merge. From 16 on it is a Put.
-    fn addition(&mut self, n: u32) -> Command {
+    // A few more blocks than there are, as far as the disk has room, or else a bad size.
+    fn grow(&mut self, blocks: u32) -> Command {
+        let more = 1 + self.below(4);
+        Command::Grow {
+            blocks: match self.below(8) {
+                0 => TOO_MANY,
+                1 => blocks.saturating_sub(more),
+                2 => blocks,
+                _ => blocks.saturating_add(more).min(self.room),
+            },
+        }
+    }
+
+    // Any other command but a Merge, to a store of so many blocks. From 17 on it is a Put.
+    fn addition(&mut self, n: u32, blocks: u32) -> Command {
         match n {
             0..=2 => Command::Commit,
             3 => Command::Reclaim,
@@ -202,6 +220,7 @@ impl Dice {
                 parent: self.alt(),
                 checkpoint: self.checkpoint(),
             },
+            16 => self.grow(blocks),
             _ => Command::Put {
                 alt: self.alt(),
                 key: self.key(),
@@ -230,7 +249,7 @@ impl Dice {
         }
         let n = self.below(ADDITIONS + removals);
         if n < ADDITIONS {
-            Ok(self.addition(n))
+            Ok(self.addition(n, plain.blocks()))
         } else {
             Ok(self.removal(n - ADDITIONS))
         }

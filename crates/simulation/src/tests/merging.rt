@@ -1,6 +1,6 @@
 //! The plain model by itself: an alternative that is in conflict with its parent is merged and posted.
 use super::cast::{alternative, key, top};
-use super::{Reply, Wrong};
+use super::{BLOCKS, Reply, Wrong};
 use plain_model::Plain;
 use std::alloc::Global;
 use vm_types::{Answer, Change, Command, Conflict, Key, Name, Refusal, Settled, Side, Value};
@@ -23,7 +23,7 @@ fn put(plain: &mut Plain, alt: Name, n: u32, bytes: &[u8]) -> Reply {
 
 // `ring` grew from `top`. Since then both gave the first key another value, and each put a record.
 fn forked(alloc: Global) -> Result<Plain, Wrong> {
-    let mut plain = Plain::new(alloc)?;
+    let mut plain = Plain::new(alloc, BLOCKS)?;
     put(&mut plain, top(), 0, b"duct")?;
     plain.apply(&Command::New {
         name: ring(),

@@ -28,7 +28,6 @@ struct Roots {
 pub struct Model {
     pub plain: Plain,
     alloc: Global,
-    blocks: u32,
     free: u32,
     trees: Trees,
     committed: Vec<Roots>,
@@ -53,9 +52,8 @@ impl Model {
             base: EMPTY,
         };
         Ok(Model {
-            plain: Plain::new(alloc)?,
+            plain: Plain::new(alloc, blocks)?,
             alloc,
-            blocks,
             free: blocks.saturating_sub(FIRST_DATA),
             trees: Trees::new(alloc)?,
             committed: Vec::from_elem(alloc, first, 1)?,
@@ -68,7 +66,6 @@ impl Model {
         let mut opened = Model {
             plain: self.plain.reopened()?,
             alloc: self.alloc,
-            blocks: self.blocks,
             free: 0,
             trees: self.trees.copy()?,
             committed: Vec::from_slice(self.alloc, &self.committed)?,
@@ -82,6 +79,7 @@ impl Model {
     pub(super) fn apply(&mut self, command: &Command) -> Result<Reply, Wrong> {
         match command {
             Command::Merge { alt, .. } => self.merge(alt, command),
+            Command::Grow { .. } => Ok(self.grow(command)),
             _ if self.changes_a_record(command) && !self.has_room(1)? => Ok(Err(Refusal::Full)),
             _ => {
                 let reply = self.plain.apply(command);
@@ -122,7 +120,7 @@ impl Model {
                 roots.extend_from_slice(&[entry.current, entry.base])?;
             }
         }
-        let data = self.blocks.saturating_sub(FIRST_DATA);
+        let data = self.plain.blocks().saturating_sub(FIRST_DATA);
         Ok(data.saturating_sub(self.trees.count(&roots)?))
     }
 
@@ -166,7 +164,16 @@ impl Model {
         Ok(reply)
     }
 
-    // What an accepted command but a Merge does to the blocks that maps lie in.
+    // The answer to a Grow. The new blocks are free.
+    fn grow(&mut self, command: &Command) -> Reply {
+        let before = self.plain.blocks();
+        let reply = self.plain.apply(command);
+        let more = self.plain.blocks().saturating_sub(before);
+        self.free = self.free.saturating_add(more);
+        reply
+    }
+
+    // What an accepted command but a Merge or a Grow does to the blocks that maps lie in.
     fn follow(&mut self, command: &Command) -> Result<(), Wrong> {
         match command {
             Command::New { name, parent } => self.follow_new(name, parent, None)?,
@@ -185,7 +192,7 @@ impl Model {
                 }
             }
             Command::Back { alt, name } => self.follow_back(alt, name),
-            Command::Merge { .. } => {}
+            Command::Merge { .. } | Command::Grow { .. } => {}
             Command::Post { alt } => self.follow_post(alt)?,
             Command::Commit => {
                 self.committed.clear();

@@ -1,6 +1,6 @@
 //! A memory disk that remembers what its blocks held at the last sync that succeeded, and which one was
 //! written last.
-ghost use Rattle.std.specs.Prelude.{◌≡◌, ◌<◌, true};
+ghost use Rattle.std.specs.Prelude.{◌≡◌, ◌<◌, ◌≤◌, true};
 
 use super::Wrong;
 use super::dice::Dice;
@@ -26,8 +26,19 @@ pub enum Fill {
 impl RecordingDisk {
     /// A disk of so many blocks of zero bytes, all of it synced.
     pub(super) fn new(alloc: Global, blocks: u32) -> Result<RecordingDisk, AllocError> {
+        RecordingDisk::with_room(alloc, blocks, blocks)
+    }
+
+    /// The same with room for so many.
+    pub(super) fn with_room(
+        alloc: Global,
+        blocks: u32,
+        room: u32,
+    ) -> Result<RecordingDisk, AllocError>
+        requires { blocks ≤ room }
+    {
         Ok(RecordingDisk {
-            inner: MemDisk::new(alloc, blocks)?,
+            inner: MemDisk::with_room(alloc, blocks, room)?,
             written: Vec::from_elem(alloc, [0; 4096], blocks as usize)?,
             synced: Vec::from_elem(alloc, [0; 4096], blocks as usize)?,
             last: 0,
@@ -62,7 +73,8 @@ impl RecordingDisk {
         after(alloc, self.inner.crash(&left))
     }
 
-    /// The disk after a crash which leaves anything in blocks that were not synced.
+    /// The disk after a crash which leaves anything in blocks that were not synced, and takes any number of
+    /// those that are not sure.
     pub(super) fn crash_at_random(
         self,
         alloc: Global,
@@ -76,7 +88,19 @@ impl RecordingDisk {
                 left.push((n, bytes)).map_err(|_| Wrong::Memory)?;
             }
         }
-        after(alloc, self.inner.crash(&left))
+        let unsure = self.inner.blocks().saturating_sub(self.inner.sure());
+        let lost = dice.below(unsure.saturating_add(1));
+        after(alloc, crash_without(self.inner, &left, lost))
+    }
+}
+
+// The disk after a crash that takes so many of the last blocks, or none where it may not.
+fn crash_without(inner: MemDisk, left: &[(u32, [u8; 4096])], lost: u32) -> MemDisk {
+    let blocks = inner.blocks().saturating_sub(lost);
+    if inner.sure() <= blocks && blocks <= inner.blocks() {
+        inner.crash_short(left, blocks)
+    } else {
+        inner.crash(left)
     }
 }
 
@@ -123,6 +147,10 @@ impl Disk for RecordingDisk {
         }
         self.last = n;
         self.inner.write(n, from)
+    }
+
+    fn forget(&mut self, n: u32) {
+        self.inner.forget(n);
     }
 
     fn sync(&mut self) -> Result<(), DeviceFault> {

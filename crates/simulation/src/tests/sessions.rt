@@ -14,6 +14,9 @@ use vm_types::{Command, Key, Name, Refusal};
 /// More device calls than a life makes.
 const NEVER: u32 = 1_000_000;
 
+/// How many blocks a disk has room for beside those that it has at first.
+const ROOM: u32 = 64;
+
 /// How the life of a store ended.
 #[derive(Clone, Copy, PartialEq, Eq)]
 enum End {
@@ -56,13 +59,24 @@ fn near(alloc: Global, model: &Model, command: &Command) -> Result<Vec<Name>, Wr
         | Command::Uncheck { alt, .. }
         | Command::Back { alt, .. }
         | Command::Merge { alt, .. } => names.extend_from_slice(&[*alt])?,
-        Command::Commit | Command::Reclaim => {}
+        Command::Commit | Command::Reclaim | Command::Grow { .. } => {}
     }
     Ok(names)
 }
 
-/// Carries out a command, and compares its answer and the count of free blocks with the model's. Tells
-/// how the life ends, where the device stops in it.
+// Compares the counts of blocks and of free ones with the model's.
+fn count<D: Disk>(store: &Store<D>, model: &Model) -> Result<(), Wrong> {
+    if store.blocks() != Ok(model.plain.blocks()) {
+        return Err(Wrong::Blocks);
+    }
+    if store.free() != Ok(model.free()) {
+        return Err(Wrong::Free);
+    }
+    Ok(())
+}
+
+/// Carries out a command, and compares its answer and the counts of blocks with the model's. Tells how
+/// the life ends, where the device stops in it.
 fn play<D: Disk>(
     store: &mut Store<D>,
     model: &mut Model,
@@ -82,9 +96,7 @@ fn play<D: Disk>(
         return Err(Wrong::Answer(answer, expected));
     }
     tally.count(command, &answer, before, sight(model, command));
-    if store.free() != Ok(model.free()) {
-        return Err(Wrong::Free);
-    }
+    count(store, model)?;
     Ok(None)
 }
 
@@ -139,9 +151,7 @@ fn play_on<D: Disk>(
     tally: &mut Tally,
     looks: bool,
 ) -> Result<End, Wrong> {
-    if store.free() != Ok(model.free()) {
-        return Err(Wrong::Free);
-    }
+    count(store, model)?;
     dice.turn(model.level(&top()) > 0);
     for _ in 0..dice.below(64) {
         if let Some(end) = step(alloc, store, model, dice, tally, looks)? {
@@ -160,6 +170,9 @@ fn live(
     dice: &mut Dice,
     tally: &mut Tally,
 ) -> Result<(RecordingDisk, End), Wrong> {
+    if disk.blocks() > model.plain.blocks() {
+        tally.meet(Case::LongerDisk);
+    }
     let (passes, looks) = match dice.below(4) {
         0 | 1 => (NEVER, true),
         2 => (dice.below(400), true),
@@ -217,7 +230,7 @@ fn resolve(
     }
 }
 
-// How many blocks a store has: the least, or room for a change more than one, or for many.
+// How many blocks a store has at first: the least, or room for a change more than one, or for many.
 fn size(seed: u64) -> u32 {
     match seed % 6 {
         0 | 1 => BLOCKS,
@@ -226,19 +239,35 @@ fn size(seed: u64) -> u32 {
     }
 }
 
+// A crash, every second time.
+fn crash_or_not(
+    alloc: Global,
+    disk: RecordingDisk,
+    dice: &mut Dice,
+    tally: &mut Tally,
+) -> Result<RecordingDisk, Wrong> {
+    if !dice.once_in(2) {
+        return Ok(disk);
+    }
+    let blocks = disk.blocks();
+    let disk = disk.crash_at_random(alloc, dice)?;
+    if disk.blocks() < blocks {
+        tally.meet(Case::CutShort);
+    }
+    Ok(disk)
+}
+
 /// Several lives of a store on one disk.
 fn session(alloc: Global, seed: u64, tally: &mut Tally) -> Result<(), Wrong> {
-    let mut dice = Dice::new(seed);
     let blocks = size(seed);
+    let room = blocks.saturating_add(ROOM);
+    let mut dice = Dice::new(seed, room);
     let mut model = Model::new(alloc, blocks)?;
-    let mut disk = format(RecordingDisk::new(alloc, blocks)?, blocks).map_err(
-        |refused| Wrong::Refused(refused.1),
-    )?;
+    let disk = RecordingDisk::with_room(alloc, blocks, room)?;
+    let mut disk = format(disk, blocks).map_err(|refused| Wrong::Refused(refused.1))?;
     for _ in 0..8 {
-        let (mut left, end) = live(alloc, disk, &mut model, &mut dice, tally)?;
-        if dice.once_in(2) {
-            left = left.crash_at_random(alloc, &mut dice)?;
-        }
+        let (left, end) = live(alloc, disk, &mut model, &mut dice, tally)?;
+        let left = crash_or_not(alloc, left, &mut dice, tally)?;
         let Some((next_disk, next_model)) = resolve(alloc, left, model, end, tally)? else {
             return Ok(());
         };
@@ -251,7 +280,7 @@ fn session(alloc: Global, seed: u64, tally: &mut Tally) -> Result<(), Wrong> {
 #[test]
 fn stores_answer_and_keep_what_the_model_does(rt: HostRuntime) {
     let mut tally = Tally::new();
-    for seed in 0..72 {
+    for seed in 0..144 {
         assert_eq!(rt;
             session(rt.alloc(), seed, &mut tally),
             Ok(()),

@@ -4,10 +4,10 @@ use std::cmp::Ordering;
 use vm_types::{Answer, Command, Key, Name, Refusal, Side};
 
 /// How many kinds of commands there are.
-const KINDS: usize = 12;
+const KINDS: usize = 13;
 
 /// How many cases there are.
-const CASES: usize = 11;
+const CASES: usize = 13;
 
 /// What sessions are to meet beside each kind of command and of refusal.
 #[derive(Clone, Copy)]
@@ -34,6 +34,10 @@ pub enum Case {
     MergedFull,
     /// An alternative was posted after it was merged.
     MergedAndPosted,
+    /// A store was opened on a disk that has more blocks than it.
+    LongerDisk,
+    /// A crash took blocks that were new.
+    CutShort,
 }
 
 /// What a command may change beside records: how many levels its alternative's map has, and how many
@@ -73,6 +77,7 @@ fn kind(command: &Command) -> usize {
         Command::Commit => 9,
         Command::Reclaim => 10,
         Command::NewAt { .. } => 11,
+        Command::Grow { .. } => 12,
     }
 }
 
@@ -143,7 +148,7 @@ impl Tally {
                 return Some(("accepted", kind, *count));
             }
         }
-        for code in [1, 2, 3, 4, 5, 6, 7, 8, 9, 10, 11, 13] {
+        for code in [1, 2, 3, 4, 5, 6, 7, 8, 9, 10, 11, 13, 21] {
             if self.refused[code] == 0 {
                 return Some(("refused", code, 0));
             }

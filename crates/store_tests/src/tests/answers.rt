@@ -57,7 +57,7 @@ fn records<D: Disk>(alloc: Global, store: &mut Store<D>, alt: &str) -> Given {
     };
     let mut text = String::new(alloc);
     for (key, value) in &list {
-        write!(text, " {key}={}", Shown(Some(*value)))?;
+        write!(text, " {key}={}", Shown(Value::new(value)))?;
     }
     Ok(Ok(text))
 }
@@ -133,6 +133,13 @@ fn free<D: Disk>(alloc: Global, store: &Store<D>) -> Given {
     }
 }
 
+fn blocks<D: Disk>(alloc: Global, store: &Store<D>) -> Given {
+    match store.blocks() {
+        Ok(count) => Ok(Ok(format!(in alloc; "{count}")?)),
+        Err(refusal) => Ok(Err(refusal)),
+    }
+}
+
 fn query<D: Disk>(alloc: Global, store: &mut Store<D>, words: &[&str]) -> Given {
     match words {
         ["get", alt, at] => value_at(alloc, store, alt, at),
@@ -143,6 +150,7 @@ fn query<D: Disk>(alloc: Global, store: &mut Store<D>, words: &[&str]) -> Given 
         ["alts"] => alternatives(alloc, store),
         ["checks", alt] => checkpoints(alloc, store, alt),
         ["free"] => free(alloc, store),
+        ["blocks"] => blocks(alloc, store),
         _ => Err(Wrong::Unreadable),
     }
 }

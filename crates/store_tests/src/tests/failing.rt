@@ -98,6 +98,7 @@ fn failed_store_has_no_count(rt: HostRuntime) {
         reclaim
         put top 7:1 pipe -> error 15 Device
         free -> error 17 Failed
+        blocks -> error 17 Failed
         reclaim -> error 17 Failed
         close
         calls -> 7";

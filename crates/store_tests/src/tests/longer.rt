@@ -20,7 +20,7 @@ fn a_longer_disk_shows_the_same_store(rt: HostRuntime) {
         list top -> 7:1=duct 7:2=pipe
         # Both records lie in one leaf, as the only block of 30.
         free -> 29";
-    with_room(&rt, &[DUCT, row]);
+    with_room(&rt, 80, &[DUCT, row]);
 }
 
 // The rest of a row, after a crash that left some of the new blocks.
@@ -45,7 +45,7 @@ fn a_crash_that_takes_new_blocks_shows_what_was_committed(rt: HostRuntime) {
         "short 79",
         "short 80 all=41",
     ] {
-        with_room(&rt, &[DUCT, "longer 80", crash, ONLY_DUCT]);
+        with_room(&rt, 80, &[DUCT, "longer 80", crash, ONLY_DUCT]);
     }
 }
 
@@ -59,5 +59,5 @@ fn a_disk_gets_no_longer_than_its_room(rt: HostRuntime) {
         longer 80
         longer 80
         longer 81 -> fault";
-    with_room(&rt, &[DUCT, row]);
+    with_room(&rt, 80, &[DUCT, row]);
 }

@@ -6,7 +6,7 @@
 //!
 //! | Step, while a store is open | Answer |
 //! |---|---|
-//! | `new`, `drop`, `put`, `remove`, `checkpoint`, `uncheck`, `back`, `merge`, `post`, `commit`, `reclaim` | `ok`, and `ok 1` of a merge |
+//! | `new`, `drop`, `put`, `remove`, `checkpoint`, `uncheck`, `back`, `merge`, `post`, `commit`, `reclaim`, `grow` | `ok`, and `ok 1` of a merge |
 //! | `puts top 1:1 17 v` | `ok`, where all of seventeen puts are answered so |
 //! | `checkpoints top 15` | the same of the checkpoints `k001` to `k015` |
 //! | `kept top 1:1 v 15` | the same, with a put before each |
@@ -18,7 +18,7 @@
 //! | `tally a` | `2 3 1 no`: records changed since the base, by the parent since then, in conflict, and whether it can be posted |
 //! | `alts` | `top a<top` |
 //! | `checks a` | `b c` |
-//! | `free` | `30` |
+//! | `free`, `blocks` | `30`: how many blocks are free, and how many the store has |
 //! | `close` | `ok` |
 //!
 //! | Step, while none is | Answer |
@@ -37,6 +37,8 @@
 //! | `cut 21` | the same, with so many blocks of it |
 //! | `longer 80` | `ok`, or `fault`: the disk is asked to have so many blocks |
 //! | `short 64`, `short 64 35=FF` | `ok`: the device is taken anew after a crash that leaves so many blocks, and may fill some |
+ghost use Rattle.std.specs.Prelude.{◌≤◌};
+
 use super::answers::{answer, refusal_text};
 use super::blocks::{cut, look, set_block, set_bytes};
 use super::over::OverMemory;
@@ -335,11 +337,13 @@ pub(super) fn in_memory<R: AllocGlobal + Abort>(rt: &R, texts: &[&str]) {
     plays_all::<MemDisk, R>(rt, "in memory", blank, texts);
 }
 
-/// The same on a blank disk of 64 blocks with room for 80, and once more over a cache.
-pub(super) fn with_room<R: AllocGlobal + Abort>(rt: &R, texts: &[&str]) {
-    let blank = MemDisk::with_room(rt.alloc(), 64, 80);
+/// The same on a blank disk of 64 blocks with room for so many, and once more over a cache.
+pub(super) fn with_room<R: AllocGlobal + Abort>(rt: &R, room: u32, texts: &[&str])
+    requires { 64 ≤ room }
+{
+    let blank = MemDisk::with_room(rt.alloc(), 64, room);
     plays_all::<MemDisk, R>(rt, "in memory", blank, texts);
-    let blank = MemDisk::with_room(rt.alloc(), 64, 80);
+    let blank = MemDisk::with_room(rt.alloc(), 64, room);
     plays_all::<CachedDisk<MemDisk>, R>(rt, "over a cache", blank, texts);
 }
 

@@ -121,6 +121,9 @@ pub(super) fn command(alloc: Global, words: &[&str]) -> Result<Option<Command>, 
         ["post", alt] => Command::Post { alt: name(alt)? },
         ["commit"] => Command::Commit,
         ["reclaim"] => Command::Reclaim,
+        ["grow", blocks] => Command::Grow {
+            blocks: number(blocks)?,
+        },
         _ => return Ok(None),
     };
     Ok(Some(command))

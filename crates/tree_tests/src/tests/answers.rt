@@ -7,12 +7,12 @@ use super::words::{Wrong, key, level, long, number};
 use std::alloc::Global;
 use vm_disk::Disk;
 use vm_tree::{TreeFault, data_at, get, is_data, leaf_at, node_at, scan};
-use vm_types::{Key, Value};
+use vm_types::Key;
 
 // Adds a record to a text.
-fn add_record(text: &mut String, record: (Key, Value)) -> Result<(), Wrong> {
-    let value = str::from_utf8(record.1.as_bytes()).map_err(|_| Wrong::Unreadable)?;
-    write!(text, " {}={value}", record.0.number)?;
+fn add_record(text: &mut String, key: Key, value: &[u8]) -> Result<(), Wrong> {
+    let value = str::from_utf8(value).map_err(|_| Wrong::Unreadable)?;
+    write!(text, " {}={value}", key.number)?;
     Ok(())
 }
 
@@ -32,8 +32,8 @@ fn listed(alloc: Global, bench: &mut Bench) -> Result<String, Wrong> {
     let blocks = bench.disk.blocks();
     let records = scan(alloc, &mut bench.disk, blocks, bench.root)?;
     let mut text = String::new(alloc);
-    for record in &records {
-        add_record(&mut text, *record)?;
+    for (key, value) in &records {
+        add_record(&mut text, key, value)?;
     }
     Ok(text)
 }
@@ -43,8 +43,8 @@ fn leaf_text(alloc: Global, bench: &mut Bench, block: u32) -> Result<String, Wro
     let blocks = bench.disk.blocks();
     let records = leaf_at(&mut bench.disk, blocks, block)?;
     let mut text = String::new(alloc);
-    for record in records.as_slice() {
-        add_record(&mut text, *record)?;
+    for (key, value) in records.as_slice() {
+        add_record(&mut text, *key, value.as_bytes())?;
     }
     Ok(text)
 }

@@ -238,7 +238,7 @@ impl Pair {
             return Err(Wrong::Records(changes));
         }
         for ((found, value), (number, due)) in records.iter().zip(self.plain.iter()) {
-            if *found != key(*number) || value != due {
+            if found != key(*number) || value != due.as_bytes() {
                 return Err(Wrong::Records(changes));
             }
         }

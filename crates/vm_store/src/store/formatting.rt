@@ -5,9 +5,9 @@ ghost use Rattle.vm_disk.specs.Moments.{Throughout, Leaves};
 ghost use Rattle.vm_block.specs.Header.{IsHeader};
 ghost use Rattle.vm_store.specs.Formatting.{IsBadSize, IsFormatted, IsFormatting, IsLaidOut, fresh_entry, given_back};
 ghost use Rattle.vm_store.specs.Refused.{IsAtMostSynced, IsSynced};
-ghost use Rattle.vm_store.specs.Shown.{ShowsAtMostFresh};
+ghost use Rattle.vm_store.specs.Shown.{ShowsAtMostNew};
 
-use vm_block::{Entry, Kind, read_header, write_header};
+use vm_block::{Entry, Kind, is_header, write_header};
 use vm_catalog::{select_slot, write_slot};
 use vm_disk::{DeviceFault, Disk};
 use vm_types::{Name, Refusal};
@@ -16,7 +16,7 @@ use vm_types::{Name, Refusal};
 const LEAST_BLOCKS: u32 = 64;
 
 /// How many blocks a store has at most.
-const MOST_BLOCKS: u32 = 1_048_576;
+pub(super) const MOST_BLOCKS: u32 = 1_048_576;
 
 // The one entry of a new store.
 fn fresh_entry() -> Entry
@@ -52,7 +52,7 @@ fn has_header<D: Disk>(disk: &mut D) -> Result<bool, DeviceFault>
     let Ok(()) = disk.read(0, &mut block) else {
         return Err(DeviceFault);
     };
-    Ok(read_header(&block).is_some())
+    Ok(is_header(&block))
 }
 
 // Writes slot A with `top` alone, and the selector that names it, and syncs.
@@ -63,7 +63,7 @@ fn lay_out<D: Disk>(disk: &mut D, blocks: u32) -> Result<(), DeviceFault>
     ensures any { Goes (IsErr result) (D.state disk.old) (D.state disk.new) }
     ensures moments { (D.state disk.new).honest ≡ true → IsClean (D.state disk.old).now
         → (IsHeader (block (D.state disk.old).now.contents 0) → ⊥)
-        → Throughout (D.state disk.old) (D.state disk.new) (Leaves ShowsAtMostFresh) }
+        → Throughout (D.state disk.old) (D.state disk.new) (Leaves (ShowsAtMostNew blocks)) }
     ensures laid { (D.state disk.new).honest ≡ true
         → OnOk result (IsLaidOut blocks (D.state disk.new).now) }
 {
@@ -82,7 +82,7 @@ fn put_header<D: Disk>(disk: &mut D) -> Result<(), DeviceFault>
     ensures any { Goes (IsErr result) (D.state disk.old) (D.state disk.new) }
     ensures moments { (D.state disk.new).honest ≡ true → (blocks : ℕ)
         → IsLaidOut blocks (D.state disk.old).now
-        → Throughout (D.state disk.old) (D.state disk.new) (Leaves ShowsAtMostFresh) }
+        → Throughout (D.state disk.old) (D.state disk.new) (Leaves (ShowsAtMostNew blocks)) }
     ensures formatted { (D.state disk.new).honest ≡ true → (blocks : ℕ)
         → IsLaidOut blocks (D.state disk.old).now → blocks ≤ (D.state disk.old).blocks
         → OnOk result (IsFormatted blocks (D.state disk.new).now) }
@@ -110,7 +110,7 @@ fn make_store<D: Disk>(disk: &mut D, blocks: u32) -> Result<(), Refusal>
     ensures formatted { (D.state disk.new).honest ≡ true
         → OnOk result (IsFormatted blocks (D.state disk.new).now) }
     ensures moments { (D.state disk.new).honest ≡ true
-        → Throughout (D.state disk.old) (D.state disk.new) (IsFormatting (D.state disk.old).now) }
+        → Throughout (D.state disk.old) (D.state disk.new) (IsFormatting blocks (D.state disk.old).now) }
 {
     match has_header(disk) {
         Ok(true) => return Err(Refusal::AlreadyAStore),
@@ -150,7 +150,7 @@ pub fn format<D: Disk>(mut disk: D, blocks: u32) -> Result<D, (D, Refusal)>
     ensures formatted { (D.state (given_back result)).honest ≡ true
         → OnOk result (IsFormatted blocks (D.state (given_back result)).now) }
     ensures moments { (D.state (given_back result)).honest ≡ true
-        → Throughout (D.state disk) (D.state (given_back result)) (IsFormatting (D.state disk).now) }
+        → Throughout (D.state disk) (D.state (given_back result)) (IsFormatting blocks (D.state disk).now) }
 {
     if blocks < LEAST_BLOCKS || blocks > MOST_BLOCKS || blocks > disk.blocks() {
         return Err((disk, Refusal::BadSize));

@@ -1,5 +1,5 @@
 //! Opening a store.
-ghost use Rattle.std.specs.Prelude.{◌≡◌, ◌≢◌, ℕ, ◌*◌, ◌≤◌, true, false, List, length, vec_capacity, IfOk, IfErr, OnOk, IsErrAnd, IfSome};
+ghost use Rattle.std.specs.Prelude.{◌≡◌, ◌≢◌, ◌*◌, ◌≤◌, length, true, false, vec_capacity, IfOk, IfErr, OnOk, IsErrAnd, IfSome};
 ghost use Rattle.vm_disk.specs.Disk.{Goes, IsClean, block};
 ghost use Rattle.vm_disk.specs.Moments.{Throughout, OnlyReads};
 ghost use Rattle.vm_block.specs.Selector.{names_b};
@@ -9,17 +9,17 @@ ghost use Rattle.vm_store.specs.Refused.{IsAtMostSynced, IsSynced, IsRefused, Is
 ghost use Rattle.vm_store.specs.Shown.{ShowsNothing};
 ghost use Rattle.vm_store.specs.Opening.{OpensAs, PartsHold, disk_in};
 ghost use Rattle.vm_store.specs.Store.{has_failed};
-ghost use Rattle.vm_store.specs.Versions.{versions_of};
+ghost use Rattle.vm_store.specs.Versions.{numbers_of, versions_of};
 
 use super::Store;
 use super::parts::Parts;
 use crate::faults::refusal_of;
-use crate::versions::{Version, add_versions, copy_versions, root_numbers};
+use crate::versions::Versions;
 use crate::{FAN, LEAF, LEVELS};
 use std::alloc::Global;
 use vm_alloc::Held;
 use vm_block::Entry;
-use vm_catalog::{LoadFault, MAX_ENTRIES, Slot, first_block, load, slot_in_use};
+use vm_catalog::{LoadFault, Slot, first_block, load, slot_in_use};
 use vm_check::verify;
 use vm_disk::Disk;
 use vm_tree::Root;
@@ -83,28 +83,33 @@ fn load_slot<D: Disk>(alloc: Global, disk: &mut D, slot_b: bool) -> Result<Slot,
     }
 }
 
-// The versions of entries whose roots these are, and the same again.
-fn versions_twice(
-    alloc: Global,
-    entries: &[Entry],
-    roots: &[Root],
-) -> Option<(Vec<Version>, Vec<Version>)>
+// The blocks of the roots of entries, in their order, current before base: none where no memory was
+// found for them.
+fn root_numbers(alloc: Global, entries: &[Entry]) -> Option<Vec<u32>>
+    ensures { IfSome result (λ numbers. numbers.items ≡ numbers_of entries.now) }
+{
+    let mut numbers = Vec::new(alloc);
+    for entry in entries {
+        let Ok(()) = numbers.extend_from_slice(&[entry.current, entry.base]) else {
+            return None;
+        };
+    }
+    Some(numbers)
+}
+
+// The versions of entries whose roots these are, and the same again: none where no memory was found for them.
+fn versions_twice(alloc: Global, entries: &[Entry], roots: &[Root]) -> Option<(Versions, Versions)>
     requires few { length entries.now ≤ 511 }
     requires roots { length roots.now ≡ 2 * length entries.now }
-    ensures items { IfSome result
-        (λ pair. (pair.0.items ≡ versions_of entries.now roots.now)
-        × (pair.1.items ≡ versions_of entries.now roots.now)) }
-    ensures room { IfSome result (λ pair. (511 ≤ vec_capacity pair.0)
-        × (511 ≤ vec_capacity pair.1)) }
+    ensures { IfSome result (λ pair. (pair.0 ≡ versions_of entries.now roots.now)
+        × (pair.1 ≡ versions_of entries.now roots.now)) }
 {
-    let (Ok(mut committed), Ok(mut working)) = (
-        Vec::with_capacity(alloc, MAX_ENTRIES),
-        Vec::with_capacity(alloc, MAX_ENTRIES),
+    let (Ok(committed), Ok(working)) = (
+        Versions::of_entries(alloc, entries, roots),
+        Versions::of_entries(alloc, entries, roots),
     ) else {
         return None;
     };
-    add_versions(&mut committed, entries, roots);
-    copy_versions(&mut working, &committed);
     Some((committed, working))
 }
 

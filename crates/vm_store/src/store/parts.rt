@@ -1,7 +1,7 @@
 //! A store without its disk.
 ghost use Rattle.std.specs.Prelude.{◌≡◌, ◌<◌, ◌≤◌, ◌^◌, length, vec_capacity};
 
-use crate::versions::Version;
+use crate::versions::Versions;
 use vm_alloc::{Held, Marks};
 use vm_block::Entry;
 
@@ -11,16 +11,13 @@ pub struct Parts {
     pub blocks: u32,
     pub slot_b: bool,
     pub entries: Vec<Entry>,
-    pub committed: Vec<Version>,
-    pub working: Vec<Version>,
+    pub committed: Versions,
+    pub working: Versions,
     pub held: Held,
     pub marks: Marks,
     ghost least: { 64 ≤ blocks },
     ghost most: { blocks ≤ 2 ^ 20 },
     ghost bits: { length held ≡ blocks },
     ghost mark_bits: { length marks ≡ blocks },
-    ghost few: { length working.items ≤ 511 },
     ghost room_entries: { 511 ≤ vec_capacity entries },
-    ghost room: { 511 ≤ vec_capacity committed },
-    ghost room_working: { 511 ≤ vec_capacity working },
 }

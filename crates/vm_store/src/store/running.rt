@@ -26,7 +26,7 @@ pub enum Stop {
 }
 
 impl<D: Disk> Store<D> {
-    ghost use Rattle.vm_store.specs.Store.{disk_of, has_failed, Holds, IsHonest, GoesOn};
+    ghost use Rattle.vm_store.specs.Store.{disk_of, has_failed, Holds, IsHonest, GrowsOn};
 
     /// Carries out commands in order, up to one that the device fails. The list of answers is reserved
     /// whole before the first command.
@@ -36,7 +36,7 @@ impl<D: Disk> Store<D> {
         commands: &[Command],
     ) -> (Vec<Result<Answer, Refusal>>, Option<Stop>)
         // On any disk.
-        ensures any { GoesOn (result.1 ≡ Some Stop.Device) self.old self.new }
+        ensures any { GrowsOn (result.1 ≡ Some Stop.Device) self.old self.new }
         ensures failed { has_failed self.old ≡ true
             → (result.1 ≡ Some Stop.Failed) × (result.0.items ≡ []) × (self.new ≡ self.old) }
         ensures only_then { has_failed self.old ≡ false → result.1 ≢ Some Stop.Failed }

@@ -1,7 +1,7 @@
 use Rattle.std.proofs.Common.{◌≡◌, ◌+◌, ◌≤◌, true, vec_capacity}
 use Rattle.vm_disk.specs.Moments.{OnlyReads}
 use Rattle.vm_catalog.specs.Place.{blocks_from, slot_at}
-use Rattle.vm_catalog.specs.Reading.{FitsSoFar, Begins}
+use Rattle.vm_catalog.specs.Reading.{FitsSoFar, BeginsSlot}
 use Rattle.vm_catalog.proofs.reader.read_others.Given as goal
 
 -- the blocks so far were read, and their entries fit
@@ -16,5 +16,5 @@ invariant-loop-index g l =
       reads : now.honest ≡ true → OnlyReads old now;
       room : vec_capacity l.entries ≡ vec_capacity l.fn.entries;
       fits : FitsSoFar l.head.blocks l.head.entries l.index l.entries.items;
-      found : now.honest ≡ true → Begins (blocks_from old.now.contents (slot_at l.slot_b) l.index) l.head.blocks l.head.entries l.entries.items;
+      found : now.honest ≡ true → BeginsSlot (blocks_from old.now.contents (slot_at l.slot_b) l.index) l.head.blocks l.head.entries l.entries.items;
     }

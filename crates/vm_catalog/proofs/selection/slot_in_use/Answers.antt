@@ -1,12 +1,11 @@
-use Rattle.std.proofs.Common.{◌∙◌}
 use Rattle.vm_disk.proofs.MomentLemmas.{read_once, reads_then}
 use Rattle.vm_catalog.proofs.selection.slot_in_use.Goals as goal
 
 pub returns-in_err-read-clause-reads : goal.returns-in_err-read-clause-reads
 returns-in_err-read-clause-reads g c honest = read_once _ _ _ _ _ (c.read.ensures.honest honest)
 
-pub returns-then-is_none-clause-reads : goal.returns-then-is_none-clause-reads
-returns-then-is_none-clause-reads g c honest = read_once _ _ _ _ _ (c.read.ensures.honest honest)
+pub returns-then-not-is_header-clause-reads : goal.returns-then-not-is_header-clause-reads
+returns-then-not-is_header-clause-reads g c honest = read_once _ _ _ _ _ (c.read.ensures.honest honest)
 
 pub returns-in_err-read-2-clause-reads : goal.returns-in_err-read-2-clause-reads
 returns-in_err-read-2-clause-reads g c honest =

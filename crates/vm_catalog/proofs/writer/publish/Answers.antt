@@ -1,4 +1,3 @@
-use Rattle.std.proofs.Common.{◌∙◌}
 use Rattle.vm_disk.proofs.MomentLemmas.{goes_on, weaken, at_end, sync_spares}
 use Rattle.vm_catalog.proofs.PublishLemmas.{before_selector, at_selector, ready_by, ends_published, ends_safely, left_by_publish}
 use Rattle.vm_catalog.proofs.writer.publish.Goals as goal

@@ -1,5 +1,5 @@
 use Rattle.std.proofs.Common.{◌≡◌, ◌≤◌, true, length, take}
-use Rattle.vm_disk.specs.Moments.{Throughout, Spares}
+use Rattle.vm_disk.specs.Moments.{Throughout, TouchesOnly}
 use Rattle.vm_block.specs.Slot.{used_blocks}
 use Rattle.vm_catalog.specs.Place.{blocks_from, region, slot_at}
 use Rattle.vm_catalog.specs.Written.{slot_blocks}
@@ -14,5 +14,5 @@ invariant-loop-index g l =
       earlier : now.honest ≡ true → old.honest ≡ true;
       rising : old.failures ≤ now.failures;
       written : now.honest ≡ true → blocks_from now.now.contents (slot_at l.slot_b) l.index ≡ take l.index (slot_blocks l.blocks l.entries);
-      moments : now.honest ≡ true → Throughout old now (Spares (region (slot_at l.slot_b) (used_blocks (length l.entries))) old.now);
+      moments : now.honest ≡ true → Throughout old now (TouchesOnly (region (slot_at l.slot_b) (used_blocks (length l.entries))) old.now);
     }

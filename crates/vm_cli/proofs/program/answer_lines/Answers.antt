@@ -1,7 +1,7 @@
 use Rattle.std.proofs.Common.{inl, refl, subst, sym}
 use Rattle.vm_types.specs.State.{opened}
-use Rattle.vm_types.specs.Tree.{fresh}
-use Rattle.vm_disk.specs.Disk.{Goes}
+use Rattle.vm_store.specs.Growing.{Grows}
+use Rattle.vm_store.specs.Shown.{new_store}
 use Rattle.vm_cli.proofs.PassLemmas.{goes_any}
 use Rattle.vm_cli.proofs.SessionLemmas.{may_end, session_kept}
 use Rattle.vm_cli.proofs.program.answer_lines.Goals as goal
@@ -18,7 +18,7 @@ returns-in-Ok-clause-served g c =
       last = last;
       served = c.serve-served.result;
       found = goes_any _ _ _ c.in-Ok.ensures.any;
-      goes = subst (λ d. Goes ⊥ (g.D.Disk.state first.disk) (g.D.Disk.state d)) (sym given) goes;
+      goes = subst (λ d. Grows ⊥ (g.D.Disk.state first.disk) (g.D.Disk.state d)) (sym given) goes;
       well = c.in-Ok.ensures.well;
       opens = λ honest. c.in-Ok.ensures.opened honest;
       serves = c.serve-served.ensures.answers;
@@ -34,4 +34,4 @@ pub returns-in-Ok-clause-ends : goal.returns-in-Ok-clause-ends
 returns-in-Ok-clause-ends g c =
     let first = c.in-Ok.store in
     let last = c.serve-served.new.store in
-    inl (refl, rw c.end_of.ensures (may_end first last (opened fresh) c.args.on_refusal c.serve-served.result _ _ _ (c.serve-served.ensures.answers (opened fresh))))
+    inl (refl, rw c.end_of.ensures (may_end first last (opened (new_store 64)) c.args.on_refusal c.serve-served.result _ _ _ (c.serve-served.ensures.answers (opened (new_store 64)))))

@@ -8,16 +8,16 @@ use Rattle.vm_cli.proofs.program.run_words.Goals as goal
 pub returns-in_default : goal.returns-in_default
 returns-in_default g c =
     let words = map string_bytes c.args.words.now in
-    let exit = c.carry_out.result in
+    let exit = c.do_job.result in
     let status : c.status.result ≡ status_of exit = search rules in
     let goes_on : exit ≢ Stopped = search rules in
-    let ends = c.carry_out.ensures.ends in
+    let ends = c.do_job.ensures.ends in
     record {
       status = rw status (small_status exit);
-      done = λ is. subst (λ e. Ends g.W.Write.contents g.F.Write.contents e words c.args.output.now c.carry_out.new.output c.args.faults.now c.carry_out.new.faults) (is_done exit (sym status ∙ is)) ends;
-      refused = λ is. subst (λ e. Ends g.W.Write.contents g.F.Write.contents e words c.args.output.now c.carry_out.new.output c.args.faults.now c.carry_out.new.faults) (is_refused exit (sym status ∙ is)) ends;
-      wrong = λ is. subst (λ e. Ends g.W.Write.contents g.F.Write.contents e words c.args.output.now c.carry_out.new.output c.args.faults.now c.carry_out.new.faults) (is_wrong exit (sym status ∙ is)) ends;
+      done = λ is. subst (λ e. Ends g.W.Write.contents g.F.Write.contents e words c.args.output.now c.do_job.new.output c.args.errors.now c.do_job.new.errors) (is_done exit (sym status ∙ is)) ends;
+      refused = λ is. subst (λ e. Ends g.W.Write.contents g.F.Write.contents e words c.args.output.now c.do_job.new.output c.args.errors.now c.do_job.new.errors) (is_refused exit (sym status ∙ is)) ends;
+      wrong = λ is. subst (λ e. Ends g.W.Write.contents g.F.Write.contents e words c.args.output.now c.do_job.new.output c.args.errors.now c.do_job.new.errors) (is_wrong exit (sym status ∙ is)) ends;
       stopped = λ is. absurd (goes_on (is_stopped exit (sym status ∙ is)));
-      line_refused = λ is. subst (λ e. Ends g.W.Write.contents g.F.Write.contents e words c.args.output.now c.carry_out.new.output c.args.faults.now c.carry_out.new.faults) (is_line_refused exit (sym status ∙ is)) ends;
-      files = λ honest. (exit, c.carry_out.new.faults, status, (λ going. refl), c.carry_out.ensures.files honest);
+      line_refused = λ is. subst (λ e. Ends g.W.Write.contents g.F.Write.contents e words c.args.output.now c.do_job.new.output c.args.errors.now c.do_job.new.errors) (is_line_refused exit (sym status ∙ is)) ends;
+      files = λ honest. (exit, c.do_job.new.errors, status, (λ going. refl), c.do_job.ensures.files honest);
     }

@@ -1,7 +1,7 @@
 use Rattle.std.proofs.Common.{subst}
 use Rattle.std.proofs.lemmas.Result.{on_err_weaker}
 use Rattle.std.specs.Io.KnownBytes.{Appends}
-use Rattle.vm_cli.specs.Carried.{Begins}
+use Rattle.vm_cli.specs.Carried.{WritesStart}
 use Rattle.vm_cli.proofs.CarriedLemmas.{begins-cut, begins-more, on_err}
 use Rattle.vm_cli.proofs.ExitLemmas.{file_first, file_then}
 use Rattle.vm_cli.proofs.program.say_with_file.Goals as goal
@@ -19,7 +19,7 @@ returns-in_err-put_all-2-clause-err g c =
     let between = g.W.Write.contents c.put_all.new.writer in
     let after = g.W.Write.contents c.put_all-2.new.writer in
     let cut = begins-cut between after _ c.in_err-put_all-2.ensures.err.0 c.in_err-put_all-2.ensures.err.1 in
-    let named : Begins between after c.args.file.now = subst (Begins between after) c.as_bytes.ensures.value cut in
+    let named : WritesStart between after c.args.file.now = subst (WritesStart between after) c.as_bytes.ensures.value cut in
     on_err c.from_residual-in_err-put_all-2.result
     (file_then before between after c.args.what.now _ c.in_ok-put_all.ensures.ok (begins-more between after c.args.file.now _ named))
 

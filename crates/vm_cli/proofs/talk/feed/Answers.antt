@@ -4,14 +4,14 @@ use Rattle.vm_cli.specs.Lines.{lines_of}
 use Rattle.vm_cli.specs.Talk.{ServesLines}
 use Rattle.vm_cli.proofs.FeedLemmas.{ended-join, fed-join, fed-nothing, fed-part, line_is, line_split, or-false, part_before, whole_part}
 use Rattle.vm_cli.proofs.Known.{split_more}
-use Rattle.vm_cli.proofs.PassLemmas.{ends_later, goes_both, goes_none, left_again}
+use Rattle.vm_cli.proofs.PassLemmas.{ends_later, grows_both, grows_none, left_again}
 use Rattle.vm_cli.proofs.talk.feed.Goals as goal
 
 pub loop-end-init : goal.loop-end-init
 loop-end-init g c = record {
   done = [];
   split = refl;
-  goes = goes_none _;
+  goes = grows_none _;
   sound = λ sound. sound;
   left = λ failed. refl;
   fed = λ s from h. (from, h, fed-nothing c.args.store.now s c.args.on_refusal from _);
@@ -26,7 +26,7 @@ pub extend-requires : goal.extend-requires
 extend-requires g c = whole_part c.loop-end.rest.now c.memchr.result c.memchr.ensures (search rules)
 
 pub returns-in-Err-clause-goes : goal.returns-in-Err-clause-goes
-returns-in-Err-clause-goes g c = goes_both _ _ _ c.loop-end.invariant.goes c.in-Err.ensures.goes
+returns-in-Err-clause-goes g c = grows_both _ _ _ c.loop-end.invariant.goes c.in-Err.ensures.goes
 
 pub returns-in-Err-clause-err : goal.returns-in-Err-clause-err
 returns-in-Err-clause-err g c sound =
@@ -64,7 +64,7 @@ loop-end-preserved g c =
     record {
       done = so_far.done ++ take (c.in-Some.end + 1) c.loop-end.rest.now;
       split = split_more c.args.bytes.now so_far.done c.loop-end.rest.now (c.in-Some.end + 1) so_far.split;
-      goes = goes_both _ _ _ so_far.goes c.in-Ok.ensures.goes;
+      goes = grows_both _ _ _ so_far.goes c.in-Ok.ensures.goes;
       sound = λ sound. c.in-Ok.ensures.ok (so_far.sound sound);
       left = left_again old mid new so_far.left c.in-Ok.ensures.left;
       fed = λ s from h.

@@ -1,9 +1,8 @@
 use Rattle.std.proofs.Common.{◌≡◌, ◌++◌, ℕ, List, true, false, length}
-use Rattle.vm_disk.specs.Disk.{Goes}
 use Rattle.vm_types.specs.State.{State}
-use Rattle.vm_store.specs.Store.{disk_of, has_failed}
+use Rattle.vm_store.specs.Store.{GrowsOn, has_failed}
 use Rattle.vm_cli.specs.Feeding.{Fed}
-use Rattle.vm_cli.specs.Reading.{Holds as HoldsLine}
+use Rattle.vm_cli.specs.Reading.{HoldsLine}
 use Rattle.vm_cli.proofs.talk.feed.Given as goal
 
 -- the bytes so far were fed
@@ -11,7 +10,7 @@ abbrev pub invariant-loop-end : goal.invariant-loop-end
 invariant-loop-end g l = record {
   done : List ℕ;
   split : l.fn.bytes ≡ done ++ l.rest;
-  goes : Goes ⊥ (g.D.Disk.state (disk_of l.fn.store)) (g.D.Disk.state (disk_of l.store));
+  goes : GrowsOn ⊥ l.fn.store l.store;
   sound : has_failed l.fn.store ≡ false → has_failed l.store ≡ false;
   left : has_failed l.fn.store ≡ true → l.store ≡ l.fn.store;
   fed : (s : State) → (from : List ℕ) → HoldsLine l.fn.line from

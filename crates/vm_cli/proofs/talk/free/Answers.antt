@@ -1,6 +1,6 @@
 use Rattle.std.proofs.Common.{refl}
 use Rattle.vm_store.specs.Store.{has_failed}
-use Rattle.vm_cli.specs.declared.request.Request.TheVariants as request
+use Rattle.vm_cli.specs.declared.lines.request.Request.TheVariants as request
 use Rattle.vm_cli.proofs.HandledLemmas.{refusal_handled, told}
 use Rattle.vm_cli.proofs.PassLemmas.{passes_none}
 use Rattle.vm_cli.proofs.TalkLemmas.{was_sound}
@@ -20,7 +20,7 @@ returns-in-Err-clause-answer g c s =
     let said = c.in-Err.ensures in
     let refusal = c.in-Err.refusal in
     refusal_handled store store s request.Free (passes_none store) refl (λ failed. refl) (λ stood. stood.holds)
-    refusal c.refused.result c.refused.ensures.text c.refused.ensures.last c.refused.ensures.failed (λ failed. let e = said.failed failed in cc)
+    refusal c.from_refusal.result c.from_refusal.ensures.text c.from_refusal.ensures.last c.from_refusal.ensures.failed (λ failed. let e = said.failed failed in cc)
     (λ sound is. let counted = said.counted sound in cc)
     (λ text ends is last. (is, last))
     (λ sound. let counted = said.counted sound in absurd cc)

@@ -2,7 +2,7 @@ use Rattle.std.proofs.Common.{Ok, Err, ap, refl, ◌∙◌}
 use Rattle.vm_types.specs.Queries.{value_in}
 use Rattle.vm_store.specs.Store.{has_failed}
 use Rattle.vm_cli.specs.Talk.{Failing}
-use Rattle.vm_cli.specs.declared.request.Request.TheVariants as request
+use Rattle.vm_cli.specs.declared.lines.request.Request.TheVariants as request
 use Rattle.vm_cli.proofs.HandledLemmas.{refusal_handled, told}
 use Rattle.vm_cli.proofs.PassLemmas.{goes_any, passes_reads}
 use Rattle.vm_cli.proofs.TalkLemmas.{says_value, was_sound}
@@ -33,11 +33,11 @@ returns-in-Err g c =
     record {
       goes = goes_any _ _ _ said.any;
       failed = said.failed;
-      last = λ sound. c.refused.ensures.last (λ is. said.only_then sound (ap Err is));
+      last = λ sound. c.from_refusal.ensures.last (λ is. said.only_then sound (ap Err is));
       left = said.no_calls;
       answer = λ s.
           refusal_handled old new s (request.Get c.args.alt.now c.args.key) (passes_reads old new (goes_any _ _ _ said.any) said.reads said.unchanged) said.failed said.no_calls (λ stood. said.state stood.honest s stood.holds)
-          refusal c.refused.result c.refused.ensures.text c.refused.ensures.last c.refused.ensures.failed (λ failed. let e = said.refused failed in cc) (λ sound is. said.only_then sound (ap Err is))
+          refusal c.from_refusal.result c.from_refusal.ensures.text c.from_refusal.ensures.last c.from_refusal.ensures.failed (λ failed. let e = said.refused failed in cc) (λ sound is. said.only_then sound (ap Err is))
           (λ text ends is last. (is, last))
-          (λ sound. (refl, said.failed ∙ sound, λ stood. says_value (Failing old new) (value_in s.working c.args.alt.now c.args.key) (Err refusal) _ said.any.fault c.refused.ensures.text (said.value stood.honest sound s stood.holds)));
+          (λ sound. (refl, said.failed ∙ sound, λ stood. says_value (Failing old new) (value_in s.working c.args.alt.now c.args.key) (Err refusal) _ said.any.fault c.from_refusal.ensures.text (said.value stood.honest sound s stood.holds)));
     }

@@ -1,6 +1,6 @@
 use Rattle.vm_types.specs.declared.refusal.Refusal.TheVariants.{Memory}
 use Rattle.vm_cli.specs.Talk.{HandlesLine}
-use Rattle.vm_cli.specs.declared.reply.Reply.TheVariants as reply
+use Rattle.vm_cli.specs.declared.answers.reply.Reply.TheVariants as reply
 use Rattle.vm_cli.proofs.HandledLemmas.{kept_handled, long_handled, memory_handled, replied_whole}
 use Rattle.vm_cli.proofs.talk.reply_to.Goals as goal
 

@@ -1,6 +1,6 @@
 use Rattle.std.proofs.Common.{subst, ◌∙◌}
 use Rattle.std.specs.Io.KnownBytes.{Appends}
-use Rattle.vm_cli.specs.Carried.{Begins}
+use Rattle.vm_cli.specs.Carried.{WritesStart}
 use Rattle.vm_cli.proofs.CarriedLemmas.{begins-cut, begins-whole, on_err, on_ok}
 use Rattle.vm_cli.proofs.Known.{Appends-kept}
 use Rattle.vm_cli.proofs.talk.send.Goals as goal
@@ -10,7 +10,7 @@ returns-in_err-put_all-clause-err g c =
     let before = g.W.Write.contents c.args.writer.now in
     let after = g.W.Write.contents c.put_all.new.writer in
     let cut = begins-cut before after _ c.in_err-put_all.ensures.err.0 c.in_err-put_all.ensures.err.1 in
-    on_err c.from_residual.result (subst (Begins before after) (c.as_bytes.ensures ∙ c.push_onto.ensures) cut)
+    on_err c.from_residual.result (subst (WritesStart before after) (c.as_bytes.ensures ∙ c.push_onto.ensures) cut)
 
 pub returns-clause-ok : goal.returns-clause-ok
 returns-clause-ok g c =

@@ -1,13 +1,13 @@
 use Rattle.std.proofs.Common.{◌≡◌, ◌∙◌, [], Ok, Err, refl, sym, arith, rules}
 use Rattle.std.proofs.KnownBytes.{Consumes-nil, Consumes-trans}
 use Rattle.vm_cli.proofs.FeedLemmas.{ended-join, fed-join, fed-nothing}
-use Rattle.vm_cli.proofs.PassLemmas.{ends_later, ends_store, goes_both, goes_none, left_again}
+use Rattle.vm_cli.proofs.PassLemmas.{ends_later, ends_store, grows_both, grows_none, left_again}
 use Rattle.vm_cli.proofs.ServeLemmas.{read-all, serves-all, serves-last, serves-read, serves-some}
 use Rattle.vm_cli.proofs.talk.serve.Goals as goal
 
 pub loop-init : goal.loop-init
 loop-init g c = record {
-  goes = goes_none _;
+  goes = grows_none _;
   sound = λ sound. sound;
   left = λ failed. refl;
   bytes = [];
@@ -36,7 +36,7 @@ returns-then-line-clause-answers g c s =
     serves-all c.args.store.now c.loop.store s c.args.on_refusal c.loop.refused so_far.bytes p.0 before now p.2 _ (read-all _ _ _ so_far.bytes _ c.in-Ok-eq0.field-0 so_far.read more.0 none (more.1 none (search rules))) (sym p.1.empty ∙ c.if-line.true)
 
 pub returns-in-Ok-answer-clause-goes : goal.returns-in-Ok-answer-clause-goes
-returns-in-Ok-answer-clause-goes g c = goes_both _ _ _ c.loop.invariant.goes c.in-Ok-answer.ensures.goes
+returns-in-Ok-answer-clause-goes g c = grows_both _ _ _ c.loop.invariant.goes c.in-Ok-answer.ensures.goes
 
 pub returns-in-Ok-answer-clause-left : goal.returns-in-Ok-answer-clause-left
 returns-in-Ok-answer-clause-left g c = left_again c.args.store.now c.loop.store c.answer.new.store c.loop.invariant.left c.in-Ok-answer.ensures.left
@@ -55,7 +55,7 @@ returns-in-Ok-answer-clause-answers g c s =
     (read-all _ _ _ so_far.bytes _ c.in-Ok-eq0.field-0 so_far.read more.0 none (more.1 none (search rules))) p.1.unbroken (sym p.1.empty ∙ c.if-line.false) w
 
 pub returns-in-Err-answer-clause-goes : goal.returns-in-Err-answer-clause-goes
-returns-in-Err-answer-clause-goes g c = goes_both _ _ _ c.loop.invariant.goes c.in-Err-answer.ensures.goes
+returns-in-Err-answer-clause-goes g c = grows_both _ _ _ c.loop.invariant.goes c.in-Err-answer.ensures.goes
 
 pub returns-in-Err-answer-clause-left : goal.returns-in-Err-answer-clause-left
 returns-in-Err-answer-clause-left g c = left_again c.args.store.now c.loop.store c.answer.new.store c.loop.invariant.left c.in-Err-answer.ensures.left
@@ -79,7 +79,7 @@ returns-in-Err-answer-clause-err g c sound =
     (ends_later c.args.store.now c.loop.store c.answer.new.store c.in-Err-answer.fault c.loop.invariant.goes (c.in-Err-answer.ensures.err (c.loop.invariant.sound sound)))
 
 pub returns-in-Err-feed-clause-goes : goal.returns-in-Err-feed-clause-goes
-returns-in-Err-feed-clause-goes g c = goes_both _ _ _ c.loop.invariant.goes c.in-Err-feed.ensures.goes
+returns-in-Err-feed-clause-goes g c = grows_both _ _ _ c.loop.invariant.goes c.in-Err-feed.ensures.goes
 
 pub returns-in-Err-feed-clause-err : goal.returns-in-Err-feed-clause-err
 returns-in-Err-feed-clause-err g c sound =
@@ -126,7 +126,7 @@ loop-preserved g c =
     let before = g.W.Write.contents c.args.writer.now in
     let now = g.W.Write.contents c.feed.new.writer in
     record {
-      goes = goes_both _ _ _ so_far.goes c.in-Ok-feed.ensures.goes;
+      goes = grows_both _ _ _ so_far.goes c.in-Ok-feed.ensures.goes;
       sound = λ sound. c.in-Ok-feed.ensures.ok (so_far.sound sound);
       left = left_again old mid new so_far.left c.in-Ok-feed.ensures.left;
       bytes = _;

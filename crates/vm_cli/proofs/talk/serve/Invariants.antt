@@ -1,16 +1,15 @@
 use Rattle.std.proofs.Common.{◌≡◌, ℕ, List, [], true, false}
 use Rattle.std.specs.Io.KnownBytes.{Consumes}
-use Rattle.vm_disk.specs.Disk.{Goes}
 use Rattle.vm_types.specs.State.{State}
-use Rattle.vm_store.specs.Store.{disk_of, has_failed}
+use Rattle.vm_store.specs.Store.{GrowsOn, has_failed}
 use Rattle.vm_cli.specs.Feeding.{Fed}
-use Rattle.vm_cli.specs.Reading.{Holds as HoldsLine}
+use Rattle.vm_cli.specs.Reading.{HoldsLine}
 use Rattle.vm_cli.proofs.talk.serve.Given as goal
 
 -- the bytes so far were read and fed
 abbrev pub invariant-loop : goal.invariant-loop
 invariant-loop g l = record {
-  goes : Goes ⊥ (g.D.Disk.state (disk_of l.fn.store)) (g.D.Disk.state (disk_of l.store));
+  goes : GrowsOn ⊥ l.fn.store l.store;
   sound : has_failed l.fn.store ≡ false → has_failed l.store ≡ false;
   left : has_failed l.fn.store ≡ true → l.store ≡ l.fn.store;
   bytes : List ℕ;

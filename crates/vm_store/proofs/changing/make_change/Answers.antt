@@ -2,7 +2,7 @@ use Rattle.std.proofs.Common.{◌∙◌, length, Ok, ap}
 use Rattle.vm_types.specs.Map.{Map}
 use Rattle.vm_disk.proofs.MomentLemmas.{same_medium}
 use Rattle.vm_alloc.specs.Held.{IsHeld}
-use Rattle.vm_tree.specs.Root.{Grown}
+use Rattle.vm_tree.specs.Root.{IsRootedIn}
 use Rattle.vm_tree.proofs.Sparing.{held_kept}
 use Rattle.vm_store.proofs.ChangingLemmas.{put_makes, absent_makes, rest_makes, device_makes}
 use Rattle.vm_store.proofs.Removing.{removed_root}
@@ -22,7 +22,7 @@ returns-in-Ok-None-clause-changed g c honest m grown =
 pub returns-in-Ok-Some-clause-changed : goal.returns-in-Ok-Some-clause-changed
 returns-in-Ok-Some-clause-changed g c honest m grown =
     let left = removed_root _ _ _ _ c.in-Ok-Some.field-0-is (c.in-Ok-Some.ensures.remove honest m grown.stands_in grown.rooted) grown.each in
-    rest_makes (λ (n : Map). Grown sizes (IsHeld c.remove.new.held) (g.D.Disk.state c.remove.new.disk).now.contents (length c.args.held.now) c.in-Ok-Some.rest n) m c.args.change.now c.in-None.is left
+    rest_makes (λ (n : Map). IsRootedIn sizes (IsHeld c.remove.new.held) (g.D.Disk.state c.remove.new.disk).now.contents (length c.args.held.now) c.in-Ok-Some.rest n) m c.args.change.now c.in-None.is left
 
 pub returns-in-Err-clause-changed : goal.returns-in-Err-clause-changed
 returns-in-Err-clause-changed g c honest m grown = device_makes _ _ _ (c.in-Err.ensures.remove honest m grown.stands_in grown.rooted)

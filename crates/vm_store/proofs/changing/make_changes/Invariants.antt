@@ -1,9 +1,9 @@
 use Rattle.std.proofs.Common.{◌≡◌, ◌*◌, ◌+◌, ◌≤◌, true, length, take}
 use Rattle.vm_types.specs.Map.{Map, with_changes}
-use Rattle.vm_disk.specs.Moments.{Throughout, Spares}
+use Rattle.vm_disk.specs.Moments.{Throughout, TouchesOnly}
 use Rattle.vm_alloc.specs.Held.{IsHeld, HoldsMore, free_count}
 use Rattle.vm_tree.specs.Free.{is_free}
-use Rattle.vm_tree.specs.Root.{Grown}
+use Rattle.vm_tree.specs.Root.{IsRootedIn}
 use Rattle.vm_store.specs.Sizes.{sizes}
 use Rattle.vm_store.proofs.changing.make_changes.Given as goal
 
@@ -16,7 +16,7 @@ invariant-loop-change g l =
       rising : old.failures ≤ now.failures;
       room : 16 * length l.changes ≤ free_count l.held + 16 * l.change-index;
       still : HoldsMore l.fn.held l.held;
-      moments : now.honest ≡ true → Throughout old now (Spares (is_free l.fn.held) old.now);
-      changed : now.honest ≡ true → (m : Map) → Grown sizes (IsHeld l.fn.held) old.now.contents (length l.fn.held) l.fn.root m
-          → Grown sizes (IsHeld l.held) now.now.contents (length l.fn.held) l.root (with_changes m (take l.change-index l.changes));
+      moments : now.honest ≡ true → Throughout old now (TouchesOnly (is_free l.fn.held) old.now);
+      changed : now.honest ≡ true → (m : Map) → IsRootedIn sizes (IsHeld l.fn.held) old.now.contents (length l.fn.held) l.fn.root m
+          → IsRootedIn sizes (IsHeld l.held) now.now.contents (length l.fn.held) l.root (with_changes m (take l.change-index l.changes));
     }

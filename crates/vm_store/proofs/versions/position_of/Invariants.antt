@@ -1,6 +1,6 @@
 use Rattle.std.proofs.Common.{◌≡◌, ℕ, ◌<◌, false, get_or}
 use Rattle.vm_store.specs.Versions.{is_alternative_of}
-use Rattle.vm_store.specs.declared.versions.Version.{Version}
+use Rattle.vm_store.specs.declared.version.Version.{Version}
 use Rattle.vm_store.proofs.versions.position_of.Given as goal
 
 abbrev pub invariant-loop-i : goal.invariant-loop-i

@@ -7,7 +7,7 @@ use Rattle.vm_alloc.specs.Held.{IsHeld}
 use Rattle.vm_tree.specs.Answers.{LacksRoom}
 use Rattle.vm_tree.specs.Making.{Splits, is_split}
 use Rattle.vm_tree.specs.declared.root.Root.{Root}
-use Rattle.vm_tree.specs.Root.{Grown, sizes_of}
+use Rattle.vm_tree.specs.Root.{IsRootedIn, sizes_of}
 use Rattle.vm_tree.proofs.Looking.{looks_as, passed_on, writes_on}
 use Rattle.vm_tree.proofs.Descent.{subtree_top}
 use Rattle.vm_tree.proofs.PutLemmas.{not_split}
@@ -20,7 +20,7 @@ pub returns-then-root-eq0-clause-put : goal.returns-then-root-eq0-clause-put
 returns-then-root-eq0-clause-put g c honest m bs (inl bare) =
     let sizes = sizes_of g.row.LEAF g.row.FAN g.row.LEVELS in
     let made = c.put_first.ensures.put honest sizes (omega (arith, c.requires.sizes.leaf_least)) (omega (arith, c.requires.sizes.levels_least)) in
-    let G : Map → Root → Type 0 = λ n r. Grown sizes (IsHeld c.put_first.new.held) (g.D.Disk.state c.put_first.new.disk).now.contents (length c.args.held.now) r (with_value n c.args.key c.args.value.now) in
+    let G : Map → Root → Type 0 = λ n r. IsRootedIn sizes (IsHeld c.put_first.new.held) (g.D.Disk.state c.put_first.new.disk).now.contents (length c.args.held.now) r (with_value n c.args.key c.args.value.now) in
     first_puts c.put_first.result _ _ _ (G m) c.put_first.ensures.device
     (λ (lacks : LacksRoom sizes _ c.args.root m c.args.key). omega (arith, lacks.some, c.if-root-eq0.true))
     (subst (λ (n : Map). IfOk c.put_first.result (G n)) (sym bare.empty) made)
@@ -35,7 +35,7 @@ returns-in-One-clause-put g c honest m bs (inr top) =
     let after = (g.D.Disk.state c.put_below.new.disk).now.contents in
     let done = root_one sizes _ (length c.args.held.now) c.args.root m bs c.args.key c.put_below.ensures.fits top held after c.args.value.now c.in_ok-copied.copied c.in-One.top (AllByRecursion (IsHeld c.args.held.now) bs)
     c.in-One.is (c.in_ok-copied.ensures.put g.row.LEVELS honest m bs top.subtree top.lowest top.rising) in
-    (λ all. subst (λ (r : Root). Grown sizes held after (length c.args.held.now) r (with_value m c.args.key c.args.value.now)) (sym c.root_at.ensures) (done.0 all), done.1)
+    (λ all. subst (λ (r : Root). IsRootedIn sizes held after (length c.args.held.now) r (with_value m c.args.key c.args.value.now)) (sym c.root_at.ensures) (done.0 all), done.1)
 
 pub returns-in_ok-top-in-Two-clause-put : goal.returns-in_ok-top-in-Two-clause-put
 returns-in_ok-top-in-Two-clause-put g c honest m bs (inl bare) = absurd (c.if-root-eq0.false bare.none)
@@ -51,7 +51,7 @@ returns-in_ok-top-in-Two-clause-put g c honest m bs (inr top) =
     c.args.value.now c.in_ok-copied.copied c.in-Two.left c.in-Two.right c.in_ok-top-in-Two.top (AllByRecursion (IsHeld c.args.held.now) bs)
     c.in-Two.is c.in_ok-copied.ensures.writes.still.same_length room (c.in_ok-copied.ensures.put g.row.LEVELS (c.in_ok-top-in-Two.ensures.writes.goes.earlier honest) m bs top.subtree top.lowest top.rising)
     (λ rs rising made. c.in_ok-top-in-Two.ensures.made honest sizes rs (omega arith) few c.requires.sizes.fan_least rising made) in
-    (λ all. subst (λ (r : Root). Grown sizes held after (length c.args.held.now) r (with_value m c.args.key c.args.value.now)) (sym c.root_at-in-Two.ensures) (done.0 all), done.1)
+    (λ all. subst (λ (r : Root). IsRootedIn sizes held after (length c.args.held.now) r (with_value m c.args.key c.args.value.now)) (sym c.root_at-in-Two.ensures) (done.0 all), done.1)
 
 pub returns-in_err-copied-clause-put : goal.returns-in_err-copied-clause-put
 returns-in_err-copied-clause-put g c honest m bs (inl bare) = absurd (c.if-root-eq0.false bare.none)

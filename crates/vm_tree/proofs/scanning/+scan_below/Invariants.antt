@@ -7,4 +7,4 @@ decreases-scan_below g l = l.level
 -- the records under the children so far are there
 abbrev pub invariant-loop-child : goal.invariant-loop-child
 invariant-loop-child g l =
-    Scans (g.D.Disk.state l.initial.disk) (g.D.Disk.state l.disk) l.blocks l.level l.child-items l.child-index l.initial.into.items l.into.items
+    Scans (g.D.Disk.state l.initial.disk) (g.D.Disk.state l.disk) l.blocks l.level l.child-items l.child-index l.initial.into l.into

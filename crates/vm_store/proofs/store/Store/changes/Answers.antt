@@ -1,22 +1,22 @@
-use Rattle.std.proofs.Common.{◌≡◌, find, None, Some, Ok, inr, ap, sym, ◌∙◌, subst}
+use Rattle.std.proofs.Common.{Ok, inr, ap, sym, ◌∙◌}
 use Rattle.vm_types.specs.Queries.{changes_of}
 use Rattle.vm_store.specs.Sizes.{sizes}
-use Rattle.vm_store.specs.Versions.{is_alternative_of}
 use Rattle.vm_store.proofs.Listing.{list_refused}
-use Rattle.vm_store.proofs.RestingLemmas.{read_rests, found_at}
+use Rattle.vm_store.proofs.RestingLemmas.{read_rests}
 use Rattle.vm_store.proofs.SharedLemmas.{base_rooted, current_rooted}
-use Rattle.vm_store.proofs.VersionLemmas.{absent, there}
+use Rattle.vm_store.proofs.TurnLemmas.{absent, there}
+use Rattle.vm_store.proofs.VersionLemmas.{standing}
 use Rattle.vm_store.proofs.store.Store.changes.Goals as goal
 
 pub returns-in_default-clause-value : goal.returns-in_default-clause-value
 returns-in_default-clause-value g c honest well s rests =
-    inr (inr (ap changes_of (absent _ _ _ _ _ _ s rests c.args.alt.now (subst (λ es. find (is_alternative_of c.args.alt.now) es ≡ None) c.deref.ensures.value c.in_default.ensures.none))))
+    inr (inr (ap changes_of (absent (standing rests) c.args.alt.now (sym c.in_default.ensures))))
 
 pub returns-in-Ok-clause-value : goal.returns-in-Ok-clause-value
 returns-in-Ok-clause-value g c honest well s rests =
-    let e = c.index.result.now in
-    let is = found_at c.args.alt.now _ _ c.in-Some.i e c.deref.ensures.value c.in-Some.ensures.found ∙ ap Some (sym c.index.ensures) in
-    let own = there _ _ _ _ _ _ s rests c.args.alt.now e is in
+    let e = c.in-Some.version in
+    let is = sym c.in-Some.ensures in
+    let own = there (standing rests) c.args.alt.now e is in
     ap changes_of own.is ∙ ap Ok (sym (c.in-Ok.ensures.changes honest sizes _ _ _ _ own.stands.base.rooted own.stands.current.rooted))
 
 pub returns-in-Ok-clause-state : goal.returns-in-Ok-clause-state
@@ -24,9 +24,9 @@ returns-in-Ok-clause-state g c honest s rests = read_rests _ _ _ _ _ _ _ s (c.in
 
 pub returns-in-Err-clause-value : goal.returns-in-Err-clause-value
 returns-in-Err-clause-value g c honest well s rests =
-    let e = c.index.result.now in
-    let is = found_at c.args.alt.now _ _ c.in-Some.i e c.deref.ensures.value c.in-Some.ensures.found ∙ ap Some (sym c.index.ensures) in
-    let own = there _ _ _ _ _ _ s rests c.args.alt.now e is in
+    let e = c.in-Some.version in
+    let is = sym c.in-Some.ensures in
+    let own = there (standing rests) c.args.alt.now e is in
     list_refused c.in-Err.fault c.refusal_of.result _ _ c.refusal_of.ensures (c.in-Err.ensures.changes honest sizes _ _ _ _ own.stands.base.rooted own.stands.current.rooted)
 
 pub returns-in-Err-clause-state : goal.returns-in-Err-clause-state
@@ -34,16 +34,16 @@ returns-in-Err-clause-state g c honest s rests = read_rests _ _ _ _ _ _ _ s (c.i
 
 pub returns-in-Ok-clause-bound : goal.returns-in-Ok-clause-bound
 returns-in-Ok-clause-bound g c honest s rests =
-    let e = c.index.result.now in
-    let is = found_at c.args.alt.now _ _ c.in-Some.i e c.deref.ensures.value c.in-Some.ensures.found ∙ ap Some (sym c.index.ensures) in
+    let e = c.in-Some.version in
+    let is = sym c.in-Some.ensures in
     let base = base_rooted _ _ _ _ _ _ s rests c.args.alt.now e is in
     let current = current_rooted _ _ _ _ _ _ s rests c.args.alt.now e is in
     c.in-Ok.ensures.bound honest sizes base.0 current.0 _ _ base.1 current.1
 
 pub returns-in-Err-clause-bound : goal.returns-in-Err-clause-bound
 returns-in-Err-clause-bound g c honest s rests =
-    let e = c.index.result.now in
-    let is = found_at c.args.alt.now _ _ c.in-Some.i e c.deref.ensures.value c.in-Some.ensures.found ∙ ap Some (sym c.index.ensures) in
+    let e = c.in-Some.version in
+    let is = sym c.in-Some.ensures in
     let base = base_rooted _ _ _ _ _ _ s rests c.args.alt.now e is in
     let current = current_rooted _ _ _ _ _ _ s rests c.args.alt.now e is in
     c.in-Err.ensures.bound honest sizes base.0 current.0 _ _ base.1 current.1

@@ -1,18 +1,17 @@
-use Rattle.std.proofs.Common.{◌≡◌, find, None, Some, Err, subst, inl, inr, ap, ◌∙◌, sym}
-use Rattle.vm_store.specs.Versions.{is_alternative_of}
+use Rattle.std.proofs.Common.{Err, inl, inr, ap, ◌∙◌, sym}
 use Rattle.vm_store.specs.Faults.{refusal_of}
 use Rattle.vm_store.specs.Sizes.{sizes}
-use Rattle.vm_store.proofs.RestingLemmas.{read_rests, found_at, found_entry, value_found, value_absent}
+use Rattle.vm_store.proofs.RestingLemmas.{read_rests, found_entry, value_found, value_absent}
 use Rattle.vm_store.proofs.store.Store.get.Goals as goal
 
 pub returns-in_default-clause-value : goal.returns-in_default-clause-value
 returns-in_default-clause-value g c honest well s rests =
-    inr (value_absent _ _ _ _ _ _ s rests c.args.alt.now c.args.key (subst (λ es. find (is_alternative_of c.args.alt.now) es ≡ None) c.deref.ensures.value c.in_default.ensures.none))
+    inr (value_absent _ _ _ _ _ _ s rests c.args.alt.now c.args.key (sym c.in_default.ensures))
 
 pub returns-in-Ok-clause-value : goal.returns-in-Ok-clause-value
 returns-in-Ok-clause-value g c honest well s rests =
-    let e = c.index.result.now in
-    let is = found_at c.args.alt.now _ _ c.in-Some.i e c.deref.ensures.value c.in-Some.ensures.found ∙ ap Some (sym c.index.ensures) in
+    let e = c.in-Some.version in
+    let is = sym c.in-Some.ensures in
     let found = found_entry _ _ _ _ _ _ s rests c.args.alt.now e is in
     inr (value_found _ _ _ _ _ _ s rests c.args.alt.now e is c.args.key c.in-Ok.value (c.in-Ok.ensures.value sizes honest found.filed.current found.stands.current.stands_in found.stands.current.rooted))
 
@@ -21,8 +20,8 @@ returns-in-Ok-clause-state g c honest s rests = read_rests _ _ _ _ _ _ _ s (c.in
 
 pub returns-in-Err-clause-value : goal.returns-in-Err-clause-value
 returns-in-Err-clause-value g c honest well s rests =
-    let e = c.index.result.now in
-    let is = found_at c.args.alt.now _ _ c.in-Some.i e c.deref.ensures.value c.in-Some.ensures.found ∙ ap Some (sym c.index.ensures) in
+    let e = c.in-Some.version in
+    let is = sym c.in-Some.ensures in
     let found = found_entry _ _ _ _ _ _ s rests c.args.alt.now e is in
     inl (ap Err (c.refusal_of.ensures ∙ ap refusal_of (c.in-Err.ensures.value sizes honest found.filed.current found.stands.current.stands_in found.stands.current.rooted)))
 

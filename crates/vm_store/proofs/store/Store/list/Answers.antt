@@ -1,18 +1,17 @@
-use Rattle.std.proofs.Common.{◌≡◌, find, None, Some, subst, inr, ap, ◌∙◌, sym}
-use Rattle.vm_store.specs.Versions.{is_alternative_of}
+use Rattle.std.proofs.Common.{inr, sym}
 use Rattle.vm_store.proofs.Listing.{records_absent, records_found, list_refused}
 use Rattle.vm_store.specs.Sizes.{sizes}
-use Rattle.vm_store.proofs.RestingLemmas.{read_rests, found_at, found_entry}
+use Rattle.vm_store.proofs.RestingLemmas.{read_rests, found_entry}
 use Rattle.vm_store.proofs.store.Store.list.Goals as goal
 
 pub returns-in_default-clause-value : goal.returns-in_default-clause-value
 returns-in_default-clause-value g c honest well s rests =
-    inr (inr (records_absent _ _ _ _ _ _ s rests c.args.alt.now (subst (λ es. find (is_alternative_of c.args.alt.now) es ≡ None) c.deref.ensures.value c.in_default.ensures.none)))
+    inr (inr (records_absent _ _ _ _ _ _ s rests c.args.alt.now (sym c.in_default.ensures)))
 
 pub returns-in-Ok-clause-value : goal.returns-in-Ok-clause-value
 returns-in-Ok-clause-value g c honest well s rests =
-    let e = c.index.result.now in
-    let is = found_at c.args.alt.now _ _ c.in-Some.i e c.deref.ensures.value c.in-Some.ensures.found ∙ ap Some (sym c.index.ensures) in
+    let e = c.in-Some.version in
+    let is = sym c.in-Some.ensures in
     let found = found_entry _ _ _ _ _ _ s rests c.args.alt.now e is in
     records_found _ _ _ _ _ _ s rests c.args.alt.now e is _ (c.in-Ok.ensures.records sizes honest found.filed.current found.stands.current.stands_in found.stands.current.rooted)
 
@@ -21,8 +20,8 @@ returns-in-Ok-clause-state g c honest s rests = read_rests _ _ _ _ _ _ _ s (c.in
 
 pub returns-in-Err-clause-value : goal.returns-in-Err-clause-value
 returns-in-Err-clause-value g c honest well s rests =
-    let e = c.index.result.now in
-    let is = found_at c.args.alt.now _ _ c.in-Some.i e c.deref.ensures.value c.in-Some.ensures.found ∙ ap Some (sym c.index.ensures) in
+    let e = c.in-Some.version in
+    let is = sym c.in-Some.ensures in
     let found = found_entry _ _ _ _ _ _ s rests c.args.alt.now e is in
     list_refused c.in-Err.fault c.refusal_of.result _ _ c.refusal_of.ensures (c.in-Err.ensures.records sizes honest found.filed.current found.stands.current.stands_in found.stands.current.rooted)
 

@@ -1,4 +1,4 @@
-use Rattle.std.proofs.Common.{◌≡◌, ◌≢◌, ◌+◌, [], ◌∷◌, ◌++◌, length, Result, Err, ap, refl, sym, subst, ◌∙◌, arith}
+use Rattle.std.proofs.Common.{◌≡◌, ◌≢◌, ◌+◌, [], ◌∷◌, ◌++◌, length, Result, Err, ap, refl, sym, subst, arith}
 use Rattle.std.proofs.lemmas.Grind.{common_steps}
 use Rattle.std.proofs.lemmas.List.Elements.{All-nil, All-push}
 use Rattle.vm_types.specs.State.{State}
@@ -24,7 +24,7 @@ loop-command-preserved g c =
     let command = c.command-item.result in
     let sound = no_failure _ (λ is. let device = (e.failed before.sound).0 is in let yes = c.is_device-failed.ensures.1 device in cc (yes, c.if-failed.false)) in
     rw (take_one_more c.args.commands.now c.loop-command.command-index c.command-item.result c.loop-command-test.true c.command-item.is, c.in-Ok-push.ensures.items) (record {
-      blocks = e.any.same_blocks ∙ before.blocks;
+      more_blocks = omega (arith, e.any.more_blocks, before.more_blocks);
       earlier = λ honest. before.earlier (e.any.earlier honest);
       rising = omega (arith, e.any.rising, before.rising);
       sound = sound;
@@ -37,17 +37,17 @@ loop-command-preserved g c =
           let ok : c.apply-answer.result ≡ Err Device → ⊥ = λ is. let yes = c.is_device-failed.ensures.1 is in cc (yes, c.if-failed.false) in
           subst (λ (t : State). Holds c.apply-answer.new.self t) (sym (after_more s _ _ c.command-item.result c.apply-answer.result (before.run (e.any.earlier honest) s rests).last.same)) (e.state honest before.sound ok _ (before.holds (e.any.earlier honest) s rests));
       guarded = λ honest s rests. guarded_more first mid new s _ _ command c.apply-answer.result (before.run (e.any.earlier honest) s rests).last.same (before.told s)
-          (carried_out mid new _ command c.apply-answer.result (λ honest. e.answer honest before.sound _) e.any (e.failed before.sound) (e.only_then before.sound) e.memory e.same e.unchanged e.blocks (λ honest rests fine. e.state honest before.sound fine _ rests) (λ honest rests. e.crash honest before.sound _ rests) (λ honest rests. e.guarded honest before.sound _ rests) (λ honest is. e.reclaimed honest before.sound is _)) honest (before.holds (e.any.earlier honest) s rests)
+          (carried_out mid new _ command c.apply-answer.result (λ honest. e.answer honest before.sound _) e.any e.as_long e.untouched (e.failed before.sound) (e.only_then before.sound) e.memory e.same e.unchanged e.blocks (λ honest rests fine. e.state honest before.sound fine _ rests) (λ honest rests. e.crash honest before.sound _ rests) (λ honest rests. e.guarded honest before.sound _ rests) (λ honest is. e.reclaimed honest before.sound is _) (λ blocks is. e.grown before.sound blocks is _)) honest (before.holds (e.any.earlier honest) s rests)
           (before.guarded (e.any.earlier honest) s rests);
       told = λ s. in_turn_more first mid new s _ _ command c.apply-answer.result (before.told s)
-          (carried_out mid new _ command c.apply-answer.result (λ honest. e.answer honest before.sound _) e.any (e.failed before.sound) (e.only_then before.sound) e.memory e.same e.unchanged e.blocks (λ honest rests fine. e.state honest before.sound fine _ rests) (λ honest rests. e.crash honest before.sound _ rests) (λ honest rests. e.guarded honest before.sound _ rests) (λ honest is. e.reclaimed honest before.sound is _));
+          (carried_out mid new _ command c.apply-answer.result (λ honest. e.answer honest before.sound _) e.any e.as_long e.untouched (e.failed before.sound) (e.only_then before.sound) e.memory e.same e.unchanged e.blocks (λ honest rests fine. e.state honest before.sound fine _ rests) (λ honest rests. e.crash honest before.sound _ rests) (λ honest rests. e.guarded honest before.sound _ rests) (λ honest is. e.reclaimed honest before.sound is _) (λ blocks is. e.grown before.sound blocks is _));
     })
 
 pub loop-command-init : goal.loop-command-init
 loop-command-init g c =
     let first = g.D.Disk.state (disk_of c.args.self.now) in
     rw (c.in-Ok.ensures.items) (record {
-      blocks = refl;
+      more_blocks = omega arith;
       earlier = λ honest. honest;
       rising = omega arith;
       sound = c.if-self.false;
@@ -80,7 +80,7 @@ returns-then-failed-clause-answers g c sound s =
     let e = c.apply-answer.ensures in
     let count : length c.push.new.self.items ≡ c.loop-command.command-index + 1 = grind (arith, common_steps) in
     rw (count, take_one_more c.args.commands.now c.loop-command.command-index c.command-item.result c.loop-command-test.true c.command-item.is, c.in-Ok-push.ensures.items)
-    (in_turn_more c.args.self.now c.loop-command.self c.apply-answer.new.self s _ _ c.command-item.result c.apply-answer.result (before.told s) (carried_out c.loop-command.self c.apply-answer.new.self _ c.command-item.result c.apply-answer.result (λ honest. e.answer honest before.sound _) e.any (e.failed before.sound) (e.only_then before.sound) e.memory e.same e.unchanged e.blocks (λ honest rests fine. e.state honest before.sound fine _ rests) (λ honest rests. e.crash honest before.sound _ rests) (λ honest rests. e.guarded honest before.sound _ rests) (λ honest is. e.reclaimed honest before.sound is _)))
+    (in_turn_more c.args.self.now c.loop-command.self c.apply-answer.new.self s _ _ c.command-item.result c.apply-answer.result (before.told s) (carried_out c.loop-command.self c.apply-answer.new.self _ c.command-item.result c.apply-answer.result (λ honest. e.answer honest before.sound _) e.any e.as_long e.untouched (e.failed before.sound) (e.only_then before.sound) e.memory e.same e.unchanged e.blocks (λ honest rests fine. e.state honest before.sound fine _ rests) (λ honest rests. e.crash honest before.sound _ rests) (λ honest rests. e.guarded honest before.sound _ rests) (λ honest is. e.reclaimed honest before.sound is _) (λ blocks is. e.grown before.sound blocks is _)))
 
 pub returns-then-failed-clause-isolated : goal.returns-then-failed-clause-isolated
 returns-then-failed-clause-isolated g c honest s name apart = isolated name s _ _ apart
@@ -104,7 +104,7 @@ returns-then-failed-clause-guarded g c honest sound s rests =
     let count : length c.push.new.self.items ≡ c.loop-command.command-index + 1 = grind (arith, common_steps) in
     rw (count, take_one_more c.args.commands.now c.loop-command.command-index c.command-item.result c.loop-command-test.true c.command-item.is, c.in-Ok-push.ensures.items)
     (guarded_more c.args.self.now c.loop-command.self c.apply-answer.new.self s _ _ c.command-item.result c.apply-answer.result (before.run (e.any.earlier honest) s rests).last.same (before.told s)
-    (carried_out c.loop-command.self c.apply-answer.new.self _ c.command-item.result c.apply-answer.result (λ honest. e.answer honest before.sound _) e.any (e.failed before.sound) (e.only_then before.sound) e.memory e.same e.unchanged e.blocks (λ honest rests fine. e.state honest before.sound fine _ rests) (λ honest rests. e.crash honest before.sound _ rests) (λ honest rests. e.guarded honest before.sound _ rests) (λ honest is. e.reclaimed honest before.sound is _)) honest (before.holds (e.any.earlier honest) s rests)
+    (carried_out c.loop-command.self c.apply-answer.new.self _ c.command-item.result c.apply-answer.result (λ honest. e.answer honest before.sound _) e.any e.as_long e.untouched (e.failed before.sound) (e.only_then before.sound) e.memory e.same e.unchanged e.blocks (λ honest rests fine. e.state honest before.sound fine _ rests) (λ honest rests. e.crash honest before.sound _ rests) (λ honest rests. e.guarded honest before.sound _ rests) (λ honest is. e.reclaimed honest before.sound is _) (λ blocks is. e.grown before.sound blocks is _)) honest (before.holds (e.any.earlier honest) s rests)
     (before.guarded (e.any.earlier honest) s rests))
 
 pub returns-clause-guarded : goal.returns-clause-guarded

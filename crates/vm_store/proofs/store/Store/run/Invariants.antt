@@ -12,7 +12,7 @@ abbrev pub invariant-loop-command : goal.invariant-loop-command
 invariant-loop-command g l =
     let old = g.D.Disk.state (disk_of l.fn.self) in
     let now = g.D.Disk.state (disk_of l.self) in record {
-      blocks : now.blocks ≡ old.blocks;
+      more_blocks : old.blocks ≤ now.blocks;
       earlier : now.honest ≡ true → old.honest ≡ true;
       rising : old.failures ≤ now.failures;
       sound : has_failed l.self ≡ false;

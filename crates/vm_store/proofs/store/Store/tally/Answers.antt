@@ -1,5 +1,4 @@
-use Rattle.std.proofs.Common.{inr, sym, subst, arith}
-use Rattle.vm_store.specs.Pairs.{IsPair, LacksPair}
+use Rattle.std.proofs.Common.{inr, sym, arith}
 use Rattle.vm_store.proofs.PairLemmas.{own_there, parent_there}
 use Rattle.vm_store.proofs.RestingLemmas.{read_rests}
 use Rattle.vm_store.proofs.SharedLemmas.{base_rooted, current_rooted, pair_counts}
@@ -8,13 +7,13 @@ use Rattle.vm_store.proofs.store.Store.tally.Goals as goal
 
 pub returns-in-Err-clause-value : goal.returns-in-Err-clause-value
 returns-in-Err-clause-value g c honest well s rests =
-    let lacks = subst (λ vs. LacksPair vs c.args.alt.now c.in-Err.refusal) c.deref.ensures.value c.in-Err.ensures.none in
+    let lacks = c.in-Err.ensures.none in
     inr (inr (sym (tally_lacking _ _ _ _ _ _ s rests c.args.alt.now c.in-Err.refusal lacks)))
 
 pub returns-clause-value : goal.returns-clause-value
 returns-clause-value g c honest well s rests =
     let alt = c.args.alt.now in
-    let is = subst (λ vs. IsPair vs alt c.in-Ok.pair) c.deref.ensures.value c.in-Ok.ensures.found in
+    let is = c.in-Ok.ensures.found in
     let own = own_there _ _ _ _ _ _ s rests alt c.in-Ok.pair is in
     let parent = parent_there _ _ _ _ _ _ s rests alt c.in-Ok.pair is in
     tallied _ _ _ _ _ _ s rests alt c.in-Ok.pair is _
@@ -26,7 +25,7 @@ returns-clause-state g c honest s rests = read_rests _ _ _ _ _ _ _ s (c.tally_of
 pub returns-clause-bound : goal.returns-clause-bound
 returns-clause-bound g c honest s rests =
     let alt = c.args.alt.now in
-    let is = subst (λ vs. IsPair vs alt c.in-Ok.pair) c.deref.ensures.value c.in-Ok.ensures.found in
+    let is = c.in-Ok.ensures.found in
     let base = base_rooted _ _ _ _ _ _ s rests alt c.in-Ok.pair.0 is.own in
     let current = current_rooted _ _ _ _ _ _ s rests alt c.in-Ok.pair.0 is.own in
     let parent = current_rooted _ _ _ _ _ _ s rests c.in-Ok.pair.1.name c.in-Ok.pair.1 is.parent in

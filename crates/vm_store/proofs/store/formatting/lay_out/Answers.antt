@@ -8,7 +8,7 @@ returns-in_default-select_slot-clause-moments g c honest clean none =
     let old = (g.D.Disk.state c.args.disk.now).now in
     let written = weaken _ _ _ (KeepsFirst old) (λ m spares. first_spared old m clean spares) (c.write_slot.ensures.moments (c.select_slot.ensures.any.earlier honest)) in
     let select = c.select_slot.ensures.honest honest in
-    weaken _ _ _ _ (λ m keeps. no_header old m none keeps) (goes_on _ _ _ (KeepsFirst old) written select.time (first_kept _ _ old _ _ (at_end _ _ _ written) select))
+    weaken _ _ _ _ (λ m keeps. no_header c.args.blocks old m none keeps) (goes_on _ _ _ (KeepsFirst old) written select.time (first_kept _ _ old _ _ (at_end _ _ _ written) select))
 
 pub returns-clause-moments : goal.returns-clause-moments
 returns-clause-moments g c honest clean none =
@@ -17,7 +17,7 @@ returns-clause-moments g c honest clean none =
     let select = c.select_slot.ensures.honest (c.sync.ensures.any.earlier honest) in
     let chosen = goes_on _ _ _ (KeepsFirst old) written select.time (first_kept _ _ old _ _ (at_end _ _ _ written) select) in
     let sync = c.sync.ensures.honest honest in
-    weaken _ _ _ _ (λ m keeps. no_header old m none keeps) (goes_on _ _ _ (KeepsFirst old) chosen sync.time (first_synced _ old _ _ (at_end _ _ _ chosen) sync))
+    weaken _ _ _ _ (λ m keeps. no_header c.args.blocks old m none keeps) (goes_on _ _ _ (KeepsFirst old) chosen sync.time (first_synced _ old _ _ (at_end _ _ _ chosen) sync))
 
 pub returns-clause-laid : goal.returns-clause-laid
 returns-clause-laid g c honest =

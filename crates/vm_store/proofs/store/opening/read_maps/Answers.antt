@@ -1,5 +1,5 @@
-use Rattle.std.proofs.Common.{◌≤◌, Err, length, refl, subst, sym, ap, ◌∙◌, arith}
-use Rattle.vm_types.specs.State.{opened}
+use Rattle.std.proofs.Common.{◌≤◌, Err, length, subst, sym, ap, ◌∙◌, arith}
+use Rattle.vm_types.specs.State.{Seen, opened}
 use Rattle.vm_disk.specs.Disk.{Medium}
 use Rattle.vm_disk.proofs.MomentLemmas.{same_medium}
 use Rattle.vm_alloc.specs.Marks.{IsMarked}
@@ -7,7 +7,7 @@ use Rattle.vm_tree.proofs.ScanLemmas.{fault_lists}
 use Rattle.vm_store.specs.Filed.{tree_of}
 use Rattle.vm_store.specs.Resting.{Rests}
 use Rattle.vm_store.specs.Shown.{Shows}
-use Rattle.vm_store.proofs.AddedLemmas.{roots_count, versions_few}
+use Rattle.vm_store.proofs.AddedLemmas.{roots_count}
 use Rattle.vm_store.proofs.OpeningLemmas.{freed, freed_on, found_as_named, found_here, found_alike, trees_here, rests_named, shows_found, rests_found, fault_refused}
 use Rattle.vm_store.proofs.store.opening.read_maps.Goals as goal
 
@@ -18,17 +18,12 @@ versions_twice-requires-clause-roots g c =
 pub invariant_of-result : goal.invariant_of-result
 invariant_of-result g c =
     let head = c.requires.fits.head in
-    let count = roots_count _ _ _ _ _ _ _ c.deref-in-Ok-2.ensures.value c.in-Ok.ensures.roots c.deref-2.ensures.value c.in-Some-Ok.ensures c.deref.ensures.value c.deref-in-Ok.ensures.value in
-    let entries = ap length c.deref-in-Ok.ensures.value in
     record {
       least = head.least;
       most = head.most;
       bits = c.replace.ensures.count ∙ c.in-Some-Ok.ensures'.count;
       mark_bits = c.in-Ok.ensures.count;
-      few = versions_few _ _ _ _ _ count (omega (arith, entries, head.few)) refl c.in-Some.ensures.items.1 refl;
       room_entries = c.requires.reserved;
-      room = c.in-Some.ensures.room.0;
-      room_working = c.in-Some.ensures.room.1;
     }
 
 pub returns-in-Some-clause-holds : goal.returns-in-Some-clause-holds
@@ -39,16 +34,17 @@ returns-in-Some-clause-holds g c honest clean store in_use slot =
     let inside : limit ≤ length m.contents = omega (arith, whole, c.requires.inside) in
     let read = same_medium _ _ (c.verify.ensures.looks.reads honest) in
     let found = found_here _ _ _ _ _ _ _ _ c.deref-2.ensures.value c.in-Some-Ok.ensures c.deref.ensures.value (c.in-Ok.ensures.found honest) in
-    let are = c.in-Some.ensures.items in
+    let are = c.in-Some.ensures in
     let alike = found_alike _ _ _ _ c.deref-in-Ok.ensures.value c.deref-in-Ok-2.ensures.value in
+    let seen : Seen = record { tree = tree_of found.filed; blocks = limit } in
     let rests = rests_found m limit c.args.slot_b c.args.slot.entries.items clean store in_use slot inside c.in-Ok.marks c.replace.new.self _ found.filed found.same c.replace.ensures.system c.replace.ensures.marked found.stands in
     record {
-      tree = tree_of found.filed;
-      shown = subst (λ (n : Medium). Shows n.contents (tree_of found.filed)) (sym read) (shows_found m limit c.args.slot_b c.args.slot.entries.items clean store in_use slot inside (IsMarked c.in-Ok.marks) _ found.filed found.same found.stands);
-      holds = subst (λ (n : Medium). Rests n limit c.args.slot_b c.replace.new.self c.in-Some.committed.items c.in-Some.working.items (opened (tree_of found.filed))) (sym read)
-          (rests_named m limit c.args.slot_b c.replace.new.self _ c.in-Some.committed.items c.in-Some.working.items (opened (tree_of found.filed)) (are.0 ∙ alike) (are.1 ∙ alike) rests);
-      free = freed_on m _ limit c.args.slot_b c.replace.new.self c.in-Some.committed.items c.in-Some.working.items read
-          (freed m limit c.args.slot_b c.replace.new.self c.in-Some.committed.items c.in-Some.working.items c.args.slot.entries.items c.in-Ok.roots.items c.in-Ok.marks (are.0 ∙ alike) (are.1 ∙ alike)
+      seen = seen;
+      shown = subst (λ (n : Medium). Shows n.contents seen) (sym read) (shows_found m limit c.args.slot_b c.args.slot.entries.items clean store in_use slot inside (IsMarked c.in-Ok.marks) _ found.filed found.same found.stands);
+      holds = subst (λ (n : Medium). Rests n limit c.args.slot_b c.replace.new.self c.in-Some.committed c.in-Some.working (opened seen)) (sym read)
+          (rests_named m limit c.args.slot_b c.replace.new.self _ c.in-Some.committed c.in-Some.working (opened seen) (are.0 ∙ alike) (are.1 ∙ alike) rests);
+      free = freed_on m _ limit c.args.slot_b c.replace.new.self c.in-Some.committed c.in-Some.working read
+          (freed m limit c.args.slot_b c.replace.new.self c.in-Some.committed c.in-Some.working c.args.slot.entries.items c.in-Ok.roots.items c.in-Ok.marks (are.0 ∙ alike) (are.1 ∙ alike)
           (found_as_named _ _ _ _ _ _ _ _ c.deref-2.ensures.value c.in-Some-Ok.ensures c.deref.ensures.value (c.in-Ok.ensures.found honest)) (c.replace.ensures.count ∙ c.in-Some-Ok.ensures'.count) c.replace.ensures.system c.replace.ensures.marked);
     }
 

@@ -1,0 +1,371 @@
+//! A store that gets more blocks, on a disk with room for them, on one without, and on one that has them.
+use super::script::{DUCT, NEW, in_memory, on_both, with_room};
+
+// The device calls are those of the opening.
+#[test]
+fn bad_size_changes_nothing(rt: HostRuntime) {
+    let row = "
+        grow 64 -> error 21 BadSize
+        grow 63 -> error 21 BadSize
+        grow 1048577 -> error 21 BadSize
+        grow 0 -> error 21 BadSize
+        grow 4294967295 -> error 21 BadSize
+        blocks -> 64
+        free -> 30
+        close
+        calls -> 4
+        dirty -> none";
+    with_room(&rt, 128, &[NEW, row]);
+}
+
+// Of 128 blocks 34 are the store's own. The Put takes block 34, and the crash takes the new blocks away.
+#[test]
+fn growth_that_is_not_committed_is_gone_after_a_crash(rt: HostRuntime) {
+    let row = "
+        grow 128
+        blocks -> 128
+        free -> 94
+        put top 1:1 x
+        free -> 93
+        close
+        short 64
+        open
+        blocks -> 64
+        free -> 30
+        list top -> none
+        grow 128
+        put top 1:1 x
+        commit
+        close
+        dirty -> none
+        crash all=41
+        open
+        blocks -> 128
+        free -> 93
+        list top -> 1:1=x";
+    with_room(&rt, 128, &[NEW, row]);
+}
+
+// The disk keeps the blocks that it got, so the second Grow makes no device call.
+#[test]
+fn growth_that_is_not_committed_is_gone_after_closing(rt: HostRuntime) {
+    let row = "
+        grow 128
+        close
+        calls -> 5
+        anew
+        open
+        blocks -> 64
+        free -> 30
+        grow 128
+        blocks -> 128
+        free -> 94
+        close
+        calls -> 4";
+    with_room(&rt, 128, &[NEW, row]);
+}
+
+// Block 0 has no number of blocks. Slot A, which the Commit writes, has 80, which is 50 in hexadecimal digits,
+// and slot B has 64 as before.
+#[test]
+fn commit_writes_the_new_number_of_blocks(rt: HostRuntime) {
+    let row = "
+        open
+        grow 80
+        commit
+        close
+        block 0 -> 0:414C5453544F524501 13:10
+        block 1 -> none
+        block 2 -> 0:534C4F5401 8:50 12:01 128:4103746F70 195:22
+        block 18 -> 0:534C4F5401 8:40 12:01 128:4103746F70 195:22";
+    with_room(&rt, 80, &[DUCT, row]);
+}
+
+// The checkpoints keep the blocks 34 to 73, and the last two Puts take 74 and 75.
+#[test]
+fn new_blocks_are_taken_kept_and_found_again(rt: HostRuntime) {
+    let row = "
+        grow 96
+        kept top 1:1 v 40
+        put top 1:2 w
+        put top 1:2 x
+        free -> 20
+        reclaim
+        free -> 21
+        commit
+        close
+        block 75 -> 0:4C454146 8:02 16:01 18:01 26:01 28:76 268:01 270:02 278:01 280:78
+        crash all=41
+        open
+        blocks -> 96
+        free -> 21
+        list top -> 1:1=v 1:2=x
+        back top k040
+        list top -> 1:1=v";
+    with_room(&rt, 96, &[NEW, row]);
+}
+
+// 30 blocks are for data. Each of the 15 checkpoints keeps one, so 15 are spare, and one more with the new one.
+#[test]
+fn growth_makes_room_for_a_put(rt: HostRuntime) {
+    let row = "
+        kept top 1:1 v 15
+        commit
+        put top 1:1 v -> error 13 Full
+        free -> 15
+        grow 65
+        free -> 16
+        put top 1:1 v
+        free -> 15
+        put top 1:1 v -> error 13 Full";
+    with_room(&rt, 65, &[NEW, row]);
+}
+
+// Opening makes four device calls.
+#[test]
+fn store_fails_where_the_disk_has_no_room(rt: HostRuntime) {
+    let row = "
+        grow 65 -> error 15 Device
+        grow 65 -> error 17 Failed
+        grow 64 -> error 17 Failed
+        blocks -> error 17 Failed
+        free -> error 17 Failed
+        close
+        calls -> 5
+        anew
+        open
+        blocks -> 64
+        free -> 30";
+    on_both(&rt, &[NEW, row]);
+}
+
+// It is no bad size.
+#[test]
+fn store_may_ask_for_as_many_blocks_as_one_may_have(rt: HostRuntime) {
+    in_memory(&rt, &[NEW, "grow 1048576 -> error 15 Device"]);
+}
+
+// The store is on the first 64 of 130 blocks. There is room for 140, and only for more than 130 the disk is
+// asked.
+#[test]
+fn growth_within_the_disk_makes_no_device_call(rt: HostRuntime) {
+    let row = "
+        longer 130
+        format 64
+        anew
+        open
+        blocks -> 64
+        free -> 30
+        grow 100
+        blocks -> 100
+        free -> 66
+        grow 130
+        blocks -> 130
+        free -> 96
+        close
+        calls -> 4
+        anew
+        open
+        blocks -> 64
+        grow 129
+        grow 131
+        free -> 97
+        close
+        calls -> 5
+        dirty -> 130";
+    let committed = "
+        anew
+        open
+        grow 100
+        put top 1:1 x
+        commit
+        close
+        crash all=41
+        open
+        blocks -> 100
+        free -> 65
+        list top -> 1:1=x
+        grow 140
+        free -> 105";
+    with_room(&rt, 140, &[row, committed]);
+}
+
+// A crash has left 6 of 16 new blocks. Opening makes five device calls.
+#[test]
+fn blocks_that_a_crash_has_left_are_used(rt: HostRuntime) {
+    let row = "
+        open
+        grow 80
+        close
+        short 70 all=41
+        open
+        blocks -> 64
+        grow 66
+        grow 70
+        close
+        calls -> 5
+        anew
+        open
+        grow 66
+        grow 80
+        free -> 45
+        close
+        calls -> 6
+        dirty -> 70 71 72 73 74 75 76 77 78 79";
+    with_room(&rt, 80, &[DUCT, row]);
+}
+
+// Two Puts write the blocks 34 and 35.
+#[test]
+fn growth_stands_among_other_commands(rt: HostRuntime) {
+    let row = "
+        run put top 1:1 x ; grow 128 ; grow 128 ; put top 1:2 y ; commit \
+            -> ok ; ok ; error 21 BadSize ; ok ; ok ; end
+        blocks -> 128
+        free -> 92
+        close
+        open
+        blocks -> 128
+        free -> 93
+        list top -> 1:1=x 1:2=y";
+    with_room(&rt, 128, &[NEW, row]);
+}
+
+#[test]
+fn list_ends_where_the_disk_has_no_room(rt: HostRuntime) {
+    let row = "
+        run put top 1:1 x ; grow 65 ; commit -> ok ; error 15 Device ; Device
+        run grow 65 -> Failed";
+    in_memory(&rt, &[NEW, row]);
+}
+
+// Puts and the Merge write the blocks 34 to 38. The checkpoint keeps block 34, and all else is in block 38.
+#[test]
+fn growth_is_no_part_of_an_alternative_or_a_checkpoint(rt: HostRuntime) {
+    let row = "
+        put top 1:1 x
+        checkpoint top c
+        grow 128
+        put top 1:1 y
+        back top c
+        blocks -> 128
+        get top 1:1 -> x
+        new a top
+        put top 1:2 z
+        put a 1:3 w
+        grow 130
+        merge a -> ok 1
+        changes a -> 1:3=~/w
+        post a
+        drop a
+        blocks -> 130
+        free -> 91
+        commit
+        close
+        open
+        blocks -> 130
+        free -> 94
+        alts -> top
+        checks top -> c
+        list top -> 1:1=x 1:2=z 1:3=w";
+    with_room(&rt, 130, &[NEW, row]);
+}
+
+// What is shown after a crash before the Commit of a growth, and the same once more without a crash.
+const AS_BEFORE: &str = "
+    open
+    blocks -> 64
+    free -> 29
+    list top -> 7:1=duct
+    grow 80
+    free -> 45
+    put top 7:2 pipe
+    commit
+    close
+    dirty -> none
+    crash all=41
+    open
+    blocks -> 80
+    free -> 45
+    list top -> 7:1=duct 7:2=pipe";
+
+// Opening makes five device calls, the Grow one, the Put two, and the Commit four: it writes the slot, syncs,
+// writes the selector, and syncs.
+#[test]
+fn crash_before_the_first_sync_shows_the_old_number_of_blocks(rt: HostRuntime) {
+    let closed = "
+        open
+        grow 80
+        close";
+    let in_the_put = "
+        open
+        grow 80
+        put top 7:2 pipe -> error 15 Device
+        blocks -> error 17 Failed
+        close";
+    let in_the_commit = "
+        open
+        grow 80
+        put top 7:2 pipe
+        commit -> error 15 Device
+        blocks -> error 17 Failed
+        close";
+    for (stop, row) in [
+        ("anew", closed),
+        ("stop 6 41 41", in_the_put),
+        ("stop 7 41 41", in_the_put),
+        ("stop 8 41 41", in_the_commit),
+        ("stop 9 41 41", in_the_commit),
+    ] {
+        for crash in [
+            "short 64",
+            "short 64 all=41",
+            "short 65 all=00",
+            "short 79 all=FF",
+            "short 80 all=41",
+            "crash",
+        ] {
+            with_room(&rt, 80, &[DUCT, stop, row, crash, AS_BEFORE]);
+        }
+    }
+}
+
+// All blocks are sure then. An odd selector names slot B, which says 64 blocks, and an even one slot A.
+#[test]
+fn crash_after_the_first_sync_shows_either_number_of_blocks(rt: HostRuntime) {
+    let row = "
+        open
+        grow 80
+        put top 7:2 pipe
+        commit -> error 15 Device
+        close
+        dirty -> 1";
+    let as_committed = "
+        open
+        blocks -> 80
+        free -> 45
+        list top -> 7:1=duct 7:2=pipe";
+    for (stop, crash, shown) in [
+        ("stop 10 A5 00", "crash", AS_BEFORE),
+        ("stop 10 FE 00", "crash", as_committed),
+        ("stop 11 41 41", "crash 1=01", AS_BEFORE),
+        ("stop 11 41 41", "crash", as_committed),
+    ] {
+        with_room(&rt, 80, &[DUCT, stop, row, crash, shown]);
+    }
+}
+
+// The Grow makes the sixth device call.
+#[test]
+fn growth_that_the_device_fails_changes_nothing(rt: HostRuntime) {
+    let row = "
+        open
+        grow 80 -> error 15 Device
+        blocks -> error 17 Failed
+        close
+        calls -> 6
+        crash all=41";
+    for fails in ["once 5", "stop 5 41 41"] {
+        with_room(&rt, 80, &[DUCT, fails, row, AS_BEFORE]);
+    }
+}

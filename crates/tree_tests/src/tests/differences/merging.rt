@@ -1,0 +1,134 @@
+//! Which conflicts there are, why settlements of them are refused, and what a merge takes by them.
+use super::{change, key, value};
+use std::test::Fail;
+use vm_diff::{changes_by_merge, conflicts_between, settled_refusal};
+use vm_types::{Change, Conflict, Key, Refusal, Side};
+
+fn mine(number: u64) -> (Key, Side) {
+    (key(number), Side::Mine)
+}
+
+fn theirs(number: u64) -> (Key, Side) {
+    (key(number), Side::Theirs)
+}
+
+// A record that both sides added.
+fn conflict(number: u64) -> Conflict {
+    Conflict {
+        key: key(number),
+        base: None,
+        parent: Some(value(b'p')),
+        mine: Some(value(b'm')),
+    }
+}
+
+// The conflicts at the keys 2, 4 and 6, by rising keys.
+fn rising() -> [Conflict; 3] {
+    [conflict(2), conflict(4), conflict(6)]
+}
+
+// The same ones in another order.
+fn mixed() -> [Conflict; 3] {
+    [conflict(6), conflict(2), conflict(4)]
+}
+
+#[test]
+fn takes_a_settlement_of_each_conflict(rt: HostRuntime) {
+    let settled = [mine(2), theirs(4), mine(6)];
+    assert!(rt; settled_refusal(rt.alloc(), &settled, &rising()).is_none());
+    assert!(rt; settled_refusal(rt.alloc(), &settled, &mixed()).is_none());
+    let unsorted = [theirs(4), mine(6), mine(2)];
+    assert!(rt; settled_refusal(rt.alloc(), &unsorted, &rising()).is_none());
+    assert!(rt; settled_refusal(rt.alloc(), &unsorted, &mixed()).is_none());
+    assert!(rt; settled_refusal(rt.alloc(), &[], &[]).is_none());
+}
+
+#[test]
+fn counts_the_conflicts_without_a_settlement(rt: HostRuntime) {
+    let one = Some(Refusal::Unsettled(1));
+    assert!(rt; settled_refusal(rt.alloc(), &[mine(2), mine(4)], &rising()) == one);
+    assert!(rt; settled_refusal(rt.alloc(), &[mine(2), mine(6)], &rising()) == one);
+    assert!(rt; settled_refusal(rt.alloc(), &[mine(4), mine(6)], &rising()) == one);
+    assert!(rt; settled_refusal(rt.alloc(), &[mine(6), mine(4)], &rising()) == one);
+    assert!(rt; settled_refusal(rt.alloc(), &[mine(4), mine(6)], &mixed()) == one);
+    assert!(rt;
+        settled_refusal(rt.alloc(), &[theirs(6)], &rising()) == Some(Refusal::Unsettled(2))
+    );
+    assert!(rt; settled_refusal(rt.alloc(), &[], &rising()) == Some(Refusal::Unsettled(3)));
+}
+
+#[test]
+fn names_the_first_settlement_that_is_in_no_conflict(rt: HostRuntime) {
+    let refused = |number| Some(Refusal::NotInConflict(key(number)));
+    assert!(rt;
+        settled_refusal(rt.alloc(), &[mine(2), mine(3), mine(4), mine(5)], &rising()) == refused(3)
+    );
+    assert!(rt;
+        settled_refusal(rt.alloc(), &[mine(5), mine(4), mine(3), mine(2)], &rising()) == refused(5)
+    );
+    assert!(rt;
+        settled_refusal(rt.alloc(), &[mine(2), mine(3), mine(4), mine(5)], &mixed()) == refused(3)
+    );
+    assert!(rt; settled_refusal(rt.alloc(), &[mine(1), mine(2)], &rising()) == refused(1));
+    assert!(rt;
+        settled_refusal(rt.alloc(), &[mine(2), mine(4), mine(6), mine(7)], &rising()) == refused(7)
+    );
+    assert!(rt; settled_refusal(rt.alloc(), &[mine(2)], &[]) == refused(2));
+}
+
+#[test]
+fn names_the_first_key_that_is_settled_twice(rt: HostRuntime) {
+    let refused = Some(Refusal::SettledTwice(key(4)));
+    assert!(rt;
+        settled_refusal(rt.alloc(), &[mine(2), mine(4), mine(4), mine(6)], &rising()) == refused
+    );
+    assert!(rt;
+        settled_refusal(
+            rt.alloc(),
+            &[mine(2), mine(4), theirs(4), mine(6)],
+            &rising()
+        ) == refused
+    );
+    assert!(rt;
+        settled_refusal(rt.alloc(), &[mine(4), mine(6), mine(2), mine(4)], &rising()) == refused
+    );
+    assert!(rt; settled_refusal(rt.alloc(), &[mine(3), mine(4), mine(4)], &mixed()) == refused);
+}
+
+#[test]
+fn merges_by_settlements_in_any_order(rt: HostRuntime) -> Result<(), Fail> {
+    let parent = [
+        change(1, None, Some(b'p')),
+        change(2, Some(b'b'), Some(b'p')),
+        change(4, Some(b'b'), None),
+        change(6, None, Some(b'p')),
+        change(7, None, Some(b'p')),
+    ];
+    let own = [
+        change(2, Some(b'b'), Some(b'm')),
+        change(4, Some(b'b'), Some(b'm')),
+        change(5, Some(b'b'), None),
+        change(6, None, Some(b'm')),
+        change(7, None, Some(b'p')),
+    ];
+    let conflicts = conflicts_between(rt.alloc(), &parent, &own)?;
+    assert_eq!(rt; conflicts.len(), 3);
+    assert!(rt; conflicts[2] == conflict(6));
+    let taken: [Change; 3] = [
+        change(1, None, Some(b'p')),
+        change(2, Some(b'm'), Some(b'p')),
+        change(4, Some(b'm'), None),
+    ];
+    for settled in [
+        [theirs(2), theirs(4), mine(6)],
+        [mine(6), theirs(4), theirs(2)],
+        [theirs(4), mine(6), theirs(2)],
+    ] {
+        assert!(rt; settled_refusal(rt.alloc(), &settled, &conflicts).is_none());
+        let changes = changes_by_merge(rt.alloc(), &parent, &own, &settled)?;
+        assert!(rt; changes.as_slice() == taken.as_slice());
+    }
+    let kept = changes_by_merge(rt.alloc(), &parent, &own, &[mine(2), mine(4), mine(6)])?;
+    assert!(rt; kept.as_slice() == [change(1, None, Some(b'p'))].as_slice());
+    Ok(())
+}

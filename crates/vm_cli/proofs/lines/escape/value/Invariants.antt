@@ -1,0 +1,14 @@
+use Rattle.std.proofs.Common.{◌≡◌, ◌++◌, ◌≤◌, length, take, option_map}
+use Rattle.vm_cli.specs.Escapes.{unescaped}
+use Rattle.vm_cli.proofs.lines.escape.value.Given as goal
+
+-- the bytes so far, and those that the rest spells
+abbrev pub invariant-loop-rest : goal.invariant-loop-rest
+invariant-loop-rest l = record {
+  spelled : unescaped l.fn.word ≡ option_map (λ more. take l.len l.bytes ++ more) (unescaped l.rest);
+  room : l.len ≤ 240;
+  held : length l.bytes ≡ 240;
+}
+
+abbrev pub decreases-loop-rest : goal.decreases-loop-rest
+decreases-loop-rest l = length l.rest

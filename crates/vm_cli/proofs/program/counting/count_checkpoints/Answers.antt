@@ -1,0 +1,18 @@
+use Rattle.std.proofs.Common.{◌≡◌, arith, length, sym}
+use Rattle.vm_cli.proofs.CountingLemmas.{added, counted_all, has_list}
+use Rattle.vm_cli.proofs.program.counting.count_checkpoints.Goals as goal
+
+pub loop-alternative-preserved : goal.loop-alternative-preserved
+loop-alternative-preserved g c sound s holds is =
+    let long : c.len.result ≡ length c.in-Ok.names.items = omega (arith, c.len.ensures, c.in-Ok.names.ok.0) in
+    added c.args.store.now s holds c.args.listed.now is c.loop-alternative.alternative-index c.loop-alternative-test.true _ (sym c.alternative-item.is)
+    _ (c.in-Ok.ensures.value sound s holds) _ (c.loop-alternative.invariant sound s holds is) _ long _ c.saturating_add-count.ensures
+
+pub returns-in-Err-clause-refused : goal.returns-in-Err-clause-refused
+returns-in-Err-clause-refused g c sound s holds is =
+    has_list c.args.store.now s holds c.args.listed.now is c.loop-alternative.alternative-index c.loop-alternative-test.true _ (sym c.alternative-item.is)
+    _ (c.in-Err.ensures.none sound s holds)
+
+pub returns-clause-counted : goal.returns-clause-counted
+returns-clause-counted g c sound s holds is =
+    counted_all c.args.store.now s holds c.args.listed.now is c.loop-alternative.alternative-index c.loop-alternative-test.false _ (c.loop-alternative.invariant sound s holds is)

@@ -1,0 +1,98 @@
+use Rattle.std.proofs.Common.{map, inl, inr, refl}
+use Rattle.std.specs.String.{string_bytes}
+use Rattle.clap.specs.Words.{kind_of}
+use Rattle.vm_cli.specs.Exits.{IsJob}
+use Rattle.vm_cli.specs.Words.Wanted.{check, create, do_lines, draw, run}
+use Rattle.vm_cli.proofs.ExitLemmas.{checked, drawn, help_or_mistake, helped, made, mistaken, no_memory, talked}
+use Rattle.vm_cli.proofs.FilesLemmas.{did_check, did_create, did_draw, did_lines, did_nothing, did_run, no_fault}
+use Rattle.vm_cli.proofs.program.do_job.Goals as goal
+
+pub returns-in-Ok-Create-clause-ends : goal.returns-in-Ok-Create-clause-ends
+returns-in-Ok-Create-clause-ends g c =
+    let words = map string_bytes c.args.words.now in
+    let e = rw c.in-Ok-Create.field-0-is at c.in-Ok-Create.ensures in
+    let job : IsJob words (create c.in-Ok-Create.file.now c.in-Ok-Create.blocks) = (e.faults, e.ok) in
+    made g.W.Write.contents g.F.Write.contents words _ _ _ _ c.in-Ok-Create.file.now c.in-Ok-Create.blocks _ job c.create.ensures.says
+
+pub returns-in-Ok-Run-clause-ends : goal.returns-in-Ok-Run-clause-ends
+returns-in-Ok-Run-clause-ends g c =
+    let words = map string_bytes c.args.words.now in
+    let e = rw c.in-Ok-Run.field-0-is at c.in-Ok-Run.ensures in
+    let job : IsJob words (run c.in-Ok-Run.file.now c.in-Ok-Run.cache c.in-Ok-Run.on_refusal) = (e.faults, e.ok) in
+    talked g.W.Write.contents g.F.Write.contents words _ _ _ _ _ c.in-Ok-Run.on_refusal _ job (c.in-Ok-Run.file.now, c.in-Ok-Run.cache, inl job) c.run.ensures.says
+
+pub returns-in-Ok-Do-clause-ends : goal.returns-in-Ok-Do-clause-ends
+returns-in-Ok-Do-clause-ends g c =
+    let words = map string_bytes c.args.words.now in
+    let e = rw c.in-Ok-Do.field-0-is at c.in-Ok-Do.ensures in
+    let job : IsJob words (do_lines c.in-Ok-Do.file.now c.in-Ok-Do.input.items c.in-Ok-Do.cache c.in-Ok-Do.on_refusal) = (e.faults, e.ok) in
+    talked g.W.Write.contents g.F.Write.contents words _ _ _ _ _ c.in-Ok-Do.on_refusal _ job (c.in-Ok-Do.file.now, c.in-Ok-Do.cache, inr (c.in-Ok-Do.input.items, job)) c.run-in-Ok-Do.ensures.says
+
+pub returns-in-Ok-Check-clause-ends : goal.returns-in-Ok-Check-clause-ends
+returns-in-Ok-Check-clause-ends g c =
+    let words = map string_bytes c.args.words.now in
+    let e = rw c.in-Ok-Check.field-0-is at c.in-Ok-Check.ensures in
+    let job : IsJob words (check c.in-Ok-Check.file.now) = (e.faults, e.ok) in
+    checked g.W.Write.contents g.F.Write.contents words _ _ _ _ c.in-Ok-Check.file.now _ job c.check.ensures.says
+
+pub returns-in-Ok-Tree-clause-ends : goal.returns-in-Ok-Tree-clause-ends
+returns-in-Ok-Tree-clause-ends g c =
+    let words = map string_bytes c.args.words.now in
+    let e = rw c.in-Ok-Tree.field-0-is at c.in-Ok-Tree.ensures in
+    let job : IsJob words (draw c.in-Ok-Tree.file.now) = (e.faults, e.ok) in
+    drawn g.W.Write.contents g.F.Write.contents words _ _ _ _ c.in-Ok-Tree.file.now _ job c.tree.ensures.says
+
+pub returns-in-Err-clause-ends : goal.returns-in-Err-clause-ends
+returns-in-Err-clause-ends g c =
+    let words = map string_bytes c.args.words.now in
+    elim c.in-Err.ensures.faults [
+      | inl memory ↦ let m = c.explain.ensures.memory memory in no_memory g.W.Write.contents g.F.Write.contents words _ _ _ _ _ m.0 m.1 m.2
+      | inr among ↦ elim (help_or_mistake (kind_of c.in-Err.error)) [
+        | inl help ↦ helped g.W.Write.contents g.F.Write.contents words _ _ _ _ (kind_of c.in-Err.error) _ help among (c.explain.ensures.help help)
+        | inr wrong ↦ mistaken g.W.Write.contents g.F.Write.contents words _ _ _ _ (kind_of c.in-Err.error) _ wrong among (c.explain.ensures.wrong wrong)
+      ]
+    ]
+
+pub returns-in-Ok-Create-clause-files : goal.returns-in-Ok-Create-clause-files
+returns-in-Ok-Create-clause-files g c honest =
+    let words = map string_bytes c.args.words.now in
+    let e = rw c.in-Ok-Create.field-0-is at c.in-Ok-Create.ensures in
+    let job : IsJob words (create c.in-Ok-Create.file.now c.in-Ok-Create.blocks) = (e.faults, e.ok) in
+    did_create g.P.D.Disk _ _ _ _ words _ _ _ _ _ _ _ _ _ _ job (c.create.ensures.files honest)
+
+pub returns-in-Ok-Run-clause-files : goal.returns-in-Ok-Run-clause-files
+returns-in-Ok-Run-clause-files g c honest =
+    let words = map string_bytes c.args.words.now in
+    let e = rw c.in-Ok-Run.field-0-is at c.in-Ok-Run.ensures in
+    let job : IsJob words (run c.in-Ok-Run.file.now c.in-Ok-Run.cache c.in-Ok-Run.on_refusal) = (e.faults, e.ok) in
+    did_run g.P.D.Disk _ _ _ _ words _ _ _ _ _ _ _ _ c.in-Ok-Run.file.now c.in-Ok-Run.cache c.in-Ok-Run.on_refusal job (c.run.ensures.files honest)
+
+pub returns-in-Ok-Do-clause-files : goal.returns-in-Ok-Do-clause-files
+returns-in-Ok-Do-clause-files g c honest =
+    let words = map string_bytes c.args.words.now in
+    let e = rw c.in-Ok-Do.field-0-is at c.in-Ok-Do.ensures in
+    let job : IsJob words (do_lines c.in-Ok-Do.file.now c.in-Ok-Do.input.items c.in-Ok-Do.cache c.in-Ok-Do.on_refusal) = (e.faults, e.ok) in
+    let files = rw c.as_slice-lines.ensures.value at (c.run-in-Ok-Do.ensures.files honest) in
+    did_lines g.P.D.Disk _ _ _ _ words _ _ _ _ _ _ _ _ c.in-Ok-Do.file.now c.in-Ok-Do.input.items c.in-Ok-Do.cache c.in-Ok-Do.on_refusal job files
+
+pub returns-in-Ok-Check-clause-files : goal.returns-in-Ok-Check-clause-files
+returns-in-Ok-Check-clause-files g c honest =
+    let words = map string_bytes c.args.words.now in
+    let e = rw c.in-Ok-Check.field-0-is at c.in-Ok-Check.ensures in
+    let job : IsJob words (check c.in-Ok-Check.file.now) = (e.faults, e.ok) in
+    did_check g.P.D.Disk _ _ _ _ words _ _ _ _ _ _ _ _ c.in-Ok-Check.file.now job c.check.ensures.reads (c.check.ensures.files honest)
+
+pub returns-in-Ok-Tree-clause-files : goal.returns-in-Ok-Tree-clause-files
+returns-in-Ok-Tree-clause-files g c honest =
+    let words = map string_bytes c.args.words.now in
+    let e = rw c.in-Ok-Tree.field-0-is at c.in-Ok-Tree.ensures in
+    let job : IsJob words (draw c.in-Ok-Tree.file.now) = (e.faults, e.ok) in
+    did_draw g.P.D.Disk _ _ _ _ words _ _ _ _ _ _ _ _ c.in-Ok-Tree.file.now job c.tree.ensures.reads (c.tree.ensures.files honest)
+
+pub returns-in-Err-clause-files : goal.returns-in-Err-clause-files
+returns-in-Err-clause-files g c honest =
+    let words = map string_bytes c.args.words.now in
+    did_nothing g.P.D.Disk _ _ _ _ words _ _ _ _ _ _ _ _ refl refl (λ job asked. elim c.in-Err.ensures.faults [
+      | inl memory ↦ (c.explain.ensures.memory memory).0
+      | inr among ↦ absurd (no_fault (kind_of c.in-Err.error) words job asked among)
+    ])

@@ -1,0 +1,11 @@
+use Rattle.std.proofs.Common.{sym, ◌∙◌}
+use Rattle.vm_cli.proofs.RealFilesLemmas.{creates}
+use Rattle.vm_cli.specs.Progress.{file_below}
+use Rattle.vm_cli.proofs.program.place.RealFiles.made.Goals as goal
+
+pub returns-clause-honest : goal.returns-clause-honest
+returns-clause-honest g c honest =
+    let file = c.in-Some in
+    let below = c.new.ensures in
+    creates g.W.World.held g.W.World.torn c.args.file.now _ _ (file_below c.new.result) _ (c.of.ensures ∙ sym below) (rw below file.ensures.name) c.args.blocks
+    c.note-3.ensures (rw below file.ensures.state) c.create-2.result c.create-2.ensures.made c.create-2.ensures.created _ c.ok.ensures.value honest

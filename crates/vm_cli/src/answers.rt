@@ -1,0 +1,7 @@
+//! What lines are answered: the text of an answer, how it is made, and how it is written.
+
+pub mod listing;
+pub mod lists;
+pub mod reply;
+pub mod text;
+pub mod writing;

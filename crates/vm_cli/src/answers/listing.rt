@@ -1,0 +1,184 @@
+//! The lines of lists.
+ghost use Rattle.std.specs.Prelude.{◌≡◌, ◌+◌, ◌<◌, ◌≤◌, ◌++◌, [], length, map, slice_index_or};
+ghost use Rattle.vm_cli.specs.Listings.{alternative_text, change_text, checkpoint_text, conflict_text, key_words, optional_text, record_text};
+
+use crate::answers::text::Text;
+use crate::lines::escape;
+use vm_types::{Change, Conflict, Key, Name, Records, Value};
+
+/// A list that is answered line by line.
+pub trait Listing {
+    ghost use Rattle.std.specs.Prelude.{ℕ, List};
+
+    /// Its lines, in order.
+    ghost lines: { Self → List (List ℕ) };
+
+    /// How many lines it has.
+    fn count(&self) -> usize
+        ensures { result ≡ length (lines self.now) };
+
+    /// Writes the line at i.
+    fn push_line(&self, i: usize, text: &mut Text)
+        requires within { i < length (lines self.now) }
+        requires room { length text.old + 2304 ≤ 65536 }
+        ensures { text.new ≡ text.old ++ slice_index_or (lines self.now) i [] };
+}
+
+/// Records, each read from where it lies in the list.
+impl Listing for Records {
+    ghost lines = { λ records. map (λ r. record_text r.0 r.1) records };
+
+    fn count(&self) -> usize {
+        self.len()
+    }
+
+    fn push_line(&self, i: usize, text: &mut Text) {
+        push_record(text, self.key(i), self.value(i));
+    }
+}
+
+impl<L: Listed> Listing for Vec<L> {
+    ghost lines = { λ list. map L.line list.items };
+
+    fn count(&self) -> usize {
+        self.len()
+    }
+
+    fn push_line(&self, i: usize, text: &mut Text) {
+        self[i].push_onto(text);
+    }
+}
+
+/// What stands in a list on a line of its own.
+pub trait Listed {
+    ghost use Rattle.std.specs.Prelude.{ℕ, List};
+
+    /// Its line.
+    ghost line: { Self → List ℕ };
+
+    /// Writes its line.
+    fn push_onto(&self, text: &mut Text)
+        requires { length text.old + 2304 ≤ 65536 }
+        ensures { text.new ≡ text.old ++ line self.now };
+}
+
+impl Listed for (Name, Option<Name>) {
+    ghost line = { λ alternative. alternative_text alternative.0 alternative.1 };
+
+    fn push_onto(&self, text: &mut Text) {
+        push_alternative(text, &self.0, self.1);
+    }
+}
+
+impl Listed for Name {
+    ghost line = { checkpoint_text };
+
+    fn push_onto(&self, text: &mut Text) {
+        push_checkpoint(text, self);
+    }
+}
+
+impl Listed for Change {
+    ghost line = { change_text };
+
+    fn push_onto(&self, text: &mut Text) {
+        push_change(text, self);
+    }
+}
+
+impl Listed for Conflict {
+    ghost line = { conflict_text };
+
+    fn push_onto(&self, text: &mut Text) {
+        push_conflict(text, self);
+    }
+}
+
+// Writes the line of a record.
+fn push_record(text: &mut Text, key: Key, value: &[u8])
+    requires room { length text.old + 1024 ≤ 65536 }
+    requires short { length value.now ≤ 240 }
+    ensures { text.new ≡ text.old ++ record_text key value.now }
+{
+    text.push_bytes(b"record ");
+    push_key(text, key);
+    escape::push_spelled(text, value);
+    text.push(b'\n');
+}
+
+// Writes the line of an alternative, with its parent.
+fn push_alternative(text: &mut Text, name: &Name, parent: Option<Name>)
+    requires { length text.old + 1024 ≤ 65536 }
+    ensures { text.new ≡ text.old ++ alternative_text name.now parent }
+{
+    text.push_bytes(b"alternative ");
+    text.push_bytes(name.as_bytes());
+    text.push(b' ');
+    match parent {
+        Some(parent) => text.push_bytes(parent.as_bytes()),
+        None => text.push(b'~'),
+    }
+    text.push(b'\n');
+}
+
+// Writes the line of a checkpoint.
+fn push_checkpoint(text: &mut Text, name: &Name)
+    requires { length text.old + 1024 ≤ 65536 }
+    ensures { text.new ≡ text.old ++ checkpoint_text name.now }
+{
+    text.push_bytes(b"checkpoint ");
+    text.push_bytes(name.as_bytes());
+    text.push(b'\n');
+}
+
+// Writes the line of a change.
+fn push_change(text: &mut Text, change: &Change)
+    requires { length text.old + 2304 ≤ 65536 }
+    ensures { text.new ≡ text.old ++ change_text change.now }
+{
+    text.push_bytes(b"change ");
+    push_key(text, change.key);
+    push_optional(text, &change.before);
+    text.push(b' ');
+    push_optional(text, &change.after);
+    text.push(b'\n');
+}
+
+// Writes the line of a conflict.
+fn push_conflict(text: &mut Text, conflict: &Conflict)
+    requires { length text.old + 2304 ≤ 65536 }
+    ensures { text.new ≡ text.old ++ conflict_text conflict.now }
+{
+    text.push_bytes(b"conflict ");
+    push_key(text, conflict.key);
+    push_optional(text, &conflict.base);
+    text.push(b' ');
+    push_optional(text, &conflict.parent);
+    text.push(b' ');
+    push_optional(text, &conflict.mine);
+    text.push(b'\n');
+}
+
+// Writes a key, with a space behind it.
+fn push_key(text: &mut Text, key: Key)
+    requires room { length text.old + 42 ≤ 65536 }
+    ensures written { text.new ≡ text.old ++ key_words key }
+    ensures short { length text.new ≤ length text.old + 42 }
+{
+    text.push_number(u64::from(key.table));
+    text.push(b' ');
+    text.push_number(key.number);
+    text.push(b' ');
+}
+
+// Writes a value, or `~` for absence.
+fn push_optional(text: &mut Text, value: &Option<Value>)
+    requires room { length text.old + 720 ≤ 65536 }
+    ensures written { text.new ≡ text.old ++ optional_text value.now }
+    ensures short { length text.new ≤ length text.old + 720 }
+{
+    match value {
+        Some(value) => escape::push_value(text, value),
+        None => text.push(b'~'),
+    }
+}

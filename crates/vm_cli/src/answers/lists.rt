@@ -1,0 +1,65 @@
+//! Answers that are lists.
+ghost use Rattle.std.specs.Prelude.{◌≡◌, ◌+◌, ◌≤◌, [], length, IfOk, OnErr, OnOk};
+ghost use Rattle.vm_cli.specs.Carried.{WritesStart, Carries};
+ghost use Rattle.vm_cli.specs.Feeding.{ListReplied, joined};
+
+use crate::answers::listing::Listing;
+use crate::answers::reply::Reply;
+use crate::answers::text::Text;
+use crate::answers::writing::{WriteFault, put_all};
+use std::io::Write;
+use vm_types::Refusal;
+
+/// No line of an answer has more bytes.
+const LONGEST_LINE: usize = 2304;
+
+/// Answers a query for a list with its lines, or with why there is none. The text takes the lines but
+/// for the last, and what doesn't fit is written; the last line of the answer is given back.
+pub fn reply_with_list<L: Listing + Drop, W: Write>(
+    list: Result<L, Refusal>,
+    text: &mut Text,
+    writer: &mut W,
+) -> Result<Reply, WriteFault>
+    requires { text.old ≡ [] }
+    ensures room { OnOk result (length text.new + 1024 ≤ 65536) }
+    ensures list { ListReplied L.lines list result (W.contents writer.old) (W.contents writer.new) text.new }
+{
+    match list {
+        Ok(list) => write_list(&list, text, writer),
+        Err(refusal) => Ok(Reply::from_refusal(refusal)),
+    }
+}
+
+// Writes the lines of a list, but for what the text still has room for, and gives its end back.
+fn write_list<L: Listing, W: Write>(
+    list: &L,
+    text: &mut Text,
+    writer: &mut W,
+) -> Result<Reply, WriteFault>
+    requires { text.old ≡ [] }
+    ensures room { OnOk result (length text.new + 1024 ≤ 65536) }
+    ensures reply { IfOk result (λ reply. reply ≡ Reply.End (length (L.lines list.now))) }
+    ensures ok { OnOk result (Carries (W.contents writer.old) (W.contents writer.new) text.new (joined (L.lines list.now))) }
+    ensures err { OnErr result (WritesStart (W.contents writer.old) (W.contents writer.new) (joined (L.lines list.now))) }
+{
+    let count = list.count();
+    for i in 0..count {
+        make_room(text, writer)?;
+        list.push_line(i, text);
+    }
+    make_room(text, writer)?;
+    Ok(Reply::End(count))
+}
+
+// Makes room for one more line, and writes what there is where that is too much.
+fn make_room<W: Write>(text: &mut Text, writer: &mut W) -> Result<(), WriteFault>
+    ensures room { OnOk result (length text.new + 2304 ≤ 65536) }
+    ensures ok { OnOk result (Carries (W.contents writer.old) (W.contents writer.new) text.new text.old) }
+    ensures err { OnErr result (WritesStart (W.contents writer.old) (W.contents writer.new) text.old) }
+{
+    if text.as_bytes().len() > Text::MAX_LEN - LONGEST_LINE {
+        put_all(writer, text.as_bytes())?;
+        text.clear();
+    }
+    Ok(())
+}

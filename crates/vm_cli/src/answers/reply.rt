@@ -1,0 +1,171 @@
+//! What a line is answered.
+ghost use Rattle.std.specs.Prelude.{◌≡◌, ◌≢◌, ◌+◌, ◌≤◌, ◌++◌, length, true, false};
+
+use crate::answers::text::Text;
+use crate::lines::escape;
+use vm_types::{Key, Refusal, Value};
+
+/// What a line is answered.
+#[derive(Clone, Copy)]
+pub enum Reply {
+    /// No line at all.
+    Nothing,
+    Done,
+    /// A merge, with the number of its record changes.
+    Merged(u32),
+    /// The value of a record, if it is there.
+    Found(Option<Value>),
+    /// The number of free blocks.
+    Free(u32),
+    /// The end of a list, with the number of its lines before this one.
+    End(usize),
+    Refused(Refusal),
+    /// A refusal after which the store carries out nothing more: the talk ends with it.
+    Last(Refusal),
+    BadLine,
+    LongLine,
+}
+
+impl Reply {
+    ghost use Rattle.vm_cli.specs.Replies.{ends_talk, is_error, reply_text};
+    ghost use Rattle.vm_cli.specs.Talk.{error_text};
+
+    /// Writes the answer as one line, or as none.
+    pub fn push_onto(&self, text: &mut Text)
+        requires { length text.old + 1024 ≤ 65536 }
+        ensures { text.new ≡ text.old ++ reply_text self.now }
+    {
+        match self {
+            Reply::Nothing => {}
+            Reply::Done => text.push_bytes(b"ok\n"),
+            Reply::Merged(changes) => {
+                text.push_bytes(b"ok ");
+                text.push_number(u64::from(*changes));
+                text.push(b'\n');
+            }
+            Reply::Found(None) => text.push_bytes(b"none\n"),
+            Reply::Found(Some(value)) => {
+                text.push_bytes(b"value ");
+                escape::push_value(text, value);
+                text.push(b'\n');
+            }
+            Reply::Free(count) => {
+                text.push_bytes(b"free ");
+                text.push_number(u64::from(*count));
+                text.push(b'\n');
+            }
+            Reply::End(count) => {
+                text.push_bytes(b"end ");
+                text.push_number(*count as u64);
+                text.push(b'\n');
+            }
+            Reply::Refused(refusal) => push_error(text, refusal),
+            Reply::Last(refusal) => push_error(text, refusal),
+            Reply::BadLine => text.push_bytes(b"error 22 BadLine\n"),
+            Reply::LongLine => text.push_bytes(b"error 23 LongLine\n"),
+        }
+    }
+
+    /// What is answered to a line that is refused, where the device didn't fail in a command.
+    pub fn from_refusal(refusal: Refusal) -> Reply
+        ensures text { reply_text result ≡ error_text refusal }
+        ensures last { refusal ≢ Refusal.Failed → ends_talk result ≡ false }
+        ensures failed { refusal ≡ Refusal.Failed → ends_talk result ≡ true }
+    {
+        match refusal {
+            Refusal::Failed => Reply::Last(refusal),
+            _ => Reply::Refused(refusal),
+        }
+    }
+
+    /// Whether the talk ends with this answer.
+    pub fn is_last(&self) -> bool
+        ensures { result ≡ ends_talk self.now }
+    {
+        match self {
+            Reply::Last(_) => true,
+            _ => false,
+        }
+    }
+
+    /// Whether it says that a line was refused.
+    pub fn is_refusal(&self) -> bool
+        ensures { result ≡ is_error (reply_text self.now) }
+    {
+        match self {
+            Reply::Nothing => false,
+            Reply::Done => false,
+            Reply::Merged(_) => false,
+            Reply::Found(_) => false,
+            Reply::Free(_) => false,
+            Reply::End(_) => false,
+            Reply::Refused(_) => true,
+            Reply::Last(_) => true,
+            Reply::BadLine => true,
+            Reply::LongLine => true,
+        }
+    }
+}
+
+ghost use Rattle.std.specs.Prelude.{◌∷◌, [], codes};
+ghost use Rattle.vm_types.specs.Texts.{detail_text, key_text, refusal_text};
+
+// Writes the line of a refusal.
+fn push_error(text: &mut Text, refusal: &Refusal)
+    requires { length text.old + 200 ≤ 65536 }
+    ensures { text.new ≡ text.old ++ (codes "error " ++ (refusal_text refusal.now ++ 10 ∷ [])) }
+{
+    text.push_bytes(b"error ");
+    push_refusal(text, refusal);
+    text.push(b'\n');
+}
+
+/// Writes a refusal: its number, its name, and what it has beside them.
+pub fn push_refusal(text: &mut Text, refusal: &Refusal)
+    requires room { length text.old + 120 ≤ 65536 }
+    ensures written { text.new ≡ text.old ++ refusal_text refusal.now }
+    ensures short { length text.new ≤ length text.old + 120 }
+{
+    text.push_number(u64::from(refusal.code()));
+    text.push(b' ');
+    text.push_bytes(refusal.name().as_bytes());
+    push_detail(text, refusal);
+}
+
+// Writes what a refusal has beside its number and name.
+fn push_detail(text: &mut Text, refusal: &Refusal)
+    requires room { length text.old + 50 ≤ 65536 }
+    ensures written { text.new ≡ text.old ++ detail_text refusal.now }
+    ensures short { length text.new ≤ length text.old + 50 }
+{
+    match refusal {
+        Refusal::Unsettled(count) => {
+            text.push(b' ');
+            text.push_number(*count);
+        }
+        Refusal::NotInConflict(key) => {
+            text.push(b' ');
+            push_key(text, *key);
+        }
+        Refusal::SettledTwice(key) => {
+            text.push(b' ');
+            push_key(text, *key);
+        }
+        Refusal::Damaged(block) => {
+            text.push(b' ');
+            text.push_number(u64::from(*block));
+        }
+        _ => {}
+    }
+}
+
+// Writes a key.
+fn push_key(text: &mut Text, key: Key)
+    requires room { length text.old + 41 ≤ 65536 }
+    ensures written { text.new ≡ text.old ++ key_text key }
+    ensures short { length text.new ≤ length text.old + 41 }
+{
+    text.push_number(u64::from(key.table));
+    text.push(b':');
+    text.push_number(key.number);
+}

@@ -1,0 +1,79 @@
+//! The text of an answer, composed in place.
+ghost use Rattle.std.specs.Fmt.{decimal};
+ghost use Rattle.std.specs.Prelude.{◌≡◌, ◌+◌, ◌<◌, ◌≤◌, ◌++◌, ◌∷◌, [], length};
+
+use std::marker::Model;
+
+/// The text of an answer, or a part of it, of at most `MAX_LEN` bytes, which it holds in place.
+#[derive(Drop)]
+pub struct Text {
+    bytes: [u8; 65536],
+    len: usize,
+}
+
+impl Model for Text {
+    ghost use Rattle.std.specs.Prelude.{ℕ, List, take, ◌≤◌};
+
+    ghost Value = { List ℕ };
+
+    ghost view = { λ t. take t.len t.bytes };
+
+    ghost invariant = { λ t. t.len ≤ 65536 };
+}
+
+impl Text {
+    /// The most bytes of a text.
+    pub const MAX_LEN: usize = 65536;
+
+    /// A text without bytes.
+    pub fn new() -> Text
+        ensures { result ≡ [] }
+    {
+        Text {
+            bytes: [0; Text::MAX_LEN],
+            len: 0,
+        }
+    }
+
+    /// Takes one more byte.
+    pub fn push(&mut self, byte: u8)
+        requires { length self.old < 65536 }
+        ensures { self.new ≡ self.old ++ byte ∷ [] }
+    {
+        self.bytes[self.len] = byte;
+        self.len += 1;
+    }
+
+    /// Takes more bytes.
+    pub fn push_bytes(&mut self, bytes: &[u8])
+        requires { length self.old + length bytes.now ≤ 65536 }
+        ensures { self.new ≡ self.old ++ bytes.now }
+    {
+        let end = self.len + bytes.len();
+        self.bytes[self.len..end].copy_from_slice(bytes);
+        self.len = end;
+    }
+
+    /// Takes a number, in decimal digits.
+    pub fn push_number(&mut self, number: u64)
+        requires { length self.old + 20 ≤ 65536 }
+        ensures written { self.new ≡ self.old ++ decimal number }
+        ensures short { length self.new ≤ length self.old + 20 }
+    {
+        let mut buffer = itoa::Buffer::new();
+        self.push_bytes(buffer.format(number).as_bytes());
+    }
+
+    /// Drops all bytes.
+    pub fn clear(&mut self)
+        ensures { self.new ≡ [] }
+    {
+        self.len = 0;
+    }
+
+    pub fn as_bytes(&self) -> &[u8]
+        ensures { result.now ≡ self.now }
+    {
+        &self.bytes[..self.len]
+    }
+}

@@ -1,0 +1,143 @@
+//! Values as they are written in lines.
+ghost use Rattle.std.specs.Prelude.{◌≡◌, ◌+◌, ◌<◌, ◌≤◌, ◌++◌, ◌∷◌, length, MatchOption, None, Some, option_map, true};
+ghost use Rattle.vm_cli.specs.Escapes.{ArePlain, byte_text, hex_digit, hex_text, is_plain as is_plain_byte, unescaped, value_of, value_text};
+
+use crate::answers::text::Text;
+use memchr::memchr;
+use vm_types::Value;
+
+/// The value that a word spells: `-` is the empty one, `%` and two hexadecimal digits are one
+/// byte, and any other byte stands for itself.
+pub fn value(word: &[u8]) -> Option<Value>
+    ensures { result ≡ value_of word.now }
+{
+    if word == b"-".as_slice() {
+        return Value::new(&[]);
+    }
+    if memchr(b'%', word).is_none() {
+        return Value::new(word);
+    }
+    let mut bytes = [0; Value::MAX_LEN];
+    let mut len = 0;
+    let mut rest = word;
+    while !rest.is_empty() {
+        let (byte, after) = first_byte(rest)?;
+        if len == Value::MAX_LEN {
+            return None;
+        }
+        bytes[len] = byte;
+        len += 1;
+        rest = after;
+    }
+    Value::new(&bytes[..len])
+}
+
+// The first byte that a word spells, and what stands after it.
+fn first_byte(word: &[u8]) -> Option<(u8, &[u8])>
+    requires { 0 < length word.now }
+    ensures { MatchOption result (unescaped word.now ≡ None)
+        (λ p. (unescaped word.now ≡ option_map (λ bytes. p.0 ∷ bytes) (unescaped p.1.now))
+        × (length p.1.now < length word.now)) }
+{
+    if word[0] != b'%' {
+        return Some((word[0], &word[1..]));
+    }
+    if word.len() < 3 {
+        return None;
+    }
+    let high = hex(word[1])?;
+    let low = hex(word[2])?;
+    Some((high * 16 + low, &word[3..]))
+}
+
+// What a hexadecimal digit of either case stands for.
+fn hex(digit: u8) -> Option<u8>
+    ensures digit { result ≡ hex_digit digit }
+    ensures small { MatchOption result (Unit {0}) (λ n. n < 16) }
+{
+    match digit {
+        b'0'..=b'9' => Some(digit - b'0'),
+        b'A'..=b'F' => Some(digit - b'A' + 10),
+        b'a'..=b'f' => Some(digit - b'a' + 10),
+        _ => None,
+    }
+}
+
+/// Writes a value: the empty one as `-`, each byte from 0x21 to 0x7D but `%` as itself, each other
+/// byte as `%` and two upper case hexadecimal digits, and so the value `-`.
+pub fn push_value(text: &mut Text, value: &Value)
+    requires { length text.old + 720 ≤ 65536 }
+    ensures written { text.new ≡ text.old ++ value_text value.now }
+    ensures short { length text.new ≤ length text.old + 720 }
+    ensures read_again { value_of (value_text value.now) ≡ Some value.now }
+{
+    push_spelled(text, value.as_bytes());
+}
+
+/// Writes the bytes of a value in the same way.
+pub fn push_spelled(text: &mut Text, bytes: &[u8])
+    requires room { length text.old + 720 ≤ 65536 }
+    requires short { length bytes.now ≤ 240 }
+    ensures written { text.new ≡ text.old ++ value_text bytes.now }
+    ensures size { length text.new ≤ length text.old + 720 }
+    ensures read_again { value_of (value_text bytes.now) ≡ Some bytes.now }
+{
+    if bytes.is_empty() {
+        text.push(b'-');
+        return;
+    }
+    if bytes == b"-".as_slice() {
+        text.push_bytes(b"%2D");
+        return;
+    }
+    if are_plain(bytes) {
+        text.push_bytes(bytes);
+        return;
+    }
+    for byte in bytes {
+        push_escaped(text, *byte);
+    }
+}
+
+// Whether each byte is written as itself. No byte ends the loop, so many are tested at once.
+fn are_plain(bytes: &[u8]) -> bool
+    ensures { result ≡ true → ArePlain bytes.now }
+{
+    let mut plain = true;
+    for byte in bytes {
+        plain &= is_plain(*byte);
+    }
+    plain
+}
+
+// Whether a byte is written as itself.
+fn is_plain(byte: u8) -> bool
+    ensures { result ≡ is_plain_byte byte }
+{
+    byte >= 0x21 && byte <= 0x7d && byte != b'%'
+}
+
+// Writes one byte of a value.
+fn push_escaped(text: &mut Text, byte: u8)
+    requires { length text.old + 3 ≤ 65536 }
+    ensures { text.new ≡ text.old ++ byte_text byte }
+{
+    if is_plain(byte) {
+        text.push(byte);
+        return;
+    }
+    text.push(b'%');
+    text.push(hex_of(byte / 16));
+    text.push(hex_of(byte % 16));
+}
+
+// The upper case hexadecimal digit of a number.
+fn hex_of(number: u8) -> u8
+    requires { number < 16 }
+    ensures { result ≡ hex_text number }
+{
+    if number < 10 {
+        return b'0' + number;
+    }
+    b'A' + (number - 10)
+}

@@ -1,0 +1,87 @@
+//! One line, as it is read.
+use std::alloc::Global;
+
+/// The most bytes of a line. The line feed at its end does not count, a carriage return does.
+pub const MOST_BYTES: usize = 1_048_576;
+
+/// What became of the bytes of a line.
+#[derive(Clone, Copy, Debug)]
+pub enum LineKind {
+    /// All are held.
+    Kept,
+    /// There are more than a line may have.
+    Long,
+    /// Memory for them was refused.
+    NoMemory,
+}
+
+/// The line that is being read.
+#[derive(Drop)]
+pub struct Line {
+    pub bytes: Vec<u8>,
+    pub kind: LineKind,
+    pub is_empty: bool,
+}
+
+impl Line {
+    ghost use Rattle.std.specs.Prelude.{◌≡◌, ℕ, List, ◌++◌, []};
+    ghost use Rattle.vm_cli.specs.Lines.{IsPart};
+    ghost use Rattle.vm_cli.specs.Reading.{HoldsLine, without_return};
+
+    /// A line without bytes.
+    pub fn new(alloc: Global) -> Line
+        ensures { HoldsLine result [] }
+    {
+        Line {
+            bytes: Vec::new(alloc),
+            kind: LineKind::Kept,
+            is_empty: true,
+        }
+    }
+
+    /// Takes more bytes of the line.
+    pub fn extend(&mut self, bytes: &[u8])
+        requires { IsPart bytes.now }
+        ensures { (part : List ℕ) → HoldsLine self.old part → HoldsLine self.new (part ++ bytes.now) }
+    {
+        if bytes.is_empty() {
+            return;
+        }
+        self.is_empty = false;
+        match self.kind {
+            LineKind::Kept => {
+                if self.bytes.len() + bytes.len() > MOST_BYTES {
+                    self.kind = LineKind::Long;
+                } else if self.bytes.extend_from_slice(bytes).is_err() {
+                    self.kind = LineKind::NoMemory;
+                }
+            }
+            LineKind::Long => {}
+            LineKind::NoMemory => {}
+        }
+    }
+
+    /// Begins the next line.
+    pub fn clear(&mut self)
+        ensures { HoldsLine self.new [] }
+    {
+        self.bytes.clear();
+        self.kind = LineKind::Kept;
+        self.is_empty = true;
+    }
+
+    /// The bytes that are held, without one carriage return at their end.
+    pub fn text(&self) -> &[u8]
+        ensures { result.now ≡ without_return self.now.bytes.items }
+    {
+        let bytes = self.bytes.as_slice();
+        if bytes.is_empty() {
+            return bytes;
+        }
+        let last = bytes.len() - 1;
+        if bytes[last] != b'\r' {
+            return bytes;
+        }
+        &bytes[..last]
+    }
+}

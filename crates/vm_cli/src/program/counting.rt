@@ -1,0 +1,89 @@
+//! What a store holds, counted.
+ghost use Rattle.std.specs.Prelude.{◌≡◌, ◌≢◌, ◌+◌, ◌≤◌, ◌++◌, false, length, IfErr, IfOk};
+ghost use Rattle.vm_store.specs.Store.{Holds, free_of, has_failed};
+ghost use Rattle.vm_types.specs.Shape.{shape};
+ghost use Rattle.vm_types.specs.State.{State};
+ghost use Rattle.vm_cli.specs.Counting.{checkpoint_count};
+ghost use Rattle.vm_cli.specs.Exits.{check_text};
+
+use crate::answers::text::Text;
+use std::alloc::Global;
+use vm_disk::Disk;
+use vm_store::Store;
+use vm_types::{Name, Refusal};
+
+/// How many alternatives, `top` among them, checkpoints of them all, and free blocks a store has.
+#[derive(Clone, Copy, Debug, PartialEq, Eq)]
+pub struct Counts {
+    pub alternatives: usize,
+    pub checkpoints: usize,
+    pub free: u32,
+}
+
+impl Counts {
+    /// Writes them, a line each.
+    pub fn push_onto(&self, text: &mut Text)
+        requires { length text.old + 200 ≤ 65536 }
+        ensures { text.new ≡ text.old ++ check_text self.now.alternatives self.now.checkpoints self.now.free }
+    {
+        text.push_bytes(b"alternatives ");
+        text.push_number(self.alternatives as u64);
+        text.push_bytes(b"\ncheckpoints ");
+        text.push_number(self.checkpoints as u64);
+        text.push_bytes(b"\nfree ");
+        text.push_number(u64::from(self.free));
+        text.push(b'\n');
+    }
+}
+
+/// Counts what a store holds. It makes no device call.
+pub fn count<D: Disk>(alloc: Global, store: &Store<D>) -> Result<Counts, Refusal>
+    ensures counted { has_failed store.now ≡ false → (s : State) → Holds store.now s
+        → IfOk result (λ counts. (counts.alternatives ≡ length s.working)
+        × (counts.checkpoints ≡ checkpoint_count s.working) × (counts.free ≡ free_of store.now)) }
+    ensures refused { has_failed store.now ≡ false → (s : State) → Holds store.now s
+        → IfErr result (λ refusal. refusal ≡ Refusal.Memory) }
+    ensures never { has_failed store.now ≡ false → result ≢ Err Refusal.Device }
+{
+    let alternatives = match store.alternatives(alloc) {
+        Ok(alternatives) => alternatives,
+        Err(refusal) => return Err(refusal),
+    };
+    let checkpoints = match count_checkpoints(alloc, store, &alternatives) {
+        Ok(checkpoints) => checkpoints,
+        Err(refusal) => return Err(refusal),
+    };
+    match store.free() {
+        Ok(free) => Ok(Counts {
+            alternatives: alternatives.len(),
+            checkpoints,
+            free,
+        }),
+        Err(refusal) => Err(refusal),
+    }
+}
+
+// Counts the checkpoints of all alternatives, which are listed.
+fn count_checkpoints<D: Disk>(
+    alloc: Global,
+    store: &Store<D>,
+    listed: &[(Name, Option<Name>)],
+) -> Result<usize, Refusal>
+    ensures counted { has_failed store.now ≡ false → (s : State) → Holds store.now s
+        → listed.now ≡ shape s.working
+        → IfOk result (λ count. count ≡ checkpoint_count s.working) }
+    ensures refused { has_failed store.now ≡ false → (s : State) → Holds store.now s
+        → listed.now ≡ shape s.working
+        → IfErr result (λ refusal. refusal ≡ Refusal.Memory) }
+    ensures never { has_failed store.now ≡ false → result ≢ Err Refusal.Device }
+{
+    let mut count: usize = 0;
+    for alternative in listed {
+        match store.checkpoints(alloc, &alternative.0) {
+            // They are few, 511 together, wherever the disk keeps its model.
+            Ok(names) => count = count.saturating_add(names.len()),
+            Err(refusal) => return Err(refusal),
+        }
+    }
+    Ok(count)
+}

@@ -1,0 +1,274 @@
+//! The texts of help. In a session, a line after `> ` is the input's, and those below it are the
+//! answer.
+
+/// The program's version, the format number in the slots of its files, and what `rt version` says of
+/// the toolchain that it is proved and built with.
+pub const VERSION: &str = "\
+0.1.0
+file format 1
+proved with rattle-kit-13b logic dac8208d650f15bf";
+
+/// What the program is.
+pub const ALTCTL: &str = "\
+A version managed map store with alternatives.
+
+One file holds one map database in many versions. Alternatives form a tree
+under top: each is changed record by record, checkpointed, merged with what its
+parent changed since, and posted to its parent. A commit makes all of it last.
+Versions share every block that they have in common.";
+
+/// How a store is made and used.
+pub const ALTCTL_AFTER: &str = "\
+A session, where each line after > is typed, and its answer stands below it:
+
+  $ altctl create map.alt 1024
+  created 1024
+  $ altctl run map.alt
+  > new a top
+  ok
+  > put a 7 1 duct
+  ok
+  > get a 7 1
+  value duct
+  > post a
+  ok
+  > get top 7 1
+  value duct
+  > commit
+  ok
+
+What was not committed is gone when the input ends. altctl create --help says
+how many blocks to take, altctl run --help lists all lines and answers, and
+altctl check --help says when to check a store.
+
+Status: 0 where all was done, though altctl run without --strict may have
+refused single lines; 1 where the file could not be made or opened, or is
+refused; 2 where the words are wrong; 3 where the store failed, the input could
+not be read or an output could not be written; 4 where altctl do, or altctl run
+--strict, refused a line.";
+
+/// What `create` does.
+pub const CREATE: &str = "\
+Makes a file with an empty store, and prints the number of its blocks.";
+
+/// The file that `create` makes.
+pub const CREATE_FILE: &str = "The file to make, which must not exist";
+
+/// The number of blocks that `create` takes.
+pub const CREATE_BLOCKS: &str = "How many blocks it has: 64 to 1048576";
+
+/// How many blocks to take.
+pub const CREATE_AFTER: &str = "\
+A block has 4,096 bytes: 64 blocks are 256 KiB, 524,288 are 2 GiB, and 1,048,576
+are 4 GiB. A file may start small: the lines grow BLOCKS and then commit make it
+larger, and no line makes it smaller. How many blocks a store needs:
+
+  - 34 blocks are the store's own.
+  - A block holds at most 16 records, and 9 to 11 as they usually come: a
+    million records take 90,000 to 112,000 blocks.
+  - Versions share what they have in common: a changed record takes the blocks
+    of one path through its tree, from one to eight.
+  - Keep a tenth of the blocks spare. Where fewer than 16 are, each change is
+    refused: error 13 Full.
+
+docs/OPERATING.md says more.
+
+A session:
+
+  $ altctl create map.alt 1024
+  created 1024";
+
+/// What `check` does.
+pub const CHECK: &str = "\
+Opens a store for reading alone, changes nothing, and prints how many
+alternatives, checkpoints and free blocks it has.";
+
+/// The file that `check` opens.
+pub const CHECK_FILE: &str = "The file, a plain one, which need not be one that may be written";
+
+/// When to check a store.
+pub const CHECK_AFTER: &str = "\
+Every block that a version needs is read and tested, just as at the beginning of
+a run, so a store that is checked without a refusal can be run. When to use it:
+
+  - after a crash of the machine, before the store is used again
+  - before a copy, so that a good copy is not replaced by one of a damaged store
+  - after a restore
+
+A refusal is printed as by altctl run: 18 Damaged BLOCK names the first block
+that is wrong, 19 NotAStore says that the file is no store. The free blocks are
+those that a run has free at its beginning.
+
+A session:
+
+  $ altctl check map.alt
+  alternatives 2
+  checkpoints 0
+  free 989";
+
+/// What `tree` does.
+pub const TREE: &str = "\
+Opens a store for reading alone, changes nothing, and draws its alternatives as
+a tree, each with its checkpoints and what is to be merged and posted.";
+
+/// How a drawing is read.
+pub const TREE_AFTER: &str = "\
+A line is an alternative, below its parent, or a checkpoint, with * before its
+name. They stand in order of creation, the checkpoints of an alternative before
+the alternatives under it. The columns of an alternative:
+
+  changed    records changed since its base
+  unmerged   records that its parent changed since then: not merged yet
+  conflicts  records that both have changed, and differently
+  post       whether altctl run would post it: nothing is unmerged
+
+top has no parent, so its columns are -. A refusal is printed as by altctl
+check. No name is cut: lines fit 80 columns up to the fifth level under top.
+
+A session:
+
+  $ altctl tree map.alt
+  changed unmerged conflicts post
+        -        -         -    -  top
+        1        0         0  yes  |- north
+                                   |  * before
+        0        0         0  yes  |  `- pipes
+        2        1         1   no  `- south";
+
+/// What `run` does.
+pub const RUN: &str = "\
+Opens a store and answers the lines of the standard input, one after another,
+until it ends. What was not committed is gone then.";
+
+/// The file that `run` opens.
+pub const RUN_FILE: &str = "The file, as altctl create has made it";
+
+/// How many blocks `run` keeps in memory.
+pub const RUN_CACHE: &str = "How many blocks stay in memory: 0 to 65536";
+
+/// That a refused line ends `run` or `do`.
+pub const STRICT: &str = "Ends with the first line that is refused, with status 4";
+
+/// What `do` does.
+pub const DO: &str = "\
+Opens a store and answers the lines that the words are, one after another, as
+altctl run does. What was not committed is gone then.";
+
+/// The lines that `do` answers.
+pub const DO_LINE: &str = "A line, as altctl run answers it";
+
+/// What a refused line means to `do`.
+pub const DO_AFTER: &str = "\
+Where a line is refused, the status is 4. The lines after it are answered all
+the same, unless --strict is given: then it is the last. So with commit as the
+last line all of them are made last, or none is:
+
+  altctl do --strict map.alt 'put top 7 1 duct' 'put top 7 2 pipe' commit
+
+A line that begins with - is given behind --. altctl run --help lists all lines
+and answers.
+
+A session:
+
+  $ altctl do map.alt 'put top 7 1 cable%20A' 'get top 7 1' commit
+  ok
+  value cable%20A
+  ok";
+
+/// The lines that `run` answers.
+pub const RUN_AFTER: &str = "\
+Lines, by what they are about, each with what it does and its answer:
+
+  Records
+    put ALT TABLE NUMBER VALUE  gives a record a value: ok
+    remove ALT TABLE NUMBER     takes a record out: ok
+
+  Alternatives
+    new NAME PARENT             adds an alternative under a parent: ok
+    new NAME PARENT CHECKPOINT  adds one from a checkpoint of its parent: ok
+    drop ALT                    takes an alternative out: ok
+
+  Checkpoints
+    checkpoint ALT NAME         names the present state: ok
+    back ALT NAME               goes back to a checkpoint: ok
+    uncheck ALT NAME            takes a checkpoint out: ok
+
+  Merging
+    merge ALT SETTLEMENT ..     brings in what changed in the parent:
+                                ok N, with the number of records changed
+    post ALT                    makes its state the parent's: ok
+
+  Store
+    commit                      makes all changes last: ok
+    reclaim                     frees each block that no version needs: ok
+    grow BLOCKS                 gives the store so many blocks in all: ok
+    free                        the number of free blocks: free N
+
+  Queries
+    get ALT TABLE NUMBER        reads a record: value VALUE, or none
+    list ALT                    all records:
+                                record TABLE NUMBER VALUE for each
+    alts                        all alternatives:
+                                alternative NAME PARENT for each
+    checks ALT                  the checkpoints of an alternative:
+                                checkpoint NAME for each
+    changes ALT                 what changed since the base:
+                                change TABLE NUMBER BEFORE AFTER for each
+    conflicts ALT               what is in conflict with the parent:
+                                conflict TABLE NUMBER BASE PARENT MINE for each
+
+The last five end with a line end N, with the number of lines before it. In
+their lines ~ stands for no value or no parent.
+
+The first alternative is top. A name, ALT and PARENT too, has 1 to 32 ASCII
+letters, digits, _, - and . in it. TABLE is a number from 0 to 65535, NUMBER one
+from 0 to 18446744073709551615. A VALUE has up to 240 bytes; % and two
+hexadecimal digits are one byte, as in cable%20A, and - is the empty value. A
+merge has a SETTLEMENT for each record in conflict, TABLE:NUMBER=mine or
+TABLE:NUMBER=theirs. A line that is empty or begins with # has no answer.
+
+BLOCKS is how many blocks the store is to have: more than it has, and 1048576 at
+most. Type grow and then commit: the new blocks can be used at once, and from
+that commit on the store keeps them.
+
+A line that is refused changes no record. Its answer is error, a number and a
+name:
+
+  Not there         1 NoSuchAlternative, 3 NoSuchCheckpoint, 5 NoSuchRecord
+  There already     2 AlternativeExists, 4 CheckpointExists
+  Not possible      6 IsTop, 7 HasChildren
+  Merge first       8 NotMerged
+  Settlements       9 Unsettled COUNT, 10 NotInConflict TABLE:NUMBER,
+                    11 SettledTwice TABLE:NUMBER
+  No room           12 TooMany, 13 Full, 14 Deep
+  Not a larger size 21 BadSize
+  Device, memory    15 Device, 16 Memory, 18 Damaged BLOCK
+  The line itself   22 BadLine, 23 LongLine
+
+With --strict the first line that is refused is the last, and the status is 4.
+Where 15 Device answers a change, or a grow for which the disk has no room, the
+run ends: what was committed is there at the next one, and a commit that was
+answered so may be. docs/OPERATING.md says what helps in each case.
+
+A session, where each line after > is typed, and its answer stands below it:
+
+  $ altctl run map.alt
+  > new a top
+  ok
+  > put top 7 1 duct
+  ok
+  > put a 7 1 cable%20A
+  ok
+  > merge a
+  error 9 Unsettled 1
+  > conflicts a
+  conflict 7 1 ~ duct cable%20A
+  end 1
+  > merge a 7:1=mine
+  ok 0
+  > post a
+  ok
+  > get top 7 1
+  value cable%20A
+  > commit
+  ok";

@@ -1,0 +1,154 @@
+//! Files in memory, found by name.
+ghost use Rattle.std.specs.Prelude.{◌≡◌, ℕ, true, List, None, IfSome, length, max, option_map};
+ghost use Rattle.std.specs.Option.{ForSome};
+ghost use Rattle.vm_disk.specs.Memory.{memory_state, room_of};
+ghost use Rattle.vm_disk.specs.Past.{noted};
+
+use crate::program::place::Place;
+use std::alloc::Global;
+use std::collections::BTreeMap;
+use std::snapshot::Snapshot;
+use vm_disk::{History, MemDisk};
+
+/// A file: its disk, unless that is out, and the disk that it was when it was made or last came back.
+#[derive(Drop)]
+struct Slot {
+    disk: Option<MemDisk>,
+    held: Snapshot<MemDisk>,
+    ghost same: { ForSome disk (λ there. (memory_state there).now.contents ≡ (memory_state held.value).now.contents) },
+}
+
+/// Files in memory, each a `MemDisk` under its name. A file whose disk is out is not found. They are
+/// honest until a disk comes back under a name of which no file was made.
+#[derive(Drop)]
+pub struct MemFiles {
+    alloc: Global,
+    slots: BTreeMap<String, Slot>,
+    honest: bool,
+    room: u32,
+    denied: History<()>,
+    to_write: History<()>,
+}
+
+impl MemFiles {
+    ghost use Rattle.vm_cli.specs.MemFiles.{files_state, room_given};
+    ghost use Rattle.vm_cli.specs.Places.{Creates, Finds};
+
+    /// No files. Disks that are made can't get longer.
+    pub fn new(alloc: Global) -> MemFiles
+        ensures honest { (files_state result).honest ≡ true }
+        ensures empty { (name : List ℕ) → (files_state result).files name ≡ None }
+        ensures room { room_given result ≡ 0 }
+    {
+        MemFiles::with_room(alloc, 0)
+    }
+
+    /// No files. Disks that are made have room to get longer, up to so many blocks.
+    pub fn with_room(alloc: Global, room: u32) -> MemFiles
+        ensures honest { (files_state result).honest ≡ true }
+        ensures empty { (name : List ℕ) → (files_state result).files name ≡ None }
+        ensures room { room_given result ≡ room }
+    {
+        MemFiles {
+            alloc,
+            slots: BTreeMap::new(alloc),
+            honest: true,
+            room,
+            denied: History::new(),
+            to_write: History::new(),
+        }
+    }
+
+    /// Whether each disk that came back did so under the name of a file that was made.
+    pub fn is_honest(&self) -> bool
+        ensures { result ≡ (files_state self.now).honest }
+    {
+        self.honest
+    }
+
+    // Makes a disk under a name that is not there yet.
+    fn made(&mut self, file: &str, blocks: u32) -> Option<MemDisk>
+        ensures denied { noted self.new.denied ≡ noted self.old.denied }
+        ensures to_write { noted self.new.to_write ≡ noted self.old.to_write }
+        ensures earlier { (files_state self.new).honest ≡ true
+            → (files_state self.old).honest ≡ true }
+        ensures honest { (files_state self.new).honest ≡ true
+            → Creates file.now blocks (option_map memory_state result) (files_state self.old) (files_state self.new) }
+        ensures room { IfSome result (λ disk. room_of disk ≡ max (room_given self.old) blocks) }
+    {
+        if self.slots.contains_key(file) {
+            return None;
+        }
+        let name = String::from_str(self.alloc, file).ok()?;
+        let room = self.room.max(blocks);
+        let disk = MemDisk::with_room(self.alloc, blocks, room).ok()?;
+        let slot = Slot {
+            disk: None,
+            held: Snapshot::of(&disk),
+        };
+        self.slots.insert(name, slot).ok()?;
+        Some(disk)
+    }
+
+    // Takes out a disk that is in.
+    fn found(&mut self, file: &str) -> Option<MemDisk>
+        ensures denied { noted self.new.denied ≡ noted self.old.denied }
+        ensures to_write { noted self.new.to_write ≡ noted self.old.to_write }
+        ensures earlier { (files_state self.new).honest ≡ true
+            → (files_state self.old).honest ≡ true }
+        ensures honest { (files_state self.new).honest ≡ true
+            → Finds file.now (option_map memory_state result) (files_state self.old) (files_state self.new) }
+    {
+        let slot = self.slots.get_mut(file)?;
+        let disk = slot.disk.take()?;
+        // It came back whole, so what was not synced is lasting too.
+        Some(disk.crash(&[]))
+    }
+}
+
+impl Place for MemFiles {
+    type D = MemDisk;
+
+    ghost use Rattle.vm_cli.specs.MemFiles.{files_state};
+
+    ghost state = { files_state };
+
+    ghost denied = { λ place. length (noted place.denied) };
+
+    ghost to_write = { λ place. length (noted place.to_write) };
+
+    fn create(&mut self, file: &str, blocks: u32) -> Option<MemDisk> {
+        self.to_write.note(&());
+        let made = self.made(file, blocks);
+        if made.is_none() {
+            self.denied.note(&());
+        }
+        made
+    }
+
+    fn find(&mut self, file: &str) -> Option<MemDisk> {
+        self.to_write.note(&());
+        self.look(file)
+    }
+
+    fn look(&mut self, file: &str) -> Option<MemDisk> {
+        let found = self.found(file);
+        if found.is_none() {
+            self.denied.note(&());
+        }
+        found
+    }
+
+    fn give_back(&mut self, file: &str, disk: MemDisk) {
+        match self.slots.get_mut(file) {
+            Some(slot) => {
+                let held = Snapshot::of(&disk);
+                *slot = Slot {
+                    disk: Some(disk),
+                    held,
+                };
+            }
+            None => self.honest = false,
+        }
+    }
+}

@@ -1,0 +1,226 @@
+//! Where disks are found by name.
+ghost use Rattle.std.specs.Prelude.{◌≡◌, ◌+◌, ℕ, true, None, IfSome, option_map};
+ghost use Rattle.vm_cli.specs.Places.{PlaceState, Creates, Finds, TakesBack};
+
+use crate::program::progress::{Progress, Watched};
+use std::fs::File;
+use std::marker::PhantomData;
+use std::os::fd::AsRawFd;
+use std::rt::Files;
+use std::snapshot::Snapshot;
+use vm_disk::{Disk, FileDisk, History, LAST_STANDARD, SystemFile, World, noted_bytes};
+
+/// Where disks are found by name.
+///
+/// Of a place that is not honest nothing is said: what its files hold is then unknown.
+pub trait Place {
+    type D: Disk;
+
+    /// What is known of it, for contracts alone.
+    ghost state: { Self → PlaceState };
+
+    /// How often it gave no disk, for contracts alone.
+    ghost denied: { Self → ℕ };
+
+    /// How often it was asked for a disk that may be written, for contracts alone.
+    ghost to_write: { Self → ℕ };
+
+    /// Makes a disk that is not there yet, of this many zero blocks.
+    fn create(&mut self, file: &str, blocks: u32) -> Option<Self::D>
+        ensures none { result ≡ None → denied self.new ≡ denied self.old + 1 }
+        ensures some { IfSome result (λ disk. denied self.new ≡ denied self.old) }
+        ensures writes { to_write self.new ≡ to_write self.old + 1 }
+        ensures earlier { (state self.new).honest ≡ true → (state self.old).honest ≡ true }
+        ensures honest { (state self.new).honest ≡ true
+            → Creates file.now blocks (option_map Self.D.state result) (state self.old) (state self.new) };
+
+    /// A disk that is there.
+    fn find(&mut self, file: &str) -> Option<Self::D>
+        ensures none { result ≡ None → denied self.new ≡ denied self.old + 1 }
+        ensures some { IfSome result (λ disk. denied self.new ≡ denied self.old) }
+        ensures writes { to_write self.new ≡ to_write self.old + 1 }
+        ensures earlier { (state self.new).honest ≡ true → (state self.old).honest ≡ true }
+        ensures honest { (state self.new).honest ≡ true
+            → Finds file.now (option_map Self.D.state result) (state self.old) (state self.new) };
+
+    /// A disk that is there, for reading alone: it need not be one that may be written.
+    fn look(&mut self, file: &str) -> Option<Self::D>
+        ensures none { result ≡ None → denied self.new ≡ denied self.old + 1 }
+        ensures some { IfSome result (λ disk. denied self.new ≡ denied self.old) }
+        ensures reads { to_write self.new ≡ to_write self.old }
+        ensures earlier { (state self.new).honest ≡ true → (state self.old).honest ≡ true }
+        ensures honest { (state self.new).honest ≡ true
+            → Finds file.now (option_map Self.D.state result) (state self.old) (state self.new) };
+
+    /// Takes a disk back that it gave.
+    fn give_back(&mut self, file: &str, disk: Self::D)
+        ensures denied { denied self.new ≡ denied self.old }
+        ensures reads { to_write self.new ≡ to_write self.old }
+        ensures earlier { (state self.new).honest ≡ true → (state self.old).honest ≡ true }
+        ensures honest { (state self.new).honest ≡ true
+            → TakesBack file.now (Self.D.state disk) (state self.old) (state self.new) };
+}
+
+// What was done with a file of the system. Missed is that one was to be had which may be written, and
+// was not.
+#[derive(Drop)]
+enum Event<'a, W> {
+    Found(Snapshot<SystemFile<W>>),
+    Made(Snapshot<SystemFile<W>>),
+    Missed,
+    Given(History<u8>, Snapshot<FileDisk<Watched<'a, SystemFile<W>>>>),
+}
+
+/// The files of the system. What they hold when they are opened no program can know: the world W says
+/// it, for contracts alone. They are honest as long as each is found as it was left, and each disk that
+/// comes back has kept the disk model.
+///
+/// Assumed, and in no contract: that between two openings no one else writes a file, and that it keeps
+/// what the disk model says that a crash may leave.
+///
+/// As long as it is there, the standard input, output and error are open. One that was closed is open
+/// on a folder: reads fail there, and so do writes. Where no folder can be opened it stays closed, and
+/// no file is opened in its place.
+#[derive(Drop)]
+pub struct RealFiles<'a, R, W> {
+    rt: &'a R,
+    progress: &'a Progress,
+    folders: [Option<File>; 3],
+    opened: History<()>,
+    events: History<Event<'a, W>>,
+    denied: History<()>,
+    world: PhantomData<W>,
+}
+
+// Folders in the place of what is closed of the standard input, output and error, as far as they can be
+// opened.
+fn take_standard(rt: &impl Files<File = File>) -> [Option<File>; 3] {
+    let mut folders = [None, None, None];
+    for folder in &mut folders {
+        // An opened file has the lowest number that is free.
+        match File::open(rt, "/") {
+            Ok(opened) if opened.as_raw_fd() <= LAST_STANDARD => *folder = Some(opened),
+            _ => break,
+        }
+    }
+    folders
+}
+
+impl<'a, R: Files<File = File>, W: World> RealFiles<'a, R, W> {
+    ghost use Rattle.vm_cli.specs.RealFiles.{asked_to_write, real_state, times_denied, untouched};
+
+    /// The files that a runtime reaches, of which none was asked for so far. It opens what is closed of
+    /// the standard input, output and error, where that can be opened.
+    pub fn new(rt: &'a R, progress: &'a Progress) -> RealFiles<'a, R, W>
+        ensures state { real_state W.held W.torn result ≡ untouched W.held }
+        ensures denied { times_denied result ≡ 0 }
+        ensures to_write { asked_to_write result ≡ 0 }
+    {
+        RealFiles {
+            rt,
+            progress,
+            folders: take_standard(rt),
+            opened: History::new(),
+            events: History::new(),
+            denied: History::new(),
+            world: PhantomData,
+        }
+    }
+}
+
+impl<'a, R: Files<File = File>, W: World> RealFiles<'a, R, W> {
+    ghost use Rattle.vm_cli.specs.RealFiles.{asked_to_write, real_disk, real_state, times_denied};
+
+    // Makes a file that is not there yet, and a disk of it.
+    fn made(&mut self, file: &str, blocks: u32) -> Option<FileDisk<Watched<'a, SystemFile<W>>>>
+        ensures denied { times_denied self.new ≡ times_denied self.old }
+        ensures to_write { asked_to_write self.new ≡ asked_to_write self.old + 1 }
+        ensures earlier { (real_state W.held W.torn self.new).honest ≡ true
+            → (real_state W.held W.torn self.old).honest ≡ true }
+        ensures honest { (real_state W.held W.torn self.new).honest ≡ true
+            → Creates file.now blocks (option_map (real_disk W.held W.torn) result) (real_state W.held W.torn self.old) (real_state W.held W.torn self.new) }
+    {
+        let Some(made) = SystemFile::create(self.rt, file, &self.opened) else {
+            self.events.note(&Event::Missed);
+            return None;
+        };
+        self.opened.note(&());
+        self.events.note(&Event::Made(Snapshot::of(&made)));
+        self.progress.set_total(u64::from(blocks));
+        FileDisk::create(Watched::new(made, self.progress), blocks).ok()
+    }
+
+    // Opens a file that is there, as a disk.
+    fn found(&mut self, file: &str) -> Option<FileDisk<Watched<'a, SystemFile<W>>>>
+        ensures denied { times_denied self.new ≡ times_denied self.old }
+        ensures to_write { asked_to_write self.new ≡ asked_to_write self.old + 1 }
+        ensures earlier { (real_state W.held W.torn self.new).honest ≡ true
+            → (real_state W.held W.torn self.old).honest ≡ true }
+        ensures honest { (real_state W.held W.torn self.new).honest ≡ true
+            → Finds file.now (option_map (real_disk W.held W.torn) result) (real_state W.held W.torn self.old) (real_state W.held W.torn self.new) }
+    {
+        let Some(found) = SystemFile::open(self.rt, file, &self.opened) else {
+            self.events.note(&Event::Missed);
+            return None;
+        };
+        self.opened.note(&());
+        self.events.note(&Event::Found(Snapshot::of(&found)));
+        FileDisk::open(Watched::new(found, self.progress)).ok()
+    }
+
+    // Opens a file that is there for reading alone, as a disk.
+    fn looked(&mut self, file: &str) -> Option<FileDisk<Watched<'a, SystemFile<W>>>>
+        ensures denied { times_denied self.new ≡ times_denied self.old }
+        ensures to_write { asked_to_write self.new ≡ asked_to_write self.old }
+        ensures earlier { (real_state W.held W.torn self.new).honest ≡ true
+            → (real_state W.held W.torn self.old).honest ≡ true }
+        ensures honest { (real_state W.held W.torn self.new).honest ≡ true
+            → Finds file.now (option_map (real_disk W.held W.torn) result) (real_state W.held W.torn self.old) (real_state W.held W.torn self.new) }
+    {
+        let found = SystemFile::open_to_read(self.rt, file, &self.opened)?;
+        self.opened.note(&());
+        self.events.note(&Event::Found(Snapshot::of(&found)));
+        FileDisk::open(Watched::new(found, self.progress)).ok()
+    }
+}
+
+impl<'a, R: Files<File = File>, W: World> Place for RealFiles<'a, R, W> {
+    type D = FileDisk<Watched<'a, SystemFile<W>>>;
+
+    ghost use Rattle.vm_cli.specs.RealFiles.{asked_to_write, real_state, times_denied};
+
+    ghost state = { real_state W.held W.torn };
+
+    ghost denied = { times_denied };
+
+    ghost to_write = { asked_to_write };
+
+    fn create(&mut self, file: &str, blocks: u32) -> Option<FileDisk<Watched<'a, SystemFile<W>>>> {
+        let made = self.made(file, blocks);
+        if made.is_none() {
+            self.denied.note(&());
+        }
+        made
+    }
+
+    fn find(&mut self, file: &str) -> Option<FileDisk<Watched<'a, SystemFile<W>>>> {
+        let found = self.found(file);
+        if found.is_none() {
+            self.denied.note(&());
+        }
+        found
+    }
+
+    fn look(&mut self, file: &str) -> Option<FileDisk<Watched<'a, SystemFile<W>>>> {
+        let found = self.looked(file);
+        if found.is_none() {
+            self.denied.note(&());
+        }
+        found
+    }
+
+    fn give_back(&mut self, file: &str, disk: FileDisk<Watched<'a, SystemFile<W>>>) {
+        let name = noted_bytes(file.as_bytes());
+        self.events.note(&Event::Given(name, Snapshot::of(&disk)));
+    }
+}

@@ -1,0 +1,99 @@
+//! What is drawn of each alternative of a store.
+ghost use Rattle.std.specs.Prelude.{◌≡◌, ◌≢◌, ◌⊎◌, true, false, None, IfErr, IfOk};
+ghost use Rattle.vm_types.specs.Queries.{checkpoints_in};
+ghost use Rattle.vm_types.specs.Shape.{shape};
+ghost use Rattle.vm_types.specs.State.{State};
+ghost use Rattle.vm_store.specs.Store.{Holds, has_failed, IsHonest, GoesOn};
+ghost use Rattle.vm_store.specs.Tallies.{tally_in};
+ghost use Rattle.vm_cli.specs.Drawing.{branches_of, numbers as numbers_of};
+ghost use Rattle.vm_cli.specs.Talk.{Passes};
+
+use crate::program::drawing::Branch;
+use std::alloc::Global;
+use vm_disk::Disk;
+use vm_store::{Store, Tally};
+use vm_types::{Name, Refusal};
+
+/// What is drawn of each alternative of a store, in order of creation. It reads only what differs between
+/// an alternative, its base and its parent.
+pub fn survey<D: Disk>(alloc: Global, store: &mut Store<D>) -> Result<Vec<Branch>, Refusal>
+    ensures any { GoesOn (result ≡ Err Refusal.Device) store.old store.new }
+    ensures passes { Passes store.old store.new None }
+    ensures drawn { IsHonest store.new → has_failed store.old ≡ false → (s : State)
+        → Holds store.old s
+        → IfOk result (λ branches. branches.items ≡ branches_of s.working) }
+    ensures refused { IsHonest store.new → has_failed store.old ≡ false → (s : State)
+        → Holds store.old s
+        → IfErr result (λ refusal. (refusal ≡ Refusal.Device) ⊎ (refusal ≡ Refusal.Memory)) }
+{
+    let listed = store.alternatives(alloc)?;
+    survey_listed(alloc, store, &listed)
+}
+
+// What is drawn of all alternatives, which are listed.
+fn survey_listed<D: Disk>(
+    alloc: Global,
+    store: &mut Store<D>,
+    listed: &[(Name, Option<Name>)],
+) -> Result<Vec<Branch>, Refusal>
+    ensures any { GoesOn (result ≡ Err Refusal.Device) store.old store.new }
+    ensures passes { Passes store.old store.new None }
+    ensures drawn { IsHonest store.new → has_failed store.old ≡ false → (s : State)
+        → Holds store.old s → listed.now ≡ shape s.working
+        → IfOk result (λ branches. branches.items ≡ branches_of s.working) }
+    ensures refused { IsHonest store.new → has_failed store.old ≡ false → (s : State)
+        → Holds store.old s → listed.now ≡ shape s.working
+        → IfErr result (λ refusal. (refusal ≡ Refusal.Device) ⊎ (refusal ≡ Refusal.Memory)) }
+{
+    let mut branches = Vec::new(alloc);
+    for alternative in listed {
+        let branch = branch_of(alloc, store, &alternative.0, alternative.1)?;
+        let Ok(()) = branches.push(branch) else {
+            return Err(Refusal::Memory);
+        };
+    }
+    Ok(branches)
+}
+
+// What is drawn of the alternative of this name, whose parent is this one.
+fn branch_of<D: Disk>(
+    alloc: Global,
+    store: &mut Store<D>,
+    name: &Name,
+    parent: Option<Name>,
+) -> Result<Branch, Refusal>
+    ensures any { GoesOn (result ≡ Err Refusal.Device) store.old store.new }
+    ensures passes { Passes store.old store.new None }
+    ensures drawn { IsHonest store.new → has_failed store.old ≡ false → (s : State)
+        → Holds store.old s
+        → IfOk result (λ branch. (branch.name ≡ name.now) × (branch.parent ≡ parent)
+        × (branch.tally ≡ numbers_of (tally_in s.working name.now))
+        × (Ok branch.checkpoints ≡ checkpoints_in s.working name.now)) }
+    ensures refused { IsHonest store.new → has_failed store.old ≡ false → (s : State)
+        → Holds store.old s
+        → IfErr result (λ refusal. (refusal ≡ Refusal.Device)
+        ⊎ ((refusal ≡ Refusal.Memory) ⊎ (Err refusal ≡ checkpoints_in s.working name.now))) }
+{
+    let tally = numbers(store.tally(alloc, name))?;
+    let checkpoints = store.checkpoints(alloc, name)?;
+    Ok(Branch {
+        name: *name,
+        parent,
+        tally,
+        checkpoints,
+    })
+}
+
+// The numbers, where there are any: an alternative without a parent has none.
+fn numbers(tallied: Result<Tally, Refusal>) -> Result<Option<Tally>, Refusal>
+    ensures ok { IfOk result (λ tally. (tally ≡ numbers_of tallied) × (tallied ≢ Err Refusal.Device)
+        × (tallied ≢ Err Refusal.Memory)) }
+    ensures err { IfErr result (λ refusal. (tallied ≡ Err refusal) × (refusal ≢ Refusal.IsTop)
+        × (refusal ≢ Refusal.NoSuchAlternative)) }
+{
+    match tallied {
+        Ok(tally) => Ok(Some(tally)),
+        Err(Refusal::IsTop | Refusal::NoSuchAlternative) => Ok(None),
+        Err(refusal) => Err(refusal),
+    }
+}

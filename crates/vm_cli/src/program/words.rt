@@ -1,0 +1,291 @@
+//! The words that the program is started with, read by `clap`.
+ghost use Rattle.clap.specs.Words.{FailsBy, app_of, fault_of, kind_of, one_of, rule_of, rows_of, found_of, first_of, subcommand_of, subcommand_rows_of, with_rule, with_subcommand};
+ghost use Rattle.clap.specs.declared.builder.command.Command.TheViews.{out-Command};
+ghost use Rattle.std.specs.Prelude.{◌≡◌, ◌⊎◌, if◌then◌else◌, IfErr, IfOk, None, Some, false, map, ℕ, List, option_map, option_and_then, codes};
+ghost use Rattle.std.specs.String.{string_bytes};
+ghost use Rattle.vm_cli.specs.Words.{altctl, asked_by, asked_of, blocks_rule, cache_rule, check_app, create_app, do_app, file_rule, line_rule, is_set, number_in, run_app, strict_rule, top_app, tree_app, wanted_of};
+
+use crate::program::given::input_of;
+use crate::program::help;
+use crate::program::task::Job;
+use crate::talk::OnRefusal;
+use clap::{Arg, ArgAction, ArgMatches, Command, Error, value_parser};
+use std::alloc::{AllocError, Global};
+
+/// The fewest blocks of a store.
+pub const LEAST_BLOCKS: u32 = 64;
+
+/// The most blocks of a store.
+pub const MOST_BLOCKS: u32 = 1_048_576;
+
+/// The most blocks that are kept in memory.
+pub const MOST_CACHE: u32 = 65_536;
+
+/// Reads the program's words, of which the first is its name. An `Err` has the text to show, help
+/// included.
+pub fn job<'a>(alloc: Global, words: &'a [String]) -> Result<Job<'a>, Error>
+    ensures ok { IfOk result (λ j.
+        asked_of (subcommand_of altctl (map string_bytes words.entry.now)) ≡ Some (wanted_of j)) }
+    // An Ok comes only where the parse has no fault, and an Err has the kind of its fault, or memory was wanting.
+    ensures faults { FailsBy (fault_of altctl (map string_bytes words.entry.now)) result }
+{
+    let matches = command(alloc)?.try_get_matches_from(words)?;
+    match asked(alloc, &matches)? {
+        Some(job) => Ok(job),
+        None => unreachable!(),
+    }
+}
+
+// The job that the matches ask for.
+fn asked<'a>(alloc: Global, matches: &ArgMatches<'a>) -> Result<Option<Job<'a>>, AllocError>
+    ensures { IfOk result (λ job. option_map wanted_of job ≡ asked_of (subcommand_rows_of matches.now)) }
+{
+    let Some((name, matches)) = matches.subcommand() else {
+        return Ok(None);
+    };
+    let Some(file) = matches.get_str("file") else {
+        return Ok(None);
+    };
+    match name {
+        "create" => Ok(asked_create(matches, file)),
+        "run" => Ok(asked_run(matches, file)),
+        "do" => asked_do(alloc, matches, file),
+        "check" => Ok(Some(Job::Check { file })),
+        "tree" => Ok(Some(Job::Tree { file })),
+        _ => Ok(None),
+    }
+}
+
+// The job of `create` with these matches.
+fn asked_create<'a>(matches: &ArgMatches<'a>, file: &'a str) -> Option<Job<'a>>
+    ensures { option_map wanted_of result ≡ asked_by (codes "create") (rows_of (found_of matches.now)) file.now }
+{
+    let blocks = number_of(matches, "blocks", LEAST_BLOCKS, MOST_BLOCKS)?;
+    Some(Job::Create { file, blocks })
+}
+
+// The job of `run` with these matches.
+fn asked_run<'a>(matches: &ArgMatches<'a>, file: &'a str) -> Option<Job<'a>>
+    ensures { option_map wanted_of result ≡ asked_by (codes "run") (rows_of (found_of matches.now)) file.now }
+{
+    let cache = number_of(matches, "cache", 0, MOST_CACHE)?;
+    let on_refusal = on_refusal(is_strict(matches), OnRefusal::Ignore);
+    Some(Job::Run {
+        file,
+        cache,
+        on_refusal,
+    })
+}
+
+// The job of `do` with these matches.
+fn asked_do<'a>(
+    alloc: Global,
+    matches: &ArgMatches<'a>,
+    file: &'a str,
+) -> Result<Option<Job<'a>>, AllocError>
+    ensures { IfOk result (λ job. option_map wanted_of job ≡ asked_by (codes "do") (rows_of (found_of matches.now)) file.now) }
+{
+    let Some(lines) = matches.get_strs("line") else {
+        return Ok(None);
+    };
+    let Some(cache) = number_of(matches, "cache", 0, MOST_CACHE) else {
+        return Ok(None);
+    };
+    let input = input_of(alloc, lines)?;
+    let on_refusal = on_refusal(is_strict(matches), OnRefusal::Tell);
+    Ok(Some(Job::Do {
+        file,
+        input,
+        cache,
+        on_refusal,
+    }))
+}
+
+// Whether `--strict` was given.
+fn is_strict(matches: &ArgMatches<'_>) -> bool
+    ensures { result ≡ is_set (first_of (codes "strict") (rows_of (found_of matches.now))) }
+{
+    match matches.get_str("strict") {
+        Some(text) => text == "true",
+        None => false,
+    }
+}
+
+// What a line that is refused means, which with `--strict` ends the talk.
+fn on_refusal(strict: bool, otherwise: OnRefusal) -> OnRefusal
+    ensures { result ≡ (if strict then OnRefusal.Stop else otherwise) }
+{
+    if strict {
+        return OnRefusal::Stop;
+    }
+    otherwise
+}
+
+// The number that an argument has, where it lies in the range.
+fn number_of(matches: &ArgMatches<'_>, name: &str, least: u32, most: u32) -> Option<u32>
+    ensures { result ≡ option_and_then (number_in least most) (one_of name.now (rows_of (found_of matches.now))) }
+{
+    let number = matches.get_one::<u32>(name)?;
+    if number < least {
+        return None;
+    }
+    if number > most {
+        return None;
+    }
+    Some(number)
+}
+
+// The program's command line.
+fn command<'a>(alloc: Global) -> Result<Command<'a>, AllocError>
+    ensures { IfOk result (λ c. app_of c ≡ altctl) }
+{
+    first_commands(alloc)?
+        .subcommand(do_lines(alloc)?)?
+        .subcommand(check(alloc)?)?
+        .subcommand(tree(alloc)?)
+}
+
+// The program's command line up to `run`.
+fn first_commands<'a>(alloc: Global) -> Result<Command<'a>, AllocError>
+    ensures { IfOk result (λ c. app_of c ≡ with_subcommand (with_subcommand top_app create_app.top) run_app.top) }
+{
+    top(alloc)?
+        .subcommand(create(alloc)?)?
+        .subcommand(run(alloc)?)
+}
+
+fn top<'a>(alloc: Global) -> Result<Command<'a>, AllocError>
+    ensures { IfOk result (λ c. app_of c ≡ top_app) }
+{
+    Ok(
+        Command::new(alloc, "altctl")
+            .bin_name("altctl")?
+            .version(help::VERSION)
+            .about("A version managed map store with alternatives")
+            .long_about(help::ALTCTL)
+            .after_long_help(help::ALTCTL_AFTER)
+            .subcommand_required(true),
+    )
+}
+
+fn create<'a>(alloc: Global) -> Result<Command<'a>, AllocError>
+    ensures app { IfOk result (λ c. app_of c ≡ create_app) }
+    ensures local { IfOk result (λ c. (out-Command c).has_globals ≡ false) }
+{
+    Command::new(alloc, "create")
+        .about("Makes a file with an empty store")
+        .long_about(help::CREATE)
+        .after_long_help(help::CREATE_AFTER)
+        .arg(file(alloc, help::CREATE_FILE))?
+        .arg(blocks(alloc))
+}
+
+fn run<'a>(alloc: Global) -> Result<Command<'a>, AllocError>
+    ensures app { IfOk result (λ c. app_of c ≡ run_app) }
+    ensures local { IfOk result (λ c. (out-Command c).has_globals ≡ false) }
+{
+    let command = Command::new(alloc, "run")
+        .about("Opens a store and answers the lines of the standard input")
+        .long_about(help::RUN)
+        .after_long_help(help::RUN_AFTER)
+        .arg(file(alloc, help::RUN_FILE))?;
+    Ok(with_options(alloc, command)?)
+}
+
+fn do_lines<'a>(alloc: Global) -> Result<Command<'a>, AllocError>
+    ensures app { IfOk result (λ c. app_of c ≡ do_app) }
+    ensures local { IfOk result (λ c. (out-Command c).has_globals ≡ false) }
+{
+    let command = Command::new(alloc, "do")
+        .about("Opens a store and answers the lines that the words are")
+        .long_about(help::DO)
+        .after_long_help(help::DO_AFTER)
+        .arg(file(alloc, help::RUN_FILE))?
+        .arg(line(alloc))?;
+    Ok(with_options(alloc, command)?)
+}
+
+// A command with the options of a talk.
+fn with_options<'a>(alloc: Global, command: Command<'a>) -> Result<Command<'a>, AllocError>
+    ensures app { IfOk result (λ c. app_of c ≡ with_rule (with_rule (app_of command.entry) cache_rule) strict_rule) }
+    ensures local { (out-Command command.entry).has_globals ≡ false
+        → IfOk result (λ c. (out-Command c).has_globals ≡ false) }
+{
+    command.arg(cache(alloc))?.arg(strict(alloc))
+}
+
+fn check<'a>(alloc: Global) -> Result<Command<'a>, AllocError>
+    ensures app { IfOk result (λ c. app_of c ≡ check_app) }
+    ensures local { IfOk result (λ c. (out-Command c).has_globals ≡ false) }
+{
+    Command::new(alloc, "check")
+        .about("Opens a store, changes nothing, and prints what it holds")
+        .long_about(help::CHECK)
+        .after_long_help(help::CHECK_AFTER)
+        .arg(file(alloc, help::CHECK_FILE))
+}
+
+fn tree<'a>(alloc: Global) -> Result<Command<'a>, AllocError>
+    ensures app { IfOk result (λ c. app_of c ≡ tree_app) }
+    ensures local { IfOk result (λ c. (out-Command c).has_globals ≡ false) }
+{
+    Command::new(alloc, "tree")
+        .about("Opens a store, changes nothing, and draws its alternatives as a tree")
+        .long_about(help::TREE)
+        .after_long_help(help::TREE_AFTER)
+        .arg(file(alloc, help::CHECK_FILE))
+}
+
+fn file<'a>(alloc: Global, about: &'a str) -> Arg<'a>
+    ensures rule { rule_of result ≡ file_rule }
+    ensures local { result.global ≡ false }
+{
+    Arg::new(alloc, "file")
+        .value_name("FILE")
+        .help(about)
+        .required(true)
+}
+
+fn line<'a>(alloc: Global) -> Arg<'a>
+    ensures rule { rule_of result ≡ line_rule }
+    ensures local { result.global ≡ false }
+{
+    Arg::new(alloc, "line")
+        .value_name("LINE")
+        .help(help::DO_LINE)
+        .required(true)
+        .action(ArgAction::Append)
+}
+
+fn blocks<'a>(alloc: Global) -> Arg<'a>
+    ensures rule { rule_of result ≡ blocks_rule }
+    ensures local { result.global ≡ false }
+{
+    Arg::new(alloc, "blocks")
+        .value_name("BLOCKS")
+        .help(help::CREATE_BLOCKS)
+        .required(true)
+        .value_parser(value_parser!(u32).range(64..=1_048_576))
+}
+
+fn cache<'a>(alloc: Global) -> Arg<'a>
+    ensures rule { rule_of result ≡ cache_rule }
+    ensures local { result.global ≡ false }
+{
+    Arg::new(alloc, "cache")
+        .long("cache")
+        .value_name("N")
+        .help(help::RUN_CACHE)
+        .default_value("256")
+        .value_parser(value_parser!(u32).range(0..=65_536))
+}
+
+fn strict<'a>(alloc: Global) -> Arg<'a>
+    ensures rule { rule_of result ≡ strict_rule }
+    ensures local { result.global ≡ false }
+{
+    Arg::new(alloc, "strict")
+        .long("strict")
+        .help(help::STRICT)
+        .action(ArgAction::SetTrue)
+}

@@ -1,0 +1,31 @@
+-- What blocks that were written out leave, one after another.
+use Rattle.std.proofs.Common.{ℕ, Bool, ap, ◌∙◌, subst, refl}
+use Rattle.vm_disk.specs.declared.layers.Layers.{Layers}
+use Rattle.vm_disk.specs.Disk.{DiskState, Medium}
+use Rattle.vm_disk.specs.Moments.{Throughout, TouchesOnly}
+use Rattle.vm_disk.specs.Layers.{lower_of, medium_of, Sends}
+use Rattle.vm_disk.proofs.MomentLemmas.{and_then, weaken, at_end, started, spares_itself}
+use Rattle.vm_disk.proofs.LaidLemmas.{spares_then}
+
+module _ {D : Type 0} {members : _} (state : D → DiskState) where
+  -- nothing was written out
+  pub sends_nothing : (layers : Layers D members) → Sends state layers layers
+  sends_nothing layers =
+      let below = state (lower_of layers) in
+      record { same = refl; touches = started below (TouchesOnly (medium_of state layers).dirty below.now) (spares_itself (medium_of state layers).dirty below.now) }
+
+  -- some were, and then more
+  pub sends_then : (old mid new : Layers D members) → Sends state old mid → Sends state mid new → Sends state old new
+  sends_then old mid new first second =
+      let lower = state (lower_of old) in
+      let lower_mid = state (lower_of mid) in
+      let lower_new = state (lower_of new) in
+      let touched = (medium_of state old).dirty in
+      let so_far = at_end lower lower_mid (TouchesOnly touched lower.now) first.touches in
+      let R : (ℕ → Bool) → Type 0 = λ dirty. Throughout lower_mid lower_new (TouchesOnly dirty lower_mid.now) in
+      let more : Throughout lower_mid lower_new (TouchesOnly touched lower_mid.now) = subst R (ap (λ (m : Medium). m.dirty) first.same) second.touches in
+      record {
+        same = second.same ∙ first.same;
+        touches = and_then lower lower_mid lower_new (TouchesOnly touched lower.now) first.touches
+            (weaken lower_mid lower_new (TouchesOnly touched lower_mid.now) (TouchesOnly touched lower.now) (λ m spares. spares_then touched lower.now lower_mid.now m so_far spares) more);
+      }

@@ -1,0 +1,82 @@
+-- What the calls of the map leave of the blocks that wait.
+use Rattle.std.proofs.Common.{◌≡◌, ◌≢◌, ℕ, zero, suc, ◌-◌, ◌<◌, ◌≤◌, ◌||◌, true, false, List, [], ◌∷◌, length, is_some, option_map, Option, Some, None, nat_eq, nat_lt, slice_get, refl, sym, ap, ◌∙◌, eqb-true, ne_eqb, eq-eqb, arith}
+use Rattle.std.specs.Map.{lookup, remove_entry, update}
+use Rattle.std.proofs.lemmas.Bool.{ltb-true}
+use Rattle.std.proofs.lemmas.List.{take_all}
+use Rattle.std.proofs.lemmas.Option.{slice_get-get_or}
+use Rattle.lru.specs.LruCache.{last_entry}
+use Rattle.vm_disk.specs.Kept.{Entries, keeps, with_first}
+use Rattle.vm_disk.proofs.KeptLemmas.{by_answer, cond_yes, cond_no, view, lookup_view, lookup_others}
+
+other : (n k : ℕ) → nat_eq n k ≡ false → k ≢ n
+other n k z same = let clash : true ≡ false = sym (eq-eqb n k (sym same)) ∙ z in cc
+
+-- block n is the first, and none goes
+pub first_found : (limit count n : ℕ) (bytes : List ℕ) (es : Entries) → length es ≡ count → (keeps n es || nat_lt count limit) ≡ true
+    → (k : ℕ) → lookup (nat_eq k) (with_first limit n bytes es) ≡ update nat_eq (λ j. lookup (nat_eq j) es) n (Some bytes) k
+first_found limit count n bytes es many place k = by_answer (nat_eq n k)
+    (λ y. cond_yes _ _ (eq-eqb k n (sym (eqb-true n k y))) ∙ sym (cond_yes _ _ y))
+    (λ z. cond_no _ _ (ne_eqb k n (other n k z)) ∙ by_answer (keeps n es)
+    (λ there. ap (lookup (nat_eq k)) (cond_yes _ _ there) ∙ lookup_others n k es (other n k z))
+    (λ gone. ap (lookup (nat_eq k)) (cond_no _ _ gone ∙ take_all (limit - 1) es (few gone))) ∙ sym (cond_no _ _ z))
+  where
+    few : keeps n es ≡ false → length es ≤ limit - 1
+    few gone =
+        let less = ltb-true count limit (sym (ap (λ b. b || nat_lt count limit) gone) ∙ place) in omega (arith, less, many)
+
+-- block n is no longer there
+pub others_found : (n : ℕ) (es : Entries) → keeps n (remove_entry (nat_eq n) es) ≡ false
+    → (k : ℕ) → lookup (nat_eq k) (remove_entry (nat_eq n) es) ≡ update nat_eq (λ j. lookup (nat_eq j) es) n None k
+others_found n es gone k = by_answer (nat_eq n k)
+    (λ y. none (lookup (nat_eq k) (remove_entry (nat_eq n) es)) (ap (λ j. keeps j (remove_entry (nat_eq n) es)) (sym (eqb-true n k y)) ∙ gone) ∙ sym (cond_yes _ _ y))
+    (λ z. lookup_others n k es (other n k z) ∙ sym (cond_no _ _ z))
+  where
+    none : (o : Option (List ℕ)) → is_some o ≡ false → o ≡ None
+    none None h = refl
+    none (Some bytes) h = cc
+
+module _ {V : Type 0} (f : V → List ℕ) where
+  mapped : (o : Option V) → is_some (option_map f o) ≡ is_some o
+  mapped None = refl
+  mapped (Some v) = refl
+
+  -- whether a block is there
+  pub kept_same : (n : ℕ) (es : List (ℕ × V)) → keeps n (view f es) ≡ is_some (lookup (nat_eq n) es)
+  kept_same n es = ap is_some (lookup_view f (nat_eq n) es) ∙ mapped (lookup (nat_eq n) es)
+
+  found_at : (es : List (ℕ × V)) (i k : ℕ) (v : V) → slice_get es i ≡ Some (k, v) → is_some (lookup (nat_eq k) es) ≡ true
+  found_at [] i k v h = cc
+  found_at (e ∷ es) zero k v h =
+      let same : e ≡ (k, v) = cc in ap is_some (cond_yes _ _ (eq-eqb k e.0 (sym (ap (λ p. p.0) same))))
+  found_at (e ∷ es) (suc i) k v h = by_answer (nat_eq k e.0)
+      (λ y. ap is_some (cond_yes _ _ y))
+      (λ z. ap is_some (cond_no _ _ z) ∙ found_at es i k v h)
+
+  -- the last one is there
+  pub last_kept : (es : List (ℕ × V)) (k : ℕ) (v : V) → last_entry es ≡ Some (k, v) → keeps k (view f es) ≡ true
+  last_kept es k v h = kept_same k es ∙ found_at es (length es - 1) k v h
+
+  -- where there is no last one, there is none
+  pub none_kept : (es : List (ℕ × V)) → last_entry es ≡ None → (n : ℕ) → keeps n (view f es) ≡ false
+  none_kept [] h n = refl
+  none_kept (e ∷ es) h n =
+      let last = slice_get-get_or (e ∷ es) (length (e ∷ es) - 1) e (omega arith) in let clash = sym last ∙ h in cc
+
+  one_less : (n : ℕ) (es : List (ℕ × V)) → is_some (lookup (nat_eq n) es) ≡ true → length (remove_entry (nat_eq n) es) < length es
+  one_less n [] h = cc
+  one_less n (e ∷ es) h = by_answer (nat_eq n e.0)
+      (λ y. let shorter = ap length (cond_yes es (e ∷ remove_entry (nat_eq n) es) y) in omega (arith, shorter))
+      (λ z. let shorter = ap length (cond_no es (e ∷ remove_entry (nat_eq n) es) z) in
+      let less = one_less n es (sym (ap is_some (cond_no (Some e.1) (lookup (nat_eq n) es) z)) ∙ h) in omega (arith, shorter, less))
+
+  -- without it there are no more
+  pub no_more_kept : (n : ℕ) (es : List (ℕ × V)) → length (remove_entry (nat_eq n) es) ≤ length es
+  no_more_kept n [] = omega arith
+  no_more_kept n (e ∷ es) = by_answer (nat_eq n e.0)
+      (λ y. let shorter = ap length (cond_yes es (e ∷ remove_entry (nat_eq n) es) y) in omega (arith, shorter))
+      (λ z. let shorter = ap length (cond_no es (e ∷ remove_entry (nat_eq n) es) z) in
+      let most = no_more_kept n es in omega (arith, shorter, most))
+
+  -- without it there is one less
+  pub fewer_kept : (n : ℕ) (es : List (ℕ × V)) → keeps n (view f es) ≡ true → length (remove_entry (nat_eq n) es) < length es
+  fewer_kept n es there = one_less n es (sym (kept_same n es) ∙ there)

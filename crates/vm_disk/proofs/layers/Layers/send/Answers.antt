@@ -1,0 +1,40 @@
+use Rattle.std.proofs.Common.{◌≡◌, ◌+◌, ◌&&◌, ℕ, List, None, length, nat_le, nat_lt, if◌then◌else◌, ap, subst, ◌∙◌, arith}
+use Rattle.vm_disk.specs.Moments.{WritesRun, in_run}
+use Rattle.vm_disk.specs.Waiting.{bytes_for}
+use Rattle.vm_disk.proofs.LaidLemmas.{run_sent_same, run_unsent_same, run_touches}
+use Rattle.vm_disk.proofs.layers.Layers.send.Goals as goal
+
+pub returns-in_err-write_run-clause-honest : goal.returns-in_err-write_run-clause-honest
+returns-in_err-write_run-clause-honest g c honest =
+    let state = g.D.Disk.state in
+    let held = bytes_for c.args.self.now.waiting in
+    let first = c.begin_run-first.result in
+    let old = state c.args.self.now.inner in
+    let new = state c.write_run.new.self in
+    let R : List (List ℕ) → Type 0 = λ blocks. WritesRun first blocks c.write_run.result old new in
+    let writes : WritesRun first c.copy_run.new.run.items c.write_run.result old new = subst R c.deref.ensures.value (c.write_run.ensures.honest honest) in
+    record {
+      same = run_unsent_same held first c.copy_run.new.run.items old new c.copy_run.ensures c.write_run.result writes;
+      touches = run_touches held first c.copy_run.new.run.items old new c.copy_run.ensures c.write_run.result writes;
+    }
+
+pub returns-clause-honest : goal.returns-clause-honest
+returns-clause-honest g c honest =
+    let state = g.D.Disk.state in
+    let held = bytes_for c.args.self.now.waiting in
+    let first = c.begin_run-first.result in
+    let blocks = c.copy_run.new.run.items in
+    let old = state c.args.self.now.inner in
+    let new = state c.write_run.new.self in
+    let R : List (List ℕ) → Type 0 = λ blocks. WritesRun first blocks c.write_run.result old new in
+    let writes : WritesRun first c.copy_run.new.run.items c.write_run.result old new = subst R c.deref.ensures.value (c.write_run.ensures.honest honest) in
+    let told = c.len.ensures in
+    let shown = c.deref.ensures.len in
+    let same = ap (λ (bs : List (List ℕ)). length bs) c.deref.ensures.value in
+    let many : c.len.result ≡ length blocks = omega (arith, told, shown, same) in
+    let gone : (k : ℕ) → bytes_for c.forget_run.new.self k ≡ (if in_run first (length blocks) k then None else held k) =
+    λ k. c.forget_run.ensures.gone k ∙ ap (λ (count : ℕ). if nat_le first k && nat_lt k (first + count) then None else held k) many in
+    record {
+      same = run_sent_same held first blocks old new c.copy_run.ensures _ c.write_run.result (bytes_for c.forget_run.new.self) c.in_ok-write_run.was gone writes;
+      touches = run_touches held first blocks old new c.copy_run.ensures c.write_run.result writes;
+    }

@@ -1,0 +1,50 @@
+-- What a disk with blocks that wait over it shows.
+use Rattle.std.specs.Prelude.{◌≡◌, [], ◌∷◌}
+use Rattle.vm_disk.specs.declared.layers.Layers.{Layers}
+use Rattle.vm_disk.specs.Disk.{Medium, DiskState, moment}
+use Rattle.vm_disk.specs.Moments.{Throughout, TouchesOnly}
+use Rattle.vm_disk.specs.Laid.{laid, TouchesDirty, Rest}
+use Rattle.vm_disk.specs.declared.waiting.Waiting.{Waiting}
+use Rattle.vm_disk.specs.Waiting.{bytes_for}
+
+module _ {D : Type 0} {members : _} where
+  -- the disk below
+  abbrev pub lower_of : Layers D members → D
+  lower_of layers = layers.inner
+
+  -- the blocks that wait
+  abbrev pub waiting_of : Layers D members → Waiting
+  waiting_of layers = layers.waiting
+
+  -- what the disk below holds, with the waiting blocks over it
+  abbrev pub medium_of : (D → DiskState) → Layers D members → Medium
+  medium_of state layers = laid (bytes_for (waiting_of layers)) (state (lower_of layers)).now
+
+  -- what is known of them, but for their past and the reads
+  abbrev pub layers_state : (D → DiskState) → Layers D members → DiskState
+  layers_state state layers =
+      let below = state (lower_of layers) in record {
+        blocks = below.blocks;
+        honest = below.honest;
+        reads = 0;
+        failures = below.failures;
+        now = medium_of state layers;
+        past = [];
+      }
+
+  -- the same after one call
+  abbrev pub called : (D → DiskState) → Layers D members → Layers D members → DiskState
+  called state old new = record (layers_state state new) { past = medium_of state old ∷ [] }
+
+  -- blocks were written out: nothing changes above, and below only blocks that are dirty above were touched
+  pub record Sends (state : D → DiskState) (old new : Layers D members) : Type 0 where
+    pub same : medium_of state new ≡ medium_of state old
+    pub touches : Throughout (state (lower_of old)) (state (lower_of new)) (TouchesOnly (medium_of state old).dirty (state (lower_of old)).now)
+
+  -- but for its last call, the disk below was touched just where it is dirty above
+  abbrev pub IsApart : (D → DiskState) → Layers D members → Layers D members → Type 0
+  IsApart state old new = TouchesDirty (medium_of state old) (state (lower_of old)) (state (lower_of new))
+
+  -- what they show, and the moment of the disk below
+  abbrev pub rest_of : (D → DiskState) → Layers D members → Rest
+  rest_of state layers = record { time = moment (state (lower_of layers)); medium = medium_of state layers }

@@ -1,0 +1,109 @@
+//! A disk that writes late.
+ghost use Rattle.std.specs.Prelude.{◌≡◌, ◌<◌, ◌≤◌, true, IfOk, IfErr, map};
+ghost use Rattle.vm_disk.specs.Past.{noted};
+ghost use Rattle.vm_disk.specs.Disk.{Counts, Reads, Writes, Syncs, Extends, Enlarges};
+ghost use Rattle.vm_disk.specs.Laid.{IsCovered};
+ghost use Rattle.vm_disk.specs.Layers.{lower_of, rest_of};
+
+use crate::disk::{DeviceFault, Disk};
+use crate::history::History;
+use crate::layers::Layers;
+use std::alloc::Global;
+use std::num::NonZeroUsize;
+
+/// Has written blocks wait, and writes them to the disk below at a sync, or where too many would wait:
+/// then the one goes out whose last write is the longest ago, with those that wait right before and
+/// behind it. A read looks among those that wait first.
+///
+/// Memory for a block is taken where one more waits than ever before. Where it is refused, the block
+/// is written at once, and the call is served. A fault of the disk below is answered by the call in
+/// which it is met, and the blocks that wait then still do, or were written.
+#[derive(Drop)]
+pub struct DelayedDisk<D: Disk> {
+    layers: Layers<D>,
+    past: History<Layers<D>>,
+    reads: History<()>,
+    ghost covered: { (D.state (lower_of layers)).honest ≡ true
+        → IsCovered (D.state (lower_of layers)) (rest_of D.state layers)
+        (map (rest_of D.state) (noted past)) },
+}
+
+impl<D: Disk> DelayedDisk<D> {
+    ghost use Rattle.vm_disk.specs.Delayed.{inner_of, delayed_state, IsIdleOver, LeavesBelow};
+
+    /// Has up to `capacity` blocks wait. Takes memory for the order of all of them; where it is refused,
+    /// the disk comes back.
+    pub fn new(alloc: Global, inner: D, capacity: usize) -> Result<DelayedDisk<D>, D>
+        requires { 0 < capacity }
+        ensures ok { IfOk result (IsIdleOver D.state inner capacity) }
+        ensures refused { IfErr result (λ disk. disk ≡ inner) }
+    {
+        let Some(limit) = NonZeroUsize::new(capacity) else {
+            return Err(inner);
+        };
+        match Layers::new(alloc, inner, limit) {
+            Ok(layers) => Ok(DelayedDisk {
+                layers,
+                past: History::new(),
+                reads: History::new(),
+            }),
+            Err(inner) => Err(inner),
+        }
+    }
+
+    /// The disk below, to look at. What a crash of it leaves, one of this disk may leave.
+    pub fn inner(&self) -> &D
+        ensures inner { result.now ≡ inner_of self.now }
+        ensures below { (delayed_state D.state self.now).honest ≡ true → LeavesBelow D.state self.now }
+    {
+        &self.layers.inner
+    }
+
+    /// The disk below. The blocks that wait are given up, as by a crash of this disk.
+    pub fn into_inner(self) -> D
+        ensures inner { result ≡ inner_of self }
+        ensures below { (delayed_state D.state self).honest ≡ true → LeavesBelow D.state self }
+    {
+        self.layers.inner
+    }
+}
+
+impl<D: Disk> Disk for DelayedDisk<D> {
+    ghost use Rattle.vm_disk.specs.Delayed.{inner_of, delayed_state, delayed_whole};
+
+    ghost state = { delayed_state D.state };
+
+    ghost whole = { λ disk honest. delayed_whole D.state disk (D.whole (inner_of disk) honest) };
+
+    ghost small = { λ disk. D.small (inner_of disk) };
+
+    fn blocks(&self) -> u32 {
+        self.layers.inner.blocks()
+    }
+
+    fn read(&mut self, n: u32, into: &mut [u8; 4096]) -> Result<(), DeviceFault> {
+        self.reads.note(&());
+        self.past.note(&self.layers);
+        self.layers.read(n, into)
+    }
+
+    fn write(&mut self, n: u32, from: &[u8; 4096]) -> Result<(), DeviceFault> {
+        self.past.note(&self.layers);
+        self.layers.write(n, from)
+    }
+
+    fn forget(&mut self, n: u32) {
+        self.past.note(&self.layers);
+        self.layers.forget(n);
+    }
+
+    fn sync(&mut self) -> Result<(), DeviceFault> {
+        self.past.note(&self.layers);
+        self.layers.sync()
+    }
+
+    fn extend(&mut self, blocks: u32) -> Result<(), DeviceFault> {
+        self.past.note(&self.layers);
+        self.layers.extend(blocks)
+    }
+}

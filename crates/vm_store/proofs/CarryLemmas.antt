@@ -1,0 +1,47 @@
+-- A command is carried out on an honest disk: what it does in its device calls, and what it leaves.
+use Rattle.std.proofs.Common.{◌≢◌, inl, ℕ, Bool, List, Result, Err, refl}
+use Rattle.vm_types.specs.State.{State, next}
+use Rattle.vm_types.specs.declared.answer.Answer.{Answer}
+use Rattle.vm_types.specs.declared.command.Command.{Command}
+use Rattle.vm_types.specs.declared.refusal.Refusal.{Refusal}
+use Rattle.vm_types.specs.declared.refusal.Refusal.TheVariants.{Device}
+use Rattle.vm_types.specs.Kept.{LeftBy}
+use Rattle.vm_disk.specs.Disk.{DiskState}
+use Rattle.vm_disk.specs.Moments.{Leaves, OnlyReads, Throughout, TouchesOnly}
+use Rattle.vm_disk.proofs.MomentLemmas.{started, weaken, spares_itself, reads_first}
+use Rattle.vm_alloc.specs.Held.{HoldsMore}
+use Rattle.vm_tree.specs.Free.{is_free}
+use Rattle.vm_store.specs.Guarded.{IsGuarded}
+use Rattle.vm_store.specs.Resting.{Rests}
+use Rattle.vm_store.specs.Shown.{Shows}
+use Rattle.vm_store.specs.Store.{Answers, Carries, Holds}
+use Rattle.vm_store.specs.declared.store.Store.{Store}
+use Rattle.vm_store.specs.declared.version.Version.{Version}
+use Rattle.vm_store.proofs.GuardLemmas.{guarded_on}
+use Rattle.vm_store.proofs.RestingLemmas.{shows_old}
+
+module _ {D : Type 0} {members : _} (old new : Store D members) (s : State) (holds : Holds old s) (command : Command) (answer : Result Answer Refusal) (due : Answers old new s holds command answer)
+  where
+    -- calls that read, and then calls that write free blocks alone
+    pub wrote : {limit : ℕ} {slot_b : Bool} {bits : List Bool} {committed working : List Version} (mid : DiskState) → OnlyReads (members.state old.disk) mid → Rests mid.now limit slot_b bits committed working s
+        → Throughout mid (members.state new.disk) (TouchesOnly (is_free bits) mid.now) → HoldsMore bits new.held → (answer ≢ Err Device → Holds new (next s command answer)) → Carries old new s holds command answer
+    wrote {limit} {slot_b} {bits} {committed} {working} mid reads rests moments still state =
+        let P = TouchesOnly (is_free bits) mid.now in
+        let Q = Leaves (LeftBy Shows s command) in
+        record {
+          answers = due;
+          state = state;
+          crash = reads_first _ _ _ Q reads (weaken _ _ P Q (λ m spares left may. inl (shows_old mid.now limit slot_b bits committed working s rests m spares left may)) moments);
+          guarded = reads_first _ _ _ (IsGuarded new.held) reads (weaken _ _ P (IsGuarded new.held) (λ m spares. guarded_on mid.now limit slot_b bits committed working s rests m new.held spares still) moments);
+        }
+
+    -- calls that read
+    pub looked : {limit : ℕ} {slot_b : Bool} {committed working : List Version} → OnlyReads (members.state old.disk) (members.state new.disk) → Rests (members.state new.disk).now limit slot_b new.held committed working s
+        → (answer ≢ Err Device → Holds new (next s command answer)) → Carries old new s holds command answer
+    looked reads rests state =
+        wrote (members.state new.disk) reads rests (started _ _ (spares_itself (is_free new.held) _)) (record { same_length = refl; still = λ n h. h }) state
+
+-- a refusal without a device call
+module _ {D : Type 0} {members : _} (store : Store D members) (s : State) (holds : Holds store s) (command : Command) (refusal : Refusal) where
+  pub stayed : Answers store store s holds command (Err refusal) → Carries store store s holds command (Err refusal)
+  stayed due = looked store store s holds command (Err refusal) due (started _ _ refl) holds (λ _. holds)

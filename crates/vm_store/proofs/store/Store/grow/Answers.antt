@@ -1,0 +1,53 @@
+use Rattle.std.proofs.Common.{rules, inl, inr, ◌≤◌, ℕ, Bool, List, length, refl, subst, sym, arith}
+use Rattle.vm_types.specs.declared.command.Command.TheVariants.{Grow}
+use Rattle.vm_types.proofs.Growing.{good_size, no_more_is_bad, too_many_is_bad}
+use Rattle.vm_disk.specs.Moments.{Throughout}
+use Rattle.vm_disk.proofs.MomentLemmas.{started}
+use Rattle.vm_alloc.specs.Held.{IsHeld}
+use Rattle.vm_store.specs.Guarded.{IsGuarded}
+use Rattle.vm_store.proofs.LongerLemmas.{grow_is_accepted, grow_is_refused, longer_crash, longer_guarded, rests_longer, rests_renamed, still_held}
+use Rattle.vm_store.proofs.CarryLemmas.{looked, stayed}
+use Rattle.vm_store.proofs.store.Store.grow.Goals as goal
+use Rattle.vm_store.proofs.store.Store.grow.Goals.{then-blocks-self-via-then-blocks-self, then-blocks-self-via-else-blocks-self+then-blocks-gt-MOST_BLOCKS}
+
+pub returns-then-blocks-self-clause-carried : goal.returns-then-blocks-self-clause-carried
+returns-then-blocks-self-clause-carried g c honest s holds =
+    stayed _ s holds (Grow c.args.blocks) _
+    (elim c.then-blocks-self.branch [
+      | then-blocks-self-via-then-blocks-self w ↦ grow_is_refused s c.args.blocks (no_more_is_bad s.blocks c.args.blocks (omega (arith, w.if-blocks-self.true, holds.blocks)))
+      | then-blocks-self-via-else-blocks-self+then-blocks-gt-MOST_BLOCKS w ↦ grow_is_refused s c.args.blocks (too_many_is_bad s.blocks c.args.blocks (omega (arith, w.if-blocks-gt-MOST_BLOCKS.true)))
+    ])
+
+pub returns-in_default-clause-carried : goal.returns-in_default-clause-carried
+returns-in_default-clause-carried g c honest s holds =
+    looked _ _ s holds (Grow c.args.blocks) _ (grow_is_accepted s c.args.blocks _ (good_size s.blocks c.args.blocks (omega (arith, c.if-blocks-self.false, holds.blocks)) (omega (arith, c.if-blocks-gt-MOST_BLOCKS.false))) (inr (inl refl)))
+    (started _ _ refl) holds (λ _. holds)
+
+pub returns-in_default-new-clause-carried : goal.returns-in_default-new-clause-carried
+returns-in_default-new-clause-carried g c honest s holds =
+    looked _ _ s holds (Grow c.args.blocks) _ (grow_is_accepted s c.args.blocks _ (good_size s.blocks c.args.blocks (omega (arith, c.if-blocks-self.false, holds.blocks)) (omega (arith, c.if-blocks-gt-MOST_BLOCKS.false))) (inr (inl refl)))
+    (started _ _ refl) holds (λ _. holds)
+
+pub returns-in_err-lengthen-clause-carried : goal.returns-in_err-lengthen-clause-carried
+returns-in_err-lengthen-clause-carried g c honest s holds =
+    record {
+      answers = grow_is_accepted s c.args.blocks _ (good_size s.blocks c.args.blocks (omega (arith, c.if-blocks-self.false, holds.blocks)) (omega (arith, c.if-blocks-gt-MOST_BLOCKS.false))) (inl (search rules));
+      state = λ fine. absurd (fine (search rules));
+      crash = longer_crash _ _ (c.lengthen.ensures.longer honest) _ _ _ _ _ s holds (Grow c.args.blocks);
+      guarded = subst (λ (bits : List Bool). Throughout (g.D.Disk.state c.args.self.now.disk) (g.D.Disk.state c.lengthen.new.self.disk) (IsGuarded bits)) (sym c.lengthen.ensures.same.held) (longer_guarded _ _ (c.lengthen.ensures.longer honest) _ _ _ _ _ s holds c.args.self.now.held (λ n held. held));
+    }
+
+pub returns-clause-carried : goal.returns-clause-carried
+returns-clause-carried g c honest s holds =
+    let old = (g.D.Disk.state c.args.self.now.disk).now in
+    let new = (g.D.Disk.state c.lengthen.new.self.disk).now in
+    let same = c.lengthen.ensures.same in
+    let whole = g.met.D.Disk.whole c.lengthen.new.self.disk honest in
+    let inside : c.args.blocks ≤ length new.contents = omega (arith, whole, c.in_ok-lengthen.ensures.all) in
+    let still : (n : ℕ) → IsHeld c.args.self.now.held n → IsHeld c.in-Ok.held n = λ n held. subst (λ (bits : List Bool). IsHeld bits n) (sym c.in-Ok.ensures.blocks) (still_held c.args.self.now.held _ n held) in
+    record {
+      answers = grow_is_accepted s c.args.blocks _ (good_size s.blocks c.args.blocks (omega (arith, c.if-blocks-self.false, holds.blocks)) (omega (arith, c.if-blocks-gt-MOST_BLOCKS.false))) (inr (inr refl));
+      state = λ fine. rests_renamed new c.args.blocks c.args.self.now.slot_b c.lengthen.new.self.slot_b c.in-Ok.held c.args.self.now.committed c.args.self.now.working c.lengthen.new.self.committed c.lengthen.new.self.working (record s { blocks = c.args.blocks }) same.slot_b same.committed same.working (rests_longer old new (c.lengthen.ensures.longer honest).longer c.args.self.now.blocks c.args.blocks c.args.self.now.slot_b c.args.self.now.held c.in-Ok.held c.args.self.now.committed c.args.self.now.working s holds still (omega (arith, c.if-blocks-self.false)) inside (omega (arith, c.if-blocks-gt-MOST_BLOCKS.false)));
+      crash = longer_crash _ _ (c.lengthen.ensures.longer honest) _ _ _ _ _ s holds (Grow c.args.blocks);
+      guarded = longer_guarded _ _ (c.lengthen.ensures.longer honest) _ _ _ _ _ s holds c.in-Ok.held still;
+    }

@@ -1,0 +1,77 @@
+//! Making a store larger.
+ghost use Rattle.std.specs.Prelude.{◌≡◌, ◌≢◌, ◌+◌, ◌-◌, ◌≤◌, true, false, IsOk, IfErr, OnOk};
+ghost use Rattle.vm_types.specs.State.{State};
+ghost use Rattle.vm_disk.specs.Disk.{Enlarges};
+ghost use Rattle.vm_store.specs.Answers.{IsEarly};
+ghost use Rattle.vm_types.specs.declared.command.Command.TheVariants.{Grow};
+
+use crate::store::Store;
+use crate::store::formatting::MOST_BLOCKS;
+use vm_alloc::Marks;
+use vm_disk::Disk;
+use vm_types::{Answer, Refusal};
+
+impl<D: Disk> Store<D> {
+    ghost use Rattle.vm_store.specs.Store.{disk_of, has_failed, entries_of, Carries, Holds, free_of, IsHonest, IsSameButDisk, GrowsOn, EarlyKeeps};
+
+    /// How many blocks the store has, those of the slots included. The next Commit keeps that many.
+    pub fn blocks(&self) -> Result<u32, Refusal>
+        ensures failed { has_failed self.now ≡ true → result ≡ Err Refusal.Failed }
+        ensures counted { has_failed self.now ≡ false → (s : State) → Holds self.now s
+            → result ≡ Ok s.blocks }
+        ensures only_then { has_failed self.now ≡ false → IsOk result }
+    {
+        if self.failed {
+            return Err(Refusal::Failed);
+        }
+        Ok(self.blocks)
+    }
+
+    // Gives the store so many blocks in all. Room for what is held and marked is found before the disk is
+    // asked for blocks, so that nothing is to be undone.
+    pub(super) fn grow(&mut self, blocks: u32) -> Result<Answer, Refusal>
+        ensures any { GrowsOn (result ≡ Err Refusal.Device) self.old self.new }
+        ensures failed { has_failed self.new ≡ has_failed self.old }
+        ensures never { result ≢ Err Refusal.Failed }
+        ensures same { entries_of self.new ≡ entries_of self.old }
+        ensures unchanged { EarlyKeeps result self.old self.new }
+        ensures untouched { IfErr result
+            (λ refusal. IsEarly refusal → disk_of self.new ≡ disk_of self.old) }
+        ensures carried { IsHonest self.new → (s : State) (holds : Holds self.old s)
+            → Carries self.old self.new s holds (Grow blocks) result }
+        ensures grown { (s : State) → Holds self.old s
+            → OnOk result (free_of self.new ≡ free_of self.old + (blocks - s.blocks)) }
+    {
+        if blocks <= self.blocks || blocks > MOST_BLOCKS {
+            return Err(Refusal::BadSize);
+        }
+        let Ok(held) = self.held.extended(self.alloc, blocks) else {
+            return Err(Refusal::Memory);
+        };
+        let Ok(marks) = Marks::new(self.alloc, blocks) else {
+            return Err(Refusal::Memory);
+        };
+        self.lengthen(blocks)?;
+        self.blocks = blocks;
+        self.held = held;
+        self.marks = marks;
+        Ok(Answer::Done)
+    }
+
+    // Gives the disk blocks where it has fewer than so many.
+    fn lengthen(&mut self, blocks: u32) -> Result<(), Refusal>
+        ensures same { IsSameButDisk self.old self.new }
+        ensures any { GrowsOn (result ≡ Err Refusal.Device) self.old self.new }
+        ensures all { OnOk result (blocks ≤ (D.state (disk_of self.new)).blocks) }
+        ensures only { IfErr result (λ refusal. refusal ≡ Refusal.Device) }
+        ensures longer { IsHonest self.new
+            → Enlarges (D.state (disk_of self.old)) (D.state (disk_of self.new)) }
+    {
+        if self.disk.blocks() < blocks {
+            let Ok(()) = self.disk.extend(blocks) else {
+                return Err(Refusal::Device);
+            };
+        }
+        Ok(())
+    }
+}

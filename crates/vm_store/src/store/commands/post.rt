@@ -1,0 +1,39 @@
+//! The command that makes an alternative's records those of its parent.
+ghost use Rattle.std.specs.Prelude.{◌≡◌, ◌≢◌, true, OnErr, IfErr};
+ghost use Rattle.vm_types.specs.State.{State};
+
+use crate::faults::refusal_of;
+use crate::store::Store;
+use vm_diff::same;
+use vm_disk::Disk;
+use vm_types::{Answer, Command, Name, Refusal};
+
+impl<D: Disk> Store<D> {
+    ghost use Rattle.vm_store.specs.Store.{has_failed, entries_of, Carries, Holds, IsHonest, GoesOn, ReadsAlone, EarlyKeeps};
+
+    // Gives the parent the alternative's records, which become the alternative's base, too. The parent must
+    // have no other records than that base.
+    pub(super) fn post(&mut self, alt: &Name) -> Result<Answer, Refusal>
+        ensures any { GoesOn (result ≡ Err Refusal.Device) self.old self.new }
+        ensures failed { has_failed self.new ≡ has_failed self.old }
+        ensures never { (result ≢ Err Refusal.Failed) × (result ≢ Err Refusal.Memory) }
+        ensures same { OnErr result (entries_of self.new ≡ entries_of self.old) }
+        ensures unchanged { EarlyKeeps result self.old self.new }
+        ensures reads { IsHonest self.new → ReadsAlone self.old self.new }
+        ensures carried { IsHonest self.new → (s : State) (holds : Holds self.old s)
+            → Carries self.old self.new s holds (Command.Post alt.now) result }
+    {
+        let (own, parent) = match self.working.pair_of(alt) {
+            Ok(pair) => pair,
+            Err(refusal) => return Err(refusal),
+        };
+        match same(&mut self.disk, self.blocks, own.base, parent.current) {
+            Ok(true) => {}
+            Ok(false) => return Err(Refusal::NotMerged),
+            Err(fault) => return Err(refusal_of(fault)),
+        }
+        self.working.set_current(&parent.name, own.current);
+        self.working.set_base(alt, own.current);
+        Ok(Answer::Done)
+    }
+}

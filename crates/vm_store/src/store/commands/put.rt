@@ -1,0 +1,42 @@
+//! The command that gives a record a value.
+ghost use Rattle.std.specs.Prelude.{◌≡◌, ◌≢◌, true, OnErr};
+ghost use Rattle.vm_types.specs.State.{State};
+
+use crate::faults::refusal_of;
+use crate::store::Store;
+use crate::{FAN, LEAF, LEVELS};
+use vm_disk::Disk;
+use vm_tree::put;
+use vm_types::{Answer, Command, Key, Name, Refusal, Value};
+
+impl<D: Disk> Store<D> {
+    ghost use Rattle.vm_store.specs.Store.{has_failed, entries_of, Carries, Holds, IsHonest, GoesOn, EarlyKeeps};
+
+    // Gives a record of the alternative a value.
+    pub(super) fn put(&mut self, alt: &Name, key: Key, value: &Value) -> Result<Answer, Refusal>
+        ensures any { GoesOn (result ≡ Err Refusal.Device) self.old self.new }
+        ensures failed { has_failed self.new ≡ has_failed self.old }
+        ensures never { (result ≢ Err Refusal.Failed) × (result ≢ Err Refusal.Memory) }
+        ensures same { OnErr result (entries_of self.new ≡ entries_of self.old) }
+        ensures unchanged { EarlyKeeps result self.old self.new }
+        ensures carried { IsHonest self.new → (s : State) (holds : Holds self.old s)
+            → Carries self.old self.new s holds (Command.Put alt.now key value.now) result }
+    {
+        let Some(version) = self.working.alternative(alt) else {
+            return Err(Refusal::NoSuchAlternative);
+        };
+        match self.has_spare(1) {
+            Ok(true) => {}
+            Ok(false) => return Err(Refusal::Full),
+            Err(refusal) => return Err(refusal),
+        }
+        let root = version.current;
+        match put::<D, LEAF, FAN, LEVELS>(&mut self.disk, &mut self.held, root, key, value) {
+            Ok(root) => {
+                self.working.set_current(alt, root);
+                Ok(Answer::Done)
+            }
+            Err(fault) => Err(refusal_of(fault)),
+        }
+    }
+}

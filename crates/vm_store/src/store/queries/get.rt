@@ -1,0 +1,42 @@
+//! The query for one record of an alternative.
+ghost use Rattle.std.specs.Prelude.{◌≡◌, ◌≢◌, ◌⊎◌, true, false};
+ghost use Rattle.vm_types.specs.State.{State};
+ghost use Rattle.vm_types.specs.Queries.{value_in};
+
+use crate::faults::refusal_of;
+use crate::store::Store;
+use vm_disk::Disk;
+use vm_tree::get;
+use vm_types::{Key, Name, Refusal, Value};
+
+impl<D: Disk> Store<D> {
+    ghost use Rattle.vm_store.specs.Store.{has_failed, Holds, IsSameButDisk, IsHonest, GoesOn, ReadsAlone};
+
+    /// The value of a record in the working state of an alternative.
+    pub fn get(&mut self, alt: &Name, key: Key) -> Result<Option<Value>, Refusal>
+        ensures any { GoesOn (result ≡ Err Refusal.Device) self.old self.new }
+        ensures failed { has_failed self.new ≡ has_failed self.old }
+        ensures refused { has_failed self.old ≡ true → result ≡ Err Refusal.Failed }
+        ensures no_calls { has_failed self.old ≡ true → self.new ≡ self.old }
+        ensures only_then { has_failed self.old ≡ false → result ≢ Err Refusal.Failed }
+        ensures unchanged { IsSameButDisk self.old self.new }
+        ensures no_memory { result ≢ Err Refusal.Memory }
+
+        ensures value { IsHonest self.new → has_failed self.old ≡ false → (s : State)
+            → Holds self.old s
+            → (result ≡ Err Refusal.Device) ⊎ (result ≡ value_in s.working alt.now key) }
+        ensures state { IsHonest self.new → (s : State) → Holds self.old s → Holds self.new s }
+        ensures reads { IsHonest self.new → ReadsAlone self.old self.new }
+    {
+        if self.failed {
+            return Err(Refusal::Failed);
+        }
+        let Some(version) = self.working.alternative(alt) else {
+            return Err(Refusal::NoSuchAlternative);
+        };
+        match get(&mut self.disk, self.blocks, version.current, key) {
+            Ok(value) => Ok(value),
+            Err(fault) => Err(refusal_of(fault)),
+        }
+    }
+}

@@ -1,0 +1,53 @@
+//! The queries for the names of alternatives and of checkpoints. They make no device call.
+ghost use Rattle.std.specs.Prelude.{◌≡◌, ◌⊎◌, true, false, Ok, Err, IfOk, IfErr};
+ghost use Rattle.vm_types.specs.Shape.{shape};
+ghost use Rattle.vm_types.specs.State.{State};
+ghost use Rattle.vm_types.specs.Queries.{checkpoints_in};
+
+use crate::store::Store;
+use crate::versions::{alternatives_among, checkpoints_among};
+use std::alloc::Global;
+use vm_disk::Disk;
+use vm_types::{Name, Refusal};
+
+impl<D: Disk> Store<D> {
+    ghost use Rattle.vm_store.specs.Store.{has_failed, Holds};
+
+    /// The alternatives of the working state, each with its parent, in order of creation. It makes no
+    /// device call. It answers `Memory` where there is none for the list.
+    pub fn alternatives(&self, alloc: Global) -> Result<Vec<(Name, Option<Name>)>, Refusal>
+        ensures refused { has_failed self.now ≡ true → result ≡ Err Refusal.Failed }
+        ensures only_then { has_failed self.now ≡ false
+            → IfErr result (λ refusal. refusal ≡ Refusal.Memory) }
+        ensures value { has_failed self.now ≡ false → (s : State) → Holds self.now s
+            → IfOk result (λ list. list.items ≡ shape s.working) }
+    {
+        if self.failed {
+            return Err(Refusal::Failed);
+        }
+        alternatives_among(alloc, self.working.as_slice())
+    }
+
+    /// The names of an alternative's checkpoints in the working state, in order of creation. It makes no
+    /// device call. It answers `NoSuchAlternative` where the alternative is not there, and `Memory` where
+    /// there is none for the list.
+    pub fn checkpoints(&self, alloc: Global, alt: &Name) -> Result<Vec<Name>, Refusal>
+        ensures refused { has_failed self.now ≡ true → result ≡ Err Refusal.Failed }
+        ensures only_then { has_failed self.now ≡ false
+            → IfErr result (λ refusal. (refusal ≡ Refusal.Memory)
+            ⊎ (refusal ≡ Refusal.NoSuchAlternative)) }
+        ensures value { has_failed self.now ≡ false → (s : State) → Holds self.now s
+            → IfOk result (λ list. Ok list.items ≡ checkpoints_in s.working alt.now) }
+        ensures none { has_failed self.now ≡ false → (s : State) → Holds self.now s
+            → IfErr result (λ refusal. (refusal ≡ Refusal.Memory)
+            ⊎ (Err refusal ≡ checkpoints_in s.working alt.now)) }
+    {
+        if self.failed {
+            return Err(Refusal::Failed);
+        }
+        if self.working.alternative(alt).is_none() {
+            return Err(Refusal::NoSuchAlternative);
+        }
+        checkpoints_among(alloc, self.working.as_slice(), alt)
+    }
+}

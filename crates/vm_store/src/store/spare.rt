@@ -1,0 +1,134 @@
+//! Blocks that no version needs: marked, and counted.
+ghost use Rattle.std.specs.Prelude.{◌≡◌, ◌≢◌, ◌↔◌, ◌≤◌, ◌*◌, true, false, ℕ, List, length, Ok, Err, OnOk, IfOk, IfErr, IsTrue};
+ghost use Rattle.vm_types.specs.State.{State};
+ghost use Rattle.vm_disk.specs.Disk.{Goes};
+ghost use Rattle.vm_disk.specs.Moments.{OnlyReads};
+ghost use Rattle.vm_tree.specs.Answers.{OkOrDevice};
+ghost use Rattle.vm_check.specs.Marking.{IsClosed, MarksMore};
+ghost use Rattle.vm_store.specs.Answers.{IsEarly};
+ghost use Rattle.vm_store.specs.Marking.{AreReached};
+ghost use Rattle.vm_store.specs.Resting.{spare_of};
+
+use super::Store;
+use crate::faults::refusal_of;
+use crate::version::Version;
+use vm_alloc::Marks;
+use vm_check::mark;
+use vm_disk::Disk;
+use vm_tree::TreeFault;
+use vm_types::Refusal;
+
+/// How many blocks one record change may take.
+const BLOCKS_A_CHANGE: u32 = 16;
+
+// Marks all blocks under the trees of the versions, without memory.
+fn mark_versions<D: Disk>(
+    disk: &mut D,
+    versions: &[Version],
+    marks: &mut Marks,
+) -> Result<(), TreeFault>
+    requires { length marks.old ≤ (D.state disk.old).blocks }
+    ensures any { Goes (result ≡ Err TreeFault.Device) (D.state disk.old) (D.state disk.new) }
+    ensures deep { result ≢ Err TreeFault.Deep }
+    ensures memory { result ≢ Err TreeFault.Memory }
+    ensures many { length marks.new ≡ length marks.old }
+    ensures reads { (D.state disk.new).honest ≡ true
+        → OnlyReads (D.state disk.old) (D.state disk.new) }
+
+    // On trees the marks grow by exactly the blocks of the versions.
+    ensures marked { (D.state disk.new).honest ≡ true → (bs : List ℕ)
+        → AreReached (D.state disk.old).now.contents (length marks.old) versions.now bs
+        → IsClosed (D.state disk.old).now.contents marks.old
+        → OkOrDevice result (λ _. MarksMore bs marks.old marks.new) }
+    ensures closed { (D.state disk.new).honest ≡ true → (bs : List ℕ)
+        → AreReached (D.state disk.old).now.contents (length marks.old) versions.now bs
+        → IsClosed (D.state disk.old).now.contents marks.old
+        → OnOk result (IsClosed (D.state disk.old).now.contents marks.new) }
+{
+    for version in versions {
+        match mark(disk, &[version.current, version.base], marks) {
+            Ok(()) => {}
+            Err(fault) => return Err(fault),
+        }
+    }
+    Ok(())
+}
+
+impl<D: Disk> Store<D> {
+    ghost use Rattle.vm_store.specs.Store.{has_failed, entries_of, root_of, Holds, free_of, IsHonest, GoesOn, ReadsAlone};
+
+    /// How many blocks are not held. They are spare; each spare block is among them after an opening
+    /// and after a Reclaim, and from then on each block that is written is taken from them.
+    pub fn free(&self) -> Result<u32, Refusal>
+        ensures failed { has_failed self.now ≡ true → result ≡ Err Refusal.Failed }
+        ensures counted { has_failed self.now ≡ false → result ≡ Ok (free_of self.now) }
+        ensures spare { (s : State) (holds : Holds self.now s)
+            → IfOk result (λ n. n ≤ spare_of holds) }
+    {
+        if self.failed {
+            return Err(Refusal::Failed);
+        }
+        Ok(self.held.free_count())
+    }
+
+    // Holds just the blocks that the committed or the working entries reach, beside the store's own.
+    pub(super) fn mark_all(&mut self) -> Result<(), Refusal>
+        ensures any { GoesOn (result ≡ Err Refusal.Device) self.old self.new }
+        ensures failed { has_failed self.new ≡ has_failed self.old }
+        ensures never { (result ≢ Err Refusal.Failed) × (result ≢ Err Refusal.Memory) }
+        ensures late { IfErr result (λ refusal. IsEarly refusal → ⊥) }
+        ensures same { entries_of self.new ≡ entries_of self.old }
+        ensures roots { root_of self.new ≡ root_of self.old }
+        ensures reads { IsHonest self.new → ReadsAlone self.old self.new }
+        ensures only { IsHonest self.new → (s : State) → Holds self.old s
+            → IfErr result (λ refusal. refusal ≡ Refusal.Device) }
+        ensures exact { IsHonest self.new → (s : State) (holds : Holds self.old s)
+            → OnOk result (free_of self.new ≡ spare_of holds) }
+        ensures state { IsHonest self.new → (s : State) → Holds self.old s → Holds self.new s }
+    {
+        self.marks.clear();
+        match mark_versions(&mut self.disk, self.committed.as_slice(), &mut self.marks) {
+            Ok(()) => {}
+            Err(fault) => return Err(refusal_of(fault)),
+        }
+        match mark_versions(&mut self.disk, self.working.as_slice(), &mut self.marks) {
+            Ok(()) => {}
+            Err(fault) => return Err(refusal_of(fault)),
+        }
+        self.held.replace(&self.marks);
+        Ok(())
+    }
+
+    // Whether as many blocks are free as so many record changes may take.
+    fn has_free(&self, changes: usize) -> bool
+        ensures { IsTrue result ↔ (16 * changes ≤ free_of self.now) }
+    {
+        changes <= (self.held.free_count() / BLOCKS_A_CHANGE) as usize
+    }
+
+    // Whether as many blocks are spare as so many record changes may take. Where fewer are free, it marks
+    // what the entries reach.
+    pub(super) fn has_spare(&mut self, changes: usize) -> Result<bool, Refusal>
+        ensures any { GoesOn (result ≡ Err Refusal.Device) self.old self.new }
+        ensures failed { has_failed self.new ≡ has_failed self.old }
+        ensures never { (result ≢ Err Refusal.Failed) × (result ≢ Err Refusal.Memory) }
+        ensures late { IfErr result (λ refusal. IsEarly refusal → ⊥) }
+        ensures same { entries_of self.new ≡ entries_of self.old }
+        ensures roots { root_of self.new ≡ root_of self.old }
+        ensures free { IfOk result (λ yes. IsTrue yes → 16 * changes ≤ free_of self.new) }
+        ensures reads { IsHonest self.new → ReadsAlone self.old self.new }
+        ensures only { IsHonest self.new → (s : State) → Holds self.old s
+            → IfErr result (λ refusal. refusal ≡ Refusal.Device) }
+        ensures spare { IsHonest self.new → (s : State) (holds : Holds self.old s)
+            → IfOk result (λ yes. IsTrue yes ↔ (16 * changes ≤ spare_of holds)) }
+        ensures state { IsHonest self.new → (s : State) → Holds self.old s → Holds self.new s }
+    {
+        if self.has_free(changes) {
+            return Ok(true);
+        }
+        match self.mark_all() {
+            Ok(()) => Ok(self.has_free(changes)),
+            Err(refusal) => Err(refusal),
+        }
+    }
+}

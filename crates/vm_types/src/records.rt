@@ -1,0 +1,172 @@
+//! A list of records, packed.
+ghost use Rattle.std.specs.Prelude.{◌≡◌, ◌<◌, ◌≤◌, ◌∷◌, ◌++◌, ℕ, List, [], length, slice_get, slice_index_or, IsTrue, ◌↔◌, IfOk, OnOk, OnErr};
+ghost use Rattle.vm_types.specs.declared.key.Key.{Key};
+ghost use Rattle.vm_types.specs.Walked.{left_of};
+
+use crate::{Key, Value};
+use std::alloc::{AllocError, Global};
+use std::marker::Model;
+
+/// Where a value lies among the bytes of a list.
+#[derive(Clone, Copy, Debug)]
+struct Piece {
+    start: usize,
+    len: u16,
+}
+
+/// A list of records that takes the memory of what they have: 32 bytes each and those of its value.
+/// The values lie in one run of bytes, behind one another.
+#[derive(Debug, Drop)]
+pub struct Records {
+    rows: Vec<(Key, Piece)>,
+    bytes: Vec<u8>,
+}
+
+impl Model for Records {
+    ghost use Rattle.std.specs.Prelude.{ℕ, List, length};
+    ghost use Rattle.vm_types.specs.declared.key.Key.{Key};
+
+    ghost Value = { List (Key × List ℕ) };
+
+    ghost use Rattle.vm_types.specs.Packed.{records_in, AllLieIn};
+
+    ghost view = { λ r. records_in r.bytes.items r.rows.items };
+
+    ghost invariant = { λ r. AllLieIn (length r.bytes.items) r.rows.items };
+}
+
+impl Records {
+    /// No records. It takes no memory.
+    pub fn new(alloc: Global) -> Self
+        ensures { result ≡ [] }
+    {
+        Records {
+            rows: Vec::new(alloc),
+            bytes: Vec::new(alloc),
+        }
+    }
+
+    pub fn len(&self) -> usize
+        ensures { result ≡ length self.now }
+    {
+        self.rows.len()
+    }
+
+    pub fn is_empty(&self) -> bool
+        ensures { IsTrue result ↔ (self.now ≡ []) }
+    {
+        self.rows.is_empty()
+    }
+
+    /// Adds a record behind the others. Where no memory is found, it changes nothing.
+    pub fn push(&mut self, key: Key, value: &[u8]) -> Result<(), AllocError>
+        requires { length value.now ≤ 240 }
+        ensures ok { OnOk result (self.new ≡ self.old ++ (key, value.now) ∷ []) }
+        ensures err { OnErr result (self.new ≡ self.old) }
+    {
+        self.rows.reserve(1)?;
+        let start = self.bytes.len();
+        self.bytes.extend_from_slice(value)?;
+        self.rows.push_reserved((
+            key,
+            Piece {
+                start,
+                len: value.len() as u16,
+            },
+        ));
+        Ok(())
+    }
+
+    /// The key of the record at i.
+    pub fn key(&self, i: usize) -> Key
+        requires { i < length self.now }
+        ensures { (d : Key × List ℕ) → result ≡ (slice_index_or self.now i d).0 }
+    {
+        self.rows[i].0
+    }
+
+    /// The bytes of its value.
+    pub fn value(&self, i: usize) -> &[u8]
+        requires { i < length self.now }
+        ensures value { (d : Key × List ℕ) → result.now ≡ (slice_index_or self.now i d).1 }
+        ensures short { length result.now ≤ 240 }
+    {
+        let (_, piece) = self.rows[i];
+        &self.bytes[piece.start..piece.start + usize::from(piece.len)]
+    }
+
+    /// Each record, a key and the bytes of its value, in order.
+    pub fn iter(&self) -> RecordsIter<'_>
+        ensures { left_of result ≡ self.now }
+    {
+        RecordsIter {
+            records: self,
+            at: 0,
+        }
+    }
+
+    /// The record at i, if there are so many.
+    pub fn at(&self, i: usize) -> Option<(Key, Value)>
+        ensures { result ≡ slice_get self.now i }
+    {
+        if i >= self.len() {
+            return None;
+        }
+        let Some(value) = Value::new(self.value(i)) else {
+            unreachable!();
+        };
+        Some((self.key(i), value))
+    }
+
+    /// The same list, each value in the place of the greatest one.
+    pub fn to_vec(&self, alloc: Global) -> Result<Vec<(Key, Value)>, AllocError>
+        ensures { IfOk result (λ records. records.items ≡ self.now) }
+    {
+        let mut records = Vec::new(alloc);
+        let mut i = 0;
+        while let Some(record) = self.at(i) {
+            records.push(record)?;
+            i += 1;
+        }
+        Ok(records)
+    }
+}
+
+/// The records of a list from one on.
+#[derive(Clone, Copy)]
+pub struct RecordsIter<'a> {
+    records: &'a Records,
+    at: usize,
+}
+
+impl<'a> Iterator for RecordsIter<'a> {
+    ghost use Rattle.std.specs.Iterator.{at_most};
+    ghost use Rattle.vm_types.specs.Walked.{left_of, TakesRecord};
+
+    type Item = (Key, &'a [u8]);
+
+    ghost next_gives = { TakesRecord };
+
+    ghost remaining = { λ s. at_most (length (left_of s)) };
+
+    fn next(&mut self) -> Option<(Key, &'a [u8])> {
+        if self.at >= self.records.len() {
+            return None;
+        }
+        let i = self.at;
+        self.at += 1;
+        Some((self.records.key(i), self.records.value(i)))
+    }
+}
+
+impl<'a> IntoIterator for &'a Records {
+    type Item = (Key, &'a [u8]);
+
+    type IntoIter = RecordsIter<'a>;
+
+    ghost into_iter_gives = { λ records iter. left_of iter ≡ records.now };
+
+    fn into_iter(self) -> RecordsIter<'a> {
+        self.iter()
+    }
+}
