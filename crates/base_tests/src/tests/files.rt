@@ -1,0 +1,294 @@
+//! Disks over files: over one in memory, byte by byte, and over files of the system.
+use super::script::plays;
+use std::alloc::{AllocError, Global};
+use std::fs;
+use std::marker::Brand;
+use std::test::Fail;
+use vm_disk::{DeviceFault, FileDisk, History, Positional, SystemFile};
+
+// A file in memory, of which contracts know how many calls failed, and no more. Where it is to fail,
+// each call of it does, and zeros past its room are not written.
+#[derive(Drop)]
+struct Bytes {
+    bytes: Vec<u8>,
+    fails: bool,
+    room: usize,
+    failed: History<()>,
+}
+
+// Copies bytes from an offset on, unless they end before.
+fn copy_from(bytes: &[u8], offset: u64, into: &mut [u8; 4096]) -> Result<(), DeviceFault> {
+    for (k, to) in into.iter_mut().enumerate() {
+        *to = *bytes
+            .get((offset as usize).saturating_add(k))
+            .ok_or(DeviceFault)?;
+    }
+    Ok(())
+}
+
+// Sets a byte, or adds it at the end.
+fn set(bytes: &mut Vec<u8>, at: usize, byte: u8) -> Result<(), DeviceFault> {
+    if at < bytes.len() {
+        bytes[at] = byte;
+        return Ok(());
+    }
+    bytes.push(byte).map_err(|_| DeviceFault)
+}
+
+// Sets bytes from an offset on, or adds them at the end.
+fn set_all(bytes: &mut Vec<u8>, from: &[u8], offset: u64) -> Result<(), DeviceFault> {
+    for (k, byte) in from.iter().enumerate() {
+        set(bytes, (offset as usize).saturating_add(k), *byte)?;
+    }
+    Ok(())
+}
+
+impl Bytes {
+    ghost use Rattle.std.specs.Prelude.{◌≡◌, ◌<◌, length, OnErr, OnOk};
+    ghost use Rattle.vm_disk.specs.Past.{noted};
+
+    // Hands an answer on, or a fault where each call is to fail. A fault is noted.
+    fn told(&mut self, answer: Result<(), DeviceFault>) -> Result<(), DeviceFault>
+        ensures fault { OnErr result (length (noted self.old.failed) < length (noted self.new.failed)) }
+        ensures fine { OnOk result (noted self.new.failed ≡ noted self.old.failed) }
+    {
+        if self.fails || answer.is_err() {
+            self.failed.note(&());
+            return Err(DeviceFault);
+        }
+        Ok(())
+    }
+}
+
+impl Positional for Bytes {
+    ghost use Rattle.std.specs.Prelude.{false, [], length};
+    ghost use Rattle.vm_disk.specs.Past.{noted};
+
+    ghost state = { λ file. record { honest = false; bytes = []; waiting = []; failures = length (noted file.failed) } };
+
+    fn len(&mut self) -> Result<u64, DeviceFault> {
+        self.told(Ok(()))?;
+        Ok(self.bytes.len() as u64)
+    }
+
+    fn read_at(&mut self, into: &mut [u8; 4096], offset: u64) -> Result<(), DeviceFault> {
+        let answer = copy_from(&self.bytes, offset, into);
+        self.told(answer)
+    }
+
+    fn write_at(&mut self, from: &[u8; 4096], offset: u64) -> Result<(), DeviceFault> {
+        self.told(Ok(()))?;
+        let answer = set_all(&mut self.bytes, from, offset);
+        self.told(answer)
+    }
+
+    fn write_blocks_at(&mut self, from: &[[u8; 4096]], offset: u64) -> Result<(), DeviceFault> {
+        self.told(Ok(()))?;
+        let answer = set_all(&mut self.bytes, from.as_flattened(), offset);
+        self.told(answer)
+    }
+
+    fn write_zeros_at(&mut self, count: usize, offset: u64) -> Result<(), DeviceFault> {
+        self.told(Ok(()))?;
+        let answer = if self.room < (offset as usize).saturating_add(count) {
+            Err(DeviceFault)
+        } else {
+            set_all(&mut self.bytes, &[0; 65536][..count], offset)
+        };
+        self.told(answer)
+    }
+
+    fn sync(&mut self) -> Result<(), DeviceFault> {
+        self.told(Ok(()))
+    }
+}
+
+// A file of so many bytes: 1 in each byte of block 0, 2 in those of block 1, and so on.
+fn numbered(alloc: Global, count: usize) -> Result<Bytes, AllocError> {
+    let mut bytes = Vec::new(alloc);
+    for k in 0..count {
+        bytes.push((k / 4096 % 255) as u8 + 1)?;
+    }
+    Ok(Bytes {
+        bytes,
+        fails: false,
+        room: usize::MAX,
+        failed: History::new(),
+    })
+}
+
+// The disk over such a file.
+fn over_numbered(alloc: Global, count: usize) -> Result<FileDisk<Bytes>, Fail> {
+    FileDisk::open(numbered(alloc, count)?).map_err(|_| Fail::new("no disk"))
+}
+
+#[test]
+fn file_reads_and_writes_at_its_offsets(rt: HostRuntime) -> Result<(), Fail> {
+    let mut disk = over_numbered(rt.alloc(), 12298)?;
+    let row = "
+        blocks -> 3
+        holds 0 1 2 -> 1 2 3
+        fill 1 7
+        sync
+        holds 1 -> 7";
+    plays(&rt, &mut disk, row);
+    let file = disk.into_file();
+    for (at, byte) in [(4095, 1), (4096, 7), (8191, 7), (8192, 3), (12297, 4)] {
+        assert_eq!(rt; file.bytes.get(at).copied(), Some(byte), "byte {at}");
+    }
+    assert_eq!(rt; file.bytes.len(), 12298);
+    Ok(())
+}
+
+#[test]
+fn file_writes_blocks_in_a_row_at_their_offsets(rt: HostRuntime) -> Result<(), Fail> {
+    let mut disk = over_numbered(rt.alloc(), 5 * 4096)?;
+    let row = "
+        run 1 7 8 9
+        holds 0 1 2 3 4 -> 1 7 8 9 5";
+    plays(&rt, &mut disk, row);
+    assert_eq!(rt; disk.into_file().bytes.len(), 5 * 4096);
+    Ok(())
+}
+
+#[test]
+fn file_is_made_of_zero_blocks(rt: HostRuntime) -> Result<(), Fail> {
+    let Ok(mut disk) = FileDisk::create(numbered(rt.alloc(), 0)?, 17) else {
+        panic!(rt; "no disk");
+    };
+    plays(&rt, &mut disk, "blocks -> 17");
+    let file = disk.into_file();
+    assert_eq!(rt; file.bytes.len(), 69632);
+    assert!(rt; file.bytes.iter().all(|byte| *byte == 0));
+    Ok(())
+}
+
+#[test]
+fn file_gets_longer(rt: HostRuntime) -> Result<(), Fail> {
+    let mut disk = over_numbered(rt.alloc(), 12298)?;
+    let row = "
+        grow 20
+        blocks -> 20
+        fill 19 7
+        holds 0 2 3 18 19 -> 1 3 0 0 7";
+    plays(&rt, &mut disk, row);
+    assert_eq!(rt; disk.into_file().bytes.len(), 81920);
+    Ok(())
+}
+
+#[test]
+fn file_without_room_gets_what_is_written(rt: HostRuntime) -> Result<(), Fail> {
+    let mut file = numbered(rt.alloc(), 12288)?;
+    file.room = 30 * 4096;
+    let Ok(mut disk) = FileDisk::open(file) else {
+        panic!(rt; "no disk");
+    };
+    let row = "
+        grow 36 -> fault
+        blocks -> 19
+        holds 18 -> 0
+        grow 30
+        blocks -> 30";
+    plays(&rt, &mut disk, row);
+    Ok(())
+}
+
+#[test]
+fn file_that_fails(rt: HostRuntime) -> Result<(), Fail> {
+    let mut file = numbered(rt.alloc(), 4096)?;
+    file.fails = true;
+    let mut disk = FileDisk::over(file, 1);
+    let row = "
+        holds 0 -> fault
+        fill 0 7 -> fault
+        sync -> fault
+        grow 2 -> fault
+        blocks -> 1";
+    plays(&rt, &mut disk, row);
+    let file = disk.into_file();
+    assert_eq!(rt; file.bytes.get(0).copied(), Some(1));
+    let Err(file) = FileDisk::open(file) else {
+        panic!(rt; "a disk");
+    };
+    assert!(rt; FileDisk::create(file, 17).is_err());
+    Ok(())
+}
+
+/// A file of the system.
+type OnSystem = SystemFile<Brand>;
+
+// A disk of 17 blocks over a file that is made.
+fn made(rt: &HostRuntime, path: &str) -> Result<FileDisk<OnSystem>, Fail> {
+    match OnSystem::create(rt, path, &History::new()) {
+        Some(file) => FileDisk::create(file, 17).map_err(|_| Fail::new("not written")),
+        None => Err(Fail::new("not made")),
+    }
+}
+
+// A disk over a file that is there.
+fn opened(rt: &HostRuntime, path: &str) -> Result<FileDisk<OnSystem>, Fail> {
+    let mut opened = History::new();
+    opened.note(&());
+    match OnSystem::open(rt, path, &opened) {
+        Some(file) => FileDisk::open(file).map_err(|_| Fail::new("not measured")),
+        None => Err(Fail::new("not opened")),
+    }
+}
+
+// The same to be read alone.
+fn opened_to_read(rt: &HostRuntime, path: &str) -> Result<FileDisk<OnSystem>, Fail> {
+    match OnSystem::open_to_read(rt, path, &History::new()) {
+        Some(file) => FileDisk::open(file).map_err(|_| Fail::new("not measured")),
+        None => Err(Fail::new("not opened")),
+    }
+}
+
+// Whether a file is there that can be opened so.
+fn is_opened(rt: &HostRuntime, path: &str) -> bool {
+    OnSystem::open(rt, path, &History::new()).is_some()
+}
+
+fn is_opened_to_read(rt: &HostRuntime, path: &str) -> bool {
+    OnSystem::open_to_read(rt, path, &History::new()).is_some()
+}
+
+#[test]
+fn system_file_holds_what_was_written(rt: HostRuntime) -> Result<(), Fail> {
+    let path = "vm_disk_system_file_test";
+    let _ = fs::remove_file(&rt, path);
+    let mut disk = made(&rt, path)?;
+    let row = "
+        fill 16 7
+        run 4 1 2 3
+        forget 6
+        sync";
+    plays(&rt, &mut disk, row);
+    let _ = disk.into_file();
+    let again = "
+        blocks -> 17
+        holds 0 3 4 5 7 15 16 -> 0 0 1 2 0 0 7";
+    plays(&rt, &mut opened(&rt, path)?, again);
+    fs::remove_file(&rt, path)?;
+    Ok(())
+}
+
+#[test]
+fn system_file_opened_to_read_is_never_written(rt: HostRuntime) -> Result<(), Fail> {
+    let path = "vm_disk_read_alone_test";
+    let _ = fs::remove_file(&rt, path);
+    fs::write(&rt, path, &[7; 12288])?;
+    let row = "
+        blocks -> 3
+        fill 1 8 -> fault
+        run 0 4 5 6 -> fault
+        sync
+        holds 1 -> 7";
+    plays(&rt, &mut opened_to_read(&rt, path)?, row);
+    fs::remove_file(&rt, path)?;
+    assert!(rt; !is_opened_to_read(&rt, path));
+    for path in [".", "/dev/null"] {
+        assert!(rt; !is_opened_to_read(&rt, path), "{path}");
+        assert!(rt; !is_opened(&rt, path), "{path}");
+    }
+    Ok(())
+}

@@ -1,0 +1,216 @@
+//! Scripts: lines of steps, each with its answer, played over a disk.
+//!
+//! A line is a step, and behind ` -> ` its answer, which is `ok` where the line says none. A call that fails is
+//! answered `fault`. A line that begins with `#` is a comment.
+//!
+//! | Step | Answer |
+//! |---|---|
+//! | `fill 2 7` | `ok`: each byte of block 2 is 7 from here on |
+//! | `run 1 6 7 8` | `ok`: the same of the blocks 1, 2 and 3, in one call |
+//! | `forget 1` | `ok`: what block 1 holds is not needed |
+//! | `grow 5` | `ok`: the disk has so many blocks |
+//! | `sync` | `ok` |
+//! | `holds 0 2` | `0 7`: the byte that fills each of these blocks, or `mixed` |
+//! | `is 2 7` | `yes`: whether each byte of block 2 is 7 |
+//! | `blocks` | `5`: how many the disk has |
+//! | `sure` | `3`: how many of the disk in memory below a crash leaves at least |
+//! | `dirty 1 2` | `no yes`: which blocks of that disk are not synced |
+//! | `calls` | `5`: how many calls the fuse over it has had |
+//! | `blown` | `no`: whether the fuse has failed one of them |
+use super::seen::Seen;
+use std::alloc::{AllocError, Global};
+use std::fmt;
+use std::process::Abort;
+use vm_disk::{DeviceFault, Disk};
+
+/// Why a step has no answer of its own.
+#[derive(Clone, Copy, Debug, PartialEq, Eq)]
+enum Wrong {
+    /// No memory for the script itself.
+    Memory,
+    /// The call that the step makes failed.
+    Device,
+    /// The step is none, or asks for what the disk does not have.
+    Unreadable,
+}
+
+impl From<AllocError> for Wrong {
+    fn from(_: AllocError) -> Wrong {
+        Wrong::Memory
+    }
+}
+
+impl From<fmt::Error> for Wrong {
+    fn from(_: fmt::Error) -> Wrong {
+        Wrong::Memory
+    }
+}
+
+impl From<DeviceFault> for Wrong {
+    fn from(_: DeviceFault) -> Wrong {
+        Wrong::Device
+    }
+}
+
+fn number(word: &str) -> Result<u32, Wrong> {
+    word.parse::<u32>().map_err(|_| Wrong::Unreadable)
+}
+
+fn byte(word: &str) -> Result<u8, Wrong> {
+    word.parse::<u8>().map_err(|_| Wrong::Unreadable)
+}
+
+// The bytes of a block that this one fills.
+fn block(word: &str) -> Result<[u8; 4096], Wrong> {
+    Ok([byte(word)?; 4096])
+}
+
+fn fill<D: Disk>(disk: &mut D, n: u32, bytes: &[u8; 4096]) -> Result<(), Wrong> {
+    if n >= disk.blocks() {
+        return Err(Wrong::Unreadable);
+    }
+    disk.write(n, bytes)?;
+    Ok(())
+}
+
+// Fills three blocks in a row, from block n on, in one call.
+fn fill_run<D: Disk>(disk: &mut D, n: u32, bytes: &[[u8; 4096]; 3]) -> Result<(), Wrong> {
+    if n >= disk.blocks() || 3 > disk.blocks() - n {
+        return Err(Wrong::Unreadable);
+    }
+    disk.write_run(n, bytes)?;
+    Ok(())
+}
+
+fn forget<D: Disk>(disk: &mut D, n: u32) -> Result<(), Wrong> {
+    if n >= disk.blocks() {
+        return Err(Wrong::Unreadable);
+    }
+    disk.forget(n);
+    Ok(())
+}
+
+fn grow<D: Disk>(disk: &mut D, blocks: u32) -> Result<(), Wrong> {
+    if blocks < disk.blocks() {
+        return Err(Wrong::Unreadable);
+    }
+    disk.extend(blocks)?;
+    Ok(())
+}
+
+// Carries out a step that changes the disk. Whether these words are one.
+fn change<D: Disk>(disk: &mut D, words: &[&str]) -> Result<bool, Wrong> {
+    match words {
+        ["fill", n, byte] => fill(disk, number(n)?, &block(byte)?)?,
+        ["run", n, first, second, third] => {
+            let bytes = [block(first)?, block(second)?, block(third)?];
+            fill_run(disk, number(n)?, &bytes)?;
+        }
+        ["forget", n] => forget(disk, number(n)?)?,
+        ["grow", blocks] => grow(disk, number(blocks)?)?,
+        ["sync"] => disk.sync()?,
+        _ => return Ok(false),
+    }
+    Ok(true)
+}
+
+// The byte that fills a block, if it is one byte.
+fn filling<D: Disk>(disk: &mut D, n: u32) -> Result<Option<u8>, Wrong> {
+    let mut bytes = [0; 4096];
+    if n >= disk.blocks() {
+        return Err(Wrong::Unreadable);
+    }
+    disk.read(n, &mut bytes)?;
+    let first = bytes[0];
+    Ok(bytes.iter().all(|byte| *byte == first).then_some(first))
+}
+
+fn fillings<D: Disk>(disk: &mut D, blocks: &[&str], text: &mut String) -> Result<(), Wrong> {
+    for n in blocks {
+        match filling(disk, number(n)?)? {
+            Some(byte) => write!(text, " {byte}")?,
+            None => write!(text, " mixed")?,
+        }
+    }
+    Ok(())
+}
+
+fn yes_or_no(is_so: bool) -> &'static str {
+    if is_so { "yes" } else { "no" }
+}
+
+fn dirty<D: Seen>(disk: &D, blocks: &[&str], text: &mut String) -> Result<(), Wrong> {
+    let memory = disk.memory().ok_or(Wrong::Unreadable)?;
+    for n in blocks {
+        write!(text, " {}", yes_or_no(memory.is_dirty(number(n)?)))?;
+    }
+    Ok(())
+}
+
+// A number that the disk, or one below it, has.
+fn count<D: Seen>(disk: &D, of: &str) -> Option<u32> {
+    match of {
+        "blocks" => Some(disk.blocks()),
+        "sure" => Some(disk.memory()?.sure()),
+        "calls" => Some(disk.fuse()?.0),
+        _ => None,
+    }
+}
+
+// Adds what the disk holds to a text.
+fn look<D: Seen>(disk: &mut D, words: &[&str], text: &mut String) -> Result<(), Wrong> {
+    match words {
+        ["holds", blocks @ ..] => fillings(disk, blocks, text),
+        ["dirty", blocks @ ..] => dirty(disk, blocks, text),
+        ["is", n, due] => {
+            let found = filling(disk, number(n)?)?;
+            text.push_str(yes_or_no(found == Some(byte(due)?)))?;
+            Ok(())
+        }
+        ["blown"] => {
+            let (_, blown) = disk.fuse().ok_or(Wrong::Unreadable)?;
+            text.push_str(yes_or_no(blown))?;
+            Ok(())
+        }
+        [of] => {
+            let count = count(disk, of).ok_or(Wrong::Unreadable)?;
+            write!(text, "{count}")?;
+            Ok(())
+        }
+        _ => Err(Wrong::Unreadable),
+    }
+}
+
+// What a step is answered.
+fn answer<D: Seen>(alloc: Global, disk: &mut D, words: &[&str]) -> Result<String, Wrong> {
+    if change(disk, words)? {
+        return Ok(String::from_str(alloc, "ok")?);
+    }
+    let mut text = String::new(alloc);
+    look(disk, words, &mut text)?;
+    Ok(text)
+}
+
+// Plays a step. Its answer.
+fn play<D: Seen>(alloc: Global, disk: &mut D, step: &str) -> Result<String, Wrong> {
+    let words: Vec<&str> = step.split_whitespace().collect(alloc)?;
+    match answer(alloc, disk, &words) {
+        Err(Wrong::Device) => Ok(String::from_str(alloc, "fault")?),
+        other => other,
+    }
+}
+
+/// Plays the lines of a text, and compares each answer.
+pub(super) fn plays<D: Seen, R: AllocGlobal + Abort>(rt: &R, disk: &mut D, text: &str) {
+    for (n, line) in text.lines().enumerate() {
+        let line = line.trim();
+        if line.is_empty() || line.starts_with('#') {
+            continue;
+        }
+        let (step, due) = line.split_once(" -> ").unwrap_or((line, "ok"));
+        match play(rt.alloc(), disk, step) {
+            Ok(given) => assert_eq!(rt; given.trim(), due.trim(), "line {n}: {line}"),
+            Err(wrong) => panic!(rt; "line {n}: {line}: {wrong:?}"),
+        }
+    }
+}

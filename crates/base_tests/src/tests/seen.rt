@@ -1,0 +1,104 @@
+//! Disks to be played on, and what stands below them.
+use std::alloc::Global;
+use std::test::Fail;
+use vm_disk::{CachedDisk, DelayedDisk, Disk, FileDisk, FuseDisk, MemDisk, Positional};
+
+/// A disk, and what may stand below it to be looked at.
+pub(super) trait Seen: Disk {
+    /// The disk in memory below it.
+    fn memory(&self) -> Option<&MemDisk>;
+
+    /// How many calls the fuse below it has had, and whether it has failed one.
+    fn fuse(&self) -> Option<(u32, bool)>;
+}
+
+impl Seen for MemDisk {
+    fn memory(&self) -> Option<&MemDisk> {
+        Some(self)
+    }
+
+    fn fuse(&self) -> Option<(u32, bool)> {
+        None
+    }
+}
+
+impl Seen for FuseDisk<MemDisk> {
+    fn memory(&self) -> Option<&MemDisk> {
+        Some(self.inner())
+    }
+
+    fn fuse(&self) -> Option<(u32, bool)> {
+        Some((self.calls(), self.blown()))
+    }
+}
+
+impl<D: Seen> Seen for CachedDisk<D> {
+    fn memory(&self) -> Option<&MemDisk> {
+        self.inner().memory()
+    }
+
+    fn fuse(&self) -> Option<(u32, bool)> {
+        self.inner().fuse()
+    }
+}
+
+impl<D: Seen> Seen for DelayedDisk<D> {
+    fn memory(&self) -> Option<&MemDisk> {
+        self.inner().memory()
+    }
+
+    fn fuse(&self) -> Option<(u32, bool)> {
+        self.inner().fuse()
+    }
+}
+
+impl<F: Positional> Seen for FileDisk<F> {
+    fn memory(&self) -> Option<&MemDisk> {
+        None
+    }
+
+    fn fuse(&self) -> Option<(u32, bool)> {
+        None
+    }
+}
+
+/// A disk in memory of so many blocks.
+pub(super) fn memory(alloc: Global, blocks: u32) -> Result<MemDisk, Fail> {
+    Ok(MemDisk::new(alloc, blocks)?)
+}
+
+/// The same with room for more.
+pub(super) fn memory_with_room(alloc: Global, blocks: u32, room: u32) -> Result<MemDisk, Fail> {
+    if blocks > room {
+        return Err(Fail::new("too little room"));
+    }
+    Ok(MemDisk::with_room(alloc, blocks, room)?)
+}
+
+/// A cache of so many blocks of a disk.
+pub(super) fn cached<D: Disk + Drop>(
+    alloc: Global,
+    inner: D,
+    capacity: usize,
+) -> Result<CachedDisk<D>, Fail> {
+    if capacity > 0
+        && let Ok(disk) = CachedDisk::new(alloc, inner, capacity)
+    {
+        return Ok(disk);
+    }
+    Err(Fail::new("no memory"))
+}
+
+/// A late disk over this one with so many blocks that may wait.
+pub(super) fn late<D: Disk + Drop>(
+    alloc: Global,
+    inner: D,
+    capacity: usize,
+) -> Result<DelayedDisk<D>, Fail> {
+    if capacity > 0
+        && let Ok(disk) = DelayedDisk::new(alloc, inner, capacity)
+    {
+        return Ok(disk);
+    }
+    Err(Fail::new("no memory"))
+}
