@@ -6,6 +6,7 @@ mod headers;
 mod holding;
 mod inner_blocks;
 mod leaves;
+mod packed;
 mod records;
 mod slots;
 mod spelled;

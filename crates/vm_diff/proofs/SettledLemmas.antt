@@ -24,7 +24,7 @@ use Rattle.vm_types.specs.Map.{key_cmp, same_key, Map, IsMap, same_value, over, 
 use Rattle.vm_types.specs.Step.{settled_refusal, first_repeated}
 use Rattle.vm_types.proofs.Keys.{keys_total, exact_keys, is_less}
 use Rattle.vm_types.proofs.Maps.{IsMap-over}
-use Rattle.vm_types.proofs.Changes.{is_below-head, IsMap-tail}
+use Rattle.vm_types.proofs.ChangeLemmas.{is_below-head, IsMap-tail}
 use Rattle.vm_diff.specs.Merging.{from_key, first_at, settled_from, chosen, taken}
 use Rattle.vm_diff.proofs.MergingLemmas.{or_true_left, or_true_right, above_all, key-change_at, side_by_side}
 

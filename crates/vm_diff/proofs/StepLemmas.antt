@@ -7,7 +7,7 @@ use Rattle.vm_types.specs.declared.change.Change.{Change}
 use Rattle.vm_types.specs.Map.{delta}
 use Rattle.vm_types.specs.Places.{place}
 use Rattle.vm_types.proofs.Bridge.{exact_places}
-use Rattle.vm_types.proofs.Changes.{change_of}
+use Rattle.vm_types.proofs.ChangeLemmas.{change_of}
 use Rattle.vm_disk.specs.Disk.{Contents}
 use Rattle.vm_block.specs.Leaf.{Record}
 use Rattle.vm_block.specs.Tree.{Sizes, Subtree as LiesUnder}
