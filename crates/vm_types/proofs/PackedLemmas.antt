@@ -1,8 +1,8 @@
 -- Packed lists, when a row is added.
 use Rattle.std.proofs.Common.{◌≡◌, ℕ, ◌+◌, ◌≤◌, List, [], ◌∷◌, ◌++◌, length, take, drop, map, Option, slice_get, Some, None, inl, inr, refl, ap, ap₂, sym, ◌∙◌, add-one, arith, length-drop, length-append, append_assoc, subst, Result, Ok, Err, OnErr}
-use Rattle.std.proofs.lemmas.List.{drop-append-le, map-append, take-append-le, take_all}
+use Rattle.std.proofs.lemmas.List.{drop-append-le, map-append, take-append-le}
 use Rattle.std.proofs.lemmas.Option.{get_or_from_slice_get, slice_get_cases, slice_get_within}
-use Rattle.std.proofs.Math.Seq.{drop-append_seam, take-suc}
+use Rattle.std.proofs.Math.Seq.{take-suc}
 use Rattle.vm_types.specs.declared.change.Change.{Change}
 use Rattle.vm_types.specs.declared.change.Conflict.{Conflict}
 use Rattle.vm_types.specs.declared.changes.ChangeRow.{ChangeRow}
@@ -29,10 +29,6 @@ value_in-more bytes more piece lies =
 pub optional_in-more : (bytes more : List ℕ) (piece : Option Piece) → MayLieIn (length bytes) piece → optional_in (bytes ++ more) piece ≡ optional_in bytes piece
 optional_in-more bytes more None lies = refl
 optional_in-more bytes more (Some piece) lies = ap Some (value_in-more bytes more piece lies)
-
--- the piece of a value behind the bytes
-pub value_in-behind : (bytes value : List ℕ) → take (length value) (drop (length bytes) (bytes ++ value)) ≡ value
-value_in-behind bytes value = ap (take (length value)) (drop-append_seam bytes value) ∙ take_all (length value) value (omega arith)
 
 -- ---- rows of any kind, where each tells its item by the bytes that its pieces lie in
 
