@@ -4,7 +4,7 @@ use std::alloc::{AllocError, Global};
 use std::str;
 use vm_disk::MemDisk;
 use vm_store::Store;
-use vm_types::{Name, Refusal, Value};
+use vm_types::{Name, Refusal};
 
 /// Why nothing is shown.
 #[derive(Clone, Copy)]
@@ -36,9 +36,9 @@ fn shown(value: &[u8]) -> &str {
 }
 
 // A value as a text, `~` for none.
-fn text_of(value: Option<&Value>) -> &str {
+fn text_of(value: Option<&[u8]>) -> &str {
     match value {
-        Some(value) => shown(value.as_bytes()),
+        Some(value) => shown(value),
         None => "~",
     }
 }
@@ -53,12 +53,9 @@ fn write_maps(
     for (key, value) in &given("list", store.list(alloc, alt))? {
         writeln!(text, "{alt}: record {key} {}", shown(value))?;
     }
-    for change in &given("changes", store.changes(alloc, alt))? {
-        let (before, after) = (
-            text_of(change.before.as_ref()),
-            text_of(change.after.as_ref()),
-        );
-        writeln!(text, "{alt}: change {} {before} {after}", change.key)?;
+    for (key, before, after) in &given("changes", store.changes(alloc, alt))? {
+        let (before, after) = (text_of(before), text_of(after));
+        writeln!(text, "{alt}: change {key} {before} {after}")?;
     }
     for name in &given("checkpoints", store.checkpoints(alloc, alt))? {
         writeln!(text, "{alt}: checkpoint {name}")?;
@@ -73,17 +70,9 @@ fn write_conflicts(
     alt: &Name,
     text: &mut String,
 ) -> Result<(), Blind> {
-    for conflict in &given("conflicts", store.conflicts(alloc, alt))? {
-        let (base, parent) = (
-            text_of(conflict.base.as_ref()),
-            text_of(conflict.parent.as_ref()),
-        );
-        let mine = text_of(conflict.mine.as_ref());
-        writeln!(
-            text,
-            "{alt}: conflict {} {base} {parent} {mine}",
-            conflict.key
-        )?;
+    for (key, base, parent, mine) in &given("conflicts", store.conflicts(alloc, alt))? {
+        let (base, parent, mine) = (text_of(base), text_of(parent), text_of(mine));
+        writeln!(text, "{alt}: conflict {key} {base} {parent} {mine}")?;
     }
     Ok(())
 }

@@ -1,14 +1,14 @@
 -- The tops of subtrees at rising levels: the first of them, and what is left where its level changes.
-use Rattle.std.proofs.Common.{◌≡◌, ℕ, zero, suc, ◌+◌, ◌-◌, ◌<◌, ◌≤◌, List, [], ◌∷◌, ◌++◌, length, get_or, drop, Some, None, refl, sym, ap, ap₂, ◌∙◌, subst, arith, length-append}
+use Rattle.std.proofs.Common.{◌≡◌, ℕ, zero, suc, ◌+◌, ◌-◌, ◌<◌, List, [], ◌∷◌, ◌++◌, length, get_or, drop, Some, refl, sym, ap, ap₂, ◌∙◌, arith, length-append}
 use Rattle.std.proofs.Math.ListN.{set}
 use Rattle.std.proofs.lemmas.List.{length-map}
 use Rattle.vm_types.specs.declared.key.Key.{Key}
 use Rattle.vm_block.specs.Leaf.{Record}
 use Rattle.vm_block.specs.declared.node.Child.{Child}
 use Rattle.vm_tree.specs.declared.root.Root.{Root}
-use Rattle.vm_diff.specs.Walk.{Walk, tops_of}
+use Rattle.vm_diff.specs.Walk.{tops_of}
 use Rattle.vm_diff.specs.Ahead.{PassedBoth, first_key, first_top, tops_in}
-use Rattle.vm_diff.specs.Front.{first_of, front_of, next_of}
+use Rattle.vm_diff.specs.Front.{first_of}
 use Rattle.vm_diff.specs.Front.Front.{Pair, Top}
 
 -- the top of one subtree

@@ -6,7 +6,7 @@ use Rattle.vm_types.specs.declared.change.Change.{Change}
 use Rattle.vm_types.specs.Map.{delta}
 use Rattle.vm_types.specs.Places.{place, KeyFits, FitKeys, RisesFrom, places}
 use Rattle.vm_types.proofs.Bridge.{IsMap-rising_from, RisesFrom-lower}
-use Rattle.vm_types.proofs.Changes.{is_below, is_below-head, change_of, delta-left, delta-right, delta-both}
+use Rattle.vm_types.proofs.ChangeLemmas.{is_below, is_below-head, change_of, delta-left, delta-right, delta-both}
 use Rattle.vm_types.proofs.Maps.{same_value-Decides}
 use Rattle.vm_block.specs.Leaf.{Record}
 use Rattle.vm_diff.specs.Differ.{AreRising}

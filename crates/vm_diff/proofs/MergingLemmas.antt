@@ -1,5 +1,5 @@
 -- Two lists of changes side by side give the conflicts of two maps, and what a merge of them changes.
-use Rattle.std.proofs.Common.{◌≡◌, ℕ, ◌+◌, ◌<◌, Bool, true, false, cond, if◌then◌else◌, ◌||◌, List, [], ◌∷◌, ◌++◌, map, filter_map, take, drop, length, get_or, Option, Some, None, is_some, is_none, Less, Equal, Greater, refl, sym, ap, ◌∙◌, subst, option_map}
+use Rattle.std.proofs.Common.{◌≡◌, ℕ, ◌+◌, ◌<◌, Bool, true, false, cond, if◌then◌else◌, ◌||◌, List, [], ◌∷◌, ◌++◌, map, filter_map, take, drop, length, get_or, Option, Some, None, is_some, is_none, Less, Equal, Greater, refl, sym, ap, ◌∙◌, subst, option_map, option_to_list, append-nil, append_assoc, Result, Ok, Err, is_ok, OnOk}
 use Rattle.std.specs.List.{list_any, cons_option}
 use Rattle.std.specs.Option.{option_and_then, unwrap_or}
 use Rattle.std.specs.Ordering.{is_lt, is_eq, ordering_reverse}
@@ -7,7 +7,7 @@ use Rattle.std.specs.Cmp.{tied_itself}
 use Rattle.std.specs.FinMap.Entries as entries
 use Rattle.std.specs.BTreeMap.{is_at}
 use Rattle.std.specs.Map.{lookup}
-use Rattle.std.proofs.lemmas.Bool.{and_parts, or_parts}
+use Rattle.std.proofs.lemmas.Bool.{and_parts, or_parts, false≢true}
 use Rattle.std.proofs.lemmas.Bool.Decides.{same_from_decides}
 use Rattle.std.proofs.lemmas.List.{drop_more, take_more, map-append}
 use Rattle.vm_types.specs.declared.key.Key.{Key}
@@ -19,7 +19,7 @@ use Rattle.vm_types.specs.Map.{key_cmp, same_key, Map, IsMap, get, same_value, o
 use Rattle.vm_types.specs.Step.{first_repeated}
 use Rattle.vm_types.proofs.Keys.{keys_total, exact_keys, same_key-Decides, same_maps, is_less}
 use Rattle.vm_types.proofs.Maps.{same_value-Decides, keys_of-any, tabulated, get-tabulated, IsMap-tabulated, IsMap-over, IsMap-merge, get-merge}
-use Rattle.vm_types.proofs.Changes.{is_below, is_below-lower, is_below-head, IsMap-tail, get_below, change_of}
+use Rattle.vm_types.proofs.ChangeLemmas.{is_below, is_below-lower, is_below-head, IsMap-tail, get_below, change_of}
 use Rattle.vm_diff.specs.Merging.{from_key, first_at, clash, chosen, taken}
 
 pub or_true_left : (s t : Bool) → s ≡ true → (s || t) ≡ true
@@ -143,6 +143,56 @@ module _ (m n : Map) where
 abbrev pub side_by_side : {X : Type 0} → (Change → Option Change → Option X) → List Change → List Change → List X
 side_by_side give [] mine = []
 side_by_side give (c ∷ theirs) mine = cons_option (give c (first_at c.key (from_key c.key mine))) (side_by_side give theirs (from_key c.key mine))
+
+-- what may be one more stands between a list and its rest
+pub appended : {X : Type 0} (found : List X) (one : Option X) (rest : List X) → found ++ cons_option one rest ≡ (found ++ option_to_list one) ++ rest
+appended found None rest = ap (λ xs. xs ++ rest) (sym (append-nil found))
+appended found (Some x) rest = sym (append_assoc found (x ∷ []) rest)
+
+-- the parent's change at a place, with one's own changes from its key on, gives its part of all; then the next is ahead
+pub side_by_side-goes_on : {X : Type 0} (give : Change → Option Change → Option X) (theirs mine : List Change) (all found new : List X) (i at next : ℕ) (key : Key) (d : Change) → i < length theirs → key ≡ (get_or theirs i d).key
+    → drop next mine ≡ from_key key (drop at mine) → all ≡ found ++ side_by_side give (drop i theirs) (drop at mine) → new ≡ found ++ option_to_list (give (get_or theirs i d) (first_at (get_or theirs i d).key (drop next mine)))
+    → all ≡ new ++ side_by_side give (drop (i + 1) theirs) (drop next mine)
+side_by_side-goes_on give theirs mine all found new i at next key d lt same_key ahead so_far adds =
+    let t = get_or theirs i d in
+    let later = drop (i + 1) theirs in
+    let here : drop next mine ≡ from_key t.key (drop at mine) = subst (λ k. drop next mine ≡ from_key k (drop at mine)) same_key ahead in
+    so_far
+    ∙ ap (λ changes. found ++ side_by_side give changes (drop at mine)) (drop_more theirs i d lt)
+    ∙ ap (λ own. found ++ cons_option (give t (first_at t.key own)) (side_by_side give later own)) (sym here)
+    ∙ appended found (give t (first_at t.key (drop next mine))) (side_by_side give later (drop next mine))
+    ∙ ap (λ xs. xs ++ side_by_side give later (drop next mine)) (sym adds)
+
+-- the key of the conflict of a change of the parent with one's own
+abbrev pub key_of_clash : Change → Option Change → Option Key
+key_of_clash theirs own = option_map (λ c. c.key) (clash theirs own)
+
+-- a part of what each gives
+pub side_by_side-map : {X Y : Type 0} (part : X → Y) (give : Change → Option Change → Option X) (theirs mine : List Change) → side_by_side (λ t own. option_map part (give t own)) theirs mine ≡ map part (side_by_side give theirs mine)
+side_by_side-map part give [] mine = refl
+side_by_side-map {X = X} part give (c ∷ theirs) mine =
+    ap (cons_option (option_map part (give c (first_at c.key (from_key c.key mine))))) (side_by_side-map part give theirs (from_key c.key mine))
+    ∙ one_more (give c (first_at c.key (from_key c.key mine))) (side_by_side give theirs (from_key c.key mine))
+  where
+    one_more : (o : Option X) (rest : List X) → cons_option (option_map part o) (map part rest) ≡ map part (cons_option o rest)
+    one_more None rest = refl
+    one_more (Some x) rest = refl
+
+-- what holds where a call succeeds, and it did
+pub when_ok : {T E P : Type 0} (r : Result T E) → is_ok r ≡ true → OnOk r P → P
+when_ok (Ok x) is p = p
+when_ok (Err e) is p = absurd (false≢true is)
+
+-- the changes from a key on stop at one that is no lower, and go past a lower one
+pub from_key-stops : (key : Key) (changes : List Change) (i : ℕ) (d : Change) → i < length changes → is_lt (key_cmp (get_or changes i d).key key) ≡ false → from_key key (drop i changes) ≡ drop i changes
+from_key-stops key changes i d lt above =
+    let all = drop_more changes i d lt in
+    let c = get_or changes i d in
+    ap (from_key key) all ∙ ap (λ t. cond t (from_key key (drop (i + 1) changes)) (c ∷ drop (i + 1) changes)) above ∙ sym all
+
+pub from_key-passes : (key : Key) (changes : List Change) (i : ℕ) (d : Change) → i < length changes → is_lt (key_cmp (get_or changes i d).key key) ≡ true → from_key key (drop i changes) ≡ from_key key (drop (i + 1) changes)
+from_key-passes key changes i d lt below =
+    ap (from_key key) (drop_more changes i d lt) ∙ ap (λ t. cond t (from_key key (drop (i + 1) changes)) (get_or changes i d ∷ drop (i + 1) changes)) below
 
 -- what a change of the parent gives with one's own
 abbrev pub joined : {X : Type 0} → (Change → Option Change → Option X) → Option Change → Option Change → Option X

@@ -1,5 +1,5 @@
 -- Settlements by rising keys: what is found of them beside conflicts by rising keys, and beside changes.
-use Rattle.std.proofs.Common.{◌≡◌, ℕ, ◌<◌, ⊎_elim, suc, ◌+◌, ◌-◌, ◌↔◌, IsTrue, Bool, true, false, cond, not, if◌then◌else◌, ◌||◌, List, [], ◌∷◌, ◌++◌, map, filter, find, filter_map, length, get_or, slice_get, Option, Some, None, is_some, is_none, Result, Ok, Err, is_ok, Less, Equal, Greater, nat_lt, option_map, refl, sym, ap, ap₂, ◌∙◌, subst, arith}
+use Rattle.std.proofs.Common.{◌≡◌, ℕ, ◌<◌, ⊎_elim, suc, ◌+◌, ◌-◌, ◌↔◌, IsTrue, Bool, true, false, cond, not, if◌then◌else◌, ◌||◌, List, [], ◌∷◌, ◌++◌, map, filter, find, filter_map, length, get_or, slice_get, Option, Some, None, is_some, is_none, Result, Ok, Err, is_ok, Less, Equal, Greater, nat_lt, option_map, refl, sym, ap, ap₂, ◌∙◌, subst, arith, drop, option_to_list}
 use Rattle.std.specs.List.{list_any, cons_option, AllByRecursion, HoldsAt, IsAllAdjacentAnswer}
 use Rattle.std.specs.List.Sorted.{IsBinarySearchResult, IsNonDecreasingBy, IsPartitionPoint, IsSearchInRange, IsStrictlySortedBy}
 use Rattle.std.specs.Option.{option_or}
@@ -7,8 +7,7 @@ use Rattle.std.specs.Ordering.{is_lt, is_eq, ordering_index, ordering_reverse}
 use Rattle.std.specs.Cmp.{tied_itself}
 use Rattle.std.specs.FinMap.Entries as entries
 use Rattle.std.specs.FinMap.Entries.{by_order}
-use Rattle.std.proofs.lemmas.List.{get_or-map as get_at_map}
-use Rattle.std.proofs.lemmas.List.Elements.{All-map}
+use Rattle.std.proofs.lemmas.List.{drop_more}
 use Rattle.std.proofs.lemmas.List.Folds.{list_any-append, list_any_at, list_any_none}
 use Rattle.std.proofs.lemmas.List.Sorted.{searchable_from_sorted}
 use Rattle.std.proofs.lemmas.Bool.{cases_lt, false≢true}
@@ -16,7 +15,6 @@ use Rattle.std.proofs.lemmas.Map.Keys.{sorted_from_all_adjacent, Less-from_sorte
 use Rattle.std.proofs.Math.ListN.{get_or-map}
 use Rattle.vm_types.specs.declared.key.Key.{Key}
 use Rattle.vm_types.specs.declared.change.Change.{Change}
-use Rattle.vm_types.specs.declared.change.Conflict.{Conflict}
 use Rattle.vm_types.specs.declared.command.Side.{Side}
 use Rattle.vm_types.specs.declared.refusal.Refusal.{Refusal}
 use Rattle.vm_types.specs.declared.refusal.Refusal.TheVariants.{Unsettled, NotInConflict, SettledTwice}
@@ -24,9 +22,9 @@ use Rattle.vm_types.specs.Map.{key_cmp, same_key, Map, IsMap, same_value, over, 
 use Rattle.vm_types.specs.Step.{settled_refusal, first_repeated}
 use Rattle.vm_types.proofs.Keys.{keys_total, exact_keys, is_less}
 use Rattle.vm_types.proofs.Maps.{IsMap-over}
-use Rattle.vm_types.proofs.Changes.{is_below-head, IsMap-tail}
+use Rattle.vm_types.proofs.ChangeLemmas.{is_below-head, IsMap-tail}
 use Rattle.vm_diff.specs.Merging.{from_key, first_at, settled_from, chosen, taken}
-use Rattle.vm_diff.proofs.MergingLemmas.{or_true_left, or_true_right, above_all, key-change_at, side_by_side}
+use Rattle.vm_diff.proofs.MergingLemmas.{or_true_left, or_true_right, above_all, appended, key-change_at, side_by_side}
 
 -- ---- keys that rise
 
@@ -160,12 +158,11 @@ unmatched-end [] = refl
 unmatched-end (e ∷ settled) = refl
 
 -- a key below the other's next one is not in it
-pub unmatched-above : (settled rest : List (Key × Side)) (others later : List Conflict) (e : Key × Side) (c : Conflict) → settled ≡ e ∷ rest → others ≡ c ∷ later → key_cmp c.key e.0 ≡ Greater
-    → unmatched (map (λ e. e.0) settled) (map (λ c. c.key) others) ≡ Some e.0
+pub unmatched-above : (settled rest : List (Key × Side)) (others later : List Key) (e : Key × Side) (c : Key) → settled ≡ e ∷ rest → others ≡ c ∷ later → key_cmp c e.0 ≡ Greater → unmatched (map (λ e. e.0) settled) others ≡ Some e.0
 unmatched-above settled rest others later e c left right above =
-    ap (λ (l : List (Key × Side)). unmatched (map (λ e. e.0) l) (map (λ c. c.key) others)) left
-    ∙ ap (λ (l : List Conflict). unmatched (map (λ e. e.0) (e ∷ rest)) (map (λ c. c.key) l)) right
-    ∙ ap (λ o. by_order o (unmatched (map (λ e. e.0) (e ∷ rest)) (map (λ c. c.key) later)) (unmatched (map (λ e. e.0) rest) (map (λ c. c.key) later)) (Some e.0)) above
+    ap (λ (l : List (Key × Side)). unmatched (map (λ e. e.0) l) others) left
+    ∙ ap (λ (l : List Key). unmatched (map (λ e. e.0) (e ∷ rest)) l) right
+    ∙ ap (λ o. by_order o (unmatched (map (λ e. e.0) (e ∷ rest)) later) (unmatched (map (λ e. e.0) rest) later) (Some e.0)) above
 
 -- keys above another are not that one
 without-lower : (k : Key) (keys others : List Key) → Above k others → filter (is_missing (k ∷ keys)) others ≡ filter (is_missing keys) others
@@ -283,6 +280,22 @@ three_by_side settled [] mine = []
 three_by_side settled (c ∷ theirs) mine =
     cons_option (taken (settled_from c.key settled) c (first_at c.key (from_key c.key mine))) (three_by_side (settled_from c.key settled) theirs (from_key c.key mine))
 
+-- the parent's change at a place gives its part of all; then the next is ahead
+pub three_by_side-goes_on : (theirs mine : List Change) (settled unused : List (Key × Side)) (all found new : List Change) (i at next : ℕ) (key : Key) (d : Change) → i < length theirs → key ≡ (get_or theirs i d).key
+    → drop next mine ≡ from_key key (drop at mine) → unused ≡ settled_from key settled → all ≡ found ++ three_by_side settled (drop i theirs) (drop at mine)
+    → new ≡ found ++ option_to_list (taken unused (get_or theirs i d) (first_at (get_or theirs i d).key (drop next mine)))
+    → all ≡ new ++ three_by_side unused (drop (i + 1) theirs) (drop next mine)
+three_by_side-goes_on theirs mine settled unused all found new i at next key d lt same_key ahead left so_far adds =
+    let t = get_or theirs i d in
+    let later = drop (i + 1) theirs in
+    let here : drop next mine ≡ from_key t.key (drop at mine) = subst (λ k. drop next mine ≡ from_key k (drop at mine)) same_key ahead in
+    let used : unused ≡ settled_from t.key settled = subst (λ k. unused ≡ settled_from k settled) same_key left in
+    so_far
+    ∙ ap (λ changes. found ++ three_by_side settled changes (drop at mine)) (drop_more theirs i d lt)
+    ∙ ap₂ (λ s own. found ++ cons_option (taken s t (first_at t.key own)) (three_by_side s later own)) (sym used) (sym here)
+    ∙ appended found (taken unused t (first_at t.key (drop next mine))) (three_by_side unused later (drop next mine))
+    ∙ ap (λ xs. xs ++ three_by_side unused later (drop next mine)) (sym adds)
+
 module _ (m n : Map) (all : List (Key × Side)) where
   -- it is what it gives with all settlements
   three_by_side-listed : (x : Map) (settled : List (Key × Side)) (mine : List Change) → IsMap x → ((q : Key) → list_any (same_key q) (map (λ r. r.0) x) ≡ true → side_of settled q ≡ side_of all q)
@@ -311,36 +324,31 @@ three_by_side-delta m n settled mine h = three_by_side-listed m n settled (over 
 -- ---- a search by halves
 
 -- where keys rise, each is at most level with the next, beside any key
-rising-searchable : (key : Key) (xs : List Conflict) → IsStrictlySortedBy key_cmp (map (λ c. c.key) xs) → IsNonDecreasingBy (λ c. ordering_index (key_cmp c.key key)) xs
-rising-searchable key xs rises =
-    searchable_from_sorted keys_total (λ c. c.key) xs key (λ k d _ lt.
-    let less = Less-from_sorted key_cmp (map (λ c. c.key) xs) k (k + 1) d.key rises (omega arith) (omega (arith, length-map (λ c. c.key) xs, lt)) in
-    let low : key_cmp (get_or xs k d).key (get_or xs (k + 1) d).key ≡ Less = sym (ap₂ key_cmp (at_key xs k d (omega (arith, lt))) (at_key xs (k + 1) d lt)) ∙ less in
-    ap is_lt (keys_total.antisymm (get_or xs (k + 1) d).key (get_or xs k d).key ∙ ap ordering_reverse low))
-  where
-    at_key : (xs : List Conflict) (i : ℕ) (d : Conflict) → i < length xs → get_or (map (λ c. c.key) xs) i d.key ≡ (get_or xs i d).key
-    at_key xs i d lt = get_at_map (λ c. c.key) xs i d d.key lt
+rising-searchable : (key : Key) (keys : List Key) → IsStrictlySortedBy key_cmp keys → IsNonDecreasingBy (λ k. ordering_index (key_cmp k key)) keys
+rising-searchable key keys rises =
+    searchable_from_sorted keys_total (λ k. k) keys key (λ k d _ lt.
+    let less = Less-from_sorted key_cmp keys k (k + 1) d rises (omega arith) lt in
+    ap is_lt (keys_total.antisymm (get_or keys (k + 1) d) (get_or keys k d) ∙ ap ordering_reverse less))
 
 -- it finds a key that is there
-searched-found : (key : Key) (xs : List Conflict) (i : ℕ) → i < length xs → HoldsAt (λ c. key_cmp c.key key ≡ Equal) xs i → list_any (same_key key) (map (λ c. c.key) xs) ≡ true
+searched-found : (key : Key) (keys : List Key) (i : ℕ) → i < length keys → HoldsAt (λ k. key_cmp k key ≡ Equal) keys i → list_any (same_key key) keys ≡ true
 searched-found key [] i lt found = absurd (omega (arith, lt))
 searched-found key (x ∷ xs) i lt found =
     let all = x ∷ xs in
-    list_any_at (same_key key) (map (λ c. c.key) all) i x.key (omega (arith, length-map (λ c. c.key) all, lt)) (ap (same_key key) (get_at_map (λ c. c.key) all i x x.key lt) ∙ same (get_or all i x).key key (found x))
+    list_any_at (same_key key) all i x lt (same (get_or all i x) key (found x))
 
 -- and no other
-searched-missing : (key : Key) (xs : List Conflict) (i : ℕ) → IsStrictlySortedBy key_cmp (map (λ c. c.key) xs)
-    → (IsNonDecreasingBy (λ c. ordering_index (key_cmp c.key key)) xs → IsPartitionPoint (λ c. key_cmp c.key key ≡ Less) (λ c. key_cmp c.key key ≡ Greater) xs i)
-    → list_any (same_key key) (map (λ c. c.key) xs) ≡ false
-searched-missing key xs i rises parted =
-    let parts = parted (rising-searchable key xs rises) in
-    list_any_none (same_key key) (map (λ c. c.key) xs) (All-map (λ k. same_key key k ≡ false) (λ c. c.key) xs (λ k d lt. ⊎_elim
-    (λ below. apart-back (get_or xs k d).key key (parts.0 k d (omega arith) below))
-    (λ above. ap is_eq (keys_total.antisymm key (get_or xs k d).key ∙ ap ordering_reverse (parts.1 k d above lt)))
-    (cases_lt k i)))
+searched-missing : (key : Key) (keys : List Key) (i : ℕ) → IsStrictlySortedBy key_cmp keys
+    → (IsNonDecreasingBy (λ k. ordering_index (key_cmp k key)) keys → IsPartitionPoint (λ k. key_cmp k key ≡ Less) (λ k. key_cmp k key ≡ Greater) keys i)
+    → list_any (same_key key) keys ≡ false
+searched-missing key keys i rises parted =
+    let parts = parted (rising-searchable key keys rises) in
+    list_any_none (same_key key) keys (λ k d lt. ⊎_elim
+    (λ below. apart-back (get_or keys k d) key (parts.0 k d (omega arith) below))
+    (λ above. ap is_eq (keys_total.antisymm key (get_or keys k d) ∙ ap ordering_reverse (parts.1 k d above lt)))
+    (cases_lt k i))
 
 -- so it answers as a search of each does
-pub searched-any : (key : Key) (xs : List Conflict) (r : Result ℕ ℕ) → IsStrictlySortedBy key_cmp (map (λ c. c.key) xs) → IsSearchInRange r (length xs) → IsBinarySearchResult (λ c. key_cmp c.key key) xs r
-    → list_any (same_key key) (map (λ c. c.key) xs) ≡ is_ok r
-searched-any key xs (Ok i) rises range found = searched-found key xs i range found
-searched-any key xs (Err i) rises range parted = searched-missing key xs i rises parted
+pub searched-any : (key : Key) (keys : List Key) (r : Result ℕ ℕ) → IsStrictlySortedBy key_cmp keys → IsSearchInRange r (length keys) → IsBinarySearchResult (λ k. key_cmp k key) keys r → list_any (same_key key) keys ≡ is_ok r
+searched-any key keys (Ok i) rises range found = searched-found key keys i range found
+searched-any key keys (Err i) rises range parted = searched-missing key keys i rises parted

@@ -8,7 +8,7 @@ use Rattle.vm_block.specs.Tree.{Sizes}
 use Rattle.vm_tree.specs.declared.root.Root.{Root}
 use Rattle.vm_diff.specs.Walk.{Walk, size, weight_of}
 use Rattle.vm_diff.specs.Ahead.{PassedBoth}
-use Rattle.vm_diff.specs.Front.{first_of, front_of}
+use Rattle.vm_diff.specs.Front.{first_of}
 use Rattle.vm_diff.specs.Differ.{Differ}
 use Rattle.vm_diff.proofs.OpenLemmas.{weight_back, weight_less}
 use Rattle.vm_diff.proofs.StepLemmas.{both_same, both_skipped}

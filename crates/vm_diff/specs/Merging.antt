@@ -24,10 +24,14 @@ abbrev pub settled_from : Key → List (Key × Side) → List (Key × Side)
 settled_from key [] = []
 settled_from key (e ∷ settled) = if is_lt (key_cmp e.0 key) then settled_from key settled else e ∷ settled
 
--- the conflict of a change of the parent with one's own at its key, where both made different values
+-- the conflict of a change of the parent with one's own
+abbrev pub clash_of : Change → Change → Conflict
+clash_of theirs own = record { key = theirs.key; base = theirs.before; parent = theirs.after; mine = own.after }
+
+-- the same with one's own change at its key, if there is one, where both made different values
 abbrev pub clash : Change → Option Change → Option Conflict
 clash theirs None = None
-clash theirs (Some own) = if same_value own.after theirs.after then None else Some (record { key = theirs.key; base = theirs.before; parent = theirs.after; mine = own.after })
+clash theirs (Some own) = if same_value own.after theirs.after then None else Some (clash_of theirs own)
 
 -- what the merge changes at a key in conflict, by the side that it is settled to
 abbrev pub chosen : Option Side → Change → Change → Option Change

@@ -1,5 +1,5 @@
 //! Where two maps differ.
-ghost use Rattle.std.specs.Prelude.{◌≡◌, ◌≢◌, ◌↔◌, ℕ, ◌+◌, ◌≤◌, true, List, [], IsTrue};
+ghost use Rattle.std.specs.Prelude.{◌≡◌, ◌≢◌, ◌↔◌, ℕ, ◌+◌, ◌≤◌, true, List, [], length, option_copied, IsTrue, IfSome};
 ghost use Rattle.vm_types.specs.Map.{delta};
 ghost use Rattle.vm_tree.specs.Answers.{Lists, OkOrDevice};
 ghost use Rattle.vm_tree.specs.Calls.{OnlyLooks};
@@ -12,7 +12,7 @@ use crate::stepping::{step, take_change};
 use std::alloc::Global;
 use vm_disk::Disk;
 use vm_tree::{Root, TreeFault};
-use vm_types::Change;
+use vm_types::{Changes, Value};
 
 /// Where the map under the second root differs from the one under the first: each such key once, in
 /// order, with both values. It takes memory for them alone.
@@ -22,7 +22,7 @@ pub fn changed<D: Disk>(
     blocks: u32,
     first: Root,
     second: Root,
-) -> Result<Vec<Change>, TreeFault>
+) -> Result<Changes, TreeFault>
     requires { blocks ≤ (D.state disk.old).blocks }
     ensures looks { OnlyLooks result (D.state disk.old) (D.state disk.new) }
     ensures deep { result ≢ Err TreeFault.Deep }
@@ -30,14 +30,14 @@ pub fn changed<D: Disk>(
     // On trees it is just the differences of their maps, whatever the sizes of their blocks, unless
     // the device fails or no memory is found.
     ensures changes { OnMaps (D.state disk.old) (D.state disk.new) blocks first second
-        (λ m n bs cs. Lists result (λ changes. changes.items ≡ delta m n)) }
+        (λ m n bs cs. Lists result (λ changes. changes ≡ delta m n)) }
 
     // It makes no more reads than there are blocks that only one of the trees has, whatever it answers.
     ensures bound { OnMaps (D.state disk.old) (D.state disk.new) blocks first second
         (λ m n bs cs. (D.state disk.new).reads ≤ (D.state disk.old).reads + unshared bs cs) }
 {
     if first.block == second.block && first.level == second.level {
-        return Ok(Vec::new(alloc));
+        return Ok(Changes::new(alloc));
     }
     changed_between(alloc, disk, blocks, first, second)
 }
@@ -49,12 +49,12 @@ fn changed_between<D: Disk>(
     blocks: u32,
     first: Root,
     second: Root,
-) -> Result<Vec<Change>, TreeFault>
+) -> Result<Changes, TreeFault>
     requires { blocks ≤ (D.state disk.old).blocks }
     ensures looks { OnlyLooks result (D.state disk.old) (D.state disk.new) }
     ensures deep { result ≢ Err TreeFault.Deep }
     ensures changes { OnMaps (D.state disk.old) (D.state disk.new) blocks first second
-        (λ m n bs cs. Lists result (λ changes. changes.items ≡ delta m n)) }
+        (λ m n bs cs. Lists result (λ changes. changes ≡ delta m n)) }
     ensures bound { OnMaps (D.state disk.old) (D.state disk.new) blocks first second
         (λ m n bs cs. (D.state disk.new).reads ≤ (D.state disk.old).reads + unshared bs cs) }
 {
@@ -64,7 +64,7 @@ fn changed_between<D: Disk>(
     let Some(mut other) = Cursor::new(second) else {
         return Err(TreeFault::Damaged(second.block));
     };
-    let mut changes = Vec::new(alloc);
+    let mut changes = Changes::new(alloc);
     'steps: loop {
         let next = step(disk, blocks, &mut one, &mut other)?;
         match next {
@@ -72,12 +72,27 @@ fn changed_between<D: Disk>(
             Step::Moved => {}
             Step::Found(key) => {
                 let change = take_change(&mut one, &mut other, key);
-                match changes.extend_from_slice(&[change]) {
+                match changes.push(
+                    change.key,
+                    bytes_of(&change.before),
+                    bytes_of(&change.after),
+                ) {
                     Ok(()) => {}
                     Err(_) => return Err(TreeFault::Memory),
                 }
             }
         }
+    }
+}
+
+/// The bytes of a value, if there is one.
+fn bytes_of(value: &Option<Value>) -> Option<&[u8]>
+    ensures bytes { option_copied result ≡ value.now }
+    ensures short { IfSome result (λ bytes. length bytes.now ≤ 240) }
+{
+    match value {
+        Some(value) => Some(value.as_bytes()),
+        None => None,
     }
 }
 

@@ -14,8 +14,10 @@ mod front;
 mod merging;
 mod opening;
 mod records;
+mod settling;
 mod skipping;
 mod stepping;
 
 pub use comparing::{changed, same};
-pub use merging::{changes_by_merge, conflicts_between, settled_refusal};
+pub use merging::{changes_by_merge, conflicts_between, keys_in_conflict};
+pub use settling::settled_refusal;

@@ -1,60 +1,58 @@
-//! What a merge brings into an alternative: conflicts, the changes that it makes, and the refusals of
-//! settlements.
-ghost use Rattle.std.specs.Prelude.{◌≡◌, ◌↔◌, IsTrue, List, [], not, nat_lt, if◌then◌else◌, map, length, filter, Some, None, is_none, find, IfOk, IfErr, IfSome};
-ghost use Rattle.std.specs.List.{list_any};
-ghost use Rattle.std.specs.List.Sorted.{IsStrictlySortedBy};
-ghost use Rattle.std.specs.BTreeMap as tree;
-ghost use Rattle.std.specs.Option.{option_copied};
-ghost use Rattle.vm_types.specs.declared.refusal.Refusal.TheVariants.{Unsettled};
-ghost use Rattle.vm_types.specs.Map.{Map, IsMap, key_cmp, same_key, delta, conflicts, side_of, merge};
-ghost use Rattle.vm_types.specs.Step.{settled_refusal, first_repeated};
-ghost use Rattle.vm_diff.specs.Merging.{from_key, first_at, settled_from, clash, first_missing, taken};
+//! What a merge brings into an alternative: the conflicts of both sides, and the changes that it makes.
+ghost use Rattle.std.specs.Prelude.{◌≡◌, ◌++◌, ◌<◌, ◌≤◌, IsTrue, drop, map, length, slice_index_or, option_copied, option_map, option_to_list, if◌then◌else◌, Some, None, IfErr, IfOk, OnOk};
+ghost use Rattle.vm_types.specs.declared.change.Change.{Change};
+ghost use Rattle.vm_types.specs.Map.{Map, IsMap, same_value, delta, conflicts, merge};
+ghost use Rattle.vm_diff.specs.Merging.{from_key, first_at, settled_from, clash, clash_of, taken};
 
+use crate::settling::{by_rising_keys, settled_rise, side_of};
 use std::alloc::{AllocError, Global};
 use std::cmp::Ordering;
-use std::collections::BTreeMap;
-use vm_types::{Change, Conflict, Key, Refusal, Side};
+use vm_types::{Changes, Conflicts, Key, Refusal, Side};
 
-/// The change at a key, if there is one, and the changes from the key on, of changes by rising keys.
-fn own_change(changes: &[Change], key: Key) -> (Option<&Change>, &[Change])
-    ensures change { option_copied result.0 ≡ first_at key (from_key key changes.now) }
-    ensures rest { result.1.now ≡ from_key key changes.now }
+/// The place of the first change from one on that has no lower key, of changes by rising keys.
+fn place_from(changes: &Changes, from: usize, key: Key) -> usize
+    requires { from ≤ length changes.now }
+    ensures within { result ≤ length changes.now }
+    ensures rest { drop result changes.now ≡ from_key key (drop from changes.now) }
 {
-    for (i, change) in changes.iter().enumerate() {
-        match change.key.cmp(&key) {
-            Ordering::Less => {}
-            Ordering::Equal => return (Some(change), &changes[i..]),
-            Ordering::Greater => return (None, &changes[i..]),
+    for i in from..changes.len() {
+        if !changes.key(i).cmp(&key).is_lt() {
+            return i;
         }
     }
-    (None, &[])
+    changes.len()
 }
 
-/// The conflict of a change of the parent with one's own change at its key, if they are in conflict.
-fn clash(theirs: &Change, own: Option<&Change>) -> Option<Conflict>
-    ensures { result ≡ clash theirs.now (option_copied own.entry) }
+/// Whether the change at a place is there and has this key.
+fn has_key(changes: &Changes, at: usize, key: Key) -> bool
+    ensures there { IsTrue result → at < length changes.now }
+    ensures first { (d : Change) → first_at key (drop at changes.now)
+        ≡ (if result then Some (slice_index_or changes.now at d) else None) }
 {
-    match own {
-        Some(own) if own.after != theirs.after => Some(Conflict {
-            key: theirs.key,
-            base: theirs.before,
-            parent: theirs.after,
-            mine: own.after,
-        }),
-        _ => None,
+    at < changes.len() && changes.key(at).cmp(&key) == Ordering::Equal
+}
+
+/// Whether two values are equal. Absence counts as a value.
+fn same_value(one: Option<&[u8]>, other: Option<&[u8]>) -> bool
+    ensures { result ≡ same_value (option_copied one.entry) (option_copied other.entry) }
+{
+    match (one, other) {
+        (Some(one), Some(other)) => one == other,
+        (None, None) => true,
+        _ => false,
     }
 }
 
-/// The first side that the settlements give to a key.
-fn side_of(settled: &[(Key, Side)], key: Key) -> Option<Side>
-    ensures { result ≡ side_of settled.now key }
+/// Whether a change of the parent is in conflict with the one at a place of one's own.
+fn is_clash(theirs: &Changes, i: usize, mine: &Changes, at: usize) -> bool
+    requires { i < length theirs.now }
+    ensures there { IsTrue result → at < length mine.now }
+    ensures clash { (d : Change) → clash (slice_index_or theirs.now i d)
+        (first_at (slice_index_or theirs.now i d).key (drop at mine.now))
+        ≡ (if result then Some (clash_of (slice_index_or theirs.now i d)
+        (slice_index_or mine.now at d)) else None) }
 {
-    for (other, side) in settled {
-        if key.cmp(other) == Ordering::Equal {
-            return Some(*side);
-        }
-    }
-    None
+    has_key(mine, at, theirs.key(i)) && !same_value(mine.after(at), theirs.after(i))
 }
 
 /// The settlements without the first ones that have lower keys.
@@ -69,48 +67,113 @@ fn settled_from(settled: &[(Key, Side)], key: Key) -> &[(Key, Side)]
     &[]
 }
 
-/// What the merge changes at the key of a change of the parent.
-fn taken(settled: &[(Key, Side)], theirs: &Change, own: Option<&Change>) -> Option<Change>
-    ensures { result ≡ taken settled.now theirs.now (option_copied own.entry) }
+/// Adds what the merge changes at the key of a change of the parent, where the one at a place of one's own
+/// may have the same key.
+fn add_taken(
+    changes: &mut Changes,
+    settled: &[(Key, Side)],
+    theirs: &Changes,
+    i: usize,
+    mine: &Changes,
+    at: usize,
+) -> Result<(), AllocError>
+    requires { i < length theirs.now }
+    ensures { (d : Change) → OnOk result (changes.new ≡ changes.old ++ option_to_list
+        (taken settled.now (slice_index_or theirs.now i d)
+        (first_at (slice_index_or theirs.now i d).key (drop at mine.now)))) }
 {
-    let Some(own) = own else {
-        return Some(*theirs);
-    };
-    if own.after == theirs.after {
-        return None;
+    let key = theirs.key(i);
+    if !has_key(mine, at, key) {
+        return changes.push(key, theirs.before(i), theirs.after(i));
     }
-    match side_of(settled, theirs.key) {
-        Some(Side::Theirs) => Some(Change {
-            key: theirs.key,
-            before: own.after,
-            after: theirs.after,
-        }),
-        Some(Side::Mine) | None => None,
+    if is_clash(theirs, i, mine, at) && side_of(settled, key) == Some(Side::Theirs) {
+        return changes.push(key, mine.after(at), theirs.after(i));
     }
+    Ok(())
+}
+
+/// Adds the conflict of a change of the parent with the one at a place of one's own, if there is one.
+fn add_conflict(
+    conflicts: &mut Conflicts,
+    theirs: &Changes,
+    i: usize,
+    mine: &Changes,
+    at: usize,
+) -> Result<(), AllocError>
+    requires { i < length theirs.now }
+    ensures { (d : Change) → OnOk result (conflicts.new ≡ conflicts.old ++ option_to_list
+        (clash (slice_index_or theirs.now i d)
+        (first_at (slice_index_or theirs.now i d).key (drop at mine.now)))) }
+{
+    if !is_clash(theirs, i, mine, at) {
+        return Ok(());
+    }
+    conflicts.push(
+        theirs.key(i),
+        theirs.before(i),
+        theirs.after(i),
+        mine.after(at),
+    )
+}
+
+/// Adds the key of such a conflict.
+fn add_key_in_conflict(
+    keys: &mut Vec<Key>,
+    theirs: &Changes,
+    i: usize,
+    mine: &Changes,
+    at: usize,
+) -> Result<(), AllocError>
+    requires { i < length theirs.now }
+    ensures { (d : Change) → OnOk result (keys.new.items ≡ keys.old.items ++ option_to_list
+        (option_map (λ c. c.key) (clash (slice_index_or theirs.now i d)
+        (first_at (slice_index_or theirs.now i d).key (drop at mine.now))))) }
+{
+    if is_clash(theirs, i, mine, at) {
+        keys.push(theirs.key(i))?;
+    }
+    Ok(())
 }
 
 /// The conflicts of two sides that went on from one base, by rising keys. `theirs` is what the parent
 /// changed of it, `mine` what the alternative did. It answers `Memory` where there is none for the list.
 pub fn conflicts_between(
     alloc: Global,
-    theirs: &[Change],
-    mine: &[Change],
-) -> Result<Vec<Conflict>, Refusal>
+    theirs: &Changes,
+    mine: &Changes,
+) -> Result<Conflicts, Refusal>
     ensures only { IfErr result (λ refusal. refusal ≡ Refusal.Memory) }
     ensures list { (base parent own : Map) → IsMap base → IsMap parent → IsMap own
         → theirs.now ≡ delta base parent → mine.now ≡ delta base own
-        → IfOk result (λ list. list.items ≡ conflicts base parent own) }
+        → IfOk result (λ list. list ≡ conflicts base parent own) }
 {
-    let mut conflicts = Vec::new(alloc);
-    let mut ahead = mine;
-    for change in theirs {
-        let (own, rest) = own_change(ahead, change.key);
-        ahead = rest;
-        if let Some(conflict) = clash(change, own) {
-            conflicts.push(conflict).map_err(|_| Refusal::Memory)?;
-        }
+    let mut conflicts = Conflicts::new(alloc);
+    let mut at = 0;
+    for i in 0..theirs.len() {
+        at = place_from(mine, at, theirs.key(i));
+        add_conflict(&mut conflicts, theirs, i, mine, at).map_err(|_| Refusal::Memory)?;
     }
     Ok(conflicts)
+}
+
+/// The keys of these conflicts, by rising keys. It answers `Memory` where there is none for the list.
+pub fn keys_in_conflict(
+    alloc: Global,
+    theirs: &Changes,
+    mine: &Changes,
+) -> Result<Vec<Key>, Refusal>
+    ensures only { IfErr result (λ refusal. refusal ≡ Refusal.Memory) }
+    ensures list { (base parent own : Map) → IsMap base → IsMap parent → IsMap own
+        → theirs.now ≡ delta base parent → mine.now ≡ delta base own
+        → IfOk result (λ keys. keys.items ≡ map (λ c. c.key) (conflicts base parent own)) }
+{
+    let mut keys = Vec::new(alloc);
+    let mut at = 0;
+    for i in 0..theirs.len() {
+        at = place_from(mine, at, theirs.key(i));
+        add_key_in_conflict(&mut keys, theirs, i, mine, at).map_err(|_| Refusal::Memory)?;
+    }
+    Ok(keys)
 }
 
 /// What a merge changes in the alternative, by rising keys. It answers `Memory` where there is none for
@@ -118,256 +181,25 @@ pub fn conflicts_between(
 /// three lists once; else a conflict's key is searched in them.
 fn changes_in_turn(
     alloc: Global,
-    theirs: &[Change],
-    mine: &[Change],
+    theirs: &Changes,
+    mine: &Changes,
     settled: &[(Key, Side)],
-) -> Result<Vec<Change>, Refusal>
+) -> Result<Changes, Refusal>
     ensures only { IfErr result (λ refusal. refusal ≡ Refusal.Memory) }
     ensures list { (base parent own : Map) → IsMap base → IsMap parent → IsMap own
         → theirs.now ≡ delta base parent → mine.now ≡ delta base own
-        → IfOk result (λ list. list.items ≡ delta own (merge base parent own settled.now)) }
+        → IfOk result (λ list. list ≡ delta own (merge base parent own settled.now)) }
 {
-    let mut changes = Vec::new(alloc);
-    let mut ahead = mine;
+    let mut changes = Changes::new(alloc);
+    let mut at = 0;
     let mut unused = settled;
-    for change in theirs {
-        let (own, rest) = own_change(ahead, change.key);
-        ahead = rest;
-        unused = settled_from(unused, change.key);
-        if let Some(change) = taken(unused, change, own) {
-            changes.push(change).map_err(|_| Refusal::Memory)?;
-        }
+    for i in 0..theirs.len() {
+        let key = theirs.key(i);
+        at = place_from(mine, at, key);
+        unused = settled_from(unused, key);
+        add_taken(&mut changes, unused, theirs, i, mine, at).map_err(|_| Refusal::Memory)?;
     }
     Ok(changes)
-}
-
-/// The first key that is settled twice.
-fn settled_twice(settled: &[(Key, Side)]) -> Option<Key>
-    ensures { result ≡ first_repeated [] (map (λ e. e.0) settled.now) }
-{
-    for (i, (key, _)) in settled.iter().enumerate() {
-        if side_of(&settled[..i], *key).is_some() {
-            return Some(*key);
-        }
-    }
-    None
-}
-
-/// Whether a key is in conflict.
-fn is_in_conflict(conflicts: &[Conflict], key: Key) -> bool
-    ensures { result ≡ list_any (same_key key) (map (λ c. c.key) conflicts.now) }
-{
-    conflicts
-        .iter()
-        .map(|conflict| conflict.key)
-        .any(|other| key.cmp(&other) == Ordering::Equal)
-}
-
-/// The first settlement's key that is in no conflict.
-fn not_in_conflict(settled: &[(Key, Side)], conflicts: &[Conflict]) -> Option<Key>
-    ensures { result ≡ first_missing (map (λ c. c.key) conflicts.now) (map (λ e. e.0) settled.now) }
-{
-    settled
-        .iter()
-        .map(|(key, _)| *key)
-        .find(|key| !is_in_conflict(conflicts, *key))
-}
-
-/// How many conflicts have no settlement.
-fn unsettled(settled: &[(Key, Side)], conflicts: &[Conflict]) -> usize
-    ensures { result ≡ length
-        (filter (λ key. is_none (side_of settled.now key)) (map (λ c. c.key) conflicts.now)) }
-{
-    conflicts
-        .iter()
-        .map(|conflict| conflict.key)
-        .filter(|key| side_of(settled, *key).is_none())
-        .count()
-}
-
-/// The refusal where this many conflicts are left, if any is.
-fn unsettled_refusal(count: usize) -> Option<Refusal>
-    ensures { result ≡ (if nat_lt 0 count then Some (Unsettled count) else None) }
-{
-    match count {
-        0 => None,
-        count => Some(Refusal::Unsettled(count as u64)),
-    }
-}
-
-/// Whether the keys of settlements rise.
-fn settled_rise(settled: &[(Key, Side)]) -> bool
-    ensures { IsTrue result ↔ IsStrictlySortedBy key_cmp (map (λ e. e.0) settled.now) }
-{
-    settled.is_sorted_by(|one, next| one.0.cmp(&next.0).is_lt())
-}
-
-/// Whether the keys of conflicts rise.
-fn conflicts_rise(conflicts: &[Conflict]) -> bool
-    ensures { IsTrue result ↔ IsStrictlySortedBy key_cmp (map (λ c. c.key) conflicts.now) }
-{
-    conflicts.is_sorted_by(|one, next| one.key.cmp(&next.key).is_lt())
-}
-
-/// The first settlement's key that is in no conflict, where the keys of both lists rise: one pass.
-fn first_unmatched(settled: &[(Key, Side)], conflicts: &[Conflict]) -> Option<Key>
-    requires settled { IsStrictlySortedBy key_cmp (map (λ e. e.0) settled.now) }
-    requires conflicts { IsStrictlySortedBy key_cmp (map (λ c. c.key) conflicts.now) }
-    ensures { result ≡ first_missing (map (λ c. c.key) conflicts.now) (map (λ e. e.0) settled.now) }
-{
-    let mut ahead = settled;
-    for conflict in conflicts {
-        let Some(((key, _), rest)) = ahead.split_first() else {
-            return None;
-        };
-        match conflict.key.cmp(key) {
-            Ordering::Less => {}
-            Ordering::Equal => ahead = rest,
-            Ordering::Greater => return Some(*key),
-        }
-    }
-    ahead.first().map(|(key, _)| *key)
-}
-
-/// Why settlements are refused, where they are, and the keys of both lists rise. Then none is settled
-/// twice, and each settlement that is in a conflict settles one of its own.
-fn rising_refusal(settled: &[(Key, Side)], conflicts: &[Conflict]) -> Option<Refusal>
-    requires settled { IsStrictlySortedBy key_cmp (map (λ e. e.0) settled.now) }
-    requires conflicts { IsStrictlySortedBy key_cmp (map (λ c. c.key) conflicts.now) }
-    ensures { result ≡ settled_refusal settled.now (map (λ c. c.key) conflicts.now) }
-{
-    if let Some(key) = first_unmatched(settled, conflicts) {
-        return Some(Refusal::NotInConflict(key));
-    }
-    unsettled_refusal(conflicts.len() - settled.len())
-}
-
-/// The side that settlements give to each key, or the first key that is settled twice.
-fn sides_by_key(
-    alloc: Global,
-    settled: &[(Key, Side)],
-) -> Result<Result<BTreeMap<Key, Side>, Key>, AllocError>
-    ensures sides { IfOk result
-        (λ found. IfOk found (λ sides. (first_repeated [] (map (λ e. e.0) settled.now) ≡ None)
-        × ((key : Key) → tree.get key_cmp sides key ≡ side_of settled.now key))) }
-    ensures twice { IfOk result
-        (λ found. IfErr found (λ key. first_repeated [] (map (λ e. e.0) settled.now) ≡ Some key)) }
-{
-    let mut sides = BTreeMap::new(alloc);
-    for (key, side) in settled {
-        if sides.insert(*key, *side)?.is_some() {
-            return Ok(Err(*key));
-        }
-    }
-    Ok(Ok(sides))
-}
-
-/// Whether a key is in conflict, where the conflicts' keys rise.
-fn is_in_rising(conflicts: &[Conflict], key: Key) -> bool
-    requires { IsStrictlySortedBy key_cmp (map (λ c. c.key) conflicts.now) }
-    ensures { result ≡ list_any (same_key key) (map (λ c. c.key) conflicts.now) }
-{
-    conflicts
-        .binary_search_by(|conflict| conflict.key.cmp(&key))
-        .is_ok()
-}
-
-/// The first settlement's key that is in no conflict, where the conflicts' keys rise.
-fn not_in_rising(settled: &[(Key, Side)], conflicts: &[Conflict]) -> Option<Key>
-    requires { IsStrictlySortedBy key_cmp (map (λ c. c.key) conflicts.now) }
-    ensures { result ≡ first_missing (map (λ c. c.key) conflicts.now) (map (λ e. e.0) settled.now) }
-{
-    settled
-        .iter()
-        .map(|(key, _)| *key)
-        .find(|key| !is_in_rising(conflicts, *key))
-}
-
-/// How many conflicts have no side.
-fn unsettled_by_key(sides: &BTreeMap<Key, Side>, conflicts: &[Conflict]) -> usize
-    ensures { result ≡ length
-        (filter (λ key. is_none (tree.get key_cmp sides.now key))
-        (map (λ c. c.key) conflicts.now)) }
-{
-    conflicts
-        .iter()
-        .map(|conflict| conflict.key)
-        .filter(|key| sides.get(key).is_none())
-        .count()
-}
-
-/// Why settlements are refused, where they are, none is settled twice, and the conflicts' keys rise.
-fn refusal_by_key(
-    sides: &BTreeMap<Key, Side>,
-    settled: &[(Key, Side)],
-    conflicts: &[Conflict],
-) -> Option<Refusal>
-    requires once { first_repeated [] (map (λ e. e.0) settled.now) ≡ None }
-    requires sides { (key : Key) → tree.get key_cmp sides.now key ≡ side_of settled.now key }
-    requires conflicts { IsStrictlySortedBy key_cmp (map (λ c. c.key) conflicts.now) }
-    ensures { result ≡ settled_refusal settled.now (map (λ c. c.key) conflicts.now) }
-{
-    if let Some(key) = not_in_rising(settled, conflicts) {
-        return Some(Refusal::NotInConflict(key));
-    }
-    unsettled_refusal(unsettled_by_key(sides, conflicts))
-}
-
-/// Why settlements are refused, where they are: each key is searched in the other list.
-fn searched_refusal(settled: &[(Key, Side)], conflicts: &[Conflict]) -> Option<Refusal>
-    ensures { result ≡ settled_refusal settled.now (map (λ c. c.key) conflicts.now) }
-{
-    if let Some(key) = settled_twice(settled) {
-        return Some(Refusal::SettledTwice(key));
-    }
-    if let Some(key) = not_in_conflict(settled, conflicts) {
-        return Some(Refusal::NotInConflict(key));
-    }
-    unsettled_refusal(unsettled(settled, conflicts))
-}
-
-/// Why these settlements are refused, where they are. `conflicts` is the list of all conflicts. Where the
-/// keys of both rise, it goes through them once. Settlements in another order are put into a map by their
-/// keys, and where there is no memory for it, each key is searched in the other list.
-pub fn settled_refusal(
-    alloc: Global,
-    settled: &[(Key, Side)],
-    conflicts: &[Conflict],
-) -> Option<Refusal>
-    ensures { result ≡ settled_refusal settled.now (map (λ c. c.key) conflicts.now) }
-{
-    if !conflicts_rise(conflicts) {
-        return searched_refusal(settled, conflicts);
-    }
-    if settled_rise(settled) {
-        return rising_refusal(settled, conflicts);
-    }
-    match sides_by_key(alloc, settled) {
-        Ok(Ok(sides)) => refusal_by_key(&sides, settled, conflicts),
-        Ok(Err(key)) => Some(Refusal::SettledTwice(key)),
-        Err(AllocError) => searched_refusal(settled, conflicts),
-    }
-}
-
-/// The entries of a map, by rising keys.
-fn entries_of(alloc: Global, sides: BTreeMap<Key, Side>) -> Result<Vec<(Key, Side)>, AllocError>
-    ensures { IfOk result (λ list. list.items ≡ sides.entries) }
-{
-    sides.into_iter().collect(alloc)
-}
-
-/// The settlements by rising keys, where none is settled twice and there is memory for them.
-fn by_rising_keys(alloc: Global, settled: &[(Key, Side)]) -> Option<Vec<(Key, Side)>>
-    ensures { IfSome result (λ sorted. (key : Key)
-        → side_of sorted.items key ≡ side_of settled.now key) }
-{
-    let Ok(Ok(sides)) = sides_by_key(alloc, settled) else {
-        return None;
-    };
-    match entries_of(alloc, sides) {
-        Ok(sorted) => Some(sorted),
-        Err(AllocError) => None,
-    }
 }
 
 /// What a merge changes in the alternative, by rising keys. It answers `Memory` where there is none for
@@ -375,14 +207,14 @@ fn by_rising_keys(alloc: Global, settled: &[(Key, Side)]) -> Option<Vec<(Key, Si
 /// of each conflict is searched in them.
 pub fn changes_by_merge(
     alloc: Global,
-    theirs: &[Change],
-    mine: &[Change],
+    theirs: &Changes,
+    mine: &Changes,
     settled: &[(Key, Side)],
-) -> Result<Vec<Change>, Refusal>
+) -> Result<Changes, Refusal>
     ensures only { IfErr result (λ refusal. refusal ≡ Refusal.Memory) }
     ensures list { (base parent own : Map) → IsMap base → IsMap parent → IsMap own
         → theirs.now ≡ delta base parent → mine.now ≡ delta base own
-        → IfOk result (λ list. list.items ≡ delta own (merge base parent own settled.now)) }
+        → IfOk result (λ list. list ≡ delta own (merge base parent own settled.now)) }
 {
     if !settled_rise(settled)
         && let Some(sorted) = by_rising_keys(alloc, settled)

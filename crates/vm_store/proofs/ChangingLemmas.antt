@@ -7,7 +7,7 @@ use Rattle.std.proofs.lemmas.List.{length-map, take_more}
 use Rattle.vm_types.specs.declared.change.Change.{Change}
 use Rattle.vm_types.specs.Map.{Map, get, without, with_value, put_or_taken, with_change, with_changes}
 use Rattle.vm_types.specs.Places.{place}
-use Rattle.vm_types.proofs.Changes.{with_changes-more}
+use Rattle.vm_types.proofs.ChangeLemmas.{with_changes-more}
 use Rattle.vm_types.proofs.Keys.{without_absent}
 use Rattle.vm_disk.specs.Disk.{Contents, Medium, block}
 use Rattle.vm_alloc.specs.Held.{IsHeld}

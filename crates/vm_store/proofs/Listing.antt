@@ -1,5 +1,5 @@
 -- What a list of records answers.
-use Rattle.std.proofs.Common.{◌≡◌, ◌⊎◌, inl, inr, ℕ, Bool, List, find, Some, None, Result, Ok, Err, Vec, sym, ap, ◌∙◌}
+use Rattle.std.proofs.Common.{◌≡◌, ◌⊎◌, inl, inr, ℕ, Bool, List, find, Some, None, Result, Ok, Err, sym, ap, ◌∙◌}
 use Rattle.vm_types.specs.declared.refusal.Refusal.{Refusal}
 use Rattle.vm_types.specs.declared.refusal.Refusal.TheVariants.{NoSuchAlternative, Device, Memory}
 use Rattle.vm_types.specs.Map.{Map}
@@ -9,7 +9,7 @@ use Rattle.vm_store.specs.Versions.{is_alternative_of}
 use Rattle.vm_store.specs.declared.version.Version.{Version}
 use Rattle.vm_store.specs.Faults.{refusal_of}
 use Rattle.vm_tree.specs.Answers.{Lists}
-use Rattle.vm_types.specs.Queries.{IsList, records_of, records_in}
+use Rattle.vm_types.specs.Queries.{IsListing, records_of, records_in}
 use Rattle.vm_store.specs.Sides.{ReadsOr}
 use Rattle.vm_store.specs.Resting.{Rests}
 use Rattle.vm_tree.specs.declared.root.TreeFault.{TreeFault}
@@ -38,7 +38,7 @@ list_refused fault.Deep r P due same h = absurd h
 list_refused fault.Memory r P due same h = inr (inl same)
 
 -- a list that was read, or refused for the device or for memory
-pub listed : {X A : Type 0} (r : Result (Vec X A) Refusal) (due : Result (List X) Refusal) (is : List X) → due ≡ Ok is → ReadsOr r (λ list. list.items ≡ is) (λ e. ⊥) → IsList r due
+pub listed : {X : Type 0} (r : Result (List X) Refusal) (due : Result (List X) Refusal) (is : List X) → due ≡ Ok is → ReadsOr r (λ list. list ≡ is) (λ e. ⊥) → IsListing r due
 listed (Ok list) due is same read = same ∙ ap Ok (sym read)
 listed (Err e) due is same read = by_case read
   where

@@ -15,7 +15,7 @@ use Rattle.vm_types.specs.State.{State, next, tree_after, edits}
 use Rattle.vm_types.specs.Step.{Outcome, step}
 use Rattle.vm_types.specs.Tree.{Tree, Alternative, named, changed, current_of}
 use Rattle.vm_types.proofs.Steps.{merge_accepted, merge_refused}
-use Rattle.vm_types.proofs.Changes.{with_changes-delta}
+use Rattle.vm_types.proofs.ChangeLemmas.{with_changes-delta}
 use Rattle.vm_types.proofs.Maps.{IsMap-merge}
 use Rattle.vm_disk.specs.Disk.{Contents, Medium}
 use Rattle.vm_disk.specs.Moments.{TouchesOnly}

@@ -1,10 +1,9 @@
 -- The numbers of an alternative, from what was read of its trees and its parent's.
-use Rattle.std.proofs.Common.{◌≡◌, ◌⊎◌, inl, inr, ℕ, Bool, true, false, ◌==◌, List, length, Result, Ok, Err, is_ok, refl, sym, ap, ◌∙◌, arith}
-use Rattle.std.proofs.lemmas.Bool.Decides.{nat_tests}
+use Rattle.std.proofs.Common.{◌≡◌, ◌⊎◌, inl, inr, ℕ, Bool, true, false, ◌↔◌, IsTrue, List, [], length, map, Result, Ok, Err, is_ok, refl, sym, ap, ◌∙◌, subst}
 use Rattle.std.proofs.lemmas.Bool.{true≢false}
-use Rattle.std.proofs.lemmas.List.{nil_from_length}
+use Rattle.std.proofs.lemmas.List.{length-map}
 use Rattle.vm_types.specs.declared.change.Change.{Change}
-use Rattle.vm_types.specs.declared.change.Conflict.{Conflict}
+use Rattle.vm_types.specs.declared.key.Key.{Key}
 use Rattle.vm_types.specs.declared.command.Command.TheVariants.{Post}
 use Rattle.vm_types.specs.declared.refusal.Refusal.{Refusal}
 use Rattle.vm_types.specs.declared.refusal.Refusal.TheVariants.{Device, Memory}
@@ -25,30 +24,25 @@ use Rattle.vm_store.proofs.PairLemmas.{base_map, called, own_map, own_there, par
 use Rattle.vm_store.proofs.TurnLemmas.{absent, there}
 use Rattle.vm_store.proofs.VersionLemmas.{standing}
 
--- maps are the same where their difference is empty, and only there
-none_differ : (base parent : Map) → IsMap base → IsMap parent → (length (delta base parent) == 0) ≡ same_map base parent
-none_differ base parent g h = by_case (length (delta base parent) == 0) (same_map base parent) refl refl
+-- a test whether the difference of maps is empty is one whether they are the same
+none_differ : (test : Bool) (base parent : Map) → IsMap base → IsMap parent → IsTrue test ↔ (delta base parent ≡ []) → test ≡ same_map base parent
+none_differ true base parent g h is = sym ((same_map-Decides base parent).1 (delta-nil base parent g h (is.0 refl)))
+none_differ false base parent g h is = by_case (same_map base parent) refl
   where
-    by_case : (a b : Bool) → (length (delta base parent) == 0) ≡ a → same_map base parent ≡ b → a ≡ b
-    by_case true true none same = refl
-    by_case false false none same = refl
-    by_case true false none other =
-        let empty : length (delta base parent) ≡ 0 = grind (arith, nat_tests, none) in
-        sym ((same_map-Decides base parent).1 (delta-nil base parent g h (nil_from_length (delta base parent) empty))) ∙ other
-    by_case false true some same =
-        let empty : (length (delta base parent) == 0) ≡ true = ap (λ (d : List Change). length d == 0) (delta-same base parent ((same_map-Decides base parent).0 same)) in
-        sym some ∙ empty
+    by_case : (same : Bool) → same_map base parent ≡ same → false ≡ same
+    by_case true same = is.1 (delta-same base parent ((same_map-Decides base parent).0 same))
+    by_case false same = refl
 
 -- the lengths of the lists of both sides and of their conflicts are the numbers between their maps
-pub counted : (base parent own : Map) → IsMap base → IsMap parent → (theirs mine : List Change) (clashes : List Conflict)
-    → theirs ≡ delta base parent → mine ≡ delta base own → clashes ≡ conflicts base parent own
-    → (tally : Tally) → tally.changed ≡ length mine → tally.unmerged ≡ length theirs → tally.conflicts ≡ length clashes → tally.can_post ≡ (length theirs == 0)
+pub counted : (base parent own : Map) → IsMap base → IsMap parent → (theirs mine : List Change) (keys : List Key)
+    → theirs ≡ delta base parent → mine ≡ delta base own → keys ≡ map (λ c. c.key) (conflicts base parent own)
+    → (tally : Tally) → tally.changed ≡ length mine → tally.unmerged ≡ length theirs → tally.conflicts ≡ length keys → (IsTrue tally.can_post ↔ (theirs ≡ []))
     → tally ≡ tally_between base parent own
-counted base parent own g h theirs mine clashes theirs_are mine_are clashes_are tally changed unmerged in_conflict posted =
+counted base parent own g h theirs mine keys theirs_are mine_are keys_are tally changed unmerged in_conflict posted =
     let one : tally.changed ≡ length (delta base own) = changed ∙ ap length mine_are in
     let two : tally.unmerged ≡ length (delta base parent) = unmerged ∙ ap length theirs_are in
-    let three : tally.conflicts ≡ length (conflicts base parent own) = in_conflict ∙ ap length clashes_are in
-    let four : tally.can_post ≡ same_map base parent = posted ∙ ap (λ (l : List Change). length l == 0) theirs_are ∙ none_differ base parent g h in
+    let three : tally.conflicts ≡ length (conflicts base parent own) = in_conflict ∙ ap length keys_are ∙ length-map (conflicts base parent own) (λ c. c.key) in
+    let four : tally.can_post ≡ same_map base parent = none_differ tally.can_post base parent g h (subst (λ (l : List Change). IsTrue tally.can_post ↔ (l ≡ [])) theirs_are posted) in
     λ i. record { changed = one i; unmerged = two i; conflicts = three i; can_post = four i }
 
 module _ (m : Medium) (limit : ℕ) (slot_b : Bool) (bits : List Bool) (committed working : List Version) (s : State)

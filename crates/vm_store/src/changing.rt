@@ -13,7 +13,7 @@ use crate::{FAN, LEAF, LEVELS};
 use vm_alloc::Held;
 use vm_disk::Disk;
 use vm_tree::{Root, TreeFault, put, remove};
-use vm_types::Change;
+use vm_types::{Change, Changes};
 
 /// Makes one change of a record in the tree under a root, and returns the new root.
 fn make_change<D: Disk>(
@@ -51,7 +51,7 @@ pub fn make_changes<D: Disk>(
     disk: &mut D,
     held: &mut Held,
     mut root: Root,
-    changes: &[Change],
+    changes: &Changes,
 ) -> Result<Root, TreeFault>
     requires inside { length held.old ≤ (D.state disk.old).blocks }
     requires room { 16 * length changes.now ≤ free_count held.old }
@@ -70,8 +70,10 @@ pub fn make_changes<D: Disk>(
         → Makes result (MeetsFullPath (D.state disk.new).now.contents (length held.old) m changes.now)
         (λ r. IsRootedIn sizes (IsHeld held.new) (D.state disk.new).now.contents (length held.old) r (with_changes m changes.now)) }
 {
-    for change in changes {
-        root = make_change(disk, held, root, change)?;
+    let mut i = 0;
+    while let Some(change) = changes.at(i) {
+        root = make_change(disk, held, root, &change)?;
+        i += 1;
     }
     Ok(root)
 }

@@ -12,10 +12,10 @@ ghost use Rattle.vm_store.specs.Tallies.{tally_between};
 use crate::faults::refusal_of;
 use crate::tally::Tally;
 use std::alloc::Global;
-use vm_diff::{changed, changes_by_merge, conflicts_between, settled_refusal};
+use vm_diff::{changed, changes_by_merge, conflicts_between, keys_in_conflict, settled_refusal};
 use vm_disk::Disk;
 use vm_tree::Root;
-use vm_types::{Change, Conflict, Key, Refusal, Side};
+use vm_types::{Changes, Conflicts, Key, Refusal, Side};
 
 /// The roots of a base, and of the two maps that came of it.
 #[derive(Clone, Copy, Debug)]
@@ -28,8 +28,8 @@ pub struct ThreeRoots {
 /// What the parent changed of the base, and what the alternative did, by rising keys.
 #[derive(Debug, Drop)]
 struct Sides {
-    theirs: Vec<Change>,
-    mine: Vec<Change>,
+    theirs: Changes,
+    mine: Changes,
 }
 
 /// Reads what both sides changed of their base.
@@ -48,8 +48,8 @@ fn read_sides<D: Disk>(
         → IsRooted sizes (D.state disk.old).now.contents blocks roots.base base bs
         → IsRooted sizes (D.state disk.old).now.contents blocks roots.parent parent ps
         → IsRooted sizes (D.state disk.old).now.contents blocks roots.own own os
-        → ReadsOr result (λ s. (s.theirs.items ≡ delta base parent)
-        × (s.mine.items ≡ delta base own)) (λ r. ⊥) }
+        → ReadsOr result (λ s. (s.theirs ≡ delta base parent)
+        × (s.mine ≡ delta base own)) (λ r. ⊥) }
     ensures bound { (D.state disk.new).honest ≡ true → (base parent own : Map) (bs ps os : List ℕ)
         → IsRooted sizes (D.state disk.old).now.contents blocks roots.base base bs
         → IsRooted sizes (D.state disk.old).now.contents blocks roots.parent parent ps
@@ -72,7 +72,7 @@ pub fn conflicts_of<D: Disk>(
     disk: &mut D,
     blocks: u32,
     roots: ThreeRoots,
-) -> Result<Vec<Conflict>, Refusal>
+) -> Result<Conflicts, Refusal>
     requires { blocks ≤ (D.state disk.old).blocks }
     ensures any { Goes (result ≡ Err Refusal.Device) (D.state disk.old) (D.state disk.new) }
     ensures never { result ≢ Err Refusal.Failed }
@@ -83,7 +83,7 @@ pub fn conflicts_of<D: Disk>(
         → IsRooted sizes (D.state disk.old).now.contents blocks roots.base base bs
         → IsRooted sizes (D.state disk.old).now.contents blocks roots.parent parent ps
         → IsRooted sizes (D.state disk.old).now.contents blocks roots.own own os
-        → ReadsOr result (λ list. list.items ≡ conflicts base parent own) (λ r. ⊥) }
+        → ReadsOr result (λ list. list ≡ conflicts base parent own) (λ r. ⊥) }
     ensures bound { (D.state disk.new).honest ≡ true → (base parent own : Map) (bs ps os : List ℕ)
         → IsRooted sizes (D.state disk.old).now.contents blocks roots.base base bs
         → IsRooted sizes (D.state disk.old).now.contents blocks roots.parent parent ps
@@ -118,7 +118,7 @@ pub fn tally_of<D: Disk>(
         → (D.state disk.new).reads ≤ (D.state disk.old).reads + (unshared bs ps + unshared bs os) }
 {
     let sides = read_sides(alloc, disk, blocks, roots)?;
-    let conflicts = conflicts_between(alloc, &sides.theirs, &sides.mine)?;
+    let conflicts = keys_in_conflict(alloc, &sides.theirs, &sides.mine)?;
     Ok(Tally {
         changed: sides.mine.len(),
         unmerged: sides.theirs.len(),
@@ -134,7 +134,7 @@ pub fn changes_of_merge<D: Disk>(
     blocks: u32,
     roots: ThreeRoots,
     settled: &[(Key, Side)],
-) -> Result<Vec<Change>, Refusal>
+) -> Result<Changes, Refusal>
     requires { blocks ≤ (D.state disk.old).blocks }
     ensures any { Goes (result ≡ Err Refusal.Device) (D.state disk.old) (D.state disk.new) }
     ensures never { result ≢ Err Refusal.Failed }
@@ -145,11 +145,11 @@ pub fn changes_of_merge<D: Disk>(
         → IsRooted sizes (D.state disk.old).now.contents blocks roots.parent parent ps
         → IsRooted sizes (D.state disk.old).now.contents blocks roots.own own os
         → ReadsOr result (λ list. (refusal_in base parent own settled.now ≡ None)
-        × (list.items ≡ delta own (merge base parent own settled.now)))
+        × (list ≡ delta own (merge base parent own settled.now)))
         (λ r. refusal_in base parent own settled.now ≡ Some r) }
 {
     let sides = read_sides(alloc, disk, blocks, roots)?;
-    let conflicts = conflicts_between(alloc, &sides.theirs, &sides.mine)?;
+    let conflicts = keys_in_conflict(alloc, &sides.theirs, &sides.mine)?;
     match settled_refusal(alloc, settled, &conflicts) {
         Some(refusal) => Err(refusal),
         None => changes_by_merge(alloc, &sides.theirs, &sides.mine, settled),

@@ -1,7 +1,7 @@
 mod BytesLemmas
 mod Rows
 pub mod Bridge
-pub mod Changes
+pub mod ChangeLemmas
 pub mod FirstsLemmas
 pub mod Growing
 pub mod IsolationLemmas

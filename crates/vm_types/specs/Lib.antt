@@ -9,6 +9,7 @@ pub mod Moments
 pub mod Name
 pub mod Outcomes
 pub mod Packed
+pub mod Pieces
 pub mod Places
 pub mod Queries
 pub mod Shape

@@ -7,17 +7,22 @@
 
 mod answer;
 mod change;
+mod changes;
 mod command;
+mod conflicts;
 mod key;
 pub mod laws;
 mod name;
 mod records;
 mod refusal;
 mod value;
+mod values;
 
 pub use answer::Answer;
 pub use change::{Change, Conflict};
+pub use changes::{Changes, ChangesIter};
 pub use command::{Command, Settled, Side};
+pub use conflicts::{Conflicts, ConflictsIter};
 pub use key::Key;
 pub use name::Name;
 pub use records::{Records, RecordsIter};

@@ -3,23 +3,17 @@ ghost use Rattle.std.specs.Prelude.{◌≡◌, ◌<◌, ◌≤◌, ◌∷◌, �
 ghost use Rattle.vm_types.specs.declared.key.Key.{Key};
 ghost use Rattle.vm_types.specs.Walked.{left_of};
 
+use crate::values::{Piece, Values};
 use crate::{Key, Value};
 use std::alloc::{AllocError, Global};
 use std::marker::Model;
-
-/// Where a value lies among the bytes of a list.
-#[derive(Clone, Copy, Debug)]
-struct Piece {
-    start: usize,
-    len: u16,
-}
 
 /// A list of records that takes the memory of what they have: 32 bytes each and those of its value.
 /// The values lie in one run of bytes, behind one another.
 #[derive(Debug, Drop)]
 pub struct Records {
     rows: Vec<(Key, Piece)>,
-    bytes: Vec<u8>,
+    values: Values,
 }
 
 impl Model for Records {
@@ -28,11 +22,11 @@ impl Model for Records {
 
     ghost Value = { List (Key × List ℕ) };
 
-    ghost use Rattle.vm_types.specs.Packed.{records_in, AllLieIn};
+    ghost use Rattle.vm_types.specs.Packed.{records_in, AllLieIn, RecordLiesIn};
 
-    ghost view = { λ r. records_in r.bytes.items r.rows.items };
+    ghost view = { λ r. records_in r.values r.rows.items };
 
-    ghost invariant = { λ r. AllLieIn (length r.bytes.items) r.rows.items };
+    ghost invariant = { λ r. AllLieIn RecordLiesIn (length r.values) r.rows.items };
 }
 
 impl Records {
@@ -42,7 +36,7 @@ impl Records {
     {
         Records {
             rows: Vec::new(alloc),
-            bytes: Vec::new(alloc),
+            values: Values::new(alloc),
         }
     }
 
@@ -65,15 +59,8 @@ impl Records {
         ensures err { OnErr result (self.new ≡ self.old) }
     {
         self.rows.reserve(1)?;
-        let start = self.bytes.len();
-        self.bytes.extend_from_slice(value)?;
-        self.rows.push_reserved((
-            key,
-            Piece {
-                start,
-                len: value.len() as u16,
-            },
-        ));
+        let piece = self.values.add(value)?;
+        self.rows.push_reserved((key, piece));
         Ok(())
     }
 
@@ -92,7 +79,7 @@ impl Records {
         ensures short { length result.now ≤ 240 }
     {
         let (_, piece) = self.rows[i];
-        &self.bytes[piece.start..piece.start + usize::from(piece.len)]
+        self.values.get(piece)
     }
 
     /// Each record, a key and the bytes of its value, in order.

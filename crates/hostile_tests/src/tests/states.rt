@@ -4,7 +4,7 @@ use super::{BLOCKS, GROWN_BLOCKS, Wrong, name, top};
 use std::alloc::Global;
 use vm_disk::{Disk, MemDisk};
 use vm_store::{Store, open};
-use vm_types::{Answer, Change, Command, Records, Refusal, Value};
+use vm_types::{Answer, Change, Command, Name, Records, Refusal, Value};
 
 /// The records of table 1.
 type Map = &'static [(u64, &'static [u8])];
@@ -112,6 +112,18 @@ fn are_changes(changes: &[Change], before: Map, after: Map) -> bool {
     due.next().is_none()
 }
 
+// The changes of an alternative, in the places of whole ones.
+fn changes_of<D: Disk>(
+    alloc: Global,
+    store: &mut Store<D>,
+    alt: &Name,
+) -> Result<Vec<Change>, Refusal> {
+    store
+        .changes(alloc, alt)?
+        .to_vec(alloc)
+        .map_err(|_| Refusal::Memory)
+}
+
 // Whether an alternative has these two maps, and is in no conflict with its parent.
 fn has_maps<D: Disk>(
     alloc: Global,
@@ -122,7 +134,7 @@ fn has_maps<D: Disk>(
     let alt = name(alt);
     Ok(
         are_records(&store.list(alloc, &alt)?, own.current)
-            && are_changes(&store.changes(alloc, &alt)?, own.base, own.current)
+            && are_changes(&changes_of(alloc, store, &alt)?, own.base, own.current)
             && store.conflicts(alloc, &alt)?.is_empty(),
     )
 }
@@ -216,7 +228,7 @@ fn goes_back<D: Disk>(alloc: Global, store: &mut Store<D>, own: Own) -> Result<b
         merged == Answer::Merged(1)
             && changed
             && are_records(&store.list(alloc, &x)?, own.current)
-            && are_changes(&store.changes(alloc, &x)?, own.base, own.current),
+            && are_changes(&changes_of(alloc, store, &x)?, own.base, own.current),
     )
 }
 

@@ -6,7 +6,7 @@ use plain_model::Plain;
 use std::alloc::Global;
 use vm_disk::Disk;
 use vm_store::{Store, open};
-use vm_types::{Command, Key, Name, Records, Refusal, Value};
+use vm_types::{Change, Changes, Command, Conflict, Conflicts, Key, Name, Records, Refusal, Value};
 
 /// How many alternatives are in use, with the first one.
 pub const ALTERNATIVES: u32 = 4;
@@ -69,6 +69,18 @@ fn whole(alloc: Global, list: Result<Records, Refusal>) -> Result<Vec<(Key, Valu
     list?.to_vec(alloc).map_err(|_| Refusal::Memory)
 }
 
+// And its changes and conflicts so, too.
+fn whole_changes(alloc: Global, list: Result<Changes, Refusal>) -> Result<Vec<Change>, Refusal> {
+    list?.to_vec(alloc).map_err(|_| Refusal::Memory)
+}
+
+fn whole_conflicts(
+    alloc: Global,
+    list: Result<Conflicts, Refusal>,
+) -> Result<Vec<Conflict>, Refusal> {
+    list?.to_vec(alloc).map_err(|_| Refusal::Memory)
+}
+
 // Whether the store lists what the model does, or both refuse for the same reason.
 fn is_same<T: PartialEq + Drop>(
     found: Result<Vec<T>, Refusal>,
@@ -109,8 +121,14 @@ fn has_lists<D: Disk>(
     Ok(
         is_same(store.checkpoints(alloc, alt), plain.checkpoints(alt))?
             && is_same(whole(alloc, store.list(alloc, alt)), plain.list(alt))?
-            && is_same(store.changes(alloc, alt), plain.changes(alt))?
-            && is_same(store.conflicts(alloc, alt), plain.conflicts(alt))?,
+            && is_same(
+                whole_changes(alloc, store.changes(alloc, alt)),
+                plain.changes(alt),
+            )?
+            && is_same(
+                whole_conflicts(alloc, store.conflicts(alloc, alt)),
+                plain.conflicts(alt),
+            )?,
     )
 }
 

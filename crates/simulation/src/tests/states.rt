@@ -33,7 +33,7 @@ fn shows(alloc: Global, store: &mut Store<RecordingDisk>, state: State<'_>) -> R
         store.alternatives(alloc)?.as_slice() == alternatives.as_slice()
             && store.list(alloc, &top())?.to_vec(alloc)?.as_slice() == state.top
             && store.list(alloc, &ring())?.to_vec(alloc)?.as_slice() == state.ring
-            && store.changes(alloc, &ring())?.as_slice() == state.changes
+            && store.changes(alloc, &ring())?.to_vec(alloc)?.as_slice() == state.changes
             && store.checkpoints(alloc, &ring())?.as_slice() == state.checkpoints
             && store.free() == Ok(state.free),
     )

@@ -25,6 +25,11 @@ impl fmt::Display for Shown {
     }
 }
 
+// The value of these bytes, or none, to be shown.
+fn value_of(bytes: Option<&[u8]>) -> Shown {
+    Shown(bytes.and_then(Value::new))
+}
+
 /// What a call is answered: a text, or a refusal.
 type Given = Result<Result<String, Refusal>, Wrong>;
 
@@ -68,9 +73,9 @@ fn changes<D: Disk>(alloc: Global, store: &mut Store<D>, alt: &str) -> Given {
         Err(refusal) => return Ok(Err(refusal)),
     };
     let mut text = String::new(alloc);
-    for change in &list {
-        let (before, after) = (Shown(change.before), Shown(change.after));
-        write!(text, " {}={before}/{after}", change.key)?;
+    for (key, before, after) in &list {
+        let (before, after) = (value_of(before), value_of(after));
+        write!(text, " {key}={before}/{after}")?;
     }
     Ok(Ok(text))
 }
@@ -81,10 +86,9 @@ fn conflicts<D: Disk>(alloc: Global, store: &mut Store<D>, alt: &str) -> Given {
         Err(refusal) => return Ok(Err(refusal)),
     };
     let mut text = String::new(alloc);
-    for conflict in &list {
-        let (base, parent) = (Shown(conflict.base), Shown(conflict.parent));
-        let mine = Shown(conflict.mine);
-        write!(text, " {}={base}/{parent}/{mine}", conflict.key)?;
+    for (key, base, parent, mine) in &list {
+        let (base, parent, mine) = (value_of(base), value_of(parent), value_of(mine));
+        write!(text, " {key}={base}/{parent}/{mine}")?;
     }
     Ok(Ok(text))
 }

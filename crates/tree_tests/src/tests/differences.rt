@@ -98,7 +98,9 @@ fn changes_of(
     second: Root,
 ) -> Result<Vec<Change>, TreeFault> {
     let blocks = bench.disk.blocks();
-    changed(alloc, &mut bench.disk, blocks, first, second)
+    changed(alloc, &mut bench.disk, blocks, first, second)?
+        .to_vec(alloc)
+        .map_err(|_| TreeFault::Memory)
 }
 
 fn are_same(bench: &mut Bench, first: Root, second: Root) -> Result<bool, TreeFault> {

@@ -1,10 +1,10 @@
 //! The lines of lists.
-ghost use Rattle.std.specs.Prelude.{◌≡◌, ◌+◌, ◌<◌, ◌≤◌, ◌++◌, [], length, map, slice_index_or};
+ghost use Rattle.std.specs.Prelude.{◌≡◌, ◌+◌, ◌<◌, ◌≤◌, ◌++◌, [], length, map, slice_index_or, option_copied, IfSome};
 ghost use Rattle.vm_cli.specs.Listings.{alternative_text, change_text, checkpoint_text, conflict_text, key_words, optional_text, record_text};
 
 use crate::answers::text::Text;
 use crate::lines::escape;
-use vm_types::{Change, Conflict, Key, Name, Records, Value};
+use vm_types::{Changes, Conflicts, Key, Name, Records};
 
 /// A list that is answered line by line.
 pub trait Listing {
@@ -34,6 +34,38 @@ impl Listing for Records {
 
     fn push_line(&self, i: usize, text: &mut Text) {
         push_record(text, self.key(i), self.value(i));
+    }
+}
+
+/// Changes, each value read from where it lies in the list.
+impl Listing for Changes {
+    ghost lines = { λ changes. map change_text changes };
+
+    fn count(&self) -> usize {
+        self.len()
+    }
+
+    fn push_line(&self, i: usize, text: &mut Text) {
+        push_change(text, self.key(i), self.before(i), self.after(i));
+    }
+}
+
+/// Conflicts, each value read so, too.
+impl Listing for Conflicts {
+    ghost lines = { λ conflicts. map conflict_text conflicts };
+
+    fn count(&self) -> usize {
+        self.len()
+    }
+
+    fn push_line(&self, i: usize, text: &mut Text) {
+        push_conflict(
+            text,
+            self.key(i),
+            self.base(i),
+            self.parent(i),
+            self.mine(i),
+        );
     }
 }
 
@@ -78,22 +110,6 @@ impl Listed for Name {
     }
 }
 
-impl Listed for Change {
-    ghost line = { change_text };
-
-    fn push_onto(&self, text: &mut Text) {
-        push_change(text, self);
-    }
-}
-
-impl Listed for Conflict {
-    ghost line = { conflict_text };
-
-    fn push_onto(&self, text: &mut Text) {
-        push_conflict(text, self);
-    }
-}
-
 // Writes the line of a record.
 fn push_record(text: &mut Text, key: Key, value: &[u8])
     requires room { length text.old + 1024 ≤ 65536 }
@@ -132,30 +148,50 @@ fn push_checkpoint(text: &mut Text, name: &Name)
 }
 
 // Writes the line of a change.
-fn push_change(text: &mut Text, change: &Change)
-    requires { length text.old + 2304 ≤ 65536 }
-    ensures { text.new ≡ text.old ++ change_text change.now }
+fn push_change(text: &mut Text, key: Key, before: Option<&[u8]>, after: Option<&[u8]>)
+    requires room { length text.old + 2304 ≤ 65536 }
+    requires before { IfSome before (λ value. length value.now ≤ 240) }
+    requires after { IfSome after (λ value. length value.now ≤ 240) }
+    ensures { text.new ≡ text.old ++ change_text (record {
+      key = key;
+      before = option_copied before.entry;
+      after = option_copied after.entry;
+    }) }
 {
     text.push_bytes(b"change ");
-    push_key(text, change.key);
-    push_optional(text, &change.before);
+    push_key(text, key);
+    push_optional(text, before);
     text.push(b' ');
-    push_optional(text, &change.after);
+    push_optional(text, after);
     text.push(b'\n');
 }
 
 // Writes the line of a conflict.
-fn push_conflict(text: &mut Text, conflict: &Conflict)
-    requires { length text.old + 2304 ≤ 65536 }
-    ensures { text.new ≡ text.old ++ conflict_text conflict.now }
+fn push_conflict(
+    text: &mut Text,
+    key: Key,
+    base: Option<&[u8]>,
+    parent: Option<&[u8]>,
+    mine: Option<&[u8]>,
+)
+    requires room { length text.old + 2304 ≤ 65536 }
+    requires base { IfSome base (λ value. length value.now ≤ 240) }
+    requires parent { IfSome parent (λ value. length value.now ≤ 240) }
+    requires mine { IfSome mine (λ value. length value.now ≤ 240) }
+    ensures { text.new ≡ text.old ++ conflict_text (record {
+      key = key;
+      base = option_copied base.entry;
+      parent = option_copied parent.entry;
+      mine = option_copied mine.entry;
+    }) }
 {
     text.push_bytes(b"conflict ");
-    push_key(text, conflict.key);
-    push_optional(text, &conflict.base);
+    push_key(text, key);
+    push_optional(text, base);
     text.push(b' ');
-    push_optional(text, &conflict.parent);
+    push_optional(text, parent);
     text.push(b' ');
-    push_optional(text, &conflict.mine);
+    push_optional(text, mine);
     text.push(b'\n');
 }
 
@@ -172,13 +208,14 @@ fn push_key(text: &mut Text, key: Key)
 }
 
 // Writes a value, or `~` for absence.
-fn push_optional(text: &mut Text, value: &Option<Value>)
+fn push_optional(text: &mut Text, value: Option<&[u8]>)
     requires room { length text.old + 720 ≤ 65536 }
-    ensures written { text.new ≡ text.old ++ optional_text value.now }
+    requires short { IfSome value (λ bytes. length bytes.now ≤ 240) }
+    ensures written { text.new ≡ text.old ++ optional_text (option_copied value.entry) }
     ensures short { length text.new ≤ length text.old + 720 }
 {
     match value {
-        Some(value) => escape::push_value(text, value),
+        Some(value) => escape::push_spelled(text, value),
         None => text.push(b'~'),
     }
 }

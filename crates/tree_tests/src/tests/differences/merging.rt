@@ -1,8 +1,9 @@
 //! Which conflicts there are, why settlements of them are refused, and what a merge takes by them.
 use super::{change, key, value};
+use std::alloc::{AllocError, Global};
 use std::test::Fail;
-use vm_diff::{changes_by_merge, conflicts_between, settled_refusal};
-use vm_types::{Change, Conflict, Key, Refusal, Side};
+use vm_diff::{changes_by_merge, conflicts_between, keys_in_conflict, settled_refusal};
+use vm_types::{Change, Changes, Conflict, Key, Refusal, Side};
 
 fn mine(number: u64) -> (Key, Side) {
     (key(number), Side::Mine)
@@ -22,14 +23,27 @@ fn conflict(number: u64) -> Conflict {
     }
 }
 
-// The conflicts at the keys 2, 4 and 6, by rising keys.
-fn rising() -> [Conflict; 3] {
-    [conflict(2), conflict(4), conflict(6)]
+// The keys 2, 4 and 6, by rising keys.
+fn rising() -> [Key; 3] {
+    [key(2), key(4), key(6)]
 }
 
 // The same ones in another order.
-fn mixed() -> [Conflict; 3] {
-    [conflict(6), conflict(2), conflict(4)]
+fn mixed() -> [Key; 3] {
+    [key(6), key(2), key(4)]
+}
+
+// A packed list of these changes.
+fn packed(alloc: Global, changes: &[Change]) -> Result<Changes, AllocError> {
+    let mut list = Changes::new(alloc);
+    for change in changes {
+        list.push(
+            change.key,
+            change.before.as_ref().map(|value| value.as_bytes()),
+            change.after.as_ref().map(|value| value.as_bytes()),
+        )?;
+    }
+    Ok(list)
 }
 
 #[test]
@@ -97,23 +111,26 @@ fn names_the_first_key_that_is_settled_twice(rt: HostRuntime) {
 
 #[test]
 fn merges_by_settlements_in_any_order(rt: HostRuntime) -> Result<(), Fail> {
-    let parent = [
+    let parent: [Change; 5] = [
         change(1, None, Some(b'p')),
         change(2, Some(b'b'), Some(b'p')),
         change(4, Some(b'b'), None),
         change(6, None, Some(b'p')),
         change(7, None, Some(b'p')),
     ];
-    let own = [
+    let own: [Change; 5] = [
         change(2, Some(b'b'), Some(b'm')),
         change(4, Some(b'b'), Some(b'm')),
         change(5, Some(b'b'), None),
         change(6, None, Some(b'm')),
         change(7, None, Some(b'p')),
     ];
+    let (parent, own) = (packed(rt.alloc(), &parent)?, packed(rt.alloc(), &own)?);
     let conflicts = conflicts_between(rt.alloc(), &parent, &own)?;
     assert_eq!(rt; conflicts.len(), 3);
-    assert!(rt; conflicts[2] == conflict(6));
+    assert!(rt; conflicts.at(2) == Some(conflict(6)));
+    let keys = keys_in_conflict(rt.alloc(), &parent, &own)?;
+    assert!(rt; keys.as_slice() == rising().as_slice());
     let taken: [Change; 3] = [
         change(1, None, Some(b'p')),
         change(2, Some(b'm'), Some(b'p')),
@@ -124,11 +141,12 @@ fn merges_by_settlements_in_any_order(rt: HostRuntime) -> Result<(), Fail> {
         [mine(6), theirs(4), theirs(2)],
         [theirs(4), mine(6), theirs(2)],
     ] {
-        assert!(rt; settled_refusal(rt.alloc(), &settled, &conflicts).is_none());
+        assert!(rt; settled_refusal(rt.alloc(), &settled, &keys).is_none());
         let changes = changes_by_merge(rt.alloc(), &parent, &own, &settled)?;
-        assert!(rt; changes.as_slice() == taken.as_slice());
+        assert!(rt; changes.to_vec(rt.alloc())?.as_slice() == taken.as_slice());
     }
     let kept = changes_by_merge(rt.alloc(), &parent, &own, &[mine(2), mine(4), mine(6)])?;
-    assert!(rt; kept.as_slice() == [change(1, None, Some(b'p'))].as_slice());
+    assert_eq!(rt; kept.len(), 1);
+    assert!(rt; kept.at(0) == Some(change(1, None, Some(b'p'))));
     Ok(())
 }

@@ -114,7 +114,7 @@ returns-in-Changes-clause-answer g c s =
     let query = request.Changes c.in-Changes.alt in
     asked_as old new s c.args.request query c.in-Changes.is c.reply_with_list-in-Changes.result _ _ c.reply_with_list-in-Changes.new.text
     (list_handled old new s query (passes_reads old new (goes_any _ _ _ said.any) said.reads said.unchanged) said.failed said.no_calls (λ stood. said.state stood.honest s stood.holds)
-    (Failing old new) change_text (λ list. list.items) (changes_in s.working c.in-Changes.alt) (λ x rest. refl) (λ text sound says. (refl, said.failed ∙ sound, says)) (λ text ends is last. (is, last))
+    (Failing old new) change_text (λ list. list) (changes_in s.working c.in-Changes.alt) (λ x rest. refl) (λ text sound says. (refl, said.failed ∙ sound, says)) (λ text ends is last. (is, last))
     c.changes.result (λ sound. said.any.fault) said.refused said.only_then (λ sound stood. said.value stood.honest sound s stood.holds) c.reply_with_list-in-Changes.result _ _ c.reply_with_list-in-Changes.new.text c.reply_with_list-in-Changes.ensures.list)
 
 pub returns-in-Conflicts-clause-goes : goal.returns-in-Conflicts-clause-goes
@@ -132,5 +132,5 @@ returns-in-Conflicts-clause-answer g c s =
     let query = request.Conflicts c.in-Conflicts.alt in
     asked_as old new s c.args.request query c.in-Conflicts.is c.reply_with_list-in-Conflicts.result _ _ c.reply_with_list-in-Conflicts.new.text
     (list_handled old new s query (passes_reads old new (goes_any _ _ _ said.any) said.reads said.unchanged) said.failed said.no_calls (λ stood. said.state stood.honest s stood.holds)
-    (Failing old new) conflict_text (λ list. list.items) (conflicts_in s.working c.in-Conflicts.alt) (λ x rest. refl) (λ text sound says. (refl, said.failed ∙ sound, says)) (λ text ends is last. (is, last))
+    (Failing old new) conflict_text (λ list. list) (conflicts_in s.working c.in-Conflicts.alt) (λ x rest. refl) (λ text sound says. (refl, said.failed ∙ sound, says)) (λ text ends is last. (is, last))
     c.conflicts.result (λ sound. said.any.fault) said.refused said.only_then (λ sound stood. said.value stood.honest sound s stood.holds) c.reply_with_list-in-Conflicts.result _ _ c.reply_with_list-in-Conflicts.new.text c.reply_with_list-in-Conflicts.ensures.list)

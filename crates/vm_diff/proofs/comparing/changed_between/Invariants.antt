@@ -9,4 +9,4 @@ decreases-steps g l = size l.one + size l.other
 -- the differences so far are there
 abbrev pub invariant-steps : goal.invariant-steps
 invariant-steps g l =
-    Compares (g.D.Disk.state l.initial.disk) (g.D.Disk.state l.disk) l.blocks l.initial.one l.initial.other l.one l.other l.changes.items
+    Compares (g.D.Disk.state l.initial.disk) (g.D.Disk.state l.disk) l.blocks l.initial.one l.initial.other l.one l.other l.changes

@@ -1,4 +1,3 @@
-use Rattle.std.proofs.Common.{refl}
 use Rattle.vm_diff.proofs.SkipLemmas.{records_skipped, skips_on, tops_fall}
 use Rattle.vm_diff.proofs.skipping.skip_shared.Goals as goal
 

@@ -1,7 +1,15 @@
-use Rattle.std.proofs.Common.{◌∙◌, arith, sym}
+use Rattle.std.proofs.Common.{◌∙◌, List, length, arith, subst, sym}
+use Rattle.std.proofs.lemmas.List.{take_all}
+use Rattle.std.proofs.lemmas.Option.{get_or_from_slice_get, slice_get_within}
 use Rattle.std.proofs.lemmas.Result.{err_from_is_err_and}
+use Rattle.vm_types.specs.declared.change.Change.{Change}
+use Rattle.vm_types.specs.Map.{with_changes}
+use Rattle.vm_types.proofs.PackedLemmas.{ended}
+use Rattle.vm_alloc.specs.Held.{IsHeld}
 use Rattle.vm_alloc.proofs.HeldLemmas.{holds_more_then}
+use Rattle.vm_tree.specs.Root.{IsRootedIn}
 use Rattle.vm_tree.proofs.Sparing.{spares_then}
+use Rattle.vm_store.specs.Sizes.{sizes}
 use Rattle.vm_store.proofs.ChangingLemmas.{made_more, fault_makes}
 use Rattle.vm_store.proofs.TopLemmas.{grown_of}
 use Rattle.vm_store.proofs.changing.make_changes.Goals as goal
@@ -14,23 +22,35 @@ returns-in_err-root-clause-moments g c honest =
 pub returns-in_err-root-clause-changed : goal.returns-in_err-root-clause-changed
 returns-in_err-root-clause-changed g c honest m grown =
     let so_far = c.loop-change.invariant in
+    let found = sym c.in-Some.ensures in
+    let inside = slice_get_within c.args.changes.now c.loop-change.i c.in-Some.change found in
     let p = err_from_is_err_and c.from_residual.result c.from_residual.ensures.1 in
     let before = grown_of _ _ _ _ _ _ (sym so_far.still.same_length) (so_far.changed (c.in_err-root.ensures.any.earlier honest) m grown) in
     rw (p.1, p.2)
-    (fault_makes m _ _ c.change-item.result c.loop-change-test.true c.change-item.is _ _ _ _ _ _ so_far.still.same_length (c.in_err-root.ensures.changed honest _ before))
+    (fault_makes m _ _ c.in-Some.change inside (sym (get_or_from_slice_get c.args.changes.now c.loop-change.i c.in-Some.change c.in-Some.change found)) _ _ _ _ _ _ so_far.still.same_length (c.in_err-root.ensures.changed honest _ before))
 
 pub loop-change-preserved : goal.loop-change-preserved
 loop-change-preserved g c =
     let so_far = c.loop-change.invariant in
     let any = c.make_change.ensures.any in
+    let found = sym c.in-Some.ensures in
+    let inside = slice_get_within c.args.changes.now c.loop-change.i c.in-Some.change found in
     record {
       blocks = any.same_blocks ∙ so_far.blocks;
       earlier = λ honest. so_far.earlier (any.earlier honest);
       rising = omega (arith, any.rising, so_far.rising);
+      most = omega (arith, inside);
       room = omega (arith, c.make_change.ensures.taken, so_far.room);
       still = holds_more_then _ _ _ so_far.still c.make_change.ensures.still;
       moments = λ honest. spares_then _ _ _ _ _ so_far.still (so_far.moments (c.in_ok-root.ensures.any.earlier honest)) (c.make_change.ensures.moments honest);
       changed = λ honest m grown.
           let before = grown_of _ _ _ _ _ _ (sym so_far.still.same_length) (so_far.changed (c.in_ok-root.ensures.any.earlier honest) m grown) in
-          made_more m _ _ c.change-item.result c.loop-change-test.true c.change-item.is _ _ _ _ _ so_far.still.same_length (c.in_ok-root.ensures.changed honest _ before);
+          made_more m _ _ c.in-Some.change inside (sym (get_or_from_slice_get c.args.changes.now c.loop-change.i c.in-Some.change c.in-Some.change found)) _ _ _ _ _ so_far.still.same_length (c.in_ok-root.ensures.changed honest _ before);
     }
+
+pub returns-clause-changed : goal.returns-clause-changed
+returns-clause-changed g c honest m grown =
+    let now = g.D.Disk.state c.loop-change.disk in
+    subst (λ (changes : List Change). IsRootedIn sizes (IsHeld c.loop-change.held) now.now.contents (length c.args.held.now) c.loop-change.root (with_changes m changes))
+    (take_all c.loop-change.i c.args.changes.now (ended c.args.changes.now c.loop-change.i (sym c.in_default.ensures)))
+    (c.loop-change.invariant.changed honest m grown)

@@ -1,4 +1,4 @@
-use Rattle.std.proofs.Common.{◌≡◌, ◌*◌, ◌+◌, ◌≤◌, true, length, take}
+use Rattle.std.proofs.Common.{◌≡◌, ◌*◌, ◌+◌, ◌-◌, ◌≤◌, true, length, take}
 use Rattle.vm_types.specs.Map.{Map, with_changes}
 use Rattle.vm_disk.specs.Moments.{Throughout, TouchesOnly}
 use Rattle.vm_alloc.specs.Held.{IsHeld, HoldsMore, free_count}
@@ -14,9 +14,13 @@ invariant-loop-change g l =
       blocks : now.blocks ≡ old.blocks;
       earlier : now.honest ≡ true → old.honest ≡ true;
       rising : old.failures ≤ now.failures;
-      room : 16 * length l.changes ≤ free_count l.held + 16 * l.change-index;
+      most : l.i ≤ length l.changes;
+      room : 16 * length l.changes ≤ free_count l.held + 16 * l.i;
       still : HoldsMore l.fn.held l.held;
       moments : now.honest ≡ true → Throughout old now (TouchesOnly (is_free l.fn.held) old.now);
       changed : now.honest ≡ true → (m : Map) → IsRootedIn sizes (IsHeld l.fn.held) old.now.contents (length l.fn.held) l.fn.root m
-          → IsRootedIn sizes (IsHeld l.held) now.now.contents (length l.fn.held) l.root (with_changes m (take l.change-index l.changes));
+          → IsRootedIn sizes (IsHeld l.held) now.now.contents (length l.fn.held) l.root (with_changes m (take l.i l.changes));
     }
+
+abbrev pub decreases-loop-change : goal.decreases-loop-change
+decreases-loop-change g l = length l.changes - l.i

@@ -1,6 +1,5 @@
-use Rattle.std.proofs.Common.{inr, map, List, Err, ap, sym, ◌∙◌}
+use Rattle.std.proofs.Common.{inr, Err, ap, sym, ◌∙◌}
 use Rattle.std.proofs.lemmas.Result.{err_from_is_err_and}
-use Rattle.vm_types.specs.declared.change.Conflict.{Conflict}
 use Rattle.vm_types.specs.Step.{settled_refusal}
 use Rattle.vm_store.proofs.SidesLemmas.{rooted_map, reads_pair, reads_fault}
 use Rattle.vm_store.proofs.sides.changes_of_merge.Goals as goal
@@ -13,16 +12,13 @@ returns-in_err-sides-clause-changes g c honest base parent own bs ps os first se
 pub returns-in-Some-clause-changes : goal.returns-in-Some-clause-changes
 returns-in-Some-clause-changes g c honest base parent own bs ps os first second third =
     let read = c.in_ok-sides.ensures.sides honest base parent own bs ps os first second third in
-    let found = c.in_ok-conflicts.ensures.list base parent own (rooted_map _ _ _ _ _ first) (rooted_map _ _ _ _ _ second) (rooted_map _ _ _ _ _ third)
-    (c.deref.ensures.value ∙ read.0) (c.deref-2.ensures.value ∙ read.1) in
-    inr (inr (ap (λ (cs : List Conflict). settled_refusal c.args.settled.now (map (λ k. k.key) cs)) (sym (c.deref-3.ensures.value ∙ found)) ∙ sym c.in-Some.ensures))
+    let found = c.in_ok-conflicts.ensures.list base parent own (rooted_map _ _ _ _ _ first) (rooted_map _ _ _ _ _ second) (rooted_map _ _ _ _ _ third) read.0 read.1 in
+    inr (inr (ap (settled_refusal c.args.settled.now) (sym (c.deref.ensures.value ∙ found)) ∙ sym c.in-Some.ensures))
 
 pub returns-clause-changes : goal.returns-clause-changes
 returns-clause-changes g c honest base parent own bs ps os first second third =
     let read = c.in_ok-sides.ensures.sides honest base parent own bs ps os first second third in
-    let found = c.in_ok-conflicts.ensures.list base parent own (rooted_map _ _ _ _ _ first) (rooted_map _ _ _ _ _ second) (rooted_map _ _ _ _ _ third)
-    (c.deref.ensures.value ∙ read.0) (c.deref-2.ensures.value ∙ read.1) in
+    let found = c.in_ok-conflicts.ensures.list base parent own (rooted_map _ _ _ _ _ first) (rooted_map _ _ _ _ _ second) (rooted_map _ _ _ _ _ third) read.0 read.1 in
     reads_pair _ _ _ _ c.changes_by_merge.ensures.only
-    (ap (λ (cs : List Conflict). settled_refusal c.args.settled.now (map (λ k. k.key) cs)) (sym (c.deref-3.ensures.value ∙ found)) ∙ sym c.in-None.ensures)
-    (c.changes_by_merge.ensures.list base parent own (rooted_map _ _ _ _ _ first) (rooted_map _ _ _ _ _ second) (rooted_map _ _ _ _ _ third)
-    (c.deref-in-None.ensures.value ∙ read.0) (c.deref-in-None-2.ensures.value ∙ read.1))
+    (ap (settled_refusal c.args.settled.now) (sym (c.deref.ensures.value ∙ found)) ∙ sym c.in-None.ensures)
+    (c.changes_by_merge.ensures.list base parent own (rooted_map _ _ _ _ _ first) (rooted_map _ _ _ _ _ second) (rooted_map _ _ _ _ _ third) read.0 read.1)

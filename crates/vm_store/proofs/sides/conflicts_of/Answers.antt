@@ -12,5 +12,4 @@ pub returns-clause-conflicts : goal.returns-clause-conflicts
 returns-clause-conflicts g c honest base parent own bs ps os first second third =
     let read = c.in_ok-sides.ensures.sides honest base parent own bs ps os first second third in
     reads_list _ _ _ c.conflicts_between.ensures.only
-    (c.conflicts_between.ensures.list base parent own (rooted_map _ _ _ _ _ first) (rooted_map _ _ _ _ _ second) (rooted_map _ _ _ _ _ third)
-    (c.deref.ensures.value ∙ read.0) (c.deref-2.ensures.value ∙ read.1))
+    (c.conflicts_between.ensures.list base parent own (rooted_map _ _ _ _ _ first) (rooted_map _ _ _ _ _ second) (rooted_map _ _ _ _ _ third) read.0 read.1)

@@ -1,4 +1,4 @@
-use Rattle.std.proofs.Common.{◌==◌, Err, ap, ◌∙◌}
+use Rattle.std.proofs.Common.{Err, ap, ◌∙◌}
 use Rattle.std.proofs.lemmas.Result.{err_from_is_err_and}
 use Rattle.vm_store.proofs.SidesLemmas.{rooted_map, reads_fault}
 use Rattle.vm_store.proofs.TallyLemmas.{counted}
@@ -12,8 +12,6 @@ returns-in_err-sides-clause-tally g c honest base parent own bs ps os first seco
 pub returns-clause-tally : goal.returns-clause-tally
 returns-clause-tally g c honest base parent own bs ps os first second third =
     let read = c.in_ok-sides.ensures.sides honest base parent own bs ps os first second third in
-    let found = c.in_ok-conflicts.ensures.list base parent own (rooted_map _ _ _ _ _ first) (rooted_map _ _ _ _ _ second) (rooted_map _ _ _ _ _ third)
-    (c.deref.ensures.value ∙ read.0) (c.deref-2.ensures.value ∙ read.1) in
+    let found = c.in_ok-conflicts.ensures.list base parent own (rooted_map _ _ _ _ _ first) (rooted_map _ _ _ _ _ second) (rooted_map _ _ _ _ _ third) read.0 read.1 in
     counted base parent own (rooted_map _ _ _ _ _ first) (rooted_map _ _ _ _ _ second) _ _ _ read.0 read.1 found _
-    (c.len.ensures ∙ c.in_ok-sides.sides.mine.ok.0) (c.len-2.ensures ∙ c.in_ok-sides.sides.theirs.ok.0) (c.len-3.ensures ∙ c.in_ok-conflicts.conflicts.ok.0)
-    (c.is_empty.ensures ∙ ap (λ n. n == 0) c.in_ok-sides.sides.theirs.ok.0)
+    c.len.ensures c.len-2.ensures (c.len-3.ensures ∙ c.in_ok-conflicts.conflicts.ok.0) c.is_empty.ensures

@@ -1,7 +1,7 @@
 //! The queries for what an alternative changed since its base, and for its conflicts with its parent.
 ghost use Rattle.std.specs.Prelude.{◌≡◌, ◌≢◌, ◌+◌, ◌≤◌, true, false};
 ghost use Rattle.vm_types.specs.State.{State};
-ghost use Rattle.vm_types.specs.Queries.{IsList, changes_in, conflicts_in};
+ghost use Rattle.vm_types.specs.Queries.{IsListing, changes_in, conflicts_in};
 
 use crate::faults::refusal_of;
 use crate::sides::{ThreeRoots, conflicts_of};
@@ -10,14 +10,14 @@ use crate::version::Version;
 use std::alloc::Global;
 use vm_diff::changed;
 use vm_disk::Disk;
-use vm_types::{Change, Conflict, Name, Refusal};
+use vm_types::{Changes, Conflicts, Name, Refusal};
 
 impl<D: Disk> Store<D> {
     ghost use Rattle.vm_store.specs.Store.{has_failed, Holds, IsSameButDisk, IsHonest, GoesOn, ReadsAlone, reads_of};
     ghost use Rattle.vm_store.specs.Shared.{unshared_of, unshared_with_parent};
 
     /// What changed in the working state of an alternative since its base, by rising keys.
-    pub fn changes(&mut self, alloc: Global, alt: &Name) -> Result<Vec<Change>, Refusal>
+    pub fn changes(&mut self, alloc: Global, alt: &Name) -> Result<Changes, Refusal>
         ensures any { GoesOn (result ≡ Err Refusal.Device) self.old self.new }
         ensures failed { has_failed self.new ≡ has_failed self.old }
         ensures refused { has_failed self.old ≡ true → result ≡ Err Refusal.Failed }
@@ -27,7 +27,7 @@ impl<D: Disk> Store<D> {
 
         ensures value { IsHonest self.new → has_failed self.old ≡ false → (s : State)
             → Holds self.old s
-            → IsList result (changes_in s.working alt.now) }
+            → IsListing result (changes_in s.working alt.now) }
         ensures state { IsHonest self.new → (s : State) → Holds self.old s → Holds self.new s }
         ensures reads { IsHonest self.new → ReadsAlone self.old self.new }
 
@@ -50,7 +50,7 @@ impl<D: Disk> Store<D> {
 
     /// The keys at which the working states of an alternative and of its parent are in conflict, rising,
     /// with the three values. It answers `IsTop` where the alternative has no parent.
-    pub fn conflicts(&mut self, alloc: Global, alt: &Name) -> Result<Vec<Conflict>, Refusal>
+    pub fn conflicts(&mut self, alloc: Global, alt: &Name) -> Result<Conflicts, Refusal>
         ensures any { GoesOn (result ≡ Err Refusal.Device) self.old self.new }
         ensures failed { has_failed self.new ≡ has_failed self.old }
         ensures refused { has_failed self.old ≡ true → result ≡ Err Refusal.Failed }
@@ -60,7 +60,7 @@ impl<D: Disk> Store<D> {
 
         ensures value { IsHonest self.new → has_failed self.old ≡ false → (s : State)
             → Holds self.old s
-            → IsList result (conflicts_in s.working alt.now) }
+            → IsListing result (conflicts_in s.working alt.now) }
         ensures state { IsHonest self.new → (s : State) → Holds self.old s → Holds self.new s }
         ensures reads { IsHonest self.new → ReadsAlone self.old self.new }
 

@@ -1,4 +1,4 @@
-use Rattle.std.proofs.Common.{◌-◌, ◌≡◌, length, ap, ◌∙◌, arith}
+use Rattle.std.proofs.Common.{◌-◌, arith}
 use Rattle.vm_diff.proofs.RowLemmas.{children_count, children_whole}
 use Rattle.vm_diff.proofs.children.Children.read.Goals as goal
 

@@ -1,4 +1,4 @@
-use Rattle.std.proofs.Common.{◌-◌, ◌≡◌, length, ap, ◌∙◌, arith}
+use Rattle.std.proofs.Common.{◌-◌, arith}
 use Rattle.vm_diff.proofs.RowLemmas.{records_count, records_whole}
 use Rattle.vm_diff.proofs.records.Records.read.Goals as goal
 

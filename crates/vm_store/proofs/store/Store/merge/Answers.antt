@@ -43,7 +43,7 @@ returns-in-Ok-false-clause-carried g c honest s rests =
     let own = own_there _ _ _ _ _ _ s rests alt c.in-Ok.pair is in
     let parent = parent_there _ _ _ _ _ _ s rests alt c.in-Ok.pair is in
     let plan = c.in-Ok-changes_of_merge.ensures.changes (c.in-Ok-false.ensures.any.earlier honest) _ _ _ _ _ _ own.stands.base.rooted parent.stands.current.rooted own.stands.current.rooted in
-    let count = c.len.ensures ∙ c.in-Ok-changes_of_merge.changes.ok.0 ∙ ap (λ (cs : List Change). length cs) plan.1 in
+    let count = c.len.ensures ∙ ap (λ (cs : List Change). length cs) plan.1 in
     let many = merge_edits _ _ _ _ _ _ s rests alt c.in-Ok.pair is settled plan.0 ∙ sym count in
     let read = c.in-Ok-changes_of_merge.ensures.reads (c.has_spare.ensures.any.earlier honest) in
     let rests' = c.has_spare.ensures.state honest s (read_rests _ _ _ _ _ _ _ s read rests) in
@@ -68,16 +68,16 @@ returns-in-Ok-make_changes-clause-carried g c honest s rests =
     let own = own_there _ _ _ _ _ _ s rests alt c.in-Ok.pair is in
     let parent = parent_there _ _ _ _ _ _ s rests alt c.in-Ok.pair is in
     let plan = c.in-Ok-changes_of_merge.ensures.changes (c.in-Ok-true.ensures.any.earlier (c.in-Ok-make_changes.ensures.any.earlier honest)) _ _ _ _ _ _ own.stands.base.rooted parent.stands.current.rooted own.stands.current.rooted in
-    let count = c.len.ensures ∙ c.in-Ok-changes_of_merge.changes.ok.0 ∙ ap (λ (cs : List Change). length cs) plan.1 in
+    let count = c.len.ensures ∙ ap (λ (cs : List Change). length cs) plan.1 in
     let many = merge_edits _ _ _ _ _ _ s rests alt c.in-Ok.pair is settled plan.0 ∙ sym count in
     let room = room_for _ _ _ (spare_after _ _ _ _ _ _ _ s _ _ (c.in-Ok-changes_of_merge.ensures.reads (c.in-Ok-true.ensures.any.earlier (c.in-Ok-make_changes.ensures.any.earlier honest))) (c.in-Ok-true.ensures.spare (c.in-Ok-make_changes.ensures.any.earlier honest)) rests) c.in-Ok-true.field-0-test in
-    let same = c.len-in-Ok-make_changes.ensures ∙ c.in-Ok-changes_of_merge.changes.ok.0 ∙ ap (λ (cs : List Change). length cs) plan.1 in
+    let same = c.len-in-Ok-make_changes.ensures ∙ ap (λ (cs : List Change). length cs) plan.1 in
     let mid = c.has_spare.new.self in
     let is' = subst (λ p. IsPair p.1 alt c.in-Ok.pair) (sym c.has_spare.ensures.same) is in
     let plan' = planned _ _ _ _ _ _ s rests _ _ _ _ _ _ rests' alt c.in-Ok.pair is is' settled _ plan in
     let own' = own_there _ _ _ _ _ _ s rests' alt c.in-Ok.pair is' in
     let made = c.in-Ok-make_changes.ensures.changed honest _ (grown_of _ _ _ _ c.in-Ok.pair.0.current _ (sym mid.bits) own'.stands.current) in
-    let grown = made_of _ _ _ _ _ _ s rests' alt c.in-Ok.pair is' settled _ _ _ c.in-Ok-make_changes.root _ (c.deref.ensures.value ∙ plan'.1) (grown_of _ _ _ _ c.in-Ok-make_changes.root _ mid.bits made) in
+    let grown = made_of _ _ _ _ _ _ s rests' alt c.in-Ok.pair is' settled _ _ _ c.in-Ok-make_changes.root _ plan'.1 (grown_of _ _ _ _ c.in-Ok-make_changes.root _ mid.bits made) in
     let both = c.set_base.ensures ∙ ap (change_first (is_alternative_of alt) (with_base c.in-Ok.pair.1.current)) c.set_current.ensures in
     wrote _ _ s rests (Merge c.args.alt.now c.args.settled.now) _ (rw (same) (merges_done s _ _ alt settled _ (merge_step _ _ _ _ _ _ s rests alt c.in-Ok.pair is settled plan.0) c.len.result many room))
     _ (reads_then _ _ _ read (c.has_spare.ensures.reads (c.in-Ok-make_changes.ensures.any.earlier honest))) rests' (c.in-Ok-make_changes.ensures.moments honest) c.in-Ok-make_changes.ensures.still
@@ -95,7 +95,7 @@ returns-clause-carried g c honest s rests =
     let own = own_there _ _ _ _ _ _ s rests alt c.in-Ok.pair is in
     let parent = parent_there _ _ _ _ _ _ s rests alt c.in-Ok.pair is in
     let plan = c.in-Ok-changes_of_merge.ensures.changes (c.has_spare.ensures.any.earlier (c.in-Err-make_changes.ensures.any.earlier honest)) _ _ _ _ _ _ own.stands.base.rooted parent.stands.current.rooted own.stands.current.rooted in
-    let count = c.len.ensures ∙ c.in-Ok-changes_of_merge.changes.ok.0 ∙ ap (λ (cs : List Change). length cs) plan.1 in
+    let count = c.len.ensures ∙ ap (λ (cs : List Change). length cs) plan.1 in
     let many = merge_edits _ _ _ _ _ _ s rests alt c.in-Ok.pair is settled plan.0 ∙ sym count in
     let mid = c.has_spare.new.self in
     let is' = subst (λ p. IsPair p.1 alt c.in-Ok.pair) (sym c.has_spare.ensures.same) is in
@@ -107,6 +107,6 @@ returns-clause-carried g c honest s rests =
     (λ device. inl (ap Err (c.refusal_of.ensures ∙ ap refusal_of device)))
     (λ deep. merges_deep s _ _ alt settled _ (merge_step _ _ _ _ _ _ s rests alt c.in-Ok.pair is settled plan.0) c.len.result many _ (c.refusal_of.ensures ∙ ap refusal_of deep.0) room
     (meets_as _ _ _ _ _ _ _ mid.bits (sym (current_is _ _ _ _ _ _ s rests' alt c.in-Ok.pair is' settled plan'.0))
-    (c.deref.ensures.value ∙ plan'.1 ∙ sym (merge_is _ _ _ _ _ _ s rests' alt c.in-Ok.pair is' settled plan'.0)) deep.1)))
+    (plan'.1 ∙ sym (merge_is _ _ _ _ _ _ s rests' alt c.in-Ok.pair is' settled plan'.0)) deep.1)))
     _ (reads_then _ _ _ read (c.has_spare.ensures.reads (c.in-Err-make_changes.ensures.any.earlier honest))) rests' (c.in-Err-make_changes.ensures.moments honest) c.in-Err-make_changes.ensures.still
     (λ _. rests_more _ _ _ _ _ _ s rests' _ _ (at_end _ _ _ (c.in-Err-make_changes.ensures.moments honest)) c.in-Err-make_changes.ensures.still)
