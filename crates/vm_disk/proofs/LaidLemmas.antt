@@ -8,11 +8,13 @@ use Rattle.std.proofs.lemmas.Bool.{cases_lt, and_parts, or_from, or_parts, or_le
 use Rattle.std.proofs.lemmas.List.{ext_get_or, get_or_past, length-map}
 use Rattle.std.proofs.lemmas.List.FromFn.{get_or-map-range_with_len}
 use Rattle.vm_disk.specs.declared.disk.DeviceFault.{DeviceFault}
-use Rattle.vm_disk.specs.Disk.{Contents, block, Medium, DiskState, MayLeave, moment, LeftPast, LeftAt, Elapses, Reads, Writes, Forgets, Syncs, Lengthens}
+use Rattle.vm_disk.specs.Disk.{Contents, block, Medium, DiskState, IsClean, MayLeave, moment, Elapses, Reads, Writes, Forgets, Syncs, Lengthens}
+use Rattle.vm_disk.specs.Following.{HeldPast, HeldAt, IsUnder, IsMeanwhile}
 use Rattle.vm_disk.specs.Moments.{Throughout, Leaves, TouchesOnly, in_run, WritesRun}
-use Rattle.vm_disk.specs.Laid.{Held, over, laid_contents, laid_length, laid, TouchesDirty, Rest, Covers, IsCovered, time_at, IsMeanwhile}
+use Rattle.vm_disk.specs.Laid.{Held, over, laid_contents, laid_length, laid, TouchesDirty, Rest, Covers, IsCovered, time_at, rests_before}
 use Rattle.vm_disk.proofs.KeptLemmas.{by_answer, cond_yes, cond_no}
-use Rattle.vm_disk.proofs.MomentLemmas.{leaves_only, past_stays, left_before, moment_rises, weaken, started, write_on, spares_itself, at_end}
+use Rattle.vm_disk.proofs.MomentLemmas.{clean_sure, moment_rises, weaken, started, write_on, spares_itself, at_end}
+use Rattle.vm_disk.proofs.FollowingLemmas.{held_before, held_only, held_stays}
 
 abbrev medium : (contents : Contents) (dirty : ℕ → Bool) (sure : ℕ) → sure ≤ length contents → ((n : ℕ) → sure ≤ n → n < length contents → dirty n ≡ true) → Medium
 medium contents dirty sure within unsure = record { contents = contents; dirty = dirty; sure = sure; within = within; unsure = unsure }
@@ -249,6 +251,14 @@ unsynced (Ok x) old new failed same past = cc
 unsynced (Err e) old new failed same past =
     record { synced = tt; failed = same; same = ap (λ m. m.contents) same; sure = tt; time = record { step = inl past } }
 
+-- a block that does not wait is shown as it stands below
+bare : (held : Held) (m : Medium) (n : ℕ) → is_some (held n) ≡ false → block (laid_contents held m.contents) n ≡ block m.contents n
+bare held m n gone = by_order (cases_lt n (length m.contents))
+  where
+    by_order : (n < length m.contents) ⊎ (length m.contents ≤ n) → block (laid_contents held m.contents) n ≡ block m.contents n
+    by_order (inl inside) = laid_block held m.contents n inside ∙ ap (λ o. over o (block m.contents n)) (none_waits (held n) gone)
+    by_order (inr past) = laid_past held m.contents n past ∙ sym (get_or_past m.contents n [] past)
+
 -- what a crash leaves where just dirty blocks were touched, it may leave above
 touched_leaves : (held : Held) (m m' : Medium) → TouchesOnly (laid held m).dirty m m' → Leaves (MayLeave (laid held m)) m'
 touched_leaves held m m' spares left may =
@@ -256,30 +266,55 @@ touched_leaves held m m' spares left may =
       least = let few = spares.sure in let more = may.least in omega (arith, few, more);
       most = let count = laid_length held m.contents in let same = spares.count in let most = may.most in omega (arith, count, same, most);
       clean = λ n out.
-          let parts = or_parts (m.dirty n) (is_some (held n)) out in may.clean n (spares.clean n out parts.0) ∙ spares.same n out ∙ sym (bare n parts.1);
+          let parts = or_parts (m.dirty n) (is_some (held n)) out in may.clean n (spares.clean n out parts.0) ∙ spares.same n out ∙ sym (bare held m n parts.1);
     }
-  where
-    bare : (n : ℕ) → is_some (held n) ≡ false → block (laid_contents held m.contents) n ≡ block m.contents n
-    bare n gone = by_order (cases_lt n (length m.contents))
-      where
-        by_order : (n < length m.contents) ⊎ (length m.contents ≤ n) → block (laid_contents held m.contents) n ≡ block m.contents n
-        by_order (inl inside) = laid_block held m.contents n inside ∙ ap (λ o. over o (block m.contents n)) (none_waits (held n) gone)
-        by_order (inr past) = laid_past held m.contents n past ∙ sym (get_or_past m.contents n [] past)
 
--- what a disk may have left before its last call, it may leave after it
-left_earlier : (old new : DiskState) (t : ℕ) (left : Contents) → Elapses old new → (t < moment new) ⊎ (moment new ≤ moment old) → LeftAt new t left → LeftAt old t left
-left_earlier old new t left time early at = by_step time.step
+-- media that are clean are the same where their contents are
+pub clean_same : (m m' : Medium) → m.contents ≡ m'.contents → IsClean m → IsClean m' → m ≡ m'
+clean_same m m' same clean clean' =
+    same_medium _ _ _ _ _ _ _ _ _ _ same (fun_ext (λ n. clean n ∙ sym (clean' n)))
+    (clean_sure m clean ∙ ap (λ (c : Contents). length c) same ∙ sym (clean_sure m' clean'))
+
+-- where just dirty blocks were touched, it is under what stands above
+pub touched_under : (held : Held) (m m' : Medium) → TouchesOnly (laid held m).dirty m m' → IsUnder (laid held m) m'
+touched_under held m m' spares =
+    record {
+      left = touched_leaves held m m' spares;
+      clean = λ all.
+          clean_same m' (laid held m)
+          (ext_get_or [] m'.contents (laid_contents held m.contents) (spares.count ∙ sym (laid_length held m.contents))
+          (λ n inside. spares.same n (all n) ∙ sym (bare held m n (or_parts (m.dirty n) (is_some (held n)) (all n)).1)))
+          (λ n. spares.clean n (all n) (or_parts (m.dirty n) (is_some (held n)) (all n)).0)
+          all;
+    }
+
+-- where no block waits, what is shown is what stands below
+pub laid_none : (held : Held) (m : Medium) → ((n : ℕ) → held n ≡ None) → laid held m ≡ m
+laid_none held m none =
+    same_medium _ _ _ _ _ _ _ _ _ _
+    (ext_get_or [] (laid_contents held m.contents) m.contents (laid_length held m.contents)
+    (λ n inside. bare held m n (ap (λ o. is_some o) (none n))))
+    (fun_ext (λ n. by_dirt n (m.dirty n) (is_some (held n)) (ap (λ o. is_some o) (none n))))
+    refl
   where
-    by_past : new.past ≡ old.now ∷ old.past → (t < moment new) ⊎ (moment new ≤ moment old) → LeftAt new t left → LeftAt old t left
+    by_dirt : (n : ℕ) (d w : Bool) → w ≡ false → (d || w) ≡ d
+    by_dirt n true w none = refl
+    by_dirt n false w none = none
+
+-- what a disk held before its last call, it held after it
+held_earlier : (old new : DiskState) (t : ℕ) (m : Medium) → Elapses old new → (t < moment new) ⊎ (moment new ≤ moment old) → HeldAt new t m → HeldAt old t m
+held_earlier old new t m time early at = by_step time.step
+  where
+    by_past : new.past ≡ old.now ∷ old.past → (t < moment new) ⊎ (moment new ≤ moment old) → HeldAt new t m → HeldAt old t m
     by_past past (inl before) (inl now) = let same : t ≡ length new.past = now.0 in absurd (omega arith)
-    by_past past (inl before) (inr past_one) = let R : List Medium → Type 0 = λ ms. LeftPast ms t left in subst R past past_one
+    by_past past (inl before) (inr past_one) = let R : List Medium → Type 0 = λ ms. HeldPast ms t m in subst R past past_one
     by_past past (inr still) now = let longer : length new.past ≡ length (old.now ∷ old.past) = ap (λ (ms : List Medium). length ms) past in absurd (omega (arith, longer))
 
-    by_step : (new.past ≡ old.now ∷ old.past) ⊎ ((new.past ≡ old.past) × (new.now ≡ old.now)) → LeftAt old t left
+    by_step : (new.past ≡ old.now ∷ old.past) ⊎ ((new.past ≡ old.past) × (new.now ≡ old.now)) → HeldAt old t m
     by_step (inl past) = by_past past early at
     by_step (inr same) =
-        let R : List Medium → Type 0 = λ ms. LeftPast (new.now ∷ ms) t left in
-        let S : Medium → Type 0 = λ m. LeftPast (m ∷ old.past) t left in subst S same.1 (subst R same.0 at)
+        let R : List Medium → Type 0 = λ ms. HeldPast (new.now ∷ ms) t m in
+        let S : Medium → Type 0 = λ n. HeldPast (n ∷ old.past) t m in subst S same.1 (subst R same.0 at)
 
 moment_after : (old new : DiskState) → Elapses old new → moment old ≤ moment new
 moment_after old new time = by_step time.step
@@ -295,7 +330,8 @@ some_equal a b same = cc
 pub covered_after : (held : Held) (lower lower' : DiskState) (medium : Medium) (rests : List Rest)
     → IsCovered lower (record { time = moment lower; medium = laid held lower.now }) rests → TouchesDirty (laid held lower.now) lower lower'
     → IsCovered lower' (record { time = moment lower'; medium = medium }) (record { time = moment lower; medium = laid held lower.now } ∷ rests)
-covered_after held lower lower' medium rests so_far apart = by_number
+covered_after held lower lower' medium rests so_far apart =
+    record { first = cond_no _ _ (ne_eqb 0 (length (record { time = moment lower; medium = laid held lower.now } ∷ rests)) (λ same. omega (arith, same))) ∙ so_far.first; each = by_number }
   where
     mid : DiskState
     mid = apart.before_last
@@ -314,11 +350,10 @@ covered_after held lower lower' medium rests so_far apart = by_number
         record {
           past = omega arith;
           rising = omega (arith, before, after);
-          left = λ t left from until at.
-              let P : Contents → Type 0 = MayLeave (laid held lower.now) in
-              leaves_only lower apart.before_last P
-              (weaken lower apart.before_last (TouchesOnly (laid held lower.now).dirty lower.now) (Leaves P) (λ m spares. touched_leaves held lower.now m spares) apart.touches)
-              t left from (left_earlier apart.before_last lower' t left apart.last (early t from until) at);
+          under = λ t m from until at.
+              held_only lower apart.before_last (IsUnder (laid held lower.now))
+              (weaken lower apart.before_last (TouchesOnly (laid held lower.now).dirty lower.now) (IsUnder (laid held lower.now)) (λ m spares. touched_under held lower.now m spares) apart.touches)
+              t m from (held_earlier apart.before_last lower' t m apart.last (early t from until) at);
         }
       where
         early : (t : ℕ) → moment lower ≤ t → t < max (moment lower') (moment lower + 1) → (t < moment lower') ⊎ (moment lower' ≤ moment apart.before_last)
@@ -333,10 +368,10 @@ covered_after held lower lower' medium rests so_far apart = by_number
         record {
           past = let some = covers.past in omega (arith, some, before, after);
           rising = covers.rising;
-          left = λ t left from until at.
-              covers.left t left from until
-              (past_stays lower apart.before_last (TouchesOnly (laid held lower.now).dirty lower.now) apart.touches t left (low t until)
-              (left_earlier apart.before_last lower' t left apart.last (early t until) at));
+          under = λ t m from until at.
+              covers.under t m from until
+              (held_stays lower apart.before_last (TouchesOnly (laid held lower.now).dirty lower.now) apart.touches t m (low t until)
+              (held_earlier apart.before_last lower' t m apart.last (early t until) at));
         }
       where
         low : (t : ℕ) → t < max next.time (rest.time + 1) → t ≤ moment lower
@@ -357,80 +392,166 @@ covered_after held lower lower' medium rests so_far apart = by_number
         let R : Rest → Type 0 = λ r. Covers lower' r next in
         let S : Rest → Type 0 = λ r. Covers lower' (record { time = moment lower; medium = laid held lower.now }) r in
         subst R first (subst S second newest)
-    by_number (suc i) rest next here there = earlier rest next (so_far i rest next here there)
+    by_number (suc i) rest next here there = earlier rest next (so_far.each i rest next here there)
 
--- what a crash leaves, it may leave above
-laid_leaves : (held : Held) (m : Medium) (left : Contents) → MayLeave m left → MayLeave (laid held m) left
-laid_leaves held m left may = touched_leaves held m m (spares_itself (laid held m).dirty m) left may
+-- one of these media was held at moment k, and this one is under it
+abbrev pub UnderPast : List Medium → ℕ → Medium → Type 0
+UnderPast ms k m = (held : Medium) × HeldPast ms k held × IsUnder held m
+
+-- each of these moments above is covered up to the next
+abbrev AreCovered : DiskState → Rest → List Rest → Type 0
+AreCovered lower now rests = (i : ℕ) (rest next : Rest) → slice_get rests i ≡ Some rest → slice_get (now ∷ rests) i ≡ Some next → Covers lower rest next
+
+-- the last of them, or one before it
+less_than : (k n : ℕ) → k < n + 1 → nat_eq k n ≡ false → k < n
+less_than k n few other = by_order (cases_lt k n)
+  where
+    by_order : (k < n) ⊎ (n ≤ k) → k < n
+    by_order (inl less) = less
+    by_order (inr more) = let same : k ≡ n = omega (arith, few, more) in let clash : true ≡ false = sym (eq-eqb k n same) ∙ other in cc
+
+-- the moment below at the last moment above, and at an earlier one
+pub time_newest : (rest : Rest) (rests : List Rest) (k : ℕ) → k ≡ length rests → time_at (rest ∷ rests) k ≡ rest.time
+time_newest rest rests k same = cond_yes _ _ (eq-eqb k (length rests) same)
+
+time_earlier : (rest : Rest) (rests : List Rest) (k : ℕ) → k < length rests → time_at (rest ∷ rests) k ≡ time_at rests k
+time_earlier rest rests k less = cond_no _ _ (ne_eqb k (length rests) (λ same. omega (arith, same, less)))
+
+-- the moments below never fall
+pub time_rises : (lower : DiskState) (next : Rest) (rests : List Rest) → AreCovered lower next rests → (k : ℕ) → k < length rests
+    → time_at (next ∷ rests) k ≤ time_at (next ∷ rests) (k + 1)
+time_rises lower next [] covered k there = absurd (omega (arith, there))
+time_rises lower next (rest ∷ rests) covered k there = by_answer (nat_eq k (length rests)) newest
+    (λ other. earlier (less_than k (length rests) (omega (arith, there)) other) (time_rises lower rest rests (λ i. covered (suc i)) k))
+  where
+    here : time_at (next ∷ rest ∷ rests) k ≡ time_at (rest ∷ rests) k
+    here = time_earlier next (rest ∷ rests) k there
+
+    newest : nat_eq k (length rests) ≡ true → time_at (next ∷ rest ∷ rests) k ≤ time_at (next ∷ rest ∷ rests) (k + 1)
+    newest last =
+        let same = eqb-true k (length rests) last in
+        let at = time_newest rest rests k same in
+        let then_at = time_newest next (rest ∷ rests) (k + 1) (omega (arith, same)) in
+        let rising = (covered 0 rest next refl refl).rising in omega (arith, here, at, then_at, rising)
+
+    earlier : k < length rests → (k < length rests → time_at (rest ∷ rests) k ≤ time_at (rest ∷ rests) (k + 1)) → time_at (next ∷ rest ∷ rests) k ≤ time_at (next ∷ rest ∷ rests) (k + 1)
+    earlier less again =
+        let then_at = time_earlier next (rest ∷ rests) (k + 1) (omega (arith, less)) in
+        let rising = again less in omega (arith, here, then_at, rising)
 
 -- at a moment that is past, or on the way to the next
-meanwhile_past : (lower : DiskState) (next : Rest) (rests : List Rest) → IsCovered lower next rests → (k t : ℕ) (left : Contents) → k < length rests
-    → IsMeanwhile (next ∷ rests) k t → LeftAt lower t left → LeftPast (map (λ rest. rest.medium) rests) k left
-meanwhile_past lower next [] covered k t left there meanwhile at = absurd (omega (arith, there))
-meanwhile_past lower next (rest ∷ rests) covered k t left there meanwhile at = by_answer (nat_eq k (length rests)) newest
-    (earlier (λ less again. meanwhile_past lower rest rests (λ i. covered (suc i)) k t left less again at))
+meanwhile_past : (lower : DiskState) (next : Rest) (rests : List Rest) → AreCovered lower next rests → (k t : ℕ) (m : Medium) → k < length rests
+    → IsMeanwhile (time_at (next ∷ rests)) k t → HeldAt lower t m → UnderPast (map (λ rest. rest.medium) rests) k m
+meanwhile_past lower next [] covered k t m there meanwhile at = absurd (omega (arith, there))
+meanwhile_past lower next (rest ∷ rests) covered k t m there meanwhile at = by_answer (nat_eq k (length rests)) newest
+    (λ other. earlier (less_than k (length rests) (omega (arith, there)) other) (λ less again. meanwhile_past lower rest rests (λ i. covered (suc i)) k t m less again at))
   where
-    apart : nat_eq k (length (rest ∷ rests)) ≡ false
-    apart = ne_eqb k (length (rest ∷ rests)) (λ same. (let clash = there in omega (arith, same, clash)))
+    here : time_at (next ∷ rest ∷ rests) k ≡ time_at (rest ∷ rests) k
+    here = time_earlier next (rest ∷ rests) k there
 
     from : time_at (rest ∷ rests) k ≤ t
-    from = let R : ℕ → Type 0 = λ time. time ≤ t in subst R (cond_no _ _ apart) meanwhile.from
+    from = let some = meanwhile.from in omega (arith, some, here)
 
-    newest : nat_eq k (length rests) ≡ true → LeftPast (map (λ rest. rest.medium) (rest ∷ rests)) k left
-    newest here = inl (eqb-true k (length rests) here ∙ sym (length-map rests (λ rest. rest.medium)), (covered 0 rest next refl refl).left t left begun (until meanwhile.until) at)
+    newest : nat_eq k (length rests) ≡ true → UnderPast (map (λ rest. rest.medium) (rest ∷ rests)) k m
+    newest last = (rest.medium, inl (same ∙ sym (length-map rests (λ rest. rest.medium)), refl), (covered 0 rest next refl refl).under t m begun (until meanwhile.until) at)
       where
+        same : k ≡ length rests
+        same = eqb-true k (length rests) last
+
         time : time_at (rest ∷ rests) k ≡ rest.time
-        time = cond_yes _ _ here
+        time = time_newest rest rests k same
 
         begun : rest.time ≤ t
         begun = omega (arith, from, time)
 
         following : time_at (next ∷ rest ∷ rests) (k + 1) ≡ next.time
-        following = cond_yes _ _ (eq-eqb (k + 1) (length (rest ∷ rests)) (let same = eqb-true k (length rests) here in omega (arith, same)))
+        following = time_newest next (rest ∷ rests) (k + 1) (omega (arith, same))
 
         until : (t ≡ time_at (next ∷ rest ∷ rests) k) ⊎ (t < time_at (next ∷ rest ∷ rests) (k + 1)) → t < max next.time (rest.time + 1)
-        until (inl same) = let is : time_at (next ∷ rest ∷ rests) k ≡ time_at (rest ∷ rests) k = cond_no _ _ apart in omega (arith, same, is, time)
+        until (inl is) = omega (arith, is, here, time)
         until (inr less) = omega (arith, less, following)
 
-    earlier : (k < length rests → IsMeanwhile (rest ∷ rests) k t → LeftPast (map (λ rest. rest.medium) rests) k left)
-        → nat_eq k (length rests) ≡ false → LeftPast (map (λ rest. rest.medium) (rest ∷ rests)) k left
-    earlier below other = inr (below less (record { there = omega (arith, less); from = from; until = until meanwhile.until }))
+    earlier : k < length rests → (k < length rests → IsMeanwhile (time_at (rest ∷ rests)) k t → UnderPast (map (λ rest. rest.medium) rests) k m)
+        → UnderPast (map (λ rest. rest.medium) (rest ∷ rests)) k m
+    earlier less below = let found = below less (record { from = from; until = until meanwhile.until }) in (found.0, inr found.1, found.2)
       where
-        less : k < length rests
-        less = by_order (cases_lt k (length rests))
-          where
-            by_order : (k < length rests) ⊎ (length rests ≤ k) → k < length rests
-            by_order (inl less) = less
-            by_order (inr more) = let same : k ≡ length rests = omega (arith, there, more) in let clash : true ≡ false = sym (eq-eqb k (length rests) same) ∙ other in cc
-
         until : (t ≡ time_at (next ∷ rest ∷ rests) k) ⊎ (t < time_at (next ∷ rest ∷ rests) (k + 1)) → (t ≡ time_at (rest ∷ rests) k) ⊎ (t < time_at (rest ∷ rests) (k + 1))
-        until (inl same) = inl (same ∙ cond_no _ _ apart)
-        until (inr before) =
-            let not_last : nat_eq (k + 1) (length (rest ∷ rests)) ≡ false = ne_eqb (k + 1) (length (rest ∷ rests)) (λ same. omega (arith, same, less)) in
-            let R : ℕ → Type 0 = λ time. t < time in inr (subst R (cond_no _ _ not_last) before)
+        until (inl is) = inl (is ∙ here)
+        until (inr before) = let R : ℕ → Type 0 = λ time. t < time in inr (subst R (time_earlier next (rest ∷ rests) (k + 1) (omega (arith, less))) before)
 
 -- at any moment, or on the way to the next
-pub left_meanwhile : (held : Held) (lower : DiskState) (rests : List Rest) → IsCovered lower (record { time = moment lower; medium = laid held lower.now }) rests
-    → (k t : ℕ) (left : Contents) → IsMeanwhile (record { time = moment lower; medium = laid held lower.now } ∷ rests) k t → LeftAt lower t left
-    → LeftPast (laid held lower.now ∷ map (λ rest. rest.medium) rests) k left
-left_meanwhile held lower rests covered k t left meanwhile at = by_answer (nat_eq k (length rests)) present past
+pub under_meanwhile : (held : Held) (lower : DiskState) (rests : List Rest) → AreCovered lower (record { time = moment lower; medium = laid held lower.now }) rests
+    → (k t : ℕ) (m : Medium) → k ≤ length rests → IsMeanwhile (time_at (record { time = moment lower; medium = laid held lower.now } ∷ rests)) k t → HeldAt lower t m
+    → UnderPast (laid held lower.now ∷ map (λ rest. rest.medium) rests) k m
+under_meanwhile held lower rests covered k t m within meanwhile at = by_answer (nat_eq k (length rests)) present past
   where
-    past : nat_eq k (length rests) ≡ false → LeftPast (laid held lower.now ∷ map (λ rest. rest.medium) rests) k left
-    past other = inr (meanwhile_past lower _ rests covered k t left (by_order (cases_lt k (length rests))) meanwhile at)
-      where
-        by_order : (k < length rests) ⊎ (length rests ≤ k) → k < length rests
-        by_order (inl less) = less
-        by_order (inr more) = let few = meanwhile.there in let same : k ≡ length rests = omega (arith, few, more) in let clash : true ≡ false = sym (eq-eqb k (length rests) same) ∙ other in cc
+    past : nat_eq k (length rests) ≡ false → UnderPast (laid held lower.now ∷ map (λ rest. rest.medium) rests) k m
+    past other = let found = meanwhile_past lower (record { time = moment lower; medium = laid held lower.now }) rests covered k t m (less_than k (length rests) (omega (arith, within)) other) meanwhile at in (found.0, inr found.1, found.2)
 
-    present : nat_eq k (length rests) ≡ true → LeftPast (laid held lower.now ∷ map (λ rest. rest.medium) rests) k left
-    present here = inl (eqb-true k (length rests) here ∙ sym (length-map rests (λ rest. rest.medium)), laid_leaves held lower.now left (now at))
+    present : nat_eq k (length rests) ≡ true → UnderPast (laid held lower.now ∷ map (λ rest. rest.medium) rests) k m
+    present here = (laid held lower.now, inl (same ∙ sym (length-map rests (λ rest. rest.medium)), refl), now at)
       where
+        same : k ≡ length rests
+        same = eqb-true k (length rests) here
+
         time : moment lower ≤ t
-        time = let R : ℕ → Type 0 = λ time. time ≤ t in subst R (cond_yes _ _ here) meanwhile.from
+        time = let R : ℕ → Type 0 = λ time. time ≤ t in subst R (time_newest (record { time = moment lower; medium = laid held lower.now }) rests k same) meanwhile.from
 
-        now : LeftAt lower t left → MayLeave lower.now left
-        now (inl may) = may.1
-        now (inr earlier) = let before = left_before lower.past t left earlier in absurd (omega (arith, before, time))
+        now : HeldAt lower t m → IsUnder (laid held lower.now) m
+        now (inl is) =
+            let R : Medium → Type 0 = IsUnder (laid held lower.now) in
+            subst R (sym is.1) (touched_under held lower.now lower.now (spares_itself (laid held lower.now).dirty lower.now))
+        now (inr earlier) = let before = held_before lower.past t m earlier in absurd (omega (arith, before, time))
+
+-- ---- the moments before a late disk was made
+
+-- their media
+pub media_before : (ms : List Medium) → map (λ rest. rest.medium) (rests_before ms) ≡ ms
+media_before [] = refl
+media_before (m ∷ ms) = ap (λ (earlier : List Medium). m ∷ earlier) (media_before ms)
+
+-- the first one is the first one below
+first_before : (ms : List Medium) (next : Rest) → next.time ≡ length ms → time_at (next ∷ rests_before ms) 0 ≡ 0
+first_before [] next time = time
+first_before (m ∷ ms) next time =
+    cond_no _ _ (ne_eqb 0 (length (rests_before (m ∷ ms))) (λ same. omega (arith, same))) ∙ first_before ms (record { time = length ms; medium = m }) refl
+
+-- each is under itself
+each_before : (lower : DiskState) (ms : List Medium) (next : Rest) → next.time ≡ length ms → length ms ≤ moment lower
+    → ((t : ℕ) (m : Medium) → t < length ms → HeldAt lower t m → HeldPast ms t m) → AreCovered lower next (rests_before ms)
+each_before lower [] next time within kept i rest after here there = cc
+each_before lower (m ∷ ms) next time within kept zero rest after here there =
+    let first : record { time = length ms; medium = m } ≡ rest = some_equal _ _ here in
+    let second : next ≡ after = some_equal _ _ there in
+    let R : Rest → Type 0 = λ r. Covers lower r after in
+    let S : Rest → Type 0 = λ r. Covers lower (record { time = length ms; medium = m }) r in
+    subst R first (subst S second (record {
+      past = omega (arith, time, within);
+      rising = omega (arith, time);
+      under = λ t n from until at. by_moment t n (omega (arith, until, time)) from (kept t n (omega (arith, until, time)) at);
+    }))
+  where
+    by_moment : (t : ℕ) (n : Medium) → t ≤ length ms → length ms ≤ t → HeldPast (m ∷ ms) t n → IsUnder m n
+    by_moment t n few many (inl is) = let R : Medium → Type 0 = IsUnder m in subst R (sym is.1) (record { left = λ left may. may; clean = λ clean. refl })
+    by_moment t n few many (inr earlier) = let before = held_before ms t n earlier in absurd (omega (arith, before, many))
+each_before lower (m ∷ ms) next time within kept (suc i) rest after here there =
+    each_before lower ms (record { time = length ms; medium = m }) refl (omega (arith, within)) (λ t n less at. by_moment t n less (kept t n (omega (arith, less)) at)) i rest after here there
+  where
+    by_moment : (t : ℕ) (n : Medium) → t < length ms → HeldPast (m ∷ ms) t n → HeldPast ms t n
+    by_moment t n less (inl is) = let same = is.0 in absurd (omega (arith, same, less))
+    by_moment t n less (inr earlier) = earlier
+
+-- so they are covered where it was made
+pub covered_before : (lower : DiskState) (medium : Medium) → IsCovered lower (record { time = moment lower; medium = medium }) (rests_before lower.past)
+covered_before lower medium =
+    record {
+      first = first_before lower.past (record { time = moment lower; medium = medium }) refl;
+      each = each_before lower lower.past (record { time = moment lower; medium = medium }) refl (omega arith) by_moment;
+    }
+  where
+    by_moment : (t : ℕ) (m : Medium) → t < moment lower → HeldAt lower t m → HeldPast lower.past t m
+    by_moment t m less (inl is) = let same = is.0 in absurd (omega (arith, same, less))
+    by_moment t m less (inr earlier) = earlier
 
 -- a block was forgotten, and waits no longer
 pub forgotten_under : (held held' : Held) (lower lower' : DiskState) (n : ℕ) (old new : DiskState)

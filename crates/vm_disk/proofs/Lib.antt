@@ -1,4 +1,5 @@
 pub mod FillLemmas
+pub mod FollowingLemmas
 pub mod GoesLemmas
 pub mod MomentLemmas
 pub mod RunLemmas

@@ -1,9 +1,10 @@
 -- What a `DelayedDisk` shows.
-use Rattle.std.specs.Prelude.{◌≡◌, ℕ, List, [], ◌∷◌, length, map, Option, None}
+use Rattle.std.specs.Prelude.{◌≡◌, ◌++◌, ℕ, List, length, map, Option, None}
 use Rattle.std.proofs.Common.{◌∙◌}
 use Rattle.vm_disk.specs.declared.delayed.DelayedDisk.{DelayedDisk}
-use Rattle.vm_disk.specs.Disk.{Contents, DiskState, LeftAt}
-use Rattle.vm_disk.specs.Laid.{laid_length, Rest, IsMeanwhile}
+use Rattle.vm_disk.specs.Disk.{DiskState}
+use Rattle.vm_disk.specs.Following.{Follows}
+use Rattle.vm_disk.specs.Laid.{laid_length, Rest, rests_before}
 use Rattle.vm_disk.specs.Waiting.{bytes_for, limit_of}
 use Rattle.vm_disk.specs.Layers.{lower_of, waiting_of, medium_of, rest_of}
 use Rattle.vm_disk.specs.Past.{noted}
@@ -17,7 +18,7 @@ module _ {D : Type 0} {members : _} where
   abbrev pub waiting_for : DelayedDisk D members → ℕ → Option (List ℕ)
   waiting_for delayed n = bytes_for (waiting_of delayed.layers) n
 
-  -- it counts its own reads and moments, and holds what the disk below does, with the waiting blocks over it
+  -- it counts its own reads, and its own moments after those of the disk that it was made over; it holds what the disk below does, with the waiting blocks over it
   abbrev pub delayed_state : (D → DiskState) → DelayedDisk D members → DiskState
   delayed_state state delayed =
       let below = state (inner_of delayed) in record {
@@ -26,26 +27,26 @@ module _ {D : Type 0} {members : _} where
         reads = length (noted delayed.reads);
         failures = below.failures;
         now = medium_of state delayed.layers;
-        past = map (medium_of state) (noted delayed.past);
+        past = map (medium_of state) (noted delayed.past) ++ (state delayed.first.value).past;
       }
 
   -- it holds as many blocks as the disk below
   pub delayed_whole : (state : D → DiskState) (delayed : DelayedDisk D members) → length (state (inner_of delayed)).now.contents ≡ (state (inner_of delayed)).blocks → length (delayed_state state delayed).now.contents ≡ (delayed_state state delayed).blocks
   delayed_whole state delayed whole = laid_length (waiting_for delayed) (state (inner_of delayed)).now.contents ∙ whole
 
-  -- just made over this disk: no block waits yet, and no call was made of it
+  -- just made over this disk: no block waits yet, no call was made of it, and it holds and held what the disk does and did
   pub record IsIdleOver (state : D → DiskState) (disk : D) (limit : ℕ) (delayed : DelayedDisk D members) : Type 0 where
     pub inner : inner_of delayed ≡ disk
     pub capacity : limit_of (waiting_of delayed.layers) ≡ limit
     pub waiting : (n : ℕ) → waiting_for delayed n ≡ None
     pub reads : (delayed_state state delayed).reads ≡ 0
-    pub past : (delayed_state state delayed).past ≡ []
+    pub now : (delayed_state state delayed).now ≡ (state disk).now
+    pub past : (delayed_state state delayed).past ≡ (state disk).past
 
-  -- what it was at each moment, the newest first
+  -- what it was at each moment before this one, the newest first
   abbrev pub rests_of : (D → DiskState) → DelayedDisk D members → List Rest
-  rests_of state delayed = rest_of state delayed.layers ∷ map (rest_of state) (noted delayed.past)
+  rests_of state delayed = map (rest_of state) (noted delayed.past) ++ rests_before (state delayed.first.value).past
 
-  -- a crash of the disk below, at moment k above or on the way to the next, leaves what one at moment k may leave
-  abbrev pub LeavesBelow : (D → DiskState) → DelayedDisk D members → Type 0
-  LeavesBelow state delayed =
-      (k t : ℕ) (left : Contents) → IsMeanwhile (rests_of state delayed) k t → LeftAt (state (inner_of delayed)) t left → LeftAt (delayed_state state delayed) k left
+  -- the disk below follows it
+  abbrev pub FollowsBelow : (D → DiskState) → DelayedDisk D members → Type 0
+  FollowsBelow state delayed = Follows (delayed_state state delayed) (state (inner_of delayed))

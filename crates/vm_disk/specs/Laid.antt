@@ -4,7 +4,8 @@ use Rattle.std.specs.List.{range_with_len}
 use Rattle.std.proofs.Common.{sym, subst}
 use Rattle.std.proofs.lemmas.Bool.{or_left}
 use Rattle.std.proofs.lemmas.List.FromFn.{length-map-range_with_len}
-use Rattle.vm_disk.specs.Disk.{Contents, block, Medium, DiskState, MayLeave, moment, LeftAt, Elapses}
+use Rattle.vm_disk.specs.Disk.{Contents, block, Medium, DiskState, moment, Elapses}
+use Rattle.vm_disk.specs.Following.{HeldAt, IsUnder}
 use Rattle.vm_disk.specs.Moments.{Throughout, TouchesOnly}
 
 -- the bytes that wait for each block, if it waits
@@ -55,23 +56,23 @@ pub record Rest : Type 0 where
   pub time : ℕ
   pub medium : Medium
 
--- from one moment above on, and up to the next, a crash below leaves what a crash at that one may leave
+-- from one moment above on, and up to the next, the disk below is under what was held then
 pub record Covers (lower : DiskState) (rest next : Rest) : Type 0 where
   pub past : next.time ≤ moment lower
   pub rising : rest.time ≤ next.time
-  pub left : (t : ℕ) (left : Contents) → rest.time ≤ t → t < max next.time (rest.time + 1) → LeftAt lower t left → MayLeave rest.medium left
-
--- so it is from each moment above, the newest first, up to the present
-abbrev pub IsCovered : DiskState → Rest → List Rest → Type 0
-IsCovered lower now rests = (i : ℕ) (rest next : Rest) → slice_get rests i ≡ Some rest → slice_get (now ∷ rests) i ≡ Some next → Covers lower rest next
+  pub under : (t : ℕ) (m : Medium) → rest.time ≤ t → t < max next.time (rest.time + 1) → HeldAt lower t m → IsUnder rest.medium m
 
 -- the moment of the disk below at moment k above
 abbrev pub time_at : List Rest → ℕ → ℕ
 time_at [] k = 0
 time_at (rest ∷ earlier) k = if nat_eq k (length earlier) then rest.time else time_at earlier k
 
--- at its moment t the disk below is as at moment k above, or on the way to the next
-pub record IsMeanwhile (rests : List Rest) (k t : ℕ) : Type 0 where
-  pub there : k < length rests
-  pub from : time_at rests k ≤ t
-  pub until : (t ≡ time_at rests k) ⊎ (t < time_at rests (k + 1))
+-- so it is from each moment above, the newest first, up to the present, and the first moment above was the first one below
+pub record IsCovered (lower : DiskState) (now : Rest) (rests : List Rest) : Type 0 where
+  pub first : time_at (now ∷ rests) 0 ≡ 0
+  pub each : (i : ℕ) (rest next : Rest) → slice_get rests i ≡ Some rest → slice_get (now ∷ rests) i ≡ Some next → Covers lower rest next
+
+-- the moments before a late disk was made are those of the disk below
+abbrev pub rests_before : List Medium → List Rest
+rests_before [] = []
+rests_before (m ∷ earlier) = record { time = length earlier; medium = m } ∷ rests_before earlier

@@ -1,6 +1,7 @@
 pub mod Disk
 pub mod Past
 pub mod Memory
+pub mod Following
 pub mod Fuse
 pub mod Kept
 pub mod Cached

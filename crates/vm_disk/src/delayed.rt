@@ -1,8 +1,8 @@
 //! A disk that writes late.
-ghost use Rattle.std.specs.Prelude.{◌≡◌, ◌<◌, ◌≤◌, true, IfOk, IfErr, map};
+ghost use Rattle.std.specs.Prelude.{◌≡◌, ◌<◌, ◌≤◌, ◌++◌, true, IfOk, IfErr, map};
 ghost use Rattle.vm_disk.specs.Past.{noted};
 ghost use Rattle.vm_disk.specs.Disk.{Counts, Reads, Writes, Syncs, Extends, Enlarges};
-ghost use Rattle.vm_disk.specs.Laid.{IsCovered};
+ghost use Rattle.vm_disk.specs.Laid.{IsCovered, rests_before};
 ghost use Rattle.vm_disk.specs.Layers.{lower_of, rest_of};
 
 use crate::disk::{DeviceFault, Disk};
@@ -10,6 +10,7 @@ use crate::history::History;
 use crate::layers::Layers;
 use std::alloc::Global;
 use std::num::NonZeroUsize;
+use std::snapshot::Snapshot;
 
 /// Has written blocks wait, and writes them to the disk below at a sync, or where too many would wait:
 /// then the one goes out whose last write is the longest ago, with those that wait right before and
@@ -23,13 +24,14 @@ pub struct DelayedDisk<D: Disk> {
     layers: Layers<D>,
     past: History<Layers<D>>,
     reads: History<()>,
+    first: Snapshot<D>,
     ghost covered: { (D.state (lower_of layers)).honest ≡ true
         → IsCovered (D.state (lower_of layers)) (rest_of D.state layers)
-        (map (rest_of D.state) (noted past)) },
+        (map (rest_of D.state) (noted past) ++ rests_before (D.state first.value).past) },
 }
 
 impl<D: Disk> DelayedDisk<D> {
-    ghost use Rattle.vm_disk.specs.Delayed.{inner_of, delayed_state, IsIdleOver, LeavesBelow};
+    ghost use Rattle.vm_disk.specs.Delayed.{inner_of, delayed_state, IsIdleOver, FollowsBelow};
 
     /// Has up to `capacity` blocks wait. Takes memory for the order of all of them; where it is refused,
     /// the disk comes back.
@@ -41,20 +43,23 @@ impl<D: Disk> DelayedDisk<D> {
         let Some(limit) = NonZeroUsize::new(capacity) else {
             return Err(inner);
         };
+        let first = Snapshot::of(&inner);
         match Layers::new(alloc, inner, limit) {
             Ok(layers) => Ok(DelayedDisk {
                 layers,
                 past: History::new(),
                 reads: History::new(),
+                first,
             }),
             Err(inner) => Err(inner),
         }
     }
 
-    /// The disk below, to look at. What a crash of it leaves, one of this disk may leave.
+    /// The disk below, to look at. What a crash of it leaves, one of this disk may leave, at the moment
+    /// that it was at or on the way from; and while no block is dirty here, both hold the same.
     pub fn inner(&self) -> &D
         ensures inner { result.now ≡ inner_of self.now }
-        ensures below { (delayed_state D.state self.now).honest ≡ true → LeavesBelow D.state self.now }
+        ensures below { (delayed_state D.state self.now).honest ≡ true → FollowsBelow D.state self.now }
     {
         &self.layers.inner
     }
@@ -62,7 +67,7 @@ impl<D: Disk> DelayedDisk<D> {
     /// The disk below. The blocks that wait are given up, as by a crash of this disk.
     pub fn into_inner(self) -> D
         ensures inner { result ≡ inner_of self }
-        ensures below { (delayed_state D.state self).honest ≡ true → LeavesBelow D.state self }
+        ensures below { (delayed_state D.state self).honest ≡ true → FollowsBelow D.state self }
     {
         self.layers.inner
     }

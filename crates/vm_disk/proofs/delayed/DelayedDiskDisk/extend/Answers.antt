@@ -3,4 +3,4 @@ use Rattle.vm_disk.proofs.delayed.DelayedDiskDisk.extend.Goals as goal
 
 pub invariant_of-self : goal.invariant_of-self
 invariant_of-self g c =
-    record { covered = λ honest. covered_on g.D.Disk.state c.args.self.now.layers c.extend.new.self _ _ c.note.ensures (c.args.self.now.covered (c.extend.ensures.any.earlier honest)) (c.extend.ensures.below honest) }
+    record { covered = λ honest. covered_on g.D.Disk.state c.args.self.now.layers c.extend.new.self _ _ _ c.note.ensures (c.args.self.now.covered (c.extend.ensures.any.earlier honest)) (c.extend.ensures.below honest) }
