@@ -22,7 +22,7 @@ use Rattle.clap.specs.Faults.{fault_of, level_fault, values_fault}
 use Rattle.clap.specs.declared.builder.value_parser.ValueParser.TheVariants as vp
 use Rattle.clap.specs.declared.builder.value_parser.ValueParser.{ValueParser}
 use Rattle.clap.proofs.ValueTestLemmas.{Accepts-accepts, accepts-Accepts}
-use Rattle.vm_cli.specs.Words.{Wanted, altctl, asked_of, blocks_rule, cache_rule, check_app, create_app, do_app, file_rule, line_rule, number_in, refusal_by, run_app, strict_rule, tree_app}
+use Rattle.vm_cli.specs.Words.{Wanted, altctl, asked_of, blocks_rule, buffer_rule, cache_rule, check_app, create_app, do_app, file_rule, line_rule, number_in, refusal_by, run_app, strict_rule, tree_app}
 use Rattle.vm_cli.specs.Given.{input_of}
 use Rattle.vm_cli.specs.Words.Wanted.{check, create, do_lines, draw, run}
 use Rattle.vm_cli.specs.declared.talk.OnRefusal.TheVariants.{Ignore, Tell}
@@ -132,10 +132,10 @@ create_known : Every (IsKnown create_level.rules) create_level.rules
 create_known = (valued refl (lit< tt) refl refl, (valued refl (lit< tt) refl refl, (help refl refl, tt)))
 
 run_known : Every (IsKnown run_level.rules) run_level.rules
-run_known = (valued refl (lit< tt) refl refl, (valued refl (lit< tt) refl refl, (flag (codes "true") refl refl refl refl, (help refl refl, tt))))
+run_known = (valued refl (lit< tt) refl refl, (valued refl (lit< tt) refl refl, (valued refl (lit< tt) refl refl, (flag (codes "true") refl refl refl refl, (help refl refl, tt)))))
 
 do_known : Every (IsKnown do_level.rules) do_level.rules
-do_known = (valued refl (lit< tt) refl refl, (listed refl (lit< tt) refl refl, (valued refl (lit< tt) refl refl, (flag (codes "true") refl refl refl refl, (help refl refl, tt)))))
+do_known = (valued refl (lit< tt) refl refl, (listed refl (lit< tt) refl refl, (valued refl (lit< tt) refl refl, (valued refl (lit< tt) refl refl, (flag (codes "true") refl refl refl refl, (help refl refl, tt))))))
 
 check_known : Every (IsKnown check_level.rules) check_level.rules
 check_known = (valued refl (lit< tt) refl refl, (help refl refl, tt))
@@ -167,12 +167,15 @@ number_read c a low high rows r small parser case known row found named =
     let number = in_range low high row.first small (accepts-Accepts false (vp.Signed (pos low) (pos high)) row.first accepted) in
     (number.0, rw (one_read rows a.id r row.first found reading row.has) number.1)
 
--- the rules of the two numbers, in their levels
+-- the rules of the numbers, in their levels
 abbrev blocks_place : Rule
 blocks_place = with_index 2 (filled blocks_rule)
 
 abbrev cache_option : Rule
 cache_option = filled cache_rule
+
+abbrev buffer_option : Rule
+buffer_option = filled buffer_rule
 
 create_rows : (rows : List Row) → Every (IsFilled create_level.rules) rows → is_given (codes "file") rows ≡ true → is_given (codes "blocks") rows ≡ true
     → (w : Wanted) × (asked_of (Some (codes "create", rows)) ≡ Some w)
@@ -182,23 +185,27 @@ create_rows rows filled file_given blocks_given =
     let number = number_read create_level.rules blocks_place 64 1048576 rows blocks.0 (lit< tt) refl refl refl blocks.2 blocks.1 blocks.3 in
     (create file.2.first number.0, rw (first_text create_level.rules rows (codes "file") file.0 file.2 file.1, number.1) refl)
 
-run_rows : (rows : List Row) → Every (IsFilled run_level.rules) rows → is_given (codes "file") rows ≡ true → has_row (codes "cache") rows ≡ true
+run_rows : (rows : List Row) → Every (IsFilled run_level.rules) rows → is_given (codes "file") rows ≡ true → has_row (codes "cache") rows ≡ true → has_row (codes "buffer") rows ≡ true
     → (w : Wanted) × (asked_of (Some (codes "run", rows)) ≡ Some w)
-run_rows rows filled file_given cache_held =
+run_rows rows filled file_given cache_held buffer_held =
     let file = given_row run_level run_known refl rows (codes "file") filled file_given in
     let cache = held_row run_level run_known refl rows (codes "cache") filled cache_held in
-    let number = number_read run_level.rules cache_option 0 65536 rows cache.0 (lit< tt) refl refl refl cache.2 cache.1 cache.3 in
-    (run file.2.first number.0 (refusal_by Ignore rows), rw (first_text run_level.rules rows (codes "file") file.0 file.2 file.1, number.1) refl)
+    let stay = number_read run_level.rules cache_option 0 65536 rows cache.0 (lit< tt) refl refl refl cache.2 cache.1 cache.3 in
+    let buffer = held_row run_level run_known refl rows (codes "buffer") filled buffer_held in
+    let wait = number_read run_level.rules buffer_option 0 65536 rows buffer.0 (lit< tt) refl refl refl buffer.2 buffer.1 buffer.3 in
+    (run file.2.first (record { cache = stay.0; buffer = wait.0 }) (refusal_by Ignore rows), rw (first_text run_level.rules rows (codes "file") file.0 file.2 file.1, stay.1, wait.1) refl)
 
-do_rows : (rows : List Row) → Every (IsFilled do_level.rules) rows → is_given (codes "file") rows ≡ true → is_given (codes "line") rows ≡ true → has_row (codes "cache") rows ≡ true
+do_rows : (rows : List Row) → Every (IsFilled do_level.rules) rows → is_given (codes "file") rows ≡ true → is_given (codes "line") rows ≡ true → has_row (codes "cache") rows ≡ true → has_row (codes "buffer") rows ≡ true
     → (w : Wanted) × (asked_of (Some (codes "do", rows)) ≡ Some w)
-do_rows rows filled file_given line_given cache_held =
+do_rows rows filled file_given line_given cache_held buffer_held =
     let file = given_row do_level do_known refl rows (codes "file") filled file_given in
     let line = given_row do_level do_known refl rows (codes "line") filled line_given in
     let cache = held_row do_level do_known refl rows (codes "cache") filled cache_held in
-    let number = number_read do_level.rules cache_option 0 65536 rows cache.0 (lit< tt) refl refl refl cache.2 cache.1 cache.3 in (
-      do_lines file.2.first (input_of line.0.values) number.0 (refusal_by Tell rows),
-      rw (first_text do_level.rules rows (codes "file") file.0 file.2 file.1, line.1, number.1) refl,
+    let stay = number_read do_level.rules cache_option 0 65536 rows cache.0 (lit< tt) refl refl refl cache.2 cache.1 cache.3 in
+    let buffer = held_row do_level do_known refl rows (codes "buffer") filled buffer_held in
+    let wait = number_read do_level.rules buffer_option 0 65536 rows buffer.0 (lit< tt) refl refl refl buffer.2 buffer.1 buffer.3 in (
+      do_lines file.2.first (input_of line.0.values) (record { cache = stay.0; buffer = wait.0 }) (refusal_by Tell rows),
+      rw (first_text do_level.rules rows (codes "file") file.0 file.2 file.1, line.1, stay.1, wait.1) refl,
     )
 
 check_rows : (rows : List Row) → Every (IsFilled check_level.rules) rows → is_given (codes "file") rows ≡ true
@@ -213,20 +220,36 @@ tree_rows rows filled file_given =
     let file = given_row tree_level tree_known refl rows (codes "file") filled file_given in
     (draw file.2.first, rw (first_text tree_level.rules rows (codes "file") file.0 file.2 file.1) refl)
 
--- at the end of a level the default value stands where no word said another
-cache_ends : (rows : List Row) → has_row (codes "cache") (with_default (with_default (with_default rows cache_option) (filled strict_rule)) (filled help_rule)) ≡ true
-cache_ends rows =
-    let with_cache = with_default rows cache_option in
-    let with_strict = with_default with_cache (filled strict_rule) in
-    let here : has_row (codes "cache") with_cache ≡ true = has-default cache_option rows (codes "256") [] refl in
-    let there : has_row (codes "cache") with_strict ≡ true = has-stays (codes "cache") (filled strict_rule) with_cache here in
-    subst (λ ends. has_row (codes "cache") ends ≡ true) (sym (no-default (filled help_rule) with_strict refl)) there
+-- at the end of a level the default values stand where no word said others
+module _ (rows : List Row) where
+  abbrev with_cache : List Row
+  with_cache = with_default rows cache_option
 
-cache_found : (rows : List Row) → has_row (codes "cache") (fold with_default rows run_level.rules) ≡ true
-cache_found rows = cache_ends (with_default rows (with_index 1 (filled file_rule)))
+  abbrev with_buffer : List Row
+  with_buffer = with_default with_cache buffer_option
 
-cache_beside : (rows : List Row) → has_row (codes "cache") (fold with_default rows do_level.rules) ≡ true
-cache_beside rows = cache_ends (with_default (with_default rows (with_index 1 (filled file_rule))) (with_index 2 (filled line_rule)))
+  abbrev with_strict : List Row
+  with_strict = with_default with_buffer (filled strict_rule)
+
+  cache_ends : has_row (codes "cache") (with_default with_strict (filled help_rule)) ≡ true
+  cache_ends =
+      let here : has_row (codes "cache") with_cache ≡ true = has-default cache_option rows (codes "256") [] refl in
+      let then_there : has_row (codes "cache") with_buffer ≡ true = has-stays (codes "cache") buffer_option with_cache here in
+      let there : has_row (codes "cache") with_strict ≡ true = has-stays (codes "cache") (filled strict_rule) with_buffer then_there in
+      subst (λ ends. has_row (codes "cache") ends ≡ true) (sym (no-default (filled help_rule) with_strict refl)) there
+
+  buffer_ends : has_row (codes "buffer") (with_default with_strict (filled help_rule)) ≡ true
+  buffer_ends =
+      let here : has_row (codes "buffer") with_buffer ≡ true = has-default buffer_option with_cache (codes "0") [] refl in
+      let there : has_row (codes "buffer") with_strict ≡ true = has-stays (codes "buffer") (filled strict_rule) with_buffer here in
+      subst (λ ends. has_row (codes "buffer") ends ≡ true) (sym (no-default (filled help_rule) with_strict refl)) there
+
+-- so it is in both levels
+abbrev run_ends : List Row → List Row
+run_ends rows = with_default rows (with_index 1 (filled file_rule))
+
+abbrev do_ends : List Row → List Row
+do_ends rows = with_default (with_default rows (with_index 1 (filled file_rule))) (with_index 2 (filled line_rule))
 
 create_asks : Asks create_level
 create_asks words e =
@@ -240,14 +263,16 @@ run_asks words e =
     let level = level_rows run_level run_known refl words e in
     let rows = rows_after run_level.rules [] words in
     let given = each_given run_level run_known refl run_level.rules rows (nothing_wanting false false (list_any (λ a. a.required && not (is_given a.id rows)) run_level.rules) level.1).1 in
-    run_rows rows level.0 (given.0 refl) (cache_found (settled run_level.rules (walk run_level.rules [] nothing_held words).held).rows)
+    let ends = run_ends (settled run_level.rules (walk run_level.rules [] nothing_held words).held).rows in
+    run_rows rows level.0 (given.0 refl) (cache_ends ends) (buffer_ends ends)
 
 do_asks : Asks do_level
 do_asks words e =
     let level = level_rows do_level do_known refl words e in
     let rows = rows_after do_level.rules [] words in
     let given = each_given do_level do_known refl do_level.rules rows (nothing_wanting false false (list_any (λ a. a.required && not (is_given a.id rows)) do_level.rules) level.1).1 in
-    do_rows rows level.0 (given.0 refl) (given.1.0 refl) (cache_beside (settled do_level.rules (walk do_level.rules [] nothing_held words).held).rows)
+    let ends = do_ends (settled do_level.rules (walk do_level.rules [] nothing_held words).held).rows in
+    do_rows rows level.0 (given.0 refl) (given.1.0 refl) (cache_ends ends) (buffer_ends ends)
 
 check_asks : Asks check_level
 check_asks words e =

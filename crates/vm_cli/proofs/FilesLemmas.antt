@@ -1,31 +1,38 @@
 -- What a run of the program does to the files of its place, from what its parts did.
-use Rattle.std.proofs.Common.{◌≡◌, ◌≢◌, ◌⊎◌, ◌≤◌, ℕ, Bool, true, false, List, Option, Some, refl, sym, ◌∙◌, subst, inl, inr, arith}
+use Rattle.std.proofs.Common.{◌≡◌, ◌≢◌, ◌⊎◌, ◌≤◌, ℕ, Bool, true, false, List, [], Option, Some, refl, sym, ◌∙◌, subst, inl, inr, arith}
 use Rattle.std.proofs.lemmas.Bool.{cases_lt}
 use Rattle.std.proofs.lemmas.Slice.Eq.{bytes_eq-Decides}
 use Rattle.std.specs.Str.{bytes_eq}
 use Rattle.clap.specs.Words.{IsAmong, Text, fault_of}
 use Rattle.clap.specs.declared.error.kind.ErrorKind.{ErrorKind}
 use Rattle.vm_types.specs.State.{Seen, opened}
+use Rattle.vm_types.specs.declared.refusal.Refusal.{Refusal}
 use Rattle.vm_disk.specs.Cached.{cached_state, inner_of}
-use Rattle.vm_disk.specs.Disk.{IsClean, DiskState}
+use Rattle.vm_disk.specs.Delayed.{IsIdleOver, delayed_state, inner_of as below}
+use Rattle.vm_disk.specs.Disk.{IsClean, DiskState, Medium}
 use Rattle.vm_disk.specs.Moments.{Leaves, Throughout}
 use Rattle.vm_disk.specs.declared.cached.CachedDisk.{CachedDisk}
+use Rattle.vm_disk.specs.declared.delayed.DelayedDisk.{DelayedDisk}
 use Rattle.vm_disk.specs.declared.disk.Disk.{Ghosts}
 use Rattle.vm_disk.proofs.MomentLemmas.{at_end}
 use Rattle.vm_store.specs.Formatting.{IsBadSize}
 use Rattle.vm_store.specs.Refused.{IsAtMostSynced}
 use Rattle.vm_store.specs.Shown.{Shows}
 use Rattle.vm_cli.specs.Caching.{IsServed, answers_told, commands_told}
+use Rattle.vm_cli.specs.Delaying.{IsRefusedLate, IsServedLate, answers_late, commands_late}
 use Rattle.vm_cli.specs.Exits.{IsJob, Tells}
 use Rattle.vm_cli.specs.Keeps.{Keeps, answers_of, commands_of}
 use Rattle.vm_cli.specs.Files.{Answers, Counts, Draws, Declines, Does, KeepsAll, Makes}
 use Rattle.vm_cli.specs.Places.{KeepsOthers, PlaceState}
+use Rattle.vm_cli.specs.Sessions.{HasRefused}
 use Rattle.vm_cli.specs.Words.{Wanted, altctl}
 use Rattle.vm_cli.specs.Words.Wanted.{check, create, do_lines, draw, run}
 use Rattle.vm_cli.specs.declared.program.Exit.{Exit}
+use Rattle.vm_cli.specs.declared.program.task.InMemory.{InMemory}
 use Rattle.vm_cli.specs.declared.program.Exit.TheVariants.{Done, Refused, Stopped}
 use Rattle.vm_cli.specs.declared.talk.OnRefusal.{OnRefusal}
-use Rattle.vm_cli.proofs.CachingLemmas.{keeps_below}
+use Rattle.vm_cli.proofs.CachingLemmas.{keeps_below, refused_there}
+use Rattle.vm_cli.proofs.DelayingLemmas.{keeps_late, refused_late}
 use Rattle.vm_cli.proofs.SessionLemmas.{clean_leaves}
 
 -- a disk that was at most synced holds what it held
@@ -105,11 +112,75 @@ module _ {D : Type 0} (members : Ghosts D) (cached : Ghosts (CachedDisk D member
           subst (λ (d : D). Keeps (members.state found) (members.state d) (opened seen) commands answers) (sym over.given_back)
           (subst (λ (d : D). Keeps (members.state d) (members.state (inner_of over.last)) (opened seen) commands answers) over.empty.inner below)
 
-module _ {D : Type 0} (members : Ghosts D) (cached : Ghosts (CachedDisk D members)) (Untouched Reads Denied : Type 0) (words : List Text) (exit : Exit)
+-- the same where a late disk may lie between
+module _ {D : Type 0} (members : Ghosts D) (cached : Ghosts (CachedDisk D members)) (late : Ghosts (DelayedDisk D members)) (cached_late : Ghosts (CachedDisk (DelayedDisk D members) late))
+    (same : (disk : CachedDisk D members) → cached.state disk ≡ cached_state members.state disk)
+    (same_late : (disk : DelayedDisk D members) → late.state disk ≡ delayed_state members.state disk)
+    (same_above : (disk : CachedDisk (DelayedDisk D members) late) → cached_late.state disk ≡ cached_state late.state disk)
+    (in_memory : InMemory) (on : OnRefusal) (found back : D) (exit : Exit) (input before after : Option (List ℕ))
+    (served : IsServedLate members cached late cached_late in_memory on found back exit input before after) (honest : (members.state back).honest ≡ true) where
+  -- the late disk was honest at its end
+  honest_above : (last : DelayedDisk D members) → back ≡ below last → (late.state last).honest ≡ true
+  honest_above last given = rw (same_late last) (subst (λ (d : D). (members.state d).honest ≡ true) given honest)
+
+  -- the disk was honest when it was found
+  pub was_honest_late : (members.state found).honest ≡ true
+  was_honest_late = go served
+    where
+      go : IsServedLate members cached late cached_late in_memory on found back exit input before after → (members.state found).honest ≡ true
+      go (inl served) = was_honest members cached same in_memory.cache on found back exit input before after served honest
+      go (inr over) =
+          let first : (late.state over.first).honest ≡ true = was_honest late cached_late same_above in_memory.cache on over.first over.last exit input before after over.done (honest_above over.last over.given_back) in
+          let under : (members.state (below over.first)).honest ≡ true = rw (same_late over.first) at first in
+          subst (λ (d : D). (members.state d).honest ≡ true) over.idle.inner under
+
+  -- what a crash leaves at each moment, the commands so far keep
+  pub kept_told_late : (members.state found).past ≡ [] → IsClean (members.state found).now → (seen : Seen) → Shows (members.state found).now.contents seen
+      → Keeps (members.state found) (members.state back) (opened seen) (commands_late members cached late cached_late served (opened seen)) (answers_late members cached late cached_late served (opened seen))
+  kept_told_late fresh clean seen shows = go served
+    where
+      go : (served : IsServedLate members cached late cached_late in_memory on found back exit input before after)
+          → Keeps (members.state found) (members.state back) (opened seen) (commands_late members cached late cached_late served (opened seen)) (answers_late members cached late cached_late served (opened seen))
+      go (inl served) = kept_told members cached same in_memory.cache on found back exit input before after served honest clean seen shows
+      go (inr over) =
+          let commands = commands_told late cached_late over.done (opened seen) in
+          let answers = answers_told late cached_late over.done (opened seen) in
+          let there = honest_above over.last over.given_back in
+          let now : (late.state over.first).now ≡ (members.state found).now = rw (same_late over.first) over.idle.now in
+          let above : Keeps (late.state over.first) (late.state over.last) (opened seen) commands answers =
+          kept_told late cached_late same_above in_memory.cache on over.first over.last exit input before after over.done there
+          (subst (λ (m : Medium). IsClean m) (sym now) clean) seen (subst (λ (m : Medium). Shows m.contents seen) (sym now) shows) in
+          let kept : Keeps (delayed_state members.state over.first) (delayed_state members.state over.last) (opened seen) commands answers =
+          subst (λ (t : DiskState). Keeps (delayed_state members.state over.first) t (opened seen) commands answers) (same_late over.last)
+          (subst (λ (t : DiskState). Keeps t (late.state over.last) (opened seen) commands answers) (same_late over.first) above) in
+          let idle : IsIdleOver members.state (below over.first) in_memory.buffer over.first = subst (λ (d : D). IsIdleOver members.state d in_memory.buffer over.first) (sym over.idle.inner) over.idle in
+          let new : (members.state (below over.first)).past ≡ [] = subst (λ (d : D). (members.state d).past ≡ []) (sym over.idle.inner) fresh in
+          let under = keeps_late members over.first over.last in_memory.buffer idle new over.follows (opened seen) commands answers (rw (same_late over.last) at there) kept in
+          subst (λ (d : D). Keeps (members.state found) (members.state d) (opened seen) commands answers) (sym over.given_back)
+          (subst (λ (d : D). Keeps (members.state d) (members.state (below over.last)) (opened seen) commands answers) over.idle.inner under)
+
+-- a disk that was refused, with a late disk over it or without, was so itself
+pub refused_told : {D : Type 0} (members : Ghosts D) (late : Ghosts (DelayedDisk D members)) → ((disk : DelayedDisk D members) → late.state disk ≡ delayed_state members.state disk)
+    → (buffer : ℕ) (found back : D) (refusal : Refusal) → (members.state found).past ≡ [] → ((members.state found).honest ≡ true → IsClean (members.state found).now)
+    → IsRefusedLate members late buffer found back refusal → HasRefused (members.state found) (members.state back) refusal
+refused_told members late same_late buffer found back refusal fresh clean (inl refused) = refused
+refused_told {D} members late same_late buffer found back refusal fresh clean (inr over) =
+    let idle : IsIdleOver members.state (below over.first) buffer over.first = subst (λ (d : D). IsIdleOver members.state d buffer over.first) (sym over.idle.inner) over.idle in
+    let new : (members.state (below over.first)).past ≡ [] = subst (λ (d : D). (members.state d).past ≡ []) (sym over.idle.inner) fresh in
+    let was : (members.state (below over.first)).honest ≡ true → IsClean (members.state (below over.first)).now =
+    subst (λ (d : D). (members.state d).honest ≡ true → IsClean (members.state d).now) (sym over.idle.inner) clean in
+    let refused : HasRefused (delayed_state members.state over.first) (delayed_state members.state over.last) refusal =
+    subst (λ (t : DiskState). HasRefused (delayed_state members.state over.first) t refusal) (same_late over.last)
+    (subst (λ (t : DiskState). HasRefused t (late.state over.last) refusal) (same_late over.first) over.done) in
+    refused_there members found back (below over.first) (below over.last) refusal over.idle.inner over.given_back
+    (refused_late members over.first over.last buffer idle new over.follows refusal was refused)
+
+module _ {D : Type 0} (members : Ghosts D) (cached : Ghosts (CachedDisk D members)) (late : Ghosts (DelayedDisk D members))
+    (cached_late : Ghosts (CachedDisk (DelayedDisk D members) late)) (Untouched Reads Denied : Type 0) (words : List Text) (exit : Exit)
     (old new : PlaceState) (input before after errors errors' : Option (List ℕ)) where
   -- what was done
   abbrev Did : Type 0
-  Did = Does members cached Untouched Reads Denied words exit old new input before after errors errors'
+  Did = Does members cached late cached_late Untouched Reads Denied words exit old new input before after errors errors'
 
   -- a store was to be made
   pub did_create : (name : Text) (blocks : ℕ) → IsJob words (create name blocks) → Makes members Denied name blocks exit old new before after errors errors' → Did
@@ -118,53 +189,53 @@ module _ {D : Type 0} (members : Ghosts D) (cached : Ghosts (CachedDisk D member
         let name_is : other ≡ name = cc in
         let size_is : size ≡ blocks = cc in
         inl (rw (name_is, size_is) makes);
-    runs = λ other cache on asked. let same : run other cache on ≡ create name blocks = one_job words (create name blocks) (run other cache on) job asked in absurd (cc);
-    does = λ other lines cache on asked. let same : do_lines other lines cache on ≡ create name blocks = one_job words (create name blocks) (do_lines other lines cache on) job asked in absurd (cc);
+    runs = λ other in_memory on asked. let same : run other in_memory on ≡ create name blocks = one_job words (create name blocks) (run other in_memory on) job asked in absurd (cc);
+    does = λ other lines in_memory on asked. let same : do_lines other lines in_memory on ≡ create name blocks = one_job words (create name blocks) (do_lines other lines in_memory on) job asked in absurd (cc);
     checks = λ other asked. let same : check other ≡ create name blocks = one_job words (create name blocks) (check other) job asked in absurd (cc);
     draws = λ other asked. let same : draw other ≡ create name blocks = one_job words (create name blocks) (draw other) job asked in absurd (cc);
     none = λ no. absurd (no (create name blocks) job);
   }
 
   -- lines were to be answered
-  pub did_run : (name : Text) (cache : ℕ) (on : OnRefusal) → IsJob words (run name cache on)
-      → Answers members cached name cache on exit old new input before after ⊎ Declines members Denied name exit old new errors errors' → Did
-  did_run name cache on job answers = record {
-    creates = λ other size asked. let same : create other size ≡ run name cache on = one_job words (run name cache on) (create other size) job asked in absurd (cc);
-    runs = λ other size refusal asked. let same : run other size refusal ≡ run name cache on = one_job words (run name cache on) (run other size refusal) job asked in
+  pub did_run : (name : Text) (in_memory : InMemory) (on : OnRefusal) → IsJob words (run name in_memory on)
+      → Answers members cached late cached_late name in_memory on exit old new input before after ⊎ Declines members Denied name exit old new errors errors' → Did
+  did_run name in_memory on job answers = record {
+    creates = λ other size asked. let same : create other size ≡ run name in_memory on = one_job words (run name in_memory on) (create other size) job asked in absurd (cc);
+    runs = λ other size refusal asked. let same : run other size refusal ≡ run name in_memory on = one_job words (run name in_memory on) (run other size refusal) job asked in
         let name_is : other ≡ name = cc in
-        let size_is : size ≡ cache = cc in
+        let size_is : size ≡ in_memory = cc in
         let on_is : refusal ≡ on = cc in
         rw (name_is, size_is, on_is) (told answers);
-    does = λ other lines size refusal asked. let same : do_lines other lines size refusal ≡ run name cache on = one_job words (run name cache on) (do_lines other lines size refusal) job asked in absurd (cc);
-    checks = λ other asked. let same : check other ≡ run name cache on = one_job words (run name cache on) (check other) job asked in absurd (cc);
-    draws = λ other asked. let same : draw other ≡ run name cache on = one_job words (run name cache on) (draw other) job asked in absurd (cc);
-    none = λ no. absurd (no (run name cache on) job);
+    does = λ other lines size refusal asked. let same : do_lines other lines size refusal ≡ run name in_memory on = one_job words (run name in_memory on) (do_lines other lines size refusal) job asked in absurd (cc);
+    checks = λ other asked. let same : check other ≡ run name in_memory on = one_job words (run name in_memory on) (check other) job asked in absurd (cc);
+    draws = λ other asked. let same : draw other ≡ run name in_memory on = one_job words (run name in_memory on) (draw other) job asked in absurd (cc);
+    none = λ no. absurd (no (run name in_memory on) job);
   }
     where
-      told : Answers members cached name cache on exit old new input before after ⊎ Declines members Denied name exit old new errors errors'
-          → Answers members cached name cache on exit old new input before after ⊎ (Declines members Denied name exit old new errors errors' ⊎ ((exit ≡ Stopped) × Untouched))
+      told : Answers members cached late cached_late name in_memory on exit old new input before after ⊎ Declines members Denied name exit old new errors errors'
+          → Answers members cached late cached_late name in_memory on exit old new input before after ⊎ (Declines members Denied name exit old new errors errors' ⊎ ((exit ≡ Stopped) × Untouched))
       told (inl answers) = inl answers
       told (inr declines) = inr (inl declines)
 
   -- lines that were given were to be answered
-  pub did_lines : (name : Text) (lines : List ℕ) (cache : ℕ) (on : OnRefusal) → IsJob words (do_lines name lines cache on)
-      → Answers members cached name cache on exit old new (Some lines) before after ⊎ Declines members Denied name exit old new errors errors' → Did
-  did_lines name lines cache on job answers = record {
-    creates = λ other size asked. let same : create other size ≡ do_lines name lines cache on = one_job words (do_lines name lines cache on) (create other size) job asked in absurd (cc);
-    runs = λ other size refusal asked. let same : run other size refusal ≡ do_lines name lines cache on = one_job words (do_lines name lines cache on) (run other size refusal) job asked in absurd (cc);
-    does = λ other given size refusal asked. let same : do_lines other given size refusal ≡ do_lines name lines cache on = one_job words (do_lines name lines cache on) (do_lines other given size refusal) job asked in
+  pub did_lines : (name : Text) (lines : List ℕ) (in_memory : InMemory) (on : OnRefusal) → IsJob words (do_lines name lines in_memory on)
+      → Answers members cached late cached_late name in_memory on exit old new (Some lines) before after ⊎ Declines members Denied name exit old new errors errors' → Did
+  did_lines name lines in_memory on job answers = record {
+    creates = λ other size asked. let same : create other size ≡ do_lines name lines in_memory on = one_job words (do_lines name lines in_memory on) (create other size) job asked in absurd (cc);
+    runs = λ other size refusal asked. let same : run other size refusal ≡ do_lines name lines in_memory on = one_job words (do_lines name lines in_memory on) (run other size refusal) job asked in absurd (cc);
+    does = λ other given size refusal asked. let same : do_lines other given size refusal ≡ do_lines name lines in_memory on = one_job words (do_lines name lines in_memory on) (do_lines other given size refusal) job asked in
         let name_is : other ≡ name = cc in
         let lines_are : given ≡ lines = cc in
-        let size_is : size ≡ cache = cc in
+        let size_is : size ≡ in_memory = cc in
         let on_is : refusal ≡ on = cc in
         rw (name_is, lines_are, size_is, on_is) (told answers);
-    checks = λ other asked. let same : check other ≡ do_lines name lines cache on = one_job words (do_lines name lines cache on) (check other) job asked in absurd (cc);
-    draws = λ other asked. let same : draw other ≡ do_lines name lines cache on = one_job words (do_lines name lines cache on) (draw other) job asked in absurd (cc);
-    none = λ no. absurd (no (do_lines name lines cache on) job);
+    checks = λ other asked. let same : check other ≡ do_lines name lines in_memory on = one_job words (do_lines name lines in_memory on) (check other) job asked in absurd (cc);
+    draws = λ other asked. let same : draw other ≡ do_lines name lines in_memory on = one_job words (do_lines name lines in_memory on) (draw other) job asked in absurd (cc);
+    none = λ no. absurd (no (do_lines name lines in_memory on) job);
   }
     where
-      told : Answers members cached name cache on exit old new (Some lines) before after ⊎ Declines members Denied name exit old new errors errors'
-          → Answers members cached name cache on exit old new (Some lines) before after ⊎ (Declines members Denied name exit old new errors errors' ⊎ ((exit ≡ Stopped) × Untouched))
+      told : Answers members cached late cached_late name in_memory on exit old new (Some lines) before after ⊎ Declines members Denied name exit old new errors errors'
+          → Answers members cached late cached_late name in_memory on exit old new (Some lines) before after ⊎ (Declines members Denied name exit old new errors errors' ⊎ ((exit ≡ Stopped) × Untouched))
       told (inl answers) = inl answers
       told (inr declines) = inr (inl declines)
 
@@ -173,8 +244,8 @@ module _ {D : Type 0} (members : Ghosts D) (cached : Ghosts (CachedDisk D member
       → Counts members name exit old new before after ⊎ Declines members Denied name exit old new errors errors' → Did
   did_check name job reads counts = record {
     creates = λ other size asked. let same : create other size ≡ check name = one_job words (check name) (create other size) job asked in absurd (cc);
-    runs = λ other cache on asked. let same : run other cache on ≡ check name = one_job words (check name) (run other cache on) job asked in absurd (cc);
-    does = λ other lines cache on asked. let same : do_lines other lines cache on ≡ check name = one_job words (check name) (do_lines other lines cache on) job asked in absurd (cc);
+    runs = λ other in_memory on asked. let same : run other in_memory on ≡ check name = one_job words (check name) (run other in_memory on) job asked in absurd (cc);
+    does = λ other lines in_memory on asked. let same : do_lines other lines in_memory on ≡ check name = one_job words (check name) (do_lines other lines in_memory on) job asked in absurd (cc);
     checks = λ other asked. let same : check other ≡ check name = one_job words (check name) (check other) job asked in
         let name_is : other ≡ name = cc in
         rw name_is (reads, told counts);
@@ -192,8 +263,8 @@ module _ {D : Type 0} (members : Ghosts D) (cached : Ghosts (CachedDisk D member
       → Draws members name exit old new before after ⊎ Declines members Denied name exit old new errors errors' → Did
   did_draw name job reads drawn = record {
     creates = λ other size asked. let same : create other size ≡ draw name = one_job words (draw name) (create other size) job asked in absurd (cc);
-    runs = λ other cache on asked. let same : run other cache on ≡ draw name = one_job words (draw name) (run other cache on) job asked in absurd (cc);
-    does = λ other lines cache on asked. let same : do_lines other lines cache on ≡ draw name = one_job words (draw name) (do_lines other lines cache on) job asked in absurd (cc);
+    runs = λ other in_memory on asked. let same : run other in_memory on ≡ draw name = one_job words (draw name) (run other in_memory on) job asked in absurd (cc);
+    does = λ other lines in_memory on asked. let same : do_lines other lines in_memory on ≡ draw name = one_job words (draw name) (do_lines other lines in_memory on) job asked in absurd (cc);
     draws = λ other asked. let same : draw other ≡ draw name = one_job words (draw name) (draw other) job asked in
         let name_is : other ≡ name = cc in
         rw name_is (reads, told drawn);
@@ -210,8 +281,8 @@ module _ {D : Type 0} (members : Ghosts D) (cached : Ghosts (CachedDisk D member
   pub did_nothing : Untouched → Reads → ((job : Wanted) → IsJob words job → exit ≡ Stopped) → Did
   did_nothing untouched reads stopped = record {
     creates = λ name blocks asked. inr (stopped (create name blocks) asked, untouched);
-    runs = λ name cache on asked. inr (inr (stopped (run name cache on) asked, untouched));
-    does = λ name lines cache on asked. inr (inr (stopped (do_lines name lines cache on) asked, untouched));
+    runs = λ name in_memory on asked. inr (inr (stopped (run name in_memory on) asked, untouched));
+    does = λ name lines in_memory on asked. inr (inr (stopped (do_lines name lines in_memory on) asked, untouched));
     checks = λ name asked. (reads, inr (inr (stopped (check name) asked, untouched)));
     draws = λ name asked. (reads, inr (inr (stopped (draw name) asked, untouched)));
     none = λ no. untouched;

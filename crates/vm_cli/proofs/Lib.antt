@@ -29,4 +29,5 @@ pub mod SessionLemmas
 mod FilesLemmas
 mod RealFilesLemmas
 mod CachingLemmas
+mod DelayingLemmas
 mod MemFilesLemmas

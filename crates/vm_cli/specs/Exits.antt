@@ -13,6 +13,7 @@ use Rattle.vm_cli.specs.Drawing.{Branch, drawing}
 use Rattle.vm_cli.specs.Words.{Wanted, altctl, asked_of}
 use Rattle.vm_cli.specs.Words.Wanted.{check, create, do_lines, draw, run}
 use Rattle.vm_cli.specs.declared.program.Exit.{Exit}
+use Rattle.vm_cli.specs.declared.program.task.InMemory.{InMemory}
 use Rattle.vm_cli.specs.declared.program.Exit.TheVariants.{Done, LineRefused, Refused, WrongWords, Stopped}
 use Rattle.vm_cli.specs.declared.talk.OnRefusal.{OnRefusal}
 use Rattle.vm_cli.specs.declared.talk.OnRefusal.TheVariants.{Ignore}
@@ -77,8 +78,8 @@ MayRefuse refusal = (refusal ≡ BadSize) ⊎ ((refusal ≡ AlreadyAStore) ⊎ (
 -- what is said where a job has no disk, or the disk is refused
 abbrev pub SaysRefused : Wanted → List ℕ → Type 0
 SaysRefused (create file blocks) text = (text ≡ file_text (codes "altctl: cannot create ") file) ⊎ ((refusal : Refusal) × MayRefuse refusal × (text ≡ refused_text refusal))
-SaysRefused (run file cache on) text = (text ≡ file_text (codes "altctl: cannot open ") file) ⊎ ((refusal : Refusal) × (text ≡ refused_text refusal))
-SaysRefused (do_lines file input cache on) text = (text ≡ file_text (codes "altctl: cannot open ") file) ⊎ ((refusal : Refusal) × (text ≡ refused_text refusal))
+SaysRefused (run file in_memory on) text = (text ≡ file_text (codes "altctl: cannot open ") file) ⊎ ((refusal : Refusal) × (text ≡ refused_text refusal))
+SaysRefused (do_lines file input in_memory on) text = (text ≡ file_text (codes "altctl: cannot open ") file) ⊎ ((refusal : Refusal) × (text ≡ refused_text refusal))
 SaysRefused (check file) text = (text ≡ file_text (codes "altctl: cannot open ") file) ⊎ ((refusal : Refusal) × (text ≡ refused_text refusal))
 SaysRefused (draw file) text = (text ≡ file_text (codes "altctl: cannot open ") file) ⊎ ((refusal : Refusal) × (text ≡ refused_text refusal))
 
@@ -96,7 +97,7 @@ IsRefusal words text = (job : Wanted) × IsJob words job × SaysRefused job text
 
 -- the words ask that lines are answered, and say what a refused one means
 abbrev pub AskTalk : List Text → OnRefusal → Type 0
-AskTalk words on = (file : Text) × (cache : ℕ) × (IsJob words (run file cache on) ⊎ ((input : List ℕ) × IsJob words (do_lines file input cache on)))
+AskTalk words on = (file : Text) × (in_memory : InMemory) × (IsJob words (run file in_memory on) ⊎ ((input : List ℕ) × IsJob words (do_lines file input in_memory on)))
 
 -- the words ask that lines are answered
 abbrev pub AskLines : List Text → Type 0

@@ -6,10 +6,11 @@ use Rattle.vm_types.specs.State.{Seen, opened}
 use Rattle.vm_disk.specs.Disk.{Contents, IsClean, Medium}
 use Rattle.vm_disk.specs.Moments.{Throughout}
 use Rattle.vm_disk.specs.declared.cached.CachedDisk.{CachedDisk}
+use Rattle.vm_disk.specs.declared.delayed.DelayedDisk.{DelayedDisk}
 use Rattle.vm_disk.specs.declared.disk.Disk.{Ghosts}
 use Rattle.vm_store.specs.Formatting.{IsFormatted, IsFormatting}
 use Rattle.vm_store.specs.Shown.{Shows}
-use Rattle.vm_cli.specs.Caching.{IsServed, answers_told, commands_told}
+use Rattle.vm_cli.specs.Delaying.{IsServedLate, answers_late, commands_late}
 use Rattle.vm_cli.specs.Drawing.{tree_text}
 use Rattle.vm_cli.specs.Exits.{IsJob, MayRefuse, Tells, check_text, created_text, file_text, refused_text}
 use Rattle.vm_cli.specs.Keeps.{Keeps}
@@ -18,6 +19,7 @@ use Rattle.vm_cli.specs.Sessions.{HasCounted, HasMade, HasMadeNone, HasRefused, 
 use Rattle.vm_cli.specs.Words.{Wanted}
 use Rattle.vm_cli.specs.Words.Wanted.{check, create, do_lines, draw, run}
 use Rattle.vm_cli.specs.declared.program.Exit.{Exit}
+use Rattle.vm_cli.specs.declared.program.task.InMemory.{InMemory}
 use Rattle.vm_cli.specs.declared.program.Exit.TheVariants.{Done, Refused, Stopped}
 use Rattle.vm_cli.specs.declared.talk.OnRefusal.{OnRefusal}
 
@@ -94,12 +96,13 @@ module _ {D : Type 0} (members : Ghosts D) where
     pub shown : HasShown (members.state found) (members.state back) seen
     pub told : Tells Done exit before after (tree_text seen.tree)
 
-module _ {D : Type 0} (members : Ghosts D) (cached : Ghosts (CachedDisk D members)) where
-  -- the lines of an input were answered over the file of this name, of which up to so many blocks stayed in memory
-  pub record Answers (name : List ℕ) (cache : ℕ) (on : OnRefusal) (exit : Exit) (old new : PlaceState) (input before after : Option (List ℕ)) : Type 0 where
+module _ {D : Type 0} (members : Ghosts D) (cached : Ghosts (CachedDisk D members)) (late : Ghosts (DelayedDisk D members))
+    (cached_late : Ghosts (CachedDisk (DelayedDisk D members) late)) where
+  -- the lines of an input were answered over the file of this name, of which up to so many blocks stayed or waited in memory
+  pub record Answers (name : List ℕ) (in_memory : InMemory) (on : OnRefusal) (exit : Exit) (old new : PlaceState) (input before after : Option (List ℕ)) : Type 0 where
     pub found : D
     pub back : D
-    pub served : IsServed members cached cache on found back exit input before after
+    pub served : IsServedLate members cached late cached_late in_memory on found back exit input before after
     -- its disk was found as the file was left, and kept the disk model to the end
     pub held : old.files name ≡ Some (members.state found).now.contents
     pub clean : IsClean (members.state found).now
@@ -109,7 +112,7 @@ module _ {D : Type 0} (members : Ghosts D) (cached : Ghosts (CachedDisk D member
     -- file at the end
     pub kept : (seen : Seen) → Shows (members.state found).now.contents seen
         → Keeps (members.state found) (members.state back) (opened seen)
-        (commands_told members cached served (opened seen)) (answers_told members cached served (opened seen))
+        (commands_late members cached late cached_late served (opened seen)) (answers_late members cached late cached_late served (opened seen))
 
   -- what a run of the program does to the files, where `Untouched` says that no call of the place was made, `Reads` that no file was made
   -- or opened to be written, and `Denied` that a call gave no disk. A job is left undone without a call only where the program stops, as
@@ -119,11 +122,11 @@ module _ {D : Type 0} (members : Ghosts D) (cached : Ghosts (CachedDisk D member
     pub creates : (name : Text) (blocks : ℕ) → IsJob words (create name blocks)
         → Makes members Denied name blocks exit old new before after errors errors' ⊎ ((exit ≡ Stopped) × Untouched)
     -- words that ask that lines are answered have them answered over the file, or it is said why not
-    pub runs : (name : Text) (cache : ℕ) (on : OnRefusal) → IsJob words (run name cache on)
-        → Answers name cache on exit old new input before after ⊎ (Declines members Denied name exit old new errors errors' ⊎ ((exit ≡ Stopped) × Untouched))
+    pub runs : (name : Text) (in_memory : InMemory) (on : OnRefusal) → IsJob words (run name in_memory on)
+        → Answers name in_memory on exit old new input before after ⊎ (Declines members Denied name exit old new errors errors' ⊎ ((exit ≡ Stopped) × Untouched))
     -- so have words that give lines, whose input they are
-    pub does : (name : Text) (lines : List ℕ) (cache : ℕ) (on : OnRefusal) → IsJob words (do_lines name lines cache on)
-        → Answers name cache on exit old new (Some lines) before after ⊎ (Declines members Denied name exit old new errors errors' ⊎ ((exit ≡ Stopped) × Untouched))
+    pub does : (name : Text) (lines : List ℕ) (in_memory : InMemory) (on : OnRefusal) → IsJob words (do_lines name lines in_memory on)
+        → Answers name in_memory on exit old new (Some lines) before after ⊎ (Declines members Denied name exit old new errors errors' ⊎ ((exit ≡ Stopped) × Untouched))
     -- words that ask for a check have the store in the file counted, or it is said why not; either way files are only read
     pub checks : (name : Text) → IsJob words (check name)
         → Reads × (Counts members name exit old new before after ⊎ (Declines members Denied name exit old new errors errors' ⊎ ((exit ≡ Stopped) × Untouched)))

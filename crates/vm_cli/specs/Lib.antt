@@ -17,6 +17,7 @@ pub mod Feeding
 pub mod Keeps
 pub mod Sessions
 pub mod Caching
+pub mod Delaying
 pub mod Counting
 pub mod Drawing
 pub mod Places

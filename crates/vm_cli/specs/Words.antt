@@ -9,6 +9,7 @@ use Rattle.clap.specs.declared.builder.action.ArgAction.TheVariants.{Append, Set
 use Rattle.clap.specs.declared.builder.value_parser.ValueParser.TheVariants as vp
 use Rattle.vm_cli.specs.declared.talk.OnRefusal.{OnRefusal}
 use Rattle.vm_cli.specs.declared.talk.OnRefusal.TheVariants.{Ignore, Stop, Tell}
+use Rattle.vm_cli.specs.declared.program.task.InMemory.{InMemory}
 use Rattle.vm_cli.specs.declared.program.task.Job.{Job}
 use Rattle.vm_cli.specs.declared.program.task.Job.TheVariants.{Check, Create, Do, Run, Tree}
 use Rattle.vm_cli.specs.Given.{input_of}
@@ -38,6 +39,15 @@ cache_rule = record (new_rule (codes "cache")) {
   parser = Some (vp.Signed (pos 0) (pos 65536));
 }
 
+-- how many written blocks wait in memory: a number in its range, and 0 where no word says one
+abbrev pub buffer_rule : Rule
+buffer_rule = record (new_rule (codes "buffer")) {
+  long = Some (codes "buffer");
+  value_names = 1;
+  defaults = codes "0" ∷ [];
+  parser = Some (vp.Signed (pos 0) (pos 65536));
+}
+
 -- whether a line that is refused ends the talk
 abbrev pub strict_rule : Rule
 strict_rule = record (new_rule (codes "strict")) {
@@ -45,9 +55,9 @@ strict_rule = record (new_rule (codes "strict")) {
   action = Some SetTrue;
 }
 
--- `run [--cache N] [--strict] FILE`
+-- `run [--cache N] [--buffer N] [--strict] FILE`
 abbrev pub run_app : App
-run_app = with_rule (with_rule (with_rule (new_app (codes "run")) file_rule) cache_rule) strict_rule
+run_app = with_rule (with_rule (with_rule (with_rule (new_app (codes "run")) file_rule) cache_rule) buffer_rule) strict_rule
 
 -- lines, one of which has to be there
 abbrev pub line_rule : Rule
@@ -57,9 +67,9 @@ line_rule = record (new_rule (codes "line")) {
   action = Some Append;
 }
 
--- `do [--cache N] [--strict] FILE LINE..`
+-- `do [--cache N] [--buffer N] [--strict] FILE LINE..`
 abbrev pub do_app : App
-do_app = with_rule (with_rule (with_rule (with_rule (new_app (codes "do")) file_rule) line_rule) cache_rule) strict_rule
+do_app = with_rule (with_rule (with_rule (with_rule (with_rule (new_app (codes "do")) file_rule) line_rule) cache_rule) buffer_rule) strict_rule
 
 -- `check FILE`
 abbrev pub check_app : App
@@ -73,7 +83,7 @@ tree_app = with_rule (new_app (codes "tree")) file_rule
 abbrev pub top_app : App
 top_app = on_top (λ s. record s { subcommand_required = true; has_version = true }) (new_app (codes "altctl"))
 
--- `altctl create FILE BLOCKS`, `altctl run [--cache N] [--strict] FILE`, `altctl do [--cache N] [--strict] FILE LINE..`,
+-- `altctl create FILE BLOCKS`, `altctl run [--cache N] [--buffer N] [--strict] FILE`, `altctl do [--cache N] [--buffer N] [--strict] FILE LINE..`,
 -- `altctl check FILE` and `altctl tree FILE`
 abbrev pub altctl : App
 altctl =
@@ -82,16 +92,16 @@ altctl =
 -- a job, with the file's name itself in place of a reference to it, and the input of the lines that were given
 pub data Wanted : Type 0 where
   create : Text → ℕ → Wanted
-  run : Text → ℕ → OnRefusal → Wanted
-  do_lines : Text → List ℕ → ℕ → OnRefusal → Wanted
+  run : Text → InMemory → OnRefusal → Wanted
+  do_lines : Text → List ℕ → InMemory → OnRefusal → Wanted
   check : Text → Wanted
   draw : Text → Wanted
 
 -- what a job wants
 abbrev pub wanted_of : Job → Wanted
 wanted_of (Create file blocks) = create file.now blocks
-wanted_of (Run file cache on) = run file.now cache on
-wanted_of (Do file input cache on) = do_lines file.now input.items cache on
+wanted_of (Run file in_memory on) = run file.now in_memory on
+wanted_of (Do file input in_memory on) = do_lines file.now input.items in_memory on
 wanted_of (Check file) = check file.now
 wanted_of (Tree file) = draw file.now
 
@@ -112,16 +122,24 @@ refusal_by on rows = if is_set (first_of (codes "strict") rows) then Stop else o
 abbrev pub cache_by : List Row → Option ℕ
 cache_by rows = option_and_then (number_in 0 65536) (one_of (codes "cache") rows)
 
+-- how many blocks wait in memory to be written
+abbrev pub buffer_by : List Row → Option ℕ
+buffer_by rows = option_and_then (number_in 0 65536) (one_of (codes "buffer") rows)
+
+-- both
+abbrev pub memory_by : List Row → Option InMemory
+memory_by rows = option_and_then (λ cache. option_map (λ buffer. record { cache = cache; buffer = buffer }) (buffer_by rows)) (cache_by rows)
+
 -- what `do` with these matches wants of this file
 abbrev pub do_by : List Row → Text → Option Wanted
 do_by rows file =
-    option_and_then (λ lines. option_map (λ cache. do_lines file (input_of lines) cache (refusal_by Tell rows)) (cache_by rows)) (all_of (codes "line") rows)
+    option_and_then (λ lines. option_map (λ in_memory. do_lines file (input_of lines) in_memory (refusal_by Tell rows)) (memory_by rows)) (all_of (codes "line") rows)
 
 -- what a subcommand with these matches wants of this file
 abbrev pub asked_by : Text → List Row → Text → Option Wanted
 asked_by name rows file =
     if bytes_eq name (codes "create") then option_map (create file) (option_and_then (number_in 64 1048576) (one_of (codes "blocks") rows))
-    else (if bytes_eq name (codes "run") then option_map (λ cache. run file cache (refusal_by Ignore rows)) (cache_by rows)
+    else (if bytes_eq name (codes "run") then option_map (λ in_memory. run file in_memory (refusal_by Ignore rows)) (memory_by rows)
     else (if bytes_eq name (codes "do") then do_by rows file
     else (if bytes_eq name (codes "check") then Some (check file)
     else (if bytes_eq name (codes "tree") then Some (draw file) else None))))

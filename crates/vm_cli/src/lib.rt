@@ -14,7 +14,7 @@ mod talk;
 pub use program::mem_files::MemFiles;
 pub use program::place::{Place, RealFiles};
 pub use program::progress::{Cleared, Progress, Watched};
-pub use program::task::Job;
+pub use program::task::{InMemory, Job};
 pub use program::words::job;
 pub use program::{refuse_words, run_words, stop};
 pub use talk::{OnRefusal, ServeFault, serve};

@@ -2,6 +2,7 @@
 
 pub mod caching;
 pub mod counting;
+pub mod delaying;
 pub mod drawing;
 pub mod given;
 pub mod help;
@@ -17,16 +18,16 @@ use crate::answers::reply::push_refusal;
 use crate::answers::text::Text;
 use crate::answers::writing::{WriteFault, flush, put_all};
 use crate::talk::{OnRefusal, ServeFault, serve};
-use caching::answer_lines_cached;
 use clap::Error;
 use clap::error::ErrorKind;
 use counting::{Counts, count};
+use delaying::answer_lines_late;
 use place::Place;
 use showing::tree;
 use std::alloc::Global;
 use std::io::{Read, Write};
-use task::Job;
-use vm_disk::{CachedDisk, Disk};
+use task::{InMemory, Job};
+use vm_disk::{CachedDisk, DelayedDisk, Disk};
 use vm_store::{format, open};
 use vm_types::Refusal;
 use words::job;
@@ -96,7 +97,7 @@ pub fn run_words<P: Place, R: Read, W: Write, F: Write>(
     ensures files { (P.state place.new).honest ≡ true
         → ((exit : Exit) × (said : F) × (result ≡ status_of exit)
         × (exit ≢ Exit.Stopped → said ≡ errors.new)
-        × Does P.D.Disk ⟦<CachedDisk<P::D> as Disk>⟧ (place.new ≡ place.old) (P.to_write place.new ≡ P.to_write place.old) (P.denied place.new ≡ P.denied place.old + 1) (map string_bytes words.now) exit (P.state place.old) (P.state place.new)
+        × Does P.D.Disk ⟦<CachedDisk<P::D> as Disk>⟧ ⟦<DelayedDisk<P::D> as Disk>⟧ ⟦<CachedDisk<DelayedDisk<P::D>> as Disk>⟧ (place.new ≡ place.old) (P.to_write place.new ≡ P.to_write place.old) (P.denied place.new ≡ P.denied place.old + 1) (map string_bytes words.now) exit (P.state place.old) (P.state place.new)
         (R.remaining input.old) (W.contents output.old) (W.contents output.new) (F.contents errors.old) (F.contents said)) }
 {
     match do_job(alloc, words, place, input, output, errors) {
@@ -137,7 +138,7 @@ fn do_job<P: Place, R: Read, W: Write, F: Write>(
 ) -> Exit
     ensures ends { Ends W.contents F.contents result (map string_bytes words.now) output.old output.new errors.old errors.new }
     ensures files { (P.state place.new).honest ≡ true
-        → Does P.D.Disk ⟦<CachedDisk<P::D> as Disk>⟧ (place.new ≡ place.old) (P.to_write place.new ≡ P.to_write place.old) (P.denied place.new ≡ P.denied place.old + 1) (map string_bytes words.now) result (P.state place.old) (P.state place.new)
+        → Does P.D.Disk ⟦<CachedDisk<P::D> as Disk>⟧ ⟦<DelayedDisk<P::D> as Disk>⟧ ⟦<CachedDisk<DelayedDisk<P::D>> as Disk>⟧ (place.new ≡ place.old) (P.to_write place.new ≡ P.to_write place.old) (P.denied place.new ≡ P.denied place.old + 1) (map string_bytes words.now) result (P.state place.old) (P.state place.new)
         (R.remaining input.old) (W.contents output.old) (W.contents output.new) (F.contents errors.old) (F.contents errors.new) }
 {
     match job(alloc, words) {
@@ -145,21 +146,23 @@ fn do_job<P: Place, R: Read, W: Write, F: Write>(
         Ok(
             Job::Run {
                 file,
-                cache,
+                in_memory,
                 on_refusal,
             },
-        ) => run(alloc, file, cache, on_refusal, place, input, output, errors),
+        ) => run(
+            alloc, file, in_memory, on_refusal, place, input, output, errors,
+        ),
         Ok(
             Job::Do {
                 file,
                 input,
-                cache,
+                in_memory,
                 on_refusal,
             },
         ) => {
             let mut lines = input.as_slice();
             run(
-                alloc, file, cache, on_refusal, place, &mut lines, output, errors,
+                alloc, file, in_memory, on_refusal, place, &mut lines, output, errors,
             )
         }
         Ok(Job::Check { file }) => check(alloc, file, place, output, errors),
@@ -214,11 +217,11 @@ fn make_store<D: Disk, W: Write, F: Write>(
     }
 }
 
-// Opens the store in a file, and answers the lines of the input. Up to `cache` of its blocks stay in memory.
+// Opens the store in a file, and answers the lines of the input.
 fn run<P: Place, R: Read, W: Write, F: Write>(
     alloc: Global,
     file: &str,
-    cache: u32,
+    in_memory: InMemory,
     on_refusal: OnRefusal,
     place: &mut P,
     input: &mut R,
@@ -226,17 +229,19 @@ fn run<P: Place, R: Read, W: Write, F: Write>(
     errors: &mut F,
 ) -> Exit
     ensures says { ((errors.new ≡ errors.old) × MayEnd on_refusal result)
-        ⊎ ((output.new ≡ output.old) × ((text : List ℕ) × SaysRefused (run_wanted file.now cache on_refusal) text
+        ⊎ ((output.new ≡ output.old) × ((text : List ℕ) × SaysRefused (run_wanted file.now in_memory on_refusal) text
         × Tells Exit.Refused result (F.contents errors.old) (F.contents errors.new) text)) }
     ensures files { (P.state place.new).honest ≡ true
-        → Answers P.D.Disk ⟦<CachedDisk<P::D> as Disk>⟧ file.now cache on_refusal result (P.state place.old) (P.state place.new)
+        → Answers P.D.Disk ⟦<CachedDisk<P::D> as Disk>⟧ ⟦<DelayedDisk<P::D> as Disk>⟧ ⟦<CachedDisk<DelayedDisk<P::D>> as Disk>⟧ file.now in_memory on_refusal result (P.state place.old) (P.state place.new)
         (R.remaining input.old) (W.contents output.old) (W.contents output.new)
         ⊎ Declines P.D.Disk (P.denied place.new ≡ P.denied place.old + 1) file.now result (P.state place.old) (P.state place.new) (F.contents errors.old) (F.contents errors.new) }
 {
     let Some(disk) = place.find(file) else {
         return no_file(b"altctl: cannot open ", file, errors);
     };
-    let (exit, served) = answer_lines_cached(alloc, disk, cache, on_refusal, input, output, errors);
+    let (exit, served) = answer_lines_late(
+        alloc, disk, in_memory, on_refusal, input, output, errors,
+    );
     place.give_back(file, served);
     exit
 }

@@ -216,7 +216,7 @@ fn says_that_there_is_no_such_file(rt: HostRuntime) -> Result<(), Fail> {
 #[test]
 fn job_has_the_words_as_lines(rt: HostRuntime) -> Result<(), Fail> {
     let mut words = Vec::new(rt.alloc());
-    for word in ["altctl", "do", "f", "free", "--cache", "4", "", "alts"] {
+    for word in ["altctl", "do", "f", "free", "--cache", "4", "", "--buffer=2", "alts"] {
         words.push(String::from_str(rt.alloc(), word)?)?;
     }
     match job(rt.alloc(), words.as_slice()) {
@@ -224,13 +224,14 @@ fn job_has_the_words_as_lines(rt: HostRuntime) -> Result<(), Fail> {
             Job::Do {
                 file,
                 input,
-                cache,
+                in_memory,
                 on_refusal,
             },
         ) => {
             assert_eq!(rt; file, "f");
             assert_eq!(rt; input.as_slice(), b"free\n\nalts\n".as_slice());
-            assert_eq!(rt; cache, 4);
+            assert_eq!(rt; in_memory.cache, 4);
+            assert_eq!(rt; in_memory.buffer, 2);
             assert_eq!(rt; on_refusal, OnRefusal::Tell);
         }
         _ => panic!(rt; "they ask for lines to be answered"),

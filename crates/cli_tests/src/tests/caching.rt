@@ -1,9 +1,9 @@
-//! How many blocks of a file are kept in memory.
+//! How many blocks of a file stay in memory, and how many wait there to be written.
 use super::{CREATE, RUN, ran};
 use std::alloc::Global;
 use std::process::Abort;
 use std::test::Fail;
-use vm_cli::{Job, MemFiles, OnRefusal, Place, job};
+use vm_cli::{InMemory, Job, MemFiles, OnRefusal, Place, job};
 
 fn owned(alloc: Global, words: &[&str]) -> Result<Vec<String>, Fail> {
     let mut owned = Vec::new(alloc);
@@ -14,11 +14,15 @@ fn owned(alloc: Global, words: &[&str]) -> Result<Vec<String>, Fail> {
 }
 
 /// The words ask for lines to be answered over file `f`, with so many blocks in memory.
-fn expect_cache<R: AllocGlobal + Abort>(rt: &R, words: &[&str], cache: u32) -> Result<(), Fail> {
+fn expect_in_memory<R: AllocGlobal + Abort>(
+    rt: &R,
+    words: &[&str],
+    in_memory: InMemory,
+) -> Result<(), Fail> {
     let owned = owned(rt.alloc(), words)?;
     let asked = Job::Run {
         file: "f",
-        cache,
+        in_memory,
         on_refusal: OnRefusal::Ignore,
     };
     match job(rt.alloc(), owned.as_slice()) {
@@ -44,7 +48,24 @@ fn job_has_the_number_that_the_words_say(rt: HostRuntime) -> Result<(), Fail> {
         (["altctl", "run", "--cache", "064", "f"].as_slice(), 64),
         (["altctl", "run", "--cache", "+64", "f"].as_slice(), 64),
     ] {
-        expect_cache(&rt, words, cache)?;
+        let buffer = 0;
+        expect_in_memory(&rt, words, InMemory { cache, buffer })?;
+    }
+    Ok(())
+}
+
+#[test]
+fn job_has_the_number_of_blocks_that_wait(rt: HostRuntime) -> Result<(), Fail> {
+    for (words, cache, buffer) in [
+        (["altctl", "run", "--buffer", "0", "f"].as_slice(), 256, 0),
+        (["altctl", "run", "f", "--buffer=4"].as_slice(), 256, 4),
+        (
+            ["altctl", "run", "--buffer", "65536", "f", "--cache", "8"].as_slice(),
+            8,
+            65_536,
+        ),
+    ] {
+        expect_in_memory(&rt, words, InMemory { cache, buffer })?;
     }
     Ok(())
 }
@@ -57,6 +78,9 @@ fn answers_are_the_same_whatever_is_kept(rt: HostRuntime) -> Result<(), Fail> {
         ["altctl", "run", "--cache", "1", "f"].as_slice(),
         ["altctl", "run", "--cache", "65536", "f"].as_slice(),
         ["altctl", "run", "f", "--cache=4"].as_slice(),
+        ["altctl", "run", "--buffer", "0", "f"].as_slice(),
+        ["altctl", "run", "--buffer", "1", "f"].as_slice(),
+        ["altctl", "run", "--buffer", "2", "--cache", "0", "f"].as_slice(),
     ] {
         let mut files = MemFiles::new(rt.alloc());
         let made = ran(rt.alloc(), &mut files, CREATE.as_slice(), b"")?;
@@ -87,6 +111,10 @@ fn refuses_a_number_that_is_none_or_too_large(rt: HostRuntime) -> Result<(), Fai
         ["altctl", "run", "--cache", "4"].as_slice(),
         ["altctl", "--cache", "4", "run", "f"].as_slice(),
         ["altctl", "create", "--cache", "4", "g", "64"].as_slice(),
+        ["altctl", "run", "--buffer", "65537", "f"].as_slice(),
+        ["altctl", "run", "--buffer", "x", "f"].as_slice(),
+        ["altctl", "run", "f", "--buffer"].as_slice(),
+        ["altctl", "create", "--buffer", "4", "g", "64"].as_slice(),
     ] {
         let refused = ran(rt.alloc(), &mut files, words, b"free\n")?;
         assert_eq!(rt; refused.status, 2);

@@ -146,6 +146,7 @@ fn shows_how_lines_are_given(rt: HostRuntime) -> Result<(), Fail> {
     for part in [
         "Usage: altctl do [OPTIONS] <FILE> <LINE>...",
         "--cache <N>",
+        "--buffer <N>",
         "--strict",
         "  $ altctl do map.alt 'put top 7 1 cable%20A' 'get top 7 1' commit\n",
         "\n  ok\n  value cable%20A\n  ok\n",
@@ -161,8 +162,10 @@ fn shows_all_lines(rt: HostRuntime) -> Result<(), Fail> {
     for part in [
         "Usage: altctl run [OPTIONS] <FILE>",
         "--cache <N>",
+        "--buffer <N>",
         "0 to 65536",
         "[default: 256]",
+        "[default: 0]",
         "--strict",
         "\nBLOCKS is how many blocks the store is to have: ",
         "\n  Not a larger size 21 BadSize\n",

@@ -1,14 +1,17 @@
 //! What stands between a store and the device that fails.
 use std::alloc::Global;
-use vm_disk::{CachedDisk, Disk, FuseDisk, MemDisk};
+use vm_disk::{CachedDisk, DelayedDisk, Disk, FuseDisk, MemDisk};
 
 /// A device that fails one call, over one that stops.
 pub type Device = FuseDisk<FuseDisk<MemDisk>>;
 
 /// A disk for a store, over such a device.
 pub trait Layer: Disk + Drop {
-    /// A new one, where there is memory for it.
-    fn over(alloc: Global, device: Device) -> Option<Self>;
+    /// A new one that has up to so many blocks in memory, where there is memory for it.
+    fn over(alloc: Global, device: Device, blocks: u32) -> Option<Self>;
+
+    /// The same after a call failed, as it is for who opens it anew.
+    fn anew(self, alloc: Global, blocks: u32) -> Option<Self>;
 
     /// The device, given back.
     fn below(self) -> Device;
@@ -16,8 +19,12 @@ pub trait Layer: Disk + Drop {
 
 /// Nothing between them.
 impl Layer for Device {
-    fn over(_: Global, device: Device) -> Option<Device> {
+    fn over(_: Global, device: Device, _: u32) -> Option<Device> {
         Some(device)
+    }
+
+    fn anew(self, _: Global, _: u32) -> Option<Device> {
+        Some(self)
     }
 
     fn below(self) -> Device {
@@ -25,10 +32,29 @@ impl Layer for Device {
     }
 }
 
-/// A cache of two blocks between them.
+/// A cache between them.
 impl Layer for CachedDisk<Device> {
-    fn over(alloc: Global, device: Device) -> Option<CachedDisk<Device>> {
-        CachedDisk::new(alloc, device, 2).ok()
+    fn over(alloc: Global, device: Device, blocks: u32) -> Option<CachedDisk<Device>> {
+        CachedDisk::new(alloc, device, blocks.max(1) as usize).ok()
+    }
+
+    fn anew(self, _: Global, _: u32) -> Option<CachedDisk<Device>> {
+        Some(self)
+    }
+
+    fn below(self) -> Device {
+        self.into_inner()
+    }
+}
+
+/// Written blocks that wait between them. Opened anew, those that still wait are given up.
+impl Layer for DelayedDisk<Device> {
+    fn over(alloc: Global, device: Device, blocks: u32) -> Option<DelayedDisk<Device>> {
+        DelayedDisk::new(alloc, device, blocks.max(1) as usize).ok()
+    }
+
+    fn anew(self, alloc: Global, blocks: u32) -> Option<DelayedDisk<Device>> {
+        Layer::over(alloc, self.into_inner(), blocks)
     }
 
     fn below(self) -> Device {

@@ -40,13 +40,15 @@ pub struct Fault {
     pub then: Option<Shown>,
 }
 
-/// Which commands are run, from where on, and in which call the device fails.
+/// Which commands are run, from where on, in which call the device fails, and how many blocks are in
+/// memory at most.
 #[derive(Drop)]
 pub struct Scene {
     pub script: Script,
     pub image: Image,
     pub from: Shown,
     pub fault: Option<Fault>,
+    pub blocks: u32,
 }
 
 /// The end of a run: the disk, how many calls the device has counted, and what a crash may show. Where
@@ -178,11 +180,14 @@ pub(super) fn run<D: Layer>(
         Some(fault) => FuseDisk::once(stopping, fault.passes.min(NEVER), fault.torn),
         None => FuseDisk::once(stopping, NEVER, *torn),
     };
-    let disk = D::over(alloc, failing).ok_or(Wrong::Memory)?;
+    let disk = D::over(alloc, failing, scene.blocks).ok_or(Wrong::Memory)?;
     let (disk, due) = go_on(alloc, disk, scene.script, scene.from)?;
     let then = scene.fault.and_then(|fault| fault.then);
     let (disk, due) = match then {
-        Some(then) => resume(alloc, disk, scene.script, then)?,
+        Some(then) => {
+            let disk = disk.anew(alloc, scene.blocks).ok_or(Wrong::Memory)?;
+            resume(alloc, disk, scene.script, then)?
+        }
         None => (disk, due),
     };
     let stopped = disk.below().into_inner();

@@ -8,7 +8,7 @@ use super::running::{Due, Fault, NEVER, Scene, run};
 use super::states::{Shown, look};
 use std::alloc::Global;
 use std::process::Abort;
-use vm_disk::{CachedDisk, MemDisk};
+use vm_disk::{CachedDisk, DelayedDisk, MemDisk};
 
 /// What is done at each device call.
 #[derive(Clone, Copy, PartialEq, Eq)]
@@ -31,12 +31,13 @@ fn expect(due: Due, shown: Shown) -> Result<(), Wrong> {
 }
 
 // A run from a new disk on.
-fn whole(alloc: Global, script: Script, fault: Option<Fault>) -> Result<Scene, Wrong> {
+fn whole(alloc: Global, script: Script, fault: Option<Fault>, blocks: u32) -> Result<Scene, Wrong> {
     Ok(Scene {
         script,
         image: Image::blank(alloc)?,
         from: Shown::NoStore,
         fault,
+        blocks,
     })
 }
 
@@ -66,12 +67,13 @@ fn stop_each<D: Layer>(
 // Looks at what a crash left. The rest of the commands, from what is shown on, may be stopped again.
 fn go_on_from<D: Layer>(
     alloc: Global,
-    script: Script,
+    scene: &Scene,
     mut disk: MemDisk,
     due: Due,
     again: bool,
 ) -> Result<(), Wrong> {
     let image = Image::of(alloc, &mut disk)?;
+    let script = scene.script;
     let from = look(alloc, disk, script)?;
     expect(due, from)?;
     if again {
@@ -81,6 +83,7 @@ fn go_on_from<D: Layer>(
             image,
             from,
             fault: None,
+            blocks: scene.blocks,
         };
         stop_each::<D>(alloc, &rest, 0, synced, Due::of(from))?;
     }
@@ -97,7 +100,7 @@ fn stop_at<D: Layer>(
     again: bool,
 ) -> Result<(), Wrong> {
     let disk = halt.crash::<D>(alloc, scene, fill)?;
-    go_on_from::<D>(alloc, scene.script, disk, due, again)
+    go_on_from::<D>(alloc, scene, disk, due, again)
 }
 
 // Crashes at a call where not all blocks are sure, and leaves each number of blocks that may be left. What
@@ -114,7 +117,7 @@ fn stop_short<D: Layer>(
     for left in sure..blocks {
         let disk = halt.crash_short::<D>(alloc, scene, fill, left)?;
         let again = again && fill == Fill::Written && left + 1 == blocks;
-        go_on_from::<D>(alloc, scene.script, disk, due, again)?;
+        go_on_from::<D>(alloc, scene, disk, due, again)?;
     }
     Ok(())
 }
@@ -122,12 +125,13 @@ fn stop_short<D: Layer>(
 // Fails a call. The rest of the commands, from what is shown on, ends as usual, or may be stopped.
 fn fail_at<D: Layer>(
     alloc: Global,
-    script: Script,
+    scene: &Scene,
     halt: &Halt,
     due: Due,
     fill: Fill,
     again: bool,
 ) -> Result<(), Wrong> {
+    let Scene { script, blocks, .. } = *scene;
     let fault = Fault {
         passes: halt.passes,
         torn: halt.filling(alloc, fill)?.torn,
@@ -135,14 +139,14 @@ fn fail_at<D: Layer>(
     };
     let left = run::<D>(
         alloc,
-        &whole(alloc, script, Some(fault))?,
+        &whole(alloc, script, Some(fault), blocks)?,
         NEVER,
         &[0; 4096],
     )?;
     let shown = look(alloc, left.disk, script)?;
     expect(due, shown)?;
     let then = Some(shown);
-    let scene = whole(alloc, script, Some(Fault { then, ..fault }))?;
+    let scene = whole(alloc, script, Some(Fault { then, ..fault }), blocks)?;
     if again {
         let synced = halt.synced.copy(alloc)?;
         return stop_each::<D>(alloc, &scene, left.calls, synced, due);
@@ -169,16 +173,21 @@ fn try_at<D: Layer>(
                 stop_at::<D>(alloc, scene, halt, due, fill, again)?;
                 stop_short::<D>(alloc, scene, halt, due, fill, again)?;
             }
-            Trial::Fail => fail_at::<D>(alloc, scene.script, halt, due, fill, false)?,
-            Trial::FailThenStop => fail_at::<D>(alloc, scene.script, halt, due, fill, true)?,
+            Trial::Fail => fail_at::<D>(alloc, scene, halt, due, fill, false)?,
+            Trial::FailThenStop => fail_at::<D>(alloc, scene, halt, due, fill, true)?,
         }
     }
     Ok(())
 }
 
 // Does this at each device call. Gives the number of calls, or the one at which something is wrong.
-fn try_script<D: Layer>(alloc: Global, script: Script, trial: Trial) -> Result<u32, (Wrong, u32)> {
-    let scene = whole(alloc, script, None).map_err(|wrong| (wrong, 0))?;
+fn try_script<D: Layer>(
+    alloc: Global,
+    script: Script,
+    trial: Trial,
+    blocks: u32,
+) -> Result<u32, (Wrong, u32)> {
+    let scene = whole(alloc, script, None, blocks).map_err(|wrong| (wrong, 0))?;
     let synced = Image::blank(alloc).map_err(|wrong| (wrong, 0))?;
     let mut halt = Halt::at::<D>(alloc, &scene, 0, synced).map_err(|wrong| (wrong, 0))?;
     for passes in 0..NEVER {
@@ -199,13 +208,25 @@ fn are_cached_calls(script: Script, found: Result<u32, (Wrong, u32)>) -> bool {
 }
 
 fn try_all<R: AllocGlobal + Abort>(rt: &R, script: Script, trial: Trial) {
-    let found = try_script::<Device>(rt.alloc(), script, trial);
+    let found = try_script::<Device>(rt.alloc(), script, trial, 0);
     assert_eq!(rt; found, Ok(script.calls()));
 }
 
 fn try_cached<R: AllocGlobal + Abort>(rt: &R, script: Script, trial: Trial) {
-    let found = try_script::<CachedDisk<Device>>(rt.alloc(), script, trial);
+    let found = try_script::<CachedDisk<Device>>(rt.alloc(), script, trial, 2);
     assert!(rt; are_cached_calls(script, found), "{found:?}");
+}
+
+// Written blocks that wait, one, two or all of them: a block that is written again before it goes out is
+// no call of its own.
+fn try_late<R: AllocGlobal + Abort>(rt: &R, script: Script, trial: Trial) {
+    for blocks in [1, 2, 64] {
+        let found = try_script::<DelayedDisk<Device>>(rt.alloc(), script, trial, blocks);
+        assert!(rt;
+            found.is_ok_and(|calls| calls <= script.calls() && calls >= 10),
+            "{found:?}"
+        );
+    }
 }
 
 #[test]
@@ -286,4 +307,24 @@ fn branch_and_growth_over_a_cache_end_as_usual_after_each_fault(rt: HostRuntime)
 #[test]
 fn each_stop_after_a_fault_below_a_cache_shows_the_branch_and_the_growth(rt: HostRuntime) {
     try_cached(&rt, Script::Grown, Trial::FailThenStop);
+}
+
+#[test]
+fn each_stop_below_what_waits_shows_what_was_acknowledged(rt: HostRuntime) {
+    try_late(&rt, Script::Posted, Trial::Stop);
+}
+
+#[test]
+fn commands_over_what_waits_end_as_usual_after_each_fault(rt: HostRuntime) {
+    try_late(&rt, Script::Posted, Trial::Fail);
+}
+
+#[test]
+fn each_stop_below_what_waits_shows_the_branch_and_the_growth(rt: HostRuntime) {
+    try_late(&rt, Script::Grown, Trial::Stop);
+}
+
+#[test]
+fn branch_and_growth_over_what_waits_end_as_usual_after_each_fault(rt: HostRuntime) {
+    try_late(&rt, Script::Grown, Trial::Fail);
 }

@@ -146,6 +146,9 @@ pub const RUN_FILE: &str = "The file, as altctl create has made it";
 /// How many blocks `run` keeps in memory.
 pub const RUN_CACHE: &str = "How many blocks stay in memory: 0 to 65536";
 
+/// The size of its buffer.
+pub const RUN_BUFFER: &str = "How many written blocks wait: 0 to 65536";
+
 /// That a refused line ends `run` or `do`.
 pub const STRICT: &str = "Ends with the first line that is refused, with status 4";
 

@@ -3,11 +3,11 @@ ghost use Rattle.clap.specs.Words.{FailsBy, app_of, fault_of, kind_of, one_of, r
 ghost use Rattle.clap.specs.declared.builder.command.Command.TheViews.{out-Command};
 ghost use Rattle.std.specs.Prelude.{◌≡◌, ◌⊎◌, if◌then◌else◌, IfErr, IfOk, None, Some, false, map, ℕ, List, option_map, option_and_then, codes};
 ghost use Rattle.std.specs.String.{string_bytes};
-ghost use Rattle.vm_cli.specs.Words.{altctl, asked_by, asked_of, blocks_rule, cache_rule, check_app, create_app, do_app, file_rule, line_rule, is_set, number_in, run_app, strict_rule, top_app, tree_app, wanted_of};
+ghost use Rattle.vm_cli.specs.Words.{altctl, asked_by, asked_of, blocks_rule, buffer_rule, cache_rule, check_app, create_app, do_app, file_rule, line_rule, is_set, number_in, memory_by, run_app, strict_rule, top_app, tree_app, wanted_of};
 
 use crate::program::given::input_of;
 use crate::program::help;
-use crate::program::task::Job;
+use crate::program::task::{InMemory, Job};
 use crate::talk::OnRefusal;
 use clap::{Arg, ArgAction, ArgMatches, Command, Error, value_parser};
 use std::alloc::{AllocError, Global};
@@ -20,6 +20,9 @@ pub const MOST_BLOCKS: u32 = 1_048_576;
 
 /// The most blocks that are kept in memory.
 pub const MOST_CACHE: u32 = 65_536;
+
+/// The most blocks that wait to be written.
+pub const MOST_BUFFER: u32 = 65_536;
 
 /// Reads the program's words, of which the first is its name. An `Err` has the text to show, help
 /// included.
@@ -68,11 +71,11 @@ fn asked_create<'a>(matches: &ArgMatches<'a>, file: &'a str) -> Option<Job<'a>>
 fn asked_run<'a>(matches: &ArgMatches<'a>, file: &'a str) -> Option<Job<'a>>
     ensures { option_map wanted_of result ≡ asked_by (codes "run") (rows_of (found_of matches.now)) file.now }
 {
-    let cache = number_of(matches, "cache", 0, MOST_CACHE)?;
+    let in_memory = in_memory(matches)?;
     let on_refusal = on_refusal(is_strict(matches), OnRefusal::Ignore);
     Some(Job::Run {
         file,
-        cache,
+        in_memory,
         on_refusal,
     })
 }
@@ -88,7 +91,7 @@ fn asked_do<'a>(
     let Some(lines) = matches.get_strs("line") else {
         return Ok(None);
     };
-    let Some(cache) = number_of(matches, "cache", 0, MOST_CACHE) else {
+    let Some(in_memory) = in_memory(matches) else {
         return Ok(None);
     };
     let input = input_of(alloc, lines)?;
@@ -96,9 +99,18 @@ fn asked_do<'a>(
     Ok(Some(Job::Do {
         file,
         input,
-        cache,
+        in_memory,
         on_refusal,
     }))
+}
+
+// How many blocks are to stay and to wait in memory.
+fn in_memory(matches: &ArgMatches<'_>) -> Option<InMemory>
+    ensures { result ≡ memory_by (rows_of (found_of matches.now)) }
+{
+    let cache = number_of(matches, "cache", 0, MOST_CACHE)?;
+    let buffer = number_of(matches, "buffer", 0, MOST_BUFFER)?;
+    Some(InMemory { cache, buffer })
 }
 
 // Whether `--strict` was given.
@@ -207,11 +219,14 @@ fn do_lines<'a>(alloc: Global) -> Result<Command<'a>, AllocError>
 
 // A command with the options of a talk.
 fn with_options<'a>(alloc: Global, command: Command<'a>) -> Result<Command<'a>, AllocError>
-    ensures app { IfOk result (λ c. app_of c ≡ with_rule (with_rule (app_of command.entry) cache_rule) strict_rule) }
+    ensures app { IfOk result (λ c. app_of c ≡ with_rule (with_rule (with_rule (app_of command.entry) cache_rule) buffer_rule) strict_rule) }
     ensures local { (out-Command command.entry).has_globals ≡ false
         → IfOk result (λ c. (out-Command c).has_globals ≡ false) }
 {
-    command.arg(cache(alloc))?.arg(strict(alloc))
+    command
+        .arg(cache(alloc))?
+        .arg(buffer(alloc))?
+        .arg(strict(alloc))
 }
 
 fn check<'a>(alloc: Global) -> Result<Command<'a>, AllocError>
@@ -277,6 +292,18 @@ fn cache<'a>(alloc: Global) -> Arg<'a>
         .value_name("N")
         .help(help::RUN_CACHE)
         .default_value("256")
+        .value_parser(value_parser!(u32).range(0..=65_536))
+}
+
+fn buffer<'a>(alloc: Global) -> Arg<'a>
+    ensures rule { rule_of result ≡ buffer_rule }
+    ensures local { result.global ≡ false }
+{
+    Arg::new(alloc, "buffer")
+        .long("buffer")
+        .value_name("N")
+        .help(help::RUN_BUFFER)
+        .default_value("0")
         .value_parser(value_parser!(u32).range(0..=65_536))
 }
 

@@ -19,4 +19,4 @@ returns c =
     let given = rw c.in-Some.is at c.get_strs.ensures in
     let lines : all_of (codes "line") (rows_of found) ≡ Some (map (λ line. line.now) c.in-Some.lines.now) = sym (raw_values-rows found (codes "line")) ∙ sym given in
     let on : c.on_refusal-on_refusal.result ≡ refusal_by Tell (rows_of found) = search rules in
-    rw (c.in_ok-input.ensures, on) (sym (do_by-lines (rows_of found) c.args.file.now _ _ lines (sym c.in-Some-number_of.ensures)))
+    rw (c.in_ok-input.ensures, on) (sym (do_by-lines (rows_of found) c.args.file.now _ _ lines (sym c.in-Some-in_memory.ensures)))
