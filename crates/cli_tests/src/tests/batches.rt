@@ -216,7 +216,17 @@ fn says_that_there_is_no_such_file(rt: HostRuntime) -> Result<(), Fail> {
 #[test]
 fn job_has_the_words_as_lines(rt: HostRuntime) -> Result<(), Fail> {
     let mut words = Vec::new(rt.alloc());
-    for word in ["altctl", "do", "f", "free", "--cache", "4", "", "--buffer=2", "alts"] {
+    for word in [
+        "altctl",
+        "do",
+        "f",
+        "free",
+        "--cache",
+        "4",
+        "",
+        "--buffer=2",
+        "alts",
+    ] {
         words.push(String::from_str(rt.alloc(), word)?)?;
     }
     match job(rt.alloc(), words.as_slice()) {
