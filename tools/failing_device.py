@@ -3,7 +3,7 @@
 status 1.
 
 One list of lines is run over a store, which grows in it, and one of its reads, writes and syncs fails, the first, the second and so
-on; or that one and all after it. A write that fails leaves nothing, half a block or one block. Then the store has to open again with
+on; or that one and all after it. So it is where written blocks wait in memory, too, up to two or to 64. A write that fails leaves nothing, half a block or one block. Then the store has to open again with
 what was acknowledged, and the rest of the lines ends as usual. And each block of a store with a tree of two levels can't be read once it was
 opened: what lies in it is answered with `error 15 Device`, and everything else as usual.
 
@@ -29,16 +29,16 @@ def preloaded(folder, **numbers):
     return {**os.environ, **numbers, "LD_PRELOAD": os.path.join(folder, "fail_calls.so"), "FAILED": os.path.join(folder, "failed")}
 
 
-def try_calls(folder, fails_on, torn):
+def try_calls(folder, fails_on, torn, options):
     """Fails one call after another, until a run has no such call. Gives how many runs were stopped."""
     file, failed = os.path.join(folder, "store"), os.path.join(folder, "failed")
     call, is_there = 0, True
     while is_there:
         call += 1
         create(ALTCTL, file)
-        how = f"call {call}{' and those after it' * fails_on} failed, a write after {torn} bytes"
+        how = f"call {call}{' and those after it' * fails_on} failed, a write after {torn} bytes, {options or 'no options'}"
         variables = preloaded(folder, fail_call=call, fail_on=fails_on, fail_torn=torn)
-        stopped = run_and_finish(ALTCTL, file, how, program=PROGRAM, variables=variables)
+        stopped = run_and_finish(ALTCTL, file, how, program=PROGRAM, options=options, variables=variables)
         is_there = os.path.exists(failed)
         expect(f"{how}: stopped", is_there, stopped)
         os.remove(file)
@@ -88,7 +88,9 @@ def main():
             subprocess.run([ALTCTL, "--help"], stdout=subprocess.DEVNULL, check=True)
             source, library = os.path.join(TOP, "tools/fail_calls.c"), os.path.join(folder, "fail_calls.so")
             subprocess.run([os.environ.get("CC", "cc"), "-O1", "-shared", "-fPIC", "-o", library, source], check=True)
-            stops = sum(try_calls(folder, fails_on, torn) for fails_on in (0, 1) for torn in (0, BLOCK // 2, BLOCK))
+            faults = [(fails_on, torn) for fails_on in (0, 1) for torn in (0, BLOCK // 2, BLOCK)]
+            options = [[], ["--buffer", "2"], ["--buffer", "64"]]
+            stops = sum(try_calls(folder, *fault, given) for given in options for fault in faults)
             blocks = try_blocks(folder)
     except Failure as failure:
         print(f"failing_device: {failure}", file=sys.stderr)

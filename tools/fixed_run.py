@@ -91,10 +91,10 @@ def finish(altctl, file, after, how):
     expect(f"{how}: blocks of the file", MORE, os.path.getsize(file) / BLOCK)
 
 
-def run_and_finish(altctl, file, how, program=None, **started):
+def run_and_finish(altctl, file, how, program=None, options=(), **started):
     """Runs the lines in a way that may stop them, looks at what is shown then, and runs the rest as usual. Gives whether they
     were stopped."""
-    status, answers, faults = start(program or altctl, ["run", file], LINES, **started)
+    status, answers, faults = start(program or altctl, ["run", *options, file], LINES, **started)
     stopped = check_answers(status, answers, faults, how)
     finish(altctl, file, shown_after(altctl, file, answers, how), how)
     return stopped

@@ -399,6 +399,7 @@ END
 printf 'ok\nok\n' >output
 : >faults
 program 'a batch without a refused word' 0 do --cache 0 --strict batch -- 'put top 7 2 pipe' commit
+program 'a batch whose blocks wait' 0 do --buffer 1 --strict batch -- 'put top 7 2 pipe' commit
 : >output
 program 'no word for a line' 2 do batch
 
