@@ -109,8 +109,8 @@ fn names_the_first_key_that_is_settled_twice(rt: HostRuntime) {
     assert!(rt; settled_refusal(rt.alloc(), &[mine(3), mine(4), mine(4)], &mixed()) == refused);
 }
 
-#[test]
-fn merges_by_settlements_in_any_order(rt: HostRuntime) -> Result<(), Fail> {
+// What the parent changed of a base, and what the alternative did.
+fn both_sides(alloc: Global) -> Result<(Changes, Changes), AllocError> {
     let parent: [Change; 5] = [
         change(1, None, Some(b'p')),
         change(2, Some(b'b'), Some(b'p')),
@@ -125,12 +125,23 @@ fn merges_by_settlements_in_any_order(rt: HostRuntime) -> Result<(), Fail> {
         change(6, None, Some(b'm')),
         change(7, None, Some(b'p')),
     ];
-    let (parent, own) = (packed(rt.alloc(), &parent)?, packed(rt.alloc(), &own)?);
+    Ok((packed(alloc, &parent)?, packed(alloc, &own)?))
+}
+
+#[test]
+fn finds_the_conflicts_and_their_keys(rt: HostRuntime) -> Result<(), Fail> {
+    let (parent, own) = both_sides(rt.alloc())?;
     let conflicts = conflicts_between(rt.alloc(), &parent, &own)?;
     assert_eq!(rt; conflicts.len(), 3);
     assert!(rt; conflicts.at(2) == Some(conflict(6)));
     let keys = keys_in_conflict(rt.alloc(), &parent, &own)?;
     assert!(rt; keys.as_slice() == rising().as_slice());
+    Ok(())
+}
+
+#[test]
+fn merges_by_settlements_in_any_order(rt: HostRuntime) -> Result<(), Fail> {
+    let (parent, own) = both_sides(rt.alloc())?;
     let taken: [Change; 3] = [
         change(1, None, Some(b'p')),
         change(2, Some(b'm'), Some(b'p')),
@@ -141,11 +152,18 @@ fn merges_by_settlements_in_any_order(rt: HostRuntime) -> Result<(), Fail> {
         [mine(6), theirs(4), theirs(2)],
         [theirs(4), mine(6), theirs(2)],
     ] {
-        assert!(rt; settled_refusal(rt.alloc(), &settled, &keys).is_none());
+        assert!(rt; settled_refusal(rt.alloc(), &settled, &rising()).is_none());
         let changes = changes_by_merge(rt.alloc(), &parent, &own, &settled)?;
         assert!(rt; changes.to_vec(rt.alloc())?.as_slice() == taken.as_slice());
     }
-    let kept = changes_by_merge(rt.alloc(), &parent, &own, &[mine(2), mine(4), mine(6)])?;
+    Ok(())
+}
+
+#[test]
+fn merge_keeps_the_own_values_by_settlements(rt: HostRuntime) -> Result<(), Fail> {
+    let (parent, own) = both_sides(rt.alloc())?;
+    let settled = [mine(2), mine(4), mine(6)];
+    let kept = changes_by_merge(rt.alloc(), &parent, &own, &settled)?;
     assert_eq!(rt; kept.len(), 1);
     assert!(rt; kept.at(0) == Some(change(1, None, Some(b'p'))));
     Ok(())
