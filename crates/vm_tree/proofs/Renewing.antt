@@ -1,7 +1,7 @@
 -- Blocks that are held now, and to be kept if they were held before a change.
 use Rattle.std.proofs.Common.{◌≡◌, ◌≢◌, ℕ, ◌==◌, ◌&&◌, cond, Bool, true, false, not, List, [], ◌∷◌, Result, Ok, Err, IfOk, refl, sym, ap, ◌∙◌, inl, inr}
 use Rattle.std.specs.List.{AllByRecursion}
-use Rattle.std.proofs.lemmas.Bool.{cases_Bool, cases_eq, eqb-eq, false≢true, ne_eqb}
+use Rattle.std.proofs.lemmas.Bool.{cases_Bool, cases_eq, eq-eqb, false≢true, ne_eqb}
 use Rattle.vm_types.specs.Map.{Map}
 use Rattle.vm_disk.specs.Disk.{Contents}
 use Rattle.vm_alloc.specs.Held.{is_held, IsHeld, HoldsMore}
@@ -22,7 +22,7 @@ renewed_free before held later keep n more free is =
     record { now = is; kept = λ had. absurd (false≢true (sym (ap not (more.still n had)) ∙ free)) }
 
 -- block n is none of these
-pub lacks : List ℕ → ℕ → Bool
+abbrev pub lacks : List ℕ → ℕ → Bool
 lacks [] n = true
 lacks (b ∷ bs) n = not (b == n) && lacks bs n
 
@@ -34,7 +34,7 @@ is_lacks : (bs : List ℕ) (n : ℕ) → lacks bs n ≡ true → Lacks n bs
 is_lacks [] n is = tt
 is_lacks (b ∷ bs) n is =
     elim (cases_eq b n) [
-      | inl same ↦ absurd (false≢true (sym (ap (λ t. not t && lacks bs n) (eqb-eq b n same)) ∙ is))
+      | inl same ↦ absurd (false≢true (sym (ap (λ t. not t && lacks bs n) (eq-eqb b n same)) ∙ is))
       | inr other ↦ (other, is_lacks bs n (sym (ap (λ t. not t && lacks bs n) (ne_eqb b n other)) ∙ is))
     ]
 
@@ -62,7 +62,7 @@ pub path_there : (root : Root) (path : List ℕ) → root.block ≢ 0 → path_u
 path_there root path some = ap (λ t. cond t [] (path_from root.level path)) (ne_eqb root.block 0 some)
 
 pub path_bare : (root : Root) (path : List ℕ) → root.block ≡ 0 → path_under root path ≡ []
-path_bare root path none = ap (λ t. cond t [] (path_from root.level path)) (eqb-eq root.block 0 none)
+path_bare root path none = ap (λ t. cond t [] (path_from root.level path)) (eq-eqb root.block 0 none)
 
 -- what is answered, and what follows from it
 pub if_ok_map : {T E : Type 0} (result : Result T E) (P Q : T → Type 0) → IfOk result P → ((x : T) → P x → Q x) → IfOk result Q
