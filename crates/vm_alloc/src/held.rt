@@ -124,4 +124,10 @@ impl Held {
         self.free = marks.unmarked();
         self.lowest = 0;
     }
+
+    pub(crate) fn flags(&self) -> &Flags
+        ensures { result.now ≡ self.now }
+    {
+        &self.flags
+    }
 }
