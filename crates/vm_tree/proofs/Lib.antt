@@ -1,3 +1,5 @@
+pub mod ApartLemmas
+pub mod Beside
 pub mod Descent
 pub mod FullPaths
 pub mod Growing
@@ -7,6 +9,7 @@ pub mod Placing
 pub mod PutLemmas
 pub mod Removal
 pub mod RemoveLemmas
+pub mod Renewing
 pub mod Rising
 pub mod RootLemmas
 pub mod RootRemoval

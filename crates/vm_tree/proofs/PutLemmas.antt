@@ -1,10 +1,11 @@
 -- What a Put under a block answers, from what it answers under the chosen child.
-use Rattle.std.proofs.Common.{◌≡◌, ◌≢◌, ◌↔◌, ℕ, None, suc, ◌+◌, ◌-◌, ◌<◌, ◌≤◌, true, false, List, ◌++◌, length, get_or, take, drop, Result, Ok, Err, IfOk, refl, sym, ap, ◌∙◌, subst, arith, inl, inr, length-append, length-drop, length-take-le, take-append-drop}
+use Rattle.std.proofs.Common.{◌≡◌, ◌≢◌, ◌↔◌, ℕ, None, suc, ◌+◌, ◌-◌, ◌<◌, ◌≤◌, Bool, true, false, List, [], ◌∷◌, ◌++◌, length, get_or, take, drop, Result, Ok, Err, IfOk, refl, sym, ap, ◌∙◌, subst, arith, inl, inr, length-append, length-drop, length-take-le, take-append-drop}
 use Rattle.std.specs.List.{AllByRecursion}
 use Rattle.std.proofs.lemmas.Bool.{cases_Bool, false≢true}
 use Rattle.std.proofs.lemmas.List.{length-map}
 use Rattle.vm_types.specs.Places.{place, RisesFrom, places, value_at, with_record}
 use Rattle.vm_disk.specs.Disk.{Contents, block, Medium}
+use Rattle.vm_alloc.specs.Held.{HoldsMore, IsHeld}
 use Rattle.vm_block.specs.Leaf.{Record}
 use Rattle.vm_block.specs.Node.{ChildFits, lows}
 use Rattle.vm_block.specs.FullPath.{IsChosen}
@@ -20,10 +21,13 @@ use Rattle.vm_tree.specs.declared.root.TreeFault.{TreeFault}
 use Rattle.vm_tree.specs.declared.root.TreeFault.TheVariants.{Device, Damaged, Deep, Memory}
 use Rattle.vm_tree.specs.declared.writing.Copied.{Copied}
 use Rattle.vm_tree.specs.declared.writing.Copied.TheVariants.{One, Two}
+use Rattle.vm_tree.specs.Replacing.{IsPathIn, IsRenewed, KeepsBeside, Replaces}
+use Rattle.vm_tree.proofs.Beside.{if_ok_where, left_renewed, own_held, own_keeps, right_renewed}
 use Rattle.vm_tree.proofs.Descent.{Opened, opens}
 use Rattle.vm_tree.proofs.FullPaths.{leaf_splits, splits_leaf, node_splits, splits_node}
 use Rattle.vm_tree.proofs.Growing.{made_join, made_moved}
 use Rattle.vm_tree.proofs.Placing.{with_rises}
+use Rattle.vm_tree.proofs.Renewing.{renewed_more}
 use Rattle.vm_tree.proofs.Rising.{value_between, with_between}
 use Rattle.vm_tree.proofs.Splitting.{children_in}
 
@@ -64,10 +68,6 @@ ok_if (Err e) Q h = tt
 pub only_one : (x : Contents) (limit level b most : ℕ) (cs : List Child) → IsNodeAt x limit level b cs → (ds : List Child) → IsNodeAt x limit level b ds → length ds ≤ most → cs ≡ ds
 only_one x limit level b most cs at ds other few = (node_one (block x b) level level cs ds at.node other.node).1
 
-if_ok_later : {T : Type 0} (result : Result T TreeFault) (H : Type 0) (M : T → Type 0) → (H → IfOk result M) → IfOk result (λ x. H → M x)
-if_ok_later (Ok x) H M made = made
-if_ok_later (Err e) H M made = tt
-
 -- a leaf, with one record more
 pub leaf_put : (sizes : Sizes) (x : Contents) (limit b : ℕ) (r : Record) (rs : List Record) (bs : List ℕ) (lent : List Record) (result : Result Copied TreeFault) (Q : Copied → Type 0) (P : List Child → List Record → Type 0)
     → LeafAt sizes x limit b rs bs → RisesFrom 0 (places rs) → lent ≡ with_record r rs → OkOrDevice result Q → IfOk result (λ copied. (is_split copied ≡ true) ↔ (sizes.leaf < length lent))
@@ -79,16 +79,13 @@ leaf_put sizes x limit b r rs bs lent result Q P at rises is fine split made =
 
 -- the chosen child replaced by what was made in its place
 pub replaced_made : (P Q : ℕ → Type 0) (sizes : Sizes) (x y : Contents) (limit level b p : ℕ) (rs : List Record) (bs : List ℕ) (cs : List Child) (i : ℕ) (d : Child) → ((n : ℕ) → P n → block y n ≡ block x n) → ((n : ℕ) → P n → Q n)
-    → (at : Opened sizes x limit level b p rs bs cs i d) → AllByRecursion P bs → (now : List Child) (subs : List Record) → Made Q sizes y limit (level - 1) now subs
+    → (at : Opened sizes x limit level b p rs bs cs i d) → AllByRecursion P at.way.split.left → AllByRecursion P at.way.split.right → (now : List Child) (subs : List Record) → Made Q sizes y limit (level - 1) now subs
     → Made Q sizes y limit (level - 1) (take i cs ++ (now ++ drop (i + 1) cs)) (at.way.split.before ++ (subs ++ at.way.split.after))
-replaced_made P Q sizes x y limit level b p rs bs cs i d same so at all now subs made =
+replaced_made P Q sizes x y limit level b p rs bs cs i d same so at left right now subs made =
     let s = at.way.split in
     let below = Subtree sizes x limit (level - 1) in
     let later = Subtree sizes y limit (level - 1) in
     let moved = subtree_in P sizes x y limit same (level - 1) in
-    let under = subst (AllByRecursion P) s.blocks (subst (AllByRecursion P) at.first all).1 in
-    let left = each_front P s.left (s.own ++ s.right) under in
-    let right = each_back P s.own s.right (each_back P s.left (s.own ++ s.right) under) in
     let one : suc i ≡ i + 1 = omega arith in
     let next : drop (suc i) cs ≡ drop (i + 1) cs = ap (λ n. drop n cs) one in
     let back = subst (λ (ds : List Child). Children below ds s.after s.right) next s.back in
@@ -110,18 +107,18 @@ replaced_length cs now i lt =
 module _ (sizes : Sizes) (old mid : Medium) (limit level b : ℕ) (r : Record) (rs : List Record) (bs : List ℕ) (cs : List Child) (i : ℕ) (d : Child) (still : mid ≡ old) (above : 0 < level)
     (tree : Subtree sizes old.contents limit level b rs bs) (rises : RisesFrom 0 (places rs)) (only : (ds : List Child) → IsNodeAt old.contents limit level b ds → length ds ≤ sizes.fan → cs ≡ ds) (chosen : IsChosen (lows cs) (place r.0) i) where
   -- what is asked of a Put under the chosen child
-  abbrev pub Asked : Result Copied TreeFault → (ℕ → Type 0) → (List Child → List Record → Type 0) → Type 0
-  Asked result P M = (sub : List Record) (own : List ℕ) → Subtree sizes mid.contents limit (level - 1) (get_or cs i d).block sub own → BeginsWith (get_or cs i d).low sub → RisesFrom 0 (places sub)
-      → PutsBelow result (Splits sizes mid.contents (place r.0) (level - 1) (get_or cs i d).block sub) (λ ds. AllByRecursion P own → M ds (with_record r sub))
+  abbrev pub Asked : Result Copied TreeFault → (List Child → List Record → List ℕ → Type 0) → Type 0
+  Asked result M = (sub : List Record) (own : List ℕ) → Subtree sizes mid.contents limit (level - 1) (get_or cs i d).block sub own → BeginsWith (get_or cs i d).low sub → RisesFrom 0 (places sub)
+      → PutsBelow result (Splits sizes mid.contents (place r.0) (level - 1) (get_or cs i d).block sub) (λ ds. M ds (with_record r sub) own)
 
   -- what is answered of a child is asked where a descent takes that child
-  pub asked_of : (c : Child) (result : Result Copied TreeFault) (P : ℕ → Type 0) (M : List Child → List Record → Type 0) → get_or cs i d ≡ c
+  pub asked_of : (c : Child) (result : Result Copied TreeFault) (M : List Child → List Record → List ℕ → Type 0) → get_or cs i d ≡ c
       → ((sub : List Record) (own : List ℕ) → Subtree sizes mid.contents limit (level - 1) c.block sub own → BeginsWith c.low sub → RisesFrom 0 (places sub)
-      → PutsBelow result (Splits sizes mid.contents (place r.0) (level - 1) c.block sub) (λ ds. AllByRecursion P own → M ds (with_record r sub)))
-      → Asked result P M
-  asked_of c result P M is below =
+      → PutsBelow result (Splits sizes mid.contents (place r.0) (level - 1) c.block sub) (λ ds. M ds (with_record r sub) own))
+      → Asked result M
+  asked_of c result M is below =
       subst (λ (e : Child). (sub : List Record) (own : List ℕ) → Subtree sizes mid.contents limit (level - 1) e.block sub own → BeginsWith e.low sub → RisesFrom 0 (places sub)
-      → PutsBelow result (Splits sizes mid.contents (place r.0) (level - 1) e.block sub) (λ ds. AllByRecursion P own → M ds (with_record r sub))) (sym is) below
+      → PutsBelow result (Splits sizes mid.contents (place r.0) (level - 1) e.block sub) (λ ds. M ds (with_record r sub) own)) (sym is) below
 
   -- where a record stands at the place, it stands under the chosen child
   pub there_below : (c : Child) (A : Type 0) → get_or cs i d ≡ c → value_at (place r.0) rs ≢ None
@@ -135,14 +132,18 @@ module _ (sizes : Sizes) (old mid : Medium) (limit level b : ℕ) (r : Record) (
       below s.sub s.own (subst (λ (e : Child). Subtree sizes mid.contents limit (level - 1) e.block s.sub s.own) is child) (subst (λ (e : Child). BeginsWith e.low s.sub) is s.begins) at.way.rising (λ none. there (value ∙ none))
 
   -- an inner block, with the chosen child written anew
-  pub node_put : (P0 P1 P2 : ℕ → Type 0) (x2 x3 : Contents) (other : ℕ) (copied : Copied) (lent : List Child) (result : Result Copied TreeFault) (Q : Copied → Type 0)
-      → other ≡ limit → Asked (Ok copied) P0 (Made P1 sizes x2 limit (level - 1))
-      → ((n : ℕ) → P0 n → block x2 n ≡ block mid.contents n) → ((n : ℕ) → P0 n → P1 n)
+  pub node_put : (before between later : List Bool) (path under : List ℕ) (x2 x3 : Contents) (other : ℕ) (copied : Copied) (lent : List Child) (result : Result Copied TreeFault) (Q : Copied → Type 0)
+      → other ≡ limit → path ≡ under ++ (b ∷ [])
+      → (e : Child) → get_or cs i d ≡ e
+      → ((sub : List Record) (own : List ℕ) → Subtree sizes mid.contents limit (level - 1) e.block sub own → BeginsWith e.low sub → RisesFrom 0 (places sub) → IsPathIn under own)
+      → Asked (Ok copied) (λ ds qs own. Replaces before between under own (λ P. Made P sizes x2 limit (level - 1) ds qs))
+      → ((n : ℕ) → IsHeld before n → block x2 n ≡ block mid.contents n) → HoldsMore before between
       → lent ≡ take i cs ++ (children_of copied ++ drop (i + 1) cs)
       → OkOrDevice result Q → IfOk result (λ c. (is_split c ≡ true) ↔ (sizes.fan < length lent))
-      → ((qs : List Record) → RisesFrom 0 (places qs) → Made P1 sizes x2 other (level - 1) lent qs → IfOk result (λ c. Made P2 sizes x3 other level (children_of c) qs))
-      → PutsBelow result (Splits sizes old.contents (place r.0) level b rs) (λ ds. AllByRecursion P0 bs → Made P2 sizes x3 limit level ds (with_record r rs))
-  node_put P0 P1 P2 x2 x3 other copied lent result Q limits below same so is fine split made =
+      → ((keep : ℕ → Bool) (qs : List Record) → RisesFrom 0 (places qs) → Made (IsRenewed before between keep) sizes x2 other (level - 1) lent qs
+      → IfOk result (λ c. Made (IsRenewed before later keep) sizes x3 other level (children_of c) qs))
+      → PutsBelow result (Splits sizes old.contents (place r.0) level b rs) (λ ds. Replaces before later path bs (λ P. Made P sizes x3 limit level ds (with_record r rs)))
+  node_put before between later path under x2 x3 other copied lent result Q limits grown e taken inside below same more is fine split made =
       let p = place r.0 in
       let at = opens sizes old.contents limit level b p rs bs cs i d above tree rises only chosen in
       let s = at.way.split in
@@ -152,7 +153,7 @@ module _ (sizes : Sizes) (old mid : Medium) (limit level b : ℕ) (r : Record) (
       let there = λ (splits : Splits sizes old.contents p (level - 1) (get_or cs i d).block s.sub). subst (λ (m : Medium). Splits sizes m.contents p (level - 1) (get_or cs i d).block s.sub) (sym still) splits in
       let within : i < length cs = omega (arith, chosen.within, length-map cs (λ (c : Child). place c.low)) in
       let count = replaced_length cs (children_of copied) i within in
-      below_answers result (Splits sizes old.contents p level b rs) (sizes.fan < length lent) Q (λ ds. AllByRecursion P0 bs → Made P2 sizes x3 limit level ds (with_record r rs)) fine split (
+      below_answers result (Splits sizes old.contents p level b rs) (sizes.fan < length lent) Q (λ ds. Replaces before later path bs (λ P. Made P sizes x3 limit level ds (with_record r rs))) fine split (
         λ over. elim (cases_Bool (is_split copied)) [
           | inl two ↦ node_splits sizes old.contents limit level b p rs bs cs i d above at chosen (omega (arith, count, ap length is, (count_of copied).0 two)) (here (got.1.0 two))
           | inr one ↦ absurd (omega (arith, count, ap length is, (count_of copied).1 one, at.few))
@@ -160,25 +161,29 @@ module _ (sizes : Sizes) (old mid : Medium) (limit level b : ℕ) (r : Record) (
         λ splits. let parts = splits_node sizes old.contents limit level b p rs bs cs i d above at chosen splits in
             omega (arith, count, ap length is, (count_of copied).0 (got.1.1 (there parts.1)), parts.0),
       )
-      (if_ok_later result (AllByRecursion P0 bs) (λ c. Made P2 sizes x3 limit level (children_of c) (with_record r rs))
-      (λ all.
-      let under = subst (AllByRecursion P0) s.blocks (subst (AllByRecursion P0) at.first all).1 in
-      let own = each_front P0 s.own s.right (each_back P0 s.left (s.own ++ s.right) under) in
-      let same_old = λ (n : ℕ) (has : P0 n). same n has ∙ ap (λ (m : Medium). block m.contents n) still in
-      let now = replaced_made P0 P1 sizes old.contents x2 limit level b p rs bs cs i d same_old so at all (children_of copied) (with_record r s.sub) (got.0 own) in
+      (if_ok_where result (λ keep. AllByRecursion (IsHeld before) bs) (λ keep. KeepsBeside path keep bs) (λ c keep. Made (IsRenewed before later keep) sizes x3 limit level (children_of c) (with_record r rs))
+      (λ keep all keeps.
+      let within = inside s.sub s.own (subst (λ (z : Child). Subtree sizes mid.contents limit (level - 1) z.block s.sub s.own) taken child) (subst (λ (z : Child). BeginsWith z.low s.sub) taken s.begins) at.way.rising in
+      let P1 = IsRenewed before between keep in
+      let now = replaced_made (IsRenewed before before keep) P1 sizes old.contents x2 limit level b p rs bs cs i d (λ n has. same n has.now ∙ ap (λ (m : Medium). block m.contents n) still) (renewed_more before before between keep more) at
+      (left_renewed sizes old.contents limit level b p rs bs cs i d above tree rises at path under grown within before keep all keeps)
+      (right_renewed sizes old.contents limit level b p rs bs cs i d above tree rises at path under grown within before keep all keeps)
+      (children_of copied) (with_record r s.sub)
+      (got.0 keep (own_held sizes old.contents limit level b p rs bs cs i d above tree rises at path under grown within before keep all keeps)
+      (own_keeps sizes old.contents limit level b p rs bs cs i d above tree rises at path under grown within before keep all keeps)) in
       let records = ap (with_record r) s.records ∙ with_between r s.before s.sub s.after at.way.below at.way.above in
       let whole = subst (λ (qs : List Record). Made P1 sizes x2 limit (level - 1) (take i cs ++ (children_of copied ++ drop (i + 1) cs)) qs) (sym records) now in
       let asked = made_moved P1 P1 sizes x2 x2 limit other (level - 1) (λ n has. refl) (λ n has. has) limits (take i cs ++ (children_of copied ++ drop (i + 1) cs)) lent (with_record r rs) is whole in
-      subst (λ n. IfOk result (λ c. Made P2 sizes x3 n level (children_of c) (with_record r rs))) limits (made (with_record r rs) (with_rises r 0 rs (omega arith) rises) asked)))
+      subst (λ n. IfOk result (λ c. Made (IsRenewed before later keep) sizes x3 n level (children_of c) (with_record r rs))) limits (made keep (with_record r rs) (with_rises r 0 rs (omega arith) rises) asked)))
 
   -- an inner block, where a fault came from below: Deep only where no block above has room, so that this one is full
-  pub node_fault : (P0 : ℕ → Type 0) (M : List Child → List Record → Type 0) (Q : List Child → Type 0) (e : TreeFault) → Asked (Err e) P0 M → (e ≡ Deep → sizes.fan ≤ length cs)
+  pub node_fault : (M : List Child → List Record → List ℕ → Type 0) (Q : List Child → Type 0) (e : TreeFault) → Asked (Err e) M → (e ≡ Deep → sizes.fan ≤ length cs)
       → PutsBelow (Err e) (Splits sizes old.contents (place r.0) level b rs) Q
-  node_fault P0 M Q e below full =
+  node_fault M Q e below full =
       let p = place r.0 in
       let at = opens sizes old.contents limit level b p rs bs cs i d above tree rises only chosen in
       let s = at.way.split in
       let child = subst (λ (m : Medium). Subtree sizes m.contents limit (level - 1) (get_or cs i d).block s.sub s.own) (sym still) s.child in
-      fault_below e (Splits sizes mid.contents p (level - 1) (get_or cs i d).block s.sub) (Splits sizes old.contents p level b rs) (λ ds. AllByRecursion P0 s.own → M ds (with_record r s.sub)) Q
+      fault_below e (Splits sizes mid.contents p (level - 1) (get_or cs i d).block s.sub) (Splits sizes old.contents p level b rs) (λ ds. M ds (with_record r s.sub) s.own) Q
       (below s.sub s.own child s.begins at.way.rising)
       (λ is splits. node_splits sizes old.contents limit level b p rs bs cs i d above at chosen (full is) (subst (λ (m : Medium). Splits sizes m.contents p (level - 1) (get_or cs i d).block s.sub) still splits))

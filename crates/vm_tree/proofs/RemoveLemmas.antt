@@ -1,9 +1,10 @@
 -- What a Remove under a block answers, from what it answers under the chosen child; and what lies under a root with one child.
-use Rattle.std.proofs.Common.{◌≡◌, ◌≢◌, ℕ, zero, suc, ◌+◌, ◌-◌, ◌<◌, ◌≤◌, List, [], ◌∷◌, ◌++◌, length, get_or, take, drop, None, Result, Ok, Err, refl, sym, ap, ◌∙◌, subst, arith, append-nil, length-drop, take-append-drop}
+use Rattle.std.proofs.Common.{◌≡◌, ◌≢◌, Bool, ℕ, zero, suc, ◌+◌, ◌-◌, ◌<◌, ◌≤◌, List, [], ◌∷◌, ◌++◌, length, get_or, take, drop, None, Result, Ok, Err, refl, sym, ap, ◌∙◌, subst, arith, append-nil, length-drop, take-append-drop}
 use Rattle.std.specs.List.{AllByRecursion}
 use Rattle.std.proofs.lemmas.List.{nil_from_length, length-map}
 use Rattle.vm_types.specs.Places.{place, RisesFrom, places, value_at}
 use Rattle.vm_disk.specs.Disk.{Contents, block, Medium}
+use Rattle.vm_alloc.specs.Held.{HoldsMore, IsHeld}
 use Rattle.vm_block.specs.Leaf.{Record}
 use Rattle.vm_block.specs.Node.{ChildFits, IsNode, lows}
 use Rattle.vm_block.specs.FullPath.{IsChosen}
@@ -16,13 +17,16 @@ use Rattle.vm_tree.specs.Answers.{OkOrDevice}
 use Rattle.vm_tree.specs.Making.{Made}
 use Rattle.vm_tree.specs.Reading.{IsNodeAt}
 use Rattle.vm_tree.specs.Removing.{Narrows, IsLeft, RemovesBelow, child_of, without_place}
+use Rattle.vm_tree.specs.Replacing.{IsPathIn, IsRenewed, KeepsBeside, Replaces}
 use Rattle.vm_tree.specs.declared.root.Root.{Root}
 use Rattle.vm_tree.specs.declared.root.TreeFault.{TreeFault}
 use Rattle.vm_tree.specs.declared.removing.Left.{Left}
 use Rattle.vm_tree.specs.declared.removing.Left.TheVariants.{Same, Nothing, Rest}
+use Rattle.vm_tree.proofs.Beside.{left_renewed, own_held, own_keeps, right_renewed}
 use Rattle.vm_tree.proofs.Descent.{Opened, opens, lowest_of, ok_map}
 use Rattle.vm_tree.proofs.Growing.{made_moved}
 use Rattle.vm_tree.proofs.PutLemmas.{replaced_made}
+use Rattle.vm_tree.proofs.Renewing.{renewed_more}
 use Rattle.vm_tree.proofs.Removal.{without_between, without_rises}
 use Rattle.vm_tree.proofs.Rising.{value_between}
 use Rattle.vm_tree.proofs.Splitting.{children_join}
@@ -103,20 +107,13 @@ module _ (sizes : Sizes) (old mid : Medium) (limit level b p : ℕ) (rs : List R
   value_is =
       let s = at_child.way.split in ap (value_at p) s.records ∙ value_between p s.before s.sub s.after at_child.way.below at_child.way.above
 
-  under_held : (P : ℕ → Type 0) → AllByRecursion P bs → AllByRecursion P (at_child.way.split.left ++ (at_child.way.split.own ++ at_child.way.split.right))
-  under_held P all = subst (AllByRecursion P) at_child.way.split.blocks (subst (AllByRecursion P) at_child.first all).1
-
-  own_held : (P : ℕ → Type 0) → AllByRecursion P bs → AllByRecursion P at_child.way.split.own
-  own_held P all =
-      let s = at_child.way.split in each_front P s.own s.right (each_back P s.left (s.own ++ s.right) (under_held P all))
-
   -- what is asked under the chosen child
   abbrev pub Asks : Child → (List Record → List ℕ → Type 0) → Type 0
   Asks c A = (sub : List Record) (own : List ℕ) → Subtree sizes mid.contents limit (level - 1) c.block sub own → BeginsWith c.low sub → RisesFrom 0 (places sub) → A sub own
 
-  -- what is left of the records under it is Q's, where its blocks have P
-  abbrev pub Kept : (P : ℕ → Type 0) → (List Record → Type 0) → List Record → List ℕ → Type 0
-  Kept P M sub own = (value_at p sub ≢ None) × (AllByRecursion P own → M (without_place p sub))
+  -- of the records under it there is one at the place, and M holds of what is left without it, in blocks that replace those of its path
+  abbrev pub Kept : (before between : List Bool) (under : List ℕ) → ((ℕ → Type 0) → List Record → Type 0) → List Record → List ℕ → Type 0
+  Kept before between under M sub own = (value_at p sub ≢ None) × Replaces before between under own (λ P. M P (without_place p sub))
 
   answered : (c : Child) → get_or cs i d ≡ c → (A : List Record → List ℕ → Type 0) → Asks c A → A at_child.way.split.sub at_child.way.split.own
   answered c is A below =
@@ -132,65 +129,83 @@ module _ (sizes : Sizes) (old mid : Medium) (limit level b p : ℕ) (rs : List R
   pub fault_there : (c : Child) → get_or cs i d ≡ c → (A : Type 0) → Asks c (λ sub own. A) → A
   fault_there c is A below = answered c is (λ sub own. A) below
 
-  -- what is left of the children, with these in the place of the chosen one
-  pub node_rest : (c : Child) → get_or cs i d ≡ c → (P Q : ℕ → Type 0) (x2 : Contents) (other : ℕ) (now lent : List Child) → ((n : ℕ) → P n → block x2 n ≡ block mid.contents n) → ((n : ℕ) → P n → Q n) → other ≡ limit
-      → lent ≡ take i cs ++ (now ++ drop (i + 1) cs)
-      → Asks c (Kept P (Made Q sizes x2 limit (level - 1) now))
-      → (value_at p rs ≢ None) × (AllByRecursion P bs → RisesFrom 0 (places (without_place p rs)) × Made Q sizes x2 other (level - 1) lent (without_place p rs))
-  node_rest c at P Q x2 other now lent same so limits is below =
-      let got = answered c at (Kept P (Made Q sizes x2 limit (level - 1) now)) below in
-      let s = at_child.way.split in
-      let same_old = λ (n : ℕ) (has : P n). same n has ∙ ap (λ (m : Medium). block m.contents n) still in
-      let records = ap (without_place p) s.records ∙ without_between p s.before s.sub s.after at_child.way.below at_child.way.above in (
-        λ none. got.0 (sym value_is ∙ none),
-        λ all.
-            let made = replaced_made P Q sizes old.contents x2 limit level b p rs bs cs i d same_old so at_child all now (without_place p s.sub) (got.1 (own_held P all)) in
-            let whole = subst (λ (qs : List Record). Made Q sizes x2 limit (level - 1) (take i cs ++ (now ++ drop (i + 1) cs)) qs) (sym records) made in
-            (without_rises p 0 rs rises, made_moved Q Q sizes x2 x2 limit other (level - 1) (λ n has. refl) (λ n has. has) limits (take i cs ++ (now ++ drop (i + 1) cs)) lent (without_place p rs) is whole),
-      )
-
   -- what is left of the children without the chosen one, under which no record is left
-  pub record Others (P : ℕ → Type 0) (lent : List Child) : Type 0 where
+  pub record Others (before : List Bool) (path : List ℕ) (lent : List Child) : Type 0 where
     pub there : value_at p rs ≢ None
     pub rising : RisesFrom 0 (places (without_place p rs))
     pub kept : List ℕ
     pub under : Children (Subtree sizes old.contents limit (level - 1)) lent (without_place p rs) kept
     pub fit : AllByRecursion ChildFits lent
-    pub held : AllByRecursion P bs → AllByRecursion P kept
+    pub renewed : (keep : ℕ → Bool) → AllByRecursion (IsHeld before) bs → KeepsBeside path keep bs → AllByRecursion (IsRenewed before before keep) kept
 
-  pub others_left : (c : Child) → get_or cs i d ≡ c → (P : ℕ → Type 0) (lent : List Child) → lent ≡ take i cs ++ drop (i + 1) cs → Asks c (λ sub own. (value_at p sub ≢ None) × (without_place p sub ≡ [])) → Others P lent
-  others_left c at P lent is below =
-      let got = answered c at (λ sub own. (value_at p sub ≢ None) × (without_place p sub ≡ [])) below in
-      let s = at_child.way.split in
-      let T = Subtree sizes old.contents limit (level - 1) in
-      let one : suc i ≡ i + 1 = omega arith in
-      let back = subst (λ n. Children T (drop n cs) s.after s.right) one s.back in
-      let records : without_place p rs ≡ s.before ++ s.after = ap (without_place p) s.records ∙ without_between p s.before s.sub s.after at_child.way.below at_child.way.above ∙ ap (λ (z : List Record). s.before ++ (z ++ s.after)) got.1 in
-      let joined = children_join T (take i cs) (drop (i + 1) cs) s.before s.after s.left s.right s.front back in
-      let cut = λ (n : ℕ). subst (AllByRecursion ChildFits) (sym (take-append-drop n cs)) at_child.node.fit in
-      let fits = each_join ChildFits (take i cs) (drop (i + 1) cs) (each_front ChildFits (take i cs) (drop i cs) (cut i)) (each_back ChildFits (take (i + 1) cs) (drop (i + 1) cs) (cut (i + 1))) in
-      record {
-        there = λ none. got.0 (sym value_is ∙ none);
-        rising = without_rises p 0 rs rises;
-        kept = s.left ++ s.right;
-        under = subst (λ (ds : List Child). Children T ds (without_place p rs) (s.left ++ s.right)) (sym is) (subst (λ (qs : List Record). Children T (take i cs ++ drop (i + 1) cs) qs (s.left ++ s.right)) (sym records) joined);
-        fit = subst (AllByRecursion ChildFits) (sym is) fits;
-        held = λ all.
-            let under = under_held P all in each_join P s.left s.right (each_front P s.left (s.own ++ s.right) under) (each_back P s.own s.right (each_back P s.left (s.own ++ s.right) under));
-      }
+  module _ (c : Child) (at : get_or cs i d ≡ c) (path under : List ℕ) (grown : path ≡ under ++ (b ∷ [])) (inside : Asks c (λ sub own. IsPathIn under own)) where
+    within : IsPathIn under at_child.way.split.own
+    within = answered c at (λ sub own. IsPathIn under own) inside
 
-  -- where the child is the only one, all records lie under it
-  pub only_there : (c : Child) → get_or cs i d ≡ c → (P : ℕ → Type 0) (M : List Record → Type 0) → length cs ≡ 1 → Asks c (Kept P M) → (value_at p rs ≢ None) × (AllByRecursion P bs → M (without_place p rs))
-  only_there c at P M one below =
-      let got = answered c at (Kept P M) below in
-      let s = at_child.way.split in
-      let index : i ≡ 0 = omega (arith, chosen.within, length-map cs (λ (c : Child). place c.low), one) in
-      let before : s.before ≡ [] = none_before i s.before s.left index s.front in
-      let last : drop (suc i) cs ≡ [] = nil_from_length (drop (suc i) cs) (omega (arith, length-drop (suc i) cs, one)) in
-      let after : s.after ≡ [] = (subst (λ (ds : List Child). Children (Subtree sizes old.contents limit (level - 1)) ds s.after s.right) last s.back).0 in
-      let same : rs ≡ s.sub = s.records ∙ ap (λ (z : List Record). z ++ (s.sub ++ s.after)) before ∙ ap (λ (z : List Record). s.sub ++ z) after ∙ append-nil s.sub in
-      (λ none. got.0 (sym value_is ∙ none), λ all. subst (λ (qs : List Record). M (without_place p qs)) (sym same) (got.1 (own_held P all)))
-    where
-      none_before : (j : ℕ) (before : List Record) (left : List ℕ) → j ≡ 0 → Children (Subtree sizes old.contents limit (level - 1)) (take j cs) before left → before ≡ []
-      none_before zero before left is t = t.0
-      none_before (suc j) before left is t = absurd (omega (arith, is))
+    -- what is left of the children, with these in the place of the chosen one
+    pub node_rest : (before between : List Bool) (x2 : Contents) (other : ℕ) (now lent : List Child) → ((n : ℕ) → IsHeld before n → block x2 n ≡ block mid.contents n) → HoldsMore before between → other ≡ limit
+        → lent ≡ take i cs ++ (now ++ drop (i + 1) cs)
+        → Asks c (Kept before between under (λ P. Made P sizes x2 limit (level - 1) now))
+        → (value_at p rs ≢ None)
+        × ((keep : ℕ → Bool) → AllByRecursion (IsHeld before) bs → KeepsBeside path keep bs → RisesFrom 0 (places (without_place p rs)) × Made (IsRenewed before between keep) sizes x2 other (level - 1) lent (without_place p rs))
+    node_rest before between x2 other now lent same more limits is below =
+        let got = answered c at (Kept before between under (λ P. Made P sizes x2 limit (level - 1) now)) below in
+        let s = at_child.way.split in
+        let same_old = λ (n : ℕ) (has : IsHeld before n). same n has ∙ ap (λ (m : Medium). block m.contents n) still in
+        let records = ap (without_place p) s.records ∙ without_between p s.before s.sub s.after at_child.way.below at_child.way.above in (
+          λ none. got.0 (sym value_is ∙ none),
+          λ keep all keeps.
+              let Q = IsRenewed before between keep in
+              let made = replaced_made (IsRenewed before before keep) Q sizes old.contents x2 limit level b p rs bs cs i d (λ n has. same_old n has.now) (renewed_more before before between keep more) at_child
+              (left_renewed sizes old.contents limit level b p rs bs cs i d above tree rises at_child path under grown within before keep all keeps)
+              (right_renewed sizes old.contents limit level b p rs bs cs i d above tree rises at_child path under grown within before keep all keeps)
+              now (without_place p s.sub)
+              (got.1 keep (own_held sizes old.contents limit level b p rs bs cs i d above tree rises at_child path under grown within before keep all keeps)
+              (own_keeps sizes old.contents limit level b p rs bs cs i d above tree rises at_child path under grown within before keep all keeps)) in
+              let whole = subst (λ (qs : List Record). Made Q sizes x2 limit (level - 1) (take i cs ++ (now ++ drop (i + 1) cs)) qs) (sym records) made in
+              (without_rises p 0 rs rises, made_moved Q Q sizes x2 x2 limit other (level - 1) (λ n has. refl) (λ n has. has) limits (take i cs ++ (now ++ drop (i + 1) cs)) lent (without_place p rs) is whole),
+        )
+
+    pub others_left : (before : List Bool) (lent : List Child) → lent ≡ take i cs ++ drop (i + 1) cs → Asks c (λ sub own. (value_at p sub ≢ None) × (without_place p sub ≡ [])) → Others before path lent
+    others_left before lent is below =
+        let got = answered c at (λ sub own. (value_at p sub ≢ None) × (without_place p sub ≡ [])) below in
+        let s = at_child.way.split in
+        let T = Subtree sizes old.contents limit (level - 1) in
+        let one : suc i ≡ i + 1 = omega arith in
+        let back = subst (λ n. Children T (drop n cs) s.after s.right) one s.back in
+        let records : without_place p rs ≡ s.before ++ s.after = ap (without_place p) s.records ∙ without_between p s.before s.sub s.after at_child.way.below at_child.way.above ∙ ap (λ (z : List Record). s.before ++ (z ++ s.after)) got.1 in
+        let joined = children_join T (take i cs) (drop (i + 1) cs) s.before s.after s.left s.right s.front back in
+        let cut = λ (n : ℕ). subst (AllByRecursion ChildFits) (sym (take-append-drop n cs)) at_child.node.fit in
+        let fits = each_join ChildFits (take i cs) (drop (i + 1) cs) (each_front ChildFits (take i cs) (drop i cs) (cut i)) (each_back ChildFits (take (i + 1) cs) (drop (i + 1) cs) (cut (i + 1))) in
+        record {
+          there = λ none. got.0 (sym value_is ∙ none);
+          rising = without_rises p 0 rs rises;
+          kept = s.left ++ s.right;
+          under = subst (λ (ds : List Child). Children T ds (without_place p rs) (s.left ++ s.right)) (sym is) (subst (λ (qs : List Record). Children T (take i cs ++ drop (i + 1) cs) qs (s.left ++ s.right)) (sym records) joined);
+          fit = subst (AllByRecursion ChildFits) (sym is) fits;
+          renewed = λ keep all keeps.
+              each_join (IsRenewed before before keep) s.left s.right
+              (left_renewed sizes old.contents limit level b p rs bs cs i d above tree rises at_child path under grown within before keep all keeps)
+              (right_renewed sizes old.contents limit level b p rs bs cs i d above tree rises at_child path under grown within before keep all keeps);
+        }
+
+    -- where the child is the only one, all records lie under it
+    pub only_there : (before between : List Bool) (M : (ℕ → Type 0) → List Record → Type 0) → length cs ≡ 1 → Asks c (Kept before between under M)
+        → (value_at p rs ≢ None) × Replaces before between path bs (λ P. M P (without_place p rs))
+    only_there before between M one below =
+        let got = answered c at (Kept before between under M) below in
+        let s = at_child.way.split in
+        let index : i ≡ 0 = omega (arith, chosen.within, length-map cs (λ (c : Child). place c.low), one) in
+        let before_none : s.before ≡ [] = none_before i s.before s.left index s.front in
+        let last : drop (suc i) cs ≡ [] = nil_from_length (drop (suc i) cs) (omega (arith, length-drop (suc i) cs, one)) in
+        let after : s.after ≡ [] = (subst (λ (ds : List Child). Children (Subtree sizes old.contents limit (level - 1)) ds s.after s.right) last s.back).0 in
+        let same : rs ≡ s.sub = s.records ∙ ap (λ (z : List Record). z ++ (s.sub ++ s.after)) before_none ∙ ap (λ (z : List Record). s.sub ++ z) after ∙ append-nil s.sub in (
+          λ none. got.0 (sym value_is ∙ none),
+          λ keep all keeps. subst (λ (qs : List Record). M (IsRenewed before between keep) (without_place p qs)) (sym same)
+              (got.1 keep (own_held sizes old.contents limit level b p rs bs cs i d above tree rises at_child path under grown within before keep all keeps)
+              (own_keeps sizes old.contents limit level b p rs bs cs i d above tree rises at_child path under grown within before keep all keeps)),
+        )
+      where
+        none_before : (j : ℕ) (before : List Record) (left : List ℕ) → j ≡ 0 → Children (Subtree sizes old.contents limit (level - 1)) (take j cs) before left → before ≡ []
+        none_before zero before left is t = t.0
+        none_before (suc j) before left is t = absurd (omega (arith, is))

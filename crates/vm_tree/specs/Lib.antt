@@ -5,3 +5,4 @@ pub mod Removing
 pub mod Root
 pub mod Answers
 pub mod Reading
+pub mod Replacing

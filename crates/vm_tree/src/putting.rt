@@ -1,9 +1,9 @@
 //! A record more, or another value of a key.
-ghost use Rattle.std.specs.Prelude.{◌≡◌, ◌≢◌, ◌↔◌, ℕ, ◌+◌, ◌-◌, ◌*◌, ◌<◌, ◌≤◌, ◌++◌, ◌∷◌, Bool, true, false, List, [], None, length, take, drop, IfOk, IfErr, MatchResult};
+ghost use Rattle.std.specs.Prelude.{◌≡◌, ◌≢◌, ◌↔◌, ℕ, ◌+◌, ◌-◌, ◌*◌, ◌<◌, ◌≤◌, ◌++◌, ◌∷◌, Bool, true, false, List, [], None, length, take, drop, slice_index, slice_set, IfOk, IfErr, MatchResult};
 ghost use Rattle.std.specs.List.{AllByRecursion};
 ghost use Rattle.vm_types.specs.Map.{Map, get, with_value};
 ghost use Rattle.vm_types.specs.Places.{KeyFits, RisesFrom, place, places, value_at, with_record};
-ghost use Rattle.vm_alloc.specs.Held.{IsHeld, free_count};
+ghost use Rattle.vm_alloc.specs.Held.{HoldsMore, IsHeld, free_count};
 ghost use Rattle.vm_block.specs.Leaf.{Record, RecordFits, IsLeaf};
 ghost use Rattle.vm_block.specs.Node.{IsNode};
 ghost use Rattle.vm_block.specs.Tree.{Sizes, BeginsWith, Subtree};
@@ -13,6 +13,7 @@ ghost use Rattle.vm_tree.specs.Calls.{LooksIfDamaged, WritesFree};
 ghost use Rattle.vm_tree.specs.Free.{IsTaken, AreTaken};
 ghost use Rattle.vm_tree.specs.Making.{Made, PutsBelow, Splits, children_of, is_split, with_copied};
 ghost use Rattle.vm_tree.specs.Reading.{LeadsDown};
+ghost use Rattle.vm_tree.specs.Replacing.{IsHeldBeside, IsPathIn, IsRenewed, Replaces, path_from, path_under};
 ghost use Rattle.vm_tree.specs.Root.{AreSizes, IsRootedIn, IfUnder, IfWhole, sizes_of};
 
 use crate::reading::{block_at, way_at};
@@ -98,13 +99,14 @@ fn write_replaced<D: Disk, const FAN: usize>(
         → OkOrDevice result (λ done. (is_split done ≡ true)
         ↔ (FAN < length (with_copied cs way.index copied))) }
     ensures made { (D.state disk.new).honest ≡ true
+        → (before : List Bool) (keep : ℕ → Bool) → HoldsMore before held.old
         → (sizes : Sizes) (cs : List Child) (rs : List Record) → IsNode bytes.old level cs
         → way.count ≡ length cs → FAN ≤ sizes.fan
         → RisesFrom 0 (places rs)
-        → Made (IsHeld held.old) sizes (D.state disk.old).now.contents (length held.old) (level - 1)
-        (with_copied cs way.index copied) rs
-        → IfOk result (λ done. Made (IsHeld held.new) sizes (D.state disk.new).now.contents
-        (length held.old) level (children_of done) rs) }
+        → Made (IsRenewed before held.old keep) sizes (D.state disk.old).now.contents
+        (length held.old) (level - 1) (with_copied cs way.index copied) rs
+        → IfOk result (λ done. Made (IsRenewed before held.new keep) sizes
+        (D.state disk.new).now.contents (length held.old) level (children_of done) rs) }
 {
     match copied {
         Copied::One(child) => {
@@ -144,10 +146,13 @@ fn split_leaf<D: Disk, const LEAF: usize>(
     ensures fine { (rs : List Record) → IsLeaf bytes.now rs → length rs ≤ LEAF
         → OkOrDevice result (λ copied. (is_split copied ≡ true)
         ↔ (LEAF < length (with_record (key, value.now) rs))) }
-    ensures made { (D.state disk.new).honest ≡ true → (sizes : Sizes) (rs : List Record)
+    ensures made { (D.state disk.new).honest ≡ true
+        → (before : List Bool) (keep : ℕ → Bool) → HoldsMore before held.old
+        → (sizes : Sizes) (rs : List Record)
         → IsLeaf bytes.now rs → length rs ≤ LEAF → LEAF ≤ sizes.leaf
-        → IfOk result (λ copied. Made (IsHeld held.new) sizes (D.state disk.new).now.contents
-        (length held.old) 0 (children_of copied) (with_record (key, value.now) rs)) }
+        → IfOk result (λ copied. Made (IsRenewed before held.new keep) sizes
+        (D.state disk.new).now.contents (length held.old) 0 (children_of copied)
+        (with_record (key, value.now) rs)) }
 {
     match read_leaf(bytes) {
         Some(records) if records.len() <= LEAF => {
@@ -193,7 +198,8 @@ fn put_in_leaf<D: Disk, const LEAF: usize>(
         (length held.old) 0 top (λ rs bs. PutsBelow result
         (Splits (sizes_of LEAF fan levels) (D.state disk.old).now.contents
         (place key) 0 top.block rs)
-        (λ cs. Made (IsHeld held.new) (sizes_of LEAF fan levels) (D.state disk.new).now.contents
+        (λ cs. (keep : ℕ → Bool) → Made (IsRenewed held.old held.new keep)
+        (sizes_of LEAF fan levels) (D.state disk.new).now.contents
         (length held.old) 0 cs (with_record (key, value.now) rs))) }
 {
     let mut bytes = [0; 4096];
@@ -210,7 +216,8 @@ fn put_in_leaf<D: Disk, const LEAF: usize>(
 }
 
 /// Gives the key this value under a block of this level. Where it would split, `room` tells whether
-/// it may: some block above has room for one child more, or the tree for a level.
+/// it may: some block above has room for one child more, or the tree for a level. In `path` come
+/// the blocks that are replaced, each at its level.
 fn put_below<D: Disk, const LEAF: usize, const FAN: usize>(
     disk: &mut D,
     held: &mut Held,
@@ -219,6 +226,7 @@ fn put_below<D: Disk, const LEAF: usize, const FAN: usize>(
     room: bool,
     key: Key,
     value: &Value,
+    path: &mut [u32; 8],
 ) -> Result<Copied, TreeFault>
     requires inside { length held.old ≤ (D.state disk.old).blocks }
     requires leaf_least { 2 ≤ LEAF }
@@ -251,17 +259,34 @@ fn put_below<D: Disk, const LEAF: usize, const FAN: usize>(
         (length held.old) level top (λ rs bs. PutsBelow result
         (Splits (sizes_of LEAF FAN levels) (D.state disk.old).now.contents
         (place key) level top.block rs)
-        (λ cs. AllByRecursion (IsHeld held.old) bs
-        → Made (IsHeld held.new) (sizes_of LEAF FAN levels) (D.state disk.new).now.contents
-        (length held.old) level cs (with_record (key, value.now) rs))) }
+        (λ cs. Replaces held.old held.new (path_from level path.new) bs
+        (λ P. Made P (sizes_of LEAF FAN levels) (D.state disk.new).now.contents
+        (length held.old) level cs (with_record (key, value.now) rs)))) }
+    ensures path_size { length path.new ≡ length path.old }
+    ensures path_above { (k : ℕ) → level ≤ k
+        → slice_index path.new k ≡ slice_index (slice_set path.old level top.block) k }
+    ensures path_in { (levels : ℕ)
+        → IfUnder (D.state disk.old) (D.state disk.new) (sizes_of LEAF FAN levels)
+        (length held.old) level top
+        (λ rs bs. IfOk result (λ copied. IsPathIn (path_from level path.new) bs)) }
 {
+    path[usize::from(level)] = top.block;
     if level == 0 {
         return put_in_leaf::<D, LEAF>(disk, held, top, room, key, value);
     }
     let mut bytes = [0; 4096];
     let way = way_at::<D, FAN>(disk, held.blocks(), level, top, key, &mut bytes)?;
     let room = room || way.count < FAN;
-    let copied = put_below::<D, LEAF, FAN>(disk, held, level - 1, way.child, room, key, value)?;
+    let copied = put_below::<D, LEAF, FAN>(
+        disk,
+        held,
+        level - 1,
+        way.child,
+        room,
+        key,
+        value,
+        path,
+    )?;
     write_replaced::<D, FAN>(disk, held, level, way, &mut bytes, copied)
 }
 
@@ -277,10 +302,10 @@ fn put_first<D: Disk>(
     ensures writes { WritesFree result held.old held.new (D.state disk.old) (D.state disk.new) }
     ensures device { OkOrDevice result (λ r. IsTaken held.new r.block × (r.level ≡ 0)) }
     ensures taken { free_count held.old ≤ free_count held.new + 1 }
-    ensures put { (D.state disk.new).honest ≡ true → (sizes : Sizes) → 0 < sizes.leaf
-        → 0 < sizes.levels
-        → IfOk result (λ r. IsRootedIn sizes (IsHeld held.new) (D.state disk.new).now.contents
-        (length held.old) r ((key, value.now) ∷ [])) }
+    ensures put { (D.state disk.new).honest ≡ true → (keep : ℕ → Bool) → (sizes : Sizes)
+        → 0 < sizes.leaf → 0 < sizes.levels
+        → IfOk result (λ r. IsRootedIn sizes (IsRenewed held.old held.new keep)
+        (D.state disk.new).now.contents (length held.old) r ((key, value.now) ∷ [])) }
 {
     let record = with_record(&[], key, value);
     let leaf = write_leaf_block(disk, held, record.as_slice())?;
@@ -288,13 +313,15 @@ fn put_first<D: Disk>(
 }
 
 /// Gives the key this value: writes its path anew, in blocks that were free, and returns the new
-/// root. The caller owes 16 free blocks.
+/// root. The caller owes 16 free blocks. In `path` come the blocks of the old path, each at its
+/// level: no block of the new tree is one of them.
 pub fn put<D: Disk, const LEAF: usize, const FAN: usize, const LEVELS: usize>(
     disk: &mut D,
     held: &mut Held,
     root: Root,
     key: Key,
     value: &Value,
+    path: &mut [u32; 8],
 ) -> Result<Root, TreeFault>
     requires sizes { AreSizes LEAF FAN LEVELS }
     requires inside { length held.old ≤ (D.state disk.old).blocks }
@@ -335,13 +362,19 @@ pub fn put<D: Disk, const LEAF: usize, const FAN: usize, const LEVELS: usize>(
         (length held.old) root.level root.block root.low) }
 
     // On a tree the answer is a root, or Deep just where there is no room, unless the device fails; and where the
-    // blocks of the tree are held, the root has the map with the value.
+    // blocks of the tree are held, the root has the map with the value, in blocks that are none of the old path.
     ensures put { IfWhole (D.state disk.old) (D.state disk.new) (sizes_of LEAF FAN LEVELS)
         (length held.old) root (λ m bs. Puts result
         (LacksRoom (sizes_of LEAF FAN LEVELS) (D.state disk.old).now.contents root m key)
         (λ r. AllByRecursion (IsHeld held.old) bs
-        → IsRootedIn (sizes_of LEAF FAN LEVELS) (IsHeld held.new) (D.state disk.new).now.contents
+        → IsRootedIn (sizes_of LEAF FAN LEVELS)
+        (IsHeldBeside held.new (path_under root path.new)) (D.state disk.new).now.contents
         (length held.old) r (with_value m key value.now))) }
+
+    // The path is of blocks of the old tree.
+    ensures path_in { IfWhole (D.state disk.old) (D.state disk.new) (sizes_of LEAF FAN LEVELS)
+        (length held.old) root
+        (λ m bs. IfOk result (λ r. IsPathIn (path_under root path.new) bs)) }
 {
     if root.block == 0 {
         return put_first(disk, held, key, value);
@@ -355,7 +388,7 @@ pub fn put<D: Disk, const LEAF: usize, const FAN: usize, const LEVELS: usize>(
         low: root.low,
         block: root.block,
     };
-    let copied = put_below::<D, LEAF, FAN>(disk, held, level, top, room, key, value)?;
+    let copied = put_below::<D, LEAF, FAN>(disk, held, level, top, room, key, value, path)?;
     match copied {
         Copied::One(top) => Ok(root_at(top, level)),
         Copied::Two(left, right) => {

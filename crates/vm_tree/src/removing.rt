@@ -1,9 +1,9 @@
 //! A record less.
-ghost use Rattle.std.specs.Prelude.{◌≡◌, ◌≢◌, ◌↔◌, ℕ, ◌+◌, ◌-◌, ◌<◌, ◌≤◌, ◌++◌, ◌∷◌, Bool, true, false, List, [], None, Some, length, take, drop, IsTrue, IfOk, IfSome, IfNone, IsSomeAnd};
+ghost use Rattle.std.specs.Prelude.{◌≡◌, ◌≢◌, ◌↔◌, ℕ, ◌+◌, ◌-◌, ◌<◌, ◌≤◌, ◌++◌, ◌∷◌, Bool, true, false, List, [], None, Some, length, take, drop, slice_index, slice_set, IsTrue, IfOk, IfSome, IfNone, IsSomeAnd};
 ghost use Rattle.std.specs.List.{AllByRecursion};
 ghost use Rattle.vm_types.specs.Map.{Map, get, without};
 ghost use Rattle.vm_types.specs.Places.{KeyFits, RisesFrom, place, places, value_at};
-ghost use Rattle.vm_alloc.specs.Held.{IsHeld, free_count};
+ghost use Rattle.vm_alloc.specs.Held.{HoldsMore, IsHeld, free_count};
 ghost use Rattle.vm_block.specs.Leaf.{Record};
 ghost use Rattle.vm_block.specs.Node.{ChildFits, IsNode};
 ghost use Rattle.vm_block.specs.Tree.{BeginsWith, Children, Subtree};
@@ -13,6 +13,7 @@ ghost use Rattle.vm_tree.specs.Calls.{OnlyLooks, LooksIf, LooksIfDamaged, Writes
 ghost use Rattle.vm_tree.specs.Making.{Made};
 ghost use Rattle.vm_tree.specs.Reading.{LeadsDown};
 ghost use Rattle.vm_tree.specs.Removing.{Narrows, RemovesBelow, IsLeft, child_of, level_of, without_place};
+ghost use Rattle.vm_tree.specs.Replacing.{IsHeldBeside, IsPathIn, IsRenewed, Replaces, path_from, path_under};
 ghost use Rattle.vm_tree.specs.Root.{AreSizes, IsRootedIn, IfUnder, IfWhole, sizes_of};
 
 use crate::reading::{leaf_under, way_at};
@@ -116,8 +117,8 @@ fn remove_from_leaf<D: Disk, const LEAF: usize>(
     ensures remove { (fan levels : ℕ)
         → IfUnder (D.state disk.old) (D.state disk.new) (sizes_of LEAF fan levels)
         (length held.old) 0 top (λ rs bs. RemovesBelow result place rs
-        (λ root. AllByRecursion (IsHeld held.old) bs
-        → Made (IsHeld held.new) (sizes_of LEAF fan levels) (D.state disk.new).now.contents
+        (λ root. (keep : ℕ → Bool) → Made (IsRenewed held.old held.new keep)
+        (sizes_of LEAF fan levels) (D.state disk.new).now.contents
         (length held.old) root.level (child_of root ∷ []) (without_place place rs))) }
 {
     let records = leaf_under::<D, LEAF>(disk, held.blocks(), top)?;
@@ -194,8 +195,10 @@ fn write_rest<D: Disk, const FAN: usize>(
         → AllByRecursion ChildFits children.now
         → Children (Subtree (sizes_of leaf FAN levels) (D.state disk.old).now.contents
         (length held.old) (level - 1)) children.now rs bs
-        → IsLeft result rs (λ root. AllByRecursion (IsHeld held.old) bs
-        → Made (IsHeld held.new) (sizes_of leaf FAN levels) (D.state disk.new).now.contents
+        → IsLeft result rs (λ root. (before : List Bool) (keep : ℕ → Bool)
+        → HoldsMore before held.old → AllByRecursion (IsRenewed before held.old keep) bs
+        → Made (IsRenewed before held.new keep) (sizes_of leaf FAN levels)
+        (D.state disk.new).now.contents
         (length held.old) root.level (child_of root ∷ []) rs) }
 {
     if children.is_empty() {
@@ -210,7 +213,8 @@ fn write_rest<D: Disk, const FAN: usize>(
 }
 
 /// Takes the record of the key out of what lies under a block of this level. A root
-/// that would have one child is not written.
+/// that would have one child is not written. In `path` come the blocks that are replaced, each at
+/// its level.
 fn remove_below<D: Disk, const LEAF: usize, const FAN: usize>(
     disk: &mut D,
     held: &mut Held,
@@ -218,6 +222,7 @@ fn remove_below<D: Disk, const LEAF: usize, const FAN: usize>(
     top: Child,
     is_root: bool,
     key: Key,
+    path: &mut [u32; 8],
 ) -> Result<Left, TreeFault>
     requires inside { length held.old ≤ (D.state disk.old).blocks }
     requires leaf_most { LEAF ≤ 16 }
@@ -242,17 +247,25 @@ fn remove_below<D: Disk, const LEAF: usize, const FAN: usize>(
     ensures remove { (levels : ℕ)
         → IfUnder (D.state disk.old) (D.state disk.new) (sizes_of LEAF FAN levels)
         (length held.old) level top (λ rs bs. RemovesBelow result (place key) rs
-        (λ root. AllByRecursion (IsHeld held.old) bs
-        → Made (IsHeld held.new) (sizes_of LEAF FAN levels) (D.state disk.new).now.contents
-        (length held.old) root.level (child_of root ∷ []) (without_place (place key) rs))) }
+        (λ root. Replaces held.old held.new (path_from level path.new) bs
+        (λ P. Made P (sizes_of LEAF FAN levels) (D.state disk.new).now.contents
+        (length held.old) root.level (child_of root ∷ []) (without_place (place key) rs)))) }
+    ensures path_size { length path.new ≡ length path.old }
+    ensures path_above { (k : ℕ) → level ≤ k
+        → slice_index path.new k ≡ slice_index (slice_set path.old level top.block) k }
+    ensures path_in { (levels : ℕ)
+        → IfUnder (D.state disk.old) (D.state disk.new) (sizes_of LEAF FAN levels)
+        (length held.old) level top
+        (λ rs bs. IfOk result (λ left. IsPathIn (path_from level path.new) bs)) }
 {
+    path[usize::from(level)] = top.block;
     if level == 0 {
         return remove_from_leaf::<D, LEAF>(disk, held, top, key.place());
     }
     let mut bytes = [0; 4096];
     let way = way_at::<D, FAN>(disk, held.blocks(), level, top, key, &mut bytes)?;
     let alone = is_root && way.count == 1;
-    let left = remove_below::<D, LEAF, FAN>(disk, held, level - 1, way.child, alone, key)?;
+    let left = remove_below::<D, LEAF, FAN>(disk, held, level - 1, way.child, alone, key, path)?;
     match left {
         Left::Same => Ok(Left::Same),
         Left::Nothing => match without_child(&bytes, way) {
@@ -271,12 +284,14 @@ fn remove_below<D: Disk, const LEAF: usize, const FAN: usize>(
 }
 
 /// Takes the record of a key out: writes its path anew, in blocks that were free, and returns the
-/// new root; or None where the key is absent. The caller owes 16 free blocks.
+/// new root; or None where the key is absent. The caller owes 16 free blocks. In `path` come the
+/// blocks of the old path, each at its level: no block of the new tree is one of them.
 pub fn remove<D: Disk, const LEAF: usize, const FAN: usize, const LEVELS: usize>(
     disk: &mut D,
     held: &mut Held,
     root: Root,
     key: Key,
+    path: &mut [u32; 8],
 ) -> Result<Option<Root>, TreeFault>
     requires sizes { AreSizes LEAF FAN LEVELS }
     requires inside { length held.old ≤ (D.state disk.old).blocks }
@@ -309,12 +324,18 @@ pub fn remove<D: Disk, const LEAF: usize, const FAN: usize, const LEVELS: usize>
         (length held.old) root.level root.block root.low) }
 
     // On a tree the answer is None just where the key is absent, and else a root, unless the device fails; and where
-    // the blocks of the tree are held, the root has the map without the key.
+    // the blocks of the tree are held, the root has the map without the key, in blocks that are none of the old path.
     ensures remove { IfWhole (D.state disk.old) (D.state disk.new) (sizes_of LEAF FAN LEVELS)
         (length held.old) root (λ m bs. Removes result (get m key ≡ None)
         (λ r. AllByRecursion (IsHeld held.old) bs
-        → IsRootedIn (sizes_of LEAF FAN LEVELS) (IsHeld held.new) (D.state disk.new).now.contents
+        → IsRootedIn (sizes_of LEAF FAN LEVELS)
+        (IsHeldBeside held.new (path_under root path.new)) (D.state disk.new).now.contents
         (length held.old) r (without m key))) }
+
+    // The path is of blocks of the old tree.
+    ensures path_in { IfWhole (D.state disk.old) (D.state disk.new) (sizes_of LEAF FAN LEVELS)
+        (length held.old) root
+        (λ m bs. IfOk result (λ rest. IsPathIn (path_under root path.new) bs)) }
 {
     if root.block == 0 {
         return Ok(None);
@@ -326,7 +347,7 @@ pub fn remove<D: Disk, const LEAF: usize, const FAN: usize, const LEVELS: usize>
         low: root.low,
         block: root.block,
     };
-    let left = remove_below::<D, LEAF, FAN>(disk, held, root.level, top, true, key)?;
+    let left = remove_below::<D, LEAF, FAN>(disk, held, root.level, top, true, key, path)?;
     match left {
         Left::Same => Ok(None),
         Left::Nothing => Ok(Some(Root::default())),

@@ -1,17 +1,18 @@
 //! Blocks of a tree, written anew in blocks that were free.
-ghost use Rattle.std.specs.Prelude.{◌≡◌, ◌≢◌, ◌↔◌, ℕ, ◌+◌, ◌-◌, ◌<◌, ◌≤◌, true, false, List, [], ◌∷◌, length, IfOk, OnOk};
+ghost use Rattle.std.specs.Prelude.{◌≡◌, ◌≢◌, ◌↔◌, ℕ, ◌+◌, ◌-◌, ◌<◌, ◌≤◌, Bool, true, false, List, [], ◌∷◌, length, IfOk, OnOk};
 ghost use Rattle.std.specs.List.{AllByRecursion};
 ghost use Rattle.vm_types.specs.Places.{RisesFrom, places};
 ghost use Rattle.vm_disk.specs.Disk.{block};
-ghost use Rattle.vm_alloc.specs.Held.{IsHeld, free_count};
+ghost use Rattle.vm_alloc.specs.Held.{HoldsMore, free_count};
 ghost use Rattle.vm_block.specs.Leaf.{Record, RecordFits, leaf_bytes};
 ghost use Rattle.vm_block.specs.Node.{node_bytes};
 ghost use Rattle.vm_block.specs.Tree.{Sizes};
 ghost use Rattle.vm_block.specs.declared.node.Child.{Child};
 ghost use Rattle.vm_tree.specs.Answers.{OkOrDevice};
 ghost use Rattle.vm_tree.specs.Calls.{WritesFree};
-ghost use Rattle.vm_tree.specs.Free.{IsTaken, AreTaken};
+ghost use Rattle.vm_tree.specs.Free.{IsTaken, AreTaken, is_free};
 ghost use Rattle.vm_tree.specs.Making.{Made, children_of, is_split};
+ghost use Rattle.vm_tree.specs.Replacing.{IsRenewed};
 
 use crate::root::TreeFault;
 use vm_alloc::Held;
@@ -33,6 +34,7 @@ fn write_free<D: Disk>(disk: &mut D, held: &mut Held, bytes: &[u8; 4096]) -> Res
     ensures writes { WritesFree result held.old held.new (D.state disk.old) (D.state disk.new) }
     ensures device { OkOrDevice result (IsTaken held.new) }
     ensures taken { free_count held.old ≤ free_count held.new + 1 }
+    ensures free { IfOk result (λ n. is_free held.old n ≡ true) }
     ensures written { (D.state disk.new).honest ≡ true
         → IfOk result (λ n. block (D.state disk.new).now.contents n ≡ bytes.now) }
 {
@@ -58,21 +60,24 @@ pub(crate) fn write_bytes<D: Disk>(
     ensures writes { WritesFree result held.old held.new (D.state disk.old) (D.state disk.new) }
     ensures device { OkOrDevice result (λ child. IsTaken held.new child.block) }
     ensures taken { free_count held.old ≤ free_count held.new + 1 }
-    ensures leaf { (D.state disk.new).honest ≡ true → (sizes : Sizes) (rs : List Record)
+    ensures leaf { (D.state disk.new).honest ≡ true → (before : List Bool) (keep : ℕ → Bool)
+        → HoldsMore before held.old → (sizes : Sizes) (rs : List Record)
         → bytes.now ≡ leaf_bytes rs
         → 0 < length rs → length rs ≤ 16 → length rs ≤ sizes.leaf → RisesFrom 0 (places rs)
         → AllByRecursion RecordFits rs
-        → IfOk result (λ child. Made (IsHeld held.new) sizes (D.state disk.new).now.contents
-        (length held.old) 0 (child ∷ []) rs) }
+        → IfOk result (λ child. Made (IsRenewed before held.new keep) sizes
+        (D.state disk.new).now.contents (length held.old) 0 (child ∷ []) rs) }
     ensures node { (D.state disk.new).honest ≡ true
-        → (sizes : Sizes) (level : ℕ) (cs : List Child) (rs : List Record)
+        → (before : List Bool) (keep : ℕ → Bool)
+        → HoldsMore before held.old → (sizes : Sizes) (level : ℕ) (cs : List Child)
+        → (rs : List Record)
         → bytes.now ≡ node_bytes level cs
         → 0 < level → level ≤ 7 → 0 < length cs → length cs ≤ 256 → length cs ≤ sizes.fan
         → RisesFrom 0 (places rs)
-        → Made (IsHeld held.old) sizes (D.state disk.old).now.contents (length held.old)
-        (level - 1) cs rs
-        → IfOk result (λ child. Made (IsHeld held.new) sizes (D.state disk.new).now.contents
-        (length held.old) level (child ∷ []) rs) }
+        → Made (IsRenewed before held.old keep) sizes (D.state disk.old).now.contents
+        (length held.old) (level - 1) cs rs
+        → IfOk result (λ child. Made (IsRenewed before held.new keep) sizes
+        (D.state disk.new).now.contents (length held.old) level (child ∷ []) rs) }
 {
     let low = lowest_key(bytes);
     let block = write_free(disk, held, bytes)?;
@@ -92,11 +97,12 @@ pub(crate) fn write_leaf_block<D: Disk>(
     ensures writes { WritesFree result held.old held.new (D.state disk.old) (D.state disk.new) }
     ensures device { OkOrDevice result (λ child. IsTaken held.new child.block) }
     ensures taken { free_count held.old ≤ free_count held.new + 1 }
-    ensures made { (D.state disk.new).honest ≡ true → (sizes : Sizes)
+    ensures made { (D.state disk.new).honest ≡ true → (before : List Bool) (keep : ℕ → Bool)
+        → HoldsMore before held.old → (sizes : Sizes)
         → length records.now ≤ sizes.leaf
         → RisesFrom 0 (places records.now) → AllByRecursion RecordFits records.now
-        → IfOk result (λ child. Made (IsHeld held.new) sizes (D.state disk.new).now.contents
-        (length held.old) 0 (child ∷ []) records.now) }
+        → IfOk result (λ child. Made (IsRenewed before held.new keep) sizes
+        (D.state disk.new).now.contents (length held.old) 0 (child ∷ []) records.now) }
 {
     let mut bytes = [0; 4096];
     write_leaf(records, &mut bytes);
@@ -117,13 +123,14 @@ pub(crate) fn write_node_block<D: Disk>(
     ensures writes { WritesFree result held.old held.new (D.state disk.old) (D.state disk.new) }
     ensures device { OkOrDevice result (λ child. IsTaken held.new child.block) }
     ensures taken { free_count held.old ≤ free_count held.new + 1 }
-    ensures made { (D.state disk.new).honest ≡ true → (sizes : Sizes) (rs : List Record) → 0 < level
+    ensures made { (D.state disk.new).honest ≡ true → (before : List Bool) (keep : ℕ → Bool)
+        → HoldsMore before held.old → (sizes : Sizes) (rs : List Record) → 0 < level
         → level ≤ 7 → length children.now ≤ sizes.fan
         → RisesFrom 0 (places rs)
-        → Made (IsHeld held.old) sizes (D.state disk.old).now.contents (length held.old)
-        (level - 1) children.now rs
-        → IfOk result (λ child. Made (IsHeld held.new) sizes (D.state disk.new).now.contents
-        (length held.old) level (child ∷ []) rs) }
+        → Made (IsRenewed before held.old keep) sizes (D.state disk.old).now.contents
+        (length held.old) (level - 1) children.now rs
+        → IfOk result (λ child. Made (IsRenewed before held.new keep) sizes
+        (D.state disk.new).now.contents (length held.old) level (child ∷ []) rs) }
 {
     let mut bytes = [0; 4096];
     write_node(level, children, &mut bytes);
@@ -149,10 +156,11 @@ pub(crate) fn write_leaves<D: Disk, const LEAF: usize>(
     ensures single { IfOk result
         (λ copied. is_split copied ≡ false → free_count held.old ≤ free_count held.new + 1) }
     ensures taken { free_count held.old ≤ free_count held.new + 2 }
-    ensures made { (D.state disk.new).honest ≡ true → (sizes : Sizes) → LEAF ≤ sizes.leaf
+    ensures made { (D.state disk.new).honest ≡ true → (before : List Bool) (keep : ℕ → Bool)
+        → HoldsMore before held.old → (sizes : Sizes) → LEAF ≤ sizes.leaf
         → RisesFrom 0 (places records.now) → AllByRecursion RecordFits records.now
-        → IfOk result (λ copied. Made (IsHeld held.new) sizes (D.state disk.new).now.contents
-        (length held.old) 0 (children_of copied) records.now) }
+        → IfOk result (λ copied. Made (IsRenewed before held.new keep) sizes
+        (D.state disk.new).now.contents (length held.old) 0 (children_of copied) records.now) }
 {
     if records.len() <= LEAF {
         let leaf = write_leaf_block(disk, held, records)?;
@@ -185,13 +193,14 @@ pub(crate) fn write_nodes<D: Disk, const FAN: usize>(
     ensures single { IfOk result
         (λ copied. is_split copied ≡ false → free_count held.old ≤ free_count held.new + 1) }
     ensures taken { free_count held.old ≤ free_count held.new + 2 }
-    ensures made { (D.state disk.new).honest ≡ true → (sizes : Sizes) (rs : List Record) → 0 < level
+    ensures made { (D.state disk.new).honest ≡ true → (before : List Bool) (keep : ℕ → Bool)
+        → HoldsMore before held.old → (sizes : Sizes) (rs : List Record) → 0 < level
         → level ≤ 7 → FAN ≤ sizes.fan
         → RisesFrom 0 (places rs)
-        → Made (IsHeld held.old) sizes (D.state disk.old).now.contents (length held.old)
-        (level - 1) children.now rs
-        → IfOk result (λ copied. Made (IsHeld held.new) sizes (D.state disk.new).now.contents
-        (length held.old) level (children_of copied) rs) }
+        → Made (IsRenewed before held.old keep) sizes (D.state disk.old).now.contents
+        (length held.old) (level - 1) children.now rs
+        → IfOk result (λ copied. Made (IsRenewed before held.new keep) sizes
+        (D.state disk.new).now.contents (length held.old) level (children_of copied) rs) }
 {
     if children.len() <= FAN {
         let node = write_node_block(disk, held, level, children)?;

@@ -1,14 +1,18 @@
-use Rattle.std.proofs.Common.{◌≡◌, ◌∙◌, ◌+◌, ◌-◌, false, Ok, Err, ◌≤◌, ◌<◌, length, ap, sym, subst, refl, arith, rules}
+use Rattle.std.proofs.Common.{◌≡◌, ◌∙◌, ℕ, ◌+◌, ◌-◌, List, false, Ok, Err, ◌≤◌, ◌<◌, length, ap, sym, subst, refl, arith, rules}
+use Rattle.std.proofs.Math.ListN.{length-set}
 use Rattle.std.proofs.lemmas.Bool.{false≢true, ltb-false}
 use Rattle.vm_disk.proofs.MomentLemmas.{same_medium}
 use Rattle.vm_block.specs.Leaf.{Record}
 use Rattle.vm_block.specs.Tree.{Subtree}
+use Rattle.vm_block.specs.declared.node.Child.{Child}
 use Rattle.vm_types.specs.Places.{place}
-use Rattle.vm_alloc.specs.Held.{IsHeld, free_count}
+use Rattle.vm_alloc.specs.Held.{free_count}
 use Rattle.vm_tree.specs.declared.root.TreeFault.TheVariants.{Deep}
 use Rattle.vm_tree.specs.Root.{sizes_of}
 use Rattle.vm_tree.specs.Making.{Made, is_split, with_copied}
 use Rattle.vm_tree.specs.Reading.{IsNodeAt}
+use Rattle.vm_tree.specs.Replacing.{Replaces, path_from}
+use Rattle.vm_tree.proofs.Beside.{node_path, path_grown, path_leaf}
 use Rattle.vm_tree.proofs.Looking.{looks_free, looks_if, looks_write, passed_on, writes_on}
 use Rattle.vm_tree.proofs.Descent.{node_read}
 use Rattle.vm_tree.proofs.Leading.{leads_on, if_ok_is}
@@ -16,6 +20,10 @@ use Rattle.vm_tree.proofs.PutLemmas.{asked_of, node_put, not_split, there_below,
 use Rattle.vm_tree.proofs.Sparing.{held_kept}
 use Rattle.vm_tree.proofs.putting.+put_below.Goals as goal
 use Rattle.vm_tree.proofs.putting.+put_below.Goals.{then-room, else-room}
+
+pub returns-then-level-eq0-clause-path_in : goal.returns-then-level-eq0-clause-path_in
+returns-then-level-eq0-clause-path_in g t c levels honest rs bs tree begins rises =
+    if_ok_is c.put_in_leaf.result _ (path_leaf (sizes_of g.row.LEAF g.row.FAN levels) _ _ c.args.level c.from.result c.args.top.block rs bs c.args.path.now c.told-path c.if-level-eq0.true c.from.ensures tree)
 
 pub returns-clause-put : goal.returns-clause-put
 returns-clause-put g t c levels honest rs bs tree begins rises =
@@ -32,14 +40,36 @@ returns-clause-put g t c levels honest rs bs tree begins rises =
     let d = c.in_ok-way.way.child in
     let lent = with_copied cs i c.in_ok-copied.copied in
     let fine = c.write_replaced.ensures.fine cs way.0 way.1 in
-    node_put sizes old _ (length c.args.held.now) c.args.level c.args.top.block r rs bs cs i d still above tree rises only way.2.chosen
-    (IsHeld c.args.held.now) (IsHeld c.put_below.new.held) (IsHeld c.write_replaced.new.held) (g.D.Disk.state c.put_below.new.disk).now.contents (g.D.Disk.state c.write_replaced.new.disk).now.contents
+    let limit = length c.args.held.now in
+    let y = (g.D.Disk.state c.put_below.new.disk).now.contents in
+    let under = path_from (c.args.level - 1) c.put_below.new.path in
+    node_put sizes old _ limit c.args.level c.args.top.block r rs bs cs i d still above tree rises only way.2.chosen
+    c.args.held.now c.put_below.new.held c.write_replaced.new.held (path_from c.args.level c.put_below.new.path) under y (g.D.Disk.state c.write_replaced.new.disk).now.contents
     (length c.put_below.new.held) c.in_ok-copied.copied lent c.write_replaced.result _
-    c.in_ok-copied.ensures.writes.still.same_length
-    (asked_of sizes old _ (length c.args.held.now) c.args.level c.args.top.block r rs bs cs i d still above tree rises only way.2.chosen d (Ok c.in_ok-copied.copied) (IsHeld c.args.held.now) (Made (IsHeld c.put_below.new.held) sizes (g.D.Disk.state c.put_below.new.disk).now.contents (length c.args.held.now) (c.args.level - 1)) way.2.child (c.in_ok-copied.ensures.put levels (c.write_replaced.ensures.writes.goes.earlier honest)))
-    (held_kept c.args.held.now _ _ (c.in_ok-copied.ensures.writes.moments (c.write_replaced.ensures.writes.goes.earlier honest))) c.in_ok-copied.ensures.writes.still.still
+    c.in_ok-copied.ensures.writes.still.same_length (path_grown c.put_below.new.path c.args.path.now c.args.level c.from.result c.args.top.block d.block (c.in_ok-copied.ensures.path_size ∙ length-set c.args.path.now c.from.result c.args.top.block ∙ c.told-path) c.told-path c.requires.low c.from.ensures above c.in_ok-copied.ensures.path_above)
+    d way.2.child (c.in_ok-copied.ensures.path_in levels (c.write_replaced.ensures.writes.goes.earlier honest))
+    (asked_of sizes old _ limit c.args.level c.args.top.block r rs bs cs i d still above tree rises only way.2.chosen d (Ok c.in_ok-copied.copied)
+    (λ ds qs own. Replaces c.args.held.now c.put_below.new.held under own (λ P. Made P sizes y limit (c.args.level - 1) ds qs)) way.2.child (c.in_ok-copied.ensures.put levels (c.write_replaced.ensures.writes.goes.earlier honest)))
+    (held_kept c.args.held.now _ _ (c.in_ok-copied.ensures.writes.moments (c.write_replaced.ensures.writes.goes.earlier honest))) c.in_ok-copied.ensures.writes.still
     refl fine (ok_if c.write_replaced.result _ fine)
-    (λ qs rising made. c.write_replaced.ensures.made honest sizes cs qs way.0 way.1 (omega arith) rising made)
+    (λ keep qs rising made. c.write_replaced.ensures.made honest c.args.held.now keep c.in_ok-copied.ensures.writes.still sizes cs qs way.0 way.1 (omega arith) rising made)
+
+pub returns-clause-path_in : goal.returns-clause-path_in
+returns-clause-path_in g t c levels honest rs bs tree begins rises =
+    let sizes = sizes_of g.row.LEAF g.row.FAN levels in
+    let old = (g.D.Disk.state c.args.disk.now).now in
+    let limit = length c.args.held.now in
+    let earlier = c.in_ok-copied.ensures.writes.goes.earlier (c.write_replaced.ensures.writes.goes.earlier honest) in
+    let still = same_medium _ _ (c.in_ok-way.ensures.looks.reads earlier) in
+    let above : 0 < c.args.level = omega (arith, c.if-level-eq0.false) in
+    let read = node_read sizes old.contents limit c.args.level c.args.top.block rs bs above tree in
+    let way = c.in_ok-way.ensures.only earlier read.0 (subst (λ n. IsNodeAt old.contents n c.args.level c.args.top.block read.0) (sym c.blocks-2.ensures.count) read.1) (read.3 c.args.top.low begins) read.2 in
+    let only = only_one old.contents limit c.args.level c.args.top.block sizes.fan read.0 read.1 in
+    let d = c.in_ok-way.way.child in
+    if_ok_is c.write_replaced.result _
+    (node_path sizes old _ limit c.args.level c.args.top.block (place c.args.key) rs bs read.0 c.in_ok-way.way.index d still above tree rises only way.2.chosen d _ _ way.2.child
+    (path_grown c.put_below.new.path c.args.path.now c.args.level c.from.result c.args.top.block d.block (c.in_ok-copied.ensures.path_size ∙ length-set c.args.path.now c.from.result c.args.top.block ∙ c.told-path) c.told-path c.requires.low c.from.ensures above c.in_ok-copied.ensures.path_above)
+    (c.in_ok-copied.ensures.path_in levels (c.write_replaced.ensures.writes.goes.earlier honest)))
 
 pub returns-in_err-copied-clause-put : goal.returns-in_err-copied-clause-put
 returns-in_err-copied-clause-put g t c levels honest rs bs tree begins rises =
@@ -54,15 +84,15 @@ returns-in_err-copied-clause-put g t c levels honest rs bs tree begins rises =
     let only = only_one old.contents (length c.args.held.now) c.args.level c.args.top.block sizes.fan cs read.1 in
     let i = c.in_ok-way.way.index in
     let d = c.in_ok-way.way.child in
-    let made = Made (IsHeld c.put_below.new.held) sizes (g.D.Disk.state c.put_below.new.disk).now.contents (length c.args.held.now) (c.args.level - 1) in
+    let made = λ (ds : List Child) (qs : List Record) (own : List ℕ). Replaces c.args.held.now c.put_below.new.held (path_from (c.args.level - 1) c.put_below.new.path) own (λ P. Made P sizes (g.D.Disk.state c.put_below.new.disk).now.contents (length c.args.held.now) (c.args.level - 1) ds qs) in
     let full = λ (is : c.in_err-copied.field-0.0 ≡ Deep).
     let none = (c.in_err-copied.ensures.deep (ap Err is)).0 in
     let many : g.row.FAN ≤ c.in_ok-way.way.count = elim c.if-room.branch [ then-room w ↦ absurd (false≢true (sym none ∙ w.room-is ∙ w.if-room.true)) | else-room w ↦ ltb-false c.in_ok-way.way.count g.row.FAN (sym w.room-is ∙ none) ] in
     let all : sizes.fan ≤ length cs = omega (arith, many, way.1) in
     all in
     rw (passed_on _ c.from_residual-in_err-copied.ensures.1) (node_fault sizes old _ (length c.args.held.now) c.args.level c.args.top.block r rs bs cs i d still above tree rises only way.2.chosen
-    (IsHeld c.args.held.now) made _ c.in_err-copied.field-0.0
-    (asked_of sizes old _ (length c.args.held.now) c.args.level c.args.top.block r rs bs cs i d still above tree rises only way.2.chosen d (Err c.in_err-copied.field-0.0) (IsHeld c.args.held.now) made way.2.child (c.in_err-copied.ensures.put levels honest)) full)
+    made _ c.in_err-copied.field-0.0
+    (asked_of sizes old _ (length c.args.held.now) c.args.level c.args.top.block r rs bs cs i d still above tree rises only way.2.chosen d (Err c.in_err-copied.field-0.0) made way.2.child (c.in_err-copied.ensures.put levels honest)) full)
 
 pub returns-in_err-way-clause-put : goal.returns-in_err-way-clause-put
 returns-in_err-way-clause-put g t c levels honest rs bs tree begins rises =

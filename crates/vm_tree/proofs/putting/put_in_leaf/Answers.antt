@@ -1,11 +1,13 @@
-use Rattle.std.proofs.Common.{ℕ, List, length, sym, subst, refl, arith, rules}
+use Rattle.std.proofs.Common.{ℕ, Bool, List, length, sym, subst, refl, arith, rules}
 use Rattle.std.proofs.lemmas.Bool.{false≢true}
 use Rattle.vm_types.specs.Places.{with_record}
 use Rattle.vm_block.specs.Leaf.{Record, IsLeaf}
 use Rattle.vm_block.proofs.TreeLemmas.{leaf_opens}
-use Rattle.vm_alloc.specs.Held.{IsHeld}
+use Rattle.vm_alloc.proofs.HeldLemmas.{holds_same}
 use Rattle.vm_tree.specs.Root.{sizes_of}
 use Rattle.vm_tree.specs.Making.{Made}
+use Rattle.vm_tree.specs.Replacing.{IsRenewed}
+use Rattle.vm_tree.proofs.Beside.{if_ok_each}
 use Rattle.vm_tree.proofs.Looking.{looks_free, looks_if, looks_write, passed_on}
 use Rattle.vm_tree.proofs.Descent.{leaf_there}
 use Rattle.vm_tree.proofs.FullPaths.{leaf_splits, splits_leaf}
@@ -23,7 +25,7 @@ returns-in_ok-leaf-in-Put-clause-put g c fan levels honest rs bs tree begins ris
     let at = leaf_opens sizes x limit 0 c.args.top.block rs bs refl tree in
     let leaf = c.in_ok-block_at.ensures.leaf (c.in_ok-leaf-in-Put.ensures.writes.goes.earlier honest) rs (leaf_there sizes x limit _ 0 c.args.top.block rs bs refl c.blocks-2.ensures.count tree) begins in
     let put = c.in-Put.ensures.only rs leaf at.few in
-    let made = c.in_ok-leaf-in-Put.ensures.leaf honest sizes (with_record r rs) put.0 (with_some r rs) (omega (arith, put.1, c.requires.most)) put.1
+    let made = λ (keep : ℕ → Bool). c.in_ok-leaf-in-Put.ensures.leaf honest c.args.held.now keep (holds_same c.args.held.now) sizes (with_record r rs) put.0 (with_some r rs) (omega (arith, put.1, c.requires.most)) put.1
     (with_rises r 0 rs (omega arith) rises) (with_fits r rs c.put_record.ensures.fits leaf.fit) in
     (made, (λ is. absurd (false≢true is), λ splits. let over = splits_leaf sizes x limit c.args.top.block r rs bs at splits in absurd (omega (arith, over, put.1))))
 
@@ -48,8 +50,9 @@ returns-in-Full-2-clause-put g c fan levels honest rs bs tree begins rises =
     let still = subst (λ (b : List ℕ). IsLeaf b rs) (sym (c.in-Full-2.ensures.only rs leaf at.few).0) leaf in
     let fine = c.split_leaf.ensures.fine rs still at.few in
     leaf_put sizes x limit c.args.top.block r rs bs (with_record r rs) c.split_leaf.result _
-    (Made (IsHeld c.split_leaf.new.held) sizes (g.D.Disk.state c.split_leaf.new.disk).now.contents limit 0)
-    at rises refl fine (ok_if c.split_leaf.result _ fine) (c.split_leaf.ensures.made honest sizes rs still at.few (omega arith))
+    (λ cs qs. (keep : ℕ → Bool) → Made (IsRenewed c.args.held.now c.split_leaf.new.held keep) sizes (g.D.Disk.state c.split_leaf.new.disk).now.contents limit 0 cs qs)
+    at rises refl fine (ok_if c.split_leaf.result _ fine)
+    (if_ok_each c.split_leaf.result _ (λ keep. c.split_leaf.ensures.made honest c.args.held.now keep (holds_same c.args.held.now) sizes rs still at.few (omega arith)))
 
 pub returns-in-NoLeaf-clause-put : goal.returns-in-NoLeaf-clause-put
 returns-in-NoLeaf-clause-put g c fan levels honest rs bs tree begins rises =

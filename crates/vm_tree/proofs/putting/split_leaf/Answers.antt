@@ -2,8 +2,8 @@ use Rattle.std.proofs.Common.{◌≤◌, ◌+◌, ◌∙◌, List, IfOk, length,
 use Rattle.std.specs.List.{AllByRecursion}
 use Rattle.vm_types.specs.Places.{RisesFrom, places, with_record}
 use Rattle.vm_block.specs.Leaf.{Record, RecordFits}
-use Rattle.vm_alloc.specs.Held.{IsHeld}
 use Rattle.vm_tree.specs.Making.{Made, children_of}
+use Rattle.vm_tree.specs.Replacing.{IsRenewed}
 use Rattle.vm_tree.proofs.Placing.{with_fits, with_rises, with_longest}
 use Rattle.vm_tree.proofs.putting.split_leaf.Goals as goal
 
@@ -14,10 +14,10 @@ write_leaves-requires-clause-few g c =
     few
 
 pub returns-in-Some-clause-made : goal.returns-in-Some-clause-made
-returns-in-Some-clause-made g c honest sizes rs leaf few fan =
+returns-in-Some-clause-made g c honest before keep more sizes rs leaf few fan =
     let r : Record = (c.args.key, c.args.value.now) in
     let is = c.as_slice-in-Some.ensures.value ∙ c.with_record-records.ensures.records ∙ ap (λ (qs : List Record). with_record r qs) (c.as_slice.ensures.value ∙ c.in-Some.ensures.only rs leaf) in
     let rising = subst (λ (qs : List Record). RisesFrom 0 (places qs)) (sym is) (with_rises r 0 rs (omega arith) leaf.rising) in
     let fitting = subst (AllByRecursion RecordFits) (sym is) (with_fits r rs c.with_record-records.ensures.fits leaf.fit) in
-    subst (λ (qs : List Record). IfOk c.write_leaves.result (λ copied. Made (IsHeld c.write_leaves.new.held) sizes (g.D.Disk.state c.write_leaves.new.disk).now.contents (length c.args.held.now) 0 (children_of copied) qs)) is
-    (c.write_leaves.ensures.made honest sizes fan rising fitting)
+    subst (λ (qs : List Record). IfOk c.write_leaves.result (λ copied. Made (IsRenewed before c.write_leaves.new.held keep) sizes (g.D.Disk.state c.write_leaves.new.disk).now.contents (length c.args.held.now) 0 (children_of copied) qs)) is
+    (c.write_leaves.ensures.made honest before keep more sizes fan rising fitting)

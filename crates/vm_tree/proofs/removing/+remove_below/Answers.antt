@@ -1,4 +1,5 @@
 use Rattle.std.proofs.Common.{◌≡◌, ◌∙◌, ℕ, Bool, ◌+◌, ◌-◌, ◌<◌, Ok, List, [], ◌∷◌, ◌++◌, length, take, drop, ap, sym, subst, refl, arith, rules}
+use Rattle.std.proofs.Math.ListN.{length-set}
 use Rattle.std.proofs.lemmas.Bool.{false≢true, eqb-true}
 use Rattle.vm_types.specs.Places.{place}
 use Rattle.std.specs.List.{AllByRecursion}
@@ -7,19 +8,23 @@ use Rattle.vm_disk.proofs.MomentLemmas.{same_medium}
 use Rattle.vm_block.specs.Leaf.{Record}
 use Rattle.vm_block.specs.Tree.{Children, Subtree}
 use Rattle.vm_block.specs.declared.node.Child.{Child}
-use Rattle.vm_alloc.specs.Held.{IsHeld}
+use Rattle.vm_alloc.specs.Held.{HoldsMore}
+use Rattle.vm_block.proofs.EachLemmas.{each_so}
 use Rattle.vm_tree.specs.Making.{Made}
 use Rattle.vm_tree.specs.Reading.{IsNodeAt}
 use Rattle.vm_tree.specs.Removing.{RemovesBelow, child_of, level_of, without_place}
+use Rattle.vm_tree.specs.Replacing.{IsRenewed, Replaces, path_from}
 use Rattle.vm_tree.specs.declared.removing.Left.{Left}
 use Rattle.vm_tree.specs.declared.root.Root.{Root}
 use Rattle.vm_tree.specs.Root.{sizes_of}
 use Rattle.vm_tree.specs.declared.root.TreeFault.TheVariants.{Device}
+use Rattle.vm_tree.proofs.Beside.{node_path, path_grown, path_leaf}
 use Rattle.vm_tree.proofs.Looking.{looks_free, looks_if, looks_if_on, looks_write, passed_on, writes_on}
 use Rattle.vm_tree.proofs.Descent.{node_read}
 use Rattle.vm_tree.proofs.Leading.{leads_on, if_ok_is}
 use Rattle.vm_tree.proofs.PutLemmas.{only_one, replaced_length}
 use Rattle.vm_tree.proofs.RemoveLemmas.{rests_removes, none_there, fault_there, node_rest, only_there, others_left}
+use Rattle.vm_tree.proofs.Renewing.{renewed_more}
 use Rattle.vm_tree.proofs.Sparing.{held_kept}
 use Rattle.vm_tree.proofs.removing.+remove_below.Goals as goal
 use Rattle.vm_tree.proofs.removing.+remove_below.Goals.{then-is_root, else-is_root}
@@ -32,7 +37,6 @@ returns-then-alone-clause-remove g t c levels honest rs bs tree begins rises =
     let limit = length c.args.held.now in
     let l = c.args.level in
     let b = c.args.top.block in
-    let held = IsHeld c.args.held.now in
     let still = same_medium _ _ (c.in_ok-way.ensures.looks.reads (c.in_ok-left.ensures.writes.goes.earlier honest)) in
     let above : 0 < l = omega (arith, c.if-level-eq0.false) in
     let read = node_read sizes old.contents limit l b rs bs above tree in
@@ -42,11 +46,17 @@ returns-then-alone-clause-remove g t c levels honest rs bs tree begins rises =
     let i = c.in_ok-way.way.index in
     let d = c.in_ok-way.way.child in
     let chosen = way.2.chosen in
+    let before = c.args.held.now in
+    let between = c.remove_below.new.held in
+    let after = (g.D.Disk.state c.remove_below.new.disk).now.contents in
+    let under = path_from (l - 1) c.remove_below.new.path in
+    let size = c.in_ok-left.ensures.path_size ∙ length-set c.args.path.now c.from.result b ∙ c.told-path in
+    let grown = path_grown c.remove_below.new.path c.args.path.now l c.from.result b d.block size c.told-path c.requires.low c.from.ensures above c.in_ok-left.ensures.path_above in
     let single : c.in_ok-way.way.count ≡ 1 = elim c.if-is_root.branch [ then-is_root w ↦ eqb-true c.in_ok-way.way.count 1 (sym w.alone-is ∙ c.if-alone.true) | else-is_root w ↦ absurd (false≢true (sym w.if-is_root.false ∙ sym w.alone-is ∙ c.if-alone.true)) ] in
     let one : length cs ≡ 1 = sym way.1 ∙ single in
-    let M : List Record → Type 0 = λ qs. Made (IsHeld c.remove_below.new.held) sizes (g.D.Disk.state c.remove_below.new.disk).now.contents limit c.in-Rest.root.level (child_of c.in-Rest.root ∷ []) qs in
-    only_there sizes old _ limit l b p rs bs cs i d still above tree rises only chosen d way.2.child held M one
-    (λ sub own there low rising. subst (λ (left : Left). RemovesBelow (Ok left) p sub (λ root. AllByRecursion held own → Made (IsHeld c.remove_below.new.held) sizes (g.D.Disk.state c.remove_below.new.disk).now.contents limit root.level (child_of root ∷ []) (without_place p sub))) c.in-Rest.is (c.in_ok-left.ensures.remove levels honest sub own there low rising))
+    let M : (ℕ → Type 0) → List Record → Type 0 = λ P qs. Made P sizes after limit c.in-Rest.root.level (child_of c.in-Rest.root ∷ []) qs in
+    only_there sizes old _ limit l b p rs bs cs i d still above tree rises only chosen d way.2.child (path_from l c.remove_below.new.path) under grown (c.in_ok-left.ensures.path_in levels honest) before between M one
+    (λ sub own there low rising. subst (λ (left : Left). RemovesBelow (Ok left) p sub (λ root. Replaces before between under own (λ P. Made P sizes after limit root.level (child_of root ∷ []) (without_place p sub)))) c.in-Rest.is (c.in_ok-left.ensures.remove levels honest sub own there low rising))
 
 pub returns-in-Same-clause-remove : goal.returns-in-Same-clause-remove
 returns-in-Same-clause-remove g t c levels honest rs bs tree begins rises =
@@ -56,7 +66,6 @@ returns-in-Same-clause-remove g t c levels honest rs bs tree begins rises =
     let limit = length c.args.held.now in
     let l = c.args.level in
     let b = c.args.top.block in
-    let held = IsHeld c.args.held.now in
     let still = same_medium _ _ (c.in_ok-way.ensures.looks.reads (c.in_ok-left.ensures.writes.goes.earlier honest)) in
     let above : 0 < l = omega (arith, c.if-level-eq0.false) in
     let read = node_read sizes old.contents limit l b rs bs above tree in
@@ -66,8 +75,12 @@ returns-in-Same-clause-remove g t c levels honest rs bs tree begins rises =
     let i = c.in_ok-way.way.index in
     let d = c.in_ok-way.way.child in
     let chosen = way.2.chosen in
+    let before = c.args.held.now in
+    let between = c.remove_below.new.held in
+    let after = (g.D.Disk.state c.remove_below.new.disk).now.contents in
+    let under = path_from (l - 1) c.remove_below.new.path in
     none_there sizes old _ limit l b p rs bs cs i d still above tree rises only chosen d way.2.child
-    (λ sub own there low rising. subst (λ (left : Left). RemovesBelow (Ok left) p sub (λ root. AllByRecursion held own → Made (IsHeld c.remove_below.new.held) sizes (g.D.Disk.state c.remove_below.new.disk).now.contents limit root.level (child_of root ∷ []) (without_place p sub))) c.in-Same.is (c.in_ok-left.ensures.remove levels honest sub own there low rising))
+    (λ sub own there low rising. subst (λ (left : Left). RemovesBelow (Ok left) p sub (λ root. Replaces before between under own (λ P. Made P sizes after limit root.level (child_of root ∷ []) (without_place p sub)))) c.in-Same.is (c.in_ok-left.ensures.remove levels honest sub own there low rising))
 
 pub returns-in-Some-clause-remove : goal.returns-in-Some-clause-remove
 returns-in-Some-clause-remove g t c levels honest rs bs tree begins rises =
@@ -77,7 +90,6 @@ returns-in-Some-clause-remove g t c levels honest rs bs tree begins rises =
     let limit = length c.args.held.now in
     let l = c.args.level in
     let b = c.args.top.block in
-    let held = IsHeld c.args.held.now in
     let still = same_medium _ _ (c.in_ok-way.ensures.looks.reads (c.in_ok-left.ensures.writes.goes.earlier (c.write_rest.ensures.writes.goes.earlier honest))) in
     let above : 0 < l = omega (arith, c.if-level-eq0.false) in
     let read = node_read sizes old.contents limit l b rs bs above tree in
@@ -87,17 +99,28 @@ returns-in-Some-clause-remove g t c levels honest rs bs tree begins rises =
     let i = c.in_ok-way.way.index in
     let d = c.in_ok-way.way.child in
     let chosen = way.2.chosen in
+    let before = c.args.held.now in
+    let between = c.remove_below.new.held in
+    let after = (g.D.Disk.state c.remove_below.new.disk).now.contents in
+    let under = path_from (l - 1) c.remove_below.new.path in
+    let later = c.write_rest.new.held in
+    let path = path_from l c.remove_below.new.path in
+    let size = c.in_ok-left.ensures.path_size ∙ length-set c.args.path.now c.from.result b ∙ c.told-path in
+    let grown = path_grown c.remove_below.new.path c.args.path.now l c.from.result b d.block size c.told-path c.requires.low c.from.ensures above c.in_ok-left.ensures.path_above in
     let none = ap Ok c.in-Nothing.is in
     let kept : c.remove_below.new.held ≡ c.args.held.now = c.in_ok-left.ensures.nothing.kept none in
     let lent = c.as_slice.ensures.value ∙ c.in-Some.ensures.only l cs way.0 way.1 in
-    let o = others_left sizes old _ limit l b p rs bs cs i d still above tree rises only chosen d way.2.child held c.as_slice.result.now lent
-    (λ sub own there low rising. subst (λ (left : Left). RemovesBelow (Ok left) p sub (λ root. AllByRecursion held own → Made (IsHeld c.remove_below.new.held) sizes (g.D.Disk.state c.remove_below.new.disk).now.contents limit root.level (child_of root ∷ []) (without_place p sub))) c.in-Nothing.is (c.in_ok-left.ensures.remove levels (c.write_rest.ensures.writes.goes.earlier honest) sub own there low rising)) in
+    let o = others_left sizes old _ limit l b p rs bs cs i d still above tree rises only chosen d way.2.child path under grown (c.in_ok-left.ensures.path_in levels (c.write_rest.ensures.writes.goes.earlier honest)) before c.as_slice.result.now lent
+    (λ sub own there low rising. subst (λ (left : Left). RemovesBelow (Ok left) p sub (λ root. Replaces before between under own (λ P. Made P sizes after limit root.level (child_of root ∷ []) (without_place p sub)))) c.in-Nothing.is (c.in_ok-left.ensures.remove levels (c.write_rest.ensures.writes.goes.earlier honest) sub own there low rising)) in
     let same = ap (λ (m : Medium). m.contents) (same_medium _ _ (c.in_ok-left.ensures.nothing.reads (c.write_rest.ensures.writes.goes.earlier honest) none) ∙ still) in
     let C : Contents → ℕ → Type 0 = λ x n. Children (Subtree sizes x n (l - 1)) c.as_slice.result.now (without_place p rs) o.kept in
-    let there = subst (λ (held : List Bool). C (g.D.Disk.state c.remove_below.new.disk).now.contents (length held)) (sym kept) (subst (λ (x : Contents). C x limit) (sym same) o.under) in
-    let M : ℕ → Root → Type 0 = λ n root. Made (IsHeld c.write_rest.new.held) sizes (g.D.Disk.state c.write_rest.new.disk).now.contents n root.level (child_of root ∷ []) (without_place p rs) in
-    rests_removes c.write_rest.result p rs (λ root. AllByRecursion (IsHeld c.remove_below.new.held) o.kept → M (length c.remove_below.new.held) root) (λ root. AllByRecursion held bs → M limit root)
-    (λ root made all. subst (λ n. M n root) (ap length kept) (made (subst (λ (held : List Bool). AllByRecursion (IsHeld held) o.kept) (sym kept) (o.held all)))) o.there
+    let there = subst (λ (held : List Bool). C after (length held)) (sym kept) (subst (λ (x : Contents). C x limit) (sym same) o.under) in
+    let more = c.in_ok-left.ensures.writes.still in
+    let M : ℕ → Root → (ℕ → Type 0) → Type 0 = λ n root P. Made P sizes (g.D.Disk.state c.write_rest.new.disk).now.contents n root.level (child_of root ∷ []) (without_place p rs) in
+    rests_removes c.write_rest.result p rs
+    (λ root. (first : List Bool) (keep : ℕ → Bool) → HoldsMore first between → AllByRecursion (IsRenewed first between keep) o.kept → M (length between) root (IsRenewed first later keep))
+    (λ root. Replaces before later path bs (M limit root))
+    (λ root made keep all keeps. subst (λ n. M n root (IsRenewed before later keep)) (ap length kept) (made before keep more (each_so (IsRenewed before before keep) (IsRenewed before between keep) (renewed_more before before between keep more) o.kept (o.renewed keep all keeps)))) o.there
     (c.write_rest.ensures.rest honest g.row.LEAF levels (without_place p rs) o.kept o.rising o.fit there)
 
 pub returns-in-None-clause-remove : goal.returns-in-None-clause-remove
@@ -121,7 +144,6 @@ returns-in_ok-node-in-Rest-clause-remove g t c levels honest rs bs tree begins r
     let limit = length c.args.held.now in
     let l = c.args.level in
     let b = c.args.top.block in
-    let held = IsHeld c.args.held.now in
     let still = same_medium _ _ (c.in_ok-way.ensures.looks.reads (c.in_ok-left.ensures.writes.goes.earlier (c.in_ok-node-in-Rest.ensures.writes.goes.earlier honest))) in
     let above : 0 < l = omega (arith, c.if-level-eq0.false) in
     let read = node_read sizes old.contents limit l b rs bs above tree in
@@ -131,26 +153,35 @@ returns-in_ok-node-in-Rest-clause-remove g t c levels honest rs bs tree begins r
     let i = c.in_ok-way.way.index in
     let d = c.in_ok-way.way.child in
     let chosen = way.2.chosen in
+    let before = c.args.held.now in
+    let between = c.remove_below.new.held in
     let after = (g.D.Disk.state c.remove_below.new.disk).now.contents in
+    let under = path_from (l - 1) c.remove_below.new.path in
+    let later = c.write_bytes.new.held in
+    let path = path_from l c.remove_below.new.path in
+    let size = c.in_ok-left.ensures.path_size ∙ length-set c.args.path.now c.from.result b ∙ c.told-path in
+    let grown = path_grown c.remove_below.new.path c.args.path.now l c.from.result b d.block size c.told-path c.requires.low c.from.ensures above c.in_ok-left.ensures.path_above in
     let root = c.in-Rest.root in
     let new = c.child_of.result in
     let level : root.level ≡ l - 1 = ap (λ (left : Left). level_of left (l - 1)) (sym c.in-Rest.is) ∙ c.in_ok-left.ensures.same_level c.if-alone.false in
     let lent = take i cs ++ new ∷ drop (i + 1) cs in
-    let rest = node_rest sizes old _ limit l b p rs bs cs i d still above tree rises only chosen d way.2.child held (IsHeld c.remove_below.new.held) after (length c.remove_below.new.held) (new ∷ []) lent
-    (held_kept c.args.held.now _ _ (c.in_ok-left.ensures.writes.moments (c.in_ok-node-in-Rest.ensures.writes.goes.earlier honest))) c.in_ok-left.ensures.writes.still.still c.in_ok-left.ensures.writes.still.same_length
+    let rest = node_rest sizes old _ limit l b p rs bs cs i d still above tree rises only chosen d way.2.child path under grown (c.in_ok-left.ensures.path_in levels (c.in_ok-node-in-Rest.ensures.writes.goes.earlier honest)) before between after (length between) (new ∷ []) lent
+    (held_kept c.args.held.now _ _ (c.in_ok-left.ensures.writes.moments (c.in_ok-node-in-Rest.ensures.writes.goes.earlier honest))) c.in_ok-left.ensures.writes.still c.in_ok-left.ensures.writes.still.same_length
     refl
     (λ sub own there low rising.
-    let got = subst (λ (left : Left). RemovesBelow (Ok left) p sub (λ root. AllByRecursion held own → Made (IsHeld c.remove_below.new.held) sizes (g.D.Disk.state c.remove_below.new.disk).now.contents limit root.level (child_of root ∷ []) (without_place p sub))) c.in-Rest.is (c.in_ok-left.ensures.remove levels (c.in_ok-node-in-Rest.ensures.writes.goes.earlier honest) sub own there low rising) in
-    let M : ℕ → Child → Type 0 = λ n child. Made (IsHeld c.remove_below.new.held) sizes after limit n (child ∷ []) (without_place p sub) in
-    (got.0, λ kept. subst (λ n. M n new) level (subst (M root.level) (sym c.child_of.ensures) (got.1 kept)))) in
+    let got = subst (λ (left : Left). RemovesBelow (Ok left) p sub (λ root. Replaces before between under own (λ P. Made P sizes after limit root.level (child_of root ∷ []) (without_place p sub)))) c.in-Rest.is (c.in_ok-left.ensures.remove levels (c.in_ok-node-in-Rest.ensures.writes.goes.earlier honest) sub own there low rising) in
+    let M : ℕ → Child → (ℕ → Type 0) → Type 0 = λ n child P. Made P sizes after limit n (child ∷ []) (without_place p sub) in
+    (got.0, λ keep all keeps. let P = IsRenewed before between keep in subst (λ n. M n new P) level (subst (λ (child : Child). M root.level child P) (sym c.child_of.ensures) (got.1 keep all keeps)))) in
     let within : i < length cs = omega (arith, c.in_ok-way.ensures.within.0, way.1) in
     let many = replaced_length cs (new ∷ []) i within in (
       rest.0,
-      λ all.
-          let parts = rest.1 all in
-          let made = c.in_ok-node-in-Rest.ensures.node honest sizes l lent (without_place p rs) (c.set_child.ensures l cs way.0 within) above c.requires.low (omega (arith, many, within)) (omega (arith, many, read.1.node.few)) (omega (arith, many, read.2)) parts.0 parts.1 in
-          let moved = subst (λ z. Made (IsHeld c.write_bytes.new.held) sizes (g.D.Disk.state c.write_bytes.new.disk).now.contents z l (c.in_ok-node-in-Rest.node ∷ []) (without_place p rs)) c.in_ok-left.ensures.writes.still.same_length made in
-          subst (λ (r : Root). Made (IsHeld c.write_bytes.new.held) sizes (g.D.Disk.state c.write_bytes.new.disk).now.contents limit r.level (child_of r ∷ []) (without_place p rs)) (sym c.root_at.ensures) moved,
+      λ keep all keeps.
+          let P = IsRenewed before later keep in
+          let y = (g.D.Disk.state c.write_bytes.new.disk).now.contents in
+          let parts = rest.1 keep all keeps in
+          let made = c.in_ok-node-in-Rest.ensures.node honest before keep c.in_ok-left.ensures.writes.still sizes l lent (without_place p rs) (c.set_child.ensures l cs way.0 within) above c.requires.low (omega (arith, many, within)) (omega (arith, many, read.1.node.few)) (omega (arith, many, read.2)) parts.0 parts.1 in
+          let moved = subst (λ z. Made P sizes y z l (c.in_ok-node-in-Rest.node ∷ []) (without_place p rs)) c.in_ok-left.ensures.writes.still.same_length made in
+          subst (λ (r : Root). Made P sizes y limit r.level (child_of r ∷ []) (without_place p rs)) (sym c.root_at.ensures) moved,
     )
 
 pub returns-in_err-left-clause-remove : goal.returns-in_err-left-clause-remove
@@ -161,7 +192,6 @@ returns-in_err-left-clause-remove g t c levels honest rs bs tree begins rises =
     let limit = length c.args.held.now in
     let l = c.args.level in
     let b = c.args.top.block in
-    let held = IsHeld c.args.held.now in
     let still = same_medium _ _ (c.in_ok-way.ensures.looks.reads (c.in_err-left.ensures.writes.goes.earlier honest)) in
     let above : 0 < l = omega (arith, c.if-level-eq0.false) in
     let read = node_read sizes old.contents limit l b rs bs above tree in
@@ -180,6 +210,78 @@ returns-in_err-way-clause-remove g t c levels honest rs bs tree begins rises =
     let there = subst (λ n. Subtree sizes (g.D.Disk.state c.args.disk.now).now.contents n c.args.level c.args.top.block rs bs) (sym c.blocks-2.ensures.count) tree in
     let at = node_read sizes _ _ _ _ rs bs (omega (arith, c.if-level-eq0.false)) there in
     rw (passed_on _ c.from_residual.ensures.1) (c.in_err-way.ensures.only honest at.0 at.1 (at.3 c.args.top.low begins) at.2)
+
+pub returns-then-level-eq0-clause-path_in : goal.returns-then-level-eq0-clause-path_in
+returns-then-level-eq0-clause-path_in g t c levels honest rs bs tree begins rises =
+    if_ok_is c.remove_from_leaf.result _ (path_leaf (sizes_of g.row.LEAF g.row.FAN levels) _ _ c.args.level c.from.result c.args.top.block rs bs c.args.path.now c.told-path c.if-level-eq0.true c.from.ensures tree)
+
+pub returns-then-alone-clause-path_in : goal.returns-then-alone-clause-path_in
+returns-then-alone-clause-path_in g t c levels honest rs bs tree begins rises =
+    let sizes = sizes_of g.row.LEAF g.row.FAN levels in
+    let old = (g.D.Disk.state c.args.disk.now).now in
+    let limit = length c.args.held.now in
+    let l = c.args.level in
+    let b = c.args.top.block in
+    let earlier = honest in
+    let still = same_medium _ _ (c.in_ok-way.ensures.looks.reads (c.in_ok-left.ensures.writes.goes.earlier earlier)) in
+    let above : 0 < l = omega (arith, c.if-level-eq0.false) in
+    let read = node_read sizes old.contents limit l b rs bs above tree in
+    let way = c.in_ok-way.ensures.only (c.in_ok-left.ensures.writes.goes.earlier earlier) read.0 (subst (λ n. IsNodeAt old.contents n l b read.0) (sym c.blocks-2.ensures.count) read.1) (read.3 c.args.top.low begins) read.2 in
+    let d = c.in_ok-way.way.child in
+    let size = c.in_ok-left.ensures.path_size ∙ length-set c.args.path.now c.from.result b ∙ c.told-path in
+    let grown = path_grown c.remove_below.new.path c.args.path.now l c.from.result b d.block size c.told-path c.requires.low c.from.ensures above c.in_ok-left.ensures.path_above in
+    node_path sizes old _ limit l b (place c.args.key) rs bs read.0 c.in_ok-way.way.index d still above tree rises (only_one old.contents limit l b sizes.fan read.0 read.1) way.2.chosen d _ _ way.2.child grown (c.in_ok-left.ensures.path_in levels earlier)
+
+pub returns-in-Same-clause-path_in : goal.returns-in-Same-clause-path_in
+returns-in-Same-clause-path_in g t c levels honest rs bs tree begins rises =
+    let sizes = sizes_of g.row.LEAF g.row.FAN levels in
+    let old = (g.D.Disk.state c.args.disk.now).now in
+    let limit = length c.args.held.now in
+    let l = c.args.level in
+    let b = c.args.top.block in
+    let earlier = honest in
+    let still = same_medium _ _ (c.in_ok-way.ensures.looks.reads (c.in_ok-left.ensures.writes.goes.earlier earlier)) in
+    let above : 0 < l = omega (arith, c.if-level-eq0.false) in
+    let read = node_read sizes old.contents limit l b rs bs above tree in
+    let way = c.in_ok-way.ensures.only (c.in_ok-left.ensures.writes.goes.earlier earlier) read.0 (subst (λ n. IsNodeAt old.contents n l b read.0) (sym c.blocks-2.ensures.count) read.1) (read.3 c.args.top.low begins) read.2 in
+    let d = c.in_ok-way.way.child in
+    let size = c.in_ok-left.ensures.path_size ∙ length-set c.args.path.now c.from.result b ∙ c.told-path in
+    let grown = path_grown c.remove_below.new.path c.args.path.now l c.from.result b d.block size c.told-path c.requires.low c.from.ensures above c.in_ok-left.ensures.path_above in
+    node_path sizes old _ limit l b (place c.args.key) rs bs read.0 c.in_ok-way.way.index d still above tree rises (only_one old.contents limit l b sizes.fan read.0 read.1) way.2.chosen d _ _ way.2.child grown (c.in_ok-left.ensures.path_in levels earlier)
+
+pub returns-in-Some-clause-path_in : goal.returns-in-Some-clause-path_in
+returns-in-Some-clause-path_in g t c levels honest rs bs tree begins rises =
+    let sizes = sizes_of g.row.LEAF g.row.FAN levels in
+    let old = (g.D.Disk.state c.args.disk.now).now in
+    let limit = length c.args.held.now in
+    let l = c.args.level in
+    let b = c.args.top.block in
+    let earlier = c.write_rest.ensures.writes.goes.earlier honest in
+    let still = same_medium _ _ (c.in_ok-way.ensures.looks.reads (c.in_ok-left.ensures.writes.goes.earlier earlier)) in
+    let above : 0 < l = omega (arith, c.if-level-eq0.false) in
+    let read = node_read sizes old.contents limit l b rs bs above tree in
+    let way = c.in_ok-way.ensures.only (c.in_ok-left.ensures.writes.goes.earlier earlier) read.0 (subst (λ n. IsNodeAt old.contents n l b read.0) (sym c.blocks-2.ensures.count) read.1) (read.3 c.args.top.low begins) read.2 in
+    let d = c.in_ok-way.way.child in
+    let size = c.in_ok-left.ensures.path_size ∙ length-set c.args.path.now c.from.result b ∙ c.told-path in
+    let grown = path_grown c.remove_below.new.path c.args.path.now l c.from.result b d.block size c.told-path c.requires.low c.from.ensures above c.in_ok-left.ensures.path_above in
+    if_ok_is c.write_rest.result _ (node_path sizes old _ limit l b (place c.args.key) rs bs read.0 c.in_ok-way.way.index d still above tree rises (only_one old.contents limit l b sizes.fan read.0 read.1) way.2.chosen d _ _ way.2.child grown (c.in_ok-left.ensures.path_in levels earlier))
+
+pub returns-in_ok-node-in-Rest-clause-path_in : goal.returns-in_ok-node-in-Rest-clause-path_in
+returns-in_ok-node-in-Rest-clause-path_in g t c levels honest rs bs tree begins rises =
+    let sizes = sizes_of g.row.LEAF g.row.FAN levels in
+    let old = (g.D.Disk.state c.args.disk.now).now in
+    let limit = length c.args.held.now in
+    let l = c.args.level in
+    let b = c.args.top.block in
+    let earlier = c.write_bytes.ensures.writes.goes.earlier honest in
+    let still = same_medium _ _ (c.in_ok-way.ensures.looks.reads (c.in_ok-left.ensures.writes.goes.earlier earlier)) in
+    let above : 0 < l = omega (arith, c.if-level-eq0.false) in
+    let read = node_read sizes old.contents limit l b rs bs above tree in
+    let way = c.in_ok-way.ensures.only (c.in_ok-left.ensures.writes.goes.earlier earlier) read.0 (subst (λ n. IsNodeAt old.contents n l b read.0) (sym c.blocks-2.ensures.count) read.1) (read.3 c.args.top.low begins) read.2 in
+    let d = c.in_ok-way.way.child in
+    let size = c.in_ok-left.ensures.path_size ∙ length-set c.args.path.now c.from.result b ∙ c.told-path in
+    let grown = path_grown c.remove_below.new.path c.args.path.now l c.from.result b d.block size c.told-path c.requires.low c.from.ensures above c.in_ok-left.ensures.path_above in
+    node_path sizes old _ limit l b (place c.args.key) rs bs read.0 c.in_ok-way.way.index d still above tree rises (only_one old.contents limit l b sizes.fan read.0 read.1) way.2.chosen d _ _ way.2.child grown (c.in_ok-left.ensures.path_in levels earlier)
 
 pub returns-then-alone-clause-path : goal.returns-then-alone-clause-path
 returns-then-alone-clause-path g t c honest =

@@ -1,12 +1,13 @@
-use Rattle.std.proofs.Common.{◌≡◌, ◌∙◌, ◌++◌, ◌+◌, ◌≤◌, List, [], ◌∷◌, length, take, drop, ap, sym, subst, refl, arith, rules, length-append, length-take-le, length-drop}
+use Rattle.std.proofs.Common.{◌≡◌, ℕ, Bool, ◌∙◌, ◌++◌, ◌+◌, ◌≤◌, List, [], ◌∷◌, length, take, drop, ap, sym, subst, refl, arith, rules, length-append, length-take-le, length-drop}
 use Rattle.std.specs.List.{AllByRecursion}
 use Rattle.std.proofs.lemmas.List.{nil_from_length}
 use Rattle.vm_types.specs.Places.{RisesFrom, places, value_at}
 use Rattle.vm_block.specs.Leaf.{Record, RecordFits}
 use Rattle.vm_block.proofs.TreeLemmas.{subtree_fit}
-use Rattle.vm_alloc.specs.Held.{IsHeld}
+use Rattle.vm_alloc.proofs.HeldLemmas.{holds_same}
 use Rattle.vm_tree.specs.Making.{Made}
 use Rattle.vm_tree.specs.Removing.{child_of, without_place}
+use Rattle.vm_tree.specs.Replacing.{IsRenewed}
 use Rattle.vm_tree.specs.Root.{sizes_of}
 use Rattle.vm_tree.specs.declared.root.Root.{Root}
 use Rattle.vm_tree.proofs.Looking.{looks_free, looks_write, passed_on}
@@ -48,10 +49,10 @@ returns-clause-remove g c fan levels honest rs bs tree begins rises =
     let rising = subst (λ (qs : List Record). RisesFrom 0 (places qs)) (sym is) (without_rises p 0 rs rises) in
     let fitting = subst (AllByRecursion RecordFits) (sym is) (without_each RecordFits p rs (subtree_fit sizes _ _ _ _ rs bs tree)) in
     let short : length c.as_slice.result.now ≤ g.row.LEAF = omega (arith, ap length c.as_slice.ensures.value, ap length c.without.ensures, length-append (take c.in-Some.i lent) (drop (c.in-Some.i + 1) lent), length-take-le c.in-Some.i lent (omega (arith, c.in-Some.ensures.within)), length-drop (c.in-Some.i + 1) lent, c.in-Some.ensures.within, ap length c.as_slice-records.ensures.value, c.in_ok-records.ensures.count.1) in
-    let made = c.in_ok-leaf.ensures.made honest sizes short rising fitting in
+    let made = λ (keep : ℕ → Bool). c.in_ok-leaf.ensures.made honest c.args.held.now keep (holds_same c.args.held.now) sizes short rising fitting in
     let y = (g.D.Disk.state c.write_leaf_block.new.disk).now.contents in
-    let M : List Record → Root → Type 0 = λ qs r. Made (IsHeld c.write_leaf_block.new.held) sizes y (length c.args.held.now) r.level (child_of r ∷ []) qs in
-    (λ none. found.0 (ap (λ (qs : List Record). value_at p qs) same ∙ none), λ all. subst (λ (qs : List Record). M qs c.root_at.result) is (subst (M c.as_slice.result.now) (sym c.root_at.ensures) made))
+    let M : (ℕ → Bool) → List Record → Root → Type 0 = λ keep qs r. Made (IsRenewed c.args.held.now c.write_leaf_block.new.held keep) sizes y (length c.args.held.now) r.level (child_of r ∷ []) qs in
+    (λ none. found.0 (ap (λ (qs : List Record). value_at p qs) same ∙ none), λ keep. subst (λ (qs : List Record). M keep qs c.root_at.result) is (subst (M keep c.as_slice.result.now) (sym c.root_at.ensures) (made keep)))
 
 pub returns-in_err-records-clause-remove : goal.returns-in_err-records-clause-remove
 returns-in_err-records-clause-remove g c fan levels honest rs bs tree begins rises =

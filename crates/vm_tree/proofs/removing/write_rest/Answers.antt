@@ -5,15 +5,15 @@ use Rattle.vm_disk.proofs.MomentLemmas.{same_medium}
 use Rattle.vm_block.specs.Node.{ChildFits}
 use Rattle.vm_block.specs.Tree.{Children, Subtree}
 use Rattle.vm_block.specs.declared.node.Child.{Child}
-use Rattle.vm_alloc.specs.Held.{IsHeld}
 use Rattle.vm_tree.specs.Removing.{Narrows}
+use Rattle.vm_tree.specs.Replacing.{IsRenewed}
 use Rattle.vm_tree.specs.Root.{sizes_of}
 use Rattle.vm_tree.proofs.Looking.{looks_free, passed_on}
 use Rattle.vm_tree.proofs.RemoveLemmas.{one_child, narrowed_made}
 use Rattle.vm_tree.proofs.removing.write_rest.Goals as goal
 
 pub returns-clause-rest : goal.returns-clause-rest
-returns-clause-rest g c honest leaf levels rs bs rises fits under all =
+returns-clause-rest g c honest leaf levels rs bs rises fits under before keep more all =
     let sizes = sizes_of leaf g.row.FAN levels in
     let x = (g.D.Disk.state c.args.disk.now).now.contents in
     let cs = c.args.children.now in
@@ -25,7 +25,7 @@ returns-clause-rest g c honest leaf levels rs bs rises fits under all =
     let alone = subst (λ n. Children (Subtree sizes x n (c.args.level - 1)) (top ∷ []) rs bs) (sym c.blocks-2.ensures.count) (subst (λ (ds : List Child). Children (Subtree sizes x (length c.args.held.now) (c.args.level - 1)) ds rs bs) is under) in
     let n = c.in_ok-root.ensures.narrow honest leaf levels rs bs alone in
     let still = ap (λ (m : Medium). m.contents) (same_medium _ _ (c.in_ok-root.ensures.looks.reads honest)) in
-    narrowed_made (IsHeld c.args.held.now) (IsHeld c.args.held.now) sizes x _ (length c.args.held.now) (c.args.level - 1) top c.in_ok-root.root rs bs still (λ n has. has) (subst (AllByRecursion ChildFits) is fits).0 all
+    narrowed_made (IsRenewed before c.args.held.now keep) (IsRenewed before c.args.held.now keep) sizes x _ (length c.args.held.now) (c.args.level - 1) top c.in_ok-root.root rs bs still (λ n has. has) (subst (AllByRecursion ChildFits) is fits).0 all
     (subst (λ k. Narrows sizes x k top c.in_ok-root.root rs bs) c.blocks-2.ensures.count n)
 
 pub returns-in_err-root-clause-rest : goal.returns-in_err-root-clause-rest

@@ -1,5 +1,5 @@
-use Rattle.std.proofs.Common.{arith, rules}
-use Rattle.vm_alloc.proofs.HeldLemmas.{free_less}
+use Rattle.std.proofs.Common.{ap, not, arith, rules}
+use Rattle.vm_alloc.proofs.HeldLemmas.{free_is, free_less}
 use Rattle.vm_tree.proofs.Sparing.{free_written}
 use Rattle.vm_tree.proofs.writing.write_free.Goals as goal
 
@@ -14,3 +14,6 @@ returns-in-Ok-clause-writes g c = record { goes = search rules; still = search r
 
 pub returns-in-Err-clause-writes : goal.returns-in-Err-clause-writes
 returns-in-Err-clause-writes g c = record { goes = search rules; still = search rules; moments = λ honest. free_written _ _ _ _ _ _ c.in-Some.ensures.free (c.write.ensures.honest honest) }
+
+pub returns-in-Ok-clause-free : goal.returns-in-Ok-clause-free
+returns-in-Ok-clause-free g c = ap not (free_is c.args.held.now c.in-Some.block c.in-Some.ensures.free)
