@@ -1,6 +1,6 @@
 -- Changes made one after another: full paths in contents that agree on a tree, and what one change more answers.
 use Rattle.std.proofs.Common.{◌≡◌, ◌≢◌, inl, inr, ℕ, zero, suc, ◌+◌, ◌<◌, Bool, List, [], ◌∷◌, ◌++◌, length, get_or, take, drop, Option, Some, None, Result, Ok, Err, refl, sym, ap, ◌∙◌, subst, arith, append_assoc}
-use Rattle.std.specs.Prelude.{slice_index}
+use Rattle.std.specs.Prelude.{slice_index, OnErr}
 use Rattle.std.specs.List.{AllByRecursion}
 use Rattle.std.proofs.Math.Seq.{split_at}
 use Rattle.std.proofs.lemmas.List.{length-map, take_more}
@@ -77,6 +77,11 @@ full_path_in P x y limit p same root m bs (inr top) all some full =
 
 -- ---- one change
 
+-- what follows where a call failed
+pub so_failed : {T E : Type 0} (result : Result T E) (A B : Type 0) → (A → B) → OnErr result A → OnErr result B
+so_failed (Ok x) A B so h = tt
+so_failed (Err e) A B so h = so h
+
 module _ (x y : Contents) (held now : List Bool) (limit : ℕ) (root : Root) (m : Map) (change : Change) where
   -- where a record finds no room, the blocks of the tree keep their bytes, and it meets a full path
   lacks_meets : (P : ℕ → Type 0) → ((n : ℕ) → P n → block y n ≡ block x n) → IsRootedIn sizes P x limit root m → change.after ≢ None → LacksRoom sizes x root m change.key
@@ -98,7 +103,7 @@ module _ (x y : Contents) (held now : List Bool) (limit : ℕ) (root : Root) (m 
       }
 
   -- a change to a value answers what a Put of it answers
-  pub put_makes : (value : List ℕ) (result : Result Root TreeFault) → change.after ≡ Some value → ((n : ℕ) → IsHeld held n → block y n ≡ block x n) → (grown : IsRootedIn sizes (IsHeld held) x limit root m)
+  pub put_makes : (value : List ℕ) (result : Result Root TreeFault) → change.after ≡ Some value → OnErr result ((n : ℕ) → IsHeld held n → block y n ≡ block x n) → (grown : IsRootedIn sizes (IsHeld held) x limit root m)
       → Puts result (LacksRoom sizes x root m change.key) (λ r. AllByRecursion (IsHeld held) grown.stands_in → IsRootedIn sizes (IsHeld now) y limit r (with_value m change.key value))
       → Makes result (MeetsFullPath y limit m (change ∷ [])) (λ r. IsRootedIn sizes (IsHeld now) y limit r (with_change m change))
   put_makes value (Ok r) is same grown put =

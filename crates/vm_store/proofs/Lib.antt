@@ -3,6 +3,7 @@ pub mod CarryLemmas
 pub mod ChangingLemmas
 pub mod EntryTests
 pub mod FiledLemmas
+pub mod ForgetLemmas
 pub mod FormattingLemmas
 pub mod FoundLemmas
 pub mod GrownLemmas
@@ -21,6 +22,7 @@ pub mod ReachLemmas
 pub mod Removing
 pub mod RestingLemmas
 pub mod RunLemmas
+pub mod SeriesLemmas
 pub mod SharedLemmas
 pub mod ShownLemmas
 pub mod SidesLemmas

@@ -1,10 +1,11 @@
 -- What a Remove answers, and what the store stands for after it.
-use Rattle.std.proofs.Common.{◌≡◌, inl, inr, ℕ, ◌<◌, ◌≤◌, ◌^◌, nat_lt, Bool, true, false, List, [], find, Option, Some, None, IsTrue, Ok, Err, refl, sym, ap, ◌∙◌, subst}
+use Rattle.std.proofs.Common.{◌≡◌, ◌⊎◌, inl, inr, ℕ, ◌<◌, ◌≤◌, ◌^◌, nat_lt, Bool, true, false, List, find, Option, Some, None, IsTrue, Result, Ok, Err, refl, sym, ap, ◌∙◌, subst}
+use Rattle.vm_types.specs.declared.answer.Answer.{Answer}
 use Rattle.vm_types.specs.declared.answer.Answer.TheVariants.{Done}
 use Rattle.vm_types.specs.declared.command.Command.TheVariants.{Remove}
 use Rattle.vm_types.specs.declared.key.Key.{Key}
 use Rattle.vm_types.specs.declared.refusal.Refusal.{Refusal}
-use Rattle.vm_types.specs.declared.refusal.Refusal.TheVariants.{NoSuchAlternative, NoSuchRecord, Full}
+use Rattle.vm_types.specs.declared.refusal.Refusal.TheVariants.{Device, NoSuchAlternative, NoSuchRecord, Full}
 use Rattle.vm_types.specs.Firsts.{change_first}
 use Rattle.vm_types.specs.Map.{Map, get, without}
 use Rattle.vm_types.specs.Tree.{Tree, Alternative, named, changed}
@@ -15,8 +16,6 @@ use Rattle.vm_disk.specs.Moments.{TouchesOnly, OnlyReads}
 use Rattle.vm_disk.proofs.MomentLemmas.{same_medium}
 use Rattle.vm_alloc.specs.Held.{IsHeld, HoldsMore}
 use Rattle.vm_store.specs.Versions.{is_alternative_of, with_current}
-use Rattle.vm_block.specs.Slot as slot
-use Rattle.vm_block.specs.Slot.{SlotFits}
 use Rattle.vm_tree.specs.Answers.{Removes}
 use Rattle.vm_tree.specs.Root.{IsRootedIn}
 use Rattle.vm_tree.specs.declared.root.Root.{Root}
@@ -25,18 +24,12 @@ use Rattle.vm_store.specs.Filed.{Filed}
 use Rattle.vm_tree.specs.Free.{is_free}
 use Rattle.vm_store.specs.Faults.{refusal_of}
 use Rattle.vm_store.specs.Sizes.{sizes}
-use Rattle.vm_store.specs.Resting.{Rests, spare_of}
+use Rattle.vm_store.specs.Resting.{HoldsWith, Rests, spare_of}
 use Rattle.vm_types.specs.Queries.{value_in, value_of}
 use Rattle.vm_store.specs.Answers.{IsDue, IsAnswer}
 use Rattle.vm_tree.specs.declared.root.TreeFault.{TreeFault}
 use Rattle.vm_tree.specs.declared.root.TreeFault.TheVariants as fault
-use Rattle.vm_store.proofs.FiledLemmas.{is_filed, refiled, recurrent, grown_changed}
-use Rattle.vm_store.specs.Versions.{slot_entries}
-use Rattle.vm_store.proofs.LedgerLemmas as ledger
-use Rattle.vm_store.proofs.LedgerLemmas.{alike_turned, fits_alike}
-use Rattle.vm_store.proofs.SlotLemmas.{slot_changed}
-use Rattle.vm_store.proofs.StandingLemmas.{standing_changed}
-use Rattle.vm_store.proofs.RestingLemmas.{found_entry, rests_on, stands_on}
+use Rattle.vm_store.proofs.RestingLemmas.{current_rests, found_entry}
 
 module _ (tree : Tree) (name : List ℕ) (key : Key) where
   -- the tree without the record
@@ -96,6 +89,10 @@ module _ (s : State) (name : List ℕ) (key : Key) (spare : ℕ) (deep : Type 0)
         inr (subst (λ o. IsDue o (nat_lt spare 16) deep (Ok Done)) (sym accepts)
         (subst (λ (b : Bool). IsDue (Ok (changed s.working name (λ x. record x { current = without x.current key }), Done)) b deep (Ok Done)) (sym room) (inl (refl, shallow))))
 
+  -- an answer where so many blocks are spare, and where as many are
+  pub removes_alike : (other : ℕ) (r : Result Answer Refusal) → nat_lt spare 16 ≡ false → nat_lt other 16 ≡ false → IsAnswer s spare deep (Remove name key) r → IsAnswer s other deep (Remove name key) r
+  removes_alike other r room more answer = subst (λ (b : Bool). (r ≡ Err Device) ⊎ IsDue (step s.working (Remove name key)) b deep r) (room ∙ sym more) answer
+
   -- a Remove that the device fails
   pub removes_device : (f : TreeFault) (r : Refusal) → r ≡ refusal_of f → f ≡ fault.Device → IsAnswer s spare deep (Remove name key) (Err r)
   removes_device f r same device = inl (ap Err (same ∙ ap refusal_of device))
@@ -111,22 +108,17 @@ module _ (m : Medium) (limit : ℕ) (slot_b : Bool) (bits : List Bool) (committe
       let found = found_entry m limit slot_b bits committed working s rests name e is in
       subst (λ (t : Tree). Rests now limit slot_b after committed (change_first (is_alternative_of name) (with_current root) working) (record s { working = t }))
       (sym (ap (tree_after s.working) (step_there s.working name key value there)))
-      (rests_on m limit slot_b bits committed working s rests now after (change_first (is_alternative_of name) (with_current root) working) (change_first (is_filed name) (refiled g) rests.new)
-      (changed s.working name (recurrent g)) spares more
-      (subst (SlotFits limit) (sym (slot_changed (is_alternative_of name) (slot.is_alternative_of name) (λ v. refl) (with_current root) (ledger.with_current root.block) (λ v. refl) working))
-      (fits_alike limit (slot_entries working) _ (alike_turned (slot.is_alternative_of name) root.block small (slot_entries working)) rests.fits))
-      (standing_changed (IsHeld after) now.contents limit name root g working rests.new (stands_on m limit slot_b bits committed working s rests now after spares more)
+      (current_rests m limit slot_b bits committed working s rests name g now after root small spares more
       (λ f' found'. let same : found.filed ≡ f' = cc (found.found, found') in subst (λ (f : Filed). IsRootedIn sizes (IsHeld after) now.contents limit root (g f.current)) same new))
-      (grown_changed name g [] rests.new refl ∙ ap (λ t. changed t name (recurrent g)) rests.gives_new))
 
 -- ---- what is known between the look-up and the Remove
 
 -- a test whether so many blocks are spare, before reads and after them
-pub spare_after : (old new : DiskState) (limit : ℕ) (slot_b : Bool) (bits : List Bool) (committed working : List Version) (s : State) (count : ℕ) (b : Bool) → OnlyReads old new
-    → ((s : State) (holds : Rests new.now limit slot_b bits committed working s) → (IsTrue b → count ≤ spare_of holds) × (count ≤ spare_of holds → IsTrue b))
-    → (holds : Rests old.now limit slot_b bits committed working s) → (IsTrue b → count ≤ spare_of holds) × (count ≤ spare_of holds → IsTrue b)
-spare_after old new limit slot_b bits committed working s count b reads test =
-    let T : Medium → Type 0 = λ m. (holds : Rests m limit slot_b bits committed working s) → (IsTrue b → count ≤ spare_of holds) × (count ≤ spare_of holds → IsTrue b) in
+pub spare_after : (old new : DiskState) (limit : ℕ) (slot_b : Bool) (bits before : List Bool) (series : Option (List ℕ)) (committed working : List Version) (s : State) (count : ℕ) (b : Bool) → OnlyReads old new
+    → ((s : State) (holds : HoldsWith new.now limit slot_b bits before series committed working s) → (IsTrue b → count ≤ spare_of holds.rests) × (count ≤ spare_of holds.rests → IsTrue b))
+    → (holds : HoldsWith old.now limit slot_b bits before series committed working s) → (IsTrue b → count ≤ spare_of holds.rests) × (count ≤ spare_of holds.rests → IsTrue b)
+spare_after old new limit slot_b bits before series committed working s count b reads test =
+    let T : Medium → Type 0 = λ m. (holds : HoldsWith m limit slot_b bits before series committed working s) → (IsTrue b → count ≤ spare_of holds.rests) × (count ≤ spare_of holds.rests → IsTrue b) in
     subst T (same_medium old new reads) (test s)
 
 -- an entry found in the working list is found where the entries are the same
@@ -137,6 +129,21 @@ found_again alt old new e same is = subst (λ (p : List Version × List Version)
 pub removed_root : {T : Type 0} (found : Option T) (root : T) (absent : Type 0) (P : T → Type 0) → found ≡ Some root → Removes (Ok found) absent P → P root
 removed_root None root absent P is h = cc
 removed_root (Some r) root absent P is h = let same : r ≡ root = cc in subst P same h.1
+
+-- one of two reasons, where the other one fails
+pub for_reason : {A B : Type 0} → A ⊎ B → (B → ⊥) → A
+for_reason (inl a) never = a
+for_reason (inr b) never = absurd (never b)
+
+-- a value that is not none is some
+pub some_value : {T : Type 0} (o : Option T) → (o ≡ None → ⊥) → (value : T) × (o ≡ Some value)
+some_value None there = absurd (there refl)
+some_value (Some value) there = (value, refl)
+
+-- that the key was not absent
+pub removed_there : {T : Type 0} (found : Option T) (root : T) (absent : Type 0) (P : T → Type 0) → found ≡ Some root → Removes (Ok found) absent P → absent → ⊥
+removed_there None root absent P is h = cc
+removed_there (Some r) root absent P is h = h.0
 
 -- that the key was absent
 pub removed_none : {T : Type 0} (found : Option T) (absent : Type 0) (P : T → Type 0) → found ≡ None → Removes (Ok found) absent P → absent

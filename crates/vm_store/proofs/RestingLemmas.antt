@@ -127,6 +127,17 @@ module _ (m : Medium) (limit : ℕ) (slot_b : Bool) (bits : List Bool) (committe
   pub rests_more : (now : Medium) (after : List Bool) → TouchesOnly (is_free bits) m now → HoldsMore bits after → Rests now limit slot_b after committed working s
   rests_more now after spares more = rests_on now after working rests.new s.working spares more rests.fits (stands_on now after spares more) rests.gives_new
 
+  -- the store stands for other records of an alternative, after calls that write free blocks alone
+  pub current_rests : (name : List ℕ) (g : Map → Map) (now : Medium) (after : List Bool) (root : Root) → root.block < 2 ^ 32 → TouchesOnly (is_free bits) m now → HoldsMore bits after
+      → ((f : Filed) → find (is_filed name) rests.new ≡ Some f → IsRootedIn sizes (IsHeld after) now.contents limit root (g f.current))
+      → Rests now limit slot_b after committed (change_first (is_alternative_of name) (with_current root) working) (record s { working = changed s.working name (recurrent g) })
+  current_rests name g now after root small spares more new =
+      rests_on now after (change_first (is_alternative_of name) (with_current root) working) (change_first (is_filed name) (refiled g) rests.new) (changed s.working name (recurrent g)) spares more
+      (subst (SlotFits limit) (sym (slot_changed (is_alternative_of name) (slot.is_alternative_of name) (λ v. refl) (with_current root) (ledger.with_current root.block) (λ v. refl) working))
+      (fits_alike limit (slot_entries working) _ (alike_turned (slot.is_alternative_of name) root.block small (slot_entries working)) rests.fits))
+      (standing_changed (IsHeld after) now.contents limit name root g working rests.new (stands_on now after spares more) new)
+      (grown_changed name g [] rests.new refl ∙ ap (λ t. changed t name (recurrent g)) rests.gives_new)
+
   -- a crash in a publish shows what was committed, or what was working
   pub published_left : (left : Contents) → PublishLeaves m s.kept (slot_entries committed) limit (slot_entries working) left → LeftBy Shows s Commit left
   published_left left leaves = by_names leaves.2
@@ -247,12 +258,8 @@ module _ (m : Medium) (limit : ℕ) (slot_b : Bool) (bits : List Bool) (committe
         let found = found_entry name e is in
         subst (λ (t : Tree). Rests now limit slot_b after committed (change_first (is_alternative_of name) (with_current root) working) (record s { working = t }))
         (sym (ap (tree_after s.working) put_step))
-        (rests_on now after (change_first (is_alternative_of name) (with_current root) working) (change_first (is_filed name) (refiled g) rests.new) (put_tree name key value) spares more
-        (subst (SlotFits limit) (sym (slot_changed (is_alternative_of name) (slot.is_alternative_of name) (λ v. refl) (with_current root) (ledger.with_current root.block) (λ v. refl) working))
-        (fits_alike limit (slot_entries working) _ (alike_turned (slot.is_alternative_of name) root.block small (slot_entries working)) rests.fits))
-        (standing_changed (IsHeld after) now.contents limit name root g working rests.new (stands_on now after spares more)
+        (current_rests name g now after root small spares more
         (λ f' found'. let same : found.filed ≡ f' = cc (found.found, found') in subst (λ (f : Filed). IsRootedIn sizes (IsHeld after) now.contents limit root (g f.current)) same new))
-        (grown_changed name g [] rests.new refl ∙ ap (λ t. changed t name (recurrent g)) rests.gives_new))
 
 -- a crash in a publish of the working entries, written to a list of their own
 pub lent_left : (m : Medium) (limit : ℕ) (slot_b : Bool) (bits : List Bool) (committed working : List Version) (s : State) → (rests : Rests m limit slot_b bits committed working s)

@@ -62,7 +62,7 @@ module _ {D : Type 0} {members : _} (old new : Store D members) (s : State) (hol
   answers_on other (Uncheck alt name) same size answer = answer
   answers_on other (Back alt name) same size answer = answer
   answers_on other (Merge alt settled) same size answer =
-      let told : DiskState → ℕ → Type 0 = λ t n. IsMergeAnswer s (spare_of holds) (MeetsFullPath t.now.contents n (current_of s.working alt) (merge_changes s.working alt settled)) alt settled r in
+      let told : DiskState → ℕ → Type 0 = λ t n. IsMergeAnswer s (spare_of holds.rests) (MeetsFullPath t.now.contents n (current_of s.working alt) (merge_changes s.working alt settled)) alt settled r in
       subst (λ n. told (members.state other.disk) n) (sym size) (subst (λ (t : DiskState). told t new.blocks) (sym same) answer)
   answers_on other (Post alt) same size answer = answer
   answers_on other Commit same size answer = answer
@@ -88,7 +88,7 @@ module _ {D : Type 0} {members : _} where
       → (ChangesEntriesAlone c → (disk_of new ≡ disk_of old) × (held_of new ≡ held_of old)) → ((members.state new.disk).honest ≡ true → Holds old s → a ≢ Err Device → Holds new (next s c a))
       → ((members.state new.disk).honest ≡ true → Holds old s → Throughout (members.state old.disk) (members.state new.disk) (Leaves (LeftBy Shows s c)))
       → ((members.state new.disk).honest ≡ true → Holds old s → Throughout (members.state old.disk) (members.state new.disk) (IsGuarded (held_of new)))
-      → ((members.state new.disk).honest ≡ true → c ≡ Reclaim → (holds : Holds old s) → OnOk a (free_of new ≡ spare_of holds))
+      → ((members.state new.disk).honest ≡ true → c ≡ Reclaim → (holds : Holds old s) → OnOk a (free_of new ≡ spare_of holds.rests))
       → ((blocks : ℕ) → c ≡ Grow blocks → Holds old s → OnOk a (free_of new ≡ free_of old + (blocks - s.blocks))) → CarriesOut old new s c a
   carried_out old new s c a answers goes as_long untouched failed only_then memory same unchanged blocks holds crash guarded reclaimed grown = record {
     answers = answers;

@@ -11,6 +11,10 @@ enough b count free spare test is at_most = let le = test.0 is in (λ _. omega (
 pub told : (b : Bool) (count free spare : ℕ) → (IsTrue b → count ≤ free) × (count ≤ free → IsTrue b) → free ≡ spare → (IsTrue b → count ≤ spare) × (count ≤ spare → IsTrue b)
 told b count free spare test same = subst (λ n. (IsTrue b → count ≤ n) × (count ≤ n → IsTrue b)) same test
 
+-- so many are no fewer
+pub no_fewer : (count n : ℕ) → count ≤ n → nat_lt n count ≡ false
+no_fewer count n le = grind (arith, nat_tests)
+
 -- a test whether so many blocks are spare, the other way round
 pub room_for : (count : ℕ) (b : Bool) (n : ℕ) → (IsTrue b → count ≤ n) × (count ≤ n → IsTrue b) → b ≡ true → nat_lt n count ≡ false
 room_for count b n test is = by_test (cases_lt n count)

@@ -83,10 +83,10 @@ module _ (m : Medium) (limit : ℕ) (slot_b : Bool) (bits : List Bool) (committe
 -- the answer is the one that is due
 module _ {D : Type 0} {members : _} (old new : Store D members) (s : State) (holds : Holds old s) (r : Result Answer Refusal) where
   pub turned_answers : (command : Command) → ChangesEntriesAlone command → Turns old.working new.working command r → Answers old new s holds command r
-  turned_answers (New name parent) alone turned = due s _ (New name parent) r _ refl refl (turned.answers _ _ _ _ (standing holds))
-  turned_answers (NewAt name parent checkpoint) alone turned = due s _ (NewAt name parent checkpoint) r _ refl refl (turned.answers _ _ _ _ (standing holds))
-  turned_answers (Drop alt) alone turned = due s _ (Drop alt) r _ refl refl (turned.answers _ _ _ _ (standing holds))
-  turned_answers (Checkpoint alt name) alone turned = due s _ (Checkpoint alt name) r _ refl refl (turned.answers _ _ _ _ (standing holds))
-  turned_answers (Uncheck alt name) alone turned = due s _ (Uncheck alt name) r _ refl refl (turned.answers _ _ _ _ (standing holds))
-  turned_answers (Back alt name) alone turned = due s _ (Back alt name) r _ refl refl (turned.answers _ _ _ _ (standing holds))
+  turned_answers (New name parent) alone turned = due s _ (New name parent) r _ refl refl (turned.answers _ _ _ _ (standing holds.rests))
+  turned_answers (NewAt name parent checkpoint) alone turned = due s _ (NewAt name parent checkpoint) r _ refl refl (turned.answers _ _ _ _ (standing holds.rests))
+  turned_answers (Drop alt) alone turned = due s _ (Drop alt) r _ refl refl (turned.answers _ _ _ _ (standing holds.rests))
+  turned_answers (Checkpoint alt name) alone turned = due s _ (Checkpoint alt name) r _ refl refl (turned.answers _ _ _ _ (standing holds.rests))
+  turned_answers (Uncheck alt name) alone turned = due s _ (Uncheck alt name) r _ refl refl (turned.answers _ _ _ _ (standing holds.rests))
+  turned_answers (Back alt name) alone turned = due s _ (Back alt name) r _ refl refl (turned.answers _ _ _ _ (standing holds.rests))
   turned_answers command alone turned = absurd alone

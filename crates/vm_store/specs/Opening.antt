@@ -23,7 +23,7 @@ module _ {D : Type 0} {members : _} where
     pub seen : Seen
     pub shown : Shows x seen
     pub holds : Holds store (opened seen)
-    pub free : (s : State) (holds : Holds store s) → free_of store ≡ spare_of holds
+    pub free : (s : State) (holds : Holds store s) → free_of store ≡ spare_of holds.rests
 
   -- the disk that comes back, in the store or with a refusal
   abbrev pub disk_in : Result (Store D members) (D × Refusal) → D

@@ -1,13 +1,16 @@
 -- What a store stands for, between two calls.
-use Rattle.std.specs.Prelude.{◌≡◌, ℕ, ◌<◌, ◌≤◌, ◌++◌, Bool, false, List, length}
+use Rattle.std.specs.Prelude.{◌≡◌, ℕ, ◌<◌, ◌≤◌, ◌++◌, Bool, false, List, [], length, Option, Some, None}
+use Rattle.vm_types.specs.Firsts.{change_first}
 use Rattle.vm_types.specs.State.{State}
+use Rattle.vm_types.specs.Tree.{changed}
 use Rattle.vm_disk.specs.Disk.{Medium}
-use Rattle.vm_alloc.specs.Held.{IsHeld}
+use Rattle.vm_alloc.specs.Held.{HoldsMore, IsHeld}
 use Rattle.vm_block.specs.Slot.{SlotFits}
 use Rattle.vm_catalog.specs.Catalog.{AtRest}
 use Rattle.vm_store.specs.Filed.{Filed, Standing, tree_of, reach}
 use Rattle.vm_store.specs.Spare.{spare}
-use Rattle.vm_store.specs.Versions.{slot_entries}
+use Rattle.vm_tree.specs.declared.root.Root.{Root}
+use Rattle.vm_store.specs.Versions.{is_alternative_of, slot_entries, with_current}
 use Rattle.vm_store.specs.declared.version.Version.{Version}
 
 -- held, and not to be lost in a crash
@@ -37,3 +40,30 @@ pub record Rests (m : Medium) (limit : ℕ) (slot_b : Bool) (bits : List Bool) (
 abbrev pub spare_of : {m : Medium} {limit : ℕ} {slot_b : Bool} {bits : List Bool} {committed working : List Version} {s : State} → Rests m limit slot_b bits committed working s → ℕ
 spare_of {m} {limit} {slot_b} {bits} {committed} {working} {s} rests =
     spare limit (reach (IsSafe bits m) m.contents s.kept committed rests.old rests.safe ++ reach (IsHeld bits) m.contents limit working rests.new rests.stands)
+
+-- the root of the empty map
+abbrev pub no_root : Root
+no_root = record { block = 0; level = 0; low = record { table = 0; number = 0 } }
+
+-- the versions, and the state, with no records in the alternative of this name
+abbrev pub set_aside : List ℕ → List Version → List Version
+set_aside alt vs = change_first (is_alternative_of alt) (with_current no_root) vs
+
+abbrev pub state_aside : List ℕ → State → State
+state_aside alt s = record s { working = changed s.working alt (λ a. record a { current = [] }) }
+
+-- a series of changes of one alternative goes on, before which these blocks were held: they still are, and all trees but that of the
+-- alternative's records stand in them
+pub record IsInSeries (alt : List ℕ) (m : Medium) (limit : ℕ) (slot_b : Bool) (bits before : List Bool) (committed working : List Version) (s : State) : Type 0 where
+  pub wider : HoldsMore before bits
+  pub others : Rests m limit slot_b before committed (set_aside alt working) (state_aside alt s)
+
+-- what is known of the series that goes on, if one does
+abbrev pub KeepsSeries : Option (List ℕ) → (m : Medium) (limit : ℕ) (slot_b : Bool) (bits before : List Bool) (committed working : List Version) (s : State) → Type 0
+KeepsSeries None m limit slot_b bits before committed working s = Unit {0}
+KeepsSeries (Some alt) m limit slot_b bits before committed working s = IsInSeries alt m limit slot_b bits before committed working s
+
+-- the same store, in which this series goes on, if one does
+pub record HoldsWith (m : Medium) (limit : ℕ) (slot_b : Bool) (bits before : List Bool) (series : Option (List ℕ)) (committed working : List Version) (s : State) : Type 0 where
+  pub rests : Rests m limit slot_b bits committed working s
+  pub series_kept : KeepsSeries series m limit slot_b bits before committed working s

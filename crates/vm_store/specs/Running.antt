@@ -41,7 +41,7 @@ module _ {D : Type 0} {members : _} where
     -- at each moment the slots that it may leave in use are whole, clean and held
     pub guarded : IsHonest new → Holds old s → StaysGuarded old new
     -- after a Reclaim just the spare blocks are free
-    pub reclaimed : IsHonest new → command ≡ Reclaim → (holds : Holds old s) → OnOk answer (free_of new ≡ spare_of holds)
+    pub reclaimed : IsHonest new → command ≡ Reclaim → (holds : Holds old s) → OnOk answer (free_of new ≡ spare_of holds.rests)
     -- after a Grow the new blocks are free, too
     pub grown : (blocks : ℕ) → command ≡ Grow blocks → Holds old s → OnOk answer (free_of new ≡ free_of old + (blocks - s.blocks))
 

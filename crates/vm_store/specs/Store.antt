@@ -1,5 +1,5 @@
 -- A store, and the state that it stands for.
-use Rattle.std.specs.Prelude.{◌≡◌, ◌≢◌, ℕ, Bool, true, List, find, Result, Err, IfErr}
+use Rattle.std.specs.Prelude.{◌≡◌, ◌≢◌, ℕ, Bool, true, List, Option, find, Result, Err, IfErr}
 use Rattle.vm_types.specs.declared.answer.Answer.{Answer}
 use Rattle.vm_types.specs.declared.command.Command.{Command}
 use Rattle.vm_types.specs.declared.command.Command.TheVariants.{Grow, Merge}
@@ -15,7 +15,7 @@ use Rattle.vm_store.specs.Answers.{IsAnswer, IsDeep, IsEarly, IsGrowDue, IsMerge
 use Rattle.vm_store.specs.Changing.{MeetsFullPath}
 use Rattle.vm_store.specs.Growing.{Grows}
 use Rattle.vm_store.specs.Guarded.{IsGuarded}
-use Rattle.vm_store.specs.Resting.{Rests, spare_of}
+use Rattle.vm_store.specs.Resting.{HoldsWith, spare_of}
 use Rattle.vm_store.specs.Roots.{current_root}
 use Rattle.vm_store.specs.Shown.{Shows}
 use Rattle.vm_store.specs.Versions.{is_alternative_of}
@@ -35,11 +35,15 @@ module _ {D : Type 0} {members : _} where
   abbrev pub entries_of : Store D members → List Version × List Version
   entries_of store = (store.committed, store.working)
 
+  -- the alternative in which a series of changes goes on, if one does
+  abbrev pub series_of : Store D members → Option (List ℕ)
+  series_of store = store.series
+
   -- the block of the root of the working records of an alternative
   abbrev pub root_of : Store D members → List ℕ → ℕ
   root_of store alt = current_root (find (is_alternative_of alt) store.working)
 
-  -- the store is as before: its size, entries, held blocks and marks, and whether it has failed; of its disk nothing is said
+  -- the store is as before: its size, entries, held blocks, marks and series, and whether it has failed; of its disk nothing is said
   pub record IsSameButDisk (old new : Store D members) : Type 0 where
     pub alloc : new.alloc ≡ old.alloc
     pub blocks : new.blocks ≡ old.blocks
@@ -49,6 +53,7 @@ module _ {D : Type 0} {members : _} where
     pub working : new.working ≡ old.working
     pub held : new.held ≡ old.held
     pub marks : new.marks ≡ old.marks
+    pub series : new.series ≡ old.series
     pub failed : new.failed ≡ old.failed
 
   -- the disk has kept the rules of a disk in every call so far
@@ -86,7 +91,7 @@ module _ {D : Type 0} {members : _} where
   -- the store stands for this state
   abbrev pub Holds : Store D members → State → Type 0
   Holds store s =
-      Rests (members.state store.disk).now store.blocks store.slot_b store.held store.committed store.working s
+      HoldsWith (members.state store.disk).now store.blocks store.slot_b store.held store.marks store.series store.committed store.working s
 
   -- a crash at any moment of the call leaves what was committed, or what the command commits
   abbrev pub CrashLeaves : (old new : Store D members) → State → Command → Type 0
@@ -99,10 +104,10 @@ module _ {D : Type 0} {members : _} where
   -- what is answered to a command by a store that stands for the state, in terms of the store before and after
   abbrev pub Answers : (old new : Store D members) (s : State) → Holds old s → Command → Result Answer Refusal → Type 0
   Answers old new s holds (Merge alt settled) result =
-      IsMergeAnswer s (spare_of holds) (MeetsFullPath (members.state new.disk).now.contents new.blocks (current_of s.working alt) (merge_changes s.working alt settled)) alt settled result
+      IsMergeAnswer s (spare_of holds.rests) (MeetsFullPath (members.state new.disk).now.contents new.blocks (current_of s.working alt) (merge_changes s.working alt settled)) alt settled result
   Answers old new s holds (Grow blocks) result = IsGrowDue (outcome s (Grow blocks)) result
   Answers old new s holds command result =
-      IsAnswer s (spare_of holds) (IsDeep (members.state old.disk).now.contents (root_of old) s.working command) command result
+      IsAnswer s (spare_of holds.rests) (IsDeep (members.state old.disk).now.contents (root_of old) s.working command) command result
 
   -- a command was carried out by a store that stands for the state, on an honest disk: it gives the answer that is due, and unless the
   -- device failed the store stands for what that answer leaves; a crash at any moment shows what it may, and the slots stay whole

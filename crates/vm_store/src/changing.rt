@@ -9,35 +9,39 @@ ghost use Rattle.vm_tree.specs.Root.{IsRootedIn};
 ghost use Rattle.vm_store.specs.Changing.{Makes, MeetsFullPath};
 ghost use Rattle.vm_store.specs.Sizes.{sizes};
 
-use crate::{FAN, LEAF, LEVELS};
-use vm_alloc::Held;
+use crate::series::{put_forgetting, remove_forgetting};
+use vm_alloc::{Held, Marks};
 use vm_disk::Disk;
-use vm_tree::{Root, TreeFault, put, remove};
+use vm_tree::{Root, TreeFault};
 use vm_types::{Change, Changes};
 
-/// Makes one change of a record in the tree under a root, and returns the new root.
+/// Makes one change of a record in the tree under a root, and returns the new root. The blocks of the
+/// path as it was are forgotten, but for those that were held before.
 fn make_change<D: Disk>(
     disk: &mut D,
     held: &mut Held,
+    before: &Marks,
     root: Root,
     change: &Change,
 ) -> Result<Root, TreeFault>
     requires inside { length held.old ≤ (D.state disk.old).blocks }
+    requires before { HoldsMore before.now held.old }
     requires room { 16 ≤ free_count held.old }
     ensures any { Goes (result ≡ Err TreeFault.Device) (D.state disk.old) (D.state disk.new) }
     ensures memory { result ≢ Err TreeFault.Memory }
     ensures still { HoldsMore held.old held.new }
     ensures taken { free_count held.old ≤ free_count held.new + 15 }
     ensures moments { (D.state disk.new).honest ≡ true
-        → Throughout (D.state disk.old) (D.state disk.new) (TouchesOnly (is_free held.old) (D.state disk.old).now) }
+        → Throughout (D.state disk.old) (D.state disk.new)
+        (TouchesOnly (is_free before.now) (D.state disk.old).now) }
     ensures changed { (D.state disk.new).honest ≡ true → (m : Map)
         → IsRootedIn sizes (IsHeld held.old) (D.state disk.old).now.contents (length held.old) root m
         → Makes result (MeetsFullPath (D.state disk.new).now.contents (length held.old) m (change.now ∷ []))
         (λ r. IsRootedIn sizes (IsHeld held.new) (D.state disk.new).now.contents (length held.old) r (with_change m change.now)) }
 {
     match &change.after {
-        Some(value) => put::<D, LEAF, FAN, LEVELS>(disk, held, root, change.key, value),
-        None => match remove::<D, LEAF, FAN, LEVELS>(disk, held, root, change.key) {
+        Some(value) => put_forgetting(disk, held, before, root, change.key, value),
+        None => match remove_forgetting(disk, held, before, root, change.key) {
             Ok(Some(rest)) => Ok(rest),
             Ok(None) => Ok(root),
             Err(fault) => Err(fault),
@@ -46,14 +50,17 @@ fn make_change<D: Disk>(
 }
 
 /// Makes changes of records in the tree under a root, in their order. A change to no value takes the
-/// record out, where it is there. The caller owes 16 free blocks a change.
+/// record out, where it is there. The caller owes 16 free blocks a change, and `before`, a copy of what is
+/// held. Blocks that one change takes and a later one replaces are forgotten.
 pub fn make_changes<D: Disk>(
     disk: &mut D,
     held: &mut Held,
+    before: &Marks,
     mut root: Root,
     changes: &Changes,
 ) -> Result<Root, TreeFault>
     requires inside { length held.old ≤ (D.state disk.old).blocks }
+    requires before { before.now ≡ held.old }
     requires room { 16 * length changes.now ≤ free_count held.old }
     ensures any { Goes (result ≡ Err TreeFault.Device) (D.state disk.old) (D.state disk.new) }
     ensures memory { result ≢ Err TreeFault.Memory }
@@ -72,7 +79,7 @@ pub fn make_changes<D: Disk>(
 {
     let mut i = 0;
     while let Some(change) = changes.at(i) {
-        root = make_change(disk, held, root, &change)?;
+        root = make_change(disk, held, before, root, &change)?;
         i += 1;
     }
     Ok(root)

@@ -9,6 +9,7 @@
 mod changing;
 mod faults;
 mod laws;
+mod series;
 mod sides;
 mod store;
 mod tally;

@@ -23,7 +23,7 @@ use std::alloc::Global;
 use vm_alloc::{Held, Marks};
 use vm_block::Entry;
 use vm_disk::Disk;
-use vm_types::{Answer, Command, Refusal};
+use vm_types::{Answer, Command, Name, Refusal};
 
 // Whether the device failed in a command.
 fn is_device(answer: &Result<Answer, Refusal>) -> bool
@@ -42,7 +42,10 @@ pub struct Store<D: Disk> {
     committed: Versions,
     working: Versions,
     held: Held,
+    // While a series of changes goes on, the blocks that were held before it.
     marks: Marks,
+    // The alternative of which the commands since then changed records, and no other command came.
+    series: Option<Name>,
     failed: bool,
     ghost least: { 64 ≤ blocks },
     ghost most: { blocks ≤ 2 ^ 20 },
@@ -102,7 +105,7 @@ impl<D: Disk> Store<D> {
         ensures reclaimed { IsHonest self.new → has_failed self.old ≡ false
             → command.now ≡ Command.Reclaim
             → (s : State) (holds : Holds self.old s)
-            → OnOk result (free_of self.new ≡ spare_of holds) }
+            → OnOk result (free_of self.new ≡ spare_of holds.rests) }
 
         // After a Grow the new blocks are free, too.
         ensures grown { has_failed self.old ≡ false → (blocks : ℕ) → command.now ≡ Grow blocks
@@ -139,6 +142,7 @@ impl<D: Disk> Store<D> {
             working: _,
             held: _,
             marks: _,
+            series: _,
             failed: _,
         } = self;
         disk

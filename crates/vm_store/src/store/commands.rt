@@ -38,7 +38,7 @@ impl<D: Disk> Store<D> {
             → Carries self.old self.new s holds command.now result }
         ensures reclaimed { IsHonest self.new → command.now ≡ Command.Reclaim
             → (s : State) (holds : Holds self.old s)
-            → OnOk result (free_of self.new ≡ spare_of holds) }
+            → OnOk result (free_of self.new ≡ spare_of holds.rests) }
         ensures grown { (blocks : ℕ) → command.now ≡ Grow blocks → (s : State)
             → Holds self.old s
             → OnOk result (free_of self.new ≡ free_of self.old + (blocks - s.blocks)) }

@@ -230,6 +230,7 @@ pub fn open<D: Disk>(alloc: Global, mut disk: D) -> Result<Store<D>, (D, Refusal
                 working,
                 held,
                 marks,
+                series: None,
                 failed: false,
             })
         }

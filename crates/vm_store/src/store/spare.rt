@@ -63,7 +63,7 @@ impl<D: Disk> Store<D> {
         ensures failed { has_failed self.now ≡ true → result ≡ Err Refusal.Failed }
         ensures counted { has_failed self.now ≡ false → result ≡ Ok (free_of self.now) }
         ensures spare { (s : State) (holds : Holds self.now s)
-            → IfOk result (λ n. n ≤ spare_of holds) }
+            → IfOk result (λ n. n ≤ spare_of holds.rests) }
     {
         if self.failed {
             return Err(Refusal::Failed);
@@ -83,9 +83,10 @@ impl<D: Disk> Store<D> {
         ensures only { IsHonest self.new → (s : State) → Holds self.old s
             → IfErr result (λ refusal. refusal ≡ Refusal.Device) }
         ensures exact { IsHonest self.new → (s : State) (holds : Holds self.old s)
-            → OnOk result (free_of self.new ≡ spare_of holds) }
+            → OnOk result (free_of self.new ≡ spare_of holds.rests) }
         ensures state { IsHonest self.new → (s : State) → Holds self.old s → Holds self.new s }
     {
+        self.series = None;
         self.marks.clear();
         match mark_versions(&mut self.disk, self.committed.as_slice(), &mut self.marks) {
             Ok(()) => {}
@@ -100,7 +101,7 @@ impl<D: Disk> Store<D> {
     }
 
     // Whether as many blocks are free as so many record changes may take.
-    fn has_free(&self, changes: usize) -> bool
+    pub(super) fn has_free(&self, changes: usize) -> bool
         ensures { IsTrue result ↔ (16 * changes ≤ free_of self.now) }
     {
         changes <= (self.held.free_count() / BLOCKS_A_CHANGE) as usize
@@ -120,7 +121,7 @@ impl<D: Disk> Store<D> {
         ensures only { IsHonest self.new → (s : State) → Holds self.old s
             → IfErr result (λ refusal. refusal ≡ Refusal.Device) }
         ensures spare { IsHonest self.new → (s : State) (holds : Holds self.old s)
-            → IfOk result (λ yes. IsTrue yes ↔ (16 * changes ≤ spare_of holds)) }
+            → IfOk result (λ yes. IsTrue yes ↔ (16 * changes ≤ spare_of holds.rests)) }
         ensures state { IsHonest self.new → (s : State) → Holds self.old s → Holds self.new s }
     {
         if self.has_free(changes) {

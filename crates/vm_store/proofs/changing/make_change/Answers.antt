@@ -4,25 +4,25 @@ use Rattle.vm_disk.proofs.MomentLemmas.{same_medium}
 use Rattle.vm_alloc.specs.Held.{IsHeld}
 use Rattle.vm_tree.specs.Root.{IsRootedIn}
 use Rattle.vm_tree.proofs.Sparing.{held_kept}
-use Rattle.vm_store.proofs.ChangingLemmas.{put_makes, absent_makes, rest_makes, device_makes}
+use Rattle.vm_store.proofs.ChangingLemmas.{so_failed, put_makes, absent_makes, rest_makes, device_makes}
 use Rattle.vm_store.proofs.Removing.{removed_root}
 use Rattle.vm_store.specs.Sizes.{sizes}
 use Rattle.vm_store.proofs.changing.make_change.Goals as goal
 
 pub returns-in-Some-clause-changed : goal.returns-in-Some-clause-changed
 returns-in-Some-clause-changed g c honest m grown =
-    put_makes _ _ _ _ _ _ m c.args.change.now _ _ c.in-Some.is (held_kept _ _ _ (c.put.ensures.writes.moments honest)) grown (c.put.ensures.put honest m grown.stands_in grown.rooted)
+    put_makes _ _ _ _ _ _ m c.args.change.now _ _ c.in-Some.is (so_failed c.put_forgetting.result _ _ (held_kept _ _ _) (c.put_forgetting.ensures.failed honest)) grown (c.put_forgetting.ensures.put honest m grown.stands_in grown.rooted)
 
 pub returns-in-Ok-None-clause-changed : goal.returns-in-Ok-None-clause-changed
 returns-in-Ok-None-clause-changed g c honest m grown =
     let none = c.in-Ok-None.is ∙ ap Ok c.in-Ok-None.field-0-is in
     let absent = rw c.in-Ok-None.field-0-is at (c.in-Ok-None.ensures.remove honest m grown.stands_in grown.rooted) in
-    absent_makes _ _ _ _ _ _ m c.args.change.now c.in-None.is (same_medium _ _ (c.remove.ensures.kept.reads honest none)) (c.remove.ensures.kept.kept none) absent grown
+    absent_makes _ _ _ _ _ _ m c.args.change.now c.in-None.is (same_medium _ _ (c.remove_forgetting.ensures.kept.reads honest none)) (c.remove_forgetting.ensures.kept.kept none) absent grown
 
 pub returns-in-Ok-Some-clause-changed : goal.returns-in-Ok-Some-clause-changed
 returns-in-Ok-Some-clause-changed g c honest m grown =
     let left = removed_root _ _ _ _ c.in-Ok-Some.field-0-is (c.in-Ok-Some.ensures.remove honest m grown.stands_in grown.rooted) grown.each in
-    rest_makes (λ (n : Map). IsRootedIn sizes (IsHeld c.remove.new.held) (g.D.Disk.state c.remove.new.disk).now.contents (length c.args.held.now) c.in-Ok-Some.rest n) m c.args.change.now c.in-None.is left
+    rest_makes (λ (n : Map). IsRootedIn sizes (IsHeld c.remove_forgetting.new.held) (g.D.Disk.state c.remove_forgetting.new.disk).now.contents (length c.args.held.now) c.in-Ok-Some.rest n) m c.args.change.now c.in-None.is left
 
 pub returns-in-Err-clause-changed : goal.returns-in-Err-clause-changed
 returns-in-Err-clause-changed g c honest m grown = device_makes _ _ _ (c.in-Err.ensures.remove honest m grown.stands_in grown.rooted)

@@ -5,8 +5,10 @@ use Rattle.std.proofs.lemmas.Result.{err_from_is_err_and}
 use Rattle.vm_types.specs.declared.change.Change.{Change}
 use Rattle.vm_types.specs.Map.{with_changes}
 use Rattle.vm_types.proofs.PackedLemmas.{ended}
+use Rattle.vm_disk.specs.Moments.{Throughout, TouchesOnly}
 use Rattle.vm_alloc.specs.Held.{IsHeld}
-use Rattle.vm_alloc.proofs.HeldLemmas.{holds_more_then}
+use Rattle.vm_alloc.proofs.HeldLemmas.{holds_more_then, holds_same}
+use Rattle.vm_tree.specs.Free.{is_free}
 use Rattle.vm_tree.specs.Root.{IsRootedIn}
 use Rattle.vm_tree.proofs.Sparing.{spares_then}
 use Rattle.vm_store.specs.Sizes.{sizes}
@@ -17,7 +19,8 @@ use Rattle.vm_store.proofs.changing.make_changes.Goals as goal
 pub returns-in_err-root-clause-moments : goal.returns-in_err-root-clause-moments
 returns-in_err-root-clause-moments g c honest =
     let so_far = c.loop-change.invariant in
-    spares_then _ _ _ _ _ so_far.still (so_far.moments (c.make_change.ensures.any.earlier honest)) (c.make_change.ensures.moments honest)
+    subst (λ held. Throughout (g.D.Disk.state c.args.disk.now) (g.D.Disk.state c.make_change.new.disk) (TouchesOnly (is_free held) (g.D.Disk.state c.args.disk.now).now)) c.requires.before
+    (spares_then _ _ _ _ _ (holds_same _) (so_far.moments (c.make_change.ensures.any.earlier honest)) (c.make_change.ensures.moments honest))
 
 pub returns-in_err-root-clause-changed : goal.returns-in_err-root-clause-changed
 returns-in_err-root-clause-changed g c honest m grown =
@@ -42,7 +45,7 @@ loop-change-preserved g c =
       most = omega (arith, inside);
       room = omega (arith, c.make_change.ensures.taken, so_far.room);
       still = holds_more_then _ _ _ so_far.still c.make_change.ensures.still;
-      moments = λ honest. spares_then _ _ _ _ _ so_far.still (so_far.moments (c.in_ok-root.ensures.any.earlier honest)) (c.make_change.ensures.moments honest);
+      moments = λ honest. spares_then _ _ _ _ _ (holds_same _) (so_far.moments (c.in_ok-root.ensures.any.earlier honest)) (c.make_change.ensures.moments honest);
       changed = λ honest m grown.
           let before = grown_of _ _ _ _ _ _ (sym so_far.still.same_length) (so_far.changed (c.in_ok-root.ensures.any.earlier honest) m grown) in
           made_more m _ _ c.in-Some.change inside (sym (get_or_from_slice_get c.args.changes.now c.loop-change.i c.in-Some.change c.in-Some.change found)) _ _ _ _ _ so_far.still.same_length (c.in_ok-root.ensures.changed honest _ before);

@@ -17,7 +17,7 @@ invariant-loop-change g l =
       most : l.i ≤ length l.changes;
       room : 16 * length l.changes ≤ free_count l.held + 16 * l.i;
       still : HoldsMore l.fn.held l.held;
-      moments : now.honest ≡ true → Throughout old now (TouchesOnly (is_free l.fn.held) old.now);
+      moments : now.honest ≡ true → Throughout old now (TouchesOnly (is_free l.before) old.now);
       changed : now.honest ≡ true → (m : Map) → IsRootedIn sizes (IsHeld l.fn.held) old.now.contents (length l.fn.held) l.fn.root m
           → IsRootedIn sizes (IsHeld l.held) now.now.contents (length l.fn.held) l.root (with_changes m (take l.i l.changes));
     }

@@ -25,6 +25,7 @@ impl<D: Disk> Store<D> {
             Ok(()) => {
                 self.slot_b = !self.slot_b;
                 self.committed.copy_from(&self.working);
+                self.series = None;
                 Ok(Answer::Done)
             }
             Err(_) => Err(Refusal::Device),

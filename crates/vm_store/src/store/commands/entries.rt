@@ -23,6 +23,12 @@ impl<D: Disk> Store<D> {
         ensures carried { IsHonest self.new → (s : State) (holds : Holds self.old s)
             → Carries self.old self.new s holds command.now result }
     {
-        self.working.carry_out(command)
+        match self.working.carry_out(command) {
+            Ok(answer) => {
+                self.series = None;
+                Ok(answer)
+            }
+            Err(refusal) => Err(refusal),
+        }
     }
 }

@@ -55,6 +55,7 @@ impl<D: Disk> Store<D> {
         self.blocks = blocks;
         self.held = held;
         self.marks = marks;
+        self.series = None;
         Ok(Answer::Done)
     }
 

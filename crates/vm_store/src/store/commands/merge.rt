@@ -48,7 +48,15 @@ impl<D: Disk> Store<D> {
             Ok(false) => return Err(Refusal::Full),
             Err(refusal) => return Err(refusal),
         }
-        match make_changes(&mut self.disk, &mut self.held, roots.own, &changes) {
+        self.series = None;
+        self.marks.copy_held(&self.held);
+        match make_changes(
+            &mut self.disk,
+            &mut self.held,
+            &self.marks,
+            roots.own,
+            &changes,
+        ) {
             Ok(root) => {
                 self.working.set_current(alt, root);
                 self.working.set_base(alt, parent.current);

@@ -34,6 +34,7 @@ impl<D: Disk> Store<D> {
         }
         self.working.set_current(&parent.name, own.current);
         self.working.set_base(alt, own.current);
+        self.series = None;
         Ok(Answer::Done)
     }
 }

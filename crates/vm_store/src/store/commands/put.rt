@@ -3,16 +3,16 @@ ghost use Rattle.std.specs.Prelude.{◌≡◌, ◌≢◌, true, OnErr};
 ghost use Rattle.vm_types.specs.State.{State};
 
 use crate::faults::refusal_of;
+use crate::series::{go_on, put_forgetting};
 use crate::store::Store;
-use crate::{FAN, LEAF, LEVELS};
 use vm_disk::Disk;
-use vm_tree::put;
 use vm_types::{Answer, Command, Key, Name, Refusal, Value};
 
 impl<D: Disk> Store<D> {
     ghost use Rattle.vm_store.specs.Store.{has_failed, entries_of, Carries, Holds, IsHonest, GoesOn, EarlyKeeps};
 
-    // Gives a record of the alternative a value.
+    // Gives a record of the alternative a value. The blocks that the series took for the path as it was are
+    // forgotten.
     pub(super) fn put(&mut self, alt: &Name, key: Key, value: &Value) -> Result<Answer, Refusal>
         ensures any { GoesOn (result ≡ Err Refusal.Device) self.old self.new }
         ensures failed { has_failed self.new ≡ has_failed self.old }
@@ -30,8 +30,15 @@ impl<D: Disk> Store<D> {
             Ok(false) => return Err(Refusal::Full),
             Err(refusal) => return Err(refusal),
         }
-        let root = version.current;
-        match put::<D, LEAF, FAN, LEVELS>(&mut self.disk, &mut self.held, root, key, value) {
+        go_on(&mut self.series, &mut self.marks, &self.held, alt);
+        match put_forgetting(
+            &mut self.disk,
+            &mut self.held,
+            &self.marks,
+            version.current,
+            key,
+            value,
+        ) {
             Ok(root) => {
                 self.working.set_current(alt, root);
                 Ok(Answer::Done)

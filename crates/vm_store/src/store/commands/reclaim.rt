@@ -19,7 +19,7 @@ impl<D: Disk> Store<D> {
         ensures late { IfErr result (λ refusal. IsEarly refusal → ⊥) }
         ensures same { entries_of self.new ≡ entries_of self.old }
         ensures exact { IsHonest self.new → (s : State) (holds : Holds self.old s)
-            → OnOk result (free_of self.new ≡ spare_of holds) }
+            → OnOk result (free_of self.new ≡ spare_of holds.rests) }
         ensures carried { IsHonest self.new → (s : State) (holds : Holds self.old s)
             → Carries self.old self.new s holds Command.Reclaim result }
     {

@@ -1,20 +1,24 @@
 //! The command that takes a record out.
-ghost use Rattle.std.specs.Prelude.{◌≡◌, ◌≢◌, true, OnErr, IfErr};
+ghost use Rattle.std.specs.Prelude.{◌≡◌, ◌≢◌, ◌⊎◌, ◌*◌, ◌≤◌, true, find, None, Some, Ok, OnErr, IfErr};
 ghost use Rattle.vm_types.specs.State.{State};
 ghost use Rattle.vm_types.specs.declared.command.Command.TheVariants.{Remove};
+ghost use Rattle.vm_types.specs.Queries.{value_in};
+ghost use Rattle.vm_store.specs.Answers.{IsEarly};
+ghost use Rattle.vm_store.specs.Versions.{is_alternative_of};
 
 use crate::faults::refusal_of;
+use crate::series::{go_on, goes_on, remove_forgetting};
 use crate::store::Store;
-use crate::{FAN, LEAF, LEVELS};
+use crate::version::Version;
 use vm_disk::Disk;
-use vm_tree::{get, remove};
+use vm_tree::get;
 use vm_types::{Answer, Key, Name, Refusal};
 
 impl<D: Disk> Store<D> {
-    ghost use Rattle.vm_store.specs.Store.{has_failed, entries_of, Carries, Holds, IsHonest, GoesOn, EarlyKeeps};
+    ghost use Rattle.vm_store.specs.Store.{has_failed, entries_of, free_of, series_of, Carries, Holds, IsHonest, GoesOn, EarlyKeeps};
 
-    // Takes a record out of the alternative. The record is looked for first, so that no blocks are
-    // marked for one that is absent.
+    // Takes a record out of the alternative. Where its series goes on and enough blocks are free, its path
+    // is gone down once.
     pub(super) fn remove(&mut self, alt: &Name, key: Key) -> Result<Answer, Refusal>
         ensures any { GoesOn (result ≡ Err Refusal.Device) self.old self.new }
         ensures failed { has_failed self.new ≡ has_failed self.old }
@@ -27,6 +31,28 @@ impl<D: Disk> Store<D> {
         let Some(version) = self.working.alternative(alt) else {
             return Err(Refusal::NoSuchAlternative);
         };
+        if goes_on(&self.series, alt) && self.has_free(1) {
+            return self.remove_in_series(alt, version, key, Refusal::NoSuchRecord);
+        }
+        self.remove_after_look(alt, version, key)
+    }
+
+    // Looks for the record first, so that no blocks are marked, and no series begins, for one that is absent.
+    fn remove_after_look(
+        &mut self,
+        alt: &Name,
+        version: Version,
+        key: Key,
+    ) -> Result<Answer, Refusal>
+        requires { find (is_alternative_of alt.now) (entries_of self.old).1 ≡ Some version }
+        ensures any { GoesOn (result ≡ Err Refusal.Device) self.old self.new }
+        ensures failed { has_failed self.new ≡ has_failed self.old }
+        ensures never { (result ≢ Err Refusal.Failed) × (result ≢ Err Refusal.Memory) }
+        ensures same { OnErr result (entries_of self.new ≡ entries_of self.old) }
+        ensures unchanged { EarlyKeeps result self.old self.new }
+        ensures carried { IsHonest self.new → (s : State) (holds : Holds self.old s)
+            → Carries self.old self.new s holds (Remove alt.now key) result }
+    {
         let root = version.current;
         match get(&mut self.disk, self.blocks, root, key) {
             Ok(Some(_)) => {}
@@ -38,12 +64,45 @@ impl<D: Disk> Store<D> {
             Ok(false) => return Err(Refusal::Full),
             Err(refusal) => return Err(refusal),
         }
-        match remove::<D, LEAF, FAN, LEVELS>(&mut self.disk, &mut self.held, root, key) {
+        go_on(&mut self.series, &mut self.marks, &self.held, alt);
+        self.remove_in_series(alt, version, key, Refusal::Damaged(root.block))
+    }
+
+    // Takes a record out of the alternative whose series goes on, or answers that it is missing. The blocks
+    // that the series took for the path as it was are forgotten.
+    fn remove_in_series(
+        &mut self,
+        alt: &Name,
+        version: Version,
+        key: Key,
+        missing: Refusal,
+    ) -> Result<Answer, Refusal>
+        requires found { find (is_alternative_of alt.now) (entries_of self.old).1 ≡ Some version }
+        requires series { series_of self.old ≡ Some alt.now }
+        requires room { 16 * 1 ≤ free_of self.old }
+        requires reason { (missing ≢ Refusal.Device) × (missing ≢ Refusal.Failed) × (missing ≢ Refusal.Memory) }
+        ensures any { GoesOn (result ≡ Err Refusal.Device) self.old self.new }
+        ensures failed { has_failed self.new ≡ has_failed self.old }
+        ensures never { (result ≢ Err Refusal.Failed) × (result ≢ Err Refusal.Memory) }
+        ensures same { OnErr result (entries_of self.new ≡ entries_of self.old) }
+        ensures early { IfErr result (λ refusal. IsEarly refusal → refusal ≡ missing) }
+        ensures unchanged { EarlyKeeps result self.old self.new }
+        ensures carried { IsHonest self.new → (s : State) (holds : Holds self.old s)
+            → (missing ≡ Refusal.NoSuchRecord) ⊎ (value_in s.working alt.now key ≢ Ok None)
+            → Carries self.old self.new s holds (Remove alt.now key) result }
+    {
+        match remove_forgetting(
+            &mut self.disk,
+            &mut self.held,
+            &self.marks,
+            version.current,
+            key,
+        ) {
             Ok(Some(root)) => {
                 self.working.set_current(alt, root);
                 Ok(Answer::Done)
             }
-            Ok(None) => Err(Refusal::Damaged(root.block)),
+            Ok(None) => Err(missing),
             Err(fault) => Err(refusal_of(fault)),
         }
     }

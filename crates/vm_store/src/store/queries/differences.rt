@@ -33,7 +33,7 @@ impl<D: Disk> Store<D> {
 
         // It makes no more reads than there are blocks that only one of its base and its current tree has.
         ensures bound { IsHonest self.new → (s : State) (holds : Holds self.old s)
-            → reads_of self.new ≤ reads_of self.old + unshared_of holds alt.now }
+            → reads_of self.new ≤ reads_of self.old + unshared_of holds.rests alt.now }
     {
         if self.failed {
             return Err(Refusal::Failed);
@@ -67,7 +67,7 @@ impl<D: Disk> Store<D> {
         // It makes no more reads than there are blocks that only one of its base and its parent's current tree has, and such that only
         // one of its base and its current tree has.
         ensures bound { IsHonest self.new → (s : State) (holds : Holds self.old s)
-            → reads_of self.new ≤ reads_of self.old + (unshared_with_parent holds alt.now + unshared_of holds alt.now) }
+            → reads_of self.new ≤ reads_of self.old + (unshared_with_parent holds.rests alt.now + unshared_of holds.rests alt.now) }
     {
         if self.failed {
             return Err(Refusal::Failed);

@@ -7,20 +7,23 @@ use Rattle.vm_store.proofs.GuardLemmas.{lent_guarded}
 use Rattle.vm_store.proofs.RestingLemmas.{published, lent_left, is_published_as}
 use Rattle.vm_types.specs.declared.command.Command.TheVariants.{Commit}
 use Rattle.vm_store.proofs.VersionLemmas.{answers_done}
+use Rattle.vm_store.proofs.SeriesLemmas.{holds_alone}
 use Rattle.vm_store.proofs.store.Store.commit.Goals as goal
 
 pub returns-in-Ok-clause-carried : goal.returns-in-Ok-clause-carried
-returns-in-Ok-clause-carried g c honest s rests =
+returns-in-Ok-clause-carried g c honest s holds =
+    let rests = holds.rests in
     let is = c.deref.ensures.value ∙ c.write_entries.ensures.items ∙ ap slot_entries c.as_slice.ensures.items in
     record {
       answers = answers_done s _ ⊥ Commit s.working refl (λ never. never) refl;
-      state = λ fine. published _ _ _ _ _ _ s rests _ _ Done (is_published_as _ _ _ _ _ _ is (c.in-Ok.ensures.done honest _ _ rests.rest (subst (SlotFits c.args.self.now.blocks) (sym is) rests.fits))) c.copy_from.ensures;
+      state = λ fine. holds_alone (published _ _ _ _ _ _ s rests _ _ Done (is_published_as _ _ _ _ _ _ is (c.in-Ok.ensures.done honest _ _ rests.rest (subst (SlotFits c.args.self.now.blocks) (sym is) rests.fits))) c.copy_from.ensures);
       crash = weaken _ _ _ _ (λ m leaves left may. lent_left _ _ _ _ _ _ s rests _ is left (leaves left may)) (c.in-Ok.ensures.any_moment honest _ _ rests.rest (subst (SlotFits c.args.self.now.blocks) (sym is) rests.fits));
       guarded = weaken _ _ _ _ (λ m publishing. lent_guarded _ _ _ _ _ _ s rests _ is m publishing) (c.in-Ok.ensures.moments honest _ _ rests.rest (subst (SlotFits c.args.self.now.blocks) (sym is) rests.fits));
     }
 
 pub returns-in-Err-clause-carried : goal.returns-in-Err-clause-carried
-returns-in-Err-clause-carried g c honest s rests =
+returns-in-Err-clause-carried g c honest s holds =
+    let rests = holds.rests in
     let is = c.deref.ensures.value ∙ c.write_entries.ensures.items ∙ ap slot_entries c.as_slice.ensures.items in
     record {
       answers = inl refl;

@@ -1,17 +1,19 @@
 use Rattle.std.proofs.Common.{inr, arith}
 use Rattle.vm_store.proofs.Listing.{listed}
 use Rattle.vm_store.proofs.PairLemmas.{conflicts_lacking, conflicts_there, own_there, parent_there}
-use Rattle.vm_store.proofs.RestingLemmas.{read_rests}
 use Rattle.vm_store.proofs.SharedLemmas.{base_rooted, current_rooted, pair_counts}
+use Rattle.vm_store.proofs.SeriesLemmas.{read_holds}
 use Rattle.vm_store.proofs.store.Store.conflicts.Goals as goal
 
 pub returns-in-Err-clause-value : goal.returns-in-Err-clause-value
-returns-in-Err-clause-value g c honest well s rests =
+returns-in-Err-clause-value g c honest well s holds =
+    let rests = holds.rests in
     let lacks = c.in-Err.ensures.none in
     inr (inr (conflicts_lacking _ _ _ _ _ _ s rests c.args.alt.now c.in-Err.refusal lacks))
 
 pub returns-clause-value : goal.returns-clause-value
-returns-clause-value g c honest well s rests =
+returns-clause-value g c honest well s holds =
+    let rests = holds.rests in
     let alt = c.args.alt.now in
     let is = c.in-Ok.ensures.found in
     let own = own_there _ _ _ _ _ _ s rests alt c.in-Ok.pair is in
@@ -20,10 +22,11 @@ returns-clause-value g c honest well s rests =
     (c.conflicts_of.ensures.conflicts honest _ _ _ _ _ _ own.stands.base.rooted parent.stands.current.rooted own.stands.current.rooted)
 
 pub returns-clause-state : goal.returns-clause-state
-returns-clause-state g c honest s rests = read_rests _ _ _ _ _ _ _ s (c.conflicts_of.ensures.reads honest) rests
+returns-clause-state g c honest s holds = read_holds _ _ _ _ _ _ _ _ _ s (c.conflicts_of.ensures.reads honest) holds
 
 pub returns-clause-bound : goal.returns-clause-bound
-returns-clause-bound g c honest s rests =
+returns-clause-bound g c honest s holds =
+    let rests = holds.rests in
     let alt = c.args.alt.now in
     let is = c.in-Ok.ensures.found in
     let base = base_rooted _ _ _ _ _ _ s rests alt c.in-Ok.pair.0 is.own in

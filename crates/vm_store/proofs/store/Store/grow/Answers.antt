@@ -7,6 +7,7 @@ use Rattle.vm_alloc.specs.Held.{IsHeld}
 use Rattle.vm_store.specs.Guarded.{IsGuarded}
 use Rattle.vm_store.proofs.LongerLemmas.{grow_is_accepted, grow_is_refused, longer_crash, longer_guarded, rests_longer, rests_renamed, still_held}
 use Rattle.vm_store.proofs.CarryLemmas.{looked, stayed}
+use Rattle.vm_store.proofs.SeriesLemmas.{holds_alone}
 use Rattle.vm_store.proofs.store.Store.grow.Goals as goal
 use Rattle.vm_store.proofs.store.Store.grow.Goals.{then-blocks-self-via-then-blocks-self, then-blocks-self-via-else-blocks-self+then-blocks-gt-MOST_BLOCKS}
 
@@ -14,27 +15,27 @@ pub returns-then-blocks-self-clause-carried : goal.returns-then-blocks-self-clau
 returns-then-blocks-self-clause-carried g c honest s holds =
     stayed _ s holds (Grow c.args.blocks) _
     (elim c.then-blocks-self.branch [
-      | then-blocks-self-via-then-blocks-self w ↦ grow_is_refused s c.args.blocks (no_more_is_bad s.blocks c.args.blocks (omega (arith, w.if-blocks-self.true, holds.blocks)))
+      | then-blocks-self-via-then-blocks-self w ↦ grow_is_refused s c.args.blocks (no_more_is_bad s.blocks c.args.blocks (omega (arith, w.if-blocks-self.true, holds.rests.blocks)))
       | then-blocks-self-via-else-blocks-self+then-blocks-gt-MOST_BLOCKS w ↦ grow_is_refused s c.args.blocks (too_many_is_bad s.blocks c.args.blocks (omega (arith, w.if-blocks-gt-MOST_BLOCKS.true)))
     ])
 
 pub returns-in_default-clause-carried : goal.returns-in_default-clause-carried
 returns-in_default-clause-carried g c honest s holds =
-    looked _ _ s holds (Grow c.args.blocks) _ (grow_is_accepted s c.args.blocks _ (good_size s.blocks c.args.blocks (omega (arith, c.if-blocks-self.false, holds.blocks)) (omega (arith, c.if-blocks-gt-MOST_BLOCKS.false))) (inr (inl refl)))
-    (started _ _ refl) holds (λ _. holds)
+    looked _ _ s holds (Grow c.args.blocks) _ (grow_is_accepted s c.args.blocks _ (good_size s.blocks c.args.blocks (omega (arith, c.if-blocks-self.false, holds.rests.blocks)) (omega (arith, c.if-blocks-gt-MOST_BLOCKS.false))) (inr (inl refl)))
+    (started _ _ refl) holds.rests (λ _. holds)
 
 pub returns-in_default-new-clause-carried : goal.returns-in_default-new-clause-carried
 returns-in_default-new-clause-carried g c honest s holds =
-    looked _ _ s holds (Grow c.args.blocks) _ (grow_is_accepted s c.args.blocks _ (good_size s.blocks c.args.blocks (omega (arith, c.if-blocks-self.false, holds.blocks)) (omega (arith, c.if-blocks-gt-MOST_BLOCKS.false))) (inr (inl refl)))
-    (started _ _ refl) holds (λ _. holds)
+    looked _ _ s holds (Grow c.args.blocks) _ (grow_is_accepted s c.args.blocks _ (good_size s.blocks c.args.blocks (omega (arith, c.if-blocks-self.false, holds.rests.blocks)) (omega (arith, c.if-blocks-gt-MOST_BLOCKS.false))) (inr (inl refl)))
+    (started _ _ refl) holds.rests (λ _. holds)
 
 pub returns-in_err-lengthen-clause-carried : goal.returns-in_err-lengthen-clause-carried
 returns-in_err-lengthen-clause-carried g c honest s holds =
     record {
-      answers = grow_is_accepted s c.args.blocks _ (good_size s.blocks c.args.blocks (omega (arith, c.if-blocks-self.false, holds.blocks)) (omega (arith, c.if-blocks-gt-MOST_BLOCKS.false))) (inl (search rules));
+      answers = grow_is_accepted s c.args.blocks _ (good_size s.blocks c.args.blocks (omega (arith, c.if-blocks-self.false, holds.rests.blocks)) (omega (arith, c.if-blocks-gt-MOST_BLOCKS.false))) (inl (search rules));
       state = λ fine. absurd (fine (search rules));
-      crash = longer_crash _ _ (c.lengthen.ensures.longer honest) _ _ _ _ _ s holds (Grow c.args.blocks);
-      guarded = subst (λ (bits : List Bool). Throughout (g.D.Disk.state c.args.self.now.disk) (g.D.Disk.state c.lengthen.new.self.disk) (IsGuarded bits)) (sym c.lengthen.ensures.same.held) (longer_guarded _ _ (c.lengthen.ensures.longer honest) _ _ _ _ _ s holds c.args.self.now.held (λ n held. held));
+      crash = longer_crash _ _ (c.lengthen.ensures.longer honest) _ _ _ _ _ s holds.rests (Grow c.args.blocks);
+      guarded = subst (λ (bits : List Bool). Throughout (g.D.Disk.state c.args.self.now.disk) (g.D.Disk.state c.lengthen.new.self.disk) (IsGuarded bits)) (sym c.lengthen.ensures.same.held) (longer_guarded _ _ (c.lengthen.ensures.longer honest) _ _ _ _ _ s holds.rests c.args.self.now.held (λ n held. held));
     }
 
 pub returns-clause-carried : goal.returns-clause-carried
@@ -46,8 +47,8 @@ returns-clause-carried g c honest s holds =
     let inside : c.args.blocks ≤ length new.contents = omega (arith, whole, c.in_ok-lengthen.ensures.all) in
     let still : (n : ℕ) → IsHeld c.args.self.now.held n → IsHeld c.in-Ok.held n = λ n held. subst (λ (bits : List Bool). IsHeld bits n) (sym c.in-Ok.ensures.blocks) (still_held c.args.self.now.held _ n held) in
     record {
-      answers = grow_is_accepted s c.args.blocks _ (good_size s.blocks c.args.blocks (omega (arith, c.if-blocks-self.false, holds.blocks)) (omega (arith, c.if-blocks-gt-MOST_BLOCKS.false))) (inr (inr refl));
-      state = λ fine. rests_renamed new c.args.blocks c.args.self.now.slot_b c.lengthen.new.self.slot_b c.in-Ok.held c.args.self.now.committed c.args.self.now.working c.lengthen.new.self.committed c.lengthen.new.self.working (record s { blocks = c.args.blocks }) same.slot_b same.committed same.working (rests_longer old new (c.lengthen.ensures.longer honest).longer c.args.self.now.blocks c.args.blocks c.args.self.now.slot_b c.args.self.now.held c.in-Ok.held c.args.self.now.committed c.args.self.now.working s holds still (omega (arith, c.if-blocks-self.false)) inside (omega (arith, c.if-blocks-gt-MOST_BLOCKS.false)));
-      crash = longer_crash _ _ (c.lengthen.ensures.longer honest) _ _ _ _ _ s holds (Grow c.args.blocks);
-      guarded = longer_guarded _ _ (c.lengthen.ensures.longer honest) _ _ _ _ _ s holds c.in-Ok.held still;
+      answers = grow_is_accepted s c.args.blocks _ (good_size s.blocks c.args.blocks (omega (arith, c.if-blocks-self.false, holds.rests.blocks)) (omega (arith, c.if-blocks-gt-MOST_BLOCKS.false))) (inr (inr refl));
+      state = λ fine. holds_alone (rests_renamed new c.args.blocks c.args.self.now.slot_b c.lengthen.new.self.slot_b c.in-Ok.held c.args.self.now.committed c.args.self.now.working c.lengthen.new.self.committed c.lengthen.new.self.working (record s { blocks = c.args.blocks }) same.slot_b same.committed same.working (rests_longer old new (c.lengthen.ensures.longer honest).longer c.args.self.now.blocks c.args.blocks c.args.self.now.slot_b c.args.self.now.held c.in-Ok.held c.args.self.now.committed c.args.self.now.working s holds.rests still (omega (arith, c.if-blocks-self.false)) inside (omega (arith, c.if-blocks-gt-MOST_BLOCKS.false))));
+      crash = longer_crash _ _ (c.lengthen.ensures.longer honest) _ _ _ _ _ s holds.rests (Grow c.args.blocks);
+      guarded = longer_guarded _ _ (c.lengthen.ensures.longer honest) _ _ _ _ _ s holds.rests c.in-Ok.held still;
     }

@@ -7,7 +7,8 @@ use Rattle.vm_store.proofs.CarryLemmas.{looked, stayed, wrote}
 use Rattle.vm_store.proofs.MergeSteps.{merges_refused, merges_full, merges_done, merges_deep, merge_step, merge_refusal, merge_is, merge_edits, merge_rests, current_is, planned, fault_of_changes, by_reason, by_either, made_of, meets_as}
 use Rattle.vm_store.proofs.PairLemmas.{lacking, own_there, parent_there}
 use Rattle.vm_store.proofs.Removing.{spare_after}
-use Rattle.vm_store.proofs.RestingLemmas.{read_rests, rests_more, rests_as}
+use Rattle.vm_store.proofs.RestingLemmas.{rests_more, rests_as}
+use Rattle.vm_store.proofs.SeriesLemmas.{holds_alone, read_holds}
 use Rattle.vm_store.specs.Faults.{refusal_of}
 use Rattle.vm_store.specs.Versions.{is_alternative_of, with_base}
 use Rattle.vm_types.specs.Firsts.{change_first}
@@ -16,14 +17,16 @@ use Rattle.vm_store.proofs.TopLemmas.{grown_of, grown_small}
 use Rattle.vm_store.proofs.store.Store.merge.Goals as goal
 
 pub returns-in-Err-clause-carried : goal.returns-in-Err-clause-carried
-returns-in-Err-clause-carried g c honest s rests =
+returns-in-Err-clause-carried g c honest s holds =
+    let rests = holds.rests in
     let alt = c.args.alt.now in
     let settled = c.args.settled.now in
     let lacks = c.in-Err.ensures.none in
-    stayed _ s rests (Merge c.args.alt.now c.args.settled.now) _ (merges_refused s _ _ alt settled c.in-Err.refusal (lacking _ _ _ _ _ _ s rests alt _ c.in-Err.refusal lacks))
+    stayed _ s holds (Merge c.args.alt.now c.args.settled.now) _ (merges_refused s _ _ alt settled c.in-Err.refusal (lacking _ _ _ _ _ _ s rests alt _ c.in-Err.refusal lacks))
 
 pub returns-in-Err-changes_of_merge-clause-carried : goal.returns-in-Err-changes_of_merge-clause-carried
-returns-in-Err-changes_of_merge-clause-carried g c honest s rests =
+returns-in-Err-changes_of_merge-clause-carried g c honest s holds =
+    let rests = holds.rests in
     let alt = c.args.alt.now in
     let settled = c.args.settled.now in
     let is = c.in-Ok.ensures.found in
@@ -31,12 +34,13 @@ returns-in-Err-changes_of_merge-clause-carried g c honest s rests =
     let parent = parent_there _ _ _ _ _ _ s rests alt c.in-Ok.pair is in
     let plan = c.in-Err-changes_of_merge.ensures.changes honest _ _ _ _ _ _ own.stands.base.rooted parent.stands.current.rooted own.stands.current.rooted in
     let read = c.in-Err-changes_of_merge.ensures.reads honest in
-    let rests' = read_rests _ _ _ _ _ _ _ s read rests in
-    looked _ _ s rests (Merge c.args.alt.now c.args.settled.now) _ (by_reason _ _ _ plan (λ device. inl (ap Err device)) (λ memory. inr (inl (ap Err memory))) (λ refused. merges_refused s _ _ alt settled _ (merge_refusal _ _ _ _ _ _ s rests alt c.in-Ok.pair is settled _ refused)))
-    (read) rests' (λ _. rests')
+    let holds' = read_holds _ _ _ _ _ _ _ _ _ s read holds in
+    looked _ _ s holds (Merge c.args.alt.now c.args.settled.now) _ (by_reason _ _ _ plan (λ device. inl (ap Err device)) (λ memory. inr (inl (ap Err memory))) (λ refused. merges_refused s _ _ alt settled _ (merge_refusal _ _ _ _ _ _ s rests alt c.in-Ok.pair is settled _ refused)))
+    read holds'.rests (λ _. holds')
 
 pub returns-in-Ok-false-clause-carried : goal.returns-in-Ok-false-clause-carried
-returns-in-Ok-false-clause-carried g c honest s rests =
+returns-in-Ok-false-clause-carried g c honest s holds =
+    let rests = holds.rests in
     let alt = c.args.alt.now in
     let settled = c.args.settled.now in
     let is = c.in-Ok.ensures.found in
@@ -46,22 +50,27 @@ returns-in-Ok-false-clause-carried g c honest s rests =
     let count = c.len.ensures ∙ ap (λ (cs : List Change). length cs) plan.1 in
     let many = merge_edits _ _ _ _ _ _ s rests alt c.in-Ok.pair is settled plan.0 ∙ sym count in
     let read = c.in-Ok-changes_of_merge.ensures.reads (c.has_spare.ensures.any.earlier honest) in
-    let rests' = c.has_spare.ensures.state honest s (read_rests _ _ _ _ _ _ _ s read rests) in
-    looked _ _ s rests (Merge c.args.alt.now c.args.settled.now) _ (merges_full s _ _ alt settled _ (merge_step _ _ _ _ _ _ s rests alt c.in-Ok.pair is settled plan.0) c.len.result many
-    (full_for _ _ _ (spare_after _ _ _ _ _ _ _ s _ _ (c.in-Ok-changes_of_merge.ensures.reads (c.in-Ok-false.ensures.any.earlier honest)) (c.in-Ok-false.ensures.spare honest) rests) c.in-Ok-false.field-0-test))
-    (reads_then _ _ _ read (c.has_spare.ensures.reads honest)) rests' (λ _. rests')
+    let holds' = c.has_spare.ensures.state honest s (read_holds _ _ _ _ _ _ _ _ _ s read holds) in
+    let rests' = holds'.rests in
+    looked _ _ s holds (Merge c.args.alt.now c.args.settled.now) _ (merges_full s _ _ alt settled _ (merge_step _ _ _ _ _ _ s rests alt c.in-Ok.pair is settled plan.0) c.len.result many
+    (full_for _ _ _ (spare_after _ _ _ _ _ _ _ _ _ s _ _ (c.in-Ok-changes_of_merge.ensures.reads (c.in-Ok-false.ensures.any.earlier honest)) (c.in-Ok-false.ensures.spare honest) holds) c.in-Ok-false.field-0-test))
+    (reads_then _ _ _ read (c.has_spare.ensures.reads honest)) rests' (λ _. holds')
 
 pub returns-in-Err-has_spare-clause-carried : goal.returns-in-Err-has_spare-clause-carried
-returns-in-Err-has_spare-clause-carried g c honest s rests =
+returns-in-Err-has_spare-clause-carried g c honest s holds =
+    let rests = holds.rests in
     let read = c.in-Ok-changes_of_merge.ensures.reads (c.has_spare.ensures.any.earlier honest) in
-    let rests' = c.has_spare.ensures.state honest s (read_rests _ _ _ _ _ _ _ s read rests) in
-    looked _ _ s rests (Merge c.args.alt.now c.args.settled.now) _ (inl (ap Err (c.in-Err-has_spare.ensures.only honest s (read_rests _ _ _ _ _ _ _ s (c.in-Ok-changes_of_merge.ensures.reads (c.in-Err-has_spare.ensures.any.earlier honest)) rests))))
-    (reads_then _ _ _ read (c.has_spare.ensures.reads honest)) rests' (λ _. rests')
+    let holds' = c.has_spare.ensures.state honest s (read_holds _ _ _ _ _ _ _ _ _ s read holds) in
+    let rests' = holds'.rests in
+    looked _ _ s holds (Merge c.args.alt.now c.args.settled.now) _ (inl (ap Err (c.in-Err-has_spare.ensures.only honest s (read_holds _ _ _ _ _ _ _ _ _ s (c.in-Ok-changes_of_merge.ensures.reads (c.in-Err-has_spare.ensures.any.earlier honest)) holds))))
+    (reads_then _ _ _ read (c.has_spare.ensures.reads honest)) rests' (λ _. holds')
 
 pub returns-in-Ok-make_changes-clause-carried : goal.returns-in-Ok-make_changes-clause-carried
-returns-in-Ok-make_changes-clause-carried g c honest s rests =
+returns-in-Ok-make_changes-clause-carried g c honest s holds =
+    let rests = holds.rests in
     let read = c.in-Ok-changes_of_merge.ensures.reads (c.has_spare.ensures.any.earlier (c.in-Ok-make_changes.ensures.any.earlier honest)) in
-    let rests' = c.has_spare.ensures.state (c.in-Ok-make_changes.ensures.any.earlier honest) s (read_rests _ _ _ _ _ _ _ s read rests) in
+    let holds' = c.has_spare.ensures.state (c.in-Ok-make_changes.ensures.any.earlier honest) s (read_holds _ _ _ _ _ _ _ _ _ s read holds) in
+    let rests' = holds'.rests in
     let alt = c.args.alt.now in
     let settled = c.args.settled.now in
     let is = c.in-Ok.ensures.found in
@@ -70,7 +79,7 @@ returns-in-Ok-make_changes-clause-carried g c honest s rests =
     let plan = c.in-Ok-changes_of_merge.ensures.changes (c.in-Ok-true.ensures.any.earlier (c.in-Ok-make_changes.ensures.any.earlier honest)) _ _ _ _ _ _ own.stands.base.rooted parent.stands.current.rooted own.stands.current.rooted in
     let count = c.len.ensures ∙ ap (λ (cs : List Change). length cs) plan.1 in
     let many = merge_edits _ _ _ _ _ _ s rests alt c.in-Ok.pair is settled plan.0 ∙ sym count in
-    let room = room_for _ _ _ (spare_after _ _ _ _ _ _ _ s _ _ (c.in-Ok-changes_of_merge.ensures.reads (c.in-Ok-true.ensures.any.earlier (c.in-Ok-make_changes.ensures.any.earlier honest))) (c.in-Ok-true.ensures.spare (c.in-Ok-make_changes.ensures.any.earlier honest)) rests) c.in-Ok-true.field-0-test in
+    let room = room_for _ _ _ (spare_after _ _ _ _ _ _ _ _ _ s _ _ (c.in-Ok-changes_of_merge.ensures.reads (c.in-Ok-true.ensures.any.earlier (c.in-Ok-make_changes.ensures.any.earlier honest))) (c.in-Ok-true.ensures.spare (c.in-Ok-make_changes.ensures.any.earlier honest)) holds) c.in-Ok-true.field-0-test in
     let same = c.len-in-Ok-make_changes.ensures ∙ ap (λ (cs : List Change). length cs) plan.1 in
     let mid = c.has_spare.new.self in
     let is' = subst (λ p. IsPair p.1 alt c.in-Ok.pair) (sym c.has_spare.ensures.same) is in
@@ -79,16 +88,18 @@ returns-in-Ok-make_changes-clause-carried g c honest s rests =
     let made = c.in-Ok-make_changes.ensures.changed honest _ (grown_of _ _ _ _ c.in-Ok.pair.0.current _ (sym mid.bits) own'.stands.current) in
     let grown = made_of _ _ _ _ _ _ s rests' alt c.in-Ok.pair is' settled _ _ _ c.in-Ok-make_changes.root _ plan'.1 (grown_of _ _ _ _ c.in-Ok-make_changes.root _ mid.bits made) in
     let both = c.set_base.ensures ∙ ap (change_first (is_alternative_of alt) (with_base c.in-Ok.pair.1.current)) c.set_current.ensures in
-    wrote _ _ s rests (Merge c.args.alt.now c.args.settled.now) _ (rw (same) (merges_done s _ _ alt settled _ (merge_step _ _ _ _ _ _ s rests alt c.in-Ok.pair is settled plan.0) c.len.result many room))
+    wrote _ _ s holds (Merge c.args.alt.now c.args.settled.now) _ (rw (same) (merges_done s _ _ alt settled _ (merge_step _ _ _ _ _ _ s rests alt c.in-Ok.pair is settled plan.0) c.len.result many room))
     _ (reads_then _ _ _ read (c.has_spare.ensures.reads (c.in-Ok-make_changes.ensures.any.earlier honest))) rests' (c.in-Ok-make_changes.ensures.moments honest) c.in-Ok-make_changes.ensures.still
-    (λ _. rests_as _ _ _ _ _ _ _ _ (sym both)
+    (λ _. holds_alone (rests_as _ _ _ _ _ _ _ _ (sym both)
     (merge_rests _ _ _ _ _ _ s rests' alt c.in-Ok.pair is' settled plan'.0 _ c.make_changes.new.held c.in-Ok-make_changes.root (grown_small _ _ _ _ _ mid.most grown)
-    (at_end _ _ _ (c.in-Ok-make_changes.ensures.moments honest)) c.in-Ok-make_changes.ensures.still grown))
+    (at_end _ _ _ (c.in-Ok-make_changes.ensures.moments honest)) c.in-Ok-make_changes.ensures.still grown)))
 
 pub returns-clause-carried : goal.returns-clause-carried
-returns-clause-carried g c honest s rests =
+returns-clause-carried g c honest s holds =
+    let rests = holds.rests in
     let read = c.in-Ok-changes_of_merge.ensures.reads (c.has_spare.ensures.any.earlier (c.in-Err-make_changes.ensures.any.earlier honest)) in
-    let rests' = c.has_spare.ensures.state (c.in-Err-make_changes.ensures.any.earlier honest) s (read_rests _ _ _ _ _ _ _ s read rests) in
+    let holds' = c.has_spare.ensures.state (c.in-Err-make_changes.ensures.any.earlier honest) s (read_holds _ _ _ _ _ _ _ _ _ s read holds) in
+    let rests' = holds'.rests in
     let alt = c.args.alt.now in
     let settled = c.args.settled.now in
     let is = c.in-Ok.ensures.found in
@@ -101,12 +112,12 @@ returns-clause-carried g c honest s rests =
     let is' = subst (λ p. IsPair p.1 alt c.in-Ok.pair) (sym c.has_spare.ensures.same) is in
     let plan' = planned _ _ _ _ _ _ s rests _ _ _ _ _ _ rests' alt c.in-Ok.pair is is' settled _ plan in
     let own' = own_there _ _ _ _ _ _ s rests' alt c.in-Ok.pair is' in
-    let room = room_for _ _ _ (spare_after _ _ _ _ _ _ _ s _ _ (c.in-Ok-changes_of_merge.ensures.reads (c.has_spare.ensures.any.earlier (c.in-Err-make_changes.ensures.any.earlier honest))) (c.in-Ok-true.ensures.spare (c.in-Err-make_changes.ensures.any.earlier honest)) rests) c.in-Ok-true.field-0-test in
+    let room = room_for _ _ _ (spare_after _ _ _ _ _ _ _ _ _ s _ _ (c.in-Ok-changes_of_merge.ensures.reads (c.has_spare.ensures.any.earlier (c.in-Err-make_changes.ensures.any.earlier honest))) (c.in-Ok-true.ensures.spare (c.in-Err-make_changes.ensures.any.earlier honest)) holds) c.in-Ok-true.field-0-test in
     let made = c.in-Err-make_changes.ensures.changed honest _ (grown_of _ _ _ _ c.in-Ok.pair.0.current _ (sym mid.bits) own'.stands.current) in
-    wrote _ _ s rests (Merge c.args.alt.now c.args.settled.now) _ (by_either _ _ _ (fault_of_changes c.in-Err-make_changes.fault _ _ made)
+    wrote _ _ s holds (Merge c.args.alt.now c.args.settled.now) _ (by_either _ _ _ (fault_of_changes c.in-Err-make_changes.fault _ _ made)
     (λ device. inl (ap Err (c.refusal_of.ensures ∙ ap refusal_of device)))
     (λ deep. merges_deep s _ _ alt settled _ (merge_step _ _ _ _ _ _ s rests alt c.in-Ok.pair is settled plan.0) c.len.result many _ (c.refusal_of.ensures ∙ ap refusal_of deep.0) room
     (meets_as _ _ _ _ _ _ _ mid.bits (sym (current_is _ _ _ _ _ _ s rests' alt c.in-Ok.pair is' settled plan'.0))
     (plan'.1 ∙ sym (merge_is _ _ _ _ _ _ s rests' alt c.in-Ok.pair is' settled plan'.0)) deep.1)))
     _ (reads_then _ _ _ read (c.has_spare.ensures.reads (c.in-Err-make_changes.ensures.any.earlier honest))) rests' (c.in-Err-make_changes.ensures.moments honest) c.in-Err-make_changes.ensures.still
-    (λ _. rests_more _ _ _ _ _ _ s rests' _ _ (at_end _ _ _ (c.in-Err-make_changes.ensures.moments honest)) c.in-Err-make_changes.ensures.still)
+    (λ _. holds_alone (rests_more _ _ _ _ _ _ s rests' _ _ (at_end _ _ _ (c.in-Err-make_changes.ensures.moments honest)) c.in-Err-make_changes.ensures.still))

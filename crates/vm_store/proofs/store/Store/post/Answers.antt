@@ -10,38 +10,43 @@ use Rattle.vm_store.proofs.PairLemmas.{lacking, own_there, parent_there, post_st
 use Rattle.vm_store.proofs.RestingLemmas.{read_rests, rests_as}
 use Rattle.vm_store.proofs.SidesLemmas.{rooted_map}
 use Rattle.vm_store.proofs.VersionLemmas.{answers_refused, answers_done}
+use Rattle.vm_store.proofs.SeriesLemmas.{holds_alone, read_holds}
 use Rattle.vm_store.proofs.store.Store.post.Goals as goal
 
 pub returns-in-Err-clause-carried : goal.returns-in-Err-clause-carried
-returns-in-Err-clause-carried g c honest s rests =
+returns-in-Err-clause-carried g c honest s holds =
+    let rests = holds.rests in
     let lacks = c.in-Err.ensures.none in
-    stayed _ s rests (Post c.args.alt.now) _ (answers_refused s (spare_of rests) ⊥ (Post c.args.alt.now) c.in-Err.refusal (lacking _ _ _ _ _ _ s rests c.args.alt.now _ c.in-Err.refusal lacks))
+    stayed _ s holds (Post c.args.alt.now) _ (answers_refused s (spare_of rests) ⊥ (Post c.args.alt.now) c.in-Err.refusal (lacking _ _ _ _ _ _ s rests c.args.alt.now _ c.in-Err.refusal lacks))
 
 pub returns-in-Ok-false-clause-carried : goal.returns-in-Ok-false-clause-carried
-returns-in-Ok-false-clause-carried g c honest s rests =
+returns-in-Ok-false-clause-carried g c honest s holds =
+    let rests = holds.rests in
     let alt = c.args.alt.now in
     let is = c.in-Ok.ensures.found in
     let own = own_there _ _ _ _ _ _ s rests alt c.in-Ok.pair is in
     let parent = parent_there _ _ _ _ _ _ s rests alt c.in-Ok.pair is in
     let told = c.in-Ok-false.ensures.equal honest sizes _ _ _ _ own.stands.base.rooted parent.stands.current.rooted in
     let read = c.in-Ok-false.ensures.looks.reads honest in
-    let rests' = read_rests _ _ _ _ _ _ _ s read rests in
-    looked _ _ s rests (Post c.args.alt.now) _ (answers_refused s (spare_of rests) ⊥ (Post alt) _ (post_refused _ _ _ _ _ _ s rests alt c.in-Ok.pair is (told_other _ _ _ told c.in-Ok-false.field-0-test)))
-    (read) rests' (λ _. rests')
+    let holds' = read_holds _ _ _ _ _ _ _ _ _ s read holds in
+    looked _ _ s holds (Post c.args.alt.now) _ (answers_refused s (spare_of rests) ⊥ (Post alt) _ (post_refused _ _ _ _ _ _ s rests alt c.in-Ok.pair is (told_other _ _ _ told c.in-Ok-false.field-0-test)))
+    read holds'.rests (λ _. holds')
 
 pub returns-in-Err-same-clause-carried : goal.returns-in-Err-same-clause-carried
-returns-in-Err-same-clause-carried g c honest s rests =
+returns-in-Err-same-clause-carried g c honest s holds =
+    let rests = holds.rests in
     let alt = c.args.alt.now in
     let is = c.in-Ok.ensures.found in
     let own = own_there _ _ _ _ _ _ s rests alt c.in-Ok.pair is in
     let parent = parent_there _ _ _ _ _ _ s rests alt c.in-Ok.pair is in
     let read = c.in-Err-same.ensures.looks.reads honest in
-    let rests' = read_rests _ _ _ _ _ _ _ s read rests in
-    looked _ _ s rests (Post c.args.alt.now) _ (inl (ap Err (c.refusal_of.ensures ∙ ap refusal_of (c.in-Err-same.ensures.equal honest sizes _ _ _ _ own.stands.base.rooted parent.stands.current.rooted))))
-    (read) rests' (λ _. rests')
+    let holds' = read_holds _ _ _ _ _ _ _ _ _ s read holds in
+    looked _ _ s holds (Post c.args.alt.now) _ (inl (ap Err (c.refusal_of.ensures ∙ ap refusal_of (c.in-Err-same.ensures.equal honest sizes _ _ _ _ own.stands.base.rooted parent.stands.current.rooted))))
+    read holds'.rests (λ _. holds')
 
 pub returns-clause-carried : goal.returns-clause-carried
-returns-clause-carried g c honest s rests =
+returns-clause-carried g c honest s holds =
+    let rests = holds.rests in
     let read = c.in-Ok-true.ensures.looks.reads honest in
     let alt = c.args.alt.now in
     let is = c.in-Ok.ensures.found in
@@ -50,7 +55,7 @@ returns-clause-carried g c honest s rests =
     let told = c.in-Ok-true.ensures.equal honest sizes _ _ _ _ own.stands.base.rooted parent.stands.current.rooted in
     let same = told_equal _ _ _ (rooted_map _ _ _ _ _ own.stands.base.rooted) (rooted_map _ _ _ _ _ parent.stands.current.rooted) told c.in-Ok-true.field-0-test in
     let both = c.set_base.ensures ∙ ap (change_first (is_alternative_of alt) (with_base c.in-Ok.pair.0.current)) c.set_current.ensures in
-    looked _ _ s rests (Post c.args.alt.now) _ (answers_done s (spare_of rests) ⊥ (Post alt) _ refl (λ never. never) (post_step _ _ _ _ _ _ s rests alt c.in-Ok.pair is same))
+    looked _ _ s holds (Post c.args.alt.now) _ (answers_done s (spare_of rests) ⊥ (Post alt) _ refl (λ never. never) (post_step _ _ _ _ _ _ s rests alt c.in-Ok.pair is same))
     read (read_rests _ _ _ _ _ _ _ s read rests)
-    (λ _. read_rests _ _ _ _ _ _ _ _ (c.in-Ok-true.ensures.looks.reads honest)
-    (rests_as _ _ _ _ _ _ _ _ (sym both) (post_rests _ _ _ _ _ _ s rests alt c.in-Ok.pair is same)))
+    (λ _. holds_alone (read_rests _ _ _ _ _ _ _ _ (c.in-Ok-true.ensures.looks.reads honest)
+    (rests_as _ _ _ _ _ _ _ _ (sym both) (post_rests _ _ _ _ _ _ s rests alt c.in-Ok.pair is same))))

@@ -1,4 +1,4 @@
-use Rattle.std.proofs.Common.{find, Err, inl, subst, sym, ap, ◌∙◌, arith}
+use Rattle.std.proofs.Common.{find, Err, inl, refl, subst, sym, ap, ◌∙◌, arith}
 use Rattle.vm_types.specs.Tree.{current_of}
 use Rattle.vm_types.specs.declared.command.Command.TheVariants.{Put}
 use Rattle.vm_disk.specs.Disk.{Medium}
@@ -6,62 +6,72 @@ use Rattle.vm_disk.proofs.MomentLemmas.{at_end, same_medium}
 use Rattle.vm_store.specs.Answers.{LacksRoom}
 use Rattle.vm_store.specs.Store.{root_of}
 use Rattle.vm_store.specs.Versions.{is_alternative_of}
-use Rattle.vm_store.proofs.CarryLemmas.{looked, stayed, wrote}
+use Rattle.vm_store.proofs.CarryLemmas.{changed, looked, stayed}
 use Rattle.vm_store.proofs.SpareTests.{room_for, full_for}
 use Rattle.vm_store.proofs.TopLemmas.{rooted_of, grown_of, lacks_under, lacks_over}
-use Rattle.vm_store.proofs.RestingLemmas.{found_entry, put_rests, rests_more, rests_as, answers_absent, answers_full, answers_done, answers_fault, deep_here, here_deep}
+use Rattle.vm_store.proofs.RestingLemmas.{found_entry, answers_absent, answers_full, answers_done, answers_fault, deep_here, here_deep}
+use Rattle.vm_store.proofs.SeriesLemmas.{gone_on, holds_as, holds_more, put_holds}
 use Rattle.vm_store.proofs.store.Store.put.Goals as goal
 
 pub returns-in_default-clause-carried : goal.returns-in_default-clause-carried
-returns-in_default-clause-carried g c honest s rests =
-    stayed _ s rests (Put c.args.alt.now c.args.key c.args.value.now) _ (answers_absent _ _ _ _ _ _ s rests c.args.alt.now c.args.key c.args.value.now _ _ (sym c.in_default.ensures))
+returns-in_default-clause-carried g c honest s holds =
+    stayed _ s holds (Put c.args.alt.now c.args.key c.args.value.now) _ (answers_absent _ _ _ _ _ _ s holds.rests c.args.alt.now c.args.key c.args.value.now _ _ (sym c.in_default.ensures))
 
 pub returns-in-Ok-false-clause-carried : goal.returns-in-Ok-false-clause-carried
-returns-in-Ok-false-clause-carried g c honest s rests =
-    let rests' = c.has_spare.ensures.state honest s rests in
-    looked _ _ s rests (Put c.args.alt.now c.args.key c.args.value.now) _ (answers_full _ _ _ _ _ _ s rests c.args.alt.now c.args.key c.args.value.now _ (sym c.in-Some.ensures) _ _ (full_for _ _ _ (c.in-Ok-false.ensures.spare honest s rests) c.in-Ok-false.field-0-test))
-    (c.has_spare.ensures.reads honest) rests' (λ _. rests')
+returns-in-Ok-false-clause-carried g c honest s holds =
+    let holds' = c.has_spare.ensures.state honest s holds in
+    looked _ _ s holds (Put c.args.alt.now c.args.key c.args.value.now) _ (answers_full _ _ _ _ _ _ s holds.rests c.args.alt.now c.args.key c.args.value.now _ (sym c.in-Some.ensures) _ _ (full_for _ _ _ (c.in-Ok-false.ensures.spare honest s holds) c.in-Ok-false.field-0-test))
+    (c.has_spare.ensures.reads honest) holds'.rests (λ _. holds')
 
 pub returns-in-Err-clause-carried : goal.returns-in-Err-clause-carried
-returns-in-Err-clause-carried g c honest s rests =
-    let rests' = c.has_spare.ensures.state honest s rests in
-    looked _ _ s rests (Put c.args.alt.now c.args.key c.args.value.now) _ (inl (ap Err (c.in-Err.ensures.only honest s rests)))
-    (c.has_spare.ensures.reads honest) rests' (λ _. rests')
+returns-in-Err-clause-carried g c honest s holds =
+    let holds' = c.has_spare.ensures.state honest s holds in
+    looked _ _ s holds (Put c.args.alt.now c.args.key c.args.value.now) _ (inl (ap Err (c.in-Err.ensures.only honest s holds)))
+    (c.has_spare.ensures.reads honest) holds'.rests (λ _. holds')
 
 pub returns-in-Ok-clause-carried : goal.returns-in-Ok-clause-carried
-returns-in-Ok-clause-carried g c honest s rests =
-    let rests' = c.has_spare.ensures.state (c.in-Ok.ensures.writes.goes.earlier honest) s rests in
+returns-in-Ok-clause-carried g c honest s holds =
+    let rests = holds.rests in
+    let marked = c.in-Ok.ensures.any.earlier honest in
+    let holds' = c.has_spare.ensures.state marked s holds in
+    let rests' = holds'.rests in
     let mid = c.has_spare.new.self in
-    let read = same_medium _ _ (c.has_spare.ensures.reads (c.in-Ok.ensures.writes.goes.earlier honest)) in
+    let read = same_medium _ _ (c.has_spare.ensures.reads marked) in
     let e = c.in-Some.version in
     let is = ap (λ p. find (is_alternative_of c.args.alt.now) p.1) c.has_spare.ensures.same ∙ sym c.in-Some.ensures in
     let found = found_entry _ _ _ _ _ _ s rests' c.args.alt.now e is in
     let current = found.stands.current in
     let put = c.in-Ok.ensures.put honest found.filed.current current.stands_in (rooted_of _ _ _ e.current _ _ mid.bits current.rooted) in
     let grown = grown_of _ _ _ _ c.in-Ok.root _ mid.bits (put.0 current.each) in
-    wrote _ _ s rests (Put c.args.alt.now c.args.key c.args.value.now) _ (answers_done _ _ _ _ _ _ s rests c.args.alt.now c.args.key c.args.value.now _ (sym c.in-Some.ensures) _ _ (room_for _ _ _ (c.in-Ok-true.ensures.spare (c.in-Ok.ensures.writes.goes.earlier honest) s rests) c.in-Ok-true.field-0-test)
+    let series = gone_on _ _ _ _ _ _ _ s c.args.alt.now mid.marks mid.series c.go_on.ensures.before holds' in
+    changed _ _ s holds (Put c.args.alt.now c.args.key c.args.value.now) _ (answers_done _ _ _ _ _ _ s rests c.args.alt.now c.args.key c.args.value.now _ (sym c.in-Some.ensures) _ _ (room_for _ _ _ (c.in-Ok-true.ensures.spare marked s holds) c.in-Ok-true.field-0-test)
     (λ deep. put.1 (lacks_over _ e.current _ _ (deep_here _ _ _ _ _ _ s rests' c.args.alt.now c.args.key c.args.value.now e is (g.D.Disk.state mid.disk).now.contents
     (subst (λ (m : Medium). LacksRoom m.contents (root_of mid c.args.alt.now) (current_of s.working c.args.alt.now) c.args.key) (sym read)
     (subst (λ f. LacksRoom (g.D.Disk.state c.args.self.now.disk).now.contents (f c.args.alt.now) (current_of s.working c.args.alt.now) c.args.key) (sym c.has_spare.ensures.roots) deep))))))
-    _ (c.has_spare.ensures.reads (c.in-Ok.ensures.writes.goes.earlier honest)) rests' (c.in-Ok.ensures.writes.moments honest) c.in-Ok.ensures.writes.still
-    (λ _. rests_as _ _ _ _ _ _ _ _ (sym c.set_current.ensures)
-    (put_rests _ _ _ _ _ _ s rests' c.args.alt.now e is c.args.key c.args.value.now _ c.put.new.held c.in-Ok.root (omega (arith, c.in-Ok.ensures.root.0.inside, c.in-Ok.ensures.writes.still.same_length, mid.bits, mid.most))
-    (at_end _ _ _ (c.in-Ok.ensures.writes.moments honest)) c.in-Ok.ensures.writes.still grown))
+    _ (c.has_spare.ensures.reads marked) series (c.in-Ok.ensures.moments honest series.wider) c.in-Ok.ensures.still
+    (λ _. holds_as c.go_on.ensures.series c.set_current.ensures
+    (put_holds _ _ _ _ _ _ _ s rests' c.args.alt.now e is series _ c.put_forgetting.new.held c.in-Ok.root (omega (arith, c.in-Ok.ensures.block, c.in-Ok.ensures.still.same_length, mid.bits, mid.most))
+    (at_end _ _ _ (c.in-Ok.ensures.moments honest series.wider)) c.in-Ok.ensures.still c.args.key c.args.value.now grown))
 
-pub returns-in-Err-put-clause-carried : goal.returns-in-Err-put-clause-carried
-returns-in-Err-put-clause-carried g c honest s rests =
-    let rests' = c.has_spare.ensures.state (c.in-Err-put.ensures.writes.goes.earlier honest) s rests in
+pub returns-in-Err-put_forgetting-clause-carried : goal.returns-in-Err-put_forgetting-clause-carried
+returns-in-Err-put_forgetting-clause-carried g c honest s holds =
+    let rests = holds.rests in
+    let marked = c.in-Err-put_forgetting.ensures.any.earlier honest in
+    let holds' = c.has_spare.ensures.state marked s holds in
+    let rests' = holds'.rests in
     let mid = c.has_spare.new.self in
-    let read = same_medium _ _ (c.has_spare.ensures.reads (c.in-Err-put.ensures.writes.goes.earlier honest)) in
+    let read = same_medium _ _ (c.has_spare.ensures.reads marked) in
     let e = c.in-Some.version in
     let is = ap (λ p. find (is_alternative_of c.args.alt.now) p.1) c.has_spare.ensures.same ∙ sym c.in-Some.ensures in
     let found = found_entry _ _ _ _ _ _ s rests' c.args.alt.now e is in
     let current = found.stands.current in
-    let put = c.in-Err-put.ensures.put honest found.filed.current current.stands_in (rooted_of _ _ _ e.current _ _ mid.bits current.rooted) in
-    wrote _ _ s rests (Put c.args.alt.now c.args.key c.args.value.now) _ (answers_fault _ _ _ _ _ _ s rests c.args.alt.now c.args.key c.args.value.now _ (sym c.in-Some.ensures) _ _ _ c.in-Err-put.fault c.refusal_of.result _ (room_for _ _ _ (c.in-Ok-true.ensures.spare (c.in-Err-put.ensures.writes.goes.earlier honest) s rests) c.in-Ok-true.field-0-test)
+    let put = c.in-Err-put_forgetting.ensures.put honest found.filed.current current.stands_in (rooted_of _ _ _ e.current _ _ mid.bits current.rooted) in
+    let series = gone_on _ _ _ _ _ _ _ s c.args.alt.now mid.marks mid.series c.go_on.ensures.before holds' in
+    changed _ _ s holds (Put c.args.alt.now c.args.key c.args.value.now) _ (answers_fault _ _ _ _ _ _ s rests c.args.alt.now c.args.key c.args.value.now _ (sym c.in-Some.ensures) _ _ _ c.in-Err-put_forgetting.fault c.refusal_of.result _ (room_for _ _ _ (c.in-Ok-true.ensures.spare marked s holds) c.in-Ok-true.field-0-test)
     (λ here. subst (λ f. LacksRoom (g.D.Disk.state c.args.self.now.disk).now.contents (f c.args.alt.now) (current_of s.working c.args.alt.now) c.args.key) c.has_spare.ensures.roots
     (subst (λ (m : Medium). LacksRoom m.contents (root_of mid c.args.alt.now) (current_of s.working c.args.alt.now) c.args.key) read
     (here_deep _ _ _ _ _ _ s rests' c.args.alt.now c.args.key c.args.value.now e is (g.D.Disk.state mid.disk).now.contents (lacks_under _ e.current _ _ here))))
     c.refusal_of.ensures put)
-    _ (c.has_spare.ensures.reads (c.in-Err-put.ensures.writes.goes.earlier honest)) rests' (c.in-Err-put.ensures.writes.moments honest) c.in-Err-put.ensures.writes.still
-    (λ _. rests_more _ _ _ _ _ _ s (c.has_spare.ensures.state (c.in-Err-put.ensures.writes.goes.earlier honest) s rests) _ _ (at_end _ _ _ (c.in-Err-put.ensures.writes.moments honest)) c.in-Err-put.ensures.writes.still)
+    _ (c.has_spare.ensures.reads marked) series (c.in-Err-put_forgetting.ensures.moments honest series.wider) c.in-Err-put_forgetting.ensures.still
+    (λ _. holds_as c.go_on.ensures.series refl
+    (holds_more _ _ _ _ _ _ _ s _ _ _ (at_end _ _ _ (c.in-Err-put_forgetting.ensures.failed honest)) c.in-Err-put_forgetting.ensures.still (record { rests = rests'; series_kept = series })))

@@ -7,9 +7,9 @@ use Rattle.vm_store.proofs.store.Store.reclaim.Goals as goal
 pub returns-in-Ok-clause-carried : goal.returns-in-Ok-clause-carried
 returns-in-Ok-clause-carried g c honest s holds =
     let holds' = c.mark_all.ensures.state honest s holds in
-    looked _ _ s holds Reclaim _ (answers_reclaim s _ _ refl tt) (c.mark_all.ensures.reads honest) holds' (λ _. holds')
+    looked _ _ s holds Reclaim _ (answers_reclaim s _ _ refl tt) (c.mark_all.ensures.reads honest) holds'.rests (λ _. holds')
 
 pub returns-in-Err-clause-carried : goal.returns-in-Err-clause-carried
 returns-in-Err-clause-carried g c honest s holds =
     let holds' = c.mark_all.ensures.state honest s holds in
-    looked _ _ s holds Reclaim _ (answers_reclaim s _ _ tt (c.in-Err.ensures.only honest s holds)) (c.mark_all.ensures.reads honest) holds' (λ _. holds')
+    looked _ _ s holds Reclaim _ (answers_reclaim s _ _ tt (c.in-Err.ensures.only honest s holds)) (c.mark_all.ensures.reads honest) holds'.rests (λ _. holds')

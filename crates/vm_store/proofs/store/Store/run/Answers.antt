@@ -32,15 +32,15 @@ loop-command-preserved g c =
       never = All-push (λ answer. answer ≢ Err Failed) c.loop-command.answers.items c.apply-answer.result before.never (e.only_then before.sound);
       many = grind (arith, common_steps);
       room = grind (arith, common_steps);
-      run = λ honest s rests. ran_more old (g.D.Disk.state (disk_of c.loop-command.self)) (g.D.Disk.state (disk_of c.apply-answer.new.self)) s _ _ c.command-item.result c.apply-answer.result (before.run (e.any.earlier honest) s rests) (e.crash honest before.sound _ (before.holds (e.any.earlier honest) s rests));
-      holds = λ honest s rests.
+      run = λ honest s holds. ran_more old (g.D.Disk.state (disk_of c.loop-command.self)) (g.D.Disk.state (disk_of c.apply-answer.new.self)) s _ _ c.command-item.result c.apply-answer.result (before.run (e.any.earlier honest) s holds) (e.crash honest before.sound _ (before.holds (e.any.earlier honest) s holds));
+      holds = λ honest s holds.
           let ok : c.apply-answer.result ≡ Err Device → ⊥ = λ is. let yes = c.is_device-failed.ensures.1 is in cc (yes, c.if-failed.false) in
-          subst (λ (t : State). Holds c.apply-answer.new.self t) (sym (after_more s _ _ c.command-item.result c.apply-answer.result (before.run (e.any.earlier honest) s rests).last.same)) (e.state honest before.sound ok _ (before.holds (e.any.earlier honest) s rests));
-      guarded = λ honest s rests. guarded_more first mid new s _ _ command c.apply-answer.result (before.run (e.any.earlier honest) s rests).last.same (before.told s)
-          (carried_out mid new _ command c.apply-answer.result (λ honest. e.answer honest before.sound _) e.any e.as_long e.untouched (e.failed before.sound) (e.only_then before.sound) e.memory e.same e.unchanged e.blocks (λ honest rests fine. e.state honest before.sound fine _ rests) (λ honest rests. e.crash honest before.sound _ rests) (λ honest rests. e.guarded honest before.sound _ rests) (λ honest is. e.reclaimed honest before.sound is _) (λ blocks is. e.grown before.sound blocks is _)) honest (before.holds (e.any.earlier honest) s rests)
-          (before.guarded (e.any.earlier honest) s rests);
+          subst (λ (t : State). Holds c.apply-answer.new.self t) (sym (after_more s _ _ c.command-item.result c.apply-answer.result (before.run (e.any.earlier honest) s holds).last.same)) (e.state honest before.sound ok _ (before.holds (e.any.earlier honest) s holds));
+      guarded = λ honest s holds. guarded_more first mid new s _ _ command c.apply-answer.result (before.run (e.any.earlier honest) s holds).last.same (before.told s)
+          (carried_out mid new _ command c.apply-answer.result (λ honest. e.answer honest before.sound _) e.any e.as_long e.untouched (e.failed before.sound) (e.only_then before.sound) e.memory e.same e.unchanged e.blocks (λ honest holds fine. e.state honest before.sound fine _ holds) (λ honest holds. e.crash honest before.sound _ holds) (λ honest holds. e.guarded honest before.sound _ holds) (λ honest is. e.reclaimed honest before.sound is _) (λ blocks is. e.grown before.sound blocks is _)) honest (before.holds (e.any.earlier honest) s holds)
+          (before.guarded (e.any.earlier honest) s holds);
       told = λ s. in_turn_more first mid new s _ _ command c.apply-answer.result (before.told s)
-          (carried_out mid new _ command c.apply-answer.result (λ honest. e.answer honest before.sound _) e.any e.as_long e.untouched (e.failed before.sound) (e.only_then before.sound) e.memory e.same e.unchanged e.blocks (λ honest rests fine. e.state honest before.sound fine _ rests) (λ honest rests. e.crash honest before.sound _ rests) (λ honest rests. e.guarded honest before.sound _ rests) (λ honest is. e.reclaimed honest before.sound is _) (λ blocks is. e.grown before.sound blocks is _));
+          (carried_out mid new _ command c.apply-answer.result (λ honest. e.answer honest before.sound _) e.any e.as_long e.untouched (e.failed before.sound) (e.only_then before.sound) e.memory e.same e.unchanged e.blocks (λ honest holds fine. e.state honest before.sound fine _ holds) (λ honest holds. e.crash honest before.sound _ holds) (λ honest holds. e.guarded honest before.sound _ holds) (λ honest is. e.reclaimed honest before.sound is _) (λ blocks is. e.grown before.sound blocks is _));
     })
 
 pub loop-command-init : goal.loop-command-init
@@ -55,24 +55,24 @@ loop-command-init g c =
       never = All-nil (λ answer. answer ≢ Err Failed);
       many = refl;
       room = omega (arith, c.in-Ok.ensures.exact);
-      run = λ honest s rests. ran_none first s (rests_show _ _ _ _ _ _ s rests);
-      holds = λ honest s rests. rests;
-      guarded = λ honest s rests. guarded_none c.args.self.now s (guarded_at_rest _ _ _ _ _ _ s rests);
+      run = λ honest s holds. ran_none first s (rests_show _ _ _ _ _ _ s holds.rests);
+      holds = λ honest s holds. holds;
+      guarded = λ honest s holds. guarded_none c.args.self.now s (guarded_at_rest _ _ _ _ _ _ s holds.rests);
       told = λ s. refl;
     })
 
 pub returns-in_default-clause-kept : goal.returns-in_default-clause-kept
-returns-in_default-clause-kept g c honest sound s rests =
-    rw (c.new-in_default.ensures.items) (ran_none (g.D.Disk.state (disk_of c.args.self.now)) s (rests_show _ _ _ _ _ _ s rests)).moments
+returns-in_default-clause-kept g c honest sound s holds =
+    rw (c.new-in_default.ensures.items) (ran_none (g.D.Disk.state (disk_of c.args.self.now)) s (rests_show _ _ _ _ _ _ s holds.rests)).moments
 
 pub returns-then-failed-clause-kept : goal.returns-then-failed-clause-kept
-returns-then-failed-clause-kept g c honest sound s rests =
+returns-then-failed-clause-kept g c honest sound s holds =
     let before = c.loop-command.invariant in
     let e = c.apply-answer.ensures in
     let old = g.D.Disk.state (disk_of c.args.self.now) in
     let count : length c.push.new.self.items ≡ c.loop-command.command-index + 1 = grind (arith, common_steps) in
     rw (count, take_one_more c.args.commands.now c.loop-command.command-index c.command-item.result c.loop-command-test.true c.command-item.is, c.in-Ok-push.ensures.items)
-    (ran_more old (g.D.Disk.state (disk_of c.loop-command.self)) (g.D.Disk.state (disk_of c.apply-answer.new.self)) s _ _ c.command-item.result c.apply-answer.result (before.run (e.any.earlier honest) s rests) (e.crash honest before.sound _ (before.holds (e.any.earlier honest) s rests))).moments
+    (ran_more old (g.D.Disk.state (disk_of c.loop-command.self)) (g.D.Disk.state (disk_of c.apply-answer.new.self)) s _ _ c.command-item.result c.apply-answer.result (before.run (e.any.earlier honest) s holds) (e.crash honest before.sound _ (before.holds (e.any.earlier honest) s holds))).moments
 
 pub returns-then-failed-clause-answers : goal.returns-then-failed-clause-answers
 returns-then-failed-clause-answers g c sound s =
@@ -80,7 +80,7 @@ returns-then-failed-clause-answers g c sound s =
     let e = c.apply-answer.ensures in
     let count : length c.push.new.self.items ≡ c.loop-command.command-index + 1 = grind (arith, common_steps) in
     rw (count, take_one_more c.args.commands.now c.loop-command.command-index c.command-item.result c.loop-command-test.true c.command-item.is, c.in-Ok-push.ensures.items)
-    (in_turn_more c.args.self.now c.loop-command.self c.apply-answer.new.self s _ _ c.command-item.result c.apply-answer.result (before.told s) (carried_out c.loop-command.self c.apply-answer.new.self _ c.command-item.result c.apply-answer.result (λ honest. e.answer honest before.sound _) e.any e.as_long e.untouched (e.failed before.sound) (e.only_then before.sound) e.memory e.same e.unchanged e.blocks (λ honest rests fine. e.state honest before.sound fine _ rests) (λ honest rests. e.crash honest before.sound _ rests) (λ honest rests. e.guarded honest before.sound _ rests) (λ honest is. e.reclaimed honest before.sound is _) (λ blocks is. e.grown before.sound blocks is _)))
+    (in_turn_more c.args.self.now c.loop-command.self c.apply-answer.new.self s _ _ c.command-item.result c.apply-answer.result (before.told s) (carried_out c.loop-command.self c.apply-answer.new.self _ c.command-item.result c.apply-answer.result (λ honest. e.answer honest before.sound _) e.any e.as_long e.untouched (e.failed before.sound) (e.only_then before.sound) e.memory e.same e.unchanged e.blocks (λ honest holds fine. e.state honest before.sound fine _ holds) (λ honest holds. e.crash honest before.sound _ holds) (λ honest holds. e.guarded honest before.sound _ holds) (λ honest is. e.reclaimed honest before.sound is _) (λ blocks is. e.grown before.sound blocks is _)))
 
 pub returns-then-failed-clause-isolated : goal.returns-then-failed-clause-isolated
 returns-then-failed-clause-isolated g c honest s name apart = isolated name s _ _ apart
@@ -89,28 +89,28 @@ pub returns-clause-isolated : goal.returns-clause-isolated
 returns-clause-isolated g c honest s name apart = isolated name s _ _ apart
 
 pub returns-clause-kept : goal.returns-clause-kept
-returns-clause-kept g c honest sound s rests =
+returns-clause-kept g c honest sound s holds =
     let after = c.loop-command.invariant in
-    rw (after.many) (after.run honest s rests).moments
+    rw (after.many) (after.run honest s holds).moments
 
 pub returns-in_default-clause-guarded : goal.returns-in_default-clause-guarded
-returns-in_default-clause-guarded g c honest sound s rests =
-    rw (c.new-in_default.ensures.items) (guarded_none c.args.self.now s (guarded_at_rest _ _ _ _ _ _ s rests))
+returns-in_default-clause-guarded g c honest sound s holds =
+    rw (c.new-in_default.ensures.items) (guarded_none c.args.self.now s (guarded_at_rest _ _ _ _ _ _ s holds.rests))
 
 pub returns-then-failed-clause-guarded : goal.returns-then-failed-clause-guarded
-returns-then-failed-clause-guarded g c honest sound s rests =
+returns-then-failed-clause-guarded g c honest sound s holds =
     let before = c.loop-command.invariant in
     let e = c.apply-answer.ensures in
     let count : length c.push.new.self.items ≡ c.loop-command.command-index + 1 = grind (arith, common_steps) in
     rw (count, take_one_more c.args.commands.now c.loop-command.command-index c.command-item.result c.loop-command-test.true c.command-item.is, c.in-Ok-push.ensures.items)
-    (guarded_more c.args.self.now c.loop-command.self c.apply-answer.new.self s _ _ c.command-item.result c.apply-answer.result (before.run (e.any.earlier honest) s rests).last.same (before.told s)
-    (carried_out c.loop-command.self c.apply-answer.new.self _ c.command-item.result c.apply-answer.result (λ honest. e.answer honest before.sound _) e.any e.as_long e.untouched (e.failed before.sound) (e.only_then before.sound) e.memory e.same e.unchanged e.blocks (λ honest rests fine. e.state honest before.sound fine _ rests) (λ honest rests. e.crash honest before.sound _ rests) (λ honest rests. e.guarded honest before.sound _ rests) (λ honest is. e.reclaimed honest before.sound is _) (λ blocks is. e.grown before.sound blocks is _)) honest (before.holds (e.any.earlier honest) s rests)
-    (before.guarded (e.any.earlier honest) s rests))
+    (guarded_more c.args.self.now c.loop-command.self c.apply-answer.new.self s _ _ c.command-item.result c.apply-answer.result (before.run (e.any.earlier honest) s holds).last.same (before.told s)
+    (carried_out c.loop-command.self c.apply-answer.new.self _ c.command-item.result c.apply-answer.result (λ honest. e.answer honest before.sound _) e.any e.as_long e.untouched (e.failed before.sound) (e.only_then before.sound) e.memory e.same e.unchanged e.blocks (λ honest holds fine. e.state honest before.sound fine _ holds) (λ honest holds. e.crash honest before.sound _ holds) (λ honest holds. e.guarded honest before.sound _ holds) (λ honest is. e.reclaimed honest before.sound is _) (λ blocks is. e.grown before.sound blocks is _)) honest (before.holds (e.any.earlier honest) s holds)
+    (before.guarded (e.any.earlier honest) s holds))
 
 pub returns-clause-guarded : goal.returns-clause-guarded
-returns-clause-guarded g c honest sound s rests =
+returns-clause-guarded g c honest sound s holds =
     let after = c.loop-command.invariant in
-    rw (after.many) (after.guarded honest s rests)
+    rw (after.many) (after.guarded honest s holds)
 
 pub returns-in_default-clause-no_failed : goal.returns-in_default-clause-no_failed
 returns-in_default-clause-no_failed g c = rw (c.new-in_default.ensures.items) (All-nil (λ answer. answer ≢ Err Failed))

@@ -1,0 +1,171 @@
+//! Series of changes: Puts and Removes in one alternative with no other command between them. A block
+//! that was taken since a series began stands in no tree but that of its alternative's records, so where
+//! a change replaces it, nothing needs its bytes.
+ghost use Rattle.std.specs.Prelude.{◌≡◌, ◌≢◌, ◌↔◌, ◌⊎◌, ◌+◌, ◌<◌, ◌≤◌, ℕ, true, length, None, Some, IsTrue, IfOk, OnErr};
+ghost use Rattle.std.specs.List.{AllByRecursion};
+ghost use Rattle.vm_types.specs.Map.{get, with_value, without};
+ghost use Rattle.vm_disk.specs.Disk.{Goes, Idles, block};
+ghost use Rattle.vm_disk.specs.Moments.{Throughout, TouchesOnly};
+ghost use Rattle.vm_alloc.specs.Held.{HoldsMore, IsHeld, free_count};
+ghost use Rattle.vm_tree.specs.Answers.{LacksRoom, Puts, Removes};
+ghost use Rattle.vm_tree.specs.Calls.{LooksIf};
+ghost use Rattle.vm_tree.specs.Free.{is_free};
+ghost use Rattle.vm_tree.specs.Replacing.{Lacks, path_under};
+ghost use Rattle.vm_tree.specs.Root.{IfWhole, IsRootedIn};
+ghost use Rattle.vm_store.specs.Sizes.{sizes};
+
+use crate::{FAN, LEAF, LEVELS};
+use vm_alloc::{Held, Marks};
+use vm_disk::Disk;
+use vm_tree::{Root, TreeFault, put, remove};
+use vm_types::{Key, Name, Value};
+
+/// Whether the series of this alternative goes on.
+pub fn goes_on(series: &Option<Name>, alt: &Name) -> bool
+    ensures { IsTrue result ↔ (series.now ≡ Some alt.now) }
+{
+    match series {
+        Some(name) => name == alt,
+        None => false,
+    }
+}
+
+/// Goes on with the series of this alternative, or begins it after the blocks that are held now.
+pub fn go_on(series: &mut Option<Name>, before: &mut Marks, held: &Held, alt: &Name)
+    requires { length held.now ≡ length before.old }
+    ensures series { series.new ≡ Some alt.now }
+    ensures before { ((series.old ≡ Some alt.now) × (before.new ≡ before.old))
+        ⊎ (before.new ≡ held.now) }
+    ensures many { length before.new ≡ length before.old }
+{
+    if goes_on(series, alt) {
+        return;
+    }
+    before.copy_held(held);
+    *series = Some(*alt);
+}
+
+// Forgets the blocks that were not held before.
+fn forget_taken<D: Disk>(disk: &mut D, before: &Marks, blocks: &[u32])
+    requires { length before.now ≤ (D.state disk.old).blocks }
+    ensures any { Idles (D.state disk.old) (D.state disk.new) }
+    ensures moments { (D.state disk.new).honest ≡ true
+        → Throughout (D.state disk.old) (D.state disk.new)
+        (TouchesOnly (is_free before.now) (D.state disk.old).now) }
+    ensures others { (D.state disk.new).honest ≡ true → (n : ℕ) → Lacks n blocks.now
+        → block (D.state disk.new).now.contents n ≡ block (D.state disk.old).now.contents n }
+{
+    for n in blocks {
+        if *n < before.blocks() && !before.is_set(*n) {
+            disk.forget(*n);
+        }
+    }
+}
+
+// Tells the disk that the blocks of a path which a change replaced are not needed, but for those that
+// were held before. The root is the one that the path led from.
+fn forget_path<D: Disk>(disk: &mut D, before: &Marks, root: Root, path: &[u32; 8])
+    requires { length before.now ≤ (D.state disk.old).blocks }
+    ensures any { Idles (D.state disk.old) (D.state disk.new) }
+    ensures moments { (D.state disk.new).honest ≡ true
+        → Throughout (D.state disk.old) (D.state disk.new)
+        (TouchesOnly (is_free before.now) (D.state disk.old).now) }
+    ensures others { (D.state disk.new).honest ≡ true → (n : ℕ)
+        → Lacks n (path_under root path.now)
+        → block (D.state disk.new).now.contents n ≡ block (D.state disk.old).now.contents n }
+{
+    if root.block == 0 {
+        return;
+    }
+    let levels = path.len().min(usize::from(root.level) + 1);
+    forget_taken(disk, before, &path[..levels]);
+}
+
+/// Gives the key this value in the tree under a root, and returns the new root. The blocks of the path as
+/// it was are forgotten, but for those that were held before. The caller owes 16 free blocks.
+pub fn put_forgetting<D: Disk>(
+    disk: &mut D,
+    held: &mut Held,
+    before: &Marks,
+    root: Root,
+    key: Key,
+    value: &Value,
+) -> Result<Root, TreeFault>
+    requires inside { length held.old ≤ (D.state disk.old).blocks }
+    requires before { length before.now ≡ length held.old }
+    requires room { 16 ≤ free_count held.old }
+    ensures any { Goes (result ≡ Err TreeFault.Device) (D.state disk.old) (D.state disk.new) }
+    ensures memory { result ≢ Err TreeFault.Memory }
+    ensures still { HoldsMore held.old held.new }
+    ensures taken { free_count held.old ≤ free_count held.new + 15 }
+    ensures block { IfOk result (λ r. r.block < length held.new) }
+
+    // At no moment has a block that was held before other bytes, and where no root is answered, no held one has.
+    ensures moments { (D.state disk.new).honest ≡ true → HoldsMore before.now held.old
+        → Throughout (D.state disk.old) (D.state disk.new)
+        (TouchesOnly (is_free before.now) (D.state disk.old).now) }
+    ensures failed { (D.state disk.new).honest ≡ true
+        → OnErr result (Throughout (D.state disk.old) (D.state disk.new)
+        (TouchesOnly (is_free held.old) (D.state disk.old).now)) }
+
+    ensures put { IfWhole (D.state disk.old) (D.state disk.new) sizes (length held.old) root
+        (λ m bs. Puts result (LacksRoom sizes (D.state disk.old).now.contents root m key)
+        (λ r. AllByRecursion (IsHeld held.old) bs
+        → IsRootedIn sizes (IsHeld held.new) (D.state disk.new).now.contents
+        (length held.old) r (with_value m key value.now))) }
+{
+    let mut path = [0; 8];
+    match put::<D, LEAF, FAN, LEVELS>(disk, held, root, key, value, &mut path) {
+        Ok(new_root) => {
+            forget_path(disk, before, root, &path);
+            Ok(new_root)
+        }
+        Err(fault) => Err(fault),
+    }
+}
+
+/// Takes the record of a key out of the tree under a root, and returns the new root, or None where the
+/// key is absent. The blocks of the path as it was are forgotten, but for those that were held before.
+/// The caller owes 16 free blocks.
+pub fn remove_forgetting<D: Disk>(
+    disk: &mut D,
+    held: &mut Held,
+    before: &Marks,
+    root: Root,
+    key: Key,
+) -> Result<Option<Root>, TreeFault>
+    requires inside { length held.old ≤ (D.state disk.old).blocks }
+    requires before { length before.now ≡ length held.old }
+    requires room { 16 ≤ free_count held.old }
+    ensures any { Goes (result ≡ Err TreeFault.Device) (D.state disk.old) (D.state disk.new) }
+    ensures deep { result ≢ Err TreeFault.Deep }
+    ensures memory { result ≢ Err TreeFault.Memory }
+    ensures still { HoldsMore held.old held.new }
+    ensures taken { free_count held.old ≤ free_count held.new + 8 }
+    ensures kept { LooksIf (result ≡ Ok None) held.old held.new
+        (D.state disk.old) (D.state disk.new) }
+
+    // At no moment has a block that was held before other bytes, and where the device fails, no held one has.
+    ensures moments { (D.state disk.new).honest ≡ true → HoldsMore before.now held.old
+        → Throughout (D.state disk.old) (D.state disk.new)
+        (TouchesOnly (is_free before.now) (D.state disk.old).now) }
+    ensures failed { (D.state disk.new).honest ≡ true
+        → OnErr result (Throughout (D.state disk.old) (D.state disk.new)
+        (TouchesOnly (is_free held.old) (D.state disk.old).now)) }
+
+    ensures remove { IfWhole (D.state disk.old) (D.state disk.new) sizes (length held.old) root
+        (λ m bs. Removes result (get m key ≡ None)
+        (λ r. AllByRecursion (IsHeld held.old) bs
+        → IsRootedIn sizes (IsHeld held.new) (D.state disk.new).now.contents
+        (length held.old) r (without m key))) }
+{
+    let mut path = [0; 8];
+    match remove::<D, LEAF, FAN, LEVELS>(disk, held, root, key, &mut path) {
+        Ok(Some(rest)) => {
+            forget_path(disk, before, root, &path);
+            Ok(Some(rest))
+        }
+        Ok(None) => Ok(None),
+        Err(fault) => Err(fault),
+    }
+}
