@@ -23,6 +23,8 @@ use Rattle.vm_tree.specs.Root.{IsRooted, IsRootedIn}
 use Rattle.vm_tree.specs.declared.root.Root.{Root}
 use Rattle.vm_tree.specs.declared.root.TreeFault.{TreeFault}
 use Rattle.vm_tree.specs.declared.root.TreeFault.TheVariants.{Device, Damaged, Deep, Memory}
+use Rattle.vm_tree.specs.Replacing.{IsHeldBeside}
+use Rattle.vm_tree.proofs.Renewing.{rooted_held}
 use Rattle.vm_tree.proofs.RootLemmas.{full_level}
 use Rattle.vm_store.specs.Changing.{Makes, MeetsFullPath}
 use Rattle.vm_store.specs.Sizes.{sizes}
@@ -98,15 +100,15 @@ module _ (x y : Contents) (held now : List Bool) (limit : ℕ) (root : Root) (m 
       }
 
   -- a change to a value answers what a Put of it answers
-  pub put_makes : (value : List ℕ) (result : Result Root TreeFault) → change.after ≡ Some value → ((n : ℕ) → IsHeld held n → block y n ≡ block x n) → (grown : IsRootedIn sizes (IsHeld held) x limit root m)
-      → Puts result (LacksRoom sizes x root m change.key) (λ r. AllByRecursion (IsHeld held) grown.stands_in → IsRootedIn sizes (IsHeld now) y limit r (with_value m change.key value))
+  pub put_makes : (value : List ℕ) (path : List ℕ) (result : Result Root TreeFault) → change.after ≡ Some value → ((n : ℕ) → IsHeld held n → block y n ≡ block x n) → (grown : IsRootedIn sizes (IsHeld held) x limit root m)
+      → Puts result (LacksRoom sizes x root m change.key) (λ r. AllByRecursion (IsHeld held) grown.stands_in → IsRootedIn sizes (IsHeldBeside now path) y limit r (with_value m change.key value))
       → Makes result (MeetsFullPath y limit m (change ∷ [])) (λ r. IsRootedIn sizes (IsHeld now) y limit r (with_change m change))
-  put_makes value (Ok r) is same grown put =
-      subst (λ (after : Option (List ℕ)). IsRootedIn sizes (IsHeld now) y limit r (put_or_taken m change.key after)) (sym is) (put.0 grown.each)
-  put_makes value (Err Device) is same grown put = tt
-  put_makes value (Err (Damaged b)) is same grown put = put
-  put_makes value (Err Deep) is same grown put = lacks_meets (IsHeld held) same grown (λ none. cc) put
-  put_makes value (Err Memory) is same grown put = put
+  put_makes value path (Ok r) is same grown put =
+      subst (λ (after : Option (List ℕ)). IsRootedIn sizes (IsHeld now) y limit r (put_or_taken m change.key after)) (sym is) (rooted_held sizes now path y limit r (with_value m change.key value) (put.0 grown.each))
+  put_makes value path (Err Device) is same grown put = tt
+  put_makes value path (Err (Damaged b)) is same grown put = put
+  put_makes value path (Err Deep) is same grown put = lacks_meets (IsHeld held) same grown (λ none. cc) put
+  put_makes value path (Err Memory) is same grown put = put
 
 -- the old root has the map where the record to be taken out is absent
 pub absent_makes : (old new : Medium) (held now : List Bool) (limit : ℕ) (root : Root) (m : Map) (change : Change) → change.after ≡ None → new ≡ old → now ≡ held → get m change.key ≡ None

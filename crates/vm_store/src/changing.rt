@@ -35,9 +35,10 @@ fn make_change<D: Disk>(
         → Makes result (MeetsFullPath (D.state disk.new).now.contents (length held.old) m (change.now ∷ []))
         (λ r. IsRootedIn sizes (IsHeld held.new) (D.state disk.new).now.contents (length held.old) r (with_change m change.now)) }
 {
+    let mut path = [0; 8];
     match &change.after {
-        Some(value) => put::<D, LEAF, FAN, LEVELS>(disk, held, root, change.key, value),
-        None => match remove::<D, LEAF, FAN, LEVELS>(disk, held, root, change.key) {
+        Some(value) => put::<D, LEAF, FAN, LEVELS>(disk, held, root, change.key, value, &mut path),
+        None => match remove::<D, LEAF, FAN, LEVELS>(disk, held, root, change.key, &mut path) {
             Ok(Some(rest)) => Ok(rest),
             Ok(None) => Ok(root),
             Err(fault) => Err(fault),

@@ -31,7 +31,15 @@ impl<D: Disk> Store<D> {
             Err(refusal) => return Err(refusal),
         }
         let root = version.current;
-        match put::<D, LEAF, FAN, LEVELS>(&mut self.disk, &mut self.held, root, key, value) {
+        let mut path = [0; 8];
+        match put::<D, LEAF, FAN, LEVELS>(
+            &mut self.disk,
+            &mut self.held,
+            root,
+            key,
+            value,
+            &mut path,
+        ) {
             Ok(root) => {
                 self.working.set_current(alt, root);
                 Ok(Answer::Done)

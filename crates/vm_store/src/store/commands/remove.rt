@@ -38,7 +38,8 @@ impl<D: Disk> Store<D> {
             Ok(false) => return Err(Refusal::Full),
             Err(refusal) => return Err(refusal),
         }
-        match remove::<D, LEAF, FAN, LEVELS>(&mut self.disk, &mut self.held, root, key) {
+        let mut path = [0; 8];
+        match remove::<D, LEAF, FAN, LEVELS>(&mut self.disk, &mut self.held, root, key, &mut path) {
             Ok(Some(root)) => {
                 self.working.set_current(alt, root);
                 Ok(Answer::Done)

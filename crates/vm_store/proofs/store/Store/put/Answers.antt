@@ -3,6 +3,7 @@ use Rattle.vm_types.specs.Tree.{current_of}
 use Rattle.vm_types.specs.declared.command.Command.TheVariants.{Put}
 use Rattle.vm_disk.specs.Disk.{Medium}
 use Rattle.vm_disk.proofs.MomentLemmas.{at_end, same_medium}
+use Rattle.vm_tree.proofs.Renewing.{rooted_held}
 use Rattle.vm_store.specs.Answers.{LacksRoom}
 use Rattle.vm_store.specs.Store.{root_of}
 use Rattle.vm_store.specs.Versions.{is_alternative_of}
@@ -38,7 +39,7 @@ returns-in-Ok-clause-carried g c honest s rests =
     let found = found_entry _ _ _ _ _ _ s rests' c.args.alt.now e is in
     let current = found.stands.current in
     let put = c.in-Ok.ensures.put honest found.filed.current current.stands_in (rooted_of _ _ _ e.current _ _ mid.bits current.rooted) in
-    let grown = grown_of _ _ _ _ c.in-Ok.root _ mid.bits (put.0 current.each) in
+    let grown = grown_of _ _ _ _ c.in-Ok.root _ mid.bits (rooted_held _ _ _ _ _ _ _ (put.0 current.each)) in
     wrote _ _ s rests (Put c.args.alt.now c.args.key c.args.value.now) _ (answers_done _ _ _ _ _ _ s rests c.args.alt.now c.args.key c.args.value.now _ (sym c.in-Some.ensures) _ _ (room_for _ _ _ (c.in-Ok-true.ensures.spare (c.in-Ok.ensures.writes.goes.earlier honest) s rests) c.in-Ok-true.field-0-test)
     (λ deep. put.1 (lacks_over _ e.current _ _ (deep_here _ _ _ _ _ _ s rests' c.args.alt.now c.args.key c.args.value.now e is (g.D.Disk.state mid.disk).now.contents
     (subst (λ (m : Medium). LacksRoom m.contents (root_of mid c.args.alt.now) (current_of s.working c.args.alt.now) c.args.key) (sym read)

@@ -1,6 +1,7 @@
 use Rattle.std.proofs.Common.{Some, None, Err, inl, sym, ap, ◌∙◌}
 use Rattle.vm_types.specs.declared.command.Command.TheVariants.{Remove}
 use Rattle.vm_disk.proofs.MomentLemmas.{at_end, reads_then}
+use Rattle.vm_tree.proofs.Renewing.{rooted_held}
 use Rattle.vm_store.proofs.CarryLemmas.{looked, stayed, wrote}
 use Rattle.vm_store.proofs.SpareTests.{room_for, full_for}
 use Rattle.vm_store.proofs.RestingLemmas.{read_rests, found_entry, value_found, value_absent, rests_more, rests_as}
@@ -63,7 +64,7 @@ returns-in-Ok-Some-remove-clause-carried g c honest s rests =
     let found' = found_entry _ _ _ _ _ _ s rests' c.args.alt.now e is' in
     let before = grown_of _ _ _ _ e.current _ (sym mid.bits) found'.stands.current in
     let removed = c.in-Ok-Some-remove.ensures.remove honest found'.filed.current before.stands_in before.rooted in
-    let grown = grown_of _ _ _ _ c.in-Ok-Some-remove.root _ mid.bits (removed_root _ _ _ _ c.in-Ok-Some-remove.field-0-is removed before.each) in
+    let grown = grown_of _ _ _ _ c.in-Ok-Some-remove.root _ mid.bits (rooted_held _ _ _ _ _ _ _ (removed_root _ _ _ _ c.in-Ok-Some-remove.field-0-is removed before.each)) in
     wrote _ _ s rests (Remove c.args.alt.now c.args.key) _ (removes_done s c.args.alt.now c.args.key _ _ _ there (room_for _ _ _ (spare_after _ _ _ _ _ _ _ s _ _ (c.in-Ok-Some.ensures.looks.reads (c.in-Ok-true.ensures.any.earlier (c.in-Ok-Some-remove.ensures.writes.goes.earlier honest))) (c.in-Ok-true.ensures.spare (c.in-Ok-Some-remove.ensures.writes.goes.earlier honest)) rests) c.in-Ok-true.field-0-test) (λ deep. deep))
     _ (reads_then _ _ _ read (c.has_spare.ensures.reads (c.in-Ok-Some-remove.ensures.writes.goes.earlier honest))) rests' (c.in-Ok-Some-remove.ensures.writes.moments honest) c.in-Ok-Some-remove.ensures.writes.still
     (λ _. rests_as _ _ _ _ _ _ _ _ (sym c.set_current.ensures)
