@@ -92,6 +92,7 @@ impl Plot {
             self.root,
             key,
             value,
+            &mut [0; 8],
         )?;
         Ok(())
     }

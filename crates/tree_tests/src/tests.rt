@@ -8,6 +8,7 @@ mod changes;
 mod damage;
 mod differences;
 mod marking;
+mod paths;
 mod random;
 mod reading;
 mod records;

@@ -9,14 +9,16 @@ use Rattle.vm_block.specs.Tree.{Sizes}
 use Rattle.vm_block.proofs.EachLemmas.{each_back, each_join}
 use Rattle.vm_tree.specs.declared.root.Root.{Root}
 use Rattle.vm_tree.proofs.Rising.{rises_front, rises_above}
+use Rattle.vm_tree.specs.Replacing.{Lacks}
+use Rattle.vm_tree.proofs.ApartLemmas.{IsTopAt, heads_join, heads_parts, top_at, subtree_once}
 use Rattle.vm_diff.specs.Walk.{Walk, IsAhead, Under}
 use Rattle.vm_diff.specs.Front.{Front, first_of, front_of, place_of, opened_at}
 use Rattle.vm_diff.specs.Shared.{unshared}
 use Rattle.vm_diff.specs.Differ.{AreRising, Differ}
 use Rattle.vm_diff.specs.Front.Front.{End, Pair, Top}
-use Rattle.vm_diff.proofs.ApartLemmas.{IsTopAt, heads_join, heads_parts, top_at, subtree_once, under_far, under_near}
+use Rattle.vm_diff.proofs.ApartLemmas.{under_far, under_near}
 use Rattle.vm_diff.proofs.OpenLemmas.{top_ahead}
-use Rattle.vm_diff.proofs.SharedLemmas.{Lacks, open_pays}
+use Rattle.vm_diff.proofs.SharedLemmas.{open_pays}
 use Rattle.vm_diff.proofs.StartLemmas.{above_start, starts_parts}
 
 -- no subtree that is higher than this one stands there, nor this one

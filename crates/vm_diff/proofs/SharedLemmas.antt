@@ -2,15 +2,8 @@
 use Rattle.std.proofs.Common.{◌≡◌, ◌≢◌, ℕ, ◌+◌, ◌≤◌, ◌||◌, cond, false, List, [], ◌∷◌, ◌++◌, refl, sym, ap, ap₂, ◌∙◌, arith}
 use Rattle.std.specs.List.{AllByRecursion}
 use Rattle.std.proofs.lemmas.Bool.{ne_eqb}
+use Rattle.vm_tree.specs.Replacing.{Lacks, Apart}
 use Rattle.vm_diff.specs.Shared.{is_among, outside, unshared}
-
--- none of the blocks is block b
-abbrev pub Lacks : ℕ → List ℕ → Type 0
-Lacks b cs = AllByRecursion (λ c. c ≢ b) cs
-
--- none of these blocks is one of the others
-abbrev pub Apart : List ℕ → List ℕ → Type 0
-Apart own others = AllByRecursion (λ b. Lacks b others) own
 
 lacks_none : (b : ℕ) (cs : List ℕ) → Lacks b cs → is_among cs b ≡ false
 lacks_none b [] all = refl

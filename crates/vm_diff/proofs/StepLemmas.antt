@@ -15,6 +15,7 @@ use Rattle.vm_block.proofs.TreeLemmas.{subtree_one}
 use Rattle.vm_tree.specs.Answers.{OkOrDevice}
 use Rattle.vm_tree.specs.declared.root.Root.{Root}
 use Rattle.vm_tree.specs.declared.root.TreeFault.{TreeFault}
+use Rattle.vm_tree.proofs.ApartLemmas.{all_above}
 use Rattle.vm_diff.specs.Walk.{Walk, IsAhead, Under}
 use Rattle.vm_diff.specs.Front.{Front, front_of, next_of, place_of, opened_at}
 use Rattle.vm_diff.specs.Shared.{unshared}
@@ -23,7 +24,7 @@ use Rattle.vm_diff.specs.Steps.{StepsBy, Meet, moved_by}
 use Rattle.vm_diff.specs.declared.front.Step.{Step}
 use Rattle.vm_diff.specs.Front.Front.{End, Pair, Top}
 use Rattle.vm_diff.specs.declared.front.Next.TheVariants.{Record as OneRecord, Subtree}
-use Rattle.vm_diff.proofs.ApartLemmas.{all_above, subtree_apart}
+use Rattle.vm_diff.proofs.ApartLemmas.{subtree_apart}
 use Rattle.vm_diff.proofs.OpenLemmas.{front_top, top_ahead, pair_passed}
 use Rattle.vm_diff.proofs.PayLemmas.{GoesFirst, lower_first, left_paid, right_paid}
 use Rattle.vm_diff.proofs.SharedLemmas.{skip_free}

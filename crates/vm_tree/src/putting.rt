@@ -70,6 +70,50 @@ fn with_record(records: &[(Key, Value)], key: Key, value: &Value) -> ArrayVec<(K
     changed
 }
 
+/// Writes the inner block of these bytes anew as one or two, with both children in the place of the
+/// one that was taken. It stands alone, and is not put into its caller, so that only here a list of
+/// all children is on the stack.
+#[inline(never)]
+fn write_divided<D: Disk, const FAN: usize>(
+    disk: &mut D,
+    held: &mut Held,
+    level: u8,
+    way: Way,
+    bytes: &[u8; 4096],
+    left: Child,
+    right: Child,
+) -> Result<Copied, TreeFault>
+    requires inside { length held.old ≤ (D.state disk.old).blocks }
+    requires least { 2 ≤ FAN }
+    requires most { FAN ≤ 256 }
+    requires within { way.index < way.count }
+    requires few { way.count ≤ FAN }
+    requires free { 2 ≤ free_count held.old }
+    ensures writes { WritesFree result held.old held.new (D.state disk.old) (D.state disk.new) }
+    ensures device { OkOrDevice result (λ done. AreTaken held.new (children_of done)) }
+    ensures split { IfOk result (λ done. is_split done ≡ true → FAN ≤ way.count) }
+    ensures one { way.count < FAN → free_count held.old ≤ free_count held.new + 1 }
+    ensures single { IfOk result
+        (λ done. is_split done ≡ false → free_count held.old ≤ free_count held.new + 1) }
+    ensures taken { free_count held.old ≤ free_count held.new + 2 }
+    ensures fine { (cs : List Child) → IsNode bytes.now level cs → way.count ≡ length cs
+        → OkOrDevice result (λ done. (is_split done ≡ true)
+        ↔ (FAN < length (with_copied cs way.index (Copied.Two left right)))) }
+    ensures made { (D.state disk.new).honest ≡ true
+        → (before : List Bool) (keep : ℕ → Bool) → HoldsMore before held.old
+        → (sizes : Sizes) (cs : List Child) (rs : List Record) → IsNode bytes.now level cs
+        → way.count ≡ length cs → FAN ≤ sizes.fan
+        → RisesFrom 0 (places rs)
+        → Made (IsRenewed before held.old keep) sizes (D.state disk.old).now.contents
+        (length held.old) (level - 1) (with_copied cs way.index (Copied.Two left right)) rs
+        → IfOk result (λ done. Made (IsRenewed before held.new keep) sizes
+        (D.state disk.new).now.contents (length held.old) level (children_of done) rs) }
+{
+    let children = spelled_children(bytes, way.count);
+    let children = spliced(children.as_slice(), way.index, &[left, right]);
+    write_nodes::<D, FAN>(disk, held, level, children.as_slice())
+}
+
 /// Writes the inner block of these bytes anew, with the child that was taken replaced by what its
 /// block was written anew as. The bytes were compared on the way down, and none is refused here.
 fn write_replaced<D: Disk, const FAN: usize>(
@@ -115,9 +159,7 @@ fn write_replaced<D: Disk, const FAN: usize>(
             Ok(Copied::One(node))
         }
         Copied::Two(left, right) => {
-            let children = spelled_children(bytes, way.count);
-            let children = spliced(children.as_slice(), way.index, &[left, right]);
-            write_nodes::<D, FAN>(disk, held, level, children.as_slice())
+            write_divided::<D, FAN>(disk, held, level, way, bytes, left, right)
         }
     }
 }

@@ -33,6 +33,8 @@ pub(super) struct Bench {
     pub(super) held: Held,
     pub(super) marks: Marks,
     pub(super) root: Root,
+    /// The blocks that the last put or remove replaced, each at its level.
+    pub(super) path: [u32; 8],
     pub(super) sizes: Sizes,
 }
 
@@ -48,6 +50,7 @@ impl Bench {
             held: Held::new(alloc, blocks)?,
             marks: Marks::new(alloc, blocks)?,
             root: Root::default(),
+            path: [0; 8],
             sizes: Sizes::Store,
         })
     }

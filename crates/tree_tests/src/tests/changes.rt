@@ -19,12 +19,14 @@ fn put_in<const LEAF: usize, const FAN: usize, const LEVELS: usize>(
     if bench.held.free_count() < 16 || bench.held.blocks() > bench.disk.blocks() {
         return Err(Wrong::Unreadable);
     }
+    bench.path = [0; 8];
     bench.root = put::<Device, LEAF, FAN, LEVELS>(
         &mut bench.disk,
         &mut bench.held,
         bench.root,
         key(number),
         value,
+        &mut bench.path,
     )?;
     Ok(())
 }
@@ -55,11 +57,13 @@ fn removed<const LEAF: usize, const FAN: usize, const LEVELS: usize>(
     if bench.held.free_count() < 16 || bench.held.blocks() > bench.disk.blocks() {
         return Err(Wrong::Unreadable);
     }
+    bench.path = [0; 8];
     let root = remove::<Device, LEAF, FAN, LEVELS>(
         &mut bench.disk,
         &mut bench.held,
         bench.root,
         key(number),
+        &mut bench.path,
     )?;
     Ok(root)
 }

@@ -59,6 +59,7 @@ fn with<const LEAF: usize, const FAN: usize, const LEVELS: usize>(
         root,
         key(number),
         &value(byte),
+        &mut [0; 8],
     )
 }
 
@@ -78,6 +79,7 @@ fn without<const LEAF: usize, const FAN: usize, const LEVELS: usize>(
         &mut bench.held,
         root,
         key(number),
+        &mut [0; 8],
     )?;
     removed.ok_or(TreeFault::Memory)
 }

@@ -184,6 +184,7 @@ impl Pair {
             self.root,
             key(number),
             &value,
+            &mut [0; 8],
         );
         match changed {
             Ok(root) => {
@@ -217,6 +218,7 @@ impl Pair {
             &mut self.held,
             self.root,
             key(number),
+            &mut [0; 8],
         )?;
         if self.plain.remove(&number).is_some() != removed.is_some() {
             return Err(Wrong::Removed(number));

@@ -14,6 +14,7 @@
 //! | `get 5` | `v` |
 //! | `list` | `1=v 2=v` |
 //! | `root` | `37.1.1`: its block, its level, and the lowest key |
+//! | `path` | `36 37`: the blocks that the last put or remove replaced, from the leaf up |
 //! | `free` | `25`: how many blocks are |
 //! | `let go` | `ok`: just the blocks under the root are held |
 //! | `top 35.1.0` | `ok`: this is the root from here on |
@@ -52,6 +53,15 @@ pub(super) const SEVENTEEN: &str = "
     puts 1 15 v
     let go
     puts 16 2 v";
+
+/// A leaf of every second number up to 30 in block 34, and block 35 for an inner block over it. Both are held.
+pub(super) const FOREIGN: &str = "
+    new 64
+    write leaf 34 v 0 2 4 6 8 10 12 14 16 18 20 22 24 26 28 30
+    take -> 34
+    take -> 35
+    top 35.1.0
+    free -> 28";
 
 // Plays a step. Its answer.
 fn play(alloc: Global, bench: &mut Bench, step: &str) -> Result<String, Wrong> {

@@ -1,5 +1,5 @@
 //! Where leaves and inner blocks are split, and which blocks a put takes.
-use super::script::{SEVENTEEN, plays};
+use super::script::{FOREIGN, SEVENTEEN, plays};
 
 #[test]
 fn splits_small_leaves_until_there_is_no_room(rt: HostRuntime) {
@@ -30,15 +30,6 @@ fn splits_at_the_seventeenth_record(rt: HostRuntime) {
         count 36 -> 8";
     plays(&rt, &[SEVENTEEN, row]);
 }
-
-/// A leaf of every second number up to 30 in block 34, and block 35 for an inner block over it. Both are held.
-const FOREIGN: &str = "
-    new 64
-    write leaf 34 v 0 2 4 6 8 10 12 14 16 18 20 22 24 26 28 30
-    take -> 34
-    take -> 35
-    top 35.1.0
-    free -> 28";
 
 #[test]
 fn splits_a_full_inner_block_in_129_and_128(rt: HostRuntime) {

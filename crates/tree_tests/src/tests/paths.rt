@@ -1,0 +1,79 @@
+//! Which blocks a put and a remove replace.
+//!
+//! After each of them the path has the blocks of the old one, and a marking from the new root finds none of those.
+use super::script::{FOREIGN, SEVENTEEN, plays};
+
+#[test]
+fn replaces_the_one_leaf(rt: HostRuntime) {
+    let row = "
+        put 1 v
+        path -> none
+        root -> 34.0.1
+        put 2 v
+        path -> 34
+        root -> 35.0.1
+        mark 35.0.1 -> marks 35 by 0
+        remove 3 -> none
+        path -> 35
+        root -> 35.0.1
+        remove 1
+        path -> 35
+        root -> 36.0.2
+        remove 2
+        path -> 36
+        root -> none
+        remove 2 -> none
+        path -> none";
+    plays(&rt, &[row]);
+}
+
+#[test]
+fn replaces_a_leaf_and_the_root_above_it(rt: HostRuntime) {
+    // The first path is that of the put which split the one leaf.
+    let row = "
+        path -> 34
+        put 1 w
+        path -> 35 37
+        root -> 39.1.1
+        let go
+        mark 39.1.1 -> marks 36 38 39 by 0
+        remove 17
+        path -> 36 39
+        root -> 35.1.1
+        let go
+        mark 35.1.1 -> marks 34 35 38 by 0";
+    plays(&rt, &[SEVENTEEN, row]);
+}
+
+#[test]
+fn replaces_a_block_on_each_of_three_levels(rt: HostRuntime) {
+    let row = "
+        write fan 35 256
+        put 1 w
+        path -> 34 35
+        root -> 40.2.0
+        put 1 x
+        path -> 36 38 40
+        root -> 43.2.0
+        mark 43.2.0 -> marks 34 37 39 41 42 43 by 3
+        remove 1
+        path -> 41 42 43
+        root -> 46.2.0";
+    plays(&rt, &[FOREIGN, row]);
+}
+
+#[test]
+fn names_the_path_alone_where_one_child_is_left(rt: HostRuntime) {
+    // The leaf that becomes the root was beside the path.
+    let row = "
+        new 256
+        sizes 3 3 2
+        puts 1 4 v
+        remove 1
+        root -> 41.1.2
+        remove 2
+        path -> 40 41
+        root -> 38.0.3
+        mark 38.0.3 -> marks 38 by 0";
+    plays(&rt, &[row]);
+}
