@@ -18,7 +18,7 @@ use Rattle.vm_disk.proofs.MomentLemmas.{at_end}
 use Rattle.vm_store.specs.Formatting.{IsBadSize}
 use Rattle.vm_store.specs.Refused.{IsAtMostSynced}
 use Rattle.vm_store.specs.Shown.{Shows}
-use Rattle.vm_cli.specs.Caching.{IsServed, answers_told, commands_told}
+use Rattle.vm_cli.specs.Caching.{IsNotServed, IsServed, answers_told, commands_told}
 use Rattle.vm_cli.specs.Delaying.{IsRefusedLate, IsServedLate, answers_late, commands_late}
 use Rattle.vm_cli.specs.Exits.{IsJob, Tells}
 use Rattle.vm_cli.specs.Keeps.{Keeps, answers_of, commands_of}
@@ -31,7 +31,7 @@ use Rattle.vm_cli.specs.declared.program.Exit.{Exit}
 use Rattle.vm_cli.specs.declared.program.task.InMemory.{InMemory}
 use Rattle.vm_cli.specs.declared.program.Exit.TheVariants.{Done, Refused, Stopped}
 use Rattle.vm_cli.specs.declared.talk.OnRefusal.{OnRefusal}
-use Rattle.vm_cli.proofs.CachingLemmas.{keeps_below, refused_there}
+use Rattle.vm_cli.proofs.CachingLemmas.{keeps_below, refused_below, refused_there}
 use Rattle.vm_cli.proofs.DelayingLemmas.{keeps_late, refused_late}
 use Rattle.vm_cli.proofs.SessionLemmas.{clean_leaves}
 
@@ -73,98 +73,55 @@ one_job words job other is also = let same : Some other ≡ Some job = sym also.
 pub no_fault : (kind : ErrorKind) (words : List Text) (job : Wanted) → IsJob words job → IsAmong kind (fault_of altctl words) → ⊥
 no_fault kind words job asked among = subst (IsAmong kind) asked.0 among
 
--- lines that were answered over a disk, or over a cache of its blocks, whose state is that of the disk but for its reads
-module _ {D : Type 0} (members : Ghosts D) (cached : Ghosts (CachedDisk D members)) (same : (cache : CachedDisk D members) → cached.state cache ≡ cached_state members.state cache)
-    (cache : ℕ) (on : OnRefusal) (found back : D) (exit : Exit) (input before after : Option (List ℕ)) (served : IsServed members cached cache on found back exit input before after) (honest : (members.state back).honest ≡ true) where
-  -- the disk was honest when it was found
-  pub was_honest : (members.state found).honest ≡ true
-  was_honest = go served
-    where
-      go : IsServed members cached cache on found back exit input before after → (members.state found).honest ≡ true
-      go (inl served) = served.found.earlier (served.goes.earlier honest)
-      go (inr over) =
-          let last : (members.state (inner_of over.last)).honest ≡ true = subst (λ (d : D). (members.state d).honest ≡ true) over.given_back honest in
-          let there : (cached.state over.last).honest ≡ true = rw (same over.last) last in
-          let first : (cached.state over.first).honest ≡ true = over.done.found.earlier (over.done.goes.earlier there) in
-          let below : (members.state (inner_of over.first)).honest ≡ true = rw (same over.first) at first in
-          subst (λ (d : D). (members.state d).honest ≡ true) over.empty.inner below
-
-  -- what a crash leaves at each moment, the commands so far keep
-  pub kept_told : IsClean (members.state found).now → (seen : Seen) → Shows (members.state found).now.contents seen
-      → Keeps (members.state found) (members.state back) (opened seen) (commands_told members cached served (opened seen)) (answers_told members cached served (opened seen))
-  kept_told clean seen shows = go served
-    where
-      go : (served : IsServed members cached cache on found back exit input before after)
-          → Keeps (members.state found) (members.state back) (opened seen) (commands_told members cached served (opened seen)) (answers_told members cached served (opened seen))
-      go (inl served) = served.kept honest seen (clean_leaves (λ x. Shows x seen) (members.state found).now clean shows)
-      go (inr over) =
-          let commands = commands_of (over.done.serves (opened seen)) in
-          let answers = answers_of (over.done.serves (opened seen)) in
-          let last : (members.state (inner_of over.last)).honest ≡ true = subst (λ (d : D). (members.state d).honest ≡ true) over.given_back honest in
-          let there : (cached.state over.last).honest ≡ true = rw (same over.last) last in
-          let leaves : Leaves (λ x. Shows x seen) (members.state (inner_of over.first)).now =
-          subst (λ (d : D). Leaves (λ x. Shows x seen) (members.state d).now) (sym over.empty.inner) (clean_leaves (λ x. Shows x seen) (members.state found).now clean shows) in
-          let above : Leaves (λ x. Shows x seen) (cached.state over.first).now = rw (same over.first) leaves in
-          let kept : Keeps (cached_state members.state over.first) (cached_state members.state over.last) (opened seen) commands answers =
-          subst (λ (t : DiskState). Keeps (cached_state members.state over.first) t (opened seen) commands answers) (same over.last)
-          (subst (λ (t : DiskState). Keeps t (cached.state over.last) (opened seen) commands answers) (same over.first) (over.done.kept there seen above)) in
-          let below = keeps_below members over.first over.last (opened seen) commands answers kept in
-          subst (λ (d : D). Keeps (members.state found) (members.state d) (opened seen) commands answers) (sym over.given_back)
-          (subst (λ (d : D). Keeps (members.state d) (members.state (inner_of over.last)) (opened seen) commands answers) over.empty.inner below)
-
--- the same where a late disk may lie between
-module _ {D : Type 0} (members : Ghosts D) (cached : Ghosts (CachedDisk D members)) (late : Ghosts (DelayedDisk D members)) (cached_late : Ghosts (CachedDisk (DelayedDisk D members) late))
-    (same : (disk : CachedDisk D members) → cached.state disk ≡ cached_state members.state disk)
-    (same_late : (disk : DelayedDisk D members) → late.state disk ≡ delayed_state members.state disk)
-    (same_above : (disk : CachedDisk (DelayedDisk D members) late) → cached_late.state disk ≡ cached_state late.state disk)
-    (in_memory : InMemory) (on : OnRefusal) (found back : D) (exit : Exit) (input before after : Option (List ℕ))
-    (served : IsServedLate members cached late cached_late in_memory on found back exit input before after) (honest : (members.state back).honest ≡ true) where
+-- lines that were answered over a disk, or over a late disk over it, whose state is that of `delayed_state`
+module _ {D : Type 0} (members : Ghosts D) (late : Ghosts (DelayedDisk D members)) (same : (disk : DelayedDisk D members) → late.state disk ≡ delayed_state members.state disk)
+    (buffer : ℕ) (on : OnRefusal) (found back : D) (exit : Exit) (input before after : Option (List ℕ)) (served : IsServedLate members late buffer on found back exit input before after) (honest : (members.state back).honest ≡ true) where
   -- the late disk was honest at its end
   honest_above : (last : DelayedDisk D members) → back ≡ below last → (late.state last).honest ≡ true
-  honest_above last given = rw (same_late last) (subst (λ (d : D). (members.state d).honest ≡ true) given honest)
+  honest_above last given = rw (same last) (subst (λ (d : D). (members.state d).honest ≡ true) given honest)
 
   -- the disk was honest when it was found
   pub was_honest_late : (members.state found).honest ≡ true
   was_honest_late = go served
     where
-      go : IsServedLate members cached late cached_late in_memory on found back exit input before after → (members.state found).honest ≡ true
-      go (inl served) = was_honest members cached same in_memory.cache on found back exit input before after served honest
+      go : IsServedLate members late buffer on found back exit input before after → (members.state found).honest ≡ true
+      go (inl served) = served.found.earlier (served.goes.earlier honest)
       go (inr over) =
-          let first : (late.state over.first).honest ≡ true = was_honest late cached_late same_above in_memory.cache on over.first over.last exit input before after over.done (honest_above over.last over.given_back) in
-          let under : (members.state (below over.first)).honest ≡ true = rw (same_late over.first) at first in
+          let first : (late.state over.first).honest ≡ true = over.done.found.earlier (over.done.goes.earlier (honest_above over.last over.given_back)) in
+          let under : (members.state (below over.first)).honest ≡ true = rw (same over.first) at first in
           subst (λ (d : D). (members.state d).honest ≡ true) over.idle.inner under
 
   -- what a crash leaves at each moment, the commands so far keep
   pub kept_told_late : (members.state found).past ≡ [] → IsClean (members.state found).now → (seen : Seen) → Shows (members.state found).now.contents seen
-      → Keeps (members.state found) (members.state back) (opened seen) (commands_late members cached late cached_late served (opened seen)) (answers_late members cached late cached_late served (opened seen))
+      → Keeps (members.state found) (members.state back) (opened seen) (commands_late members late served (opened seen)) (answers_late members late served (opened seen))
   kept_told_late fresh clean seen shows = go served
     where
-      go : (served : IsServedLate members cached late cached_late in_memory on found back exit input before after)
-          → Keeps (members.state found) (members.state back) (opened seen) (commands_late members cached late cached_late served (opened seen)) (answers_late members cached late cached_late served (opened seen))
-      go (inl served) = kept_told members cached same in_memory.cache on found back exit input before after served honest clean seen shows
+      go : (served : IsServedLate members late buffer on found back exit input before after)
+          → Keeps (members.state found) (members.state back) (opened seen) (commands_late members late served (opened seen)) (answers_late members late served (opened seen))
+      go (inl served) = served.kept honest seen (clean_leaves (λ x. Shows x seen) (members.state found).now clean shows)
       go (inr over) =
-          let commands = commands_told late cached_late over.done (opened seen) in
-          let answers = answers_told late cached_late over.done (opened seen) in
+          let commands = commands_of (over.done.serves (opened seen)) in
+          let answers = answers_of (over.done.serves (opened seen)) in
           let there = honest_above over.last over.given_back in
-          let now : (late.state over.first).now ≡ (members.state found).now = rw (same_late over.first) over.idle.now in
+          let now : (late.state over.first).now ≡ (members.state found).now = rw (same over.first) over.idle.now in
           let above : Keeps (late.state over.first) (late.state over.last) (opened seen) commands answers =
-          kept_told late cached_late same_above in_memory.cache on over.first over.last exit input before after over.done there
-          (subst (λ (m : Medium). IsClean m) (sym now) clean) seen (subst (λ (m : Medium). Shows m.contents seen) (sym now) shows) in
+          over.done.kept there seen (clean_leaves (λ x. Shows x seen) (late.state over.first).now
+              (subst (λ (m : Medium). IsClean m) (sym now) clean) (subst (λ (m : Medium). Shows m.contents seen) (sym now) shows)) in
           let kept : Keeps (delayed_state members.state over.first) (delayed_state members.state over.last) (opened seen) commands answers =
-          subst (λ (t : DiskState). Keeps (delayed_state members.state over.first) t (opened seen) commands answers) (same_late over.last)
-          (subst (λ (t : DiskState). Keeps t (late.state over.last) (opened seen) commands answers) (same_late over.first) above) in
-          let idle : IsIdleOver members.state (below over.first) in_memory.buffer over.first = subst (λ (d : D). IsIdleOver members.state d in_memory.buffer over.first) (sym over.idle.inner) over.idle in
+          subst (λ (t : DiskState). Keeps (delayed_state members.state over.first) t (opened seen) commands answers) (same over.last)
+          (subst (λ (t : DiskState). Keeps t (late.state over.last) (opened seen) commands answers) (same over.first) above) in
+          let idle : IsIdleOver members.state (below over.first) buffer over.first = subst (λ (d : D). IsIdleOver members.state d buffer over.first) (sym over.idle.inner) over.idle in
           let new : (members.state (below over.first)).past ≡ [] = subst (λ (d : D). (members.state d).past ≡ []) (sym over.idle.inner) fresh in
-          let under = keeps_late members over.first over.last in_memory.buffer idle new over.follows (opened seen) commands answers (rw (same_late over.last) at there) kept in
+          let under = keeps_late members over.first over.last buffer idle new over.follows (opened seen) commands answers (rw (same over.last) at there) kept in
           subst (λ (d : D). Keeps (members.state found) (members.state d) (opened seen) commands answers) (sym over.given_back)
           (subst (λ (d : D). Keeps (members.state d) (members.state (below over.last)) (opened seen) commands answers) over.idle.inner under)
 
 -- a disk that was refused, with a late disk over it or without, was so itself
-pub refused_told : {D : Type 0} (members : Ghosts D) (late : Ghosts (DelayedDisk D members)) → ((disk : DelayedDisk D members) → late.state disk ≡ delayed_state members.state disk)
+pub refused_told_late : {D : Type 0} (members : Ghosts D) (late : Ghosts (DelayedDisk D members)) → ((disk : DelayedDisk D members) → late.state disk ≡ delayed_state members.state disk)
     → (buffer : ℕ) (found back : D) (refusal : Refusal) → (members.state found).past ≡ [] → ((members.state found).honest ≡ true → IsClean (members.state found).now)
     → IsRefusedLate members late buffer found back refusal → HasRefused (members.state found) (members.state back) refusal
-refused_told members late same_late buffer found back refusal fresh clean (inl refused) = refused
-refused_told {D} members late same_late buffer found back refusal fresh clean (inr over) =
+refused_told_late members late same_late buffer found back refusal fresh clean (inl refused) = refused
+refused_told_late {D} members late same_late buffer found back refusal fresh clean (inr over) =
     let idle : IsIdleOver members.state (below over.first) buffer over.first = subst (λ (d : D). IsIdleOver members.state d buffer over.first) (sym over.idle.inner) over.idle in
     let new : (members.state (below over.first)).past ≡ [] = subst (λ (d : D). (members.state d).past ≡ []) (sym over.idle.inner) fresh in
     let was : (members.state (below over.first)).honest ≡ true → IsClean (members.state (below over.first)).now =
@@ -175,12 +132,86 @@ refused_told {D} members late same_late buffer found back refusal fresh clean (i
     refused_there members found back (below over.first) (below over.last) refusal over.idle.inner over.given_back
     (refused_late members over.first over.last buffer idle new over.follows refusal was refused)
 
+-- a disk of which a cache was made, and the cache: its state is that of the disk but for its reads
+module _ {D : Type 0} (members : Ghosts D) (cached : Ghosts (CachedDisk D members)) (same : (disk : CachedDisk D members) → cached.state disk ≡ cached_state members.state disk)
+    (found : D) (first : CachedDisk D members) (over : inner_of first ≡ found) where
+  fresh_above : (members.state found).past ≡ [] → (cached.state first).past ≡ []
+  fresh_above fresh = rw (same first) (subst (λ (d : D). (members.state d).past ≡ []) (sym over) fresh)
+
+  clean_above : IsClean (members.state found).now → IsClean (cached.state first).now
+  clean_above clean = rw (same first) (subst (λ (d : D). IsClean (members.state d).now) (sym over) clean)
+
+  shows_above : (seen : Seen) → Shows (members.state found).now.contents seen → Shows (cached.state first).now.contents seen
+  shows_above seen shows = rw (same first) (subst (λ (d : D). Shows (members.state d).now.contents seen) (sym over) shows)
+
+  honest_below : (cached.state first).honest ≡ true → (members.state found).honest ≡ true
+  honest_below honest = let under : (members.state (inner_of first)).honest ≡ true = rw (same first) at honest in
+      subst (λ (d : D). (members.state d).honest ≡ true) over under
+
+-- the same where a cache may lie between
+module _ {D : Type 0} (members : Ghosts D) (cached : Ghosts (CachedDisk D members)) (late : Ghosts (DelayedDisk D members)) (late_cached : Ghosts (DelayedDisk (CachedDisk D members) cached))
+    (same : (disk : CachedDisk D members) → cached.state disk ≡ cached_state members.state disk)
+    (same_late : (disk : DelayedDisk D members) → late.state disk ≡ delayed_state members.state disk)
+    (same_above : (disk : DelayedDisk (CachedDisk D members) cached) → late_cached.state disk ≡ delayed_state cached.state disk)
+    (in_memory : InMemory) (found back : D) where
+  module _ (on : OnRefusal) (exit : Exit) (input before after : Option (List ℕ))
+      (served : IsServed members cached late late_cached in_memory on found back exit input before after) (honest : (members.state back).honest ≡ true) where
+    -- the cache was honest at its end
+    cache_honest : (last : CachedDisk D members) → back ≡ inner_of last → (cached.state last).honest ≡ true
+    cache_honest last given = rw (same last) (subst (λ (d : D). (members.state d).honest ≡ true) given honest)
+
+    -- the disk was honest when it was found
+    pub was_honest : (members.state found).honest ≡ true
+    was_honest = go served
+      where
+        go : IsServed members cached late late_cached in_memory on found back exit input before after → (members.state found).honest ≡ true
+        go (inl served) = was_honest_late members late same_late in_memory.buffer on found back exit input before after served honest
+        go (inr over) =
+            honest_below members cached same found over.first over.empty.inner
+            (was_honest_late cached late_cached same_above in_memory.buffer on over.first over.last exit input before after over.done (cache_honest over.last over.given_back))
+
+    -- what a crash leaves at each moment, the commands so far keep
+    pub kept_told : (members.state found).past ≡ [] → IsClean (members.state found).now → (seen : Seen) → Shows (members.state found).now.contents seen
+        → Keeps (members.state found) (members.state back) (opened seen) (commands_told members cached late late_cached served (opened seen)) (answers_told members cached late late_cached served (opened seen))
+    kept_told fresh clean seen shows = go served
+      where
+        go : (served : IsServed members cached late late_cached in_memory on found back exit input before after)
+            → Keeps (members.state found) (members.state back) (opened seen) (commands_told members cached late late_cached served (opened seen)) (answers_told members cached late late_cached served (opened seen))
+        go (inl served) = kept_told_late members late same_late in_memory.buffer on found back exit input before after served honest fresh clean seen shows
+        go (inr over) =
+            let commands = commands_late cached late_cached over.done (opened seen) in
+            let answers = answers_late cached late_cached over.done (opened seen) in
+            let above : Keeps (cached.state over.first) (cached.state over.last) (opened seen) commands answers =
+            kept_told_late cached late_cached same_above in_memory.buffer on over.first over.last exit input before after over.done (cache_honest over.last over.given_back)
+            (fresh_above members cached same found over.first over.empty.inner fresh) (clean_above members cached same found over.first over.empty.inner clean)
+            seen (shows_above members cached same found over.first over.empty.inner seen shows) in
+            let kept : Keeps (cached_state members.state over.first) (cached_state members.state over.last) (opened seen) commands answers =
+            subst (λ (t : DiskState). Keeps (cached_state members.state over.first) t (opened seen) commands answers) (same over.last)
+            (subst (λ (t : DiskState). Keeps t (cached.state over.last) (opened seen) commands answers) (same over.first) above) in
+            let below = keeps_below members over.first over.last (opened seen) commands answers kept in
+            subst (λ (d : D). Keeps (members.state found) (members.state d) (opened seen) commands answers) (sym over.given_back)
+            (subst (λ (d : D). Keeps (members.state d) (members.state (inner_of over.last)) (opened seen) commands answers) over.empty.inner below)
+
+  -- a disk that was refused, with something over it or without, was so itself
+  pub refused_told : (refusal : Refusal) → (members.state found).past ≡ [] → ((members.state found).honest ≡ true → IsClean (members.state found).now)
+      → IsNotServed members cached late late_cached in_memory found back refusal → HasRefused (members.state found) (members.state back) refusal
+  refused_told refusal fresh clean (inl refused) = refused_told_late members late same_late in_memory.buffer found back refusal fresh clean refused
+  refused_told refusal fresh clean (inr over) =
+      let above : HasRefused (cached.state over.first) (cached.state over.last) refusal =
+      refused_told_late cached late_cached same_above in_memory.buffer over.first over.last refusal (fresh_above members cached same found over.first over.empty.inner fresh)
+      (λ honest. clean_above members cached same found over.first over.empty.inner (clean (honest_below members cached same found over.first over.empty.inner honest))) over.done in
+      let shown : HasRefused (cached_state members.state over.first) (cached_state members.state over.last) refusal =
+      subst (λ (t : DiskState). HasRefused (cached_state members.state over.first) t refusal) (same over.last)
+      (subst (λ (t : DiskState). HasRefused t (cached.state over.last) refusal) (same over.first) above) in
+      refused_there members found back (inner_of over.first) (inner_of over.last) refusal over.empty.inner over.given_back
+      (refused_below members over.first over.last refusal shown)
+
 module _ {D : Type 0} (members : Ghosts D) (cached : Ghosts (CachedDisk D members)) (late : Ghosts (DelayedDisk D members))
-    (cached_late : Ghosts (CachedDisk (DelayedDisk D members) late)) (Untouched Reads Denied : Type 0) (words : List Text) (exit : Exit)
+    (late_cached : Ghosts (DelayedDisk (CachedDisk D members) cached)) (Untouched Reads Denied : Type 0) (words : List Text) (exit : Exit)
     (old new : PlaceState) (input before after errors errors' : Option (List ℕ)) where
   -- what was done
   abbrev Did : Type 0
-  Did = Does members cached late cached_late Untouched Reads Denied words exit old new input before after errors errors'
+  Did = Does members cached late late_cached Untouched Reads Denied words exit old new input before after errors errors'
 
   -- a store was to be made
   pub did_create : (name : Text) (blocks : ℕ) → IsJob words (create name blocks) → Makes members Denied name blocks exit old new before after errors errors' → Did
@@ -198,7 +229,7 @@ module _ {D : Type 0} (members : Ghosts D) (cached : Ghosts (CachedDisk D member
 
   -- lines were to be answered
   pub did_run : (name : Text) (in_memory : InMemory) (on : OnRefusal) → IsJob words (run name in_memory on)
-      → Answers members cached late cached_late name in_memory on exit old new input before after ⊎ Declines members Denied name exit old new errors errors' → Did
+      → Answers members cached late late_cached name in_memory on exit old new input before after ⊎ Declines members Denied name exit old new errors errors' → Did
   did_run name in_memory on job answers = record {
     creates = λ other size asked. let same : create other size ≡ run name in_memory on = one_job words (run name in_memory on) (create other size) job asked in absurd (cc);
     runs = λ other size refusal asked. let same : run other size refusal ≡ run name in_memory on = one_job words (run name in_memory on) (run other size refusal) job asked in
@@ -212,14 +243,14 @@ module _ {D : Type 0} (members : Ghosts D) (cached : Ghosts (CachedDisk D member
     none = λ no. absurd (no (run name in_memory on) job);
   }
     where
-      told : Answers members cached late cached_late name in_memory on exit old new input before after ⊎ Declines members Denied name exit old new errors errors'
-          → Answers members cached late cached_late name in_memory on exit old new input before after ⊎ (Declines members Denied name exit old new errors errors' ⊎ ((exit ≡ Stopped) × Untouched))
+      told : Answers members cached late late_cached name in_memory on exit old new input before after ⊎ Declines members Denied name exit old new errors errors'
+          → Answers members cached late late_cached name in_memory on exit old new input before after ⊎ (Declines members Denied name exit old new errors errors' ⊎ ((exit ≡ Stopped) × Untouched))
       told (inl answers) = inl answers
       told (inr declines) = inr (inl declines)
 
   -- lines that were given were to be answered
   pub did_lines : (name : Text) (lines : List ℕ) (in_memory : InMemory) (on : OnRefusal) → IsJob words (do_lines name lines in_memory on)
-      → Answers members cached late cached_late name in_memory on exit old new (Some lines) before after ⊎ Declines members Denied name exit old new errors errors' → Did
+      → Answers members cached late late_cached name in_memory on exit old new (Some lines) before after ⊎ Declines members Denied name exit old new errors errors' → Did
   did_lines name lines in_memory on job answers = record {
     creates = λ other size asked. let same : create other size ≡ do_lines name lines in_memory on = one_job words (do_lines name lines in_memory on) (create other size) job asked in absurd (cc);
     runs = λ other size refusal asked. let same : run other size refusal ≡ do_lines name lines in_memory on = one_job words (do_lines name lines in_memory on) (run other size refusal) job asked in absurd (cc);
@@ -234,8 +265,8 @@ module _ {D : Type 0} (members : Ghosts D) (cached : Ghosts (CachedDisk D member
     none = λ no. absurd (no (do_lines name lines in_memory on) job);
   }
     where
-      told : Answers members cached late cached_late name in_memory on exit old new (Some lines) before after ⊎ Declines members Denied name exit old new errors errors'
-          → Answers members cached late cached_late name in_memory on exit old new (Some lines) before after ⊎ (Declines members Denied name exit old new errors errors' ⊎ ((exit ≡ Stopped) × Untouched))
+      told : Answers members cached late late_cached name in_memory on exit old new (Some lines) before after ⊎ Declines members Denied name exit old new errors errors'
+          → Answers members cached late late_cached name in_memory on exit old new (Some lines) before after ⊎ (Declines members Denied name exit old new errors errors' ⊎ ((exit ≡ Stopped) × Untouched))
       told (inl answers) = inl answers
       told (inr declines) = inr (inl declines)
 

@@ -7,10 +7,11 @@ use Rattle.vm_types.specs.declared.refusal.Refusal.{Refusal}
 use Rattle.vm_types.specs.State.{State}
 use Rattle.vm_disk.specs.Cached.{IsEmptyOver, inner_of}
 use Rattle.vm_disk.specs.declared.cached.CachedDisk.{CachedDisk}
+use Rattle.vm_disk.specs.declared.delayed.DelayedDisk.{DelayedDisk}
 use Rattle.vm_disk.specs.declared.disk.Disk.{Ghosts}
-use Rattle.vm_cli.specs.Keeps.{answers_of, commands_of}
-use Rattle.vm_cli.specs.Sessions.{HasServed}
+use Rattle.vm_cli.specs.Delaying.{IsRefusedLate, IsServedLate, answers_late, commands_late}
 use Rattle.vm_cli.specs.declared.program.Exit.{Exit}
+use Rattle.vm_cli.specs.declared.program.task.InMemory.{InMemory}
 use Rattle.vm_cli.specs.declared.talk.OnRefusal.{OnRefusal}
 
 module _ {D : Type 0} (members : Ghosts D) where
@@ -23,19 +24,28 @@ module _ {D : Type 0} (members : Ghosts D) where
     pub done : IsDone first last
     pub given_back : new ≡ inner_of last
 
-module _ {D : Type 0} (members : Ghosts D) (cached : Ghosts (CachedDisk D members)) where
-  -- lines were answered over a disk itself, or over a cache of so many of its blocks
-  abbrev pub IsServed : ℕ → OnRefusal → D → D → Exit → Option (List ℕ) → Option (List ℕ) → Option (List ℕ) → Type 0
-  IsServed cache on old new exit input before after =
-      HasServed members on old new exit input before after
-      ⊎ IsDoneOverCache members cache (λ first last. HasServed cached on first last exit input before after) old new
+module _ {D : Type 0} (members : Ghosts D) (cached : Ghosts (CachedDisk D members)) (late : Ghosts (DelayedDisk D members))
+    (late_cached : Ghosts (DelayedDisk (CachedDisk D members) cached)) where
+  -- lines were answered over a disk, or over a cache of its blocks; either way with a late disk over that or without
+  abbrev pub IsServed : InMemory → OnRefusal → D → D → Exit → Option (List ℕ) → Option (List ℕ) → Option (List ℕ) → Type 0
+  IsServed in_memory on old new exit input before after =
+      IsServedLate members late in_memory.buffer on old new exit input before after
+      ⊎ IsDoneOverCache members in_memory.cache (λ first last. IsServedLate cached late_cached in_memory.buffer on first last exit input before after) old new
+
+  -- a disk was refused, itself or with a cache of its blocks over it; either way with a late disk over that or without
+  abbrev pub IsNotServed : InMemory → D → D → Refusal → Type 0
+  IsNotServed in_memory old new refusal =
+      IsRefusedLate members late in_memory.buffer old new refusal
+      ⊎ IsDoneOverCache members in_memory.cache (λ first last. IsRefusedLate cached late_cached in_memory.buffer first last refusal) old new
 
   -- the commands among these lines, where the store stood for this state at first
-  abbrev pub commands_told : {cache : ℕ} {on : OnRefusal} {old new : D} {exit : Exit} {input before after : Option (List ℕ)} → IsServed cache on old new exit input before after → State → List Command
-  commands_told (inl served) s = commands_of (served.serves s)
-  commands_told (inr over) s = commands_of (over.done.serves s)
+  abbrev pub commands_told : {in_memory : InMemory} {on : OnRefusal} {old new : D} {exit : Exit} {input before after : Option (List ℕ)}
+      → IsServed in_memory on old new exit input before after → State → List Command
+  commands_told (inl served) s = commands_late members late served s
+  commands_told (inr over) s = commands_late cached late_cached over.done s
 
   -- the answers to them
-  abbrev pub answers_told : {cache : ℕ} {on : OnRefusal} {old new : D} {exit : Exit} {input before after : Option (List ℕ)} → IsServed cache on old new exit input before after → State → List (Result Answer Refusal)
-  answers_told (inl served) s = answers_of (served.serves s)
-  answers_told (inr over) s = answers_of (over.done.serves s)
+  abbrev pub answers_told : {in_memory : InMemory} {on : OnRefusal} {old new : D} {exit : Exit} {input before after : Option (List ℕ)}
+      → IsServed in_memory on old new exit input before after → State → List (Result Answer Refusal)
+  answers_told (inl served) s = answers_late members late served s
+  answers_told (inr over) s = answers_late cached late_cached over.done s

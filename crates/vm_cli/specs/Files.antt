@@ -10,7 +10,7 @@ use Rattle.vm_disk.specs.declared.delayed.DelayedDisk.{DelayedDisk}
 use Rattle.vm_disk.specs.declared.disk.Disk.{Ghosts}
 use Rattle.vm_store.specs.Formatting.{IsFormatted, IsFormatting}
 use Rattle.vm_store.specs.Shown.{Shows}
-use Rattle.vm_cli.specs.Delaying.{IsServedLate, answers_late, commands_late}
+use Rattle.vm_cli.specs.Caching.{IsServed, answers_told, commands_told}
 use Rattle.vm_cli.specs.Drawing.{tree_text}
 use Rattle.vm_cli.specs.Exits.{IsJob, MayRefuse, Tells, check_text, created_text, file_text, refused_text}
 use Rattle.vm_cli.specs.Keeps.{Keeps}
@@ -97,12 +97,12 @@ module _ {D : Type 0} (members : Ghosts D) where
     pub told : Tells Done exit before after (tree_text seen.tree)
 
 module _ {D : Type 0} (members : Ghosts D) (cached : Ghosts (CachedDisk D members)) (late : Ghosts (DelayedDisk D members))
-    (cached_late : Ghosts (CachedDisk (DelayedDisk D members) late)) where
+    (late_cached : Ghosts (DelayedDisk (CachedDisk D members) cached)) where
   -- the lines of an input were answered over the file of this name, of which up to so many blocks stayed or waited in memory
   pub record Answers (name : List ℕ) (in_memory : InMemory) (on : OnRefusal) (exit : Exit) (old new : PlaceState) (input before after : Option (List ℕ)) : Type 0 where
     pub found : D
     pub back : D
-    pub served : IsServedLate members cached late cached_late in_memory on found back exit input before after
+    pub served : IsServed members cached late late_cached in_memory on found back exit input before after
     -- its disk was found as the file was left, and kept the disk model to the end
     pub held : old.files name ≡ Some (members.state found).now.contents
     pub clean : IsClean (members.state found).now
@@ -112,7 +112,7 @@ module _ {D : Type 0} (members : Ghosts D) (cached : Ghosts (CachedDisk D member
     -- file at the end
     pub kept : (seen : Seen) → Shows (members.state found).now.contents seen
         → Keeps (members.state found) (members.state back) (opened seen)
-        (commands_late members cached late cached_late served (opened seen)) (answers_late members cached late cached_late served (opened seen))
+        (commands_told members cached late late_cached served (opened seen)) (answers_told members cached late late_cached served (opened seen))
 
   -- what a run of the program does to the files, where `Untouched` says that no call of the place was made, `Reads` that no file was made
   -- or opened to be written, and `Denied` that a call gave no disk. A job is left undone without a call only where the program stops, as

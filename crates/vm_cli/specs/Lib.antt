@@ -16,8 +16,8 @@ pub mod Talk
 pub mod Feeding
 pub mod Keeps
 pub mod Sessions
-pub mod Caching
 pub mod Delaying
+pub mod Caching
 pub mod Counting
 pub mod Drawing
 pub mod Places

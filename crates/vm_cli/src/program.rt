@@ -20,8 +20,8 @@ use crate::answers::writing::{WriteFault, flush, put_all};
 use crate::talk::{OnRefusal, ServeFault, serve};
 use clap::Error;
 use clap::error::ErrorKind;
+use caching::answer_lines_in_memory;
 use counting::{Counts, count};
-use delaying::answer_lines_late;
 use place::Place;
 use showing::tree;
 use std::alloc::Global;
@@ -97,7 +97,7 @@ pub fn run_words<P: Place, R: Read, W: Write, F: Write>(
     ensures files { (P.state place.new).honest ≡ true
         → ((exit : Exit) × (said : F) × (result ≡ status_of exit)
         × (exit ≢ Exit.Stopped → said ≡ errors.new)
-        × Does P.D.Disk ⟦<CachedDisk<P::D> as Disk>⟧ ⟦<DelayedDisk<P::D> as Disk>⟧ ⟦<CachedDisk<DelayedDisk<P::D>> as Disk>⟧ (place.new ≡ place.old) (P.to_write place.new ≡ P.to_write place.old) (P.denied place.new ≡ P.denied place.old + 1) (map string_bytes words.now) exit (P.state place.old) (P.state place.new)
+        × Does P.D.Disk ⟦<CachedDisk<P::D> as Disk>⟧ ⟦<DelayedDisk<P::D> as Disk>⟧ ⟦<DelayedDisk<CachedDisk<P::D>> as Disk>⟧ (place.new ≡ place.old) (P.to_write place.new ≡ P.to_write place.old) (P.denied place.new ≡ P.denied place.old + 1) (map string_bytes words.now) exit (P.state place.old) (P.state place.new)
         (R.remaining input.old) (W.contents output.old) (W.contents output.new) (F.contents errors.old) (F.contents said)) }
 {
     match do_job(alloc, words, place, input, output, errors) {
@@ -138,7 +138,7 @@ fn do_job<P: Place, R: Read, W: Write, F: Write>(
 ) -> Exit
     ensures ends { Ends W.contents F.contents result (map string_bytes words.now) output.old output.new errors.old errors.new }
     ensures files { (P.state place.new).honest ≡ true
-        → Does P.D.Disk ⟦<CachedDisk<P::D> as Disk>⟧ ⟦<DelayedDisk<P::D> as Disk>⟧ ⟦<CachedDisk<DelayedDisk<P::D>> as Disk>⟧ (place.new ≡ place.old) (P.to_write place.new ≡ P.to_write place.old) (P.denied place.new ≡ P.denied place.old + 1) (map string_bytes words.now) result (P.state place.old) (P.state place.new)
+        → Does P.D.Disk ⟦<CachedDisk<P::D> as Disk>⟧ ⟦<DelayedDisk<P::D> as Disk>⟧ ⟦<DelayedDisk<CachedDisk<P::D>> as Disk>⟧ (place.new ≡ place.old) (P.to_write place.new ≡ P.to_write place.old) (P.denied place.new ≡ P.denied place.old + 1) (map string_bytes words.now) result (P.state place.old) (P.state place.new)
         (R.remaining input.old) (W.contents output.old) (W.contents output.new) (F.contents errors.old) (F.contents errors.new) }
 {
     match job(alloc, words) {
@@ -232,14 +232,14 @@ fn run<P: Place, R: Read, W: Write, F: Write>(
         ⊎ ((output.new ≡ output.old) × ((text : List ℕ) × SaysRefused (run_wanted file.now in_memory on_refusal) text
         × Tells Exit.Refused result (F.contents errors.old) (F.contents errors.new) text)) }
     ensures files { (P.state place.new).honest ≡ true
-        → Answers P.D.Disk ⟦<CachedDisk<P::D> as Disk>⟧ ⟦<DelayedDisk<P::D> as Disk>⟧ ⟦<CachedDisk<DelayedDisk<P::D>> as Disk>⟧ file.now in_memory on_refusal result (P.state place.old) (P.state place.new)
+        → Answers P.D.Disk ⟦<CachedDisk<P::D> as Disk>⟧ ⟦<DelayedDisk<P::D> as Disk>⟧ ⟦<DelayedDisk<CachedDisk<P::D>> as Disk>⟧ file.now in_memory on_refusal result (P.state place.old) (P.state place.new)
         (R.remaining input.old) (W.contents output.old) (W.contents output.new)
         ⊎ Declines P.D.Disk (P.denied place.new ≡ P.denied place.old + 1) file.now result (P.state place.old) (P.state place.new) (F.contents errors.old) (F.contents errors.new) }
 {
     let Some(disk) = place.find(file) else {
         return no_file(b"altctl: cannot open ", file, errors);
     };
-    let (exit, served) = answer_lines_late(
+    let (exit, served) = answer_lines_in_memory(
         alloc, disk, in_memory, on_refusal, input, output, errors,
     );
     place.give_back(file, served);

@@ -1,5 +1,5 @@
 -- What the words of the cache's map give for the blocks that are kept.
-use Rattle.std.proofs.Common.{◌≡◌, ◌≢◌, ℕ, zero, suc, ◌-◌, ◌<◌, Bool, true, false, cond, if◌then◌else◌, List, [], ◌∷◌, length, map, take, is_some, option_map, Option, Some, None, nat_eq, refl, sym, ◌∙◌, ap, eqb-true, ne_eqb, eq-eqb, arith}
+use Rattle.std.proofs.Common.{◌≡◌, ◌≢◌, ℕ, zero, suc, ◌-◌, ◌<◌, Bool, true, false, cond, if◌then◌else◌, List, [], ◌∷◌, map, take, is_some, option_map, Option, Some, None, nat_eq, refl, sym, ◌∙◌, ap, subst, eqb-true, ne_eqb, eq-eqb, arith}
 use Rattle.std.specs.Option.{option_map_or}
 use Rattle.std.specs.Map.{keys_of, lookup, lookup_entry, remove_entry, set_value}
 use Rattle.std.specs.List.{IsDistinct}
@@ -7,8 +7,8 @@ use Rattle.std.specs.Cmp.{nat_eq_equiv}
 use Rattle.std.proofs.lemmas.Bool.{cond-true, cond-false}
 use Rattle.std.proofs.lemmas.Map.{lookup-remove_entry}
 use Rattle.lru.specs.LruCache.{LruCache, lru_cache, promoted, put_entries}
-use Rattle.vm_disk.specs.Disk.{Contents, block}
-use Rattle.vm_disk.specs.Kept.{Entries, keeps, with_first, AreOf}
+use Rattle.vm_disk.specs.declared.kept.Kept.{Kept}
+use Rattle.vm_disk.specs.Kept.{Entries, UsesBlock, entries_of, keeps, limit_of, refusals_in, with_first}
 
 -- either answer of a test
 pub by_answer : {P : Type 0} (b : Bool) → (b ≡ true → P) → (b ≡ false → P) → P
@@ -128,15 +128,19 @@ lookup_rest : (limit n k : ℕ) (bytes : List ℕ) (es : Entries) (b : Bool) →
 lookup_rest limit n k bytes es true apart h = sym (lookup_others n k es apart) ∙ h
 lookup_rest limit n k bytes es false apart h = lookup_taken (limit - 1) k bytes es h
 
--- the contents differ at block n alone
-module _ (old new : Contents) (n : ℕ) (count : length new ≡ length old) (others : (k : ℕ) → k ≢ n → block new k ≡ block old k) where
+-- each of them is one of so many blocks, and has the bytes that f gives for it
+abbrev pub AreBy : (ℕ → List ℕ) → ℕ → Entries → Type 0
+AreBy f size entries = (n : ℕ) (bytes : List ℕ) → lookup (nat_eq n) entries ≡ Some bytes → (n < size) × (bytes ≡ f n)
+
+-- the bytes differ at block n alone
+module _ (old new : ℕ → List ℕ) (size size' n : ℕ) (count : size' ≡ size) (others : (k : ℕ) → k ≢ n → new k ≡ old k) where
   -- block n comes first with its new bytes
-  pub first_are_of : (limit : ℕ) (bytes : List ℕ) (es : Entries) → n < length new → block new n ≡ bytes → AreOf old es → AreOf new (with_first limit n bytes es)
-  first_are_of limit bytes es inside written were k kept h = by_answer (nat_eq k n)
+  pub first_are_by : (limit : ℕ) (bytes : List ℕ) (es : Entries) → n < size' → new n ≡ bytes → AreBy old size es → AreBy new size' (with_first limit n bytes es)
+  first_are_by limit bytes es inside written were k kept h = by_answer (nat_eq k n)
       (λ y. let here : k ≡ n = eqb-true k n y in
       let same : Some bytes ≡ Some kept = sym (cond_yes _ _ y) ∙ h in
       let bytes_are : bytes ≡ kept = cc in
-      (omega arith, sym bytes_are ∙ sym written ∙ ap (block new) (sym here)))
+      (omega arith, sym bytes_are ∙ sym written ∙ ap new (sym here)))
       (λ z. let apart : k ≢ n = λ same. true_not_false (sym (eq-eqb k n same) ∙ z) in
       let was = were k kept (lookup_rest limit n k kept es (keeps n es) apart (sym (cond_no _ _ z) ∙ h)) in
       (omega (arith, was.0, count), was.1 ∙ sym (others k apart)))
@@ -145,8 +149,8 @@ module _ (old new : Contents) (n : ℕ) (count : length new ≡ length old) (oth
       true_not_false e = cc
 
   -- block n is not kept
-  pub others_are_of : (es : Entries) → keeps n es ≡ false → AreOf old es → AreOf new es
-  others_are_of es gone were k kept h =
+  pub others_are_by : (es : Entries) → keeps n es ≡ false → AreBy old size es → AreBy new size' es
+  others_are_by es gone were k kept h =
       let was = were k kept h in (
         omega (arith, was.0, count),
         was.1 ∙ sym (others k (λ here.
@@ -154,13 +158,24 @@ module _ (old new : Contents) (n : ℕ) (count : length new ≡ length old) (oth
       )
 
   -- and is kept no longer
-  pub rest_are_of : (es : Entries) → keeps n (remove_entry (nat_eq n) es) ≡ false → AreOf old es → AreOf new (remove_entry (nat_eq n) es)
-  rest_are_of es gone were = others_are_of (remove_entry (nat_eq n) es) gone less
+  pub rest_are_by : (es : Entries) → keeps n (remove_entry (nat_eq n) es) ≡ false → AreBy old size es → AreBy new size' (remove_entry (nat_eq n) es)
+  rest_are_by es gone were = others_are_by (remove_entry (nat_eq n) es) gone less
     where
-      less : AreOf old (remove_entry (nat_eq n) es)
+      less : AreBy old size (remove_entry (nat_eq n) es)
       less k kept h = by_answer (nat_eq k n)
           (λ y. let there : true ≡ false = sym (ap is_some (ap (λ m. lookup (nat_eq m) (remove_entry (nat_eq n) es)) (sym (eqb-true k n y)) ∙ h)) ∙ gone in absurd cc)
           (λ z. let apart : k ≢ n = λ same. (let clash : true ≡ false = sym (eq-eqb k n same) ∙ z in cc) in were k kept (sym (lookup_others n k es apart) ∙ h))
+
+  -- block n was used and has its new bytes
+  pub used_are_by : (bytes : List ℕ) (was is : Kept) → n < size' → new n ≡ bytes → UsesBlock n bytes was is → AreBy old size (entries_of was) → AreBy new size' (entries_of is)
+  used_are_by bytes was is inside written uses were = by_answer (nat_eq (refusals_in is) (refusals_in was))
+      (λ y. subst (AreBy new size') (sym (uses.kept (eqb-true (refusals_in is) (refusals_in was) y)))
+      (first_are_by (limit_of was) bytes (entries_of was) inside written were))
+      (λ z. let more : refusals_in is ≢ refusals_in was = λ same. (let clash : true ≡ false = sym (eq-eqb (refusals_in is) (refusals_in was) same) ∙ z in cc) in
+      subst (AreBy new size') (sym (uses.refused more)) (others_are_by (entries_of was) (not_kept more) were))
+    where
+      not_kept : refusals_in is ≢ refusals_in was → keeps n (entries_of was) ≡ false
+      not_kept more = by_answer (keeps n (entries_of was)) (λ y. absurd (more (uses.known y))) (λ z. z)
 
 -- what the calls of the cache's map leave
 module _ {V : Type 0} (f : V → List ℕ) (n : ℕ) where

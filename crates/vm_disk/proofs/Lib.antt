@@ -9,6 +9,7 @@ pub mod FileLemmas
 pub mod FileRunLemmas
 pub mod SystemLemmas
 pub mod KeptLemmas
+pub mod KeptRunLemmas
 pub mod CachedLemmas
 pub mod WaitingLemmas
 pub mod LaidLemmas

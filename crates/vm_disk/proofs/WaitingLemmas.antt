@@ -1,5 +1,5 @@
 -- What the calls of the map leave of the blocks that wait.
-use Rattle.std.proofs.Common.{◌≡◌, ◌≢◌, ℕ, zero, suc, ◌-◌, ◌<◌, ◌≤◌, ◌||◌, true, false, List, [], ◌∷◌, length, is_some, option_map, Option, Some, None, nat_eq, nat_lt, slice_get, refl, sym, ap, ◌∙◌, eqb-true, ne_eqb, eq-eqb, arith}
+use Rattle.std.proofs.Common.{◌≡◌, ◌≢◌, ℕ, zero, suc, ◌-◌, ◌<◌, ◌≤◌, ◌||◌, Bool, true, false, if◌then◌else◌, List, [], ◌∷◌, length, is_some, option_map, Option, Some, None, nat_eq, nat_lt, slice_get, refl, sym, ap, ◌∙◌, eqb-true, ne_eqb, eq-eqb, arith}
 use Rattle.std.specs.Map.{lookup, remove_entry, update}
 use Rattle.std.proofs.lemmas.Bool.{ltb-true}
 use Rattle.std.proofs.lemmas.List.{take_all}
@@ -34,6 +34,11 @@ others_found n es gone k = by_answer (nat_eq n k)
     none : (o : Option (List ℕ)) → is_some o ≡ false → o ≡ None
     none None h = refl
     none (Some bytes) h = cc
+
+-- where some wait no longer, none waits that did not before
+pub none_left : (b : Bool) (o : Option (List ℕ)) → is_some o ≡ false → is_some (if b then None else o) ≡ false
+none_left true o h = refl
+none_left false o h = h
 
 module _ {V : Type 0} (f : V → List ℕ) where
   mapped : (o : Option V) → is_some (option_map f o) ≡ is_some o

@@ -1,8 +1,8 @@
 -- What a `CachedDisk` shows, and which blocks it keeps.
-use Rattle.std.specs.Prelude.{◌≡◌, ◌≢◌, ℕ, true, List, [], length}
+use Rattle.std.specs.Prelude.{◌≡◌, ℕ, ◌+◌, ◌<◌, false, List, [], length}
 use Rattle.vm_disk.specs.declared.cached.CachedDisk.{CachedDisk}
 use Rattle.vm_disk.specs.Disk.{DiskState}
-use Rattle.vm_disk.specs.Kept.{Entries, keeps, with_first, entries_of, limit_of, refusals_in}
+use Rattle.vm_disk.specs.Kept.{Entries, UsesBlock, UsesBlocks, entries_of, keeps, limit_of, refusals_in, without_run}
 use Rattle.vm_disk.specs.Past.{noted}
 
 module _ {D : Type 0} {members : _} where
@@ -42,15 +42,21 @@ module _ {D : Type 0} {members : _} where
     pub reads : length (noted cached.reads) ≡ 0
     pub refusals : refusals_of cached ≡ 0
 
-  -- block n was used and has these bytes: it is kept, as the first, but where memory for it was refused; for a block that was kept before, none was asked
-  pub record Uses (n : ℕ) (bytes : List ℕ) (old new : CachedDisk D members) : Type 0 where
-    pub capacity : capacity_of new ≡ capacity_of old
-    pub kept : refusals_of new ≡ refusals_of old → kept_of new ≡ with_first (capacity_of old) n bytes (kept_of old)
-    pub refused : refusals_of new ≢ refusals_of old → kept_of new ≡ kept_of old
-    pub known : keeps n (kept_of old) ≡ true → refusals_of new ≡ refusals_of old
+  -- block n was used and has these bytes: it is kept, as the first, but where memory for it was refused
+  abbrev pub Uses : ℕ → List ℕ → CachedDisk D members → CachedDisk D members → Type 0
+  Uses n bytes old new = UsesBlock n bytes old.kept new.kept
+
+  -- the blocks in a row from the first one on were used so with these bytes, one after another
+  abbrev pub UsesRun : ℕ → List (List ℕ) → CachedDisk D members → CachedDisk D members → Type 0
+  UsesRun first blocks old new = UsesBlocks first blocks (length blocks) old.kept new.kept
 
   -- it keeps these blocks, and asked for no memory
   pub record KeepsJust (entries : Entries) (old new : CachedDisk D members) : Type 0 where
     pub capacity : capacity_of new ≡ capacity_of old
     pub kept : kept_of new ≡ entries
     pub refusals : refusals_of new ≡ refusals_of old
+
+  -- it keeps none of so many blocks in a row from the first one on, all others as before, and asked for no memory
+  pub record LosesRun (first count : ℕ) (old new : CachedDisk D members) : Type 0 where
+    pub rest : KeepsJust (without_run first count (kept_of old)) old new
+    pub gone : (i : ℕ) → i < count → keeps (first + i) (kept_of new) ≡ false

@@ -1,5 +1,5 @@
 -- The blocks that a cache keeps.
-use Rattle.std.specs.Prelude.{◌≡◌, ℕ, ◌-◌, ◌<◌, Bool, if◌then◌else◌, List, ◌∷◌, length, map, take, nat_eq, is_some, Some}
+use Rattle.std.specs.Prelude.{◌≡◌, ◌≢◌, ℕ, zero, suc, ◌+◌, ◌-◌, ◌<◌, Bool, true, if◌then◌else◌, List, [], ◌∷◌, length, map, take, nat_eq, is_some, slice_index_or, Some}
 use Rattle.std.specs.Map.{lookup, remove_entry}
 use Rattle.vm_disk.specs.declared.kept.Kept.{Kept}
 use Rattle.vm_disk.specs.Disk.{Contents, block}
@@ -37,3 +37,21 @@ refusals_in kept = length (noted kept.refused)
 pub record Settings (old new : Kept) : Type 0 where
   pub limit : limit_of new ≡ limit_of old
   pub refusals : refusals_in new ≡ refusals_in old
+
+-- block n was used and has these bytes: it is kept, as the first, but where memory for it was refused; for a block that was kept before, none was asked
+pub record UsesBlock (n : ℕ) (bytes : List ℕ) (old new : Kept) : Type 0 where
+  pub capacity : limit_of new ≡ limit_of old
+  pub kept : refusals_in new ≡ refusals_in old → entries_of new ≡ with_first (limit_of old) n bytes (entries_of old)
+  pub refused : refusals_in new ≢ refusals_in old → entries_of new ≡ entries_of old
+  pub known : keeps n (entries_of old) ≡ true → refusals_in new ≡ refusals_in old
+
+-- so many of the blocks in a row from the first one on were used with these bytes, one after another
+abbrev pub UsesBlocks : ℕ → List (List ℕ) → ℕ → Kept → Kept → Type 0
+UsesBlocks first blocks zero old new = new ≡ old
+UsesBlocks first blocks (suc count) old new =
+    (mid : Kept) × (UsesBlocks first blocks count old mid × UsesBlock (first + count) (slice_index_or blocks count []) mid new)
+
+-- without so many blocks in a row from the first one on
+abbrev pub without_run : ℕ → ℕ → Entries → Entries
+without_run first zero entries = entries
+without_run first (suc count) entries = remove_entry (nat_eq (first + count)) (without_run first count entries)

@@ -1,11 +1,11 @@
 -- What a disk with blocks that wait over it shows.
-use Rattle.std.specs.Prelude.{◌≡◌, [], ◌∷◌}
+use Rattle.std.specs.Prelude.{◌≡◌, ℕ, false, [], ◌∷◌}
 use Rattle.vm_disk.specs.declared.layers.Layers.{Layers}
 use Rattle.vm_disk.specs.Disk.{Medium, DiskState, moment}
 use Rattle.vm_disk.specs.Moments.{Throughout, TouchesOnly}
 use Rattle.vm_disk.specs.Laid.{laid, TouchesDirty, Rest}
 use Rattle.vm_disk.specs.declared.waiting.Waiting.{Waiting}
-use Rattle.vm_disk.specs.Waiting.{bytes_for}
+use Rattle.vm_disk.specs.Waiting.{bytes_for, waits}
 
 module _ {D : Type 0} {members : _} where
   -- the disk below
@@ -40,6 +40,10 @@ module _ {D : Type 0} {members : _} where
   pub record Sends (state : D → DiskState) (old new : Layers D members) : Type 0 where
     pub same : medium_of state new ≡ medium_of state old
     pub touches : Throughout (state (lower_of old)) (state (lower_of new)) (TouchesOnly (medium_of state old).dirty (state (lower_of old)).now)
+
+  -- a block that did not wait does not wait now
+  abbrev pub WaitNoMore : Layers D members → Layers D members → Type 0
+  WaitNoMore old new = (n : ℕ) → waits (waiting_of old) n ≡ false → waits (waiting_of new) n ≡ false
 
   -- but for its last call, the disk below was touched just where it is dirty above
   abbrev pub IsApart : (D → DiskState) → Layers D members → Layers D members → Type 0

@@ -1,7 +1,8 @@
 //! A disk that keeps the blocks which were used last.
-ghost use Rattle.std.specs.Prelude.{◌≡◌, ◌<◌, ◌≤◌, true, false, Some, nat_eq, IfOk, IfErr, OnOk, OnErr, IsOk};
+ghost use Rattle.std.specs.Prelude.{◌≡◌, ◌+◌, ◌<◌, ◌≤◌, true, false, Some, length, nat_eq, IfOk, IfErr, OnOk, OnErr, IsOk};
 ghost use Rattle.std.specs.Map.{lookup, remove_entry};
 ghost use Rattle.vm_disk.specs.Disk.{Counts, Reads, Writes, Idles, Forgets, Syncs, Extends, Enlarges};
+ghost use Rattle.vm_disk.specs.Moments.{WritesRun};
 ghost use Rattle.vm_disk.specs.Kept.{AreOf, entries_of};
 
 use crate::disk::{DeviceFault, Disk};
@@ -64,7 +65,7 @@ impl<D: Disk> CachedDisk<D> {
 
 impl<D: Disk> Disk for CachedDisk<D> {
     ghost use Rattle.vm_disk.specs.Kept.{keeps};
-    ghost use Rattle.vm_disk.specs.Cached.{inner_of, kept_of, cached_state, Uses, KeepsJust};
+    ghost use Rattle.vm_disk.specs.Cached.{inner_of, kept_of, cached_state, KeepsJust, LosesRun, Uses, UsesRun};
 
     ghost state = { cached_state D.state };
 
@@ -122,13 +123,36 @@ impl<D: Disk> Disk for CachedDisk<D> {
     {
         match self.inner.write(n, from) {
             Ok(()) => {
-                if !self.kept.change(n, from) {
-                    self.kept.keep(n, from);
-                }
+                self.kept.set(n, from);
                 Ok(())
             }
             Err(fault) => {
                 self.kept.forget(n);
+                Err(fault)
+            }
+        }
+    }
+
+    fn write_run(&mut self, n: u32, blocks: &[[u8; 4096]]) -> Result<(), DeviceFault>
+        requires { n + length blocks.now ≤ (cached_state D.state self.old).blocks }
+        ensures any { Counts 0 result (cached_state D.state self.old) (cached_state D.state self.new) }
+        ensures honest { (cached_state D.state self.new).honest ≡ true
+            → WritesRun n blocks.now result (cached_state D.state self.old) (cached_state D.state self.new) }
+
+        // The disk below is asked once for all of them.
+        ensures passed { Counts 0 result (D.state (inner_of self.old)) (D.state (inner_of self.new)) }
+        ensures kept { OnOk result (UsesRun n blocks.now self.old self.new) }
+
+        // Where that failed, none of them is kept.
+        ensures lost { OnErr result (LosesRun n (length blocks.now) self.old self.new) }
+    {
+        match self.inner.write_run(n, blocks) {
+            Ok(()) => {
+                self.kept.set_run(n, blocks);
+                Ok(())
+            }
+            Err(fault) => {
+                self.kept.forget_run(n, blocks.len() as u32);
                 Err(fault)
             }
         }

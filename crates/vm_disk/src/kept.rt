@@ -1,5 +1,5 @@
 //! The blocks that a cache keeps.
-ghost use Rattle.std.specs.Prelude.{◌≡◌, ◌⊎◌, ◌+◌, [], nat_eq, false, IfSome, IfOk};
+ghost use Rattle.std.specs.Prelude.{◌≡◌, ◌⊎◌, ◌+◌, ◌<◌, ◌^◌, ℕ, [], length, nat_eq, false, IfSome, IfOk};
 ghost use Rattle.std.specs.Bool.{OnTrue, OnFalse};
 ghost use Rattle.std.specs.Map.{lookup, remove_entry};
 ghost use Rattle.std.specs.NonZero.{non_zero_usize_get};
@@ -29,7 +29,7 @@ fn fill(room: &mut Room, bytes: &[u8; 4096])
 }
 
 impl Kept {
-    ghost use Rattle.vm_disk.specs.Kept.{entries_of, limit_of, refusals_in, keeps, with_first, Settings};
+    ghost use Rattle.vm_disk.specs.Kept.{entries_of, limit_of, refusals_in, keeps, with_first, without_run, Settings, UsesBlock, UsesBlocks};
 
     /// No blocks yet. Takes memory for the order of all of them, and for the bytes of one.
     pub(crate) fn new(alloc: Global, capacity: NonZeroUsize) -> Result<Kept, AllocError>
@@ -113,6 +113,27 @@ impl Kept {
         }
     }
 
+    /// Gives block n these bytes: in its place where it is kept, or else as a new one, if there is memory.
+    pub(crate) fn set(&mut self, n: u32, bytes: &[u8; 4096])
+        ensures { UsesBlock n bytes.now self.old self.new }
+    {
+        if !self.change(n, bytes) {
+            self.keep(n, bytes);
+        }
+    }
+
+    /// Does so with the blocks in a row from block n on, one after another.
+    pub(crate) fn set_run(&mut self, n: u32, blocks: &[[u8; 4096]])
+        requires { n + length blocks.now < 2 ^ 32 }
+        ensures { UsesBlocks n blocks.now (length blocks.now) self.old self.new }
+    {
+        let mut at = n;
+        for block in blocks {
+            self.set(at, block);
+            at += 1;
+        }
+    }
+
     /// Keeps block n no longer.
     pub(crate) fn forget(&mut self, n: u32)
         ensures entries { entries_of self.new ≡ remove_entry (nat_eq n) (entries_of self.old) }
@@ -123,6 +144,17 @@ impl Kept {
             if let Some(room) = self.rooms.pop(&n) {
                 self.spare = Some(room);
             }
+        }
+    }
+    /// Keeps so many blocks in a row no longer, from the first one on.
+    pub(crate) fn forget_run(&mut self, first: u32, count: u32)
+        requires { first + count < 2 ^ 32 }
+        ensures entries { entries_of self.new ≡ without_run first count (entries_of self.old) }
+        ensures gone { (i : ℕ) → i < count → keeps (first + i) (entries_of self.new) ≡ false }
+        ensures settings { Settings self.old self.new }
+    {
+        for i in 0..count {
+            self.forget(first + i);
         }
     }
 }

@@ -19,7 +19,7 @@ pub(crate) struct Layers<D: Disk> {
 }
 
 impl<D: Disk> Layers<D> {
-    ghost use Rattle.vm_disk.specs.Layers.{lower_of, waiting_of, medium_of, layers_state, called, Sends, IsApart};
+    ghost use Rattle.vm_disk.specs.Layers.{lower_of, waiting_of, medium_of, layers_state, called, Sends, WaitNoMore, IsApart};
 
     /// No block waits yet. Where memory is refused, the disk comes back.
     pub(crate) fn new(alloc: Global, inner: D, capacity: NonZeroUsize) -> Result<Layers<D>, D>
@@ -45,6 +45,7 @@ impl<D: Disk> Layers<D> {
         ensures honest { (D.state (lower_of self.new)).honest ≡ true → Sends D.state self.old self.new }
         ensures fewer { OnOk result (waits (waiting_of self.old) n ≡ true
             → count_of (waiting_of self.new) < count_of (waiting_of self.old)) }
+        ensures no_more { WaitNoMore self.old self.new }
     {
         if let Some(bytes) = self.waiting.bytes(n) {
             self.inner.write(n, bytes)?;
@@ -59,6 +60,7 @@ impl<D: Disk> Layers<D> {
         ensures honest { (D.state (lower_of self.new)).honest ≡ true → Sends D.state self.old self.new }
         ensures fewer { OnOk result (waits (waiting_of self.old) n ≡ true
             → count_of (waiting_of self.new) < count_of (waiting_of self.old)) }
+        ensures no_more { WaitNoMore self.old self.new }
     {
         let first = self.waiting.begin_run(n);
         self.waiting.copy_run(first, &mut self.run);
@@ -71,13 +73,14 @@ impl<D: Disk> Layers<D> {
         Ok(())
     }
 
-    // Writes the block out whose last write is the longest ago, with its neighbours, unless block n has
-    // a place without that.
-    fn make_place(&mut self, n: u32) -> Result<(), DeviceFault>
+    // Writes the block out whose last write is the longest ago, with its neighbours, unless one more may
+    // wait without that.
+    fn make_place(&mut self) -> Result<(), DeviceFault>
         ensures any { Counts 0 result (layers_state D.state self.old) (layers_state D.state self.new) }
         ensures honest { (D.state (lower_of self.new)).honest ≡ true → Sends D.state self.old self.new }
+        ensures no_more { WaitNoMore self.old self.new }
     {
-        if self.waiting.has_place(n) {
+        if self.waiting.has_place() {
             return Ok(());
         }
         match self.waiting.oldest() {
@@ -116,8 +119,8 @@ impl<D: Disk> Layers<D> {
         }
     }
 
-    /// Has block n wait with these bytes. Where it has no place, the oldest is written out for it, and
-    /// where memory is refused, it is itself.
+    /// Has block n wait with these bytes, in its place where it waits already. Where too many would wait,
+    /// the oldest is written out for it, and where memory is refused, it is itself.
     pub(crate) fn write(&mut self, n: u32, from: &[u8; 4096]) -> Result<(), DeviceFault>
         requires { n < (layers_state D.state self.old).blocks }
         ensures any { Counts 0 result (layers_state D.state self.old) (layers_state D.state self.new) }
@@ -126,7 +129,10 @@ impl<D: Disk> Layers<D> {
         ensures below { (D.state (lower_of self.new)).honest ≡ true
             → IsApart D.state self.old self.new }
     {
-        if let Err(fault) = self.make_place(n) {
+        if self.waiting.change(n, from) {
+            return Ok(());
+        }
+        if let Err(fault) = self.make_place() {
             // So that this block is dirty, too.
             let _ = self.inner.write(n, from);
             return Err(fault);

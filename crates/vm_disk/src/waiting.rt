@@ -66,11 +66,11 @@ impl Waiting {
         }
     }
 
-    /// Whether block n waits, or one more may.
-    pub(crate) fn has_place(&self, n: u32) -> bool
-        ensures { result ≡ (waits self.now n || nat_lt (count_of self.now) (limit_of self.now)) }
+    /// Whether one more block may wait.
+    pub(crate) fn has_place(&self) -> bool
+        ensures { result ≡ nat_lt (count_of self.now) (limit_of self.now) }
     {
-        self.rooms.contains(&n) || self.rooms.len() < self.rooms.cap().get()
+        self.rooms.len() < self.rooms.cap().get()
     }
 
     // Room with these bytes, unless memory for it is refused.
@@ -87,19 +87,31 @@ impl Waiting {
         }
     }
 
-    /// Has block n wait with these bytes, and tells whether it does: not where it has no place, or
+    /// Gives block n these bytes, if it waits, and tells whether it does: then its last write is the
+    /// newest.
+    pub(crate) fn change(&mut self, n: u32, bytes: &[u8; 4096]) -> bool
+        ensures answer { result ≡ waits self.old n }
+        ensures changed { OnTrue result ((k : ℕ)
+            → bytes_for self.new k ≡ update nat_eq (bytes_for self.old) n (Some bytes.now) k) }
+        ensures missed { OnFalse result (self.new ≡ self.old) }
+    {
+        match self.rooms.get_mut(&n) {
+            Some(room) => {
+                fill(room, bytes);
+                true
+            }
+            None => false,
+        }
+    }
+
+    /// Has block n wait with these bytes, and tells whether it does: not where no more may wait, or
     /// memory for it is refused.
     pub(crate) fn put(&mut self, n: u32, bytes: &[u8; 4096]) -> bool
         ensures placed { OnTrue result ((k : ℕ)
             → bytes_for self.new k ≡ update nat_eq (bytes_for self.old) n (Some bytes.now) k) }
         ensures refused { OnFalse result ((k : ℕ) → bytes_for self.new k ≡ bytes_for self.old k) }
-        ensures new { OnFalse result (waits self.old n ≡ false) }
     {
-        if let Some(room) = self.rooms.get_mut(&n) {
-            fill(room, bytes);
-            return true;
-        }
-        if !self.has_place(n) {
+        if !self.has_place() {
             return false;
         }
         let Some(room) = self.room(bytes) else {

@@ -1,22 +1,24 @@
-//! Lines that are answered over a disk of which the blocks that were used last stay in memory.
+//! Lines that are answered over a disk of which blocks stay in memory, with those over it that wait.
 ghost use Rattle.std.specs.Prelude.{◌≡◌, ◌⊎◌};
 ghost use Rattle.vm_types.specs.declared.refusal.Refusal.{Refusal as RefusalValue};
-ghost use Rattle.vm_cli.specs.Caching.{IsServed};
+ghost use Rattle.vm_cli.specs.Caching.{IsNotServed, IsServed};
 ghost use Rattle.vm_cli.specs.Exits.{MayEnd, Tells, refused_text};
-ghost use Rattle.vm_cli.specs.Sessions.{HasRefused};
 
-use crate::program::{Exit, answer_lines};
+use crate::program::Exit;
+use crate::program::delaying::answer_lines_late;
+use crate::program::task::InMemory;
 use crate::talk::OnRefusal;
 use std::alloc::Global;
 use std::io::{Read, Write};
-use vm_disk::{CachedDisk, Disk};
+use vm_disk::{CachedDisk, DelayedDisk, Disk};
 
-/// Opens the store on a disk, and answers the lines of the input. Up to `cache` blocks of the disk stay
-/// in memory; where there is no memory for a cache, none do.
-pub fn answer_lines_cached<D: Disk, R: Read, W: Write, F: Write>(
+/// Opens the store on a disk, and answers the lines of the input. The blocks of the disk that were used
+/// last stay in memory; where there is no memory for a cache, none do. Written blocks wait over that:
+/// one that is forgotten while it waits never reaches the cache, and one that was written out stays there.
+pub fn answer_lines_in_memory<D: Disk, R: Read, W: Write, F: Write>(
     alloc: Global,
     disk: D,
-    cache: u32,
+    in_memory: InMemory,
     on_refusal: OnRefusal,
     input: &mut R,
     output: &mut W,
@@ -24,20 +26,24 @@ pub fn answer_lines_cached<D: Disk, R: Read, W: Write, F: Write>(
 ) -> (Exit, D)
     ensures ends { ((errors.new ≡ errors.old) × MayEnd on_refusal result.0)
         ⊎ ((output.new ≡ output.old) × ((refusal : RefusalValue) × Tells Exit.Refused result.0 (F.contents errors.old) (F.contents errors.new) (refused_text refusal))) }
-    // The lines are answered as `answer_lines` promises, over the disk itself or over a cache of so many blocks of it; or it is said
-    // why the disk shows no store, and it is at most synced.
-    ensures served { IsServed D.Disk ⟦<CachedDisk<D> as Disk>⟧ cache on_refusal disk result.1 result.0 (R.remaining input.old) (W.contents output.old) (W.contents output.new)
-        ⊎ ((refusal : RefusalValue) × HasRefused (D.state disk) (D.state result.1) refusal
+    // The lines are answered as `answer_lines_late` promises, over the disk itself or over a cache of its blocks; or it is said why the
+    // one or the other shows no store, and that it is at most synced.
+    ensures served { IsServed D.Disk ⟦<CachedDisk<D> as Disk>⟧ ⟦<DelayedDisk<D> as Disk>⟧ ⟦<DelayedDisk<CachedDisk<D>> as Disk>⟧ in_memory on_refusal disk result.1 result.0
+        (R.remaining input.old) (W.contents output.old) (W.contents output.new)
+        ⊎ ((refusal : RefusalValue) × IsNotServed D.Disk ⟦<CachedDisk<D> as Disk>⟧ ⟦<DelayedDisk<D> as Disk>⟧ ⟦<DelayedDisk<CachedDisk<D>> as Disk>⟧ in_memory disk result.1 refusal
         × Tells Exit.Refused result.0 (F.contents errors.old) (F.contents errors.new) (refused_text refusal)) }
 {
+    let InMemory { cache, buffer } = in_memory;
     if cache == 0 {
-        return answer_lines(alloc, disk, on_refusal, input, output, errors);
+        return answer_lines_late(alloc, disk, buffer, on_refusal, input, output, errors);
     }
     match CachedDisk::new(alloc, disk, cache as usize) {
         Ok(cached) => {
-            let (exit, cached) = answer_lines(alloc, cached, on_refusal, input, output, errors);
+            let (exit, cached) = answer_lines_late(
+                alloc, cached, buffer, on_refusal, input, output, errors,
+            );
             (exit, cached.into_inner())
         }
-        Err(disk) => answer_lines(alloc, disk, on_refusal, input, output, errors),
+        Err(disk) => answer_lines_late(alloc, disk, buffer, on_refusal, input, output, errors),
     }
 }

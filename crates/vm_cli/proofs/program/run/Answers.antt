@@ -1,6 +1,6 @@
 use Rattle.std.proofs.Common.{◌∙◌, ap, inl, inr, refl, sym, Some}
 use Rattle.vm_cli.specs.Places.{KeepsOthers, WasLent}
-use Rattle.vm_cli.proofs.FilesLemmas.{keeps_all, kept_told_late, refused_told, synced_alone, was_honest_late}
+use Rattle.vm_cli.proofs.FilesLemmas.{keeps_all, kept_told, refused_told, synced_alone, was_honest}
 use Rattle.vm_cli.proofs.program.run.Goals as goal
 
 pub returns-clause-files : goal.returns-clause-files
@@ -9,30 +9,30 @@ returns-clause-files g c honest =
     let after = g.P.Place.state c.give_back.new.self in
     let back = c.give_back.ensures.honest honest in
     let found = c.in-Some.ensures.honest (c.give_back.ensures.earlier honest) in
-    let lent : WasLent c.args.file.now (g.P.D.Disk.state c.in-Some.disk) (g.P.D.Disk.state c.answer_lines_late-exit.result.1) after = record { fresh = found.fresh; honest = back.honest; holds = back.holds; came = back.came } in
+    let lent : WasLent c.args.file.now (g.P.D.Disk.state c.in-Some.disk) (g.P.D.Disk.state c.answer_lines_in_memory-exit.result.1) after = record { fresh = found.fresh; honest = back.honest; holds = back.holds; came = back.came } in
     let others : KeepsOthers c.args.file.now before after = λ other apart. back.others other apart ∙ found.same other in
-    elim c.answer_lines_late-exit.ensures.served [
+    elim c.answer_lines_in_memory-exit.ensures.served [
       | inl served ↦
-          let held = found.held (was_honest_late g.P.D.Disk _ _ _ (λ disk. refl) (λ disk. refl) (λ disk. refl) _ _ _ _ _ _ _ _ served back.honest) in
+          let held = found.held (was_honest g.P.D.Disk _ _ _ (λ disk. refl) (λ disk. refl) (λ disk. refl) _ _ _ _ _ _ _ _ served back.honest) in
           inl (record {
             found = c.in-Some.disk;
-            back = c.answer_lines_late-exit.result.1;
+            back = c.answer_lines_in_memory-exit.result.1;
             served = served;
             held = held.0;
             clean = held.1;
             lent = lent;
             others = others;
-            kept = kept_told_late g.P.D.Disk _ _ _ (λ disk. refl) (λ disk. refl) (λ disk. refl) _ _ _ _ _ _ _ _ served back.honest found.fresh held.1;
+            kept = kept_told g.P.D.Disk _ _ _ (λ disk. refl) (λ disk. refl) (λ disk. refl) _ _ _ _ _ _ _ _ served back.honest found.fresh held.1;
           })
       | inr refused ↦
-          let itself = refused_told g.P.D.Disk _ (λ disk. refl) _ _ _ refused.0 found.fresh (λ there. (found.held there).1) refused.1 in
+          let itself = refused_told g.P.D.Disk _ _ _ (λ disk. refl) (λ disk. refl) (λ disk. refl) _ _ _ refused.0 found.fresh (λ there. (found.held there).1) refused.1 in
           let held = found.held (itself.goes.earlier back.honest) in
           let same = back.holds ∙ ap Some (synced_alone _ _ (itself.moments back.honest)) ∙ sym held.0 in
           inr (record {
             same = keeps_all c.args.file.now before after others same;
             told = inr (record {
               found = c.in-Some.disk;
-              back = c.answer_lines_late-exit.result.1;
+              back = c.answer_lines_in_memory-exit.result.1;
               held = held.0;
               lent = lent;
               refusal = refused.0;

@@ -1,6 +1,7 @@
-use Rattle.std.proofs.Common.{◌≡◌, ◌+◌, ◌&&◌, ℕ, List, None, length, nat_le, nat_lt, if◌then◌else◌, ap, subst, ◌∙◌, arith}
+use Rattle.std.proofs.Common.{◌≡◌, ◌+◌, ◌&&◌, ℕ, List, None, Option, is_some, length, nat_le, nat_lt, if◌then◌else◌, ap, subst, ◌∙◌, arith}
 use Rattle.vm_disk.specs.Moments.{WritesRun, in_run}
 use Rattle.vm_disk.specs.Waiting.{bytes_for}
+use Rattle.vm_disk.proofs.WaitingLemmas.{none_left}
 use Rattle.vm_disk.proofs.LaidLemmas.{run_sent_same, run_unsent_same, run_touches}
 use Rattle.vm_disk.proofs.layers.Layers.send.Goals as goal
 
@@ -38,3 +39,7 @@ returns-clause-honest g c honest =
       same = run_sent_same held first blocks old new c.copy_run.ensures _ c.write_run.result (bytes_for c.forget_run.new.self) c.in_ok-write_run.was gone writes;
       touches = run_touches held first blocks old new c.copy_run.ensures c.write_run.result writes;
     }
+
+pub returns-clause-no_more : goal.returns-clause-no_more
+returns-clause-no_more g c n before =
+    ap (λ (o : Option (List ℕ)). is_some o) (c.forget_run.ensures.gone n) ∙ none_left _ (bytes_for c.args.self.now.waiting n) before

@@ -1,7 +1,8 @@
-use Rattle.std.proofs.Common.{option_copied, sym, ap, ◌∙◌, is_some, Option, List, ℕ}
+use Rattle.std.proofs.Common.{option_copied, sym, ap, ◌∙◌, is_some, nat_eq, Option, List, ℕ}
 use Rattle.std.proofs.lemmas.Bool.{or_right}
 use Rattle.vm_disk.specs.Waiting.{bytes_for}
 use Rattle.vm_disk.specs.Layers.{medium_of}
+use Rattle.vm_disk.proofs.WaitingLemmas.{none_left}
 use Rattle.vm_disk.proofs.LaidLemmas.{sent_same, unsent_same, touched_once}
 use Rattle.vm_disk.proofs.layers.Layers.send_alone.Goals as goal
 
@@ -24,3 +25,7 @@ returns-in_ok-write-clause-honest g c honest =
       same = sent_same (bytes_for c.args.self.now.waiting) (bytes_for c.forget.new.self) c.args.n c.in-Some.bytes.now _ c.write.result (state c.args.self.now.inner) (state c.write.new.self) c.in_ok-write.was waits c.forget.ensures.gone writes;
       touches = touched_once c.args.n c.in-Some.bytes.now c.write.result (medium_of state c.args.self.now).dirty (state c.args.self.now.inner) (state c.write.new.self) (or_right _ _ (ap (λ (o : Option (List ℕ)). is_some o) waits)) writes;
     }
+
+pub returns-in_ok-write-clause-no_more : goal.returns-in_ok-write-clause-no_more
+returns-in_ok-write-clause-no_more g c n before =
+    ap (λ (o : Option (List ℕ)). is_some o) (c.forget.ensures.gone n) ∙ none_left (nat_eq c.args.n n) (bytes_for c.args.self.now.waiting n) before

@@ -1,32 +1,14 @@
-use Rattle.std.proofs.Common.{List, ℕ, length, nat_eq, sym, ap, ◌∙◌}
-use Rattle.std.proofs.lemmas.Bool.{or_left}
+use Rattle.std.proofs.Common.{length, nat_eq, sym, ap, ◌∙◌}
+use Rattle.std.proofs.lemmas.Bool.{or_right}
 use Rattle.std.proofs.lemmas.List.{length-map}
 use Rattle.std.specs.Map.{lookup}
-use Rattle.std.specs.Option.{option_copied_mut}
-use Rattle.vm_disk.specs.Kept.{with_first}
-use Rattle.vm_disk.proofs.KeptLemmas.{view, view_written, after_push, kept_found, kept_missed}
+use Rattle.vm_disk.proofs.KeptLemmas.{after_push}
 use Rattle.vm_disk.proofs.WaitingLemmas.{first_found}
 use Rattle.vm_disk.proofs.waiting.Waiting.put.Goals as goal
-
-pub returns-in-Some-clause-placed : goal.returns-in-Some-clause-placed
-returns-in-Some-clause-placed c k =
-    let was = c.args.self.now.rooms in
-    ap (lookup (nat_eq k))
-    (view_written (λ room. room.value) was.cap c.args.n was.entries c.in-Some.room.now c.fill.new.room (sym c.get_mut.ensures.value ∙ ap option_copied_mut c.in-Some.is)
-    ∙ ap (λ (bytes : List ℕ). with_first was.cap c.args.n bytes (view (λ room. room.value) was.entries)) c.fill.ensures)
-    ∙ first_found was.cap (length was.entries) c.args.n c.args.bytes.now _ (length-map was.entries _) (or_left _ _ (kept_found (λ room. room.value) c.args.n was.entries c.in-Some.room.now (sym c.get_mut.ensures.value ∙ ap option_copied_mut c.in-Some.is))) k
-
-pub returns-in_default-room-clause-new : goal.returns-in_default-room-clause-new
-returns-in_default-room-clause-new c =
-    kept_missed (λ room. room.value) c.args.n c.args.self.now.rooms.entries (sym c.get_mut.ensures.value ∙ ap option_copied_mut c.in_default.is)
 
 pub returns-in-Ok-clause-placed : goal.returns-in-Ok-clause-placed
 returns-in-Ok-clause-placed c k =
     let was = c.args.self.now.rooms in
     ap (lookup (nat_eq k))
-    (after_push (λ room. room.value) c.args.n was c.room.new.self.rooms c.push.new.self c.in-Some-room.room c.args.bytes.now c.in-Ok.ensures.entries c.room.ensures.rooms c.in-Some-room.ensures.bytes)
-    ∙ first_found was.cap (length was.entries) c.args.n c.args.bytes.now _ (length-map was.entries _) (sym c.has_place.ensures ∙ c.if-not-has_place.false) k
-
-pub returns-clause-new : goal.returns-clause-new
-returns-clause-new c =
-    kept_missed (λ room. room.value) c.args.n c.args.self.now.rooms.entries (sym c.get_mut.ensures.value ∙ ap option_copied_mut c.in_default.is)
+    (after_push (λ room. room.value) c.args.n was c.room.new.self.rooms c.push.new.self c.in-Some.room c.args.bytes.now c.in-Ok.ensures.entries c.room.ensures.rooms c.in-Some.ensures.bytes)
+    ∙ first_found was.cap (length was.entries) c.args.n c.args.bytes.now _ (length-map was.entries _) (or_right _ _ (sym c.has_place.ensures ∙ c.if-not-has_place.false)) k
