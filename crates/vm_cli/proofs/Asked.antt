@@ -240,7 +240,7 @@ module _ (rows : List Row) where
 
   buffer_ends : has_row (codes "buffer") (with_default with_strict (filled help_rule)) ≡ true
   buffer_ends =
-      let here : has_row (codes "buffer") with_buffer ≡ true = has-default buffer_option with_cache (codes "0") [] refl in
+      let here : has_row (codes "buffer") with_buffer ≡ true = has-default buffer_option with_cache (codes "16384") [] refl in
       let there : has_row (codes "buffer") with_strict ≡ true = has-stays (codes "buffer") (filled strict_rule) with_buffer here in
       subst (λ ends. has_row (codes "buffer") ends ≡ true) (sym (no-default (filled help_rule) with_strict refl)) there
 

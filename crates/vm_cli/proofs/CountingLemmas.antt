@@ -112,20 +112,20 @@ pub nothing : Alternative
 nothing = record { name = []; parent = None; current = []; base = []; saved = [] }
 
 module _ {D : Type 0} {members : _} (store : Store D members) (s : State) (holds : Holds store s) where
-  order : InOrder [] holds.new
-  order = in_order (standing holds)
+  order : InOrder [] holds.rests.new
+  order = in_order (standing holds.rests)
 
   apart : Apart s.working
-  apart = subst Apart holds.gives_new (apart_grown [] holds.new tt order)
+  apart = subst Apart holds.rests.gives_new (apart_grown [] holds.rests.new tt order)
 
   -- there are few checkpoints
   few : checkpoint_count s.working ≤ 511
   few =
-      let counted : entry_count (with_filed [] holds.new) ≡ entry_count [] + length holds.new = count_grown [] holds.new order in
+      let counted : entry_count (with_filed [] holds.rests.new) ≡ entry_count [] + length holds.rests.new = count_grown [] holds.rests.new order in
       let none : entry_count [] ≡ 0 = refl in
-      let long : length holds.new ≡ length store.working =
-      standing_length _ _ _ store.working holds.new holds.stands in
-      let same : entry_count (with_filed [] holds.new) ≡ entry_count s.working = ap entry_count holds.gives_new in
+      let long : length holds.rests.new ≡ length store.working =
+      standing_length _ _ _ store.working holds.rests.new holds.rests.stands in
+      let same : entry_count (with_filed [] holds.rests.new) ≡ entry_count s.working = ap entry_count holds.rests.gives_new in
       let entries : length store.working ≤ 511 = subst (λ n. n ≤ 511) (slot-length store.working) holds.fits.head.few in
       let among = few_among s.working in
       omega arith

@@ -21,4 +21,4 @@ module _ {D : Type 0} (members : Ghosts D) where
     pub opens : OpensAs x store
     pub alternatives_are : alternatives ≡ length opens.seen.tree
     pub checkpoints_are : checkpoints ≡ checkpoint_count opens.seen.tree
-    pub free_are : free ≡ spare_of opens.holds
+    pub free_are : free ≡ spare_of opens.holds.rests

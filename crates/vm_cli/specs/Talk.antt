@@ -125,7 +125,7 @@ module _ {D : Type 0} {members : _} where
 
   -- the number of blocks that are not held, all of which are spare
   abbrev pub CountsFree : Store D members → State → ℕ → Type 0
-  CountsFree store s count = (count ≡ free_of store) × ((holds : Holds store s) → count ≤ spare_of holds)
+  CountsFree store s count = (count ≡ free_of store) × ((holds : Holds store s) → count ≤ spare_of holds.rests)
 
   -- a command is answered as the store carried it out
   abbrev pub AnswersCommand : Store D members → Store D members → State → Command → List ℕ → Done → Type 0

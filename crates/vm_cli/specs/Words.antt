@@ -39,12 +39,12 @@ cache_rule = record (new_rule (codes "cache")) {
   parser = Some (vp.Signed (pos 0) (pos 65536));
 }
 
--- how many written blocks wait in memory: a number in its range, and 0 where no word says one
+-- how many written blocks wait in memory: a number in its range, and 16384 where no word says one
 abbrev pub buffer_rule : Rule
 buffer_rule = record (new_rule (codes "buffer")) {
   long = Some (codes "buffer");
   value_names = 1;
-  defaults = codes "0" ∷ [];
+  defaults = codes "16384" ∷ [];
   parser = Some (vp.Signed (pos 0) (pos 65536));
 }
 

@@ -48,7 +48,7 @@ fn job_has_the_number_that_the_words_say(rt: HostRuntime) -> Result<(), Fail> {
         (["altctl", "run", "--cache", "064", "f"].as_slice(), 64),
         (["altctl", "run", "--cache", "+64", "f"].as_slice(), 64),
     ] {
-        let buffer = 0;
+        let buffer = 16_384;
         expect_in_memory(&rt, words, InMemory { cache, buffer })?;
     }
     Ok(())

@@ -165,7 +165,7 @@ fn shows_all_lines(rt: HostRuntime) -> Result<(), Fail> {
         "--buffer <N>",
         "0 to 65536",
         "[default: 256]",
-        "[default: 0]",
+        "[default: 16384]",
         "--strict",
         "\nBLOCKS is how many blocks the store is to have: ",
         "\n  Not a larger size 21 BadSize\n",

@@ -303,7 +303,7 @@ fn buffer<'a>(alloc: Global) -> Arg<'a>
         .long("buffer")
         .value_name("N")
         .help(help::RUN_BUFFER)
-        .default_value("0")
+        .default_value("16384")
         .value_parser(value_parser!(u32).range(0..=65_536))
 }
 
