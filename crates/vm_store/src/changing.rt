@@ -68,7 +68,8 @@ pub fn make_changes<D: Disk>(
     // What is held stays held, and at no moment has a block that was held other bytes than before.
     ensures still { HoldsMore held.old held.new }
     ensures moments { (D.state disk.new).honest ≡ true
-        → Throughout (D.state disk.old) (D.state disk.new) (TouchesOnly (is_free held.old) (D.state disk.old).now) }
+        → Throughout (D.state disk.old) (D.state disk.new)
+        (TouchesOnly (is_free held.old) (D.state disk.old).now) }
 
     // On a tree in held blocks the answer is a root that has the map with the changes made, or Deep where one of
     // them meets a full path, unless the device fails.

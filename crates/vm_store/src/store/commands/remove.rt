@@ -80,7 +80,8 @@ impl<D: Disk> Store<D> {
         requires found { find (is_alternative_of alt.now) (entries_of self.old).1 ≡ Some version }
         requires series { series_of self.old ≡ Some alt.now }
         requires room { 16 * 1 ≤ free_of self.old }
-        requires reason { (missing ≢ Refusal.Device) × (missing ≢ Refusal.Failed) × (missing ≢ Refusal.Memory) }
+        requires device { missing ≢ Refusal.Device }
+        requires never { (missing ≢ Refusal.Failed) × (missing ≢ Refusal.Memory) }
         ensures any { GoesOn (result ≡ Err Refusal.Device) self.old self.new }
         ensures failed { has_failed self.new ≡ has_failed self.old }
         ensures never { (result ≢ Err Refusal.Failed) × (result ≢ Err Refusal.Memory) }
