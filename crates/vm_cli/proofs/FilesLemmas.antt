@@ -106,7 +106,7 @@ module _ {D : Type 0} (members : Ghosts D) (late : Ghosts (DelayedDisk D members
           let now : (late.state over.first).now ≡ (members.state found).now = rw (same over.first) over.idle.now in
           let above : Keeps (late.state over.first) (late.state over.last) (opened seen) commands answers =
           over.done.kept there seen (clean_leaves (λ x. Shows x seen) (late.state over.first).now
-              (subst (λ (m : Medium). IsClean m) (sym now) clean) (subst (λ (m : Medium). Shows m.contents seen) (sym now) shows)) in
+          (subst (λ (m : Medium). IsClean m) (sym now) clean) (subst (λ (m : Medium). Shows m.contents seen) (sym now) shows)) in
           let kept : Keeps (delayed_state members.state over.first) (delayed_state members.state over.last) (opened seen) commands answers =
           subst (λ (t : DiskState). Keeps (delayed_state members.state over.first) t (opened seen) commands answers) (same over.last)
           (subst (λ (t : DiskState). Keeps t (late.state over.last) (opened seen) commands answers) (same over.first) above) in

@@ -46,6 +46,44 @@ fn cache_asks_for_what_it_does_not_keep(rt: HostRuntime) -> Result<(), Fail> {
 }
 
 #[test]
+fn cache_keeps_the_blocks_of_a_run(rt: HostRuntime) -> Result<(), Fail> {
+    let fuse = FuseDisk::once(memory(rt.alloc(), 8)?, 99, [9; 4096]);
+    let mut disk = cached(rt.alloc(), fuse, 3)?;
+    let row = "
+        fill 2 5
+        calls -> 1
+        run 1 6 7 8
+        calls -> 4
+        holds 1 2 3 -> 6 7 8
+        calls -> 4
+        # Block 1 was used longest ago, and goes.
+        holds 4 -> 0
+        holds 2 3 -> 7 8
+        calls -> 5
+        holds 1 -> 6
+        calls -> 6";
+    plays(&rt, &mut disk, row);
+    Ok(())
+}
+
+#[test]
+fn cache_keeps_no_block_of_a_run_that_failed(rt: HostRuntime) -> Result<(), Fail> {
+    let fuse = FuseDisk::once(memory(rt.alloc(), 8)?, 4, [9; 4096]);
+    let mut disk = cached(rt.alloc(), fuse, 4)?;
+    let row = "
+        fill 1 1
+        fill 2 2
+        run 1 6 7 8 -> fault
+        calls -> 5
+        holds 1 2 3 -> 6 7 9
+        calls -> 8
+        holds 1 2 3 -> 6 7 9
+        calls -> 8";
+    plays(&rt, &mut disk, row);
+    Ok(())
+}
+
+#[test]
 fn cache_gets_longer(rt: HostRuntime) -> Result<(), Fail> {
     let mut disk = cached(rt.alloc(), memory_with_room(rt.alloc(), 2, 4)?, 4)?;
     let row = "

@@ -1,6 +1,6 @@
 //! Which blocks a disk that writes late has written, by hand.
 use super::script::plays;
-use super::seen::{late, memory, memory_with_room};
+use super::seen::{cached, late, memory, memory_with_room};
 use std::test::Fail;
 use vm_disk::FuseDisk;
 
@@ -169,5 +169,50 @@ fn a_forgotten_block_is_never_written(rt: HostRuntime) -> Result<(), Fail> {
         is 0 1 -> no
         holds 1 2 3 -> 2 3 0";
     plays(&rt, &mut disk, row);
+    Ok(())
+}
+
+#[test]
+fn a_forgotten_block_takes_no_place_in_a_cache_below(rt: HostRuntime) -> Result<(), Fail> {
+    let fuse = FuseDisk::once(memory(rt.alloc(), 8)?, 99, [0; 4096]);
+    let mut disk = late(rt.alloc(), cached(rt.alloc(), fuse, 2)?, 2)?;
+    let row = "
+        holds 5 6 -> 0 0
+        calls -> 2
+        fill 0 1
+        fill 1 2
+        forget 0
+        holds 5 6 -> 0 0
+        calls -> 2
+        # Block 1 goes out, and takes the place of block 5.
+        sync
+        calls -> 4
+        holds 1 6 -> 2 0
+        calls -> 4
+        holds 5 -> 0
+        calls -> 5";
+    plays(&rt, &mut disk, row);
+    Ok(())
+}
+
+#[test]
+fn what_was_written_out_stays_in_a_cache_below(rt: HostRuntime) -> Result<(), Fail> {
+    let fuse = FuseDisk::once(memory(rt.alloc(), 8)?, 99, [0; 4096]);
+    let mut disk = late(rt.alloc(), cached(rt.alloc(), fuse, 2)?, 2)?;
+    let row = "
+        fill 2 3
+        fill 3 4
+        fill 2 5
+        calls -> 0
+        # Both go out in a row, and stay.
+        sync
+        calls -> 3
+        holds 2 3 -> 5 4
+        calls -> 3";
+    plays(&rt, &mut disk, row);
+    let below = "
+        dirty 2 3 -> no no
+        holds 2 3 -> 5 4";
+    plays(&rt, &mut disk.into_inner().into_inner().into_inner(), below);
     Ok(())
 }

@@ -3,6 +3,8 @@ ghost use Rattle.std.specs.Prelude.{◌≡◌, ◌<◌, ◌∷◌, [], length, M
 ghost use Rattle.vm_cli.specs.Pieces.{before_mark, behind_mark};
 ghost use Rattle.vm_cli.specs.Spaces.{words_of};
 
+use memchr::memchr;
+
 /// The first word of a line, and what stands after it.
 pub fn first_word(line: &[u8]) -> Option<(&[u8], &[u8])>
     ensures { MatchOption result (words_of line.now ≡ [])
@@ -25,10 +27,8 @@ pub fn first_piece(bytes: &[u8], mark: u8) -> (&[u8], &[u8])
     ensures rest { result.1.now ≡ behind_mark mark bytes.now }
     ensures shorter { 0 < length bytes.now → length result.1.now < length bytes.now }
 {
-    for (i, byte) in bytes.iter().enumerate() {
-        if *byte == mark {
-            return (&bytes[..i], &bytes[i + 1..]);
-        }
+    match memchr(mark, bytes) {
+        Some(i) => (&bytes[..i], &bytes[i + 1..]),
+        None => (bytes, &[]),
     }
-    (bytes, &[])
 }
