@@ -1,35 +1,26 @@
 -- What a Remove answers, and what the store stands for after it.
-use Rattle.std.proofs.Common.{◌≡◌, ◌⊎◌, inl, inr, ℕ, ◌<◌, ◌≤◌, ◌^◌, nat_lt, Bool, true, false, List, find, Option, Some, None, IsTrue, Result, Ok, Err, refl, sym, ap, ◌∙◌, subst}
+use Rattle.std.proofs.Common.{◌≡◌, ◌⊎◌, inl, inr, ℕ, ◌≤◌, nat_lt, Bool, true, false, List, Option, Some, None, IsTrue, Result, Ok, Err, refl, sym, ap, ◌∙◌, subst}
 use Rattle.vm_types.specs.declared.answer.Answer.{Answer}
 use Rattle.vm_types.specs.declared.answer.Answer.TheVariants.{Done}
 use Rattle.vm_types.specs.declared.command.Command.TheVariants.{Remove}
 use Rattle.vm_types.specs.declared.key.Key.{Key}
 use Rattle.vm_types.specs.declared.refusal.Refusal.{Refusal}
 use Rattle.vm_types.specs.declared.refusal.Refusal.TheVariants.{Device, NoSuchAlternative, NoSuchRecord, Full}
-use Rattle.vm_types.specs.Firsts.{change_first}
-use Rattle.vm_types.specs.Map.{Map, get, without}
+use Rattle.vm_types.specs.Map.{get, without}
 use Rattle.vm_types.specs.Tree.{Tree, Alternative, named, changed}
 use Rattle.vm_types.specs.Step.{Outcome, step, done, or_refuse}
-use Rattle.vm_types.specs.State.{State, next, tree_after}
+use Rattle.vm_types.specs.State.{State}
 use Rattle.vm_disk.specs.Disk.{DiskState, Medium}
-use Rattle.vm_disk.specs.Moments.{TouchesOnly, OnlyReads}
+use Rattle.vm_disk.specs.Moments.{OnlyReads}
 use Rattle.vm_disk.proofs.MomentLemmas.{same_medium}
-use Rattle.vm_alloc.specs.Held.{IsHeld, HoldsMore}
-use Rattle.vm_store.specs.Versions.{is_alternative_of, with_current}
 use Rattle.vm_tree.specs.Answers.{Removes}
-use Rattle.vm_tree.specs.Root.{IsRootedIn}
-use Rattle.vm_tree.specs.declared.root.Root.{Root}
 use Rattle.vm_store.specs.declared.version.Version.{Version}
-use Rattle.vm_store.specs.Filed.{Filed}
-use Rattle.vm_tree.specs.Free.{is_free}
 use Rattle.vm_store.specs.Faults.{refusal_of}
-use Rattle.vm_store.specs.Sizes.{sizes}
-use Rattle.vm_store.specs.Resting.{HoldsWith, Rests, spare_of}
+use Rattle.vm_store.specs.Resting.{HoldsWith, spare_of}
 use Rattle.vm_types.specs.Queries.{value_in, value_of}
 use Rattle.vm_store.specs.Answers.{IsDue, IsAnswer}
 use Rattle.vm_tree.specs.declared.root.TreeFault.{TreeFault}
 use Rattle.vm_tree.specs.declared.root.TreeFault.TheVariants as fault
-use Rattle.vm_store.proofs.RestingLemmas.{current_rests, found_entry}
 
 module _ (tree : Tree) (name : List ℕ) (key : Key) where
   -- the tree without the record
@@ -97,20 +88,6 @@ module _ (s : State) (name : List ℕ) (key : Key) (spare : ℕ) (deep : Type 0)
   pub removes_device : (f : TreeFault) (r : Refusal) → r ≡ refusal_of f → f ≡ fault.Device → IsAnswer s spare deep (Remove name key) (Err r)
   removes_device f r same device = inl (ap Err (same ∙ ap refusal_of device))
 
-module _ (m : Medium) (limit : ℕ) (slot_b : Bool) (bits : List Bool) (committed working : List Version) (s : State)
-    (rests : Rests m limit slot_b bits committed working s) (name : List ℕ) (e : Version) (is : find (is_alternative_of name) working ≡ Some e) (key : Key) where
-  -- after it the store stands for the next state
-  pub remove_rests : (value : List ℕ) → Ok (Some value) ≡ value_in s.working name key → (now : Medium) (after : List Bool) (root : Root) → root.block < 2 ^ 32 → TouchesOnly (is_free bits) m now → HoldsMore bits after
-      → IsRootedIn sizes (IsHeld after) now.contents limit root (without (found_entry m limit slot_b bits committed working s rests name e is).filed.current key)
-      → Rests now limit slot_b after committed (change_first (is_alternative_of name) (with_current root) working) (next s (Remove name key) (Ok Done))
-  remove_rests value there now after root small spares more new =
-      let g : Map → Map = λ m. without m key in
-      let found = found_entry m limit slot_b bits committed working s rests name e is in
-      subst (λ (t : Tree). Rests now limit slot_b after committed (change_first (is_alternative_of name) (with_current root) working) (record s { working = t }))
-      (sym (ap (tree_after s.working) (step_there s.working name key value there)))
-      (current_rests m limit slot_b bits committed working s rests name g now after root small spares more
-      (λ f' found'. let same : found.filed ≡ f' = cc (found.found, found') in subst (λ (f : Filed). IsRootedIn sizes (IsHeld after) now.contents limit root (g f.current)) same new))
-
 -- ---- what is known between the look-up and the Remove
 
 -- a test whether so many blocks are spare, before reads and after them
@@ -120,10 +97,6 @@ pub spare_after : (old new : DiskState) (limit : ℕ) (slot_b : Bool) (bits befo
 spare_after old new limit slot_b bits before series committed working s count b reads test =
     let T : Medium → Type 0 = λ m. (holds : HoldsWith m limit slot_b bits before series committed working s) → (IsTrue b → count ≤ spare_of holds.rests) × (count ≤ spare_of holds.rests → IsTrue b) in
     subst T (same_medium old new reads) (test s)
-
--- an entry found in the working list is found where the entries are the same
-pub found_again : (alt : List ℕ) (old new : List Version × List Version) (e : Version) → new ≡ old → find (is_alternative_of alt) old.1 ≡ Some e → find (is_alternative_of alt) new.1 ≡ Some e
-found_again alt old new e same is = subst (λ (p : List Version × List Version). find (is_alternative_of alt) p.1 ≡ Some e) (sym same) is
 
 -- the root that a Remove answered
 pub removed_root : {T : Type 0} (found : Option T) (root : T) (absent : Type 0) (P : T → Type 0) → found ≡ Some root → Removes (Ok found) absent P → P root

@@ -10,7 +10,7 @@ use Rattle.vm_types.specs.Firsts.{change_first}
 use Rattle.vm_types.specs.Map.{Map, get, with_value}
 use Rattle.vm_types.specs.Tree.{Tree, Alternative, named, changed, current_of}
 use Rattle.vm_types.specs.Step.{step, done, or_refuse}
-use Rattle.vm_types.specs.State.{State, committed_of, next, tree_after}
+use Rattle.vm_types.specs.State.{State, committed_of, next}
 use Rattle.vm_types.specs.Kept.{LeftBy}
 use Rattle.vm_disk.specs.Disk.{Contents, DiskState, MayLeave, Medium, block}
 use Rattle.vm_disk.specs.Moments.{TouchesOnly, OnlyReads}
@@ -227,10 +227,6 @@ module _ (m : Medium) (limit : ℕ) (slot_b : Bool) (bits : List Bool) (committe
   pub value_absent : (name : List ℕ) (key : Key) → find (is_alternative_of name) working ≡ None → Err NoSuchAlternative ≡ value_in s.working name key
   value_absent name key none = sym (ap (λ o. value_of o key) (unnamed name none))
 
-  -- what the model says of a Put into an alternative that is there, or isn't
-  abbrev put_tree : List ℕ → Key → List ℕ → Tree
-  put_tree name key value = changed s.working name (λ x. record x { current = with_value x.current key value })
-
   pub put_absent : (name : List ℕ) (key : Key) (value : List ℕ) → find (is_alternative_of name) working ≡ None → step s.working (Put name key value) ≡ Err NoSuchAlternative
   unfolding or_refuse
   put_absent name key value none = ap (λ o. or_refuse o NoSuchAlternative (λ _. done (changed s.working name (λ x. record x { current = with_value x.current key value })))) (unnamed name none)
@@ -248,18 +244,6 @@ module _ (m : Medium) (limit : ℕ) (slot_b : Bool) (bits : List Bool) (committe
         let found = found_entry name e is in
         let as_named = named_as name found.filed found.found in
         ap (λ o. unwrap_or (option_map (λ (a : Alternative). a.current) o) []) as_named.named ∙ as_named.current
-
-    -- after it the store stands for the next state
-    pub put_rests : (now : Medium) (after : List Bool) (root : Root) → root.block < 2 ^ 32 → TouchesOnly (is_free bits) m now → HoldsMore bits after
-        → IsRootedIn sizes (IsHeld after) now.contents limit root (with_value (found_entry name e is).filed.current key value)
-        → Rests now limit slot_b after committed (change_first (is_alternative_of name) (with_current root) working) (next s (Put name key value) (Ok Done))
-    put_rests now after root small spares more new =
-        let g : Map → Map = λ m. with_value m key value in
-        let found = found_entry name e is in
-        subst (λ (t : Tree). Rests now limit slot_b after committed (change_first (is_alternative_of name) (with_current root) working) (record s { working = t }))
-        (sym (ap (tree_after s.working) put_step))
-        (current_rests name g now after root small spares more
-        (λ f' found'. let same : found.filed ≡ f' = cc (found.found, found') in subst (λ (f : Filed). IsRootedIn sizes (IsHeld after) now.contents limit root (g f.current)) same new))
 
 -- a crash in a publish of the working entries, written to a list of their own
 pub lent_left : (m : Medium) (limit : ℕ) (slot_b : Bool) (bits : List Bool) (committed working : List Version) (s : State) → (rests : Rests m limit slot_b bits committed working s)

@@ -1,5 +1,5 @@
 -- Blocks that are held now, and to be kept if they were held before a change.
-use Rattle.std.proofs.Common.{◌≡◌, ◌≢◌, ℕ, ◌==◌, ◌&&◌, cond, Bool, true, false, not, List, [], ◌∷◌, Result, Ok, Err, IfOk, refl, sym, ap, ◌∙◌, subst, inl, inr}
+use Rattle.std.proofs.Common.{◌≡◌, ◌≢◌, ℕ, ◌==◌, ◌&&◌, cond, Bool, true, not, List, [], ◌∷◌, Result, Ok, Err, IfOk, refl, sym, ap, ◌∙◌, subst, inl, inr}
 use Rattle.std.specs.List.{AllByRecursion}
 use Rattle.std.proofs.lemmas.Bool.{cases_Bool, cases_eq, eq-eqb, false≢true, ne_eqb}
 use Rattle.vm_types.specs.Map.{Map}
@@ -53,24 +53,9 @@ renewed_beside before held path bs within all n is = record {
   ];
 }
 
--- where each of these blocks has a property that can be told, each of a path in them has it
-pub path_each : (keep : ℕ → Bool) (path bs : List ℕ) → IsPathIn path bs → AllByRecursion (λ n. keep n ≡ true) bs → AllByRecursion (λ n. keep n ≡ true) path
-path_each keep path bs within all = each_but path (λ n misses. within n (each_so (λ b. keep b ≡ true) (λ b. b ≢ n) (λ b has e. false≢true (sym misses ∙ ap keep (sym e) ∙ has)) bs all))
-  where
-    each_but : (ns : List ℕ) → ((n : ℕ) → keep n ≡ false → Lacks n ns) → AllByRecursion (λ n. keep n ≡ true) ns
-    each_but [] free = tt
-    each_but (n ∷ ns) free = (
-      elim (cases_Bool (keep n)) [ inl has ↦ has | inr misses ↦ absurd ((free n misses).0 refl) ],
-      each_but ns (λ m misses. (free m misses).1),
-    )
-
 -- a map in blocks that have P lies in blocks that have what follows from it
 pub rooted_so : (P Q : ℕ → Type 0) (sizes : Sizes) (x : Contents) (limit : ℕ) (root : Root) (m : Map) → ((n : ℕ) → P n → Q n) → IsRootedIn sizes P x limit root m → IsRootedIn sizes Q x limit root m
 rooted_so P Q sizes x limit root m so stands = record { stands_in = stands.stands_in; rooted = stands.rooted; each = each_so P Q so stands.stands_in stands.each }
-
--- a map beside a path lies in blocks that are held
-pub rooted_held : (sizes : Sizes) (held : List Bool) (path : List ℕ) (x : Contents) (limit : ℕ) (root : Root) (m : Map) → IsRootedIn sizes (IsHeldBeside held path) x limit root m → IsRootedIn sizes (IsHeld held) x limit root m
-rooted_held sizes held path x limit root m stands = rooted_so (IsHeldBeside held path) (IsHeld held) sizes x limit root m (λ n is. is.now) stands
 
 -- the path under a root that has a block, and under one that has none
 pub path_there : (root : Root) (path : List ℕ) → root.block ≢ 0 → path_under root path ≡ path_from root.level path
