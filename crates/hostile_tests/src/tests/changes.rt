@@ -4,7 +4,7 @@ use super::commands::put;
 use super::counting::CountingDisk;
 use super::image::Image;
 use super::reader::{Content, read_store};
-use super::{BLOCKS, Wrong, top};
+use super::{BLOCKS, Wrong, name, top};
 use std::alloc::Global;
 use vm_disk::{Disk, MemDisk};
 use vm_store::{Store, format, open};
@@ -203,13 +203,19 @@ fn each_byte_is_read_or_ignored(rt: HostRuntime) {
 }
 
 // A disk of seventeen records, with the root in block 37 over leaves in 35 and 36. Blocks 38 to 48 and
-// 34 hold the leaf as it was with 5 to 16 records.
+// 34 hold the leaf as it was with 5 to 16 records: a Checkpoint and an Uncheck after each Put end its series, so
+// that none is forgotten.
 fn two_levels(alloc: Global) -> Result<MemDisk, Wrong> {
     let mut commands = Vec::new(alloc);
+    let (alt, saved) = (top(), name(b"saved"));
     for number in 1..18 {
-        commands
-            .push(put(b"top", number, b"v"))
-            .map_err(|_| Wrong::Memory)?;
+        for command in [
+            put(b"top", number, b"v"),
+            Command::Checkpoint { alt, name: saved },
+            Command::Uncheck { alt, name: saved },
+        ] {
+            commands.push(command).map_err(|_| Wrong::Memory)?;
+        }
     }
     commands.push(Command::Commit).map_err(|_| Wrong::Memory)?;
     disk_of(alloc, &commands)

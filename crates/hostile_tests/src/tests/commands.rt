@@ -13,8 +13,9 @@ pub enum Script {
     Grown,
 }
 
-// How many device calls `format`, `open` and the commands make where the store doesn't grow.
-const CALLS: u32 = 7 + 4 + 1 + 2 + 4 + 2 + 6 + 4 + 2 + 3 + 4;
+// How many device calls `format`, `open` and the commands make where the store doesn't grow. The Remove goes on with
+// the series of the Put before it, and reads its leaf once.
+const CALLS: u32 = 7 + 4 + 1 + 2 + 4 + 2 + 6 + 4 + 2 + 2 + 4;
 
 // How many of these are writes or syncs.
 const WRITES_AND_SYNCS: u32 = 6 + 1 + 1 + 1 + 4 + 1 + 1 + 4 + 1 + 1 + 4;

@@ -3,6 +3,9 @@ use super::words::{Wrong, byte, number};
 use std::alloc::Global;
 use vm_disk::{Disk, MemDisk};
 
+/// What a disk in memory has in a block once it was forgotten.
+const FORGOTTEN: [u8; 4096] = [0xA5; 4096];
+
 fn bytes_of(disk: &mut MemDisk, n: u32) -> Result<[u8; 4096], Wrong> {
     let mut bytes = [0; 4096];
     if n >= disk.blocks() {
@@ -84,6 +87,17 @@ fn written(alloc: Global, disk: &mut MemDisk) -> Result<String, Wrong> {
     Ok(text)
 }
 
+// The blocks that were forgotten since the last sync, and not written again.
+fn forgotten(alloc: Global, disk: &mut MemDisk) -> Result<String, Wrong> {
+    let mut text = String::new(alloc);
+    for n in 0..disk.blocks() {
+        if disk.is_dirty(n) && bytes_of(disk, n)? == FORGOTTEN {
+            write!(text, " {n}")?;
+        }
+    }
+    Ok(text)
+}
+
 /// What a step that looks at blocks is answered, if these words are one.
 pub(super) fn look(
     alloc: Global,
@@ -96,6 +110,7 @@ pub(super) fn look(
             Ok(Some(bytes_text(alloc, &bytes)?))
         }
         ["written"] => Ok(Some(written(alloc, disk)?)),
+        ["forgotten"] => Ok(Some(forgotten(alloc, disk)?)),
         _ => Ok(None),
     }
 }

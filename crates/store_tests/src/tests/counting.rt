@@ -1,7 +1,9 @@
 //! How many device calls each call makes: none reads or writes a block twice without need.
 use super::records::TWO_RECORDS;
-use super::script::{DUCT, SEVENTEEN, in_memory};
+use super::script::{DUCT, NEW, SEVENTEEN, from_disk, in_memory};
 use super::settling::CONFLICT;
+use std::test::Fail;
+use vm_disk::MemDisk;
 
 #[test]
 fn calls_of_format_open_and_commit(rt: HostRuntime) {
@@ -56,10 +58,103 @@ fn calls_of_remove_at_a_leaf(rt: HostRuntime) {
     in_memory(&rt, &[DUCT, last]);
 }
 
+// Opening the store makes five device calls. A Put reads and writes a leaf. So does a Remove, which reads its leaf
+// once more, to look for the record, where it begins a series.
+#[test]
+fn remove_in_a_series_reads_its_leaf_once(rt: HostRuntime) {
+    let [put, other, remove, absent] = [
+        "put top 7:3 z",
+        "put a 7:3 z",
+        "remove top 7:2",
+        "remove top 7:9 -> error 5 NoSuchRecord",
+    ];
+    for (one, two, three, calls) in [
+        (remove, "", "", "calls -> 8"),
+        (remove, "remove top 7:1", "", "calls -> 9"),
+        (put, remove, "", "calls -> 9"),
+        (put, "get top 7:1 -> duct", remove, "calls -> 10"),
+        (put, absent, remove, "calls -> 10"),
+        (absent, remove, "", "calls -> 9"),
+        (put, "new b top", remove, "calls -> 10"),
+        (put, "reclaim", remove, "calls -> 10"),
+        (other, remove, "", "calls -> 10"),
+        (put, other, remove, "calls -> 12"),
+    ] {
+        let row = [
+            TWO_RECORDS,
+            "open",
+            "new a top",
+            one,
+            two,
+            three,
+            "close",
+            calls,
+        ];
+        in_memory(&rt, &row);
+    }
+}
+
+// Opening makes four device calls, and the fourteen Puts 27. The second Remove looks first, since it may have to
+// mark blocks. It does, which ends the series, and goes on with one of its own.
+#[test]
+fn remove_with_fewer_than_16_free_blocks_looks_first(rt: HostRuntime) {
+    let row = "
+        puts top 1:1 14 v
+        free -> 16
+        remove top 1:1
+        free -> 15
+        remove top 1:2
+        free -> 28
+        remove top 1:3
+        free -> 27
+        close
+        # 4 + 27 + 2 + 3 + 2
+        calls -> 38";
+    in_memory(&rt, &[NEW, row]);
+}
+
+// Each Remove and each Put reads two blocks of the path, and writes two.
+#[test]
+fn remove_in_a_series_reads_a_path_of_two_levels_once(rt: HostRuntime) {
+    for (first, calls) in [
+        ("", "calls -> 13"),
+        ("remove top 1:16", "calls -> 17"),
+        ("put top 1:1 w", "calls -> 15"),
+        ("get top 1:16 -> v", "calls -> 15"),
+    ] {
+        let row = [SEVENTEEN, "open", first, "remove top 1:17", "close", calls];
+        in_memory(&rt, &row);
+    }
+}
+
+// The leaves have nine records each, but for the last one, which has eight: with 257 leaves there are two blocks
+// above them, and the root. An opening reads these 260 blocks, and makes four calls beside.
+#[test]
+fn remove_in_a_series_reads_a_path_of_three_levels_once(rt: HostRuntime) -> Result<(), Fail> {
+    let made = "
+        format 2048
+        open
+        puts top 1:1 2312 v
+        commit
+        close
+        anew
+        open
+        free -> 1754";
+    for (first, calls) in [
+        ("", "calls -> 273"),
+        ("remove top 1:2", "calls -> 279"),
+        ("put top 1:2 w", "calls -> 276"),
+    ] {
+        let disk = MemDisk::new(rt.alloc(), 2048)?;
+        from_disk(&rt, disk, &[made, first, "remove top 1:1", "close", calls]);
+    }
+    Ok(())
+}
+
 // On a map of two levels. An opening syncs, reads the header, the selector and one block of the slot, and each
 // block of the tree that both alternatives have: seven calls. A get reads two blocks, a list three, and a Put writes
-// the two that it has read. A Remove reads its path a second time, and a Reclaim the root alone. What both
-// alternatives have is not read to compare them.
+// the two that it has read. A Remove that begins a series reads its path a second time, and a Reclaim the root alone.
+// What both alternatives have is not read to compare them.
 #[test]
 fn each_block_is_read_and_written_once(rt: HostRuntime) {
     let list = "list top -> 1:1=v 1:2=v 1:3=v 1:4=v 1:5=v 1:6=v 1:7=v 1:8=v 1:9=v 1:10=v 1:11=v \

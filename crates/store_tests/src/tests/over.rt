@@ -1,6 +1,8 @@
-//! Disks over one in memory: the disk itself, and a cache of it.
+//! Disks over one in memory: the disk itself, a cache of it, one that writes to it late, and one that keeps
+//! what is forgotten.
+use super::keeping::KeepingDisk;
 use std::alloc::Global;
-use vm_disk::{CachedDisk, Disk, MemDisk};
+use vm_disk::{CachedDisk, DelayedDisk, Disk, MemDisk};
 use vm_types::Refusal;
 
 /// A disk over one in memory.
@@ -33,6 +35,35 @@ impl OverMemory for MemDisk {
 impl OverMemory for CachedDisk<MemDisk> {
     fn over(alloc: Global, disk: MemDisk) -> Result<CachedDisk<MemDisk>, Refusal> {
         CachedDisk::new(alloc, disk, 4).map_err(|_| Refusal::Memory)
+    }
+
+    fn below(self) -> MemDisk {
+        self.into_inner()
+    }
+
+    fn memory(&self) -> &MemDisk {
+        self.inner()
+    }
+}
+
+// Four blocks may wait.
+impl OverMemory for DelayedDisk<MemDisk> {
+    fn over(alloc: Global, disk: MemDisk) -> Result<DelayedDisk<MemDisk>, Refusal> {
+        DelayedDisk::new(alloc, disk, 4).map_err(|_| Refusal::Memory)
+    }
+
+    fn below(self) -> MemDisk {
+        self.into_inner()
+    }
+
+    fn memory(&self) -> &MemDisk {
+        self.inner()
+    }
+}
+
+impl OverMemory for KeepingDisk {
+    fn over(alloc: Global, disk: MemDisk) -> Result<KeepingDisk, Refusal> {
+        KeepingDisk::new(alloc, disk)
     }
 
     fn below(self) -> MemDisk {

@@ -1,4 +1,4 @@
-//! Scripts: lines of steps, each with its answer, played over a disk in memory, and over a cache of it.
+//! Scripts: lines of steps, each with its answer, played over a disk in memory, and over others on top of it.
 //!
 //! A line is a step, and behind ` -> ` its answer, which is `ok` where the line says none. A refusal is
 //! `error` and its text. A line that begins with `#` is a comment. A record's key is `7:1`; `''` is the
@@ -28,6 +28,7 @@
 //! | `dirty` | `34 35`: the blocks that are not synced |
 //! | `anew` | `ok`: the device is taken anew, with nothing in its cache |
 //! | `written` | the device is taken anew; `0 1 2`: the blocks that have other bytes than zeros |
+//! | `forgotten` | the same; `34 35`: the blocks that were forgotten since the last sync, and not written again |
 //! | `block 18` | the same; `0:534C 195:40`: its bytes but zeros, from these places on; or `all=41` |
 //! | `once 5` | `ok`: the device is taken anew, and its sixth call fails |
 //! | `stop 5 A5 00` | the same of each call from the sixth on: a write leaves A5 and then zeros in its block |
@@ -41,11 +42,12 @@ ghost use Rattle.std.specs.Prelude.{◌≤◌};
 
 use super::answers::{answer, refusal_text};
 use super::blocks::{cut, look, set_block, set_bytes};
+use super::keeping::KeepingDisk;
 use super::over::OverMemory;
 use super::words::{Wrong, byte, number};
 use std::alloc::{AllocError, Global};
 use std::process::Abort;
-use vm_disk::{CachedDisk, Disk, FuseDisk, MemDisk};
+use vm_disk::{CachedDisk, DelayedDisk, Disk, FuseDisk, MemDisk};
 use vm_store::{Store, format, open};
 
 /// A new store, open.
@@ -77,7 +79,7 @@ pub(super) const SEVENTEEN: &str = "
     anew";
 
 /// More device calls than any script makes.
-const NEVER: u32 = 1000;
+const NEVER: u32 = 100_000;
 
 /// A device, or the store that is open on it.
 enum Bench<D: Disk> {
@@ -352,4 +354,24 @@ pub(super) fn on_both<R: AllocGlobal + Abort>(rt: &R, texts: &[&str]) {
     in_memory(rt, texts);
     let blank = MemDisk::new(rt.alloc(), 64);
     plays_all::<CachedDisk<MemDisk>, R>(rt, "over a cache", blank, texts);
+}
+
+/// The same on a blank disk of 64 blocks with room for 80, over a cache, and over a disk that writes late.
+pub(super) fn and_late<R: AllocGlobal + Abort>(rt: &R, texts: &[&str]) {
+    with_room(rt, 80, texts);
+    let blank = MemDisk::with_room(rt.alloc(), 64, 80);
+    plays_all::<DelayedDisk<MemDisk>, R>(rt, "over a late disk", blank, texts);
+}
+
+/// The same on a blank disk of 256 blocks with room for 300, over a cache, over a disk that writes late, and on
+/// one that keeps what is forgotten.
+pub(super) fn on_each<R: AllocGlobal + Abort>(rt: &R, texts: &[&str]) {
+    let blank = MemDisk::with_room(rt.alloc(), 256, 300);
+    plays_all::<MemDisk, R>(rt, "in memory", blank, texts);
+    let blank = MemDisk::with_room(rt.alloc(), 256, 300);
+    plays_all::<CachedDisk<MemDisk>, R>(rt, "over a cache", blank, texts);
+    let blank = MemDisk::with_room(rt.alloc(), 256, 300);
+    plays_all::<DelayedDisk<MemDisk>, R>(rt, "over a late disk", blank, texts);
+    let blank = MemDisk::with_room(rt.alloc(), 256, 300);
+    plays_all::<KeepingDisk, R>(rt, "with all kept", blank, texts);
 }
