@@ -15,7 +15,6 @@ It needs a C compiler, and a program that is linked against glibc. It stands bes
 of a modelled disk, this tries the calls that the system gets.
 """
 import argparse
-import hashlib
 import os
 import random
 import struct
@@ -254,7 +253,7 @@ class Crashes:
         allowed = [self.commits[last], *under_way]
         for _ in range(self.most * (1 + 2 * len(under_way))):
             text = disk.crashed(self.chance)
-            mark = hashlib.sha256(text).digest(), last, len(allowed)
+            mark = hash(text), last, len(allowed)
             if mark in self.seen:
                 continue
             self.seen.add(mark)
