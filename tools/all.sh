@@ -33,5 +33,6 @@ try 300 progress.py
 try 600 failing_device.py
 try 600 compare.py -n 60
 try 300 kill.py "$tools/../altctl" 60
+try 600 crashes.py
 try 1800 refuse_allocations.sh
 echo "all: $count scripts passed, in $(($(date +%s) - begun)) seconds"

@@ -10,26 +10,18 @@ opened: what lies in it is answered with `error 15 Device`, and everything else 
 It needs a C compiler, and a program that is linked against glibc. It stands beside the gate, as `tools/space.py` does.
 """
 import os
-import subprocess
 import sys
 import tempfile
 
 sys.dont_write_bytecode = True
 from fixed_run import BLOCK, BLOCKS, Failure, create, expect, run_and_finish, start
+from preloaded import ALTCTL, PROGRAM, build_program, compiled, preloaded
 
-TOP = os.path.join(os.path.dirname(os.path.abspath(__file__)), "..")
-ALTCTL, PROGRAM = os.path.join(TOP, "altctl"), os.path.join(TOP, "crates/altctl/out/altctl")
 # As many records as need a root over two leaves.
 RECORDS = 17
 
 
-def preloaded(folder, **numbers):
-    """The variables under which calls of the program fail."""
-    numbers = {name.upper(): str(number) for name, number in numbers.items()}
-    return {**os.environ, **numbers, "LD_PRELOAD": os.path.join(folder, "fail_calls.so"), "FAILED": os.path.join(folder, "failed")}
-
-
-def try_calls(folder, fails_on, torn, options):
+def try_calls(folder, library, fails_on, torn, options):
     """Fails one call after another, until a run has no such call. Gives how many runs were stopped."""
     file, failed = os.path.join(folder, "store"), os.path.join(folder, "failed")
     call, is_there = 0, True
@@ -37,7 +29,7 @@ def try_calls(folder, fails_on, torn, options):
         call += 1
         create(ALTCTL, file)
         how = f"call {call}{' and those after it' * fails_on} failed, a write after {torn} bytes, {options or 'no options'}"
-        variables = preloaded(folder, fail_call=call, fail_on=fails_on, fail_torn=torn)
+        variables = preloaded(library, failed=failed, fail_call=call, fail_on=fails_on, fail_torn=torn)
         stopped = run_and_finish(ALTCTL, file, how, program=PROGRAM, options=options, variables=variables)
         is_there = os.path.exists(failed)
         expect(f"{how}: stopped", is_there, stopped)
@@ -53,7 +45,7 @@ def read_queries(altctl, file, variables=None):
     return start(altctl, ["run", "--cache", "0", file], lines, variables=variables)
 
 
-def try_blocks(folder):
+def try_blocks(folder, library):
     """Has each block fail from its second read on. Gives how many blocks were asked for again."""
     file, failed = os.path.join(folder, "store"), os.path.join(folder, "failed")
     create(ALTCTL, file)
@@ -65,7 +57,7 @@ def try_blocks(folder):
     expect("queries", (0, [*values, *listed, f"end {RECORDS}", "free 27"], ""), read_queries(ALTCTL, file))
     lost = {}
     for block in range(BLOCKS):
-        status, answers, faults = read_queries(PROGRAM, file, preloaded(folder, fail_block=block))
+        status, answers, faults = read_queries(PROGRAM, file, preloaded(library, failed=failed, fail_block=block))
         expect(f"block {block} fails: the end", (0, "", "free 27"), (status, faults, answers[-1]))
         if not os.path.exists(failed):
             expect(f"block {block} is not asked for", [*values, *listed, f"end {RECORDS}"], answers[:-1])
@@ -85,13 +77,12 @@ def try_blocks(folder):
 def main():
     try:
         with tempfile.TemporaryDirectory() as folder:
-            subprocess.run([ALTCTL, "--help"], stdout=subprocess.DEVNULL, check=True)
-            source, library = os.path.join(TOP, "tools/fail_calls.c"), os.path.join(folder, "fail_calls.so")
-            subprocess.run([os.environ.get("CC", "cc"), "-O1", "-shared", "-fPIC", "-o", library, source], check=True)
+            build_program()
+            library = compiled("fail_calls", folder)
             faults = [(fails_on, torn) for fails_on in (0, 1) for torn in (0, BLOCK // 2, BLOCK)]
             options = [[], ["--buffer", "2"], ["--buffer", "64"]]
-            stops = sum(try_calls(folder, *fault, given) for given in options for fault in faults)
-            blocks = try_blocks(folder)
+            stops = sum(try_calls(folder, library, *fault, given) for given in options for fault in faults)
+            blocks = try_blocks(folder, library)
     except Failure as failure:
         print(f"failing_device: {failure}", file=sys.stderr)
         return 1

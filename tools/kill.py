@@ -249,8 +249,9 @@ def unlike(line, expected, came):
 class Program:
     """A process of the program on a store."""
 
-    def __init__(self, altctl, store):
-        self.process = subprocess.Popen([altctl, "run", store], stdin=subprocess.PIPE, stdout=subprocess.PIPE)
+    def __init__(self, altctl, store, options=(), variables=None):
+        words = [altctl, "run", *options, store]
+        self.process = subprocess.Popen(words, stdin=subprocess.PIPE, stdout=subprocess.PIPE, env=variables)
 
     def send(self, lines):
         try:

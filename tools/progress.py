@@ -17,9 +17,8 @@ import threading
 
 sys.dont_write_bytecode = True
 from fixed_run import Failure, expect
+from preloaded import PROGRAM, build_program, compiled, preloaded
 
-TOP = os.path.join(os.path.dirname(os.path.abspath(__file__)), "..")
-ALTCTL, PROGRAM = os.path.join(TOP, "altctl"), os.path.join(TOP, "crates/altctl/out/altctl")
 # As many blocks as take two seconds to write, sixteen at a time, and as many leaves as take three to read.
 BLOCKS, RECORDS, SLOW = 6144, 5400, 6000
 LINE = re.compile(rb"\raltctl: (\d+)(?: of (\d+))? blocks")
@@ -103,12 +102,9 @@ def try_job(what, words, lines, slow, jobs, total=BLOCKS, prepare=None):
 
 
 def main():
-    subprocess.run([ALTCTL, "--help"], stdout=subprocess.DEVNULL, check=True)
-    source = os.path.join(TOP, "tools/slow_calls.c")
+    build_program()
     with tempfile.TemporaryDirectory() as folder:
-        library = os.path.join(folder, "slow_calls.so")
-        subprocess.run([os.environ.get("CC", "cc"), "-O1", "-shared", "-fPIC", "-o", library, source], check=True)
-        slow = {"LD_PRELOAD": library, "SLOW": str(SLOW)}
+        slow = preloaded(compiled("slow_calls", folder), slow=SLOW)
         file, small, grown = (os.path.join(folder, name) for name in ("store", "small", "grown"))
         try:
             remove = lambda: os.path.exists(file) and os.remove(file)
