@@ -911,8 +911,14 @@ printf 'put top 1 2 b\nfree\n' >lines
 echo 'error 15 Device' >output
 echo 'altctl: stopped' >faults
 cp spelled before
-program 'run over a limit' 3 run spelled
+program 'run over a limit' 3 run --buffer 0 spelled
 compare 'run over a limit: the file' before spelled
+
+# Where written blocks wait, the fault comes with the commit that needs them.
+printf 'put top 1 2 b\nfree\ncommit\nfree\n' >lines
+printf 'ok\nfree 28\nerror 15 Device\n' >output
+program 'a commit over a limit' 3 run spelled
+compare 'a commit over a limit: the file' before spelled
 
 limit=560
 printf 'put top 1 2 b\ngrow 70\nfree\n' >lines
