@@ -7,7 +7,7 @@ use super::recording::RecordingDisk;
 use super::tally::{Case, Sight, Tally};
 use super::{BLOCKS, Wrong};
 use std::alloc::Global;
-use vm_disk::{Disk, FuseDisk};
+use vm_disk::{DelayedDisk, Disk, FuseDisk};
 use vm_store::{Store, format, open};
 use vm_types::{Command, Key, Name, Refusal};
 
@@ -162,10 +162,35 @@ fn play_on<D: Disk>(
     Ok(end.unwrap_or(End::Closed))
 }
 
-/// One life of a store on the disk, on a device that may stop at any call.
+/// How many written blocks wait over the device, life by life; 0 where it is written at once.
+const WAITING: [usize; 8] = [0, 1, 2, 64, 0, 64, 2, 1];
+
+/// A life of a store on a disk: it opens, and plays until it is closed, or until the device stops.
+fn live_over<D: Disk + Drop>(
+    alloc: Global,
+    disk: D,
+    model: &mut Model,
+    dice: &mut Dice,
+    tally: &mut Tally,
+    looks: bool,
+) -> Result<(D, End), Wrong> {
+    match open(alloc, disk) {
+        Ok(mut store) => {
+            let end = play_on(alloc, &mut store, model, dice, tally, looks);
+            let disk = store.close();
+            Ok((disk, end?))
+        }
+        Err((disk, Refusal::Device)) => Ok((disk, End::Stopped)),
+        Err((_, refusal)) => Err(Wrong::Refused(refusal)),
+    }
+}
+
+/// One life of a store on the disk, on a device that may stop at any call, where so many written blocks
+/// wait. Those that still wait at the end are lost.
 fn live(
     alloc: Global,
     disk: RecordingDisk,
+    waiting: usize,
     model: &mut Model,
     dice: &mut Dice,
     tally: &mut Tally,
@@ -178,20 +203,21 @@ fn live(
         2 => (dice.below(400), true),
         _ => (dice.below(60), false),
     };
-    match open(alloc, FuseDisk::stop(disk, passes, dice.bytes())) {
-        Ok(mut store) => {
-            let end = play_on(alloc, &mut store, model, dice, tally, looks);
-            let fuse = store.close();
-            let stopped = fuse.blown();
-            let disk = fuse.into_inner();
-            match end? {
-                End::Closed if stopped => Err(Wrong::Hidden),
-                End::Stopped | End::StoppedInCommit if !stopped => Err(Wrong::Device),
-                end => Ok((disk, end)),
-            }
-        }
-        Err((fuse, Refusal::Device)) => Ok((fuse.into_inner(), End::Stopped)),
-        Err((_, refusal)) => Err(Wrong::Refused(refusal)),
+    let device = FuseDisk::stop(disk, passes, dice.bytes());
+    let (device, end) = if waiting == 0 {
+        live_over(alloc, device, model, dice, tally, looks)?
+    } else {
+        let Ok(late) = DelayedDisk::new(alloc, device, waiting) else {
+            return Err(Wrong::Memory);
+        };
+        let (late, end) = live_over(alloc, late, model, dice, tally, looks)?;
+        (late.into_inner(), end)
+    };
+    let stopped = device.blown();
+    match end {
+        End::Closed if stopped => Err(Wrong::Hidden),
+        End::Stopped | End::StoppedInCommit if !stopped => Err(Wrong::Device),
+        end => Ok((device.into_inner(), end)),
     }
 }
 
@@ -265,8 +291,8 @@ fn session(alloc: Global, seed: u64, tally: &mut Tally) -> Result<(), Wrong> {
     let mut model = Model::new(alloc, blocks)?;
     let disk = RecordingDisk::with_room(alloc, blocks, room)?;
     let mut disk = format(disk, blocks).map_err(|refused| Wrong::Refused(refused.1))?;
-    for _ in 0..8 {
-        let (left, end) = live(alloc, disk, &mut model, &mut dice, tally)?;
+    for waiting in WAITING {
+        let (left, end) = live(alloc, disk, waiting, &mut model, &mut dice, tally)?;
         let left = crash_or_not(alloc, left, &mut dice, tally)?;
         let Some((next_disk, next_model)) = resolve(alloc, left, model, end, tally)? else {
             return Ok(());
