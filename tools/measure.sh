@@ -1,11 +1,15 @@
 #!/bin/sh
-# Measures the program over real files, beside a plain loop in C (`block_calls.c`) that makes as many block
-# reads, block writes and syncs, and prints tables in Markdown: `tools/measure.sh [-d DIVISOR] [ALTCTL]`, where a
-# DIVISOR of 1 to 16 makes all of it so many times smaller. It stands beside the gate: times are looked at, never tested.
+# Measures the program over real files beside a store in the same format that is written by hand in C, without proofs
+# (`plain.c`), and prints tables in Markdown: `tools/measure.sh [-c] [-d DIVISOR] [--peers] [ALTCTL]`. Both get the same
+# lines, and all answers of both are compared with what is expected. A time is the middle one of three. With -c it is
+# the least one, and only that in which the process had a processor, which other work on the machine disturbs less; a
+# DIVISOR of 1 to 16 makes all of it so many times smaller. With --peers loads and gets are measured over LMDB and
+# SQLite, too (`peers.c`), where Debian's packages liblmdb-dev and libsqlite3-dev are installed. It stands beside the
+# gate: times are looked at, never tested.
 set -eu
 
 usage() {
-    echo 'usage: tools/measure.sh [-d DIVISOR] [ALTCTL]' >&2
+    echo 'usage: tools/measure.sh [-c] [-d DIVISOR] [--peers] [ALTCTL]' >&2
     exit 2
 }
 
@@ -14,28 +18,36 @@ fail() {
     exit 1
 }
 
+clock=1
 divisor=1
-while getopts d: option; do
-    case $option in
-    d) divisor=$OPTARG ;;
-    *) usage ;;
+peers=
+while [ $# -gt 0 ]; do
+    case $1 in
+    -c) clock=2 ;;
+    -d)
+        [ $# -gt 1 ] || usage
+        divisor=$2
+        shift
+        ;;
+    --peers) peers=1 ;;
+    -*) usage ;;
+    *) break ;;
     esac
+    shift
 done
-shift $((OPTIND - 1))
 [ $# -le 1 ] && [ "$divisor" -ge 1 ] && [ "$divisor" -le 16 ] || usage
 
-blocks=$((524288 / divisor))
-records=$((1000000 / divisor))
-gets=$((100000 / divisor))
-small_blocks=$((65536 / divisor))
-puts=$((20000 / divisor))
-line_records=$((100000 / divisor))
-line_puts=$((10000 / divisor))
-merged=$((1000 / divisor))
-markings=1000
-commits=$((2000 / divisor))
-versions=10
+rounds=3
+blocks=$((65536 / divisor))
+records=$((100000 / divisor))
+versions=$((100 / divisor))
 changed=100
+commits=$((2000 / divisor))
+large_blocks=$((262144 / divisor))
+large_records=$((1000000 / divisor))
+large_gets=$((100000 / divisor))
+markings=1000
+puts=$((20000 / divisor))
 
 tools=$(cd "$(dirname "$0")" && pwd)
 altctl=${1:-$tools/../altctl}
@@ -50,58 +62,48 @@ finish() {
 trap finish EXIT
 trap 'exit 1' HUP INT TERM
 
-# --- the program ---------------------------------------------------------------------------------
+# --- a program that answers lines ----------------------------------------------------------------
 
-# Starts the program on a store, and measures the opening together with the lines of a file. The
-# program's input stays open until `stop`.
-start() {
-    : >"$work/answers"
-    was_read=0
-    was_written=0
-    mark_begin
-    "$altctl" run "$1" <"$work/input" >>"$work/answers" &
-    pid=$!
-    exec 3>"$work/input"
-    answer "$2"
+# Makes a store of so many blocks, and starts the program on it. Its input stays open until `stop`.
+begin() {
+    rm -f "$work/store"
+    "$program" create "$work/store" "$1" >/dev/null
+    start
 }
 
-# Measures the lines of a file alone.
+start() {
+    "$program" run "$work/store" <"$work/input" >>"$work/answers" 2>>"$work/faults" &
+    pid=$!
+    exec 3>"$work/input"
+    ask ready
+}
+
+# Ends the program.
+end() {
+    exec 3>&-
+    wait "$pid" || fail "a program ended with status $?"
+    pid=
+}
+
+# The same of one of the two, which have to find the same in the store that it leaves.
+stop() {
+    end
+    "$altctl" check "$work/store" >"$work/checked"
+    "$work/plain" check "$work/store" | cmp -s - "$work/checked" || fail 'the programs find other things in one store'
+}
+
+# Has the lines of a name answered, and compares what comes with the answers of that name. The nanoseconds are then in
+# `took`, and the blocks that were read and written in `reads` and `writes`.
 ask() {
     : >"$work/answers"
     was_read=$(count_of rchar)
     was_written=$(count_of wchar)
-    mark_begin
-    answer "$1"
-}
-
-stop() {
-    exec 3>&-
-    wait "$pid"
-    pid=
-}
-
-# Has lines answered. The nanoseconds are then in `took`, and the bytes that the process read and
-# wrote beside lines and answers in `read_bytes` and `written_bytes`.
-answer() {
-    cat "$1" "$work/checks" >&3
-    until [ "$(tail -n 1 "$work/answers")" = 'end 0' ]; do
-        kill -0 "$pid" 2>/dev/null || fail 'the program ended before its input did'
-        sleep 0.02
-    done
-    took=$(($(changed "$work/answers") - begun))
-    read_bytes=$(($(count_of rchar) - was_read - $(cat "$1" "$work/checks" | wc -c)))
-    written_bytes=$(($(count_of wchar) - was_written - $(wc -c <"$work/answers")))
-}
-
-# Takes the time by the clock of the file system, which tells when the last answer was written.
-mark_begin() {
-    touch "$work/begun"
-    begun=$(changed "$work/begun")
-}
-
-# The nanoseconds at which a file was changed.
-changed() {
-    stat -c %.9Y "$1" | tr -d .
+    times=$("$work/timed" ask "$pid" "$work/$1.lines" "$work/answers" "$(wc -c <"$work/$1.answers")") ||
+        fail "no answers to $1: $(tail -n 1 "$work/answers" | head -c 200) $(cat "$work/faults")"
+    cmp -s "$work/$1.answers" "$work/answers" || fail "other answers than in $1"
+    took=$(echo "$times" | cut -d ' ' -f $clock)
+    reads=$((($(count_of rchar) - was_read - $(wc -c <"$work/$1.lines") + 2048) / 4096))
+    writes=$((($(count_of wchar) - was_written - $(wc -c <"$work/answers") + 2048) / 4096))
 }
 
 # A count of the process: `rchar`, all bytes that it read so far, or `wchar`, all that it wrote.
@@ -109,73 +111,126 @@ count_of() {
     sed -n "s/^$1: //p" "/proc/$pid/io"
 }
 
-# The greatest memory of the process so far, in units of 1,024 bytes.
-peak() {
-    sed -n 's/^VmHWM:[^0-9]*\([0-9]*\) kB/\1/p' "/proc/$pid/status"
-}
-
-# The answers are just these.
-answers_are() {
-    cat "$1" "$work/none_checked" | cmp -s - "$work/answers" || fail "other answers than in $(basename "$1")"
-}
-
-# The number of spare blocks: what is free after a marking.
+# How many blocks are spare: what is free after a marking. The lines are put, and no answers are compared.
 spare() {
-    ask "$work/commit"
-    ask "$work/free"
+    : >"$work/answers"
+    printf 'reclaim\nfree\n' >&3
+    until grep -q '^free ' "$work/answers"; do sleep 0.01; done
     sed -n 's/^free //p' "$work/answers"
 }
 
-# --- the rows ------------------------------------------------------------------------------------
+# --- what was measured ---------------------------------------------------------------------------
 
-# A number as it is read easily: 1,000,000.
+# Adds to what is known of a row: what it is, of how many, a time or the memory of a process, and its blocks.
+add() {
+    echo "$1|$name|$2|$3|$4|$5|$6" >>"$work/$table"
+}
+
+# Has the lines of a name answered as a row.
+measure() {
+    ask "$1"
+    add "$2" time "$3" "$took" "$reads" "$writes"
+}
+
+# The same of a load into an empty store, with the blocks of the tree that stands then.
+measure_load() {
+    measure "$1" "$2" "$3"
+    echo "$2|$name|$writes|$(($4 - 34 - $(spare)))" >>"$work/$table.loads"
+}
+
+# Functions for awk: a number as it is read easily, 1,000,000, and a time, or memory, in a unit of its size.
+functions='
+function grouped(it) {
+    while (match(it, /[0-9][0-9][0-9][0-9](,|$)/)) it = substr(it, 1, RSTART) "," substr(it, RSTART + 1)
+    return it
+}
+function short(kind, it) {
+    if (kind == "memory") return sprintf("%.1f MB", it * 1.024e-3)
+    if (it >= 1e9) return sprintf("%.2f s", it / 1e9)
+    if (it >= 1e6) return sprintf("%.1f ms", it / 1e6)
+    return sprintf("%.2f µs", it / 1e3)
+}'
+
 grouped() {
-    echo "$1" | sed -e :more -e 's/^\([0-9]*[0-9]\)\([0-9]\{3\}\)/\1,\2/' -e 't more'
+    awk -v it="$1" "$functions"'BEGIN { print grouped(it) }'
 }
 
-# A row of what was measured last: what it is, of how many, how many syncs are in it, and the blocks
-# of the store.
-row() {
-    reads=$(((read_bytes + 2048) / 4096))
-    writes=$(((written_bytes + 2048) / 4096))
-    beside=$("$work/block_calls" "$work/plain.$4" "$4" "$reads" "$writes" "$3")
-    awk -v what="$1" -v count="$2" -v syncs="$3" -v took="$took" -v beside="$beside" \
-        -v reads="$(grouped "$reads")" -v writes="$(grouped "$writes")" '
-        function short(time) {
-            if (time >= 1e9) return sprintf("%.2f s", time / 1e9)
-            if (time >= 1e6) return sprintf("%.1f ms", time / 1e6)
-            return sprintf("%.1f µs", time / 1e3)
+# What was measured for the table, in the order of its rows: of each row and program the middle one by time, or the
+# least.
+chosen() {
+    LC_ALL=C sort -s -t '|' -k 5,5n "$work/$table" | awk -F '|' -v rows="$work/$table" -v clock=$clock '
+        { it = $1 "|" $2; found[it, ++count[it]] = $0 }
+        END {
+            while ((getline line < rows) > 0) {
+                split(line, words, "|")
+                it = words[1] "|" words[2]
+                if (!(it in told)) print found[it, clock == 1 ? int((count[it] + 1) / 2) : 1]
+                told[it]
+            }
+        }'
+}
+
+# The rows of both programs, under a title.
+print_rows() {
+    echo
+    echo "| $1 | altctl | Each | plain | Ratio | Blocks read | Written | By plain: read | Written |"
+    echo '|---|---|---|---|---|---|---|---|---|'
+    chosen | awk -F '|' "$functions"'
+        { blocks[$2, $1] = $3 == "memory" ? " | " : grouped($6) " | " grouped($7) }
+        $2 == "altctl" { order[++count] = $1; kind[$1] = $3; many[$1] = $4; took[$1] = $5 }
+        $2 == "plain" { beside[$1] = $5 }
+        END {
+            for (i = 1; i <= count; i++) {
+                it = order[i]
+                each = many[it] > 1 ? short(kind[it], took[it] / many[it]) : ""
+                printf "| %s | %s | %s | %s | %.2f | %s | %s |\n", it, short(kind[it], took[it]), each,
+                    short(kind[it], beside[it]), took[it] / beside[it], blocks["altctl", it], blocks["plain", it]
+            }
+        }'
+}
+
+# The rows that other stores have, too.
+print_peers() {
+    echo
+    echo "| $1 | altctl | LMDB | Ratio | SQLite | Ratio |"
+    echo '|---|---|---|---|---|---|'
+    chosen | awk -F '|' "$functions"'
+        function beside(name, what) {
+            if (!((name, what) in took)) return "- | -"
+            return sprintf("%s | %.2f", short("time", took[name, what]), took["altctl", what] / took[name, what])
         }
-        BEGIN {
-            printf "| %s | %s | %s | %s | %s | %d | %s | %.1f |\n", what, short(took), short(took / count),
-                reads, writes, syncs, short(beside), took / beside
+        { took[$2, $1] = $5 }
+        $2 == "altctl" { order[++count] = $1 }
+        $2 == "lmdb" || $2 == "sqlite" { is_shared[$1] }
+        END {
+            for (i = 1; i <= count; i++) {
+                it = order[i]
+                if (!(it in is_shared)) continue
+                printf "| %s | %s | %s | %s |\n", it, short("time", took["altctl", it]), beside("lmdb", it),
+                    beside("sqlite", it)
+            }
         }'
 }
 
-# A row of lines that were measured last: what they are, of how many, and the blocks of the store. Where there
-# are many, the nanoseconds `lines_took` of them went to lines and answers; for one the clock is too coarse.
-line_row() {
-    reads=$(((read_bytes + 2048) / 4096))
-    writes=$(((written_bytes + 2048) / 4096))
-    beside=$("$work/block_calls" "$work/plain.$3" "$3" "$reads" "$writes" 0)
-    awk -v what="$1" -v count="$2" -v took="$took" -v lines="$lines_took" -v beside="$beside" \
-        -v reads="$(grouped "$reads")" -v writes="$(grouped "$writes")" '
-        function short(time) { return time < 1e6 ? sprintf("%.2f µs", time / 1e3) : sprintf("%.1f ms", time / 1e6) }
-        function part(time) { return sprintf("%s, %.0f %%", short(time / count), 100 * time / took) }
-        BEGIN {
-            if (count == 1) lines = 0
-            printf "| %s | %s | %s | %s | %s | %s | %s | %s |\n", what, short(took), short(took / count),
-                reads, writes, count == 1 ? "" : part(lines), part(took - lines), short(beside / count)
-        }'
+# The blocks that the loads of the table wrote, beside those of the trees at their ends.
+print_loads() {
+    echo
+    echo '| Loads | Blocks of the tree | Written | For each of the tree | By plain |'
+    echo '|---|---|---|---|---|'
+    awk -F '|' "$functions"'
+        !($1 in is_known) { order[++count] = $1; is_known[$1] }
+        { written[$2, $1] = $3; tree[$2, $1] = $4 }
+        END {
+            for (i = 1; i <= count; i++) {
+                it = order[i]
+                ours = written["altctl", it] / tree["altctl", it]
+                printf "| %s | %s | %s | %.2f | %.2f |\n", it, grouped(tree["altctl", it]),
+                    grouped(written["altctl", it]), ours, written["plain", it] / tree["plain", it]
+            }
+        }' "$work/$table.loads"
 }
 
-# A row of the greatest memory while a store was opened, and while an empty one was.
-memory_row() {
-    awk -v what="$1" -v full="$2" -v empty="$3" '
-        BEGIN { printf "| %s | %.1f MB | | | | | %.1f MB | %.2f |\n", what, full * 1.024e-3, empty * 1.024e-3, full / empty }'
-}
-
-# --- the lines -----------------------------------------------------------------------------------
+# --- lines, and what they are answered -----------------------------------------------------------
 
 # Numbers from 1 to $1, in the order $2: `rising`, or `random`, which is the same in each run.
 numbers() {
@@ -192,298 +247,228 @@ numbers() {
         }'
 }
 
-# A put of a 16-byte value for each number, and what a get of it is answered.
+# Puts into an alternative: for each number a value of so many bytes, which are another number in digits.
 put_lines() {
-    awk '{ printf "put top 1 %d %016d\n", $1, $1 }'
+    awk -v alt="$1" -v size="$2" -v by="$3" '{ printf "put %s 1 %d %0*d\n", alt, $1, size, $1 + by }'
 }
 
-get_lines() {
-    awk '{ printf "get top 1 %d\n", $1 }'
+# Lines of which each is answered `ok`.
+all_ok() {
+    cat >"$work/$1.lines"
+    sed 's/.*/ok/' "$work/$1.lines" >"$work/$1.answers"
 }
 
-value_lines() {
-    awk '{ printf "value %016d\n", $1 }'
+# The same line for each version, and the same answer for each.
+for_versions() {
+    awk -v line="$2" -v count="$versions" \
+        'BEGIN { for (i = 1; i <= count; i++) { it = line; sub(/ALT/, "v" i, it); print it } }' >"$work/$1.lines"
+    for version in $(seq "$versions"); do cat "$work/one"; done >"$work/$1.answers"
 }
 
-# Puts a record for each number in a file, with the lines of another file behind them, and measures that.
-put_numbers() {
-    put_lines <"$1" | cat - "$2" >"$work/puts"
-    sed 's/.*/ok/' "$work/puts" >"$work/oks"
-    ask "$work/puts"
-    answers_are "$work/oks"
+# Gets of the numbers of a file, whose values have so many bytes.
+prepare_gets() {
+    awk '{ printf "get top 1 %d\n", $1 }' "$work/$2" >"$work/$1.lines"
+    awk -v size="$3" '{ printf "value %0*d\n", size, $1 }' "$work/$2" >"$work/$1.answers"
+}
+
+# The lines on records of 200 bytes. Each version has changes of its own, and as many are made in the parent, of which
+# a tenth are in conflict with those of each version.
+prepare() {
+    numbers "$records" random >"$work/random"
+    numbers "$records" rising >"$work/rising"
+    for order in random rising; do
+        { put_lines top 200 0 <"$work/$order" && echo commit; } | all_ok "load_$order"
+    done
+    put_lines top 200 0 <"$work/random" |
+        awk '{ print } NR % 100 == 0 { print "commit" } END { if (NR % 100) print "commit" }' | all_ok load_hundreds
+    prepare_gets gets random 200
+    sed 's/top/nowhere/' "$work/gets.lines" >"$work/refused.lines"
+    sed 's/.*/error 1 NoSuchAlternative/' "$work/gets.lines" >"$work/refused.answers"
+    echo list top >"$work/list.lines"
+    awk '{ printf "record 1 %d %0200d\n", $1, $1 } END { print "end " NR }' "$work/rising" >"$work/list.answers"
+
+    head -n "$changed" "$work/random" >"$work/theirs"
+    tail -n +$((changed - changed / 10 + 1)) "$work/random" | head -n "$changed" >"$work/mine"
+    sort -n "$work/mine" "$work/theirs" | uniq -d >"$work/both"
+    {
+        for version in $(seq "$versions"); do echo "new v$version top"; done
+        put_lines top 200 1 <"$work/theirs"
+        for version in $(seq "$versions"); do put_lines "v$version" 200 2 <"$work/mine"; done
+        echo commit
+    } | all_ok versions
+    sort -n "$work/mine" |
+        awk '{ printf "change 1 %d %0200d %0200d\n", $1, $1, $1 + 2 } END { print "end " NR }' >"$work/one"
+    for_versions changes 'changes ALT'
+    awk '{ printf "conflict 1 %d %0200d %0200d %0200d\n", $1, $1, $1 + 1, $1 + 2 } END { print "end " NR }' \
+        "$work/both" >"$work/one"
+    for_versions conflicts 'conflicts ALT'
+    echo "ok $changed" >"$work/one"
+    for_versions merges "merge ALT$(awk '{ printf " 1:%d=theirs", $1 }' "$work/both")"
+    head -n "$commits" "$work/random" | put_lines w 200 4 |
+        awk '{ print "new w top"; print; print "post w"; print "drop w" }' | all_ok posts
+    head -n "$commits" "$work/random" | put_lines top 200 3 | awk '{ print; print "commit" }' | all_ok commits
+}
+
+# The lines on a large store, of records of 16 bytes.
+prepare_large() {
+    for order in rising random; do
+        numbers "$large_records" $order >"$work/large_$order"
+        { put_lines top 16 0 <"$work/large_$order" && echo commit; } | all_ok "large_load_$order"
+        awk 'NR % 10 == 1' "$work/large_$order" | head -n "$large_gets" >"$work/tenth"
+        prepare_gets "large_gets_$order" tenth 16
+    done
+    yes reclaim | head -n $markings | all_ok markings
+    echo "grow $((2 * blocks))" | all_ok growth
 }
 
 # --- what is measured ----------------------------------------------------------------------------
 
-# The start of the program, with the opening of an empty store of 64 blocks.
-measure_start() {
-    "$altctl" create "$work/least" 64 >/dev/null
-    start "$work/least" "$work/none"
-    start_took=$took
-    start_bytes=$read_bytes
+# All rows of records of 200 bytes, of one program.
+measure_records() {
+    of=$(grouped "$records")
+    begin "$blocks"
+    measure_load load_random "$of puts in random order, one commit" "$records" "$blocks"
+    measure gets "$of gets" "$records"
+    measure refused "$of lines that are refused" "$records"
+    measure list "a list of $of records" 1
+    ask versions
+    measure changes "changes of a version, $changed on each side" "$versions"
+    measure conflicts "conflicts of a version, $((changed / 10)) of them" "$versions"
+    measure merges "a merge of $changed changes" "$versions"
+    measure posts 'a version made, changed at one record, posted and dropped' "$commits"
+    stop
+    begin "$blocks"
+    measure_load load_rising "$of puts by rising keys, one commit" "$records" "$blocks"
+    stop
+    begin "$blocks"
+    measure_load load_hundreds "$of puts in random order, a commit after each 100" "$records" "$blocks"
+    measure commits "$(grouped "$commits") times a put and a commit" "$commits"
     stop
 }
 
-# Puts of 200-byte values: of the number itself, and of another one.
-long_lines() {
-    awk -v alt="$1" '{ printf "put %s 1 %d %0200d\n", alt, $1, $1 }'
-}
-
-changed_lines() {
-    awk -v alt="$1" -v by="$2" '{ printf "put %s 1 %d %0200d\n", alt, $1, $1 + by }'
-}
-
-# What was measured last, without the start of the program and its three reads.
-without_start() {
-    took=$((took - start_took))
-    read_bytes=$((read_bytes - start_bytes + 3 * 4096))
-}
-
-# A store of many records, put in one order, and gets of every tenth in the same order.
+# A store of many records, put in one order: its openings, gets of every tenth record in the same order, markings.
 measure_order() {
-    numbers "$records" "$1" >"$work/numbers"
-    awk 'NR % 10 == 1' "$work/numbers" | head -n "$gets" >"$work/tenth"
-    head -n 1 "$work/tenth" | get_lines >"$work/one_get"
-    head -n 1 "$work/tenth" | value_lines >"$work/one_value"
-    get_lines <"$work/tenth" >"$work/gets"
-    value_lines <"$work/tenth" >"$work/values"
-
-    "$altctl" create "$work/store" "$blocks" >/dev/null
-    start "$work/store" "$work/none"
-    empty_peak=$(peak)
-    put_numbers "$work/numbers" "$work/commit"
-    row "$1 keys: $(grouped "$records") puts, one commit" "$records" 2 "$blocks"
+    begin "$large_blocks"
+    of=$(grouped "$large_records")
+    measure_load "large_load_$1" "$1 keys: $of puts, one commit" "$large_records" "$large_blocks"
     stop
-
-    start "$work/store" "$work/one_get"
-    full_peak=$(peak)
-    answers_are "$work/one_value"
-    without_start
-    row "$1 keys: open, one get" 1 1 "$blocks"
-    ask "$work/gets"
-    answers_are "$work/values"
-    row "$1 keys: $(grouped "$gets") gets" "$gets" 0 "$blocks"
-    ask "$work/reclaims"
-    row "$1 keys: $(grouped "$markings") markings" "$markings" 0 "$blocks"
+    for opening in $(seq $rounds); do
+        times=$("$work/timed" run "$program" run "$work/store")
+        add "$1 keys: open" time 1 "$(echo "$times" | cut -d ' ' -f $clock)" \
+            "$((large_blocks - 34 - $(free_of_store) + 3))" 0
+        add "$1 keys: the greatest memory of that" memory 1 "$(echo "$times" | cut -d ' ' -f 3)" 0 0
+    done
+    start
+    add "$1 keys: memory after it" memory 1 "$(sed -n 's/^VmRSS:[^0-9]*\([0-9]*\) kB/\1/p' "/proc/$pid/status")" 0 0
+    measure "large_gets_$1" "$1 keys: $(grouped "$large_gets") gets" "$large_gets"
+    measure markings "$1 keys: $(grouped $markings) markings" "$markings"
     stop
-    memory_row "$1 keys: memory of the opening, and of an empty store" "$full_peak" "$empty_peak"
-    rm "$work/store"
+}
+
+free_of_store() {
+    "$program" check "$work/store" | sed -n 's/^free //p'
 }
 
 # Puts records by rising keys and commits, until so many blocks are spare.
 fill_to() {
     left=$(($(spare) - $1))
     while [ "$left" -gt 4 ]; do
-        numbers $((left * 8)) rising | awk -v last="$last" '{ print last + $1 }' >"$work/numbers"
-        put_numbers "$work/numbers" "$work/none"
+        {
+            numbers $((left * 8)) rising | awk -v last="$last" '{ print last + $1 }' | put_lines top 16 0
+            echo commit
+        } | all_ok fill
+        ask fill
         last=$((last + left * 8))
         left=$(($(spare) - $1))
     done
 }
 
-# Puts of a few existing keys, all over the map, without a commit. The first of each key takes blocks
-# beside the committed ones, and is not measured.
+# Puts of a few existing keys, all over the map, without a commit. The first of each key takes blocks beside the
+# committed ones, and is not measured.
 measure_margin() {
-    fill_to $((small_blocks * $1 / 100))
-    several=$((small_blocks / 1024))
+    fill_to $((blocks * $1 / 100))
+    several=$((blocks / 1024))
     numbers "$several" random | awk -v step=$((last / several)) '{ print $1 * step }' >"$work/keys"
-    put_numbers "$work/keys" "$work/none"
-    awk -v puts="$puts" '
-        { key[NR] = $1 }
-        END { for (i = 0; i < puts; i++) print key[1 + i % NR] }' "$work/keys" >"$work/numbers"
-    put_numbers "$work/numbers" "$work/none"
-    row "$(grouped "$puts") puts, $1 % of $(grouped "$small_blocks") blocks spare" "$puts" 0 "$small_blocks"
+    put_lines top 16 0 <"$work/keys" | all_ok first
+    ask first
+    awk -v puts="$puts" '{ key[NR] = $1 } END { for (i = 0; i < puts; i++) print key[1 + i % NR] }' "$work/keys" |
+        put_lines top 16 1 | all_ok margin
+    measure margin "$(grouped "$puts") puts of few keys, $1 % of $(grouped "$blocks") blocks spare" "$puts"
 }
 
-measure_margins() {
-    "$altctl" create "$work/store" "$small_blocks" >/dev/null
-    start "$work/store" "$work/none"
+# All rows of a large store, and of one that has few blocks left, of one program.
+measure_large() {
+    measure_order rising
+    measure_order random
+    begin "$blocks"
     last=0
     measure_margin 10
     measure_margin 1
     stop
-}
-
-# A growth of a store to twice its blocks.
-measure_growth() {
-    "$altctl" create "$work/store" "$small_blocks" >/dev/null
-    start "$work/store" "$work/none"
-    echo "grow $((2 * small_blocks))" >"$work/grow"
-    echo ok >"$work/grown"
-    ask "$work/grow"
-    answers_are "$work/grown"
-    row "a growth from $(grouped "$small_blocks") blocks to twice as many" 1 0 $((2 * small_blocks))
+    begin "$blocks"
+    measure growth "a growth from $(grouped "$blocks") blocks to twice as many" 1
     stop
-    rm "$work/store"
+    rm -f "$work/store"
 }
 
-# Has lines answered that are as those of a file, but name an alternative that isn't there: all their time goes
-# to lines and answers.
-measure_refused() {
-    sed 's/^\([a-z]*\) [a-z]*/\1 nowhere/' "$1" >"$work/refused"
-    sed 's/.*/error 1 NoSuchAlternative/' "$1" >"$work/refusals"
-    ask "$work/refused"
-    answers_are "$work/refusals"
-    lines_took=$took
+# Loads and gets of records of 200 bytes over another store.
+measure_peer() {
+    of=$(grouped "$records")
+    rm -f "$work/store"*
+    start
+    measure load_random "$of puts in random order, one commit" "$records"
+    measure gets "$of gets" "$records"
+    end
+    rm -f "$work/store"*
+    start
+    measure load_hundreds "$of puts in random order, a commit after each 100" "$records"
+    measure commits "$(grouped "$commits") times a put and a commit" "$commits"
+    end
+    rm -f "$work/store"*
 }
 
-# Lines on a store with records in four alternatives: gets of all, puts into one, a list, and a merge of what
-# the parent changed.
-measure_lines() {
-    "$altctl" create "$work/store" "$small_blocks" >/dev/null
-    start "$work/store" "$work/none"
-    numbers "$line_records" random >"$work/numbers"
-    put_numbers "$work/numbers" "$work/none"
-    printf 'new a top\nnew b top\nnew c top\ncommit\n' >"$work/news"
-    ask "$work/news"
-
-    awk '{ split("top a b c", alt, " "); printf "get %s 1 %d\n", alt[1 + NR % 4], $1 }' "$work/numbers" >"$work/gets"
-    value_lines <"$work/numbers" >"$work/values"
-    measure_refused "$work/gets"
-    ask "$work/gets"
-    answers_are "$work/values"
-    line_row "$(grouped "$line_records") gets" "$line_records" "$small_blocks"
-
-    head -n "$line_puts" "$work/numbers" | awk '{ printf "put a 2 %d %016d\n", $1, $1 }' >"$work/puts"
-    sed 's/.*/ok/' "$work/puts" >"$work/oks"
-    measure_refused "$work/puts"
-    ask "$work/puts"
-    answers_are "$work/oks"
-    line_row "$(grouped "$line_puts") puts" "$line_puts" "$small_blocks"
-
-    echo list top >"$work/list"
-    numbers "$line_records" rising | awk '{ printf "record 1 %d %016d\n", $1, $1 }' >"$work/records"
-    echo end "$line_records" >>"$work/records"
-    ask "$work/list"
-    answers_are "$work/records"
-    line_row "one list of $(grouped "$line_records") records" 1 "$small_blocks"
-
-    head -n "$merged" "$work/numbers" | awk '{ printf "put top 1 %d changed\n", $1 }' >"$work/changes"
-    ask "$work/changes"
-    echo merge b >"$work/merge"
-    echo ok "$merged" >"$work/merged"
-    ask "$work/merge"
-    answers_are "$work/merged"
-    line_row "one merge of $(grouped "$merged") changes" 1 "$small_blocks"
-    stop
-    rm "$work/store"
+# Compiles it over a store, with the words after the first, and measures it, where the store is installed.
+try_peer() {
+    name=$1
+    program=$work/$1
+    shift
+    if ! "${CC:-cc}" -O3 -o "$program" "$tools/peers.c" "$@" 2>"$work/faults"; then
+        echo "measure: $name is left out: it is not installed" >&2
+        return
+    fi
+    for round in $(seq $rounds); do measure_peer; done
 }
 
-# A store of long records under a name, put with a commit after each so many, and with it the row of that.
-measure_long_puts() {
-    "$altctl" create "$work/store" "$small_blocks" >/dev/null
-    start "$work/store" "$work/none"
-    long_lines top <"$work/numbers" |
-        awk -v every="$1" -v count="$line_records" '{ print } NR % every == 0 || NR == count { print "commit" }' >"$work/puts"
-    sed 's/.*/ok/' "$work/puts" >"$work/oks"
-    ask "$work/puts"
-    answers_are "$work/oks"
-    row "$2" "$line_records" $((2 * (line_records / $1))) "$small_blocks"
-}
-
-# The same question for each of the versions, with the answers in a file: one row, a version each.
-measure_versions_row() {
-    awk -v what="$1" -v count="$versions" 'BEGIN { for (i = 1; i <= count; i++) printf "%s v%d\n", what, i }' >"$work/questions"
-    ask "$work/questions"
-    answers_are "$work/expected"
-    row "$2" "$versions" 0 "$small_blocks"
-}
-
-# What is asked of versions: each has changes of its own, and as many were made in the parent, of which a tenth are in
-# conflict with those of each version.
-measure_versions() {
-    numbers "$line_records" random >"$work/numbers"
-    measure_long_puts "$line_records" "$(grouped "$line_records") puts, one commit"
-    stop
-    rm "$work/store"
-    measure_long_puts 100 "$(grouped "$line_records") puts, a commit after each 100"
-
-    get_lines <"$work/numbers" >"$work/gets"
-    awk '{ printf "value %0200d\n", $1 }' "$work/numbers" >"$work/values"
-    ask "$work/gets"
-    answers_are "$work/values"
-    row "$(grouped "$line_records") gets" "$line_records" 0 "$small_blocks"
-
-    echo list top >"$work/list"
-    numbers "$line_records" rising | awk '{ printf "record 1 %d %0200d\n", $1, $1 }' >"$work/records"
-    echo end "$line_records" >>"$work/records"
-    ask "$work/list"
-    answers_are "$work/records"
-    row "a list of them, a record" "$line_records" 0 "$small_blocks"
-
-    head -n "$changed" "$work/numbers" >"$work/theirs"
-    tail -n +$((changed - changed / 10 + 1)) "$work/numbers" | head -n "$changed" >"$work/mine"
-    {
-        awk -v count="$versions" 'BEGIN { for (i = 1; i <= count; i++) printf "new v%d top\n", i }'
-        changed_lines top 1 <"$work/theirs"
-        for version in $(seq "$versions"); do
-            changed_lines "v$version" 2 <"$work/mine"
+# Lets both programs do the same, one after the other, so many times.
+both() {
+    for round in $(seq "$2"); do
+        for name in altctl plain; do
+            program=$work/plain
+            [ "$name" = plain ] || program=$altctl
+            "$1"
         done
-        echo commit
-    } >"$work/puts"
-    sed 's/.*/ok/' "$work/puts" >"$work/oks"
-    ask "$work/puts"
-    answers_are "$work/oks"
-
-    sort -n "$work/mine" | awk '{ printf "change 1 %d %0200d %0200d\n", $1, $1, $1 + 2 }' >"$work/one"
-    echo end "$changed" >>"$work/one"
-    for version in $(seq "$versions"); do cat "$work/one"; done >"$work/expected"
-    measure_versions_row changes "changes of a version, $changed on each side"
-
-    sort -n "$work/mine" "$work/theirs" | uniq -d |
-        awk '{ printf "conflict 1 %d %0200d %0200d %0200d\n", $1, $1, $1 + 1, $1 + 2 }' >"$work/one"
-    echo end $((changed / 10)) >>"$work/one"
-    for version in $(seq "$versions"); do cat "$work/one"; done >"$work/expected"
-    measure_versions_row conflicts "conflicts of a version, $((changed / 10)) of them"
-
-    settlements=$(sort -n "$work/mine" "$work/theirs" | uniq -d | awk '{ printf " 1:%d=theirs", $1 }')
-    for version in $(seq "$versions"); do echo "merge v$version$settlements"; done >"$work/merges"
-    for version in $(seq "$versions"); do echo "ok $changed"; done >"$work/merged"
-    ask "$work/merges"
-    answers_are "$work/merged"
-    row "merges of $changed changes" "$versions" 0 "$small_blocks"
-
-    head -n "$commits" "$work/numbers" | changed_lines w 4 |
-        awk '{ print "new w top"; print; print "post w"; print "drop w" }' >"$work/puts"
-    sed 's/.*/ok/' "$work/puts" >"$work/oks"
-    ask "$work/puts"
-    answers_are "$work/oks"
-    row 'a version made, changed at one record, posted and dropped' "$commits" 0 "$small_blocks"
-
-    head -n "$commits" "$work/numbers" | changed_lines top 3 | awk '{ print; print "commit" }' >"$work/puts"
-    sed 's/.*/ok/' "$work/puts" >"$work/oks"
-    ask "$work/puts"
-    answers_are "$work/oks"
-    row "$(grouped "$commits") times a put and a commit" "$commits" $((2 * commits)) "$small_blocks"
-    stop
-    rm "$work/store"
+    done
 }
 
-cc -O2 -o "$work/block_calls" "$tools/block_calls.c"
-mkfifo "$work/input"
-: >"$work/none"
-echo checks top >"$work/checks"
-echo end 0 >"$work/none_checked"
-echo commit >"$work/commit"
-printf 'reclaim\nfree\n' >"$work/free"
-awk -v count="$markings" 'BEGIN { while (count-- > 0) print "reclaim" }' >"$work/reclaims"
+"${CC:-cc}" -O3 -o "$work/plain" "$tools/plain.c"
+"${CC:-cc}" -O2 -o "$work/timed" "$tools/timed.c"
 "$altctl" --help >/dev/null
+[ $# -gt 0 ] || altctl=$tools/../crates/altctl/out/altctl
+mkfifo "$work/input"
+echo checks top >"$work/ready.lines"
+echo end 0 >"$work/ready.answers"
+"$tools/compare.py" -n 20 "$work/plain" >"$work/compared" || fail 'plain.c answers otherwise than compare.py expects'
 
-echo "| A store of $(grouped "$blocks") blocks | All | Each | Block reads | Block writes | Syncs | Plain loop | Ratio |"
-echo '|---|---|---|---|---|---|---|---|'
-measure_start
-measure_order rising
-measure_order random
-measure_margins
-rm -f "$work/store"
-measure_growth
-
-echo
-echo "| $(grouped "$line_records") records in four alternatives | All | Each | Block reads | Block writes | Lines and answers | The store and its blocks | Plain loop |"
-echo '|---|---|---|---|---|---|---|---|'
-measure_lines
-
-echo
-echo "| $(grouped "$line_records") records of 200 bytes | All | Each | Block reads | Block writes | Syncs | Plain loop | Ratio |"
-echo '|---|---|---|---|---|---|---|---|'
-measure_versions
+table=small
+prepare
+both measure_records $rounds
+[ -z "$peers" ] || try_peer lmdb -DLMDB -llmdb
+[ -z "$peers" ] || try_peer sqlite -lsqlite3
+print_rows "$(grouped "$records") records of 200 bytes"
+print_loads
+[ -z "$peers" ] || print_peers "$(grouped "$records") records of 200 bytes"
+table=large
+prepare_large
+both measure_large 1
+print_rows "A store of $(grouped "$large_blocks") blocks"
+print_loads

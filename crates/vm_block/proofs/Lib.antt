@@ -9,5 +9,4 @@ pub mod RowLemmas
 pub mod Rows
 pub mod SlotLemmas
 pub mod TellingLemmas
-pub mod TreeLemmas
 pub mod WayLemmas

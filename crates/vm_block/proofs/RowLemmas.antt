@@ -1,12 +1,12 @@
 -- What stands in the rows of leaves and inner blocks.
-use Rattle.std.proofs.Common.{◌≡◌, ℕ, ◌+◌, ◌-◌, ◌*◌, ◌<◌, ◌≤◌, List, [], ◌++◌, length, take, drop, get_or, min, refl, sym, ap, ap₂, ◌∙◌, arith, append_assoc, length-drop}
-use Rattle.std.proofs.lemmas.List.{take_at, take-take, take_all, take-append-drop}
+use Rattle.std.proofs.Common.{◌≡◌, ℕ, ◌-◌, ◌<◌, List, [], ◌++◌, length, take, drop, get_or, min, refl, sym, ap, ap₂, ◌∙◌, arith}
+use Rattle.std.proofs.lemmas.List.{take_at, take-append-drop}
 use Rattle.byteorder.specs.Endian.{little_bytes, little_number}
 use Rattle.byteorder.specs.Numbers.{little_number-reads_back}
 use Rattle.vm_types.specs.declared.key.Key.{Key}
 use Rattle.vm_types.specs.Places.{KeyFits}
 use Rattle.vm_block.specs.declared.node.Child.{Child}
-use Rattle.vm_block.specs.Padding.{padded, zeros}
+use Rattle.vm_block.specs.Padding.{zeros}
 use Rattle.vm_block.specs.Leaf.{Record, RecordFits, IsLeaf, key_bytes, record_bytes}
 use Rattle.vm_block.specs.Node.{ChildFits, IsNode, child_bytes}
 use Rattle.vm_block.specs.Row.{key_of, record_of, child_of, leaf_row, node_row}

@@ -4,17 +4,14 @@ use Rattle.std.specs.Prelude.{slice_index}
 use Rattle.std.specs.List.{AllByRecursion, flat_map}
 use Rattle.std.proofs.lemmas.Bool.{cases_order, eq-eqb, ne_eqb, lt-ltb, le-ltb}
 use Rattle.std.proofs.lemmas.List.{drop_at, drop-drop, take-take, length-map, get_or-map}
-use Rattle.std.proofs.Math.Nat.{mul-le-mul_left}
 use Rattle.std.proofs.Math.Seq.{paste}
 use Rattle.vm_types.specs.declared.key.Key.{Key}
 use Rattle.vm_types.specs.Places.{KeyFits, RisesFrom, place, places, value_at, with_record}
 use Rattle.vm_block.specs.declared.node.Child.{Child}
-use Rattle.vm_block.specs.FullPath.{IsChosen}
 use Rattle.vm_block.specs.Padding.{zeros, padded}
-use Rattle.vm_block.specs.Leaf.{Record, RecordFits, IsLeaf, key_bytes, record_bytes, leaf_head, leaf_bytes}
+use Rattle.vm_block.specs.Leaf.{Record, BeginsWith, RecordFits, IsLeaf, key_bytes, record_bytes, leaf_head, leaf_bytes}
 use Rattle.vm_block.specs.Node.{ChildFits, IsNode, lows, child_bytes, node_head, node_bytes}
-use Rattle.vm_block.specs.Tree.{BeginsWith}
-use Rattle.vm_block.specs.Way.{KeysStand, Lowest}
+use Rattle.vm_block.specs.Way.{IsChosen, KeysStand, Lowest}
 use Rattle.vm_block.proofs.EachLemmas.{each_front, each_back, each_join}
 use Rattle.vm_block.proofs.LeafLemmas.{length-leaf, length-leaf_head, length-records, leaf_parts, leaf_whole}
 use Rattle.vm_block.proofs.NodeLemmas.{length-child, length-children, length-node, length-node_head, child_one, node_parts, node_whole}

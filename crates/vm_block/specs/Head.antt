@@ -1,7 +1,21 @@
 -- The head of a block of a tree: its first sixteen bytes.
-use Rattle.std.specs.Prelude.{◌≡◌, ℕ, ◌<◌, ◌≤◌, List, take}
+use Rattle.std.specs.Prelude.{◌≡◌, ℕ, ◌<◌, ◌≤◌, List, ◌++◌, take}
+use Rattle.byteorder.specs.Endian.{little_bytes}
 use Rattle.vm_block.specs.Leaf.{leaf_head}
 use Rattle.vm_block.specs.Node.{node_head}
+use Rattle.vm_block.specs.declared.head.Head.{Head}
+
+-- a head in its sixteen bytes: four numbers
+abbrev pub head_numbers : Head → List ℕ
+head_numbers head = little_bytes 4 head.letters ++ (little_bytes 4 head.level ++ (little_bytes 4 head.count ++ little_bytes 4 head.zero))
+
+-- it has the letters of a leaf, and is the head of one of so many records at most
+abbrev pub IsHeadOfLeaf : ℕ → ℕ → Head → Type 0
+IsHeadOfLeaf letters most head = (head.letters ≡ letters) × (head.level ≡ 0) × (0 < head.count) × (head.count ≤ most) × (head.zero ≡ 0)
+
+-- it has the letters of an inner block, and is the head of one
+abbrev pub IsHeadOfNode : ℕ → Head → Type 0
+IsHeadOfNode letters head = (head.letters ≡ letters) × (0 < head.level) × (head.level ≤ 7) × (0 < head.count) × (head.count ≤ 256) × (head.zero ≡ 0)
 
 -- the bytes begin with the head of a leaf of so many records, from one to the greatest count
 pub record IsLeafHead (bytes : List ℕ) (most n : ℕ) : Type 0 where

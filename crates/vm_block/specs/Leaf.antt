@@ -1,5 +1,5 @@
 -- A leaf: the block of a tree that holds records.
-use Rattle.std.specs.Prelude.{◌≡◌, ℕ, ◌<◌, ◌≤◌, List, ◌++◌, length, codes}
+use Rattle.std.specs.Prelude.{◌≡◌, ℕ, ◌<◌, ◌≤◌, List, [], ◌∷◌, ◌++◌, length, codes}
 use Rattle.std.specs.List.{AllByRecursion, flat_map}
 use Rattle.byteorder.specs.Endian.{little_bytes}
 use Rattle.vm_types.specs.declared.key.Key.{Key}
@@ -9,6 +9,11 @@ use Rattle.vm_block.specs.Padding.{padded}
 -- a record: a key and the bytes of its value
 abbrev pub Record : Type 0
 Record = Key × List ℕ
+
+-- the records begin with this key
+abbrev pub BeginsWith : Key → List Record → Type 0
+BeginsWith low [] = ⊥
+BeginsWith low (r ∷ rs) = r.0 ≡ low
 
 -- a key in its 10 bytes
 abbrev pub key_bytes : Key → List ℕ

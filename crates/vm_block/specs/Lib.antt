@@ -1,11 +1,12 @@
-pub mod FullPath
+pub mod Changed
 pub mod Head
 pub mod Header
+pub mod Laws
 pub mod Leaf
 pub mod Node
 pub mod Padding
 pub mod Selector
 pub mod Slot
-pub mod Tree
+pub mod Told
 pub mod Way
 pub mod Row

@@ -1,13 +1,18 @@
 -- The way down to a key, in the bytes of blocks.
-use Rattle.std.specs.Prelude.{◌≡◌, ℕ, ◌+◌, ◌*◌, ◌<◌, ◌≤◌, List, [], ◌∷◌, length, take, drop, slice_index, slice_index_or}
+use Rattle.std.specs.Prelude.{◌≡◌, ℕ, ◌+◌, ◌*◌, ◌<◌, ◌≤◌, List, [], ◌∷◌, length, take, drop, Option, IsSomeAnd, slice_index, slice_index_or}
 use Rattle.vm_types.specs.declared.key.Key.{Key}
-use Rattle.vm_types.specs.Places.{KeyFits, place, with_record}
-use Rattle.vm_block.specs.Leaf.{Record, key_bytes, leaf_bytes}
+use Rattle.vm_types.specs.Places.{KeyFits, place}
+use Rattle.vm_block.specs.Head.{IsNodeHead}
+use Rattle.vm_block.specs.Leaf.{key_bytes}
 use Rattle.vm_block.specs.Node.{lows}
-use Rattle.vm_block.specs.FullPath.{IsChosen}
 use Rattle.vm_block.specs.declared.node.Child.{Child}
-use Rattle.vm_block.specs.declared.changing.Placed.{Placed}
-use Rattle.vm_block.specs.declared.changing.Placed.TheVariants.{Put, Full, NoLeaf}
+use Rattle.vm_block.specs.declared.way.Way.{Way}
+
+-- which child a descent to place p takes: the last whose lowest key is not above it, or else the first
+pub record IsChosen (places : List ℕ) (p i : ℕ) : Type 0 where
+  pub within : i < length places
+  pub reached : 0 < i → slice_index places i ≤ p
+  pub last : i + 1 < length places → p < slice_index places (i + 1)
 
 -- behind the head of a block stand rows of one size, which begin with the keys of these places
 abbrev pub KeysStand : List ℕ → ℕ → List ℕ → Type 0
@@ -23,8 +28,18 @@ abbrev pub Lowest : Key → List Child → Type 0
 Lowest key [] = ⊥
 Lowest key (c ∷ cs) = c.low ≡ key
 
--- what a record that was to be put in a leaf of these records leaves of its bytes
-abbrev pub IsAfterPut : Placed → ℕ → Record → List Record → List ℕ → List ℕ → Type 0
-IsAfterPut Put most r rs old new = (new ≡ leaf_bytes (with_record r rs)) × (length (with_record r rs) ≤ most)
-IsAfterPut Full most r rs old new = (new ≡ old) × (most < length (with_record r rs))
-IsAfterPut NoLeaf most r rs old new = ⊥
+-- a way in an inner block of a level from 1 to 7 and of 256 children at most, to one of these
+abbrev pub IsWay : Way → Type 0
+IsWay way = (0 < way.level) × (way.level ≤ 7) × (way.index < way.count) × (way.count ≤ 256)
+
+-- a way in an inner block of this level with these children, to the one where a descent to place p goes
+abbrev pub IsWayTo : ℕ → ℕ → List Child → Way → Type 0
+IsWayTo p level cs way = (way.level ≡ level) × (way.count ≡ length cs) × Takes cs p way.index way.child
+
+-- where the bytes begin with the head of an inner block, a way tells the level and the count of it
+abbrev pub TellsHead : List ℕ → Option Way → Type 0
+TellsHead bytes result = (level n : ℕ) → IsNodeHead bytes level n → IsSomeAnd result (λ way. (way.level ≡ level) × (way.count ≡ n))
+
+-- of so many rows of one size this is the one that a descent to place p takes, whatever their keys are
+abbrev pub ChoosesAmong : List ℕ → ℕ → ℕ → ℕ → ℕ → Type 0
+ChoosesAmong bytes size count p i = (ps : List ℕ) → length ps ≡ count → KeysStand bytes size ps → IsChosen ps p i

@@ -1,10 +1,8 @@
 //! One child or one record put in the bytes of a block, which is not written anew for it.
-ghost use Rattle.std.specs.Prelude.{◌≡◌, ◌≢◌, ◌↔◌, ℕ, ◌+◌, ◌<◌, ◌≤◌, ◌++◌, ◌∷◌, List, length, take, drop};
+ghost use Rattle.std.specs.Prelude.{◌≡◌, ◌≢◌, ◌↔◌, ℕ, ◌<◌, ◌≤◌};
+ghost use Rattle.vm_block.specs.Changed.{InsertsRecord, PutsRecord, SetsChild, SetsRecord};
 ghost use Rattle.vm_block.specs.Head.{IsLeafHead};
-ghost use Rattle.vm_block.specs.Leaf.{Record, RecordFits, IsLeaf, leaf_bytes};
-ghost use Rattle.vm_block.specs.Node.{IsNode, node_bytes};
-ghost use Rattle.vm_block.specs.Way.{IsAfterPut};
-ghost use Rattle.vm_block.specs.declared.node.Child.{Child};
+ghost use Rattle.vm_block.specs.Leaf.{RecordFits};
 
 use crate::head::leaf_count;
 use crate::keys::read_key;
@@ -27,8 +25,7 @@ pub enum Placed {
 /// Puts the child in the place of the one at this index of an inner block.
 pub fn set_child(bytes: &mut [u8; 4096], index: usize, child: Child)
     requires { index < 256 }
-    ensures { (level : ℕ) (cs : List Child) → IsNode bytes.old level cs → index < length cs
-        → bytes.new ≡ node_bytes level (take index cs ++ child ∷ drop (index + 1) cs) }
+    ensures { SetsChild index child bytes.old bytes.new }
 {
     write_child(child, &mut bytes[16 + 14 * index..]);
 }
@@ -36,8 +33,7 @@ pub fn set_child(bytes: &mut [u8; 4096], index: usize, child: Child)
 /// Writes the record over the one at this index of a leaf.
 fn set_record(bytes: &mut [u8; 4096], index: usize, key: Key, value: &Value)
     requires { index < 16 }
-    ensures { (rs : List Record) → IsLeaf bytes.old rs → index < length rs → RecordFits (key, value.now)
-        → bytes.new ≡ leaf_bytes (take index rs ++ (key, value.now) ∷ drop (index + 1) rs) }
+    ensures { SetsRecord index (key, value.now) bytes.old bytes.new }
 {
     write_record(key, value, &mut bytes[16 + 252 * index..]);
 }
@@ -46,8 +42,7 @@ fn set_record(bytes: &mut [u8; 4096], index: usize, key: Key, value: &Value)
 fn insert_record(bytes: &mut [u8; 4096], count: usize, index: usize, key: Key, value: &Value)
     requires within { index ≤ count }
     requires room { count < 16 }
-    ensures { (rs : List Record) → IsLeaf bytes.old rs → count ≡ length rs → RecordFits (key, value.now)
-        → bytes.new ≡ leaf_bytes (take index rs ++ (key, value.now) ∷ drop index rs) }
+    ensures { InsertsRecord count index (key, value.now) bytes.old bytes.new }
 {
     bytes.copy_within(16 + 252 * index..16 + 252 * count, 16 + 252 * (index + 1));
     write_record(key, value, &mut bytes[16 + 252 * index..]);
@@ -60,7 +55,7 @@ pub fn put_record(bytes: &mut [u8; 4096], most: usize, key: Key, value: &Value) 
     ensures fits { RecordFits (key, value.now) }
     ensures head { (result ≢ Placed.NoLeaf) ↔ ((n : ℕ) × IsLeafHead bytes.old most n) }
     ensures kept { result ≢ Placed.Put → bytes.new ≡ bytes.old }
-    ensures only { (rs : List Record) → IsLeaf bytes.old rs → length rs ≤ most → IsAfterPut result most (key, value.now) rs bytes.old bytes.new }
+    ensures only { PutsRecord result most (key, value.now) bytes.old bytes.new }
 {
     let short = value.as_bytes().len() <= Value::MAX_LEN;
     prove!(short);

@@ -1,7 +1,6 @@
 //! The head of a block of a tree, compared as four numbers.
-ghost use Rattle.std.specs.Prelude.{◌≡◌, ℕ, ◌<◌, ◌≤◌, ◌++◌, ◌↔◌, Some, length, take, IsTrue, IfSome};
-ghost use Rattle.byteorder.specs.Endian.{little_bytes};
-ghost use Rattle.vm_block.specs.Head.{IsLeafHead, IsNodeHead};
+ghost use Rattle.std.specs.Prelude.{◌≡◌, ℕ, ◌≤◌, ◌↔◌, Some, length, take, IsTrue, IfSome};
+ghost use Rattle.vm_block.specs.Head.{IsHeadOfLeaf, IsHeadOfNode, IsLeafHead, IsNodeHead, head_numbers};
 
 use crate::node::is_in_range;
 use byteorder::{ByteOrder, LittleEndian};
@@ -23,7 +22,7 @@ struct Head {
 
 fn read_head(bytes: &[u8]) -> Head
     requires { 16 ≤ length bytes.now }
-    ensures { take 16 bytes.now ≡ little_bytes 4 result.letters ++ (little_bytes 4 result.level ++ (little_bytes 4 result.count ++ little_bytes 4 result.zero)) }
+    ensures { take 16 bytes.now ≡ head_numbers result }
 {
     Head {
         letters: LittleEndian::read_u32(bytes),
@@ -35,7 +34,7 @@ fn read_head(bytes: &[u8]) -> Head
 
 /// Whether a leaf of so many records at most may have this head.
 fn is_leaf(head: Head, most: usize) -> bool
-    ensures { IsTrue result ↔ ((head.letters ≡ LEAF) × (head.level ≡ 0) × (0 < head.count) × (head.count ≤ most) × (head.zero ≡ 0)) }
+    ensures { IsTrue result ↔ IsHeadOfLeaf LEAF most head }
 {
     head.letters == LEAF
         && head.level == 0
@@ -45,7 +44,7 @@ fn is_leaf(head: Head, most: usize) -> bool
 
 /// Whether an inner block may have this head.
 fn is_node(head: Head) -> bool
-    ensures { IsTrue result ↔ ((head.letters ≡ NODE) × (0 < head.level) × (head.level ≤ 7) × (0 < head.count) × (head.count ≤ 256) × (head.zero ≡ 0)) }
+    ensures { IsTrue result ↔ IsHeadOfNode NODE head }
 {
     head.letters == NODE && is_in_range(head.level, head.count) && head.zero == 0
 }

@@ -1,9 +1,10 @@
 //! A leaf: the block of a tree that holds records.
-ghost use Rattle.std.specs.Prelude.{◌≡◌, ℕ, ◌≤◌, ◌+◌, ◌*◌, ◌-◌, ◌++◌, ◌↔◌, List, [], length, take, drop, IsTrue, IfSome, IsSomeAnd};
-ghost use Rattle.std.specs.List.{AllByRecursion, flat_map};
+ghost use Rattle.std.specs.Prelude.{◌≡◌, ◌≤◌, ◌+◌, ◌*◌, ◌-◌, ◌++◌, ◌↔◌, ℕ, List, [], length, take, drop, IsTrue, IfSome, IsSomeAnd};
+ghost use Rattle.std.specs.List.{flat_map};
 ghost use Rattle.vm_types.specs.Places.{RisesFrom, places};
 ghost use Rattle.vm_block.specs.Padding.{padded, zeros};
 ghost use Rattle.vm_block.specs.Leaf.{Record, IsLeaf, RecordFits, leaf_bytes, leaf_head, record_bytes};
+ghost use Rattle.vm_block.specs.Told.{AreRecords, IfLeaf, IfRecords};
 
 use crate::keys::{read_key, write_key};
 use crate::spelling::{are_zero, is_framed, put, put_zeros};
@@ -96,8 +97,8 @@ fn read_records(bytes: &[u8], count: usize, records: &mut ArrayVec<(Key, Value),
     requires few { count ≤ 16 }
     requires room { 252 * count ≤ length bytes.now }
     requires empty { records.old.items ≡ [] }
-    ensures found { IsTrue result → AllByRecursion RecordFits records.new.items × (length records.new.items ≡ count) × (take (252 * count) bytes.now ≡ flat_map record_bytes records.new.items) }
-    ensures only { (rs : List Record) (rest : List ℕ) → AllByRecursion RecordFits rs → length rs ≡ count → bytes.now ≡ flat_map record_bytes rs ++ rest → IsTrue result × (records.new.items ≡ rs) }
+    ensures found { IsTrue result → AreRecords bytes.now count records.new.items }
+    ensures only { IfRecords bytes.now count (λ rs. IsTrue result × (records.new.items ≡ rs)) }
 {
     for i in 0..count {
         match read_record(&bytes[252 * i..252 * i + 252]) {
@@ -111,7 +112,7 @@ fn read_records(bytes: &[u8], count: usize, records: &mut ArrayVec<(Key, Value),
 /// The records of a leaf, where the bytes are one.
 pub fn read_leaf(bytes: &[u8; 4096]) -> Option<ArrayVec<(Key, Value), 16>>
     ensures found { IfSome result (λ records. IsLeaf bytes.now records.items) }
-    ensures only { (rs : List Record) → IsLeaf bytes.now rs → IsSomeAnd result (λ records. records.items ≡ rs) }
+    ensures only { IfLeaf bytes.now (λ rs. IsSomeAnd result (λ records. records.items ≡ rs)) }
 {
     let count = LittleEndian::read_u32(&bytes[8..]);
     if count == 0 || count > MAX_RECORDS {

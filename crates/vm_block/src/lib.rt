@@ -27,7 +27,7 @@ mod way;
 
 pub use changing::{Placed, put_record, set_child};
 pub use header::{is_header, write_header};
-pub use laws::{one_form, one_tree, written_is_a_form};
+pub use laws::{one_form, written_is_a_form};
 pub use leaf::{read_leaf, write_leaf};
 pub use node::{Child, Node, read_node, spelled_children, write_node};
 pub use row::{child_row, record_row, record_value};

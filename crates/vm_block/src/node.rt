@@ -1,10 +1,10 @@
 //! An inner block of a tree: it holds the numbers of blocks one level below.
-ghost use Rattle.std.specs.Prelude.{◌≡◌, ℕ, ◌<◌, ◌≤◌, ◌*◌, ◌++◌, ◌↔◌, List, [], length, take, drop, IsTrue, IfSome, IsSomeAnd};
+ghost use Rattle.std.specs.Prelude.{◌≡◌, ℕ, ◌<◌, ◌≤◌, ◌*◌, ◌++◌, ◌↔◌, [], length, take, drop, IsTrue, IfSome, IsSomeAnd};
 ghost use Rattle.std.specs.List.{AllByRecursion, flat_map};
 ghost use Rattle.vm_types.specs.Places.{RisesFrom};
-ghost use Rattle.vm_block.specs.declared.node.Child.{Child};
 ghost use Rattle.vm_block.specs.Padding.{padded};
 ghost use Rattle.vm_block.specs.Node.{IsNode, ChildFits, lows, child_bytes, node_head, node_bytes};
+ghost use Rattle.vm_block.specs.Told.{IfNode, IsNodeWith};
 
 use crate::keys::{read_key, write_key};
 use crate::spelling::{is_framed, put, put_zeros};
@@ -119,7 +119,7 @@ pub fn spelled_children(bytes: &[u8; 4096], count: usize) -> ArrayVec<Child, 256
     ensures many { length result.items ≡ count }
     ensures fit { AllByRecursion ChildFits result.items }
     ensures spelled { take (14 * count) (drop 16 bytes.now) ≡ flat_map child_bytes result.items }
-    ensures only { (level : ℕ) (cs : List Child) → IsNode bytes.now level cs → count ≡ length cs → result.items ≡ cs }
+    ensures only { IfNode bytes.now (λ level cs. count ≡ length cs → result.items ≡ cs) }
 {
     let mut children = ArrayVec::new();
     read_children(&bytes[16..], count, &mut children);
@@ -136,7 +136,7 @@ pub(crate) fn is_in_range(level: u32, count: u32) -> bool
 /// The inner block, where the bytes are one.
 pub fn read_node(bytes: &[u8; 4096]) -> Option<Node>
     ensures found { IfSome result (λ node. IsNode bytes.now node.level node.children.items) }
-    ensures only { (level : ℕ) (cs : List Child) → IsNode bytes.now level cs → IsSomeAnd result (λ node. (node.level ≡ level) × (node.children.items ≡ cs)) }
+    ensures only { IfNode bytes.now (λ level cs. IsSomeAnd result (IsNodeWith level cs)) }
 {
     let level = LittleEndian::read_u32(&bytes[4..]);
     let count = LittleEndian::read_u32(&bytes[8..]);

@@ -1,7 +1,7 @@
 //! The rows of a block as they stand in its bytes, of which nothing is copied out.
-ghost use Rattle.std.specs.Prelude.{◌≡◌, ◌<◌, ◌≤◌, List, length, slice_index_or};
-ghost use Rattle.vm_block.specs.Leaf.{Record, IsLeaf};
+ghost use Rattle.std.specs.Prelude.{◌≡◌, ◌<◌, ◌≤◌, length};
 ghost use Rattle.vm_block.specs.Row.{leaf_row, node_row, record_of};
+ghost use Rattle.vm_block.specs.Told.{IfRecordAt};
 
 use byteorder::{ByteOrder, LittleEndian};
 use vm_types::Value;
@@ -11,7 +11,7 @@ pub fn record_value(bytes: &[u8; 4096], i: usize) -> &[u8]
     requires { i < 16 }
     ensures short { length result.now ≤ 240 }
     ensures stands { result.now ≡ (record_of (leaf_row bytes.now i)).1 }
-    ensures value { (rs : List Record) (d : Record) → IsLeaf bytes.now rs → i < length rs → (slice_index_or rs i d).1 ≡ result.now }
+    ensures value { IfRecordAt bytes.now i (λ r. r.1 ≡ result.now) }
 {
     let row = record_row(bytes, i);
     let len = usize::from(LittleEndian::read_u16(&row[10..]));

@@ -1,6 +1,6 @@
 //! Bytes put into a block, and the zero bytes behind them.
-ghost use Rattle.std.specs.Prelude.{◌≡◌, ◌-◌, ◌≤◌, ◌++◌, ◌↔◌, length, take, drop, IsTrue};
-ghost use Rattle.vm_block.specs.Padding.{zeros};
+ghost use Rattle.std.specs.Prelude.{◌≡◌, ◌≤◌, ◌++◌, ◌↔◌, length, drop, IsTrue};
+ghost use Rattle.vm_block.specs.Padding.{IsFramed, zeros};
 
 /// Puts the bytes first.
 pub(crate) fn put(bytes: &[u8], out: &mut [u8])
@@ -31,7 +31,7 @@ pub(crate) fn are_zero(bytes: &[u8]) -> bool
 /// Whether the bytes begin with the head, and are zero from `end` on.
 pub(crate) fn is_framed(bytes: &[u8], head: &[u8], end: usize) -> bool
     requires { end ≤ length bytes.now }
-    ensures { IsTrue result ↔ ((take (length head.now) bytes.now ≡ head.now) × (drop end bytes.now ≡ zeros (length bytes.now - end))) }
+    ensures { IsTrue result ↔ IsFramed bytes.now head.now end }
 {
     bytes.starts_with(head) && are_zero(&bytes[end..])
 }

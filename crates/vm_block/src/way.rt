@@ -1,13 +1,12 @@
 //! The way down to a key in the bytes of blocks, which are not read whole for it.
-ghost use Rattle.std.specs.Prelude.{◌≡◌, ℕ, ◌+◌, ◌*◌, ◌<◌, ◌≤◌, List, None, length, take, drop, IfSome, IsSomeAnd, slice_index_or};
+ghost use Rattle.std.specs.Prelude.{◌≡◌, ℕ, ◌+◌, ◌*◌, ◌<◌, ◌≤◌, None, length, take, drop, IfSome, IsSomeAnd, slice_index_or};
 ghost use Rattle.vm_types.specs.Places.{KeyFits, place, value_at};
 ghost use Rattle.vm_block.specs.Head.{IsLeafHead, IsNodeHead};
-ghost use Rattle.vm_block.specs.Leaf.{Record, RecordFits, IsLeaf, key_bytes, record_bytes};
-ghost use Rattle.vm_block.specs.Node.{ChildFits, IsNode, child_bytes};
-ghost use Rattle.vm_block.specs.FullPath.{IsChosen};
-ghost use Rattle.vm_block.specs.Tree.{BeginsWith};
-ghost use Rattle.vm_block.specs.Way.{KeysStand, Lowest, Takes};
-ghost use Rattle.vm_block.specs.declared.node.Child.{Child};
+ghost use Rattle.vm_block.specs.Leaf.{BeginsWith, key_bytes};
+ghost use Rattle.vm_block.specs.Node.{ChildFits, child_bytes};
+ghost use Rattle.vm_block.specs.Row.{node_row};
+ghost use Rattle.vm_block.specs.Told.{IfLeaf, IfNode, LacksRecord};
+ghost use Rattle.vm_block.specs.Way.{ChoosesAmong, IsWay, IsWayTo, Lowest, TellsHead};
 
 use crate::head::{leaf_count, node_numbers};
 use crate::keys::read_key;
@@ -34,7 +33,7 @@ pub(crate) fn choose(bytes: &[u8; 4096], size: usize, count: usize, place: u128)
     requires keyed { 10 ≤ size }
     requires room { 16 + size * count ≤ 4096 }
     ensures within { result < count }
-    ensures chosen { (ps : List ℕ) → length ps ≡ count → KeysStand bytes.now size ps → IsChosen ps place result }
+    ensures chosen { ChoosesAmong bytes.now size count place result }
 {
     let mut low = 0;
     let mut high = count;
@@ -53,8 +52,8 @@ pub(crate) fn choose(bytes: &[u8; 4096], size: usize, count: usize, place: u128)
 pub fn child_at(bytes: &[u8; 4096], i: usize) -> Child
     requires { i < 256 }
     ensures fits { ChildFits result }
-    ensures spelled { take 14 (drop (16 + 14 * i) bytes.now) ≡ child_bytes result }
-    ensures child { (level : ℕ) (cs : List Child) → IsNode bytes.now level cs → i < length cs → slice_index_or cs i result ≡ result }
+    ensures spelled { node_row bytes.now i ≡ child_bytes result }
+    ensures child { IfNode bytes.now (λ level cs. i < length cs → slice_index_or cs i result ≡ result) }
 {
     let at = 16 + 14 * i;
     read_child(&bytes[at..at + 14])
@@ -63,17 +62,16 @@ pub fn child_at(bytes: &[u8; 4096], i: usize) -> Child
 /// Where a descent to the key goes in an inner block. None just where the bytes begin with the
 /// head of none; behind its head an inner block is not looked at but for the keys on the way.
 pub fn find_child(bytes: &[u8; 4096], key: Key) -> Option<Way>
-    ensures range { IfSome result (λ way. (0 < way.level) × (way.level ≤ 7) × (way.index < way.count) × (way.count ≤ 256)) }
+    ensures range { IfSome result IsWay }
     ensures fits { IfSome result (λ way. ChildFits way.child) }
 
     // On any bytes: Some just where they begin with the head of an inner block, whose level and count it tells; and
     // the child is what is spelled at its index.
     ensures head { IfSome result (λ way. IsNodeHead bytes.now way.level way.count) }
-    ensures headed { (level n : ℕ) → IsNodeHead bytes.now level n → IsSomeAnd result (λ way. (way.level ≡ level) × (way.count ≡ n)) }
-    ensures spelled { IfSome result (λ way. take 14 (drop (16 + 14 * way.index) bytes.now) ≡ child_bytes way.child) }
+    ensures headed { TellsHead bytes.now result }
+    ensures spelled { IfSome result (λ way. node_row bytes.now way.index ≡ child_bytes way.child) }
 
-    ensures only { (level : ℕ) (cs : List Child) → IsNode bytes.now level cs
-        → IsSomeAnd result (λ way. (way.level ≡ level) × (way.count ≡ length cs) × Takes cs (place key) way.index way.child) }
+    ensures only { IfNode bytes.now (λ level cs. IsSomeAnd result (IsWayTo (place key) level cs)) }
 {
     match node_numbers(bytes) {
         Some((level, count)) => {
@@ -93,8 +91,8 @@ pub fn find_child(bytes: &[u8; 4096], key: Key) -> Option<Way>
 pub fn lowest_key(bytes: &[u8; 4096]) -> Key
     ensures fits { KeyFits result }
     ensures spelled { take 10 (drop 16 bytes.now) ≡ key_bytes result }
-    ensures node { (level : ℕ) (cs : List Child) → IsNode bytes.now level cs → Lowest result cs }
-    ensures leaf { (rs : List Record) → IsLeaf bytes.now rs → BeginsWith result rs }
+    ensures node { IfNode bytes.now (λ level cs. Lowest result cs) }
+    ensures leaf { IfLeaf bytes.now (BeginsWith result) }
 {
     read_key(&bytes[16..])
 }
@@ -104,10 +102,9 @@ pub fn lowest_key(bytes: &[u8; 4096]) -> Key
 pub fn find_record(bytes: &[u8; 4096], key: Key) -> Option<Option<Value>>
     // On any bytes: None where they begin with the head of no leaf, and else only where a record is none.
     ensures head { IfSome result (λ value. (n : ℕ) × IsLeafHead bytes.now 16 n) }
-    ensures headed { (n : ℕ) → IsLeafHead bytes.now 16 n → result ≡ None
-        → (i : ℕ) × (i < n) × ((r : Record) → RecordFits r → take 252 (drop (16 + 252 * i) bytes.now) ≡ record_bytes r → ⊥) }
+    ensures headed { (n : ℕ) → IsLeafHead bytes.now 16 n → result ≡ None → LacksRecord bytes.now n }
 
-    ensures only { (rs : List Record) → IsLeaf bytes.now rs → IsSomeAnd result (λ value. value ≡ value_at (place key) rs) }
+    ensures only { IfLeaf bytes.now (λ rs. IsSomeAnd result (λ v. v ≡ value_at (place key) rs)) }
 {
     let Some(count) = leaf_count(bytes, MAX_RECORDS as usize) else {
         return None;

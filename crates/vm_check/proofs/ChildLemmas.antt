@@ -8,15 +8,15 @@ use Rattle.vm_types.specs.Places.{RisesFrom, place, places}
 use Rattle.vm_disk.specs.Disk.{Contents, block}
 use Rattle.vm_alloc.specs.Marks.{IsMarked}
 use Rattle.vm_alloc.proofs.HeldLemmas.{holds_more_then}
-use Rattle.vm_block.specs.Leaf.{Record, IsLeaf}
+use Rattle.vm_block.specs.Leaf.{Record, BeginsWith, IsLeaf}
 use Rattle.vm_block.specs.Node.{IsNode, lows}
-use Rattle.vm_block.specs.Tree.{Sizes, BeginsWith, Children, Subtree}
 use Rattle.vm_block.specs.declared.node.Child.{Child}
 use Rattle.vm_block.proofs.EachLemmas.{each_so, each_join}
 use Rattle.vm_block.proofs.FormLemmas.{leaf_or_node}
 use Rattle.vm_block.proofs.LeafLemmas.{leaf_one}
 use Rattle.vm_block.proofs.NodeLemmas.{node_one}
-use Rattle.vm_block.proofs.TreeLemmas.{holds_or_node, subtree_one}
+use Rattle.vm_tree.specs.Tree.{Sizes, Children, Subtree}
+use Rattle.vm_tree.proofs.TreeLemmas.{holds_or_node, subtree_one}
 use Rattle.vm_tree.proofs.Rising.{rises_front, rises_back}
 use Rattle.vm_tree.proofs.Splitting.{split_at, children_join, child_alone}
 use Rattle.vm_tree.specs.Reading.{IsLeafAt, IsNodeAt}

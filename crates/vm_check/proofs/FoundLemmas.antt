@@ -9,8 +9,8 @@ use Rattle.vm_types.specs.Map.{Map}
 use Rattle.vm_disk.specs.Disk.{Contents, Medium}
 use Rattle.vm_alloc.specs.Marks.{IsMarked}
 use Rattle.vm_alloc.proofs.HeldLemmas.{holds_same, no_mark}
-use Rattle.vm_block.specs.Tree.{Sizes, IsTree}
 use Rattle.vm_block.proofs.EachLemmas.{each_so, each_join}
+use Rattle.vm_tree.specs.Tree.{Sizes, IsTree}
 use Rattle.vm_tree.specs.Root.{IsRooted}
 use Rattle.vm_tree.specs.declared.root.Root.{Root}
 use Rattle.vm_check.specs.Verifying.{AreRoots, HaveTrees}

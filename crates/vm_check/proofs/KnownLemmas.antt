@@ -7,14 +7,14 @@ use Rattle.vm_disk.specs.Disk.{Contents, block}
 use Rattle.vm_alloc.specs.Held.{HoldsMore}
 use Rattle.vm_alloc.specs.Marks.{IsMarked}
 use Rattle.vm_alloc.proofs.HeldLemmas.{holds_more_then, taken_holds_more, taken_is_held, others_as_before}
-use Rattle.vm_block.specs.Leaf.{Record, IsLeaf}
+use Rattle.vm_block.specs.Leaf.{Record, BeginsWith, IsLeaf}
 use Rattle.vm_block.specs.Node.{IsNode}
-use Rattle.vm_block.specs.Tree.{Sizes, IsData, BeginsWith, Children, Subtree}
 use Rattle.vm_block.specs.declared.node.Child.{Child}
+use Rattle.vm_tree.specs.Tree.{Sizes, IsData, Children, Subtree}
 use Rattle.vm_block.proofs.EachLemmas.{each_so}
 use Rattle.vm_block.proofs.FormLemmas.{leaf_or_node}
 use Rattle.vm_block.proofs.NodeLemmas.{node_one}
-use Rattle.vm_block.proofs.TreeLemmas.{leaf_closes, node_closes}
+use Rattle.vm_tree.proofs.TreeLemmas.{leaf_closes, node_closes}
 use Rattle.vm_check.specs.Visiting.{IsHighest, HasLevel, span_of, met_of, no_met, span_at, Whole, Known, Adds, Visited, VisitedAll}
 use Rattle.vm_check.specs.declared.verifying.Span.{Span}
 use Rattle.vm_check.specs.declared.verifying.Met.{Met}

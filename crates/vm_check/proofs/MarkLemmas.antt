@@ -10,11 +10,11 @@ use Rattle.vm_alloc.specs.Marks.{IsMarked, is_marked}
 use Rattle.vm_alloc.proofs.HeldLemmas.{holds_same, holds_more_then, taken_holds_more, taken_is_held, others_as_before, free_new, unmarked_less}
 use Rattle.vm_block.specs.Leaf.{Record}
 use Rattle.vm_block.specs.Node.{IsNode}
-use Rattle.vm_block.specs.Tree.{Sizes, IsData, Children, Subtree}
 use Rattle.vm_block.specs.declared.node.Child.{Child}
 use Rattle.vm_block.proofs.EachLemmas.{each_so, each_join}
 use Rattle.vm_block.proofs.NodeLemmas.{node_one}
-use Rattle.vm_block.proofs.TreeLemmas.{holds_or_node, leaf_opens, node_opens}
+use Rattle.vm_tree.specs.Tree.{Sizes, IsData, Children, Subtree}
+use Rattle.vm_tree.proofs.TreeLemmas.{holds_or_node, leaf_opens, node_opens}
 use Rattle.vm_tree.specs.Reading.{IsNodeAt}
 use Rattle.vm_check.specs.Marking.{Joined, MarksMore, ClosedTo, unmarked}
 use Rattle.vm_check.proofs.JoinLemmas.{LastOf, last_of, joined_front}

@@ -8,8 +8,8 @@ use Rattle.vm_disk.specs.Disk.{Medium}
 use Rattle.vm_alloc.specs.Marks.{IsMarked}
 use Rattle.vm_alloc.proofs.HeldLemmas.{others_as_before}
 use Rattle.vm_block.specs.Leaf.{Record}
-use Rattle.vm_block.specs.Tree.{Sizes, Subtree}
 use Rattle.vm_block.specs.declared.node.Child.{Child}
+use Rattle.vm_tree.specs.Tree.{Sizes, Subtree}
 use Rattle.vm_tree.specs.declared.root.Root.{Root}
 use Rattle.vm_check.specs.Marking.{Joined, IsUnder, MarksOnly}
 use Rattle.vm_check.proofs.JoinLemmas.{last_of, joined_front}

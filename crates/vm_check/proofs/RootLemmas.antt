@@ -5,9 +5,9 @@ use Rattle.std.proofs.lemmas.List.{take_all}
 use Rattle.vm_alloc.specs.Marks.{IsMarked}
 use Rattle.vm_disk.specs.Disk.{Contents, Medium}
 use Rattle.vm_block.specs.Leaf.{Record}
-use Rattle.vm_block.specs.Tree.{Sizes, Subtree}
-use Rattle.vm_block.proofs.TreeLemmas.{node_opens}
+use Rattle.vm_tree.specs.Tree.{Sizes, Subtree}
 use Rattle.vm_tree.specs.declared.root.Root.{Root}
+use Rattle.vm_tree.proofs.TreeLemmas.{node_opens}
 use Rattle.vm_tree.proofs.Descent.{subtree_top}
 use Rattle.vm_check.specs.Marking.{IsUnder, AreUnder, MarksMore, ClosedTo}
 use Rattle.vm_check.proofs.JoinLemmas.{LastOf, last_of, joined_front}

@@ -5,8 +5,7 @@ use Rattle.std.proofs.lemmas.Bool.Decides.{eqb_tells}
 use Rattle.std.specs.List.{AllByRecursion}
 use Rattle.vm_types.specs.declared.key.Key.{Key}
 use Rattle.vm_types.specs.Places.{RisesFrom, place, places}
-use Rattle.vm_block.specs.Leaf.{Record}
-use Rattle.vm_block.specs.Tree.{BeginsWith}
+use Rattle.vm_block.specs.Leaf.{Record, BeginsWith}
 use Rattle.vm_block.proofs.EachLemmas.{each_join, each_back}
 use Rattle.vm_tree.proofs.Rising.{rises_before}
 use Rattle.vm_check.specs.Visiting.{IsHighest}

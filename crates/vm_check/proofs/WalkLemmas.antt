@@ -9,9 +9,9 @@ use Rattle.vm_alloc.specs.Marks.{IsMarked}
 use Rattle.vm_alloc.proofs.HeldLemmas.{holds_same}
 use Rattle.vm_block.specs.Leaf.{Record, IsLeaf}
 use Rattle.vm_block.specs.Node.{IsNode, lows}
-use Rattle.vm_block.specs.Tree.{Sizes, IsData, Children, Subtree}
 use Rattle.vm_block.specs.Way.{Lowest}
 use Rattle.vm_block.specs.declared.node.Child.{Child}
+use Rattle.vm_tree.specs.Tree.{Sizes, IsData, Children, Subtree}
 use Rattle.vm_check.specs.Visiting.{Known, Visited, VisitedAll, met_of}
 use Rattle.vm_check.specs.declared.verifying.Span.{Span}
 use Rattle.vm_check.specs.declared.verifying.Met.{Met}

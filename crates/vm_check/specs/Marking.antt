@@ -1,15 +1,19 @@
 -- Marks on the blocks of trees.
-use Rattle.std.specs.Prelude.{◌≡◌, ◌⊎◌, ℕ, ◌≤◌, Bool, List, [], ◌∷◌, ◌++◌, drop, Contains}
+use Rattle.std.specs.Prelude.{◌≡◌, ◌⊎◌, ℕ, ◌+◌, ◌≤◌, Bool, true, List, [], ◌∷◌, ◌++◌, length, drop, Contains, Result, OnOk}
 use Rattle.std.specs.List.{AllByRecursion}
 use Rattle.vm_types.specs.Map.{Map}
-use Rattle.vm_disk.specs.Disk.{Contents, block}
+use Rattle.vm_disk.specs.Disk.{Contents, DiskState, block}
 use Rattle.vm_alloc.specs.Held.{HoldsMore, free_count}
 use Rattle.vm_alloc.specs.Marks.{IsMarked}
+use Rattle.vm_block.specs.Leaf.{Record}
 use Rattle.vm_block.specs.Node.{IsNode}
-use Rattle.vm_block.specs.Tree.{Sizes}
 use Rattle.vm_block.specs.declared.node.Child.{Child}
+use Rattle.vm_tree.specs.Tree.{Sizes, Subtree}
+use Rattle.vm_tree.specs.Answers.{OkOrDevice}
 use Rattle.vm_tree.specs.Root.{IsRooted}
 use Rattle.vm_tree.specs.declared.root.Root.{Root}
+use Rattle.vm_tree.specs.declared.root.TreeFault.{TreeFault}
+use Rattle.vm_check.specs.Form.{OkUnlessDevice}
 
 -- how many data blocks are not marked
 abbrev pub unmarked : List Bool → ℕ
@@ -45,3 +49,64 @@ pub record ClosedTo (x : Contents) (most : ℕ) (marks : List Bool) : Type 0 whe
 -- the children of each inner block that is marked are marked: inner blocks have at most level 7
 abbrev pub IsClosed : Contents → List Bool → Type 0
 IsClosed x marks = ClosedTo x 7 marks
+
+-- for each block that was read a data block was marked
+abbrev pub PaysReads : DiskState → DiskState → List Bool → List Bool → Type 0
+PaysReads old new marks later = new.reads + unmarked later ≤ old.reads + unmarked marks
+
+-- and just one
+abbrev pub PaysJustReads : DiskState → DiskState → List Bool → List Bool → Type 0
+PaysJustReads old new marks later = new.reads + unmarked later ≡ old.reads + unmarked marks
+
+-- # What is marked of trees, where the disk is honest after the call
+
+-- P holds of the blocks of the subtree that lies under a block of this level
+abbrev pub OnSubtree : DiskState → DiskState → ℕ → ℕ → ℕ → (List ℕ → Type 0) → Type 0
+OnSubtree old new limit level b P =
+    new.honest ≡ true → (sizes : Sizes) (rs : List Record) (bs : List ℕ) → Subtree sizes old.now.contents limit level b rs bs → P bs
+
+-- P holds of the blocks under a root
+abbrev pub OnTree : DiskState → DiskState → ℕ → Root → (List ℕ → Type 0) → Type 0
+OnTree old new limit root P = new.honest ≡ true → (sizes : Sizes) (bs : List ℕ) → IsUnder sizes old.now.contents limit root bs → P bs
+
+-- P holds of the blocks under roots
+abbrev pub OnTrees : DiskState → DiskState → ℕ → List Root → (List ℕ → Type 0) → Type 0
+OnTrees old new limit roots P = new.honest ≡ true → (sizes : Sizes) (bs : List ℕ) → AreUnder sizes old.now.contents limit roots bs → P bs
+
+-- it is Ok there, unless the device fails
+abbrev pub SoundBelow : {T : Type 0} → Result T TreeFault → DiskState → DiskState → ℕ → ℕ → ℕ → Type 0
+SoundBelow result old new limit level b = OnSubtree old new limit level b (λ bs. OkUnlessDevice result)
+
+abbrev pub SoundUnder : {T : Type 0} → Result T TreeFault → DiskState → DiskState → ℕ → Root → Type 0
+SoundUnder result old new limit root = OnTree old new limit root (λ bs. OkUnlessDevice result)
+
+abbrev pub SoundOn : {T : Type 0} → Result T TreeFault → DiskState → DiskState → ℕ → List Root → Type 0
+SoundOn result old new limit roots = OnTrees old new limit roots (λ bs. OkUnlessDevice result)
+
+-- no blocks are marked but those there
+abbrev pub Spares : DiskState → DiskState → ℕ → ℕ → ℕ → List Bool → List Bool → Type 0
+Spares old new limit level b marks later = OnSubtree old new limit level b (λ bs. MarksOnly bs marks later)
+
+abbrev pub SparesUnder : DiskState → DiskState → ℕ → Root → List Bool → List Bool → Type 0
+SparesUnder old new limit root marks later = OnTree old new limit root (λ bs. MarksOnly bs marks later)
+
+abbrev pub SparesOn : DiskState → DiskState → List Root → List Bool → List Bool → Type 0
+SparesOn old new roots marks later = OnTrees old new (length marks) roots (λ bs. MarksOnly bs marks later)
+
+-- where the marks were closed, they grow by exactly the blocks there, unless the device fails
+abbrev pub CoversBelow : {T : Type 0} → Result T TreeFault → DiskState → DiskState → ℕ → ℕ → ℕ → List Bool → List Bool → Type 0
+CoversBelow result old new limit level b marks later =
+    OnSubtree old new limit level b (λ bs. ClosedTo old.now.contents level marks → OkOrDevice result (λ _. MarksMore bs marks later))
+
+abbrev pub CoversUnder : {T : Type 0} → Result T TreeFault → DiskState → DiskState → ℕ → Root → List Bool → List Bool → Type 0
+CoversUnder result old new limit root marks later =
+    OnTree old new limit root (λ bs. IsClosed old.now.contents marks → OkOrDevice result (λ _. MarksMore bs marks later))
+
+abbrev pub Covers : {T : Type 0} → Result T TreeFault → DiskState → DiskState → List Root → List Bool → List Bool → Type 0
+Covers result old new roots marks later =
+    OnTrees old new (length marks) roots (λ bs. IsClosed old.now.contents marks → OkOrDevice result (λ _. MarksMore bs marks later))
+
+-- and they stay closed
+abbrev pub Closes : {T : Type 0} → Result T TreeFault → DiskState → DiskState → List Root → List Bool → List Bool → Type 0
+Closes result old new roots marks later =
+    OnTrees old new (length marks) roots (λ bs. IsClosed old.now.contents marks → OnOk result (IsClosed old.now.contents later))

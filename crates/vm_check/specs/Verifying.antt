@@ -1,12 +1,15 @@
 -- What `verify` finds under numbers.
-use Rattle.std.specs.Prelude.{◌≡◌, ℕ, Bool, List, [], ◌∷◌, ◌++◌, length, Contains}
+use Rattle.std.specs.Prelude.{◌≡◌, ℕ, ◌+◌, Bool, true, List, [], ◌∷◌, ◌++◌, length, Contains, Result}
 use Rattle.std.specs.List.{AllByRecursion}
 use Rattle.vm_types.specs.Map.{Map}
-use Rattle.vm_disk.specs.Disk.{Contents}
+use Rattle.vm_disk.specs.Disk.{Contents, DiskState}
 use Rattle.vm_alloc.specs.Marks.{IsMarked}
-use Rattle.vm_block.specs.Tree.{Sizes, IsTree}
+use Rattle.vm_tree.specs.Tree.{Sizes, IsTree}
+use Rattle.vm_tree.specs.Answers.{Lists}
 use Rattle.vm_tree.specs.Root.{IsRooted}
 use Rattle.vm_tree.specs.declared.root.Root.{Root}
+use Rattle.vm_tree.specs.declared.root.TreeFault.{TreeFault}
+use Rattle.vm_check.specs.Marking.{unmarked}
 
 -- under the numbers lie maps, with these roots, in these blocks all together
 abbrev pub AreRoots : Sizes → Contents → ℕ → List ℕ → List Root → List ℕ → Type 0
@@ -27,3 +30,11 @@ pub record Found (sizes : Sizes) (x : Contents) (limit : ℕ) (ns : List ℕ) (r
   pub count : length marks ≡ limit
   pub each : AllByRecursion (IsMarked marks) blocks
   pub only : (n : ℕ) → IsMarked marks n → Contains blocks n
+
+-- where the disk is honest after the call, and each of the numbers has a tree, it is Ok, unless the device fails or no memory is found
+abbrev pub AcceptsTrees : {T : Type 0} → Result T TreeFault → Sizes → DiskState → DiskState → ℕ → List ℕ → Type 0
+AcceptsTrees result sizes old new limit ns = new.honest ≡ true → HaveTrees sizes old.now.contents limit ns → Lists result (λ _. Unit {0})
+
+-- just as many blocks were read as are marked, of so many in the store
+abbrev pub PaidFor : DiskState → DiskState → ℕ → List Bool → Type 0
+PaidFor old new limit marks = new.reads + unmarked marks + 34 ≡ old.reads + limit

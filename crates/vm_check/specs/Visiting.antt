@@ -1,18 +1,20 @@
 -- What a walk knows of the blocks that it met, and what its visits find.
-use Rattle.std.specs.Prelude.{◌≡◌, ◌⊎◌, ℕ, zero, suc, ◌-◌, ◌<◌, ◌≤◌, Bool, List, length, slice_index_or, Contains}
+use Rattle.std.specs.Prelude.{◌≡◌, ◌↔◌, ◌⊎◌, ℕ, zero, suc, ◌+◌, ◌-◌, ◌<◌, ◌≤◌, Bool, true, List, length, slice_index_or, Contains, Result, IfOk}
 use Rattle.std.specs.List.{AllByRecursion}
 use Rattle.vm_types.specs.declared.key.Key.{Key}
 use Rattle.vm_types.specs.Map.{Map}
 use Rattle.vm_types.specs.Places.{RisesFrom, place, places}
-use Rattle.vm_disk.specs.Disk.{Contents, block}
+use Rattle.vm_disk.specs.Disk.{Contents, DiskState, block}
 use Rattle.vm_alloc.specs.Held.{HoldsMore}
 use Rattle.vm_alloc.specs.Marks.{IsMarked}
-use Rattle.vm_block.specs.Leaf.{Record, IsLeaf}
-use Rattle.vm_block.specs.Node.{IsNode}
-use Rattle.vm_block.specs.Tree.{Sizes, BeginsWith, Children, Subtree}
+use Rattle.vm_block.specs.Leaf.{Record, BeginsWith, IsLeaf}
+use Rattle.vm_block.specs.Node.{IsNode, lows}
 use Rattle.vm_block.specs.declared.node.Child.{Child}
-use Rattle.vm_tree.specs.Root.{IsRooted}
+use Rattle.vm_tree.specs.Tree.{Sizes, Children, IsTree, Subtree}
+use Rattle.vm_tree.specs.Root.{IsRooted, sizes_of}
 use Rattle.vm_tree.specs.declared.root.Root.{Root}
+use Rattle.vm_tree.specs.declared.root.TreeFault.{TreeFault}
+use Rattle.vm_check.specs.Form.{OkUnlessDevice}
 use Rattle.vm_check.specs.declared.verifying.Span.{Span}
 use Rattle.vm_check.specs.declared.verifying.Met.{Met}
 
@@ -90,3 +92,46 @@ pub record RootVisited (sizes : Sizes) (x : Contents) (limit n : ℕ) (root : Ro
   pub each : AllByRecursion (IsMarked later) blocks
   pub adds : Adds (sizes.levels - 1) blocks marks spans later now
   pub known : Known sizes x limit (sizes.levels - 1) later now
+
+-- a child of so many ends below the lowest key of the next one, if there is one
+abbrev pub EndsBelowNext : Key → List ℕ → ℕ → ℕ → Type 0 → Type 0
+EndsBelowNext high bytes count i answer =
+    (above : ℕ) (cs : List Child) → IsNode bytes above cs → length cs ≡ count
+    → answer ↔ (i + 1 < length cs → place high < slice_index_or (lows cs) (i + 1) 0)
+
+-- # What a visit finds and takes for sound, where the disk is honest after it, by what was known before
+
+-- at a block whose level lies in a range
+abbrev pub Visits : Result Span TreeFault → ℕ → ℕ → DiskState → DiskState → ℕ → ℕ → ℕ → ℕ → List Bool → List Met → List Bool → List Met → Type 0
+Visits result leaf fan old new limit least most b marks spans later now =
+    new.honest ≡ true → (levels : ℕ) → Known (sizes_of leaf fan levels) old.now.contents limit most marks spans
+    → IfOk result (λ span. Visited (sizes_of leaf fan levels) old.now.contents limit least most b span marks spans later now)
+
+abbrev pub AcceptsSubtree : Result Span TreeFault → ℕ → ℕ → DiskState → DiskState → ℕ → ℕ → ℕ → ℕ → List Bool → List Met → Type 0
+AcceptsSubtree result leaf fan old new limit least most b marks spans =
+    new.honest ≡ true → (levels l : ℕ) (rs : List Record) (bs : List ℕ) → Known (sizes_of leaf fan levels) old.now.contents limit most marks spans
+    → least ≤ l → l ≤ most → Subtree (sizes_of leaf fan levels) old.now.contents limit l b rs bs → RisesFrom 0 (places rs) → OkUnlessDevice result
+
+-- at so many children, of this level, of an inner block
+abbrev pub VisitsChildren : Result Key TreeFault → ℕ → ℕ → DiskState → DiskState → ℕ → ℕ → List ℕ → ℕ → List Bool → List Met → List Bool → List Met → Type 0
+VisitsChildren result leaf fan old new limit level bytes count marks spans later now =
+    new.honest ≡ true → (levels above : ℕ) (cs : List Child) → IsNode bytes above cs → length cs ≡ count
+    → Known (sizes_of leaf fan levels) old.now.contents limit level marks spans
+    → IfOk result (λ high. VisitedAll (sizes_of leaf fan levels) old.now.contents limit level cs high marks spans later now)
+
+abbrev pub AcceptsChildren : Result Key TreeFault → ℕ → ℕ → DiskState → DiskState → ℕ → ℕ → List ℕ → ℕ → List Bool → List Met → Type 0
+AcceptsChildren result leaf fan old new limit level bytes count marks spans =
+    new.honest ≡ true → (levels above : ℕ) (cs : List Child) (rs : List Record) (bs : List ℕ) → IsNode bytes above cs → length cs ≡ count
+    → Known (sizes_of leaf fan levels) old.now.contents limit level marks spans
+    → Children (Subtree (sizes_of leaf fan levels) old.now.contents limit level) cs rs bs → RisesFrom 0 (places rs) → OkUnlessDevice result
+
+-- at the root of this number
+abbrev pub VisitsRoot : Result Root TreeFault → Sizes → DiskState → DiskState → ℕ → ℕ → List Bool → List Met → List Bool → List Met → Type 0
+VisitsRoot result sizes old new limit n marks spans later now =
+    new.honest ≡ true → Known sizes old.now.contents limit (sizes.levels - 1) marks spans
+    → IfOk result (λ root. RootVisited sizes old.now.contents limit n root marks spans later now)
+
+abbrev pub AcceptsTree : Result Root TreeFault → Sizes → DiskState → DiskState → ℕ → ℕ → List Bool → List Met → Type 0
+AcceptsTree result sizes old new limit n marks spans =
+    new.honest ≡ true → Known sizes old.now.contents limit (sizes.levels - 1) marks spans
+    → (m : Map) (bs : List ℕ) → IsTree sizes old.now.contents limit n m bs → OkUnlessDevice result

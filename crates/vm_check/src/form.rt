@@ -1,13 +1,9 @@
 //! What a block of a tree is, read from a disk.
-ghost use Rattle.std.specs.Prelude.{◌≡◌, ◌≢◌, ℕ, ◌≤◌, true, List, length, IfOk};
-ghost use Rattle.vm_disk.specs.Disk.{block as bytes_at};
-ghost use Rattle.vm_block.specs.Leaf.{Record};
-ghost use Rattle.vm_block.specs.Node.{IsNode};
-ghost use Rattle.vm_block.specs.declared.node.Child.{Child};
-ghost use Rattle.vm_tree.specs.Answers.{OkOrDevice};
+ghost use Rattle.std.specs.Prelude.{◌≡◌, ◌≢◌, ◌≤◌, IfOk};
+ghost use Rattle.vm_block.specs.Told.{IsNodeSize};
 ghost use Rattle.vm_tree.specs.Calls.{OnlyLooks};
-ghost use Rattle.vm_tree.specs.Reading.{IsLeafAt, IsNodeAt, ReadsOne};
-ghost use Rattle.vm_check.specs.Form.{IsFilled, IsForm};
+ghost use Rattle.vm_tree.specs.Reading.{ReadsOne};
+ghost use Rattle.vm_check.specs.Form.{AcceptsLeaf, AcceptsNode, AcceptsNodeAt, HasRead, IsFilled, IsForm};
 
 use vm_block::{leaf_size, node_size};
 use vm_disk::Disk;
@@ -36,14 +32,9 @@ pub(crate) fn form_at<D: Disk>(
     ensures once { ReadsOne blocks block (D.state disk.old).reads (D.state disk.new).reads }
     ensures some { IfOk result IsFilled }
     ensures form { IfOk result (IsForm bytes.new) }
-    ensures found { (D.state disk.new).honest ≡ true
-        → IfOk result (λ form. bytes.new ≡ bytes_at (D.state disk.old).now.contents block) }
-    ensures leaf { (D.state disk.new).honest ≡ true → (rs : List Record)
-        → IsLeafAt (D.state disk.old).now.contents blocks block rs
-        → OkOrDevice result (λ form. Unit {0}) }
-    ensures node { (D.state disk.new).honest ≡ true → (level : ℕ) (cs : List Child)
-        → IsNodeAt (D.state disk.old).now.contents blocks level block cs
-        → OkOrDevice result (λ form. Unit {0}) }
+    ensures found { HasRead result (D.state disk.old) (D.state disk.new) block bytes.new }
+    ensures leaf { AcceptsLeaf result (D.state disk.old) (D.state disk.new) blocks block }
+    ensures node { AcceptsNode result (D.state disk.old) (D.state disk.new) blocks block }
 {
     data_at(disk, blocks, block, bytes)?;
     match leaf_size(bytes) {
@@ -69,13 +60,9 @@ pub(crate) fn node_at<D: Disk>(
     ensures memory { result ≢ Err TreeFault.Memory }
     ensures once { ReadsOne blocks block (D.state disk.old).reads (D.state disk.new).reads }
     ensures few { IfOk result (λ count. count ≤ 256) }
-    ensures form { IfOk result
-        (λ count. (cs : List Child) × IsNode bytes.new level cs × (length cs ≡ count)) }
-    ensures found { (D.state disk.new).honest ≡ true
-        → IfOk result (λ count. bytes.new ≡ bytes_at (D.state disk.old).now.contents block) }
-    ensures only { (D.state disk.new).honest ≡ true → (cs : List Child)
-        → IsNodeAt (D.state disk.old).now.contents blocks level block cs
-        → OkOrDevice result (λ count. Unit {0}) }
+    ensures form { IfOk result (λ count. IsNodeSize bytes.new (level, count)) }
+    ensures found { HasRead result (D.state disk.old) (D.state disk.new) block bytes.new }
+    ensures only { AcceptsNodeAt result (D.state disk.old) (D.state disk.new) blocks level block }
 {
     data_at(disk, blocks, block, bytes)?;
     match node_size(bytes) {

@@ -1,11 +1,8 @@
 //! Marking what lies under roots.
-ghost use Rattle.std.specs.Prelude.{◌≡◌, ◌≢◌, ℕ, ◌+◌, ◌≤◌, true, List, length, OnOk};
+ghost use Rattle.std.specs.Prelude.{◌≡◌, ◌≢◌, ◌≤◌, length};
 ghost use Rattle.vm_alloc.specs.Held.{HoldsMore};
-ghost use Rattle.vm_block.specs.Leaf.{Record};
-ghost use Rattle.vm_block.specs.Tree.{Sizes, Subtree};
-ghost use Rattle.vm_tree.specs.Answers.{OkOrDevice};
 ghost use Rattle.vm_tree.specs.Calls.{OnlyLooks};
-ghost use Rattle.vm_check.specs.Marking.{AreUnder, ClosedTo, IsClosed, IsUnder, MarksMore, MarksOnly, unmarked};
+ghost use Rattle.vm_check.specs.Marking.{Closes, Covers, CoversBelow, CoversUnder, PaysReads, SoundBelow, SoundOn, SoundUnder, Spares, SparesOn, SparesUnder};
 
 use crate::form::node_at;
 use vm_alloc::Marks;
@@ -26,22 +23,13 @@ fn mark_below<D: Disk>(
     ensures looks { OnlyLooks result (D.state disk.old) (D.state disk.new) }
     ensures deep { result ≢ Err TreeFault.Deep }
     ensures memory { result ≢ Err TreeFault.Memory }
-    ensures once { (D.state disk.new).reads + unmarked marks.new
-        ≤ (D.state disk.old).reads + unmarked marks.old }
+    ensures once { PaysReads (D.state disk.old) (D.state disk.new) marks.old marks.new }
     ensures growing { HoldsMore marks.old marks.new }
-    ensures marked { (D.state disk.new).honest ≡ true
-        → (sizes : Sizes) (rs : List Record) (bs : List ℕ)
-        → Subtree sizes (D.state disk.old).now.contents blocks level block rs bs
-        → ClosedTo (D.state disk.old).now.contents level marks.old
-        → OkOrDevice result (λ _. MarksMore bs marks.old marks.new) }
-    ensures sound { (D.state disk.new).honest ≡ true
-        → (sizes : Sizes) (rs : List Record) (bs : List ℕ)
-        → Subtree sizes (D.state disk.old).now.contents blocks level block rs bs
-        → OkOrDevice result (λ _. Unit {0}) }
-    ensures only { (D.state disk.new).honest ≡ true
-        → (sizes : Sizes) (rs : List Record) (bs : List ℕ)
-        → Subtree sizes (D.state disk.old).now.contents blocks level block rs bs
-        → MarksOnly bs marks.old marks.new }
+    ensures marked { CoversBelow result (D.state disk.old) (D.state disk.new)
+        blocks level block marks.old marks.new }
+    ensures sound { SoundBelow result (D.state disk.old) (D.state disk.new) blocks level block }
+    ensures only { Spares (D.state disk.old) (D.state disk.new)
+        blocks level block marks.old marks.new }
 {
     if !is_data(blocks, block) {
         return Err(TreeFault::Damaged(block));
@@ -74,19 +62,13 @@ fn mark_root<D: Disk>(
     ensures looks { OnlyLooks result (D.state disk.old) (D.state disk.new) }
     ensures deep { result ≢ Err TreeFault.Deep }
     ensures memory { result ≢ Err TreeFault.Memory }
-    ensures once { (D.state disk.new).reads + unmarked marks.new
-        ≤ (D.state disk.old).reads + unmarked marks.old }
+    ensures once { PaysReads (D.state disk.old) (D.state disk.new) marks.old marks.new }
     ensures growing { HoldsMore marks.old marks.new }
-    ensures marked { (D.state disk.new).honest ≡ true → (sizes : Sizes) (bs : List ℕ)
-        → IsUnder sizes (D.state disk.old).now.contents blocks root bs
-        → IsClosed (D.state disk.old).now.contents marks.old
-        → OkOrDevice result (λ _. MarksMore bs marks.old marks.new) }
-    ensures sound { (D.state disk.new).honest ≡ true → (sizes : Sizes) (bs : List ℕ)
-        → IsUnder sizes (D.state disk.old).now.contents blocks root bs
-        → OkOrDevice result (λ _. Unit {0}) }
-    ensures only { (D.state disk.new).honest ≡ true → (sizes : Sizes) (bs : List ℕ)
-        → IsUnder sizes (D.state disk.old).now.contents blocks root bs
-        → MarksOnly bs marks.old marks.new }
+    ensures marked { CoversUnder result (D.state disk.old) (D.state disk.new)
+        blocks root marks.old marks.new }
+    ensures sound { SoundUnder result (D.state disk.old) (D.state disk.new) blocks root }
+    ensures only { SparesUnder (D.state disk.old) (D.state disk.new)
+        blocks root marks.old marks.new }
 {
     if root.block == 0 {
         return Ok(());
@@ -108,27 +90,19 @@ pub fn mark<D: Disk>(disk: &mut D, roots: &[Root], marks: &mut Marks) -> Result<
     ensures growing { HoldsMore marks.old marks.new }
 
     // For each block that it reads it marks a data block that was not marked.
-    ensures once { (D.state disk.new).reads + unmarked marks.new
-        ≤ (D.state disk.old).reads + unmarked marks.old }
+    ensures once { PaysReads (D.state disk.old) (D.state disk.new) marks.old marks.new }
 
     // On trees, whatever the sizes of their blocks and whatever was marked before, it is Ok unless the
     // device fails; and whatever it answers, it marks no blocks but those under the roots.
-    ensures sound { (D.state disk.new).honest ≡ true → (sizes : Sizes) (bs : List ℕ)
-        → AreUnder sizes (D.state disk.old).now.contents (length marks.old) roots.now bs
-        → OkOrDevice result (λ _. Unit {0}) }
-    ensures only { (D.state disk.new).honest ≡ true → (sizes : Sizes) (bs : List ℕ)
-        → AreUnder sizes (D.state disk.old).now.contents (length marks.old) roots.now bs
-        → MarksOnly bs marks.old marks.new }
+    ensures sound { SoundOn result (D.state disk.old) (D.state disk.new)
+        (length marks.old) roots.now }
+    ensures only { SparesOn (D.state disk.old) (D.state disk.new) roots.now marks.old marks.new }
 
     // Where the marks were closed, they grow by exactly the blocks under the roots, and stay closed.
-    ensures marked { (D.state disk.new).honest ≡ true → (sizes : Sizes) (bs : List ℕ)
-        → AreUnder sizes (D.state disk.old).now.contents (length marks.old) roots.now bs
-        → IsClosed (D.state disk.old).now.contents marks.old
-        → OkOrDevice result (λ _. MarksMore bs marks.old marks.new) }
-    ensures closed { (D.state disk.new).honest ≡ true → (sizes : Sizes) (bs : List ℕ)
-        → AreUnder sizes (D.state disk.old).now.contents (length marks.old) roots.now bs
-        → IsClosed (D.state disk.old).now.contents marks.old
-        → OnOk result (IsClosed (D.state disk.old).now.contents marks.new) }
+    ensures marked { Covers result (D.state disk.old) (D.state disk.new)
+        roots.now marks.old marks.new }
+    ensures closed { Closes result (D.state disk.old) (D.state disk.new)
+        roots.now marks.old marks.new }
 {
     let blocks = marks.blocks();
     for root in roots {

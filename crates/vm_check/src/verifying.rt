@@ -1,18 +1,14 @@
 //! Telling whether trees lie under numbers that may name anything.
-ghost use Rattle.std.specs.Prelude.{◌≡◌, ◌≢◌, ◌↔◌, ℕ, ◌+◌, ◌-◌, ◌<◌, ◌≤◌, true, List, length, map, slice_index_or, IsTrue, IfOk};
-ghost use Rattle.vm_types.specs.Map.{Map};
-ghost use Rattle.vm_types.specs.Places.{RisesFrom, place, places};
+ghost use Rattle.std.specs.Prelude.{◌≡◌, ◌≢◌, ◌+◌, ◌<◌, ◌≤◌, length, map, IsTrue, IfOk};
 ghost use Rattle.vm_alloc.specs.Held.{HoldsMore};
-ghost use Rattle.vm_block.specs.Leaf.{Record, IsLeaf};
-ghost use Rattle.vm_block.specs.Node.{IsNode, lows};
-ghost use Rattle.vm_block.specs.declared.node.Child.{Child};
-ghost use Rattle.vm_block.specs.Tree.{BeginsWith, Subtree, Children, IsTree};
-ghost use Rattle.vm_tree.specs.Answers.{OkOrDevice, Lists};
+ghost use Rattle.vm_block.specs.Leaf.{BeginsWith};
+ghost use Rattle.vm_block.specs.Told.{IfLeaf};
 ghost use Rattle.vm_tree.specs.Calls.{OnlyLooks};
+ghost use Rattle.vm_tree.specs.Reading.{Finds};
 ghost use Rattle.vm_tree.specs.Root.{AreSizes, sizes_of};
-ghost use Rattle.vm_check.specs.Marking.{unmarked};
-ghost use Rattle.vm_check.specs.Verifying.{HaveTrees, Found};
-ghost use Rattle.vm_check.specs.Visiting.{IsHighest, Known, Visited, VisitedAll, RootVisited, met_of, span_of};
+ghost use Rattle.vm_check.specs.Marking.{PaysJustReads};
+ghost use Rattle.vm_check.specs.Verifying.{AcceptsTrees, Found, PaidFor};
+ghost use Rattle.vm_check.specs.Visiting.{AcceptsChildren, AcceptsSubtree, AcceptsTree, EndsBelowNext, IsHighest, Visits, VisitsChildren, VisitsRoot, met_of, span_of};
 
 use crate::form::{Form, form_at};
 use std::alloc::Global;
@@ -89,23 +85,12 @@ fn visit<D: Disk, const LEAF: usize, const FAN: usize>(
     ensures looks { OnlyLooks result (D.state disk.old) (D.state disk.new) }
     ensures deep { result ≢ Err TreeFault.Deep }
     ensures memory { result ≢ Err TreeFault.Memory }
-    ensures once { (D.state disk.new).reads + unmarked marks.new
-        ≡ (D.state disk.old).reads + unmarked marks.old }
+    ensures once { PaysJustReads (D.state disk.old) (D.state disk.new) marks.old marks.new }
     ensures growing { HoldsMore marks.old marks.new }
-    ensures found { (D.state disk.new).honest ≡ true → (levels : ℕ)
-        → Known (sizes_of LEAF FAN levels) (D.state disk.old).now.contents blocks most
-        marks.old spans.old
-        → IfOk result (λ span. Visited (sizes_of LEAF FAN levels)
-        (D.state disk.old).now.contents blocks least most block span
-        marks.old spans.old marks.new spans.new) }
-    ensures only { (D.state disk.new).honest ≡ true
-        → (levels l : ℕ) (rs : List Record) (bs : List ℕ)
-        → Known (sizes_of LEAF FAN levels) (D.state disk.old).now.contents blocks most
-        marks.old spans.old
-        → least ≤ l → l ≤ most
-        → Subtree (sizes_of LEAF FAN levels) (D.state disk.old).now.contents blocks l block rs bs
-        → RisesFrom 0 (places rs)
-        → OkOrDevice result (λ _. Unit {0}) }
+    ensures found { Visits result LEAF FAN (D.state disk.old) (D.state disk.new)
+        blocks least most block marks.old spans.old marks.new spans.new }
+    ensures only { AcceptsSubtree result LEAF FAN (D.state disk.old) (D.state disk.new)
+        blocks least most block marks.old spans.old }
 {
     if !is_data(blocks, block) {
         return Err(TreeFault::Damaged(block));
@@ -152,9 +137,8 @@ fn leaf_span(bytes: &[u8; 4096], count: usize) -> Span
     requires some { 0 < count }
     requires few { count ≤ 16 }
     ensures level { result.level ≡ 0 }
-    ensures low { (rs : List Record) → IsLeaf bytes.now rs → BeginsWith result.low rs }
-    ensures high { (rs : List Record) → IsLeaf bytes.now rs → length rs ≡ count
-        → IsHighest result.high rs }
+    ensures low { IfLeaf bytes.now (BeginsWith result.low) }
+    ensures high { IfLeaf bytes.now (λ rs. length rs ≡ count → IsHighest result.high rs) }
 {
     Span {
         level: 0,
@@ -183,24 +167,12 @@ fn visit_children<D: Disk, const LEAF: usize, const FAN: usize>(
     ensures looks { OnlyLooks result (D.state disk.old) (D.state disk.new) }
     ensures deep { result ≢ Err TreeFault.Deep }
     ensures memory { result ≢ Err TreeFault.Memory }
-    ensures once { (D.state disk.new).reads + unmarked marks.new
-        ≡ (D.state disk.old).reads + unmarked marks.old }
+    ensures once { PaysJustReads (D.state disk.old) (D.state disk.new) marks.old marks.new }
     ensures growing { HoldsMore marks.old marks.new }
-    ensures found { (D.state disk.new).honest ≡ true → (levels above : ℕ) (cs : List Child)
-        → IsNode bytes.now above cs → length cs ≡ count
-        → Known (sizes_of LEAF FAN levels) (D.state disk.old).now.contents blocks level
-        marks.old spans.old
-        → IfOk result (λ high. VisitedAll (sizes_of LEAF FAN levels)
-        (D.state disk.old).now.contents blocks level cs high
-        marks.old spans.old marks.new spans.new) }
-    ensures only { (D.state disk.new).honest ≡ true
-        → (levels above : ℕ) (cs : List Child) (rs : List Record) (bs : List ℕ)
-        → IsNode bytes.now above cs → length cs ≡ count
-        → Known (sizes_of LEAF FAN levels) (D.state disk.old).now.contents blocks level
-        marks.old spans.old
-        → Children (Subtree (sizes_of LEAF FAN levels) (D.state disk.old).now.contents blocks level)
-        cs rs bs → RisesFrom 0 (places rs)
-        → OkOrDevice result (λ _. Unit {0}) }
+    ensures found { VisitsChildren result LEAF FAN (D.state disk.old) (D.state disk.new)
+        blocks level bytes.now count marks.old spans.old marks.new spans.new }
+    ensures only { AcceptsChildren result LEAF FAN (D.state disk.old) (D.state disk.new)
+        blocks level bytes.now count marks.old spans.old }
 {
     let mut high = Key::default();
     for i in 0..count {
@@ -218,8 +190,7 @@ fn visit_children<D: Disk, const LEAF: usize, const FAN: usize>(
 fn is_below_next(high: Key, bytes: &[u8; 4096], count: usize, i: usize) -> bool
     requires within { i < count }
     requires few { count ≤ 256 }
-    ensures { (above : ℕ) (cs : List Child) → IsNode bytes.now above cs → length cs ≡ count
-        → IsTrue result ↔ (i + 1 < length cs → place high < slice_index_or (lows cs) (i + 1) 0) }
+    ensures { EndsBelowNext high bytes.now count i (IsTrue result) }
 {
     if i + 1 >= count {
         return true;
@@ -256,16 +227,13 @@ pub fn verify<D: Disk, const LEAF: usize, const FAN: usize, const LEVELS: usize>
     // than data blocks, and where it answers Ok, just as many as blocks that are marked.
     ensures once { (D.state disk.new).reads + 34 ≤ (D.state disk.old).reads + blocks }
     ensures paid { IfOk result
-        (λ found. (D.state disk.new).reads + unmarked found.1 + 34
-        ≡ (D.state disk.old).reads + blocks) }
+        (λ found. PaidFor (D.state disk.old) (D.state disk.new) blocks found.1) }
 
     // It is Ok exactly where each number has a tree, unless the device fails or no memory is found.
-    ensures found { (D.state disk.new).honest ≡ true
-        → IfOk result (λ found. Found (sizes_of LEAF FAN LEVELS)
-        (D.state disk.old).now.contents blocks numbers.now found.0.items found.1) }
-    ensures only { (D.state disk.new).honest ≡ true
-        → HaveTrees (sizes_of LEAF FAN LEVELS) (D.state disk.old).now.contents blocks numbers.now
-        → Lists result (λ _. Unit {0}) }
+    ensures found { Finds result (D.state disk.old) (D.state disk.new)
+        (λ x found. Found (sizes_of LEAF FAN LEVELS) x blocks numbers.now found.0.items found.1) }
+    ensures only { AcceptsTrees result (sizes_of LEAF FAN LEVELS)
+        (D.state disk.old) (D.state disk.new) blocks numbers.now }
 {
     let (Ok(mut marks), Ok(mut spans)) = (
         Marks::new(alloc, blocks),
@@ -300,22 +268,14 @@ fn visit_root<D: Disk, const LEAF: usize, const FAN: usize, const LEVELS: usize>
     ensures looks { OnlyLooks result (D.state disk.old) (D.state disk.new) }
     ensures deep { result ≢ Err TreeFault.Deep }
     ensures memory { result ≢ Err TreeFault.Memory }
-    ensures once { (D.state disk.new).reads + unmarked marks.new
-        ≡ (D.state disk.old).reads + unmarked marks.old }
+    ensures once { PaysJustReads (D.state disk.old) (D.state disk.new) marks.old marks.new }
     ensures count { length marks.new ≡ blocks }
     ensures named { IfOk result (λ root. root.block ≡ number) }
-    ensures found { (D.state disk.new).honest ≡ true
-        → Known (sizes_of LEAF FAN LEVELS) (D.state disk.old).now.contents blocks (LEVELS - 1)
-        marks.old spans.old
-        → IfOk result (λ root. RootVisited (sizes_of LEAF FAN LEVELS)
-        (D.state disk.old).now.contents blocks number root
-        marks.old spans.old marks.new spans.new) }
-    ensures only { (D.state disk.new).honest ≡ true
-        → Known (sizes_of LEAF FAN LEVELS) (D.state disk.old).now.contents blocks (LEVELS - 1)
-        marks.old spans.old
-        → (m : Map) (bs : List ℕ)
-        → IsTree (sizes_of LEAF FAN LEVELS) (D.state disk.old).now.contents blocks number m bs
-        → OkOrDevice result (λ _. Unit {0}) }
+    ensures found { VisitsRoot result (sizes_of LEAF FAN LEVELS)
+        (D.state disk.old) (D.state disk.new)
+        blocks number marks.old spans.old marks.new spans.new }
+    ensures only { AcceptsTree result (sizes_of LEAF FAN LEVELS)
+        (D.state disk.old) (D.state disk.new) blocks number marks.old spans.old }
 {
     if number == 0 {
         return Ok(Root::default());

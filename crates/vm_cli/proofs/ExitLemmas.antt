@@ -6,7 +6,7 @@ use Rattle.clap.specs.declared.error.kind.ErrorKind.{ErrorKind}
 use Rattle.clap.specs.declared.error.kind.ErrorKind.TheVariants.{DisplayHelp, DisplayVersion}
 use Rattle.vm_cli.specs.Carried.{WritesStart}
 use Rattle.vm_cli.specs.Drawing.{Branch, drawing}
-use Rattle.vm_cli.specs.Exits.{AskTalk, Ends, IsHelp, IsJob, MayEnd, SaysRefused, Tells, check_text, created_text, file_text, status_of}
+use Rattle.vm_cli.specs.Exits.{AskTalk, Ends, IsHelp, IsJob, JobEnds, MayEnd, Tells, TellsRefused, check_text, created_text, file_text, status_of}
 use Rattle.vm_cli.specs.Words.{Wanted, altctl}
 use Rattle.vm_cli.specs.Words.Wanted.{check, create, draw}
 use Rattle.vm_cli.specs.declared.program.Exit.{Exit}
@@ -79,9 +79,7 @@ help_or_mistake kind = inr (λ h. elim h [ inl e ↦ cc | inr e ↦ cc ])
 module _ {W F : Type 0} (in_output : W → Option (List ℕ)) (in_errors : F → Option (List ℕ)) (words : List Text) (output output' : W) (errors errors' : F) where
   -- a store was to be made
   pub made : (file : Text) (blocks : ℕ) (exit : Exit) → IsJob words (create file blocks)
-      → ((errors' ≡ errors) × Tells Done exit (in_output output) (in_output output') (created_text blocks))
-      ⊎ ((output' ≡ output) × ((text : List ℕ) × SaysRefused (create file blocks) text × Tells Refused exit (in_errors errors) (in_errors errors') text))
-      → Ends in_output in_errors exit words output output' errors errors'
+      → JobEnds in_output in_errors (create file blocks) exit output output' errors errors' → Ends in_output in_errors exit words output output' errors errors'
   made file blocks exit job (inl (same, inl (is, written))) = rw is (same, inl (created_text blocks, inr (inl (file, blocks, job, refl)), written))
   made file blocks exit job (inl (same, inr (is, begun))) = rw is (inl (same, inr (inl (created_text blocks, inr (inl (file, blocks, job, refl)), begun))))
   made file blocks exit job (inr (same, (text, says, inl (is, written)))) = rw is (same, (text, (create file blocks, job, says), written))
@@ -89,8 +87,7 @@ module _ {W F : Type 0} (in_output : W → Option (List ℕ)) (in_errors : F →
 
   -- lines were to be answered
   pub talked : (job : Wanted) (on : OnRefusal) (exit : Exit) → IsJob words job → AskTalk words on
-      → ((errors' ≡ errors) × MayEnd on exit)
-      ⊎ ((output' ≡ output) × ((text : List ℕ) × SaysRefused job text × Tells Refused exit (in_errors errors) (in_errors errors') text))
+      → ((errors' ≡ errors) × MayEnd on exit) ⊎ ((output' ≡ output) × TellsRefused in_output in_errors job exit errors errors')
       → Ends in_output in_errors exit words output output' errors errors'
   talked job on exit asked asks (inl (same, inl is)) = rw is (same, inr (on, asks))
   talked job on exit asked asks (inl (same, inr (inl is))) = rw is (inl (same, inr (inr (on, asks))))
@@ -100,9 +97,7 @@ module _ {W F : Type 0} (in_output : W → Option (List ℕ)) (in_errors : F →
 
   -- a store was to be checked
   pub checked : (file : Text) (exit : Exit) → IsJob words (check file)
-      → ((errors' ≡ errors) × ((alternatives : ℕ) × (checkpoints : ℕ) × (free : ℕ) × Tells Done exit (in_output output) (in_output output') (check_text alternatives checkpoints free)))
-      ⊎ ((output' ≡ output) × ((text : List ℕ) × SaysRefused (check file) text × Tells Refused exit (in_errors errors) (in_errors errors') text))
-      → Ends in_output in_errors exit words output output' errors errors'
+      → JobEnds in_output in_errors (check file) exit output output' errors errors' → Ends in_output in_errors exit words output output' errors errors'
   checked file exit job (inl (same, (alternatives, checkpoints, free, inl (is, written)))) =
       rw is (same, inl (check_text alternatives checkpoints free, inr (inr (inl (file, alternatives, checkpoints, free, job, refl))), written))
   checked file exit job (inl (same, (alternatives, checkpoints, free, inr (is, begun)))) =
@@ -112,9 +107,7 @@ module _ {W F : Type 0} (in_output : W → Option (List ℕ)) (in_errors : F →
 
   -- a tree was to be drawn
   pub drawn : (file : Text) (exit : Exit) → IsJob words (draw file)
-      → ((errors' ≡ errors) × ((branches : List Branch) × Tells Done exit (in_output output) (in_output output') (drawing branches)))
-      ⊎ ((output' ≡ output) × ((text : List ℕ) × SaysRefused (draw file) text × Tells Refused exit (in_errors errors) (in_errors errors') text))
-      → Ends in_output in_errors exit words output output' errors errors'
+      → JobEnds in_output in_errors (draw file) exit output output' errors errors' → Ends in_output in_errors exit words output output' errors errors'
   drawn file exit job (inl (same, (branches, inl (is, written)))) = rw is (same, inl (drawing branches, inr (inr (inr (file, branches, job, refl))), written))
   drawn file exit job (inl (same, (branches, inr (is, begun)))) = rw is (inl (same, inr (inl (drawing branches, inr (inr (inr (file, branches, job, refl))), begun))))
   drawn file exit job (inr (same, (text, says, inl (is, written)))) = rw is (same, (text, (draw file, job, says), written))

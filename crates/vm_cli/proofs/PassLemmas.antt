@@ -11,7 +11,7 @@ use Rattle.vm_store.specs.Growing.{Grows}
 use Rattle.vm_store.specs.Store.{GoesOn, GrowsOn, IsSameButDisk, has_failed}
 use Rattle.vm_store.specs.declared.store.Store.{Store}
 use Rattle.vm_store.proofs.LongerLemmas.{goes_grow}
-use Rattle.vm_cli.specs.Talk.{Failing, Passes}
+use Rattle.vm_cli.specs.Talk.{EndsBy, Failing, Passes, StoreFails}
 use Rattle.vm_cli.specs.declared.talk.ServeFault.{ServeFault}
 use Rattle.vm_cli.specs.declared.talk.ServeFault.TheVariants as fault
 
@@ -101,16 +101,14 @@ module _ {D : Type 0} {members : _} where
       let same = first failed in
       second (ap (λ (t : Store D members). has_failed t) same ∙ failed) ∙ same
 
-  -- why a talk ends where its lines are answered
-  abbrev pub EndsBy : Store D members → Store D members → ServeFault → Type 0
-  EndsBy old new why = (why ≡ fault.Write) ⊎ ((why ≡ fault.Refused) ⊎ ((why ≡ fault.Store) × (has_failed new ≡ true) × Failing old new))
-
   pub ends_later : (old mid new : Store D members) (why : ServeFault) → GrowsOn ⊥ old mid → EndsBy mid new why → EndsBy old new why
-  ends_later old mid new why goes (inl is) = inl is
-  ends_later old mid new why goes (inr (inl is)) = inr (inl is)
-  ends_later old mid new why goes (inr (inr (is, failed, failing))) = inr (inr (is, failed, failing_later old mid new goes failing))
+  ends_later old mid new fault.Read goes never = never
+  ends_later old mid new fault.Write goes is = is
+  ends_later old mid new fault.Refused goes is = is
+  ends_later old mid new fault.Store goes (failed, failing) = (failed, failing_later old mid new goes failing)
 
-  pub ends_store : (old new : Store D members) (why : ServeFault) → EndsBy old new why → why ≡ fault.Store → (has_failed new ≡ true) × Failing old new
-  ends_store old new why (inl is) same = cc
-  ends_store old new why (inr (inl is)) same = cc
-  ends_store old new why (inr (inr (is, failed, failing))) same = (failed, failing)
+  pub ends_store : (old new : Store D members) (why : ServeFault) → EndsBy old new why → StoreFails old new why
+  ends_store old new fault.Read never same = absurd never
+  ends_store old new fault.Write is same = cc
+  ends_store old new fault.Refused is same = cc
+  ends_store old new fault.Store is same = is

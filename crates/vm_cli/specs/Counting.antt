@@ -5,12 +5,19 @@ use Rattle.vm_disk.specs.Disk.{Contents}
 use Rattle.vm_disk.specs.declared.disk.Disk.{Ghosts}
 use Rattle.vm_store.specs.Opening.{OpensAs}
 use Rattle.vm_store.specs.Resting.{spare_of}
-use Rattle.vm_store.specs.Store.{disk_of}
+use Rattle.vm_store.specs.Store.{disk_of, free_of}
+use Rattle.vm_types.specs.State.{State}
+use Rattle.vm_cli.specs.declared.program.counting.Counts.{Counts}
 use Rattle.vm_store.specs.declared.store.Store.{Store}
 
 -- how many checkpoints the alternatives of a tree have together
 abbrev pub checkpoint_count : Tree → ℕ
 checkpoint_count tree = sum_by (λ a. length a.saved) tree
+
+-- these are the counts of a state and of the store that stands for it
+abbrev pub AreCounts : {D : Type 0} {members : _} → Store D members → State → Counts → Type 0
+AreCounts store s counts =
+    (counts.alternatives ≡ length s.working) × (counts.checkpoints ≡ checkpoint_count s.working) × (counts.free ≡ free_of store)
 
 module _ {D : Type 0} (members : Ghosts D) where
   -- these contents show a tree of so many alternatives and checkpoints, and a store that stands for it on a disk that holds them has so

@@ -2,11 +2,14 @@
 use Rattle.std.specs.Fmt.{decimal}
 use Rattle.std.specs.List.{list_any}
 use Rattle.std.specs.Option.{option_eq}
-use Rattle.std.specs.Prelude.{◌-◌, ◌++◌, ℕ, Bool, true, false, not, if◌then◌else◌, List, [], ◌∷◌, flat_map, length, map, replicate, Option, Some, None, Result, Ok, Err, codes}
+use Rattle.std.specs.Prelude.{◌≡◌, ◌≢◌, ◌⊎◌, ◌-◌, ◌++◌, ℕ, Bool, true, false, not, if◌then◌else◌, List, [], ◌∷◌, flat_map, length, map, replicate, Option, Some, None, Result, Ok, Err, Vec, codes}
 use Rattle.std.specs.Str.{bytes_eq}
 use Rattle.vm_types.specs.Shape.{saved_names}
 use Rattle.vm_types.specs.Tree.{Alternative, Tree}
+use Rattle.vm_types.specs.Queries.{checkpoints_in}
+use Rattle.vm_types.specs.State.{State}
 use Rattle.vm_types.specs.declared.refusal.Refusal.{Refusal}
+use Rattle.vm_types.specs.declared.refusal.Refusal.TheVariants.{Device, IsTop, Memory, NoSuchAlternative}
 use Rattle.vm_store.specs.Tallies.{tally_in}
 use Rattle.vm_store.specs.declared.tally.Tally.{Tally}
 
@@ -26,9 +29,31 @@ numbers (Err refusal) = None
 abbrev pub branch_of : Tree → Alternative → Branch
 branch_of tree a = record { name = a.name; parent = a.parent; tally = numbers (tally_in tree a.name); checkpoints = saved_names a.saved }
 
+-- the numbers are those that were told, which were not refused for the device or for memory
+abbrev pub HasNumbers : Result Tally Refusal → Option Tally → Type 0
+HasNumbers tallied tally = (tally ≡ numbers tallied) × (tallied ≢ Err Device) × (tallied ≢ Err Memory)
+
+-- the numbers were refused so, and not since there are none
+abbrev pub HasNoNumbers : Result Tally Refusal → Refusal → Type 0
+HasNoNumbers tallied refusal = (tallied ≡ Err refusal) × (refusal ≢ IsTop) × (refusal ≢ NoSuchAlternative)
+
+-- this is drawn in a state of the alternative of this name, whose parent is this one
+abbrev pub IsDrawn : State → List ℕ → Option (List ℕ) → Branch → Type 0
+IsDrawn s name parent branch =
+    (branch.name ≡ name) × (branch.parent ≡ parent) × (branch.tally ≡ numbers (tally_in s.working name))
+    × (Ok branch.checkpoints ≡ checkpoints_in s.working name)
+
+-- an alternative of this name is not drawn in a state: the device failed, or memory was wanting, or it has no checkpoints to tell
+abbrev pub IsUndrawn : State → List ℕ → Refusal → Type 0
+IsUndrawn s name refusal = (refusal ≡ Device) ⊎ ((refusal ≡ Memory) ⊎ (Err refusal ≡ checkpoints_in s.working name))
+
 -- what is drawn of each alternative of a tree, in order of creation
 abbrev pub branches_of : Tree → List Branch
 branches_of tree = map (branch_of tree) tree
+
+-- a text goes on with these bytes
+abbrev pub Adds : {A : Type 0} → Vec ℕ A → Vec ℕ A → List ℕ → Type 0
+Adds old new bytes = new.items ≡ old.items ++ bytes
 
 -- ---- columns
 
@@ -63,6 +88,10 @@ branch_line stems own branch = columns_of branch.tally ++ (stems ++ (own ++ (bra
 -- the line of a checkpoint, with nothing in the columns
 abbrev pub checkpoint_line : List ℕ → List ℕ → List ℕ
 checkpoint_line stems name = replicate 33 32 ++ (stems ++ (codes "* " ++ (name ++ 10 ∷ [])))
+
+-- the lines of checkpoints
+abbrev pub checkpoint_lines : List ℕ → List (List ℕ) → List ℕ
+checkpoint_lines stems names = flat_map (checkpoint_line stems) names
 
 -- the stem of an alternative that is the last under its parent, or of another one
 abbrev pub own_stem : Bool → List ℕ

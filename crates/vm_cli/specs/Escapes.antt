@@ -1,5 +1,5 @@
 -- Values as they are written in lines.
-use Rattle.std.specs.Prelude.{◌≡◌, ◌+◌, ◌-◌, ◌*◌, ◌/◌, ◌%◌, ◌==◌, ◌&&◌, ◌++◌, ℕ, Bool, true, not, List, [], ◌∷◌, Option, Some, None, codes, if◌then◌else◌, length, nat_le, nat_lt, option_and_then, option_map}
+use Rattle.std.specs.Prelude.{◌≡◌, ◌+◌, ◌-◌, ◌*◌, ◌/◌, ◌%◌, ◌<◌, ◌==◌, ◌&&◌, ◌++◌, ℕ, Bool, true, not, List, [], ◌∷◌, Option, Some, None, codes, if◌then◌else◌, length, nat_le, nat_lt, option_and_then, option_map}
 use Rattle.std.specs.Str.{bytes_eq}
 
 -- what a hexadecimal digit of either case stands for
@@ -64,3 +64,7 @@ escaped (b ∷ bytes) = byte_text b ++ escaped bytes
 abbrev pub value_text : List ℕ → List ℕ
 value_text [] = codes "-"
 value_text (b ∷ bytes) = if bytes_eq (b ∷ bytes) (codes "-") then codes "%2D" else escaped (b ∷ bytes)
+
+-- a word spells this byte first, and then what this rest of it spells, which is shorter
+abbrev pub SpellsFirst : List ℕ → ℕ → List ℕ → Type 0
+SpellsFirst word byte rest = (unescaped word ≡ option_map (λ bytes. byte ∷ bytes) (unescaped rest)) × (length rest < length word)

@@ -2,9 +2,10 @@
 use Rattle.std.specs.Fmt.{decimal}
 use Rattle.std.specs.Prelude.{◌≡◌, ◌≢◌, ◌⊎◌, ◌++◌, ℕ, List, [], ◌∷◌, Option, Some, codes}
 use Rattle.std.specs.Io.KnownBytes.{Appends}
-use Rattle.clap.specs.Words.{IsAmong, Text, fault_of, subcommand_of}
+use Rattle.clap.specs.Words.{IsAmong, Text, fault_of, kind_of, subcommand_of}
+use Rattle.clap.specs.declared.error.Error.{Error}
 use Rattle.clap.specs.declared.error.kind.ErrorKind.{ErrorKind}
-use Rattle.clap.specs.declared.error.kind.ErrorKind.TheVariants.{DisplayHelp, DisplayVersion}
+use Rattle.clap.specs.declared.error.kind.ErrorKind.TheVariants.{DisplayHelp, DisplayVersion, OutOfMemory}
 use Rattle.vm_types.specs.Texts.{refusal_text}
 use Rattle.vm_types.specs.declared.refusal.Refusal.{Refusal}
 use Rattle.vm_types.specs.declared.refusal.Refusal.TheVariants.{AlreadyAStore, BadSize, Device}
@@ -13,6 +14,7 @@ use Rattle.vm_cli.specs.Drawing.{Branch, drawing}
 use Rattle.vm_cli.specs.Words.{Wanted, altctl, asked_of}
 use Rattle.vm_cli.specs.Words.Wanted.{check, create, do_lines, draw, run}
 use Rattle.vm_cli.specs.declared.program.Exit.{Exit}
+use Rattle.vm_cli.specs.declared.program.counting.Counts.{Counts}
 use Rattle.vm_cli.specs.declared.program.task.InMemory.{InMemory}
 use Rattle.vm_cli.specs.declared.program.Exit.TheVariants.{Done, LineRefused, Refused, WrongWords, Stopped}
 use Rattle.vm_cli.specs.declared.talk.OnRefusal.{OnRefusal}
@@ -36,6 +38,10 @@ created_text blocks = codes "created " ++ (decimal blocks ++ 10 ∷ [])
 abbrev pub check_text : ℕ → ℕ → ℕ → List ℕ
 check_text alternatives checkpoints free =
     codes "alternatives " ++ (decimal alternatives ++ (10 ∷ (codes "checkpoints " ++ (decimal checkpoints ++ (10 ∷ (codes "free " ++ (decimal free ++ 10 ∷ [])))))))
+
+-- the same, by its counts
+abbrev pub counts_text : Counts → List ℕ
+counts_text counts = check_text counts.alternatives counts.checkpoints counts.free
 
 -- a file could not be made or opened
 abbrev pub file_text : List ℕ → Text → List ℕ
@@ -117,9 +123,45 @@ MayEnd on exit = (exit ≡ Done) ⊎ ((exit ≡ Stopped) ⊎ ((exit ≡ LineRefu
 abbrev pub Tells : Exit → Exit → Option (List ℕ) → Option (List ℕ) → List ℕ → Type 0
 Tells meant exit before after text = ((exit ≡ meant) × Appends before after text) ⊎ ((exit ≡ Stopped) × WritesStart before after text)
 
+-- the same, of a text that was meant for this writer
+abbrev pub TellsOn : {W : Type 0} → (W → Option (List ℕ)) → Exit → Exit → W → W → List ℕ → Type 0
+TellsOn contents meant exit writer writer' text = Tells meant exit (contents writer) (contents writer') text
+
+-- the same, of a text that says why a file or its disk was refused
+abbrev pub RefusesOn : {W : Type 0} → (W → Option (List ℕ)) → Exit → W → W → List ℕ → Type 0
+RefusesOn contents exit writer writer' text = TellsOn contents Refused exit writer writer' text
+
+-- the errors are told why a disk was refused
+abbrev pub TellsWhy : {F : Type 0} → (F → Option (List ℕ)) → Exit → F → F → Type 0
+TellsWhy in_errors exit errors errors' = (refusal : Refusal) × TellsOn in_errors Refused exit errors errors' (refused_text refusal)
+
+-- lines were answered, which may end so, and nothing was said to the errors; or the output is as it was, and the errors are told why the
+-- disk was refused
+abbrev pub TalkEnds : {W F : Type 0} → (F → Option (List ℕ)) → OnRefusal → Exit → W → W → F → F → Type 0
+TalkEnds in_errors on exit output output' errors errors' =
+    ((errors' ≡ errors) × MayEnd on exit) ⊎ ((output' ≡ output) × TellsWhy in_errors exit errors errors')
+
 -- a text for the errors was begun, and then it was begun to say that the program stopped
 abbrev pub IsCutShort : {F : Type 0} → (F → Option (List ℕ)) → List ℕ → F → F → Type 0
 IsCutShort {F} in_errors text errors errors' = (said : F) × WritesStart (in_errors errors) (in_errors said) text × WritesStart (in_errors said) (in_errors errors') stopped_text
+
+-- the words are not text, and the errors are told so: the status is 2, or 3 where that could not be said
+abbrev pub RefusesWords : {F : Type 0} → (F → Option (List ℕ)) → ℕ → F → F → Type 0
+RefusesWords in_errors status errors errors' =
+    ((status ≡ 2) × Appends (in_errors errors) (in_errors errors') unreadable_text)
+    ⊎ ((status ≡ 3) × IsCutShort in_errors unreadable_text errors errors')
+
+-- where memory was wanting for the words, nothing was written to the output or said to the errors, and the program stops
+abbrev pub StopsUnsaid : {W F : Type 0} → Error → Exit → W → W → F → F → Type 0
+StopsUnsaid error exit output output' errors errors' = kind_of error ≡ OutOfMemory → (exit ≡ Stopped) × (output' ≡ output) × (errors' ≡ errors)
+
+-- where help was asked for, the output is told some text, and nothing was said to the errors
+abbrev pub Helps : {W F : Type 0} → (W → Option (List ℕ)) → Error → Exit → W → W → F → F → Type 0
+Helps in_output error exit output output' errors errors' = IsHelp (kind_of error) → (errors' ≡ errors) × ((text : List ℕ) × TellsOn in_output Done exit output output' text)
+
+-- where the words are a mistake, the errors are told some text, and the output is as it was
+abbrev pub Blames : {W F : Type 0} → (F → Option (List ℕ)) → Error → Exit → W → W → F → F → Type 0
+Blames in_errors error exit output output' errors errors' = (¬ IsHelp (kind_of error)) → (output' ≡ output) × ((text : List ℕ) × TellsOn in_errors WrongWords exit errors errors' text)
 
 module _ {W F : Type 0} (in_output : W → Option (List ℕ)) (in_errors : F → Option (List ℕ)) where
   -- all was done: a text was written to the output, or lines were answered, and nothing was said to the errors
@@ -153,6 +195,43 @@ module _ {W F : Type 0} (in_output : W → Option (List ℕ)) (in_errors : F →
   -- the program stopped, and said so
   abbrev pub IsStopped : List Text → W → W → F → F → Type 0
   IsStopped words output output' errors errors' = (said : F) × Stops words output output' errors said × WritesStart (in_errors said) (in_errors errors') stopped_text
+
+  -- the output is told what a store holds
+  abbrev pub TellsCounts : Exit → W → W → Type 0
+  TellsCounts exit output output' =
+      (alternatives : ℕ) × (checkpoints : ℕ) × (free : ℕ) × TellsOn in_output Done exit output output' (check_text alternatives checkpoints free)
+
+  -- the output is told a drawing
+  abbrev pub TellsDrawing : Exit → W → W → Type 0
+  TellsDrawing exit output output' = (branches : List Branch) × TellsOn in_output Done exit output output' (drawing branches)
+
+  -- a job was done: what the output is told then, or how lines that were answered may end
+  abbrev pub TellsDone : Wanted → Exit → W → W → Type 0
+  TellsDone (create file blocks) exit output output' = TellsOn in_output Done exit output output' (created_text blocks)
+  TellsDone (run file in_memory on) exit output output' = MayEnd on exit
+  TellsDone (do_lines file input in_memory on) exit output output' = MayEnd on exit
+  TellsDone (check file) exit output output' = TellsCounts exit output output'
+  TellsDone (draw file) exit output output' = TellsDrawing exit output output'
+
+  -- a job was refused: the errors are told why
+  abbrev pub TellsRefused : Wanted → Exit → F → F → Type 0
+  TellsRefused job exit errors errors' = (text : List ℕ) × SaysRefused job text × TellsOn in_errors Refused exit errors errors' text
+
+  -- a job was done, and nothing was said to the errors; or it was refused, and the output is as it was
+  abbrev pub JobEnds : Wanted → Exit → W → W → F → F → Type 0
+  JobEnds job exit output output' errors errors' =
+      ((errors' ≡ errors) × TellsDone job exit output output') ⊎ ((output' ≡ output) × TellsRefused job exit errors errors')
+
+  -- the output is told what a store holds, and nothing was said to the errors; or the output is as it was, and the errors are told why the
+  -- disk was refused
+  abbrev pub Checks : Exit → W → W → F → F → Type 0
+  Checks exit output output' errors errors' =
+      ((errors' ≡ errors) × TellsCounts exit output output') ⊎ ((output' ≡ output) × TellsWhy in_errors exit errors errors')
+
+  -- the same, where a drawing is told
+  abbrev pub DrawEnds : Exit → W → W → F → F → Type 0
+  DrawEnds exit output output' errors errors' =
+      ((errors' ≡ errors) × TellsDrawing exit output output') ⊎ ((output' ≡ output) × TellsWhy in_errors exit errors errors')
 
   -- the end, before it is said that the program stopped
   abbrev pub Ends : Exit → List Text → W → W → F → F → Type 0

@@ -1,14 +1,18 @@
 -- How a talk goes on inside: answers that are written in part, and bytes that are fed to it.
-use Rattle.std.specs.Prelude.{◌≡◌, ◌≢◌, ℕ, Bool, true, false, List, [], ◌++◌, Option, Result, Ok, Err, flat_map, length}
+use Rattle.std.specs.Prelude.{◌≡◌, ◌≢◌, ℕ, Bool, true, false, List, [], ◌++◌, Option, Result, Ok, Err, IfOk, OnErr, flat_map, length}
 use Rattle.std.specs.Io.KnownBytes.{Appends}
 use Rattle.vm_types.specs.State.{State}
+use Rattle.vm_types.specs.declared.answer.Answer.{Answer}
 use Rattle.vm_types.specs.declared.refusal.Refusal.{Refusal}
-use Rattle.vm_types.specs.declared.refusal.Refusal.TheVariants.{Failed}
+use Rattle.vm_types.specs.declared.refusal.Refusal.TheVariants.{Device, Failed}
 use Rattle.vm_store.specs.declared.store.Store.{Store}
 use Rattle.vm_cli.specs.Carried.{WritesStart, Carries}
 use Rattle.vm_cli.specs.Lines.{lines_of}
 use Rattle.vm_cli.specs.Replies.{ends_talk, is_error, reply_text}
-use Rattle.vm_cli.specs.Talk.{AnsweredRequest, Handled, HasTalked, error_text}
+use Rattle.vm_store.specs.Store.{has_failed}
+use Rattle.vm_cli.specs.Reading.{HoldsLine}
+use Rattle.vm_cli.specs.Talk.{AnsweredRequest, Handled, HandlesLine, HasTalked, Serves, ServesLines, error_text}
+use Rattle.vm_cli.specs.declared.lines.line.Line.{Line}
 use Rattle.vm_cli.specs.declared.answers.reply.Reply.{Reply}
 use Rattle.vm_cli.specs.declared.answers.reply.Reply.TheVariants.{End}
 use Rattle.vm_cli.specs.declared.lines.request.Request.{Request}
@@ -79,3 +83,52 @@ module _ {D : Type 0} {members : _} where
     pub talked : HasTalked old new s on lines text
     pub told : refused ≡ talked.refused
     pub written : Appends before after text
+
+  -- for each state, the request is answered by this reply
+  abbrev pub AnswersBy : Request → Reply → Store D members → Store D members → Type 0
+  AnswersBy request reply old new = (s : State) → HandlesRequest old new s request (reply_text reply) (ends_talk reply)
+
+  -- a reply ends the talk just where the store, which had not failed, failed in it
+  abbrev pub EndsIfFailed : Result Reply WriteFault → Store D members → Store D members → Type 0
+  EndsIfFailed result old new = has_failed old ≡ false → IfOk result (λ reply. ends_talk reply ≡ has_failed new)
+
+-- a reply ends no talk where a command was answered neither that the device failed nor that the store had
+abbrev pub TalkGoesOn : Result Answer Refusal → Reply → Type 0
+TalkGoesOn answer reply = answer ≢ Err Device → answer ≢ Err Failed → ends_talk reply ≡ false
+
+-- for each state, and the bytes of a line so far
+module _ {D W : Type 0} {members : _} (contents : W → Option (List ℕ)) where
+  -- the line is handled, and its answer written
+  abbrev pub AnswersLine : OnRefusal → Line → Result Bool ServeFault → Store D members → Store D members → W → W → Type 0
+  AnswersLine on line result old new writer writer' =
+      (s : State) → (part : List ℕ) → HoldsLine line part → Writes on (HandlesLine old new s part) result (contents writer) (contents writer')
+
+  -- the line is handled, and of its answer the rest is still to be written
+  abbrev pub RepliesToLine : Line → Result Reply WriteFault → Store D members → Store D members → W → W → List ℕ → Type 0
+  RepliesToLine line result old new writer writer' rest =
+      (s : State) → (part : List ℕ) → HoldsLine line part → Replies (HandlesLine old new s part) result (contents writer) (contents writer') rest
+
+  -- so is a request
+  abbrev pub RepliesToRequest : Request → Result Reply WriteFault → Store D members → Store D members → W → W → List ℕ → Type 0
+  RepliesToRequest request result old new writer writer' rest =
+      (s : State) → Replies (HandlesRequest old new s request) result (contents writer) (contents writer') rest
+
+  -- these bytes are answered, up to those of another line
+  abbrev pub FeedsLine : OnRefusal → List ℕ → Line → Line → Result Bool ServeFault → Store D members → Store D members → W → W → Type 0
+  FeedsLine on bytes line line' result old new writer writer' =
+      (s : State) → (from : List ℕ) → HoldsLine line from
+      → IfOk result (λ refused. (to : List ℕ) × HoldsLine line' to × Fed old new s on refused bytes from to (contents writer) (contents writer'))
+
+  -- a talk over these bytes and any more ends among these
+  abbrev pub EndsAmong : OnRefusal → List ℕ → Line → Result Bool ServeFault → Store D members → Store D members → W → W → Type 0
+  EndsAmong on bytes line result old new writer writer' =
+      (s : State) → (from : List ℕ) → HoldsLine line from → (more : List ℕ)
+      → OnErr result (ServesLines old new s on result (contents writer) (contents writer') (lines_of (from ++ (bytes ++ more))))
+
+  -- a talk over what the reader has to give
+  abbrev pub ServesEach : OnRefusal → Result Bool ServeFault → Store D members → Store D members → Option (List ℕ) → W → W → Type 0
+  ServesEach on result old new known writer writer' = (s : State) → Serves old new s on result (contents writer) (contents writer') known
+
+-- a list is answered so, to a writer
+abbrev pub RepliesWithList : {T W : Type 0} → (T → List (List ℕ)) → (W → Option (List ℕ)) → Result T Refusal → Result Reply WriteFault → W → W → List ℕ → Type 0
+RepliesWithList lines contents list result writer writer' rest = ListReplied lines list result (contents writer) (contents writer') rest

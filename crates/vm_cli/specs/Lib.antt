@@ -15,7 +15,9 @@ pub mod Carried
 pub mod Talk
 pub mod Feeding
 pub mod Keeps
+pub mod Standing
 pub mod Sessions
+pub mod Told
 pub mod Delaying
 pub mod Caching
 pub mod Counting
@@ -23,5 +25,6 @@ pub mod Drawing
 pub mod Places
 pub mod Progress
 pub mod Files
+pub mod Runs
 pub mod RealFiles
 pub mod MemFiles

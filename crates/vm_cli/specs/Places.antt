@@ -1,5 +1,5 @@
 -- What is known of a place where disks are found by name, and what its calls do to it.
-use Rattle.std.specs.Prelude.{◌≡◌, ◌≢◌, ℕ, Bool, true, List, [], Option, Some, None, IfSome, replicate}
+use Rattle.std.specs.Prelude.{◌≡◌, ◌≢◌, ℕ, Bool, true, List, [], Option, Some, None, IfSome, option_map, replicate}
 use Rattle.vm_disk.specs.Disk.{Contents, DiskState, IsClean}
 
 -- what is known of a place
@@ -43,3 +43,20 @@ pub record WasLent (name : List ℕ) (given back : DiskState) (new : PlaceState)
   pub honest : back.honest ≡ true
   pub holds : new.files name ≡ Some back.now.contents
   pub came : new.came name ≡ Some back
+
+-- a place that is honest after a call was so before it
+abbrev pub WasHonest : PlaceState → PlaceState → Type 0
+WasHonest old new = new.honest ≡ true → old.honest ≡ true
+
+module _ {P D : Type 0} (state : P → PlaceState) (disk_state : D → DiskState) where
+  -- where the place is honest after it, a disk of so many zero blocks is made under this name, or none is
+  abbrev pub CreatesIn : List ℕ → ℕ → Option D → P → P → Type 0
+  CreatesIn name blocks made old new = (state new).honest ≡ true → Creates name blocks (option_map disk_state made) (state old) (state new)
+
+  -- where the place is honest after it, the disk of this name is found, or none is
+  abbrev pub FindsIn : List ℕ → Option D → P → P → Type 0
+  FindsIn name found old new = (state new).honest ≡ true → Finds name (option_map disk_state found) (state old) (state new)
+
+  -- where the place is honest after it, a disk comes back under this name
+  abbrev pub TakesBackIn : List ℕ → D → P → P → Type 0
+  TakesBackIn name given old new = (state new).honest ≡ true → TakesBack name (disk_state given) (state old) (state new)

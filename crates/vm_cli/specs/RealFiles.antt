@@ -6,7 +6,7 @@ use Rattle.vm_disk.specs.Past.{noted}
 use Rattle.vm_disk.specs.System.{is_read_alone, name_of, opening_of, system_state}
 use Rattle.vm_disk.specs.declared.file.FileDisk.{FileDisk}
 use Rattle.vm_disk.specs.declared.system.SystemFile.{SystemFile}
-use Rattle.vm_cli.specs.Places.{PlaceState}
+use Rattle.vm_cli.specs.Places.{PlaceState, CreatesIn, FindsIn}
 use Rattle.vm_cli.specs.Progress.{file_below}
 use Rattle.vm_cli.specs.declared.program.place.Event.{Event}
 use Rattle.vm_cli.specs.declared.program.place.Event.TheVariants.{Found, Made, Missed, Given}
@@ -100,3 +100,11 @@ module _ {W : Type 0} (held : ℕ → List ℕ → Option (List ℕ)) (torn : �
   real_state place =
       let events = noted place.events in
       record { honest = honest_after events; files = files_after events; came = came_after events }
+
+  -- as files of the system that are honest after it create a disk
+  abbrev pub CreatesReal : {R : Type 0} → List ℕ → ℕ → Option (FileDisk (Watched (SystemFile W))) → RealFiles R W → RealFiles R W → Type 0
+  CreatesReal name blocks made old new = CreatesIn real_state real_disk name blocks made old new
+
+  -- as files of the system that are honest after it find a disk
+  abbrev pub FindsReal : {R : Type 0} → List ℕ → Option (FileDisk (Watched (SystemFile W))) → RealFiles R W → RealFiles R W → Type 0
+  FindsReal name found old new = FindsIn real_state real_disk name found old new

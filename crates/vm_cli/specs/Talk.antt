@@ -103,6 +103,21 @@ module _ {D : Type 0} {members : _} where
   abbrev pub Failing : Store D members → Store D members → Type 0
   Failing old new = (members.state old.disk).failures < (members.state new.disk).failures
 
+  -- where the store had not failed before and has now, a device call failed on the way
+  abbrev pub FailsByDevice : Store D members → Store D members → Type 0
+  FailsByDevice old new = has_failed old ≡ false → has_failed new ≡ true → Failing old new
+
+  -- bytes of a talk end it with this fault: they could not be answered, or a line was refused, or the store failed, as a device call did
+  abbrev pub EndsBy : Store D members → Store D members → ServeFault → Type 0
+  EndsBy old new fault.Read = ⊥
+  EndsBy old new fault.Write = Unit {0}
+  EndsBy old new fault.Refused = Unit {0}
+  EndsBy old new fault.Store = (has_failed new ≡ true) × Failing old new
+
+  -- a talk that ends with Store does so since the store failed, as a device call did
+  abbrev pub StoreFails : Store D members → Store D members → ServeFault → Type 0
+  StoreFails old new why = why ≡ fault.Store → (has_failed new ≡ true) × Failing old new
+
   -- the store stood for this state before, and its disk is honest after: as long as that is so, each step keeps what it promises
   pub record Stood (old new : Store D members) (s : State) : Type 0 where
     pub honest : (members.state new.disk).honest ≡ true

@@ -1,10 +1,12 @@
 -- The command line of the program as clap reads it, and the job that clap's matches ask for.
-use Rattle.std.specs.Prelude.{ℕ, Bool, true, false, pos, List, [], ◌∷◌, Option, Some, None, codes, if◌then◌else◌, option_map, option_and_then}
+use Rattle.std.specs.Prelude.{◌≡◌, ℕ, Bool, true, false, pos, List, [], ◌∷◌, Option, Some, None, codes, if◌then◌else◌, option_map, option_and_then}
 use Rattle.std.specs.Str.{bytes_eq}
 use Rattle.std.specs.Str.Parse.{digits_value, without_leading_plus}
 use Rattle.clap.specs.ValueTests.{is_unsigned_in}
-use Rattle.clap.specs.Words.{App, Row, Rule, Text, all_of, first_of, one_of, new_app, new_rule, with_rule, with_subcommand}
+use Rattle.clap.specs.Words.{App, Row, Rule, Text, all_of, first_of, one_of, new_app, new_rule, subcommand_of, with_rule, with_subcommand}
 use Rattle.clap.specs.Simple.{on_top}
+use Rattle.clap.specs.declared.builder.command.Command.{Command}
+use Rattle.clap.specs.declared.builder.command.Command.TheViews.{out-Command}
 use Rattle.clap.specs.declared.builder.action.ArgAction.TheVariants.{Append, SetTrue}
 use Rattle.clap.specs.declared.builder.value_parser.ValueParser.TheVariants as vp
 use Rattle.vm_cli.specs.declared.talk.OnRefusal.{OnRefusal}
@@ -55,9 +57,13 @@ strict_rule = record (new_rule (codes "strict")) {
   action = Some SetTrue;
 }
 
+-- a subcommand with the options of a talk: `[--cache N] [--buffer N] [--strict]`
+abbrev pub with_options : App → App
+with_options app = with_rule (with_rule (with_rule app cache_rule) buffer_rule) strict_rule
+
 -- `run [--cache N] [--buffer N] [--strict] FILE`
 abbrev pub run_app : App
-run_app = with_rule (with_rule (with_rule (with_rule (new_app (codes "run")) file_rule) cache_rule) buffer_rule) strict_rule
+run_app = with_options (with_rule (new_app (codes "run")) file_rule)
 
 -- lines, one of which has to be there
 abbrev pub line_rule : Rule
@@ -69,7 +75,7 @@ line_rule = record (new_rule (codes "line")) {
 
 -- `do [--cache N] [--buffer N] [--strict] FILE LINE..`
 abbrev pub do_app : App
-do_app = with_rule (with_rule (with_rule (with_rule (with_rule (new_app (codes "do")) file_rule) line_rule) cache_rule) buffer_rule) strict_rule
+do_app = with_options (with_rule (with_rule (new_app (codes "do")) file_rule) line_rule)
 
 -- `check FILE`
 abbrev pub check_app : App
@@ -83,11 +89,15 @@ tree_app = with_rule (new_app (codes "tree")) file_rule
 abbrev pub top_app : App
 top_app = on_top (λ s. record s { subcommand_required = true; has_version = true }) (new_app (codes "altctl"))
 
+-- the program with its first tasks
+abbrev pub first_app : App
+first_app = with_subcommand (with_subcommand top_app create_app.top) run_app.top
+
 -- `altctl create FILE BLOCKS`, `altctl run [--cache N] [--buffer N] [--strict] FILE`, `altctl do [--cache N] [--buffer N] [--strict] FILE LINE..`,
 -- `altctl check FILE` and `altctl tree FILE`
 abbrev pub altctl : App
 altctl =
-    with_subcommand (with_subcommand (with_subcommand (with_subcommand (with_subcommand top_app create_app.top) run_app.top) do_app.top) check_app.top) tree_app.top
+    with_subcommand (with_subcommand (with_subcommand first_app do_app.top) check_app.top) tree_app.top
 
 -- a job, with the file's name itself in place of a reference to it, and the input of the lines that were given
 pub data Wanted : Type 0 where
@@ -118,13 +128,17 @@ is_set (Some text) = bytes_eq text (codes "true")
 abbrev pub refusal_by : OnRefusal → List Row → OnRefusal
 refusal_by on rows = if is_set (first_of (codes "strict") rows) then Stop else on
 
+-- the number that an argument of this name has, where it lies in the range
+abbrev pub number_by : ℕ → ℕ → Text → List Row → Option ℕ
+number_by low high name rows = option_and_then (number_in low high) (one_of name rows)
+
 -- how many blocks are kept in memory
 abbrev pub cache_by : List Row → Option ℕ
-cache_by rows = option_and_then (number_in 0 65536) (one_of (codes "cache") rows)
+cache_by rows = number_by 0 65536 (codes "cache") rows
 
 -- how many blocks wait in memory to be written
 abbrev pub buffer_by : List Row → Option ℕ
-buffer_by rows = option_and_then (number_in 0 65536) (one_of (codes "buffer") rows)
+buffer_by rows = number_by 0 65536 (codes "buffer") rows
 
 -- both
 abbrev pub memory_by : List Row → Option InMemory
@@ -138,7 +152,7 @@ do_by rows file =
 -- what a subcommand with these matches wants of this file
 abbrev pub asked_by : Text → List Row → Text → Option Wanted
 asked_by name rows file =
-    if bytes_eq name (codes "create") then option_map (create file) (option_and_then (number_in 64 1048576) (one_of (codes "blocks") rows))
+    if bytes_eq name (codes "create") then option_map (create file) (number_by 64 1048576 (codes "blocks") rows)
     else (if bytes_eq name (codes "run") then option_map (λ in_memory. run file in_memory (refusal_by Ignore rows)) (memory_by rows)
     else (if bytes_eq name (codes "do") then do_by rows file
     else (if bytes_eq name (codes "check") then Some (check file)
@@ -148,3 +162,19 @@ asked_by name rows file =
 abbrev pub asked_of : Option (Text × List Row) → Option Wanted
 asked_of None = None
 asked_of (Some p) = option_and_then (asked_by p.0 p.1) (first_of (codes "file") p.1)
+
+-- the job that was read, if there is one, is what a subcommand of this name with these matches wants of this file
+abbrev pub IsAsked : Text → List Row → Text → Option Job → Type 0
+IsAsked name rows file job = option_map wanted_of job ≡ asked_by name rows file
+
+-- these words ask for this job
+abbrev pub WordsAsk : List Text → Job → Type 0
+WordsAsk words job = asked_of (subcommand_of altctl words) ≡ Some (wanted_of job)
+
+-- the job that was read, if there is one, is the one that the matches of a subcommand ask for
+abbrev pub IsAskedOf : Option (Text × List Row) → Option Job → Type 0
+IsAskedOf matched job = option_map wanted_of job ≡ asked_of matched
+
+-- a command has no argument that its subcommands take too
+abbrev pub IsLocal : Command → Type 0
+IsLocal command = (out-Command command).has_globals ≡ false

@@ -65,14 +65,13 @@ impl Exit {
 ghost use Rattle.std.specs.Prelude.{◌≡◌, ◌≢◌, ◌+◌, ◌≤◌, ◌⊎◌, ◌++◌, ◌∷◌, ℕ, List, [], true, OnErr, OnOk, codes, map};
 ghost use Rattle.std.specs.Io.KnownBytes.{Appends};
 ghost use Rattle.std.specs.String.{string_bytes};
-ghost use Rattle.clap.specs.Words.{kind_of};
-ghost use Rattle.vm_cli.specs.Carried.{WritesStart};
+ghost use Rattle.vm_cli.specs.Carried.{Begins, Gains};
 ghost use Rattle.vm_types.specs.declared.refusal.Refusal.{Refusal as RefusalValue};
-ghost use Rattle.vm_disk.specs.Moments.{Throughout};
-ghost use Rattle.vm_store.specs.Formatting.{IsFormatting};
-ghost use Rattle.vm_cli.specs.Files.{Answers, Counts as CountsFile, Declines, Does, Makes};
-ghost use Rattle.vm_cli.specs.Sessions.{HasCounted, HasMade, HasMadeNone, HasRefused, HasServed, end_of as end_of_talk};
-ghost use Rattle.vm_cli.specs.Exits.{Ends, IsDone, IsHelp, MayEnd, MayRefuse, IsLineRefused, IsRefused, IsStopped, IsCutShort, IsWrong, SaysRefused, Tells, check_text, created_text, file_text, refused_text, status_of, stopped_text, unreadable_text};
+ghost use Rattle.vm_disk.specs.Between.{IfHonest};
+ghost use Rattle.vm_cli.specs.Told.{AnswersOver, FormatsOnly, MakesStore, TellsCount, TellsRefusal};
+ghost use Rattle.vm_cli.specs.Runs.{AnswersIn, CountsIn, DoesIn, MakesIn, RunsIn, disks};
+ghost use Rattle.vm_cli.specs.Sessions.{end_of as end_of_talk};
+ghost use Rattle.vm_cli.specs.Exits.{Blames, Checks, Ends, Helps, IsDone, IsLineRefused, IsRefused, IsStopped, IsWrong, JobEnds, RefusesOn, RefusesWords, StopsUnsaid, TalkEnds, TellsOn, counts_text, created_text, file_text, refused_text, status_of, stopped_text};
 ghost use Rattle.vm_cli.specs.Words.Wanted.{check as check_wanted, create as create_wanted, run as run_wanted};
 
 /// Does what the words say, of which the first is the program's name, and gives the exit status.
@@ -94,11 +93,9 @@ pub fn run_words<P: Place, R: Read, W: Write, F: Write>(
         → IsLineRefused W.contents F.contents (map string_bytes words.now) errors.old errors.new }
     // As long as the place has kept its rules, and its disks theirs, the files are what the job makes of them. Where the program stopped
     // that is said to the errors behind what the job said.
-    ensures files { (P.state place.new).honest ≡ true
-        → ((exit : Exit) × (said : F) × (result ≡ status_of exit)
-        × (exit ≢ Exit.Stopped → said ≡ errors.new)
-        × Does P.D.Disk ⟦<CachedDisk<P::D> as Disk>⟧ ⟦<DelayedDisk<P::D> as Disk>⟧ ⟦<DelayedDisk<CachedDisk<P::D>> as Disk>⟧ (place.new ≡ place.old) (P.to_write place.new ≡ P.to_write place.old) (P.denied place.new ≡ P.denied place.old + 1) (map string_bytes words.now) exit (P.state place.old) (P.state place.new)
-        (R.remaining input.old) (W.contents output.old) (W.contents output.new) (F.contents errors.old) (F.contents said)) }
+    ensures files { RunsIn (disks P.D.Disk ⟦<CachedDisk<P::D> as Disk>⟧ ⟦<DelayedDisk<P::D> as Disk>⟧ ⟦<DelayedDisk<CachedDisk<P::D>> as Disk>⟧)
+        P.state P.denied place.old place.new P.to_write (map string_bytes words.now) result
+        (R.remaining input.old) (W.contents output.old) (W.contents output.new) F.contents errors.old errors.new }
 {
     match do_job(alloc, words, place, input, output, errors) {
         Exit::Stopped => stop(errors),
@@ -109,8 +106,7 @@ pub fn run_words<P: Place, R: Read, W: Write, F: Write>(
 /// Says that one of the words is no text, and gives the exit status: 2, or 3 where that could not be
 /// said.
 pub fn refuse_words<F: Write>(errors: &mut F) -> u8
-    ensures { ((result ≡ 2) × Appends (F.contents errors.old) (F.contents errors.new) unreadable_text)
-        ⊎ ((result ≡ 3) × IsCutShort F.contents unreadable_text errors.old errors.new) }
+    ensures { RefusesWords F.contents result errors.old errors.new }
 {
     match say(errors, b"altctl: the words are not UTF-8\n") {
         Ok(()) => 2,
@@ -121,7 +117,7 @@ pub fn refuse_words<F: Write>(errors: &mut F) -> u8
 /// Says that the program stopped, where that can be said, and gives the exit status.
 pub fn stop<F: Write>(errors: &mut F) -> u8
     ensures status { result ≡ 3 }
-    ensures said { WritesStart (F.contents errors.old) (F.contents errors.new) stopped_text }
+    ensures said { Begins F.contents stopped_text errors.old errors.new }
 {
     let _ = say(errors, b"altctl: stopped\n");
     3
@@ -138,7 +134,8 @@ fn do_job<P: Place, R: Read, W: Write, F: Write>(
 ) -> Exit
     ensures ends { Ends W.contents F.contents result (map string_bytes words.now) output.old output.new errors.old errors.new }
     ensures files { (P.state place.new).honest ≡ true
-        → Does P.D.Disk ⟦<CachedDisk<P::D> as Disk>⟧ ⟦<DelayedDisk<P::D> as Disk>⟧ ⟦<DelayedDisk<CachedDisk<P::D>> as Disk>⟧ (place.new ≡ place.old) (P.to_write place.new ≡ P.to_write place.old) (P.denied place.new ≡ P.denied place.old + 1) (map string_bytes words.now) result (P.state place.old) (P.state place.new)
+        → DoesIn (disks P.D.Disk ⟦<CachedDisk<P::D> as Disk>⟧ ⟦<DelayedDisk<P::D> as Disk>⟧ ⟦<DelayedDisk<CachedDisk<P::D>> as Disk>⟧)
+        P.state P.denied place.old place.new P.to_write (map string_bytes words.now) result
         (R.remaining input.old) (W.contents output.old) (W.contents output.new) (F.contents errors.old) (F.contents errors.new) }
 {
     match job(alloc, words) {
@@ -179,12 +176,9 @@ fn create<P: Place, W: Write, F: Write>(
     output: &mut W,
     errors: &mut F,
 ) -> Exit
-    ensures says { ((errors.new ≡ errors.old)
-        × Tells Exit.Done result (W.contents output.old) (W.contents output.new) (created_text blocks))
-        ⊎ ((output.new ≡ output.old) × ((text : List ℕ) × SaysRefused (create_wanted file.now blocks) text
-        × Tells Exit.Refused result (F.contents errors.old) (F.contents errors.new) text)) }
-    ensures files { (P.state place.new).honest ≡ true
-        → Makes P.D.Disk (P.denied place.new ≡ P.denied place.old + 1) file.now blocks result (P.state place.old) (P.state place.new)
+    ensures says { JobEnds W.contents F.contents (create_wanted file.now blocks) result
+        output.old output.new errors.old errors.new }
+    ensures files { MakesIn P.D.Disk P.state P.denied place.old place.new file.now blocks result
         (W.contents output.old) (W.contents output.new) (F.contents errors.old) (F.contents errors.new) }
 {
     let Some(disk) = place.create(file, blocks) else {
@@ -203,13 +197,10 @@ fn make_store<D: Disk, W: Write, F: Write>(
     errors: &mut F,
 ) -> (Exit, D)
     // On an honest disk the new store is shown; a store that was there stands as it was.
-    ensures made { ((errors.new ≡ errors.old) × HasMade (D.state disk) (D.state result.1) blocks
-        × Tells Exit.Done result.0 (W.contents output.old) (W.contents output.new) (created_text blocks))
-        ⊎ ((output.new ≡ output.old) × ((refusal : RefusalValue) × MayRefuse refusal × HasMadeNone (D.state disk) (D.state result.1) blocks refusal
-        × Tells Exit.Refused result.0 (F.contents errors.old) (F.contents errors.new) (refused_text refusal))) }
+    ensures made { MakesStore W.contents F.contents blocks (D.state disk) (D.state result.1) result.0
+        output.old output.new errors.old errors.new }
     // At each moment nothing has changed, or all is synced; or there was no store, and a crash shows at most the new one.
-    ensures moments { (D.state result.1).honest ≡ true
-        → Throughout (D.state disk) (D.state result.1) (IsFormatting blocks (D.state disk).now) }
+    ensures moments { IfHonest D.state (FormatsOnly blocks) disk result.1 }
 {
     match format(disk, blocks) {
         Ok(disk) => (created(blocks, output), disk),
@@ -228,13 +219,11 @@ fn run<P: Place, R: Read, W: Write, F: Write>(
     output: &mut W,
     errors: &mut F,
 ) -> Exit
-    ensures says { ((errors.new ≡ errors.old) × MayEnd on_refusal result)
-        ⊎ ((output.new ≡ output.old) × ((text : List ℕ) × SaysRefused (run_wanted file.now in_memory on_refusal) text
-        × Tells Exit.Refused result (F.contents errors.old) (F.contents errors.new) text)) }
-    ensures files { (P.state place.new).honest ≡ true
-        → Answers P.D.Disk ⟦<CachedDisk<P::D> as Disk>⟧ ⟦<DelayedDisk<P::D> as Disk>⟧ ⟦<DelayedDisk<CachedDisk<P::D>> as Disk>⟧ file.now in_memory on_refusal result (P.state place.old) (P.state place.new)
-        (R.remaining input.old) (W.contents output.old) (W.contents output.new)
-        ⊎ Declines P.D.Disk (P.denied place.new ≡ P.denied place.old + 1) file.now result (P.state place.old) (P.state place.new) (F.contents errors.old) (F.contents errors.new) }
+    ensures says { JobEnds W.contents F.contents (run_wanted file.now in_memory on_refusal) result
+        output.old output.new errors.old errors.new }
+    ensures files { AnswersIn (disks P.D.Disk ⟦<CachedDisk<P::D> as Disk>⟧ ⟦<DelayedDisk<P::D> as Disk>⟧ ⟦<DelayedDisk<CachedDisk<P::D>> as Disk>⟧)
+        P.state P.denied place.old place.new file.now in_memory on_refusal result
+        (R.remaining input.old) (W.contents output.old) (W.contents output.new) (F.contents errors.old) (F.contents errors.new) }
 {
     let Some(disk) = place.find(file) else {
         return no_file(b"altctl: cannot open ", file, errors);
@@ -255,13 +244,11 @@ pub(crate) fn answer_lines<D: Disk, R: Read, W: Write, F: Write>(
     output: &mut W,
     errors: &mut F,
 ) -> (Exit, D)
-    ensures ends { ((errors.new ≡ errors.old) × MayEnd on_refusal result.0)
-        ⊎ ((output.new ≡ output.old) × ((refusal : RefusalValue) × Tells Exit.Refused result.0 (F.contents errors.old) (F.contents errors.new) (refused_text refusal))) }
+    ensures ends { TalkEnds F.contents on_refusal result.0 output.old output.new errors.old errors.new }
     // As long as the disk is honest the lines are answered as `serve` promises, from what it shows, and a crash at any moment
     // leaves what the commands so far keep; or it is said why it shows no store, and it is at most synced.
-    ensures served { HasServed D.Disk on_refusal disk result.1 result.0 (R.remaining input.old) (W.contents output.old) (W.contents output.new)
-        ⊎ ((refusal : RefusalValue) × HasRefused (D.state disk) (D.state result.1) refusal
-        × Tells Exit.Refused result.0 (F.contents errors.old) (F.contents errors.new) (refused_text refusal)) }
+    ensures served { AnswersOver D.Disk R.remaining W.contents on_refusal disk result input.old output.old output.new
+        ⊎ TellsRefusal D.Disk F.contents disk result errors.old errors.new }
 {
     match open(alloc, disk) {
         Ok(mut store) => {
@@ -296,14 +283,11 @@ fn check<P: Place, W: Write, F: Write>(
     output: &mut W,
     errors: &mut F,
 ) -> Exit
-    ensures says { ((errors.new ≡ errors.old) × ((alternatives : ℕ) × (checkpoints : ℕ) × (free : ℕ)
-        × Tells Exit.Done result (W.contents output.old) (W.contents output.new) (check_text alternatives checkpoints free)))
-        ⊎ ((output.new ≡ output.old) × ((text : List ℕ) × SaysRefused (check_wanted file.now) text
-        × Tells Exit.Refused result (F.contents errors.old) (F.contents errors.new) text)) }
+    ensures says { JobEnds W.contents F.contents (check_wanted file.now) result
+        output.old output.new errors.old errors.new }
     ensures reads { P.to_write place.new ≡ P.to_write place.old }
-    ensures files { (P.state place.new).honest ≡ true
-        → CountsFile P.D.Disk file.now result (P.state place.old) (P.state place.new) (W.contents output.old) (W.contents output.new)
-        ⊎ Declines P.D.Disk (P.denied place.new ≡ P.denied place.old + 1) file.now result (P.state place.old) (P.state place.new) (F.contents errors.old) (F.contents errors.new) }
+    ensures files { CountsIn P.D.Disk P.state P.denied place.old place.new file.now result
+        (W.contents output.old) (W.contents output.new) (F.contents errors.old) (F.contents errors.new) }
 {
     let Some(disk) = place.look(file) else {
         return no_file(b"altctl: cannot open ", file, errors);
@@ -320,16 +304,11 @@ fn check_disk<D: Disk, W: Write, F: Write>(
     output: &mut W,
     errors: &mut F,
 ) -> (Exit, D)
-    ensures ends { ((errors.new ≡ errors.old) × ((alternatives : ℕ) × (checkpoints : ℕ) × (free : ℕ)
-        × Tells Exit.Done result.0 (W.contents output.old) (W.contents output.new) (check_text alternatives checkpoints free)))
-        ⊎ ((output.new ≡ output.old) × ((refusal : RefusalValue) × Tells Exit.Refused result.0 (F.contents errors.old) (F.contents errors.new) (refused_text refusal))) }
+    ensures ends { Checks W.contents F.contents result.0 output.old output.new errors.old errors.new }
     // The numbers are those of the tree that the disk shows, or it is said why the disk was refused. At each moment nothing has changed,
     // or all is synced.
-    ensures told { ((alternatives : ℕ) × (checkpoints : ℕ) × (free : ℕ)
-        × HasCounted D.Disk disk result.1 alternatives checkpoints free
-        × Tells Exit.Done result.0 (W.contents output.old) (W.contents output.new) (check_text alternatives checkpoints free))
-        ⊎ ((refusal : RefusalValue) × HasRefused (D.state disk) (D.state result.1) refusal
-        × Tells Exit.Refused result.0 (F.contents errors.old) (F.contents errors.new) (refused_text refusal)) }
+    ensures told { TellsCount D.Disk W.contents disk result output.old output.new
+        ⊎ TellsRefusal D.Disk F.contents disk result errors.old errors.new }
 {
     match open(alloc, disk) {
         Ok(store) => {
@@ -346,7 +325,7 @@ fn check_disk<D: Disk, W: Write, F: Write>(
 
 // Says what a store holds.
 fn counted<W: Write>(counts: &Counts, output: &mut W) -> Exit
-    ensures { Tells Exit.Done result (W.contents output.old) (W.contents output.new) (check_text counts.now.alternatives counts.now.checkpoints counts.now.free) }
+    ensures { TellsOn W.contents Exit.Done result output.old output.new (counts_text counts.now) }
 {
     let mut text = Text::new();
     counts.push_onto(&mut text);
@@ -355,7 +334,7 @@ fn counted<W: Write>(counts: &Counts, output: &mut W) -> Exit
 
 // Says that a store was made.
 fn created<W: Write>(blocks: u32, output: &mut W) -> Exit
-    ensures { Tells Exit.Done result (W.contents output.old) (W.contents output.new) (created_text blocks) }
+    ensures { TellsOn W.contents Exit.Done result output.old output.new (created_text blocks) }
 {
     let mut text = Text::new();
     text.push_bytes(b"created ");
@@ -366,15 +345,15 @@ fn created<W: Write>(blocks: u32, output: &mut W) -> Exit
 
 /// Says that a file could not be made or opened.
 pub(crate) fn no_file<F: Write>(what: &[u8], file: &str, errors: &mut F) -> Exit
-    ensures { Tells Exit.Refused result (F.contents errors.old) (F.contents errors.new) (file_text what.now file.now) }
+    ensures { RefusesOn F.contents result errors.old errors.new (file_text what.now file.now) }
 {
     unless_fault(say_with_file(what, file, errors), Exit::Refused)
 }
 
 // Writes a text and the name of a file as one line, and hands it on.
 fn say_with_file<W: Write>(what: &[u8], file: &str, writer: &mut W) -> Result<(), WriteFault>
-    ensures ok { OnOk result (Appends (W.contents writer.old) (W.contents writer.new) (file_text what.now file.now)) }
-    ensures err { OnErr result (WritesStart (W.contents writer.old) (W.contents writer.new) (file_text what.now file.now)) }
+    ensures ok { OnOk result (Gains W.contents (file_text what.now file.now) writer.old writer.new) }
+    ensures err { OnErr result (Begins W.contents (file_text what.now file.now) writer.old writer.new) }
 {
     put_all(writer, what)?;
     put_all(writer, file.as_bytes())?;
@@ -383,7 +362,7 @@ fn say_with_file<W: Write>(what: &[u8], file: &str, writer: &mut W) -> Result<()
 
 /// Says why a disk is no store, or cannot become one.
 pub(crate) fn refused<F: Write>(refusal: &Refusal, errors: &mut F) -> Exit
-    ensures { Tells Exit.Refused result (F.contents errors.old) (F.contents errors.new) (refused_text refusal.now) }
+    ensures { RefusesOn F.contents result errors.old errors.new (refused_text refusal.now) }
 {
     let mut text = Text::new();
     text.push_bytes(b"altctl: ");
@@ -394,12 +373,9 @@ pub(crate) fn refused<F: Write>(refusal: &Refusal, errors: &mut F) -> Exit
 
 // Says what is wrong with the words, or gives the help that they ask for.
 fn explain<W: Write, F: Write>(alloc: Global, error: &Error, output: &mut W, errors: &mut F) -> Exit
-    ensures memory { kind_of error.now ≡ ErrorKind.OutOfMemory
-        → (result ≡ Exit.Stopped) × (output.new ≡ output.old) × (errors.new ≡ errors.old) }
-    ensures help { IsHelp (kind_of error.now) → (errors.new ≡ errors.old)
-        × ((text : List ℕ) × Tells Exit.Done result (W.contents output.old) (W.contents output.new) text) }
-    ensures wrong { (¬ IsHelp (kind_of error.now)) → (output.new ≡ output.old)
-        × ((text : List ℕ) × Tells Exit.WrongWords result (F.contents errors.old) (F.contents errors.new) text) }
+    ensures memory { StopsUnsaid error.now result output.old output.new errors.old errors.new }
+    ensures help { Helps W.contents error.now result output.old output.new errors.old errors.new }
+    ensures wrong { Blames F.contents error.now result output.old output.new errors.old errors.new }
 {
     if let ErrorKind::OutOfMemory = error.kind() {
         return Exit::Stopped;
@@ -415,8 +391,8 @@ fn explain<W: Write, F: Write>(alloc: Global, error: &Error, output: &mut W, err
 
 /// Writes a text, and hands it on.
 pub(crate) fn say<W: Write>(writer: &mut W, text: &[u8]) -> Result<(), WriteFault>
-    ensures ok { OnOk result (Appends (W.contents writer.old) (W.contents writer.new) text.now) }
-    ensures err { OnErr result (WritesStart (W.contents writer.old) (W.contents writer.new) text.now) }
+    ensures ok { OnOk result (Gains W.contents text.now writer.old writer.new) }
+    ensures err { OnErr result (Begins W.contents text.now writer.old writer.new) }
 {
     put_all(writer, text)?;
     flush(writer)

@@ -1,12 +1,12 @@
 //! The talk: lines in, answers out.
 ghost use Rattle.std.specs.Prelude.{◌≡◌, ◌≢◌, ◌⊎◌, ◌+◌, ◌≤◌, ◌++◌, ◌∷◌, ℕ, List, [], length, true, false, Err, flat_map, IfErr, IfOk, OnErr, OnOk};
 ghost use Rattle.std.specs.Io.KnownBytes.{Appends, IsAtEnd};
-ghost use Rattle.vm_cli.specs.Carried.{WritesStart, Carries};
-ghost use Rattle.vm_cli.specs.Feeding.{Fed, HandlesRequest, Replies, Writes};
+ghost use Rattle.vm_cli.specs.Carried.{Begins, Gains};
+ghost use Rattle.vm_cli.specs.Feeding.{AnswersBy, AnswersLine, EndsAmong, EndsIfFailed, FeedsLine, RepliesToLine, RepliesToRequest, ServesEach, TalkGoesOn};
 ghost use Rattle.vm_cli.specs.Lines.{IsPart, lines_of};
 ghost use Rattle.vm_cli.specs.Reading.{HoldsLine};
 ghost use Rattle.vm_cli.specs.Replies.{ends_talk, reply_text};
-ghost use Rattle.vm_cli.specs.Talk.{Failing, HandlesLine, Serves, ServesLines, answer_text, error_text};
+ghost use Rattle.vm_cli.specs.Talk.{EndsBy, FailsByDevice, StoreFails, answer_text};
 ghost use Rattle.vm_store.specs.Store.{Holds, has_failed, GoesOn, GrowsOn};
 ghost use Rattle.vm_types.specs.State.{State};
 
@@ -68,17 +68,15 @@ pub fn serve<R: Read, W: Write, D: Disk>(
     // store is left as it was.
     ensures goes { GrowsOn ⊥ store.old store.new }
     ensures ok { has_failed store.old ≡ false → OnOk result (has_failed store.new ≡ false) }
-    ensures err { has_failed store.old ≡ false
-        → IfErr result (λ fault. fault ≡ ServeFault.Store
-        → (has_failed store.new ≡ true) × Failing store.old store.new) }
+    ensures err { has_failed store.old ≡ false → IfErr result (StoreFails store.old store.new) }
     ensures left { has_failed store.old ≡ true → store.new ≡ store.old }
 
     // The lines of the input are answered one after another, each by the store that the line before left, and the store
     // stands for what their commands leave; where it failed in one, for what those before it leave, but that a crash may
     // leave what this one commits. A store that had failed answers Failed to the first command or query, and the talk ends.
     // Where a refused line is to end the talk, none before the last one is refused.
-    ensures answers { (s : State)
-        → Serves store.old store.new s on_refusal result (W.contents writer.old) (W.contents writer.new) (R.remaining reader.old) }
+    ensures answers { ServesEach W.contents on_refusal result store.old store.new
+        (R.remaining reader.old) writer.old writer.new }
 {
     let mut line = Line::new(alloc);
     let mut text = Text::new();
@@ -123,19 +121,12 @@ fn feed<W: Write, D: Disk>(
 ) -> Result<bool, ServeFault>
     ensures goes { GrowsOn ⊥ store.old store.new }
     ensures ok { has_failed store.old ≡ false → OnOk result (has_failed store.new ≡ false) }
-    ensures err { has_failed store.old ≡ false
-        → IfErr result (λ fault. (fault ≡ ServeFault.Write)
-        ⊎ ((fault ≡ ServeFault.Refused)
-        ⊎ ((fault ≡ ServeFault.Store) × (has_failed store.new ≡ true)
-        × Failing store.old store.new))) }
+    ensures err { has_failed store.old ≡ false → IfErr result (EndsBy store.old store.new) }
     ensures left { has_failed store.old ≡ true → store.new ≡ store.old }
-    ensures fed { (s : State)
-        → (from : List ℕ) → HoldsLine line.old from
-        → IfOk result (λ refused. (to : List ℕ) × HoldsLine line.new to
-        × Fed store.old store.new s on_refusal refused bytes.now from to (W.contents writer.old) (W.contents writer.new)) }
-    ensures ended { (s : State)
-        → (from : List ℕ) → HoldsLine line.old from → (more : List ℕ)
-        → OnErr result (ServesLines store.old store.new s on_refusal result (W.contents writer.old) (W.contents writer.new) (lines_of (from ++ (bytes.now ++ more)))) }
+    ensures fed { FeedsLine W.contents on_refusal bytes.now line.old line.new result
+        store.old store.new writer.old writer.new }
+    ensures ended { EndsAmong W.contents on_refusal bytes.now line.old result
+        store.old store.new writer.old writer.new }
 {
     let mut rest = bytes;
     let mut refused = false;
@@ -164,19 +155,12 @@ fn feed_line<W: Write, D: Disk>(
     requires { IsPart bytes.now }
     ensures goes { GrowsOn ⊥ store.old store.new }
     ensures ok { has_failed store.old ≡ false → OnOk result (has_failed store.new ≡ false) }
-    ensures err { has_failed store.old ≡ false
-        → IfErr result (λ fault. (fault ≡ ServeFault.Write)
-        ⊎ ((fault ≡ ServeFault.Refused)
-        ⊎ ((fault ≡ ServeFault.Store) × (has_failed store.new ≡ true)
-        × Failing store.old store.new))) }
+    ensures err { has_failed store.old ≡ false → IfErr result (EndsBy store.old store.new) }
     ensures left { has_failed store.old ≡ true → store.new ≡ store.old }
-    ensures fed { (s : State)
-        → (from : List ℕ) → HoldsLine line.old from
-        → IfOk result (λ refused. (to : List ℕ) × HoldsLine line.new to
-        × Fed store.old store.new s on_refusal refused (bytes.now ++ 10 ∷ []) from to (W.contents writer.old) (W.contents writer.new)) }
-    ensures ended { (s : State)
-        → (from : List ℕ) → HoldsLine line.old from → (more : List ℕ)
-        → OnErr result (ServesLines store.old store.new s on_refusal result (W.contents writer.old) (W.contents writer.new) (lines_of (from ++ ((bytes.now ++ 10 ∷ []) ++ more)))) }
+    ensures fed { FeedsLine W.contents on_refusal (bytes.now ++ 10 ∷ []) line.old line.new result
+        store.old store.new writer.old writer.new }
+    ensures ended { EndsAmong W.contents on_refusal (bytes.now ++ 10 ∷ []) line.old result
+        store.old store.new writer.old writer.new }
 {
     line.extend(bytes);
     match answer(alloc, line, text, writer, store, on_refusal) {
@@ -200,15 +184,10 @@ fn answer<W: Write, D: Disk>(
 ) -> Result<bool, ServeFault>
     ensures goes { GrowsOn ⊥ store.old store.new }
     ensures ok { has_failed store.old ≡ false → OnOk result (has_failed store.new ≡ false) }
-    ensures err { has_failed store.old ≡ false
-        → IfErr result (λ fault. (fault ≡ ServeFault.Write)
-        ⊎ ((fault ≡ ServeFault.Refused)
-        ⊎ ((fault ≡ ServeFault.Store) × (has_failed store.new ≡ true)
-        × Failing store.old store.new))) }
+    ensures err { has_failed store.old ≡ false → IfErr result (EndsBy store.old store.new) }
     ensures left { has_failed store.old ≡ true → store.new ≡ store.old }
-    ensures answer { (s : State)
-        → (part : List ℕ) → HoldsLine line.now part
-        → Writes on_refusal (HandlesLine store.old store.new s part) result (W.contents writer.old) (W.contents writer.new) }
+    ensures answer { AnswersLine W.contents on_refusal line.now result
+        store.old store.new writer.old writer.new }
 {
     text.clear();
     let Ok(reply) = reply_to(alloc, line, text, writer, store) else {
@@ -233,8 +212,8 @@ fn answer<W: Write, D: Disk>(
 // Writes what is left of an answer, with its last line.
 fn send<W: Write>(reply: Reply, text: &mut Text, writer: &mut W) -> Result<(), WriteFault>
     requires { length text.old + 1024 ≤ 65536 }
-    ensures ok { OnOk result (Appends (W.contents writer.old) (W.contents writer.new) (text.old ++ reply_text reply)) }
-    ensures err { OnErr result (WritesStart (W.contents writer.old) (W.contents writer.new) (text.old ++ reply_text reply)) }
+    ensures ok { OnOk result (Gains W.contents (text.old ++ reply_text reply) writer.old writer.new) }
+    ensures err { OnErr result (Begins W.contents (text.old ++ reply_text reply) writer.old writer.new) }
 {
     reply.push_onto(text);
     put_all(writer, text.as_bytes())?;
@@ -253,14 +232,11 @@ fn reply_to<W: Write, D: Disk>(
     requires { text.old ≡ [] }
     ensures room { OnOk result (length text.new + 1024 ≤ 65536) }
     ensures goes { GrowsOn ⊥ store.old store.new }
-    ensures last { has_failed store.old ≡ false
-        → IfOk result (λ reply. ends_talk reply ≡ has_failed store.new) }
-    ensures failing { has_failed store.old ≡ false → has_failed store.new ≡ true
-        → Failing store.old store.new }
+    ensures last { EndsIfFailed result store.old store.new }
+    ensures failing { FailsByDevice store.old store.new }
     ensures left { has_failed store.old ≡ true → store.new ≡ store.old }
-    ensures answer { (s : State)
-        → (part : List ℕ) → HoldsLine line.now part
-        → Replies (HandlesLine store.old store.new s part) result (W.contents writer.old) (W.contents writer.new) text.new }
+    ensures answer { RepliesToLine W.contents line.now result
+        store.old store.new writer.old writer.new text.new }
 {
     match line.kind {
         LineKind::Long => Ok(Reply::LongLine),
@@ -283,13 +259,11 @@ fn reply_to_request<W: Write, D: Disk>(
     requires { text.old ≡ [] }
     ensures room { OnOk result (length text.new + 1024 ≤ 65536) }
     ensures goes { GrowsOn ⊥ store.old store.new }
-    ensures last { has_failed store.old ≡ false
-        → IfOk result (λ reply. ends_talk reply ≡ has_failed store.new) }
-    ensures failing { has_failed store.old ≡ false → has_failed store.new ≡ true
-        → Failing store.old store.new }
+    ensures last { EndsIfFailed result store.old store.new }
+    ensures failing { FailsByDevice store.old store.new }
     ensures left { has_failed store.old ≡ true → store.new ≡ store.old }
-    ensures answer { (s : State)
-        → Replies (HandlesRequest store.old store.new s request) result (W.contents writer.old) (W.contents writer.new) text.new }
+    ensures answer { RepliesToRequest W.contents request result
+        store.old store.new writer.old writer.new text.new }
 {
     match request {
         Request::Nothing => Ok(Reply::Nothing),
@@ -311,11 +285,9 @@ fn reply_to_request<W: Write, D: Disk>(
 fn reply_to_command<D: Disk>(command: &Command, store: &mut Store<D>) -> Reply
     ensures goes { GrowsOn ⊥ store.old store.new }
     ensures last { has_failed store.old ≡ false → ends_talk result ≡ has_failed store.new }
-    ensures failing { has_failed store.old ≡ false → has_failed store.new ≡ true
-        → Failing store.old store.new }
+    ensures failing { FailsByDevice store.old store.new }
     ensures left { has_failed store.old ≡ true → store.new ≡ store.old }
-    ensures answer { (s : State)
-        → HandlesRequest store.old store.new s (Request.Command command.now) (reply_text result) (ends_talk result) }
+    ensures answer { AnswersBy (Request.Command command.now) result store.old store.new }
 {
     answered(store.apply(command))
 }
@@ -323,8 +295,7 @@ fn reply_to_command<D: Disk>(command: &Command, store: &mut Store<D>) -> Reply
 // What is answered to a command.
 fn answered(answer: Result<Answer, Refusal>) -> Reply
     ensures text { reply_text result ≡ answer_text answer }
-    ensures last { answer ≢ Err Refusal.Device → answer ≢ Err Refusal.Failed
-        → ends_talk result ≡ false }
+    ensures last { TalkGoesOn answer result }
     ensures device { answer ≡ Err Refusal.Device → ends_talk result ≡ true }
     ensures failed { answer ≡ Err Refusal.Failed → ends_talk result ≡ true }
 {
@@ -342,8 +313,7 @@ fn get<D: Disk>(alt: &Name, key: Key, store: &mut Store<D>) -> Reply
     ensures failed { has_failed store.new ≡ has_failed store.old }
     ensures last { has_failed store.old ≡ false → ends_talk result ≡ false }
     ensures left { has_failed store.old ≡ true → store.new ≡ store.old }
-    ensures answer { (s : State)
-        → HandlesRequest store.old store.new s (Request.Get alt.now key) (reply_text result) (ends_talk result) }
+    ensures answer { AnswersBy (Request.Get alt.now key) result store.old store.new }
 {
     match store.get(alt, key) {
         Ok(value) => Reply::Found(value),
@@ -354,8 +324,7 @@ fn get<D: Disk>(alt: &Name, key: Key, store: &mut Store<D>) -> Reply
 // Answers a query for the number of free blocks.
 fn free<D: Disk>(store: &Store<D>) -> Reply
     ensures last { has_failed store.now ≡ false → ends_talk result ≡ false }
-    ensures answer { (s : State)
-        → HandlesRequest store.now store.now s Request.Free (reply_text result) (ends_talk result) }
+    ensures answer { AnswersBy Request.Free result store.now store.now }
 {
     match store.free() {
         Ok(count) => Reply::Free(count),

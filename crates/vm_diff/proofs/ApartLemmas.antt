@@ -4,8 +4,8 @@ use Rattle.std.specs.List.{AllByRecursion}
 use Rattle.vm_types.specs.Places.{place, RisesFrom, places}
 use Rattle.vm_disk.specs.Disk.{Contents}
 use Rattle.vm_block.specs.Leaf.{Record}
-use Rattle.vm_block.specs.Tree.{Sizes, Subtree}
 use Rattle.vm_block.proofs.EachLemmas.{each_front, each_back, each_join}
+use Rattle.vm_tree.specs.Tree.{Sizes, Subtree}
 use Rattle.vm_tree.specs.Replacing.{Lacks, Apart}
 use Rattle.vm_tree.specs.declared.root.Root.{Root}
 use Rattle.vm_tree.proofs.ApartLemmas.{Heads, heads_begin, heads_join, heads_parts, IsTopAt, far, near, subtree_before}

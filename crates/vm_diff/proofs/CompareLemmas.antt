@@ -5,9 +5,9 @@ use Rattle.vm_types.specs.declared.key.Key.{Key}
 use Rattle.vm_types.specs.Map.{Map, delta}
 use Rattle.vm_disk.specs.Disk.{DiskState, Contents, Medium}
 use Rattle.vm_disk.proofs.MomentLemmas.{same_medium}
-use Rattle.vm_block.specs.Tree.{Sizes, Subtree}
-use Rattle.vm_block.proofs.TreeLemmas.{subtree_one}
+use Rattle.vm_tree.specs.Tree.{Sizes, Subtree}
 use Rattle.vm_tree.specs.Calls.{OnlyLooks}
+use Rattle.vm_tree.proofs.TreeLemmas.{subtree_one}
 use Rattle.vm_tree.proofs.Looking.{looks_on}
 use Rattle.vm_tree.specs.Root.{IsRooted}
 use Rattle.vm_tree.specs.declared.root.Root.{Root}

@@ -4,7 +4,7 @@ use Rattle.std.proofs.lemmas.Slice.Eq.{bytes_eq-Decides}
 use Rattle.vm_types.specs.declared.change.Change.{Change}
 use Rattle.vm_disk.specs.Disk.{Contents}
 use Rattle.vm_block.specs.Leaf.{Record}
-use Rattle.vm_block.specs.Tree.{Sizes}
+use Rattle.vm_tree.specs.Tree.{Sizes}
 use Rattle.vm_tree.specs.declared.root.Root.{Root}
 use Rattle.vm_diff.specs.Walk.{Walk, size, weight_of}
 use Rattle.vm_diff.specs.Ahead.{PassedBoth}

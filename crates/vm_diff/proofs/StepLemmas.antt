@@ -10,11 +10,11 @@ use Rattle.vm_types.proofs.Bridge.{exact_places}
 use Rattle.vm_types.proofs.ChangeLemmas.{change_of}
 use Rattle.vm_disk.specs.Disk.{Contents}
 use Rattle.vm_block.specs.Leaf.{Record}
-use Rattle.vm_block.specs.Tree.{Sizes, Subtree as LiesUnder}
-use Rattle.vm_block.proofs.TreeLemmas.{subtree_one}
+use Rattle.vm_tree.specs.Tree.{Sizes, Subtree as LiesUnder}
 use Rattle.vm_tree.specs.Answers.{OkOrDevice}
 use Rattle.vm_tree.specs.declared.root.Root.{Root}
 use Rattle.vm_tree.specs.declared.root.TreeFault.{TreeFault}
+use Rattle.vm_tree.proofs.TreeLemmas.{subtree_one}
 use Rattle.vm_tree.proofs.ApartLemmas.{all_above}
 use Rattle.vm_diff.specs.Walk.{Walk, IsAhead, Under}
 use Rattle.vm_diff.specs.Front.{Front, front_of, next_of, place_of, opened_at}

@@ -1,16 +1,21 @@
 -- How what is ahead of two walks differs.
-use Rattle.std.specs.Prelude.{◌≡◌, ℕ, ◌+◌, ◌≤◌, true, List, ◌++◌, Option, option_to_list}
+use Rattle.std.specs.Prelude.{◌≡◌, ◌↔◌, ℕ, ◌+◌, ◌≤◌, Bool, true, List, [], ◌∷◌, ◌++◌, Option, None, option_to_list, Result, IsTrue}
 use Rattle.vm_types.specs.declared.change.Change.{Change}
 use Rattle.vm_types.specs.Map.{Map, delta}
 use Rattle.vm_types.specs.Places.{FitKeys, RisesFrom, places}
 use Rattle.vm_disk.specs.Disk.{Contents, DiskState}
 use Rattle.vm_block.specs.Leaf.{Record}
-use Rattle.vm_block.specs.Tree.{Sizes}
+use Rattle.vm_tree.specs.Tree.{Sizes}
+use Rattle.vm_tree.specs.Answers.{Lists, OkOrDevice}
 use Rattle.vm_tree.specs.Root.{IsRooted}
 use Rattle.vm_tree.specs.declared.root.Root.{Root}
+use Rattle.vm_tree.specs.declared.root.TreeFault.{TreeFault}
 use Rattle.vm_diff.specs.Front.{Front, opened_at}
+use Rattle.vm_diff.specs.Front.Front.{Top}
 use Rattle.vm_diff.specs.Shared.{unshared}
+use Rattle.vm_diff.specs.Steps.{StepsBy}
 use Rattle.vm_diff.specs.Walk.{Walk, IsAhead}
+use Rattle.vm_diff.specs.declared.front.Step.{Step}
 
 -- records with rising keys
 pub record AreRising (rs : List Record) : Type 0 where
@@ -50,3 +55,48 @@ OnMaps old new limit first second P =
 abbrev pub IfDiffer : DiskState → DiskState → ℕ → Walk → Walk → (Sizes → ℕ → List Change → Type 0) → Type 0
 IfDiffer old new limit one other P =
     new.honest ≡ true → (sizes : Sizes) (most : ℕ) (changes : List Change) → Differ sizes old.now.contents limit one other old.reads most changes → P sizes most changes
+
+-- the differences of both maps are given, unless the device fails or no memory is found
+abbrev pub GivesChanges : Result (List Change) TreeFault → DiskState → DiskState → ℕ → Root → Root → Type 0
+GivesChanges result old new limit first second = OnMaps old new limit first second (λ m n bs cs. Lists result (λ changes. changes ≡ delta m n))
+
+-- whether both maps are equal is told, unless the device fails
+abbrev pub TellsEqual : Result Bool TreeFault → DiskState → DiskState → ℕ → Root → Root → Type 0
+TellsEqual result old new limit first second = OnMaps old new limit first second (λ m n bs cs. OkOrDevice result (λ equal. IsTrue equal ↔ (delta m n ≡ [])))
+
+-- no more reads were made than there are blocks that only one of the trees has
+abbrev pub ReadsUnshared : DiskState → DiskState → ℕ → Root → Root → Type 0
+ReadsUnshared old new limit first second = OnMaps old new limit first second (λ m n bs cs. new.reads ≤ old.reads + unshared bs cs)
+
+-- no more reads were made than the most of these walks
+abbrev pub ReadsWithin : DiskState → DiskState → ℕ → Walk → Walk → Type 0
+ReadsWithin old new limit one other = IfDiffer old new limit one other (λ sizes most changes. new.reads ≤ most)
+
+-- two walks made a step, and what is ahead of them then differs as it is due
+abbrev pub Steps : Result Step TreeFault → DiskState → DiskState → ℕ → Walk → Walk → Walk → Walk → Type 0
+Steps result old new limit one other one_now other_now =
+    IfDiffer old new limit one other (λ sizes most changes. StepsBy result changes (Differ sizes old.now.contents limit one_now other_now new.reads most))
+
+-- the same of a step without a read
+abbrev pub StepsUnread : Result Step TreeFault → Walk → Walk → Walk → Walk → Type 0
+StepsUnread result one other one_now other_now =
+    (sizes : Sizes) (x : Contents) (limit reads most : ℕ) (changes : List Change) → Differ sizes x limit one other reads most changes
+    → StepsBy result changes (Differ sizes x limit one_now other_now reads most)
+
+-- what is ahead of two walks differs as before
+abbrev pub DifferAsBefore : Walk → Walk → Walk → Walk → Type 0
+DifferAsBefore one other one_now other_now =
+    (sizes : Sizes) (x : Contents) (limit reads most : ℕ) (changes : List Change) → Differ sizes x limit one other reads most changes
+    → Differ sizes x limit one_now other_now reads most changes
+
+-- the first difference of what was ahead is this one, and the others are left
+abbrev pub TakesChange : Change → Walk → Walk → Walk → Walk → Type 0
+TakesChange change one other one_now other_now =
+    (sizes : Sizes) (x : Contents) (limit reads most : ℕ) (changes : List Change) → Differ sizes x limit one other reads most changes
+    → (rest : List Change) × (changes ≡ change ∷ rest) × Differ sizes x limit one_now other_now reads most rest
+
+-- what lies under this top, on a disk that is honest after the call, takes its place, unless the device fails
+abbrev pub Opens : {T : Type 0} → Result T TreeFault → DiskState → DiskState → ℕ → Root → Walk → Walk → Type 0
+Opens result old new limit top walk later =
+    new.honest ≡ true → (sizes : Sizes) (rs : List Record) (bs : List ℕ) → IsAhead sizes old.now.contents limit walk rs bs
+    → OkOrDevice result (λ _. Passes sizes old.now.contents limit (Top top) None later rs bs)

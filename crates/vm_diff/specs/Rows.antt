@@ -1,5 +1,5 @@
 -- What stands in rows of the bytes of a block.
-use Rattle.std.specs.Prelude.{ℕ, zero, suc, List, [], ◌∷◌}
+use Rattle.std.specs.Prelude.{◌≡◌, ℕ, zero, suc, ◌+◌, ◌<◌, List, [], ◌∷◌}
 use Rattle.vm_block.specs.Leaf.{Record}
 use Rattle.vm_block.specs.Row.{record_of, child_of, leaf_row, node_row}
 use Rattle.vm_block.specs.declared.node.Child.{Child}
@@ -16,3 +16,7 @@ records_from bytes i n = rows_from (λ k. record_of (leaf_row bytes k)) i n
 -- the children in so many rows of an inner block, from row i on
 unfoldable pub children_from : List ℕ → ℕ → ℕ → List Child
 children_from bytes i n = rows_from (λ k. child_of (node_row bytes k)) i n
+
+-- so many rows from these on are equal
+abbrev pub AreSameRows : (ℕ → List ℕ) → ℕ → (ℕ → List ℕ) → ℕ → ℕ → Type 0
+AreSameRows row at other other_at n = (k : ℕ) → k < n → row (at + k) ≡ other (other_at + k)

@@ -1,9 +1,9 @@
 -- Walks through trees: what lies ahead of one, and how much that is.
 use Rattle.std.specs.Prelude.{◌≡◌, ℕ, zero, suc, ◌+◌, ◌*◌, List, [], ◌∷◌, ◌++◌, length, map, drop}
 use Rattle.vm_disk.specs.Disk.{Contents}
-use Rattle.vm_block.specs.Leaf.{Record}
-use Rattle.vm_block.specs.Tree.{Sizes, BeginsWith, Subtree}
+use Rattle.vm_block.specs.Leaf.{Record, BeginsWith}
 use Rattle.vm_block.specs.declared.node.Child.{Child}
+use Rattle.vm_tree.specs.Tree.{Sizes, Subtree}
 use Rattle.vm_tree.specs.declared.root.Root.{Root}
 
 -- a walk through a tree
@@ -12,6 +12,10 @@ pub record Walk : Type 0 where
   pub pending : List Record
   -- the tops of the subtrees that come then
   pub tops : List Root
+
+-- a walk that stands before these tops
+abbrev pub walk_of : List Root → Walk
+walk_of tops = record { pending = []; tops = tops }
 
 -- the tops of subtrees of this level
 abbrev pub tops_of : ℕ → List Child → List Root

@@ -1,11 +1,10 @@
 //! The children of an inner block that come next, in the block's bytes.
-ghost use Rattle.std.specs.Prelude.{◌≡◌, ◌≢◌, ℕ, ◌+◌, ◌<◌, ◌≤◌, true, List, [], ◌∷◌, IsTrue, drop, length, OnOk};
+ghost use Rattle.std.specs.Prelude.{◌≡◌, ◌≢◌, ◌+◌, ◌<◌, ◌≤◌, [], ◌∷◌, IsTrue, drop, length, OnOk};
 ghost use Rattle.vm_block.specs.Row.{node_row};
-ghost use Rattle.vm_block.specs.declared.node.Child.{Child};
-ghost use Rattle.vm_tree.specs.Answers.{OkOrDevice};
 ghost use Rattle.vm_tree.specs.Calls.{OnlyLooks};
-ghost use Rattle.vm_tree.specs.Reading.{IsNodeAt};
 ghost use Rattle.vm_diff.specs.Ahead.{PassedBoth, first_child};
+ghost use Rattle.vm_diff.specs.Opened.{HoldsNode};
+ghost use Rattle.vm_diff.specs.Rows.{AreSameRows};
 
 use std::marker::Model;
 use vm_block::{Child, child_at, child_row, write_node};
@@ -104,9 +103,8 @@ impl Children {
         ensures memory { result ≢ Err TreeFault.Memory }
         ensures once { (D.state disk.new).reads ≤ (D.state disk.old).reads + 1 }
         ensures few { OnOk result (length self.new ≤ 256) }
-        ensures only { (D.state disk.new).honest ≡ true → (cs : List Child)
-            → IsNodeAt (D.state disk.old).now.contents blocks level block cs
-            → OkOrDevice result (λ _. self.new ≡ cs) }
+        ensures only { HoldsNode result (D.state disk.old) (D.state disk.new)
+            blocks level block self.new }
     {
         let count = node_into(disk, blocks, level, block, &mut self.bytes)?;
         self.at = 0;
@@ -126,8 +124,7 @@ fn shared_children(
     requires here { at + most ≤ 256 }
     requires there { other_at + most ≤ 256 }
     ensures most { result ≤ most }
-    ensures same { (k : ℕ) → k < result
-        → node_row one.now (at + k) ≡ node_row other.now (other_at + k) }
+    ensures same { AreSameRows (node_row one.now) at (node_row other.now) other_at result }
 {
     for i in 0..most {
         if child_row(one, at + i) != child_row(other, other_at + i) {

@@ -1,10 +1,7 @@
 //! Where two maps differ.
-ghost use Rattle.std.specs.Prelude.{◌≡◌, ◌≢◌, ◌↔◌, ℕ, ◌+◌, ◌≤◌, true, List, [], length, option_copied, IsTrue, IfSome};
-ghost use Rattle.vm_types.specs.Map.{delta};
-ghost use Rattle.vm_tree.specs.Answers.{Lists, OkOrDevice};
+ghost use Rattle.std.specs.Prelude.{◌≡◌, ◌≢◌, ◌≤◌, length, option_copied, IfSome};
 ghost use Rattle.vm_tree.specs.Calls.{OnlyLooks};
-ghost use Rattle.vm_diff.specs.Differ.{OnMaps};
-ghost use Rattle.vm_diff.specs.Shared.{unshared};
+ghost use Rattle.vm_diff.specs.Differ.{GivesChanges, ReadsUnshared, TellsEqual};
 
 use crate::cursor::Cursor;
 use crate::front::Step;
@@ -29,12 +26,11 @@ pub fn changed<D: Disk>(
 
     // On trees it is just the differences of their maps, whatever the sizes of their blocks, unless
     // the device fails or no memory is found.
-    ensures changes { OnMaps (D.state disk.old) (D.state disk.new) blocks first second
-        (λ m n bs cs. Lists result (λ changes. changes ≡ delta m n)) }
+    ensures changes { GivesChanges result (D.state disk.old) (D.state disk.new)
+        blocks first second }
 
     // It makes no more reads than there are blocks that only one of the trees has, whatever it answers.
-    ensures bound { OnMaps (D.state disk.old) (D.state disk.new) blocks first second
-        (λ m n bs cs. (D.state disk.new).reads ≤ (D.state disk.old).reads + unshared bs cs) }
+    ensures bound { ReadsUnshared (D.state disk.old) (D.state disk.new) blocks first second }
 {
     if first.block == second.block && first.level == second.level {
         return Ok(Changes::new(alloc));
@@ -53,10 +49,9 @@ fn changed_between<D: Disk>(
     requires { blocks ≤ (D.state disk.old).blocks }
     ensures looks { OnlyLooks result (D.state disk.old) (D.state disk.new) }
     ensures deep { result ≢ Err TreeFault.Deep }
-    ensures changes { OnMaps (D.state disk.old) (D.state disk.new) blocks first second
-        (λ m n bs cs. Lists result (λ changes. changes ≡ delta m n)) }
-    ensures bound { OnMaps (D.state disk.old) (D.state disk.new) blocks first second
-        (λ m n bs cs. (D.state disk.new).reads ≤ (D.state disk.old).reads + unshared bs cs) }
+    ensures changes { GivesChanges result (D.state disk.old) (D.state disk.new)
+        blocks first second }
+    ensures bound { ReadsUnshared (D.state disk.old) (D.state disk.new) blocks first second }
 {
     let Some(mut one) = Cursor::new(first) else {
         return Err(TreeFault::Damaged(first.block));
@@ -110,12 +105,10 @@ pub fn same<D: Disk>(
 
     // On trees it tells whether their maps differ nowhere, whatever the sizes of their blocks, unless
     // the device fails.
-    ensures equal { OnMaps (D.state disk.old) (D.state disk.new) blocks first second
-        (λ m n bs cs. OkOrDevice result (λ equal. IsTrue equal ↔ (delta m n ≡ []))) }
+    ensures equal { TellsEqual result (D.state disk.old) (D.state disk.new) blocks first second }
 
     // It makes no more reads than there are blocks that only one of the trees has, whatever it answers.
-    ensures bound { OnMaps (D.state disk.old) (D.state disk.new) blocks first second
-        (λ m n bs cs. (D.state disk.new).reads ≤ (D.state disk.old).reads + unshared bs cs) }
+    ensures bound { ReadsUnshared (D.state disk.old) (D.state disk.new) blocks first second }
 {
     if first.block == second.block && first.level == second.level {
         return Ok(true);
@@ -134,10 +127,8 @@ fn same_between<D: Disk>(
     ensures looks { OnlyLooks result (D.state disk.old) (D.state disk.new) }
     ensures deep { result ≢ Err TreeFault.Deep }
     ensures memory { result ≢ Err TreeFault.Memory }
-    ensures equal { OnMaps (D.state disk.old) (D.state disk.new) blocks first second
-        (λ m n bs cs. OkOrDevice result (λ equal. IsTrue equal ↔ (delta m n ≡ []))) }
-    ensures bound { OnMaps (D.state disk.old) (D.state disk.new) blocks first second
-        (λ m n bs cs. (D.state disk.new).reads ≤ (D.state disk.old).reads + unshared bs cs) }
+    ensures equal { TellsEqual result (D.state disk.old) (D.state disk.new) blocks first second }
+    ensures bound { ReadsUnshared (D.state disk.old) (D.state disk.new) blocks first second }
 {
     let Some(mut one) = Cursor::new(first) else {
         return Err(TreeFault::Damaged(first.block));

@@ -1,16 +1,11 @@
 //! A walk through a tree, by rising keys.
-ghost use Rattle.std.specs.Prelude.{◌≡◌, ◌≢◌, ℕ, ◌+◌, ◌*◌, ◌-◌, ◌^◌, ◌<◌, ◌≤◌, true, List, [], ◌∷◌, ◌++◌, length, drop, Some, None, IsTrue, IfSome, IfNone, OnOk};
-ghost use Rattle.vm_types.specs.declared.key.Key.{Key};
-ghost use Rattle.vm_types.specs.Places.{place};
-ghost use Rattle.vm_block.specs.Leaf.{Record};
-ghost use Rattle.vm_block.specs.declared.node.Child.{Child};
-ghost use Rattle.vm_tree.specs.Answers.{OkOrDevice};
+ghost use Rattle.std.specs.Prelude.{◌≡◌, ◌≢◌, ◌+◌, ◌^◌, ◌<◌, ◌≤◌, [], ◌∷◌, length, drop, IsTrue, IfSome, IfNone, OnOk};
 ghost use Rattle.vm_tree.specs.Calls.{OnlyLooks};
-ghost use Rattle.vm_tree.specs.Reading.{IsLeafAt, IsNodeAt};
-ghost use Rattle.vm_diff.specs.Walk.{Walk, into_tops, past_record, tops_of};
+ghost use Rattle.vm_diff.specs.Walk.{Walk, past_record, walk_of};
 ghost use Rattle.vm_diff.specs.Ahead.{PassedBoth, first_top, tops_in};
 ghost use Rattle.vm_diff.specs.Front.{front_of, next_of, place_of};
-ghost use Rattle.vm_diff.specs.Front.Front.{Pair, Top};
+ghost use Rattle.vm_diff.specs.Front.Front.{Top};
+ghost use Rattle.vm_diff.specs.Opened.{IsIntoRecords, IsIntoTops, IsNextValue, OpensLeaf, OpensNode, TakesNone, TakesPair};
 
 use crate::children::Children;
 use crate::front::Next;
@@ -61,10 +56,8 @@ impl Cursor {
     /// A walk through the tree under a root. None where its level is none that a tree has.
     pub(crate) fn new(root: Root) -> Option<Cursor>
         ensures none { IfNone result ((root.block ≢ 0) × (7 < root.level)) }
-        ensures empty { root.block ≡ 0
-            → IfSome result (λ walk. walk ≡ record { pending = []; tops = [] }) }
-        ensures some { root.block ≢ 0
-            → IfSome result (λ walk. walk ≡ record { pending = []; tops = root ∷ [] }) }
+        ensures empty { root.block ≡ 0 → IfSome result (λ walk. walk ≡ walk_of []) }
+        ensures some { root.block ≢ 0 → IfSome result (λ walk. walk ≡ walk_of (root ∷ [])) }
     {
         let mut levels = [
             Children::new(),
@@ -115,8 +108,7 @@ impl Cursor {
 
     /// The bytes of the value of the record that the walk stands before.
     pub(crate) fn value(&self) -> &[u8]
-        ensures value { (key : Key) (value : List ℕ) → front_of self.now ≡ Pair key value
-            → result.now ≡ value }
+        ensures value { IsNextValue result.now self.now }
         ensures short { length result.now ≤ 240 }
     {
         self.records.value()
@@ -131,11 +123,8 @@ impl Cursor {
 
     /// The value of the key, where the walk stands before its record, past which it goes then.
     pub(crate) fn take_at(&mut self, key: Key) -> Option<Value>
-        ensures there { (low : Key) (value : List ℕ) → front_of self.old ≡ Pair low value
-            → place low ≡ place key → (result ≡ Some value) × (self.new ≡ past_record self.old) }
-        ensures none { ((low : Key) (value : List ℕ) → front_of self.old ≡ Pair low value
-            → place low ≢ place key)
-            → (result ≡ None) × (self.new ≡ self.old) }
+        ensures there { TakesPair result key self.old self.new }
+        ensures none { TakesNone result key self.old self.new }
     {
         match self.records.key() {
             Some(low) if low.place() == key.place() => {
@@ -169,12 +158,9 @@ impl Cursor {
         ensures deep { result ≢ Err TreeFault.Deep }
         ensures memory { result ≢ Err TreeFault.Memory }
         ensures once { (D.state disk.new).reads ≤ (D.state disk.old).reads + 1 }
-        ensures few { OnOk result
-            ((length self.new.pending ≤ 16) × (self.new.tops ≡ drop 1 self.old.tops)) }
-        ensures only { (D.state disk.new).honest ≡ true → (rs : List Record)
-            → IsLeafAt (D.state disk.old).now.contents blocks top.block rs
-            → OkOrDevice result (λ _.
-            self.new ≡ record { pending = rs; tops = drop 1 self.old.tops }) }
+        ensures few { OnOk result (IsIntoRecords self.old self.new) }
+        ensures only { OpensLeaf result (D.state disk.old) (D.state disk.new)
+            blocks top self.old self.new }
     {
         self.levels[top.level as usize].pass();
         self.records.read(disk, blocks, top.block)
@@ -194,11 +180,9 @@ impl Cursor {
         ensures deep { result ≢ Err TreeFault.Deep }
         ensures memory { result ≢ Err TreeFault.Memory }
         ensures once { (D.state disk.new).reads ≤ (D.state disk.old).reads + 1 }
-        ensures few { OnOk result ((cs : List Child) × (length cs ≤ 256)
-            × (self.new ≡ into_tops (tops_of (top.level - 1) cs) self.old)) }
-        ensures only { (D.state disk.new).honest ≡ true → (cs : List Child)
-            → IsNodeAt (D.state disk.old).now.contents blocks top.level top.block cs
-            → OkOrDevice result (λ _. self.new ≡ into_tops (tops_of (top.level - 1) cs) self.old) }
+        ensures few { OnOk result (IsIntoTops top.level self.old self.new) }
+        ensures only { OpensNode result (D.state disk.old) (D.state disk.new)
+            blocks top self.old self.new }
     {
         self.levels[top.level as usize].pass();
         self.levels[top.level as usize - 1].read(disk, blocks, top.level, top.block)

@@ -1,8 +1,7 @@
 //! What a merge brings into an alternative: the conflicts of both sides, and the changes that it makes.
-ghost use Rattle.std.specs.Prelude.{◌≡◌, ◌++◌, ◌<◌, ◌≤◌, IsTrue, drop, map, length, slice_index_or, option_copied, option_map, option_to_list, if◌then◌else◌, Some, None, IfErr, IfOk, OnOk};
-ghost use Rattle.vm_types.specs.declared.change.Change.{Change};
-ghost use Rattle.vm_types.specs.Map.{Map, IsMap, same_value, delta, conflicts, merge};
-ghost use Rattle.vm_diff.specs.Merging.{from_key, first_at, settled_from, clash, clash_of, taken};
+ghost use Rattle.std.specs.Prelude.{◌≡◌, ◌<◌, ◌≤◌, IsTrue, drop, length, option_copied, IfErr};
+ghost use Rattle.vm_types.specs.Map.{same_value};
+ghost use Rattle.vm_diff.specs.Merging.{AddsClash, AddsKey, AddsTaken, ListsConflicts, ListsKeys, ListsMerge, TellsClash, TellsKey, from_key, settled_from};
 
 use crate::settling::{by_rising_keys, settled_rise, side_of};
 use std::alloc::{AllocError, Global};
@@ -26,8 +25,7 @@ fn place_from(changes: &Changes, from: usize, key: Key) -> usize
 /// Whether the change at a place is there and has this key.
 fn has_key(changes: &Changes, at: usize, key: Key) -> bool
     ensures there { IsTrue result → at < length changes.now }
-    ensures first { (d : Change) → first_at key (drop at changes.now)
-        ≡ (if result then Some (slice_index_or changes.now at d) else None) }
+    ensures first { TellsKey result key changes.now at }
 {
     at < changes.len() && changes.key(at).cmp(&key) == Ordering::Equal
 }
@@ -47,10 +45,7 @@ fn same_value(one: Option<&[u8]>, other: Option<&[u8]>) -> bool
 fn is_clash(theirs: &Changes, i: usize, mine: &Changes, at: usize) -> bool
     requires { i < length theirs.now }
     ensures there { IsTrue result → at < length mine.now }
-    ensures clash { (d : Change) → clash (slice_index_or theirs.now i d)
-        (first_at (slice_index_or theirs.now i d).key (drop at mine.now))
-        ≡ (if result then Some (clash_of (slice_index_or theirs.now i d)
-        (slice_index_or mine.now at d)) else None) }
+    ensures clash { TellsClash result theirs.now i mine.now at }
 {
     has_key(mine, at, theirs.key(i)) && !same_value(mine.after(at), theirs.after(i))
 }
@@ -78,9 +73,7 @@ fn add_taken(
     at: usize,
 ) -> Result<(), AllocError>
     requires { i < length theirs.now }
-    ensures { (d : Change) → OnOk result (changes.new ≡ changes.old ++ option_to_list
-        (taken settled.now (slice_index_or theirs.now i d)
-        (first_at (slice_index_or theirs.now i d).key (drop at mine.now)))) }
+    ensures { AddsTaken result settled.now theirs.now i mine.now at changes.old changes.new }
 {
     let key = theirs.key(i);
     if !has_key(mine, at, key) {
@@ -101,9 +94,7 @@ fn add_conflict(
     at: usize,
 ) -> Result<(), AllocError>
     requires { i < length theirs.now }
-    ensures { (d : Change) → OnOk result (conflicts.new ≡ conflicts.old ++ option_to_list
-        (clash (slice_index_or theirs.now i d)
-        (first_at (slice_index_or theirs.now i d).key (drop at mine.now)))) }
+    ensures { AddsClash result theirs.now i mine.now at conflicts.old conflicts.new }
 {
     if !is_clash(theirs, i, mine, at) {
         return Ok(());
@@ -125,9 +116,7 @@ fn add_key_in_conflict(
     at: usize,
 ) -> Result<(), AllocError>
     requires { i < length theirs.now }
-    ensures { (d : Change) → OnOk result (keys.new.items ≡ keys.old.items ++ option_to_list
-        (option_map (λ c. c.key) (clash (slice_index_or theirs.now i d)
-        (first_at (slice_index_or theirs.now i d).key (drop at mine.now))))) }
+    ensures { AddsKey result theirs.now i mine.now at keys.old.items keys.new.items }
 {
     if is_clash(theirs, i, mine, at) {
         keys.push(theirs.key(i))?;
@@ -143,9 +132,7 @@ pub fn conflicts_between(
     mine: &Changes,
 ) -> Result<Conflicts, Refusal>
     ensures only { IfErr result (λ refusal. refusal ≡ Refusal.Memory) }
-    ensures list { (base parent own : Map) → IsMap base → IsMap parent → IsMap own
-        → theirs.now ≡ delta base parent → mine.now ≡ delta base own
-        → IfOk result (λ list. list ≡ conflicts base parent own) }
+    ensures list { ListsConflicts result theirs.now mine.now }
 {
     let mut conflicts = Conflicts::new(alloc);
     let mut at = 0;
@@ -163,9 +150,7 @@ pub fn keys_in_conflict(
     mine: &Changes,
 ) -> Result<Vec<Key>, Refusal>
     ensures only { IfErr result (λ refusal. refusal ≡ Refusal.Memory) }
-    ensures list { (base parent own : Map) → IsMap base → IsMap parent → IsMap own
-        → theirs.now ≡ delta base parent → mine.now ≡ delta base own
-        → IfOk result (λ keys. keys.items ≡ map (λ c. c.key) (conflicts base parent own)) }
+    ensures list { ListsKeys result theirs.now mine.now }
 {
     let mut keys = Vec::new(alloc);
     let mut at = 0;
@@ -186,9 +171,7 @@ fn changes_in_turn(
     settled: &[(Key, Side)],
 ) -> Result<Changes, Refusal>
     ensures only { IfErr result (λ refusal. refusal ≡ Refusal.Memory) }
-    ensures list { (base parent own : Map) → IsMap base → IsMap parent → IsMap own
-        → theirs.now ≡ delta base parent → mine.now ≡ delta base own
-        → IfOk result (λ list. list ≡ delta own (merge base parent own settled.now)) }
+    ensures list { ListsMerge result theirs.now mine.now settled.now }
 {
     let mut changes = Changes::new(alloc);
     let mut at = 0;
@@ -212,9 +195,7 @@ pub fn changes_by_merge(
     settled: &[(Key, Side)],
 ) -> Result<Changes, Refusal>
     ensures only { IfErr result (λ refusal. refusal ≡ Refusal.Memory) }
-    ensures list { (base parent own : Map) → IsMap base → IsMap parent → IsMap own
-        → theirs.now ≡ delta base parent → mine.now ≡ delta base own
-        → IfOk result (λ list. list ≡ delta own (merge base parent own settled.now)) }
+    ensures list { ListsMerge result theirs.now mine.now settled.now }
 {
     if !settled_rise(settled)
         && let Some(sorted) = by_rising_keys(alloc, settled)

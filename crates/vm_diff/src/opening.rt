@@ -1,13 +1,10 @@
 //! Opening the subtree that a walk stands before.
-ghost use Rattle.std.specs.Prelude.{◌≡◌, ◌≢◌, ℕ, ◌+◌, ◌≤◌, ◌<◌, true, List, None, OnOk};
-ghost use Rattle.vm_block.specs.Leaf.{Record};
-ghost use Rattle.vm_block.specs.Tree.{Sizes};
-ghost use Rattle.vm_tree.specs.Answers.{OkOrDevice};
+ghost use Rattle.std.specs.Prelude.{◌≡◌, ◌≢◌, ◌+◌, ◌≤◌, ◌<◌, OnOk};
 ghost use Rattle.vm_tree.specs.Calls.{OnlyLooks};
-ghost use Rattle.vm_diff.specs.Walk.{IsAhead, size};
+ghost use Rattle.vm_diff.specs.Walk.{size};
 ghost use Rattle.vm_diff.specs.Front.{front_of};
 ghost use Rattle.vm_diff.specs.Front.Front.{Top};
-ghost use Rattle.vm_diff.specs.Differ.{Passes};
+ghost use Rattle.vm_diff.specs.Differ.{Opens};
 
 use crate::cursor::Cursor;
 use vm_disk::Disk;
@@ -27,11 +24,8 @@ pub(crate) fn open<D: Disk>(
     ensures memory { result ≢ Err TreeFault.Memory }
     ensures once { (D.state disk.new).reads ≤ (D.state disk.old).reads + 1 }
     ensures falls { OnOk result (size walk.new < size walk.old) }
-    ensures opens { (D.state disk.new).honest ≡ true
-        → (sizes : Sizes) (rs : List Record) (bs : List ℕ)
-        → IsAhead sizes (D.state disk.old).now.contents blocks walk.old rs bs
-        → OkOrDevice result (λ _. Passes sizes (D.state disk.old).now.contents blocks
-        (Top top) None walk.new rs bs) }
+    ensures opens { Opens result (D.state disk.old) (D.state disk.new)
+        blocks top walk.old walk.new }
 {
     if top.level == 0 {
         walk.open_leaf(disk, blocks, top)

@@ -1,11 +1,10 @@
 //! The records of a leaf that come next, in the leaf's bytes.
-ghost use Rattle.std.specs.Prelude.{◌≡◌, ◌≢◌, ℕ, ◌+◌, ◌<◌, ◌≤◌, true, List, [], drop, length, OnOk};
-ghost use Rattle.vm_block.specs.Leaf.{Record};
+ghost use Rattle.std.specs.Prelude.{◌≡◌, ◌≢◌, ◌+◌, ◌≤◌, [], drop, length, OnOk};
 ghost use Rattle.vm_block.specs.Row.{leaf_row};
-ghost use Rattle.vm_tree.specs.Answers.{OkOrDevice};
 ghost use Rattle.vm_tree.specs.Calls.{OnlyLooks};
-ghost use Rattle.vm_tree.specs.Reading.{IsLeafAt};
 ghost use Rattle.vm_diff.specs.Ahead.{PassedBoth, first_key, first_value};
+ghost use Rattle.vm_diff.specs.Opened.{HoldsLeaf};
+ghost use Rattle.vm_diff.specs.Rows.{AreSameRows};
 
 use std::marker::Model;
 use vm_block::{record_key, record_row, record_value};
@@ -102,9 +101,7 @@ impl Records {
         ensures memory { result ≢ Err TreeFault.Memory }
         ensures once { (D.state disk.new).reads ≤ (D.state disk.old).reads + 1 }
         ensures few { OnOk result (length self.new ≤ 16) }
-        ensures only { (D.state disk.new).honest ≡ true → (rs : List Record)
-            → IsLeafAt (D.state disk.old).now.contents blocks block rs
-            → OkOrDevice result (λ _. self.new ≡ rs) }
+        ensures only { HoldsLeaf result (D.state disk.old) (D.state disk.new) blocks block self.new }
     {
         let count = leaf_into(disk, blocks, block, &mut self.bytes)?;
         self.at = 0;
@@ -124,8 +121,7 @@ fn shared_records(
     requires here { at + most ≤ 16 }
     requires there { other_at + most ≤ 16 }
     ensures most { result ≤ most }
-    ensures same { (k : ℕ) → k < result
-        → leaf_row one.now (at + k) ≡ leaf_row other.now (other_at + k) }
+    ensures same { AreSameRows (leaf_row one.now) at (leaf_row other.now) other_at result }
 {
     for i in 0..most {
         if record_row(one, at + i) != record_row(other, other_at + i) {

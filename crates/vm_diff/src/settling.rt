@@ -1,12 +1,12 @@
 //! Settlements: the side that they give to a key, and why they are refused.
-ghost use Rattle.std.specs.Prelude.{◌≡◌, ◌↔◌, IsTrue, [], nat_lt, if◌then◌else◌, map, length, filter, Some, None, is_none, IfOk, IfErr, IfSome};
+ghost use Rattle.std.specs.Prelude.{◌≡◌, ◌↔◌, IsTrue, [], nat_lt, if◌then◌else◌, length, filter, Some, None, is_none, IfOk, IfErr, IfSome};
 ghost use Rattle.std.specs.List.{list_any};
 ghost use Rattle.std.specs.List.Sorted.{IsStrictlySortedBy};
 ghost use Rattle.std.specs.BTreeMap as tree;
 ghost use Rattle.vm_types.specs.declared.refusal.Refusal.TheVariants.{Unsettled};
 ghost use Rattle.vm_types.specs.Map.{key_cmp, same_key, side_of};
 ghost use Rattle.vm_types.specs.Step.{settled_refusal, first_repeated};
-ghost use Rattle.vm_diff.specs.Merging.{first_missing};
+ghost use Rattle.vm_diff.specs.Merging.{HasSides, IsSettledOnce, IsSettledTwice, SameSides, first_missing, settled_keys};
 
 use std::alloc::{AllocError, Global};
 use std::cmp::Ordering;
@@ -27,7 +27,7 @@ pub(crate) fn side_of(settled: &[(Key, Side)], key: Key) -> Option<Side>
 
 /// The first key that is settled twice.
 fn settled_twice(settled: &[(Key, Side)]) -> Option<Key>
-    ensures { result ≡ first_repeated [] (map (λ e. e.0) settled.now) }
+    ensures { result ≡ first_repeated [] (settled_keys settled.now) }
 {
     for (i, (key, _)) in settled.iter().enumerate() {
         if side_of(&settled[..i], *key).is_some() {
@@ -48,7 +48,7 @@ fn is_in_conflict(conflicts: &[Key], key: Key) -> bool
 
 /// The first settlement's key that is in no conflict.
 fn not_in_conflict(settled: &[(Key, Side)], conflicts: &[Key]) -> Option<Key>
-    ensures { result ≡ first_missing conflicts.now (map (λ e. e.0) settled.now) }
+    ensures { result ≡ first_missing conflicts.now (settled_keys settled.now) }
 {
     settled
         .iter()
@@ -79,7 +79,7 @@ fn unsettled_refusal(count: usize) -> Option<Refusal>
 
 /// Whether the keys of settlements rise.
 pub(crate) fn settled_rise(settled: &[(Key, Side)]) -> bool
-    ensures { IsTrue result ↔ IsStrictlySortedBy key_cmp (map (λ e. e.0) settled.now) }
+    ensures { IsTrue result ↔ IsStrictlySortedBy key_cmp (settled_keys settled.now) }
 {
     settled.is_sorted_by(|one, next| one.0.cmp(&next.0).is_lt())
 }
@@ -93,9 +93,9 @@ fn conflicts_rise(conflicts: &[Key]) -> bool
 
 /// The first settlement's key that is in no conflict, where the keys of both lists rise: one pass.
 fn first_unmatched(settled: &[(Key, Side)], conflicts: &[Key]) -> Option<Key>
-    requires settled { IsStrictlySortedBy key_cmp (map (λ e. e.0) settled.now) }
+    requires settled { IsStrictlySortedBy key_cmp (settled_keys settled.now) }
     requires conflicts { IsStrictlySortedBy key_cmp conflicts.now }
-    ensures { result ≡ first_missing conflicts.now (map (λ e. e.0) settled.now) }
+    ensures { result ≡ first_missing conflicts.now (settled_keys settled.now) }
 {
     let mut ahead = settled;
     for conflict in conflicts {
@@ -114,7 +114,7 @@ fn first_unmatched(settled: &[(Key, Side)], conflicts: &[Key]) -> Option<Key>
 /// Why settlements are refused, where they are, and the keys of both lists rise. Then none is settled
 /// twice, and each settlement that is in a conflict settles one of its own.
 fn rising_refusal(settled: &[(Key, Side)], conflicts: &[Key]) -> Option<Refusal>
-    requires settled { IsStrictlySortedBy key_cmp (map (λ e. e.0) settled.now) }
+    requires settled { IsStrictlySortedBy key_cmp (settled_keys settled.now) }
     requires conflicts { IsStrictlySortedBy key_cmp conflicts.now }
     ensures { result ≡ settled_refusal settled.now conflicts.now }
 {
@@ -129,11 +129,9 @@ fn sides_by_key(
     alloc: Global,
     settled: &[(Key, Side)],
 ) -> Result<Result<BTreeMap<Key, Side>, Key>, AllocError>
-    ensures sides { IfOk result
-        (λ found. IfOk found (λ sides. (first_repeated [] (map (λ e. e.0) settled.now) ≡ None)
-        × ((key : Key) → tree.get key_cmp sides key ≡ side_of settled.now key))) }
-    ensures twice { IfOk result
-        (λ found. IfErr found (λ key. first_repeated [] (map (λ e. e.0) settled.now) ≡ Some key)) }
+    ensures sides { IfOk result (λ found. IfOk found
+        (λ sides. IsSettledOnce settled.now × HasSides (tree.get key_cmp sides) settled.now)) }
+    ensures twice { IfOk result (λ found. IfErr found (IsSettledTwice settled.now)) }
 {
     let mut sides = BTreeMap::new(alloc);
     for (key, side) in settled {
@@ -155,7 +153,7 @@ fn is_in_rising(conflicts: &[Key], key: Key) -> bool
 /// The first settlement's key that is in no conflict, where the conflicts' keys rise.
 fn not_in_rising(settled: &[(Key, Side)], conflicts: &[Key]) -> Option<Key>
     requires { IsStrictlySortedBy key_cmp conflicts.now }
-    ensures { result ≡ first_missing conflicts.now (map (λ e. e.0) settled.now) }
+    ensures { result ≡ first_missing conflicts.now (settled_keys settled.now) }
 {
     settled
         .iter()
@@ -180,8 +178,8 @@ fn refusal_by_key(
     settled: &[(Key, Side)],
     conflicts: &[Key],
 ) -> Option<Refusal>
-    requires once { first_repeated [] (map (λ e. e.0) settled.now) ≡ None }
-    requires sides { (key : Key) → tree.get key_cmp sides.now key ≡ side_of settled.now key }
+    requires once { IsSettledOnce settled.now }
+    requires sides { HasSides (tree.get key_cmp sides.now) settled.now }
     requires conflicts { IsStrictlySortedBy key_cmp conflicts.now }
     ensures { result ≡ settled_refusal settled.now conflicts.now }
 {
@@ -232,8 +230,7 @@ fn entries_of(alloc: Global, sides: BTreeMap<Key, Side>) -> Result<Vec<(Key, Sid
 
 /// The settlements by rising keys, where none is settled twice and there is memory for them.
 pub(crate) fn by_rising_keys(alloc: Global, settled: &[(Key, Side)]) -> Option<Vec<(Key, Side)>>
-    ensures { IfSome result (λ sorted. (key : Key)
-        → side_of sorted.items key ≡ side_of settled.now key) }
+    ensures { IfSome result (λ sorted. SameSides sorted.items settled.now) }
 {
     let Ok(Ok(sides)) = sides_by_key(alloc, settled) else {
         return None;

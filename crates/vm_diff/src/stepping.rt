@@ -1,16 +1,13 @@
 //! Two walks, step by step.
-ghost use Rattle.std.specs.Prelude.{◌≡◌, ◌≢◌, ℕ, ◌+◌, ◌<◌, ◌≤◌, ◌∷◌, true, List};
-ghost use Rattle.vm_types.specs.declared.change.Change.{Change};
-ghost use Rattle.vm_types.specs.declared.key.Key.{Key};
+ghost use Rattle.std.specs.Prelude.{◌≡◌, ◌≢◌, ◌+◌, ◌<◌, ◌≤◌};
 ghost use Rattle.vm_types.specs.Places.{place};
-ghost use Rattle.vm_disk.specs.Disk.{Contents};
-ghost use Rattle.vm_block.specs.Tree.{Sizes};
 ghost use Rattle.vm_tree.specs.Calls.{OnlyLooks};
 ghost use Rattle.vm_diff.specs.Walk.{size};
 ghost use Rattle.vm_diff.specs.Front.{front_of, next_of, place_of};
 ghost use Rattle.vm_diff.specs.Front.Front.{Top};
-ghost use Rattle.vm_diff.specs.Differ.{Differ, IfDiffer};
-ghost use Rattle.vm_diff.specs.Steps.{Falls, FoundBy, Meet, StepsBy, moved_by};
+ghost use Rattle.vm_diff.specs.Differ.{ReadsWithin, Steps, StepsUnread, TakesChange};
+ghost use Rattle.vm_diff.specs.Opened.{StandsAt};
+ghost use Rattle.vm_diff.specs.Steps.{Falls, FoundBy, Meet, moved_by};
 
 use crate::cursor::Cursor;
 use crate::front::{Next, Step};
@@ -47,12 +44,9 @@ fn meet_tops<D: Disk>(
     ensures memory { result ≢ Err TreeFault.Memory }
     ensures falls { Falls result (size one.old + size other.old) (size one.new + size other.new) }
     ensures found { FoundBy result (front_of one.new) (front_of other.new) }
-    ensures bound { IfDiffer (D.state disk.old) (D.state disk.new) blocks one.old other.old
-        (λ sizes most changes. (D.state disk.new).reads ≤ most) }
-    ensures steps { IfDiffer (D.state disk.old) (D.state disk.new) blocks one.old other.old
-        (λ sizes most changes. StepsBy result changes
-        (Differ sizes (D.state disk.old).now.contents blocks one.new other.new
-        (D.state disk.new).reads most)) }
+    ensures bound { ReadsWithin (D.state disk.old) (D.state disk.new) blocks one.old other.old }
+    ensures steps { Steps result (D.state disk.old) (D.state disk.new) blocks
+        one.old other.old one.new other.new }
 {
     if first.block == second.block && first.level == second.level {
         one.skip(first);
@@ -70,14 +64,11 @@ fn meet_tops<D: Disk>(
 /// The step where both walks stand before records of one key.
 fn meet_pairs(one: &mut Cursor, other: &mut Cursor, key: Key) -> Step
     requires first { next_of (front_of one.old) ≡ Next.Record key }
-    requires second { (low : Key) × (next_of (front_of other.old) ≡ Next.Record low)
-        × (place key ≡ place low) }
+    requires second { StandsAt key other.old }
     ensures falls { Falls (Ok result) (size one.old + size other.old)
         (size one.new + size other.new) }
     ensures found { FoundBy (Ok result) (front_of one.new) (front_of other.new) }
-    ensures steps { (sizes : Sizes) (x : Contents) (limit reads most : ℕ) (changes : List Change)
-        → Differ sizes x limit one.old other.old reads most changes
-        → StepsBy (Ok result) changes (Differ sizes x limit one.new other.new reads most) }
+    ensures steps { StepsUnread (Ok result) one.old other.old one.new other.new }
 {
     if one.value() == other.value() {
         one.take();
@@ -103,12 +94,9 @@ fn meet<D: Disk>(
     ensures memory { result ≢ Err TreeFault.Memory }
     ensures falls { Falls result (size one.old + size other.old) (size one.new + size other.new) }
     ensures found { FoundBy result (front_of one.new) (front_of other.new) }
-    ensures bound { IfDiffer (D.state disk.old) (D.state disk.new) blocks one.old other.old
-        (λ sizes most changes. (D.state disk.new).reads ≤ most) }
-    ensures steps { IfDiffer (D.state disk.old) (D.state disk.new) blocks one.old other.old
-        (λ sizes most changes. StepsBy result changes
-        (Differ sizes (D.state disk.old).now.contents blocks one.new other.new
-        (D.state disk.new).reads most)) }
+    ensures bound { ReadsWithin (D.state disk.old) (D.state disk.new) blocks one.old other.old }
+    ensures steps { Steps result (D.state disk.old) (D.state disk.new) blocks
+        one.old other.old one.new other.new }
 {
     match one.next() {
         Next::Subtree(first) => match other.next() {
@@ -141,12 +129,9 @@ pub(crate) fn step<D: Disk>(
     ensures memory { result ≢ Err TreeFault.Memory }
     ensures falls { Falls result (size one.old + size other.old) (size one.new + size other.new) }
     ensures found { FoundBy result (front_of one.new) (front_of other.new) }
-    ensures bound { IfDiffer (D.state disk.old) (D.state disk.new) blocks one.old other.old
-        (λ sizes most changes. (D.state disk.new).reads ≤ most) }
-    ensures steps { IfDiffer (D.state disk.old) (D.state disk.new) blocks one.old other.old
-        (λ sizes most changes. StepsBy result changes
-        (Differ sizes (D.state disk.old).now.contents blocks one.new other.new
-        (D.state disk.new).reads most)) }
+    ensures bound { ReadsWithin (D.state disk.old) (D.state disk.new) blocks one.old other.old }
+    ensures steps { Steps result (D.state disk.old) (D.state disk.new) blocks
+        one.old other.old one.new other.new }
 {
     let (here, there) = (one.place(), other.place());
     if here < there {
@@ -170,10 +155,7 @@ pub(crate) fn step<D: Disk>(
 pub(crate) fn take_change(one: &mut Cursor, other: &mut Cursor, key: Key) -> Change
     requires { Meet key (front_of one.old) (front_of other.old) }
     ensures falls { size one.new + size other.new < size one.old + size other.old }
-    ensures change { (sizes : Sizes) (x : Contents) (limit reads most : ℕ) (changes : List Change)
-        → Differ sizes x limit one.old other.old reads most changes
-        → (rest : List Change) × (changes ≡ result ∷ rest)
-        × Differ sizes x limit one.new other.new reads most rest }
+    ensures change { TakesChange result one.old other.old one.new other.new }
 {
     let before = one.take_at(key);
     let after = other.take_at(key);

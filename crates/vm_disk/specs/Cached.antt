@@ -1,6 +1,8 @@
 -- What a `CachedDisk` shows, and which blocks it keeps.
-use Rattle.std.specs.Prelude.{◌≡◌, ℕ, ◌+◌, ◌<◌, false, List, [], length}
+use Rattle.std.specs.Prelude.{◌≡◌, ℕ, ◌+◌, ◌<◌, false, nat_eq, List, [], length, Some, Result, IsOk}
+use Rattle.std.specs.Map.{lookup, remove_entry}
 use Rattle.vm_disk.specs.declared.cached.CachedDisk.{CachedDisk}
+use Rattle.vm_disk.specs.declared.disk.DeviceFault.{DeviceFault}
 use Rattle.vm_disk.specs.Disk.{DiskState}
 use Rattle.vm_disk.specs.Kept.{Entries, UsesBlock, UsesBlocks, entries_of, keeps, limit_of, refusals_in, without_run}
 use Rattle.vm_disk.specs.Past.{noted}
@@ -34,6 +36,10 @@ module _ {D : Type 0} {members : _} where
         past = below.past;
       }
 
+  -- R holds between what is known of the disk below before and after
+  abbrev pub Below : (D → DiskState) → (DiskState → DiskState → Type 0) → CachedDisk D members → CachedDisk D members → Type 0
+  Below state R old new = R (state (inner_of old)) (state (inner_of new))
+
   -- just made over this disk: it keeps no block yet, and no read was asked of it
   pub record IsEmptyOver (disk : D) (limit : ℕ) (cached : CachedDisk D members) : Type 0 where
     pub inner : inner_of cached ≡ disk
@@ -55,6 +61,14 @@ module _ {D : Type 0} {members : _} where
     pub capacity : capacity_of new ≡ capacity_of old
     pub kept : kept_of new ≡ entries
     pub refusals : refusals_of new ≡ refusals_of old
+
+  -- it keeps block n no longer, all others as before, and asked for no memory
+  abbrev pub Loses : ℕ → CachedDisk D members → CachedDisk D members → Type 0
+  Loses n old new = KeepsJust (remove_entry (nat_eq n) (kept_of old)) old new
+
+  -- it kept block n, with these bytes: they are read, and the disk below stays as it was
+  abbrev pub Recalls : {T : Type 0} → ℕ → List ℕ → Result T DeviceFault → CachedDisk D members → CachedDisk D members → Type 0
+  Recalls n bytes result old new = (inner_of new ≡ inner_of old) × IsOk result × (lookup (nat_eq n) (kept_of old) ≡ Some bytes)
 
   -- it keeps none of so many blocks in a row from the first one on, all others as before, and asked for no memory
   pub record LosesRun (first count : ℕ) (old new : CachedDisk D members) : Type 0 where

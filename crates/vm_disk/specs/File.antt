@@ -78,6 +78,10 @@ pub record AddsZeros (from to : ℕ) (old new : FileState) : Type 0 where
   pub zero : (n : ℕ) → from ≤ n → n < to → file_block new.bytes n ≡ replicate 4096 0
   pub same_waiting : (n : ℕ) → n < from → is_touched new.waiting n ≡ is_touched old.waiting n
 
+-- the same, in a file that is long enough for the blocks before them
+abbrev pub AddsZerosIn : ℕ → ℕ → FileState → FileState → Type 0
+AddsZerosIn from to old new = 4096 * from ≤ length old.bytes → AddsZeros from to old new
+
 -- at each of these moments the file was long enough for the blocks
 abbrev pub was_whole : List Part → Bool
 was_whole [] = true
@@ -99,6 +103,10 @@ IsOver count file s = IsPart (record { file = file; blocks = count; sure = count
 -- so many blocks of this file that was just made, none of them sure, and no call was made of the disk so far
 abbrev pub IsMade : ℕ → FileState → DiskState → Type 0
 IsMade count file s = IsPart (record { file = file; blocks = count; sure = 0 }) s
+
+-- the first blocks of a file, of which so many are sure
+abbrev pub part_with : FileState → ℕ → ℕ → Part
+part_with file count sure = record { file = file; blocks = count; sure = sure }
 
 -- an honest disk of the whole blocks of this file, all of them sure
 pub record IsOpened (file : FileState) (s : DiskState) : Type 0 where
@@ -146,6 +154,27 @@ module _ {F : Type 0} where
         now = file_medium now;
         past = map file_medium past;
       }
+
+  -- a disk of so many blocks of its file, which was there
+  abbrev pub IsOverFile : (F → FileState) → ℕ → FileDisk F → Type 0
+  IsOverFile state count disk = IsOver count (state (file_of disk)) (file_state state disk)
+
+  -- a disk of so many blocks of its file, which was just made
+  abbrev pub IsMadeFile : (F → FileState) → ℕ → FileDisk F → Type 0
+  IsMadeFile state count disk = IsMade count (state (file_of disk)) (file_state state disk)
+
+  -- where its file is honest, an honest disk of the whole blocks of the file that this was
+  abbrev pub OpensFile : (F → FileState) → F → FileDisk F → Type 0
+  OpensFile state file disk = (state (file_of disk)).honest ≡ true → IsOpened (state file) (file_state state disk)
+
+  -- where its file is honest, and this file that it was had no bytes, an honest disk of zero blocks
+  abbrev pub StartsZero : (F → FileState) → F → FileDisk F → Type 0
+  StartsZero state file disk = (state (file_of disk)).honest ≡ true → (state file).bytes ≡ [] → IsZero (file_state state disk)
+
+  -- where it is honest after it, the blocks that it got were written to its file as zeros
+  abbrev pub GetsZeros : (F → FileState) → FileDisk F → FileDisk F → Type 0
+  GetsZeros state old new =
+      (file_state state new).honest ≡ true → AddsZeros old.blocks new.blocks (state (file_of old)) (state (file_of new))
 
   -- a call that its file is honest after leaves an honest disk honest
   abbrev pub StaysHonest : (F → FileState) → FileDisk F → FileDisk F → Type 0

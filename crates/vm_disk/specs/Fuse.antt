@@ -1,7 +1,7 @@
 -- What a `FuseDisk` shows, and which calls it fails.
-use Rattle.std.specs.Prelude.{◌≡◌, ℕ, ◌+◌, ◌-◌, ◌^◌, ◌==◌, ◌||◌, min, nat_le, Bool, false, if◌then◌else◌, List, length}
+use Rattle.std.specs.Prelude.{◌≡◌, ℕ, ◌+◌, ◌-◌, ◌^◌, ◌==◌, ◌||◌, min, nat_le, Bool, true, false, if◌then◌else◌, List, length}
 use Rattle.vm_disk.specs.declared.fuse.FuseDisk.{FuseDisk}
-use Rattle.vm_disk.specs.Disk.{DiskState}
+use Rattle.vm_disk.specs.Disk.{DiskState, block}
 use Rattle.vm_disk.specs.Past.{noted}
 
 module _ {D : Type 0} where
@@ -28,6 +28,10 @@ module _ {D : Type 0} where
   -- it has failed a call
   abbrev pub is_blown : FuseDisk D → Bool
   is_blown fuse = fuse.blown
+
+  -- how many calls it has failed
+  abbrev pub failed_of : FuseDisk D → ℕ
+  failed_of fuse = length (noted fuse.failed)
 
   -- the next call is one that it fails
   abbrev pub fails_next : FuseDisk D → Bool
@@ -65,7 +69,18 @@ module _ {D : Type 0} where
         blocks = below.blocks;
         honest = below.honest;
         reads = below.reads + length (noted fuse.missed);
-        failures = below.failures + length (noted fuse.failed);
+        failures = below.failures + failed_of fuse;
         now = below.now;
         past = below.past;
       }
+
+  -- a call that it does not fail: R holds between what is known of the disk below before and after
+  abbrev pub Passes : (D → DiskState) → (DiskState → DiskState → Type 0) → FuseDisk D → FuseDisk D → Type 0
+  Passes state R old new = fails_next old ≡ false → R (state (inner_of old)) (state (inner_of new))
+
+  -- a write that it fails: where the disk below is honest and did not fail it too, block n holds the bytes that such a write leaves
+  abbrev pub Tears : (D → DiskState) → ℕ → FuseDisk D → FuseDisk D → Type 0
+  Tears state n old new =
+      fails_next old ≡ true → (state (inner_of new)).honest ≡ true
+      → (state (inner_of new)).failures ≡ (state (inner_of old)).failures
+      → block (state (inner_of new)).now.contents n ≡ torn_of old

@@ -1,5 +1,5 @@
 -- The blocks that a cache keeps.
-use Rattle.std.specs.Prelude.{◌≡◌, ◌≢◌, ℕ, zero, suc, ◌+◌, ◌-◌, ◌<◌, Bool, true, if◌then◌else◌, List, [], ◌∷◌, length, map, take, nat_eq, is_some, slice_index_or, Some}
+use Rattle.std.specs.Prelude.{◌≡◌, ◌≢◌, ◌⊎◌, ℕ, zero, suc, ◌+◌, ◌-◌, ◌<◌, Bool, true, if◌then◌else◌, List, [], ◌∷◌, length, map, take, nat_eq, is_some, slice_index_or, Some}
 use Rattle.std.specs.Map.{lookup, remove_entry}
 use Rattle.vm_disk.specs.declared.kept.Kept.{Kept}
 use Rattle.vm_disk.specs.Disk.{Contents, block}
@@ -37,6 +37,16 @@ refusals_in kept = length (noted kept.refused)
 pub record Settings (old new : Kept) : Type 0 where
   pub limit : limit_of new ≡ limit_of old
   pub refusals : refusals_in new ≡ refusals_in old
+
+-- block n comes first, with these bytes, and where one more would be too many the last one goes
+abbrev pub ComesFirst : ℕ → List ℕ → Kept → Kept → Type 0
+ComesFirst n bytes old new = entries_of new ≡ with_first (limit_of old) n bytes (entries_of old)
+
+-- block n comes first so; or memory for it was refused, which is counted, and the same blocks are kept
+abbrev pub ComesFirstOrNot : ℕ → List ℕ → Kept → Kept → Type 0
+ComesFirstOrNot n bytes old new =
+    (refusals_in new ≡ refusals_in old) × ComesFirst n bytes old new
+    ⊎ ((refusals_in new ≡ refusals_in old + 1) × (entries_of new ≡ entries_of old))
 
 -- block n was used and has these bytes: it is kept, as the first, but where memory for it was refused; for a block that was kept before, none was asked
 pub record UsesBlock (n : ℕ) (bytes : List ℕ) (old new : Kept) : Type 0 where

@@ -1,11 +1,11 @@
 -- What a disk with blocks that wait over it shows.
-use Rattle.std.specs.Prelude.{◌≡◌, ℕ, false, [], ◌∷◌}
+use Rattle.std.specs.Prelude.{◌≡◌, ◌<◌, ℕ, true, false, [], ◌∷◌}
 use Rattle.vm_disk.specs.declared.layers.Layers.{Layers}
 use Rattle.vm_disk.specs.Disk.{Medium, DiskState, moment}
 use Rattle.vm_disk.specs.Moments.{Throughout, TouchesOnly}
 use Rattle.vm_disk.specs.Laid.{laid, TouchesDirty, Rest}
 use Rattle.vm_disk.specs.declared.waiting.Waiting.{Waiting}
-use Rattle.vm_disk.specs.Waiting.{bytes_for, waits}
+use Rattle.vm_disk.specs.Waiting.{bytes_for, count_of, waits}
 
 module _ {D : Type 0} {members : _} where
   -- the disk below
@@ -36,10 +36,18 @@ module _ {D : Type 0} {members : _} where
   abbrev pub called : (D → DiskState) → Layers D members → Layers D members → DiskState
   called state old new = record (layers_state state new) { past = medium_of state old ∷ [] }
 
+  -- where the disk below is honest after a call, R holds between what is known before it and what is known after it
+  abbrev pub IfHonestBelow : (D → DiskState) → (DiskState → DiskState → Type 0) → Layers D members → Layers D members → Type 0
+  IfHonestBelow state R old new = (state (lower_of new)).honest ≡ true → R (layers_state state old) (called state old new)
+
   -- blocks were written out: nothing changes above, and below only blocks that are dirty above were touched
   pub record Sends (state : D → DiskState) (old new : Layers D members) : Type 0 where
     pub same : medium_of state new ≡ medium_of state old
     pub touches : Throughout (state (lower_of old)) (state (lower_of new)) (TouchesOnly (medium_of state old).dirty (state (lower_of old)).now)
+
+  -- where block n waited, fewer blocks wait now
+  abbrev pub FewerWait : ℕ → Layers D members → Layers D members → Type 0
+  FewerWait n old new = waits (waiting_of old) n ≡ true → count_of (waiting_of new) < count_of (waiting_of old)
 
   -- a block that did not wait does not wait now
   abbrev pub WaitNoMore : Layers D members → Layers D members → Type 0

@@ -1,5 +1,7 @@
 pub mod Disk
+pub mod Between
 pub mod Past
+pub mod Filling
 pub mod Memory
 pub mod Following
 pub mod Fuse

@@ -1,8 +1,9 @@
 -- What a `MemDisk` shows.
-use Rattle.std.specs.Prelude.{◌≡◌, ℕ, ◌==◌, true, false, if◌then◌else◌, List, [], ◌∷◌, length, map, replicate, slice_index_or}
+use Rattle.std.specs.Prelude.{◌≡◌, ℕ, ◌+◌, ◌<◌, ◌==◌, ◌&&◌, true, false, if◌then◌else◌, List, [], ◌∷◌, length, map, replicate, slice_index_or}
 use Rattle.vm_disk.specs.declared.memory.Platter.{Platter}
 use Rattle.vm_disk.specs.declared.memory.MemDisk.{MemDisk}
-use Rattle.vm_disk.specs.Disk.{Medium, DiskState, IsClean}
+use Rattle.vm_disk.specs.Disk.{Medium, DiskState, IsClean, block}
+use Rattle.vm_disk.specs.Filling.{filled_up}
 use Rattle.vm_disk.specs.Past.{noted}
 
 -- its blocks, which are dirty, and how many are sure
@@ -46,3 +47,27 @@ pub record IsBlank (count : ℕ) (s : DiskState) : Type 0 where
 abbrev pub filled : List (ℕ × List ℕ) → ℕ → List ℕ → List ℕ
 filled [] n bytes = bytes
 filled (entry ∷ fill) n bytes = filled fill n (if entry.0 == n then entry.1 else bytes)
+
+-- what block n holds once each dirty block has taken the bytes of its last entry
+abbrev pub refilled : Medium → List (ℕ × List ℕ) → ℕ → List ℕ
+refilled m fill n = if m.dirty n then filled fill n (block m.contents n) else block m.contents n
+
+-- each dirty block has taken the bytes of its last entry, and the others are as they were
+abbrev pub IsRefilled : List (ℕ × List ℕ) → Medium → Medium → Type 0
+IsRefilled fill old new = (n : ℕ) → block new.contents n ≡ refilled old fill n
+
+-- so it is with the first so many blocks
+abbrev pub IsRefilledBelow : ℕ → List (ℕ × List ℕ) → Medium → Medium → Type 0
+IsRefilledBelow count fill old new = (n : ℕ) → n < count → block new.contents n ≡ refilled old fill n
+
+-- block n has taken these bytes if it is dirty, and the others are as they were
+abbrev pub IsRefilledAt : ℕ → List ℕ → Medium → Medium → Type 0
+IsRefilledAt n bytes old new = (k : ℕ) → block new.contents k ≡ (if old.dirty k && n == k then bytes else block old.contents k)
+
+-- zero blocks were added until there are so many
+abbrev pub GetsZeros : ℕ → DiskState → DiskState → Type 0
+GetsZeros count old new = new.now.contents ≡ filled_up count (replicate 4096 0) old.now.contents
+
+-- all is as it was, but that one more call failed
+abbrev pub JustFails : DiskState → DiskState → Type 0
+JustFails old new = new ≡ record old { failures = old.failures + 1 }

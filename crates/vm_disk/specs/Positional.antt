@@ -1,5 +1,5 @@
 -- What a file holds that is read and written at places, and what its calls do to it.
-use Rattle.std.specs.Prelude.{◌≡◌, ℕ, ◌+◌, ◌<◌, ◌≤◌, Bool, true, List, [], ◌∷◌, ◌++◌, length, take, drop, Result, IfOk, OnOk, OnErr}
+use Rattle.std.specs.Prelude.{◌≡◌, ℕ, ◌+◌, ◌<◌, ◌≤◌, Bool, true, List, [], ◌∷◌, ◌++◌, length, take, drop, replicate, Result, IfOk, OnOk, OnErr}
 use Rattle.std.specs.List.{flat_map}
 use Rattle.vm_disk.specs.declared.disk.DeviceFault.{DeviceFault}
 
@@ -13,6 +13,10 @@ pub record FileState : Type 0 where
   -- how many calls failed
   pub failures : ℕ
 
+-- where the file is honest after it, R holds between what is known before and what is known after
+abbrev pub IfHonestFile : {T : Type 0} → (T → FileState) → (FileState → FileState → Type 0) → T → T → Type 0
+IfHonestFile state R old new = (state new).honest ≡ true → R (state old) (state new)
+
 -- the file's bytes, with these written over them from the offset on
 abbrev pub overwritten : ℕ → List ℕ → List ℕ → List ℕ
 overwritten offset bytes old = take offset old ++ bytes ++ drop (offset + length bytes) old
@@ -20,6 +24,10 @@ overwritten offset bytes old = take offset old ++ bytes ++ drop (offset + length
 -- the bytes of blocks, one behind another
 abbrev pub joined : List (List ℕ) → List ℕ
 joined blocks = flat_map (λ bytes. bytes) blocks
+
+-- so many zero bytes
+abbrev pub zeros : ℕ → List ℕ
+zeros count = replicate count 0
 
 -- a write of some bytes, at most so many, whatever they are
 pub record IsTorn (offset count : ℕ) (old new : List ℕ) : Type 0 where
@@ -45,6 +53,10 @@ pub record WritesAt {T : Type 0} (offset : ℕ) (bytes : List ℕ) (result : Res
   pub written : OnOk result (new.bytes ≡ overwritten offset bytes old.bytes)
   pub torn : OnErr result (IsTorn offset (length bytes) old.bytes new.bytes)
   pub waiting : new.waiting ≡ (offset, length bytes) ∷ old.waiting
+
+-- the same, from an offset that lies in the file or at its end
+abbrev pub WritesIn : {T : Type 0} → ℕ → List ℕ → Result T DeviceFault → FileState → FileState → Type 0
+WritesIn offset bytes result old new = offset ≤ length old.bytes → WritesAt offset bytes result old new
 
 -- what a sync does, on a file that is honest after it
 pub record SyncsFile {T : Type 0} (result : Result T DeviceFault) (old new : FileState) : Type 0 where

@@ -5,7 +5,7 @@ use Rattle.vm_disk.specs.declared.system.Call.{Call}
 use Rattle.vm_disk.specs.declared.system.Call.TheVariants.{Created, Measured, Read, Written, Blocks, Zeroed, Torn, Withheld, Synced, Failed}
 use Rattle.vm_disk.specs.declared.system.SystemFile.{SystemFile}
 use Rattle.vm_disk.specs.Past.{noted}
-use Rattle.vm_disk.specs.Positional.{FileState, overwritten, joined}
+use Rattle.vm_disk.specs.Positional.{FileState, IfHonestFile, overwritten, joined}
 use Rattle.vm_disk.specs.Syncing.{counts_as_synced}
 
 -- what stands in a file after these calls, the newest first, where it held these bytes at first, and failed writes left those
@@ -108,3 +108,22 @@ system_state held torn file =
 pub record IsWithheld {T : Type 0} (result : Result T DeviceFault) (old new : FileState) : Type 0 where
   pub fault : OnOk result ⊥
   pub same : new.bytes ≡ old.bytes
+
+module _ {W : Type 0} (held : ℕ → List ℕ → Option (List ℕ)) (torn : ℕ → List ℕ → ℕ → List ℕ) where
+  -- a file of this name that was opened after these others, to be read alone or not, and of which these calls were made
+  abbrev pub IsAfter : Bool → List (Unit {0}) → List ℕ → List Call → SystemFile W → Type 0
+  IsAfter reads_alone opened name calls file =
+      let opening = length opened in
+      system_state held torn file ≡ state_after reads_alone (held_bytes (held opening name)) (torn opening name) calls
+
+  -- a file of this name that was opened after these others, and of which no call was made so far
+  abbrev pub IsFresh : List (Unit {0}) → List ℕ → SystemFile W → Type 0
+  IsFresh opened name file = system_state held torn file ≡ fresh (held_bytes (held (length opened) name))
+
+  -- where the file is honest after it, R holds between what it shows before and after
+  abbrev pub IfHonestIn : (FileState → FileState → Type 0) → SystemFile W → SystemFile W → Type 0
+  IfHonestIn R old new = IfHonestFile (system_state held torn) R old new
+
+  -- where the file was opened to be read alone, the write was not made
+  abbrev pub Withholds : {T : Type 0} → Result T DeviceFault → SystemFile W → SystemFile W → Type 0
+  Withholds result old new = is_read_alone old ≡ true → IsWithheld result (system_state held torn old) (system_state held torn new)

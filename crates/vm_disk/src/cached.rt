@@ -1,6 +1,7 @@
 //! A disk that keeps the blocks which were used last.
 ghost use Rattle.std.specs.Prelude.{◌≡◌, ◌+◌, ◌<◌, ◌≤◌, true, false, Some, length, nat_eq, IfOk, IfErr, OnOk, OnErr, IsOk};
 ghost use Rattle.std.specs.Map.{lookup, remove_entry};
+ghost use Rattle.vm_disk.specs.Between.{Between, IfHonest};
 ghost use Rattle.vm_disk.specs.Disk.{Counts, Reads, Writes, Idles, Forgets, Syncs, Extends, Enlarges};
 ghost use Rattle.vm_disk.specs.Moments.{WritesRun};
 ghost use Rattle.vm_disk.specs.Kept.{AreOf, entries_of};
@@ -65,7 +66,7 @@ impl<D: Disk> CachedDisk<D> {
 
 impl<D: Disk> Disk for CachedDisk<D> {
     ghost use Rattle.vm_disk.specs.Kept.{keeps};
-    ghost use Rattle.vm_disk.specs.Cached.{inner_of, kept_of, cached_state, KeepsJust, LosesRun, Uses, UsesRun};
+    ghost use Rattle.vm_disk.specs.Cached.{Below, Loses, Recalls, inner_of, kept_of, cached_state, KeepsJust, LosesRun, Uses, UsesRun};
 
     ghost state = { cached_state D.state };
 
@@ -79,19 +80,16 @@ impl<D: Disk> Disk for CachedDisk<D> {
 
     fn read(&mut self, n: u32, into: &mut [u8; 4096]) -> Result<(), DeviceFault>
         requires { n < (cached_state D.state self.old).blocks }
-        ensures any { Counts 1 result (cached_state D.state self.old) (cached_state D.state self.new) }
-        ensures honest { (cached_state D.state self.new).honest ≡ true
-            → Reads n into.new result (cached_state D.state self.old) (cached_state D.state self.new) }
+        ensures any { Between (cached_state D.state) (Counts 1 result) self.old self.new }
+        ensures honest { IfHonest (cached_state D.state) (Reads n into.new result) self.old self.new }
 
         // A kept block is copied out, and the disk below is not asked.
         ensures hit { keeps n (kept_of self.old) ≡ true
-            → (inner_of self.new ≡ inner_of self.old)
-            × IsOk result
-            × (lookup (nat_eq n) (kept_of self.old) ≡ Some into.new) }
+            → Recalls n into.new result self.old self.new }
 
         // Else it is asked once.
         ensures miss { keeps n (kept_of self.old) ≡ false
-            → Counts 1 result (D.state (inner_of self.old)) (D.state (inner_of self.new)) }
+            → Below D.state (Counts 1 result) self.old self.new }
         ensures kept { OnOk result (Uses n into.new self.old self.new) }
         ensures failed { OnErr result (KeepsJust (kept_of self.old) self.old self.new) }
     {
@@ -99,26 +97,21 @@ impl<D: Disk> Disk for CachedDisk<D> {
         if self.kept.recall(n, into) {
             return Ok(());
         }
-        match self.inner.read(n, into) {
-            Ok(()) => {
-                self.kept.keep(n, into);
-                Ok(())
-            }
-            Err(fault) => Err(fault),
-        }
+        self.inner.read(n, into)?;
+        self.kept.keep(n, into);
+        Ok(())
     }
 
     fn write(&mut self, n: u32, from: &[u8; 4096]) -> Result<(), DeviceFault>
         requires { n < (cached_state D.state self.old).blocks }
-        ensures any { Counts 0 result (cached_state D.state self.old) (cached_state D.state self.new) }
-        ensures honest { (cached_state D.state self.new).honest ≡ true
-            → Writes n from.now result (cached_state D.state self.old) (cached_state D.state self.new) }
+        ensures any { Between (cached_state D.state) (Counts 0 result) self.old self.new }
+        ensures honest { IfHonest (cached_state D.state) (Writes n from.now result) self.old self.new }
 
-        ensures passed { Counts 0 result (D.state (inner_of self.old)) (D.state (inner_of self.new)) }
+        ensures passed { Below D.state (Counts 0 result) self.old self.new }
         ensures kept { OnOk result (Uses n from.now self.old self.new) }
 
         // A block whose write failed is not kept.
-        ensures failed { OnErr result (KeepsJust (remove_entry (nat_eq n) (kept_of self.old)) self.old self.new) }
+        ensures failed { OnErr result (Loses n self.old self.new) }
         ensures gone { OnErr result (keeps n (kept_of self.new) ≡ false) }
     {
         match self.inner.write(n, from) {
@@ -135,12 +128,11 @@ impl<D: Disk> Disk for CachedDisk<D> {
 
     fn write_run(&mut self, n: u32, blocks: &[[u8; 4096]]) -> Result<(), DeviceFault>
         requires { n + length blocks.now ≤ (cached_state D.state self.old).blocks }
-        ensures any { Counts 0 result (cached_state D.state self.old) (cached_state D.state self.new) }
-        ensures honest { (cached_state D.state self.new).honest ≡ true
-            → WritesRun n blocks.now result (cached_state D.state self.old) (cached_state D.state self.new) }
+        ensures any { Between (cached_state D.state) (Counts 0 result) self.old self.new }
+        ensures honest { IfHonest (cached_state D.state) (WritesRun n blocks.now result) self.old self.new }
 
         // The disk below is asked once for all of them.
-        ensures passed { Counts 0 result (D.state (inner_of self.old)) (D.state (inner_of self.new)) }
+        ensures passed { Below D.state (Counts 0 result) self.old self.new }
         ensures kept { OnOk result (UsesRun n blocks.now self.old self.new) }
 
         // Where that failed, none of them is kept.
@@ -160,11 +152,10 @@ impl<D: Disk> Disk for CachedDisk<D> {
 
     fn forget(&mut self, n: u32)
         requires { n < (cached_state D.state self.old).blocks }
-        ensures any { Idles (cached_state D.state self.old) (cached_state D.state self.new) }
-        ensures honest { (cached_state D.state self.new).honest ≡ true
-            → Forgets n (cached_state D.state self.old) (cached_state D.state self.new) }
+        ensures any { Between (cached_state D.state) Idles self.old self.new }
+        ensures honest { IfHonest (cached_state D.state) (Forgets n) self.old self.new }
 
-        ensures kept { KeepsJust (remove_entry (nat_eq n) (kept_of self.old)) self.old self.new }
+        ensures kept { Loses n self.old self.new }
         ensures gone { keeps n (kept_of self.new) ≡ false }
     {
         self.inner.forget(n);
@@ -172,11 +163,10 @@ impl<D: Disk> Disk for CachedDisk<D> {
     }
 
     fn sync(&mut self) -> Result<(), DeviceFault>
-        ensures any { Counts 0 result (cached_state D.state self.old) (cached_state D.state self.new) }
-        ensures honest { (cached_state D.state self.new).honest ≡ true
-            → Syncs result (cached_state D.state self.old) (cached_state D.state self.new) }
+        ensures any { Between (cached_state D.state) (Counts 0 result) self.old self.new }
+        ensures honest { IfHonest (cached_state D.state) (Syncs result) self.old self.new }
 
-        ensures passed { Counts 0 result (D.state (inner_of self.old)) (D.state (inner_of self.new)) }
+        ensures passed { Below D.state (Counts 0 result) self.old self.new }
         ensures kept { KeepsJust (kept_of self.old) self.old self.new }
     {
         self.inner.sync()
@@ -184,11 +174,10 @@ impl<D: Disk> Disk for CachedDisk<D> {
 
     fn extend(&mut self, blocks: u32) -> Result<(), DeviceFault>
         requires { (cached_state D.state self.old).blocks ≤ blocks }
-        ensures any { Extends blocks result (cached_state D.state self.old) (cached_state D.state self.new) }
-        ensures honest { (cached_state D.state self.new).honest ≡ true
-            → Enlarges (cached_state D.state self.old) (cached_state D.state self.new) }
+        ensures any { Between (cached_state D.state) (Extends blocks result) self.old self.new }
+        ensures honest { IfHonest (cached_state D.state) Enlarges self.old self.new }
 
-        ensures passed { Extends blocks result (D.state (inner_of self.old)) (D.state (inner_of self.new)) }
+        ensures passed { Below D.state (Extends blocks result) self.old self.new }
         ensures kept { KeepsJust (kept_of self.old) self.old self.new }
     {
         self.inner.extend(blocks)

@@ -44,15 +44,13 @@ impl<D: Disk> DelayedDisk<D> {
             return Err(inner);
         };
         let first = Snapshot::of(&inner);
-        match Layers::new(alloc, inner, limit) {
-            Ok(layers) => Ok(DelayedDisk {
-                layers,
-                past: History::new(),
-                reads: History::new(),
-                first,
-            }),
-            Err(inner) => Err(inner),
-        }
+        let layers = Layers::new(alloc, inner, limit)?;
+        Ok(DelayedDisk {
+            layers,
+            past: History::new(),
+            reads: History::new(),
+            first,
+        })
     }
 
     /// The disk below, to look at. What a crash of it leaves, one of this disk may leave, at the moment

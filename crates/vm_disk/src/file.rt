@@ -1,8 +1,9 @@
 //! A file as a disk.
 ghost use Rattle.std.specs.Prelude.{◌≡◌, ◌+◌, ◌<◌, ◌≤◌, ◌^◌, ◌/◌, ◌*◌, true, [], length, IfOk, OnOk};
+ghost use Rattle.vm_disk.specs.Between.{Between, IfHonest};
 ghost use Rattle.vm_disk.specs.Disk.{Counts, Reads, Writes, Idles, Forgets, Syncs, Extends, Enlarges};
 ghost use Rattle.vm_disk.specs.Moments.{WritesRun};
-ghost use Rattle.vm_disk.specs.Positional.{CountsFailures};
+ghost use Rattle.vm_disk.specs.Positional.{IfHonestFile, CountsFailures};
 
 use crate::disk::{DeviceFault, Disk};
 use crate::history::History;
@@ -56,17 +57,14 @@ fn offset_of(n: u32) -> u64
 }
 
 impl<F: Positional> FileDisk<F> {
-    ghost use Rattle.vm_disk.specs.File.{file_left, file_of, file_state, part_of, part_then, IsPart, IsOver, IsMade, IsOpened, IsZero, AddsZeros};
+    ghost use Rattle.vm_disk.specs.File.{file_left, file_of, file_state, part_of, part_then, part_with, IsPart, IsOver, IsOverFile, IsMadeFile, OpensFile, StartsZero, AddsZerosIn};
 
     /// The whole blocks of a file, at most 4,294,967,295. Where the file does not tell how many bytes it
     /// has, it comes back.
     pub fn open(mut file: F) -> Result<FileDisk<F>, F>
         ensures any { CountsFailures result (F.state file) (F.state (file_left result)) }
-        ensures over { IfOk result (λ disk.
-            IsOver disk.blocks (F.state (file_of disk)) (file_state F.state disk)) }
-        ensures opened { IfOk result (λ disk.
-            (F.state (file_of disk)).honest ≡ true
-            → IsOpened (F.state file) (file_state F.state disk)) }
+        ensures over { IfOk result (λ disk. IsOverFile F.state disk.blocks disk) }
+        ensures opened { IfOk result (OpensFile F.state file) }
     {
         let Ok(len) = file.len() else {
             return Err(file);
@@ -79,12 +77,8 @@ impl<F: Positional> FileDisk<F> {
     /// before a sync. Where they could not all be written, the file comes back.
     pub fn create(mut file: F, blocks: u32) -> Result<FileDisk<F>, F>
         ensures any { CountsFailures result (F.state file) (F.state (file_left result)) }
-        ensures made { IfOk result (λ disk.
-            IsMade blocks (F.state (file_of disk)) (file_state F.state disk)) }
-        ensures created { IfOk result (λ disk.
-            (F.state (file_of disk)).honest ≡ true
-            → (F.state file).bytes ≡ []
-            → IsZero (file_state F.state disk)) }
+        ensures made { IfOk result (IsMadeFile F.state blocks) }
+        ensures created { IfOk result (StartsZero F.state file) }
     {
         match FileDisk::write_zeros(&mut file, &mut 0, blocks) {
             Ok(()) => Ok(FileDisk::part(file, blocks, 0)),
@@ -104,8 +98,7 @@ impl<F: Positional> FileDisk<F> {
     fn part(file: F, blocks: u32, sure: u32) -> FileDisk<F>
         requires { sure ≤ blocks }
         ensures file { file_of result ≡ file }
-        ensures part { IsPart (record { file = F.state file; blocks = blocks; sure = sure })
-            (file_state F.state result) }
+        ensures part { IsPart (part_with (F.state file) blocks sure) (file_state F.state result) }
     {
         FileDisk {
             file,
@@ -137,9 +130,7 @@ impl<F: Positional> FileDisk<F> {
         ensures least { done.old ≤ done.new }
         ensures most { done.new ≤ blocks }
         ensures all { OnOk result (done.new ≡ blocks) }
-        ensures added { (F.state file.new).honest ≡ true
-            → 4096 * done.old ≤ length (F.state file.old).bytes
-            → AddsZeros done.old done.new (F.state file.old) (F.state file.new) }
+        ensures added { IfHonestFile F.state (AddsZerosIn done.old done.new) file.old file.new }
     {
         while *done < blocks {
             let more = (blocks - *done).min(AT_ONCE);
@@ -159,7 +150,7 @@ impl<F: Positional> FileDisk<F> {
 
 impl<F: Positional> Disk for FileDisk<F> {
     ghost use Rattle.std.proofs.lemmas.List.FromFn.{length-map-range_with_len};
-    ghost use Rattle.vm_disk.specs.File.{file_state, file_of, AddsZeros, StaysHonest};
+    ghost use Rattle.vm_disk.specs.File.{GetsZeros, file_state, file_of, AddsZeros, StaysHonest};
 
     ghost state = { file_state F.state };
 
@@ -173,9 +164,8 @@ impl<F: Positional> Disk for FileDisk<F> {
 
     fn read(&mut self, n: u32, into: &mut [u8; 4096]) -> Result<(), DeviceFault>
         requires { n < (file_state F.state self.old).blocks }
-        ensures any { Counts 1 result (file_state F.state self.old) (file_state F.state self.new) }
-        ensures honest { (file_state F.state self.new).honest ≡ true
-            → Reads n into.new result (file_state F.state self.old) (file_state F.state self.new) }
+        ensures any { Between (file_state F.state) (Counts 1 result) self.old self.new }
+        ensures honest { IfHonest (file_state F.state) (Reads n into.new result) self.old self.new }
 
         ensures stays { StaysHonest F.state self.old self.new }
     {
@@ -187,9 +177,8 @@ impl<F: Positional> Disk for FileDisk<F> {
 
     fn write(&mut self, n: u32, from: &[u8; 4096]) -> Result<(), DeviceFault>
         requires { n < (file_state F.state self.old).blocks }
-        ensures any { Counts 0 result (file_state F.state self.old) (file_state F.state self.new) }
-        ensures honest { (file_state F.state self.new).honest ≡ true
-            → Writes n from.now result (file_state F.state self.old) (file_state F.state self.new) }
+        ensures any { Between (file_state F.state) (Counts 0 result) self.old self.new }
+        ensures honest { IfHonest (file_state F.state) (Writes n from.now result) self.old self.new }
 
         ensures stays { StaysHonest F.state self.old self.new }
     {
@@ -200,9 +189,8 @@ impl<F: Positional> Disk for FileDisk<F> {
 
     fn write_run(&mut self, n: u32, blocks: &[[u8; 4096]]) -> Result<(), DeviceFault>
         requires { n + length blocks.now ≤ (file_state F.state self.old).blocks }
-        ensures any { Counts 0 result (file_state F.state self.old) (file_state F.state self.new) }
-        ensures honest { (file_state F.state self.new).honest ≡ true
-            → WritesRun n blocks.now result (file_state F.state self.old) (file_state F.state self.new) }
+        ensures any { Between (file_state F.state) (Counts 0 result) self.old self.new }
+        ensures honest { IfHonest (file_state F.state) (WritesRun n blocks.now result) self.old self.new }
 
         ensures stays { StaysHonest F.state self.old self.new }
     {
@@ -213,9 +201,8 @@ impl<F: Positional> Disk for FileDisk<F> {
 
     fn forget(&mut self, n: u32)
         requires { n < (file_state F.state self.old).blocks }
-        ensures any { Idles (file_state F.state self.old) (file_state F.state self.new) }
-        ensures honest { (file_state F.state self.new).honest ≡ true
-            → Forgets n (file_state F.state self.old) (file_state F.state self.new) }
+        ensures any { Between (file_state F.state) Idles self.old self.new }
+        ensures honest { IfHonest (file_state F.state) (Forgets n) self.old self.new }
 
         ensures file { file_of self.new ≡ file_of self.old }
         ensures stays { StaysHonest F.state self.old self.new }
@@ -226,33 +213,26 @@ impl<F: Positional> Disk for FileDisk<F> {
     }
 
     fn sync(&mut self) -> Result<(), DeviceFault>
-        ensures any { Counts 0 result (file_state F.state self.old) (file_state F.state self.new) }
-        ensures honest { (file_state F.state self.new).honest ≡ true
-            → Syncs result (file_state F.state self.old) (file_state F.state self.new) }
+        ensures any { Between (file_state F.state) (Counts 0 result) self.old self.new }
+        ensures honest { IfHonest (file_state F.state) (Syncs result) self.old self.new }
 
         ensures stays { StaysHonest F.state self.old self.new }
     {
         let was = self.earlier();
         self.past.note(&was);
-        match self.file.sync() {
-            Ok(()) => {
-                self.sure = self.blocks;
-                self.forgotten = History::new();
-                Ok(())
-            }
-            Err(fault) => Err(fault),
-        }
+        self.file.sync()?;
+        self.sure = self.blocks;
+        self.forgotten = History::new();
+        Ok(())
     }
 
     fn extend(&mut self, blocks: u32) -> Result<(), DeviceFault>
         requires { (file_state F.state self.old).blocks ≤ blocks }
-        ensures any { Extends blocks result (file_state F.state self.old) (file_state F.state self.new) }
-        ensures honest { (file_state F.state self.new).honest ≡ true
-            → Enlarges (file_state F.state self.old) (file_state F.state self.new) }
+        ensures any { Between (file_state F.state) (Extends blocks result) self.old self.new }
+        ensures honest { IfHonest (file_state F.state) Enlarges self.old self.new }
 
         // The new blocks are written to the file as zeros.
-        ensures zero { (file_state F.state self.new).honest ≡ true
-            → AddsZeros self.old.blocks self.new.blocks (F.state (file_of self.old)) (F.state (file_of self.new)) }
+        ensures zero { GetsZeros F.state self.old self.new }
         ensures stays { StaysHonest F.state self.old self.new }
     {
         let was = self.earlier();

@@ -1,5 +1,6 @@
 //! A disk that fails at a call which a test picks.
 ghost use Rattle.std.specs.Prelude.{◌≡◌, ◌+◌, ◌-◌, ◌<◌, ◌≤◌, ◌^◌, ◌||◌, true, false, min, if◌then◌else◌, length, IsErr};
+ghost use Rattle.vm_disk.specs.Between.{Between, IfHonest};
 ghost use Rattle.vm_disk.specs.Disk.{block, Counts, Reads, Writes, Idles, Forgets, Syncs, Extends, Enlarges};
 
 use crate::disk::{DeviceFault, Disk};
@@ -22,7 +23,7 @@ pub struct FuseDisk<D: Disk> {
 
 impl<D: Disk> FuseDisk<D> {
     ghost use Rattle.vm_disk.specs.Past.{noted};
-    ghost use Rattle.vm_disk.specs.Fuse.{inner_of, passes_of, is_stop, torn_of, calls_of, is_blown, fails_next, IsSet, fuse_state};
+    ghost use Rattle.vm_disk.specs.Fuse.{inner_of, passes_of, is_stop, torn_of, calls_of, is_blown, failed_of, fails_next, IsSet, fuse_state};
 
     /// Passes k device calls, fails the next, and goes on. The greatest u32 is no k, since the count of
     /// calls stays there.
@@ -97,8 +98,7 @@ impl<D: Disk> FuseDisk<D> {
         ensures calls { calls_of self.new ≡ min (calls_of self.old + 1) (2 ^ 32 - 1) }
         ensures blown { is_blown self.new ≡ (is_blown self.old || result) }
         ensures missed { self.new.missed ≡ self.old.missed }
-        ensures failed { length (noted self.new.failed)
-            ≡ length (noted self.old.failed) + (if result then 1 else 0) }
+        ensures failed { failed_of self.new ≡ failed_of self.old + (if result then 1 else 0) }
     {
         let fails = if self.stops {
             self.passes <= self.calls
@@ -115,7 +115,7 @@ impl<D: Disk> FuseDisk<D> {
 }
 
 impl<D: Disk> Disk for FuseDisk<D> {
-    ghost use Rattle.vm_disk.specs.Fuse.{inner_of, torn_of, fails_next, Burns, Stays, fuse_state};
+    ghost use Rattle.vm_disk.specs.Fuse.{Passes, Tears, inner_of, torn_of, fails_next, Burns, Stays, fuse_state};
 
     ghost state = { fuse_state D.state };
 
@@ -129,13 +129,11 @@ impl<D: Disk> Disk for FuseDisk<D> {
 
     fn read(&mut self, n: u32, into: &mut [u8; 4096]) -> Result<(), DeviceFault>
         requires { n < (fuse_state D.state self.old).blocks }
-        ensures any { Counts 1 result (fuse_state D.state self.old) (fuse_state D.state self.new) }
-        ensures honest { (fuse_state D.state self.new).honest ≡ true
-            → Reads n into.new result (fuse_state D.state self.old) (fuse_state D.state self.new) }
+        ensures any { Between (fuse_state D.state) (Counts 1 result) self.old self.new }
+        ensures honest { IfHonest (fuse_state D.state) (Reads n into.new result) self.old self.new }
 
         ensures burns { Burns self.old self.new }
-        ensures passed { fails_next self.old ≡ false
-            → Counts 1 result (D.state (inner_of self.old)) (D.state (inner_of self.new)) }
+        ensures passed { Passes D.state (Counts 1 result) self.old self.new }
         ensures failed { fails_next self.old ≡ true → IsErr result }
         ensures kept { fails_next self.old ≡ true → inner_of self.new ≡ inner_of self.old }
     {
@@ -148,20 +146,15 @@ impl<D: Disk> Disk for FuseDisk<D> {
 
     fn write(&mut self, n: u32, from: &[u8; 4096]) -> Result<(), DeviceFault>
         requires { n < (fuse_state D.state self.old).blocks }
-        ensures any { Counts 0 result (fuse_state D.state self.old) (fuse_state D.state self.new) }
-        ensures honest { (fuse_state D.state self.new).honest ≡ true
-            → Writes n from.now result (fuse_state D.state self.old) (fuse_state D.state self.new) }
+        ensures any { Between (fuse_state D.state) (Counts 0 result) self.old self.new }
+        ensures honest { IfHonest (fuse_state D.state) (Writes n from.now result) self.old self.new }
 
         ensures burns { Burns self.old self.new }
-        ensures passed { fails_next self.old ≡ false
-            → Counts 0 result (D.state (inner_of self.old)) (D.state (inner_of self.new)) }
+        ensures passed { Passes D.state (Counts 0 result) self.old self.new }
         ensures failed { fails_next self.old ≡ true → IsErr result }
 
         // Where the write of those bytes fails below too, the block holds any bytes.
-        ensures torn { fails_next self.old ≡ true
-            → (D.state (inner_of self.new)).honest ≡ true
-            → (D.state (inner_of self.new)).failures ≡ (D.state (inner_of self.old)).failures
-            → block (D.state (inner_of self.new)).now.contents n ≡ torn_of self.old }
+        ensures torn { Tears D.state n self.old self.new }
     {
         if self.fails() {
             let _ = self.inner.write(n, &self.torn);
@@ -172,9 +165,8 @@ impl<D: Disk> Disk for FuseDisk<D> {
 
     fn forget(&mut self, n: u32)
         requires { n < (fuse_state D.state self.old).blocks }
-        ensures any { Idles (fuse_state D.state self.old) (fuse_state D.state self.new) }
-        ensures honest { (fuse_state D.state self.new).honest ≡ true
-            → Forgets n (fuse_state D.state self.old) (fuse_state D.state self.new) }
+        ensures any { Between (fuse_state D.state) Idles self.old self.new }
+        ensures honest { IfHonest (fuse_state D.state) (Forgets n) self.old self.new }
 
         ensures stays { Stays self.old self.new }
     {
@@ -182,13 +174,11 @@ impl<D: Disk> Disk for FuseDisk<D> {
     }
 
     fn sync(&mut self) -> Result<(), DeviceFault>
-        ensures any { Counts 0 result (fuse_state D.state self.old) (fuse_state D.state self.new) }
-        ensures honest { (fuse_state D.state self.new).honest ≡ true
-            → Syncs result (fuse_state D.state self.old) (fuse_state D.state self.new) }
+        ensures any { Between (fuse_state D.state) (Counts 0 result) self.old self.new }
+        ensures honest { IfHonest (fuse_state D.state) (Syncs result) self.old self.new }
 
         ensures burns { Burns self.old self.new }
-        ensures passed { fails_next self.old ≡ false
-            → Counts 0 result (D.state (inner_of self.old)) (D.state (inner_of self.new)) }
+        ensures passed { Passes D.state (Counts 0 result) self.old self.new }
         ensures failed { fails_next self.old ≡ true → IsErr result }
         ensures kept { fails_next self.old ≡ true → inner_of self.new ≡ inner_of self.old }
     {
@@ -200,13 +190,11 @@ impl<D: Disk> Disk for FuseDisk<D> {
 
     fn extend(&mut self, blocks: u32) -> Result<(), DeviceFault>
         requires { (fuse_state D.state self.old).blocks ≤ blocks }
-        ensures any { Extends blocks result (fuse_state D.state self.old) (fuse_state D.state self.new) }
-        ensures honest { (fuse_state D.state self.new).honest ≡ true
-            → Enlarges (fuse_state D.state self.old) (fuse_state D.state self.new) }
+        ensures any { Between (fuse_state D.state) (Extends blocks result) self.old self.new }
+        ensures honest { IfHonest (fuse_state D.state) Enlarges self.old self.new }
 
         ensures burns { Burns self.old self.new }
-        ensures passed { fails_next self.old ≡ false
-            → Extends blocks result (D.state (inner_of self.old)) (D.state (inner_of self.new)) }
+        ensures passed { Passes D.state (Extends blocks result) self.old self.new }
         ensures failed { fails_next self.old ≡ true → IsErr result }
         ensures kept { fails_next self.old ≡ true → inner_of self.new ≡ inner_of self.old }
     {

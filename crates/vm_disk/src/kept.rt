@@ -29,7 +29,7 @@ fn fill(room: &mut Room, bytes: &[u8; 4096])
 }
 
 impl Kept {
-    ghost use Rattle.vm_disk.specs.Kept.{entries_of, limit_of, refusals_in, keeps, with_first, without_run, Settings, UsesBlock, UsesBlocks};
+    ghost use Rattle.vm_disk.specs.Kept.{entries_of, limit_of, refusals_in, keeps, without_run, ComesFirst, ComesFirstOrNot, Settings, UsesBlock, UsesBlocks};
 
     /// No blocks yet. Takes memory for the order of all of them, and for the bytes of one.
     pub(crate) fn new(alloc: Global, capacity: NonZeroUsize) -> Result<Kept, AllocError>
@@ -49,7 +49,7 @@ impl Kept {
     pub(crate) fn recall(&mut self, n: u32, into: &mut [u8; 4096]) -> bool
         ensures answer { result ≡ keeps n (entries_of self.old) }
         ensures found { OnTrue result (lookup (nat_eq n) (entries_of self.old) ≡ Some into.new) }
-        ensures first { OnTrue result (entries_of self.new ≡ with_first (limit_of self.old) n into.new (entries_of self.old)) }
+        ensures first { OnTrue result (ComesFirst n into.new self.old self.new) }
         ensures missed { OnFalse result (entries_of self.new ≡ entries_of self.old) }
         ensures settings { Settings self.old self.new }
     {
@@ -65,7 +65,7 @@ impl Kept {
     /// Gives a kept block these bytes, in its place, and tells whether there is one.
     pub(crate) fn change(&mut self, n: u32, bytes: &[u8; 4096]) -> bool
         ensures answer { result ≡ keeps n (entries_of self.old) }
-        ensures first { OnTrue result (entries_of self.new ≡ with_first (limit_of self.old) n bytes.now (entries_of self.old)) }
+        ensures first { OnTrue result (ComesFirst n bytes.now self.old self.new) }
         ensures missed { OnFalse result (entries_of self.new ≡ entries_of self.old) }
         ensures settings { Settings self.old self.new }
     {
@@ -95,9 +95,7 @@ impl Kept {
     /// Keeps a block with these bytes, if there is memory for it.
     pub(crate) fn keep(&mut self, n: u32, bytes: &[u8; 4096])
         ensures limit { limit_of self.new ≡ limit_of self.old }
-        ensures kept { (refusals_in self.new ≡ refusals_in self.old)
-            × (entries_of self.new ≡ with_first (limit_of self.old) n bytes.now (entries_of self.old))
-            ⊎ ((refusals_in self.new ≡ refusals_in self.old + 1) × (entries_of self.new ≡ entries_of self.old)) }
+        ensures kept { ComesFirstOrNot n bytes.now self.old self.new }
     {
         let Some(room) = self.room(bytes) else {
             self.refused.note(&());

@@ -1,5 +1,6 @@
 //! A disk with blocks over it that wait to be written.
 ghost use Rattle.std.specs.Prelude.{◌≡◌, ◌<◌, ◌≤◌, ℕ, true, false, None, IfOk, IfErr, OnOk, OnErr, IsOk};
+ghost use Rattle.vm_disk.specs.Between.{Between};
 ghost use Rattle.vm_disk.specs.Disk.{Counts, Reads, Writes, Idles, Forgets, Syncs, Extends, Enlarges};
 ghost use Rattle.std.specs.NonZero.{non_zero_usize_get};
 ghost use Rattle.vm_disk.specs.Waiting.{bytes_for, waits, count_of, limit_of};
@@ -19,7 +20,7 @@ pub(crate) struct Layers<D: Disk> {
 }
 
 impl<D: Disk> Layers<D> {
-    ghost use Rattle.vm_disk.specs.Layers.{lower_of, waiting_of, medium_of, layers_state, called, Sends, WaitNoMore, IsApart};
+    ghost use Rattle.vm_disk.specs.Layers.{lower_of, waiting_of, layers_state, FewerWait, IfHonestBelow, IsApart, Sends, WaitNoMore};
 
     /// No block waits yet. Where memory is refused, the disk comes back.
     pub(crate) fn new(alloc: Global, inner: D, capacity: NonZeroUsize) -> Result<Layers<D>, D>
@@ -41,10 +42,9 @@ impl<D: Disk> Layers<D> {
 
     // Writes block n out, if it waits.
     fn send_alone(&mut self, n: u32) -> Result<(), DeviceFault>
-        ensures any { Counts 0 result (layers_state D.state self.old) (layers_state D.state self.new) }
+        ensures any { Between (layers_state D.state) (Counts 0 result) self.old self.new }
         ensures honest { (D.state (lower_of self.new)).honest ≡ true → Sends D.state self.old self.new }
-        ensures fewer { OnOk result (waits (waiting_of self.old) n ≡ true
-            → count_of (waiting_of self.new) < count_of (waiting_of self.old)) }
+        ensures fewer { OnOk result (FewerWait n self.old self.new) }
         ensures no_more { WaitNoMore self.old self.new }
     {
         if let Some(bytes) = self.waiting.bytes(n) {
@@ -56,10 +56,9 @@ impl<D: Disk> Layers<D> {
 
     // Writes block n out, if it waits, together with those that wait around it.
     fn send(&mut self, n: u32) -> Result<(), DeviceFault>
-        ensures any { Counts 0 result (layers_state D.state self.old) (layers_state D.state self.new) }
+        ensures any { Between (layers_state D.state) (Counts 0 result) self.old self.new }
         ensures honest { (D.state (lower_of self.new)).honest ≡ true → Sends D.state self.old self.new }
-        ensures fewer { OnOk result (waits (waiting_of self.old) n ≡ true
-            → count_of (waiting_of self.new) < count_of (waiting_of self.old)) }
+        ensures fewer { OnOk result (FewerWait n self.old self.new) }
         ensures no_more { WaitNoMore self.old self.new }
     {
         let first = self.waiting.begin_run(n);
@@ -76,7 +75,7 @@ impl<D: Disk> Layers<D> {
     // Writes the block out whose last write is the longest ago, with its neighbours, unless one more may
     // wait without that.
     fn make_place(&mut self) -> Result<(), DeviceFault>
-        ensures any { Counts 0 result (layers_state D.state self.old) (layers_state D.state self.new) }
+        ensures any { Between (layers_state D.state) (Counts 0 result) self.old self.new }
         ensures honest { (D.state (lower_of self.new)).honest ≡ true → Sends D.state self.old self.new }
         ensures no_more { WaitNoMore self.old self.new }
     {
@@ -91,7 +90,7 @@ impl<D: Disk> Layers<D> {
 
     // Writes out each block that waits.
     fn send_all(&mut self) -> Result<(), DeviceFault>
-        ensures any { Counts 0 result (layers_state D.state self.old) (layers_state D.state self.new) }
+        ensures any { Between (layers_state D.state) (Counts 0 result) self.old self.new }
         ensures honest { (D.state (lower_of self.new)).honest ≡ true → Sends D.state self.old self.new }
         ensures none { OnOk result ((n : ℕ) → waits (waiting_of self.new) n ≡ false) }
     {
@@ -104,9 +103,8 @@ impl<D: Disk> Layers<D> {
     /// Reads block n, from those that wait, or else from the disk below.
     pub(crate) fn read(&mut self, n: u32, into: &mut [u8; 4096]) -> Result<(), DeviceFault>
         requires { n < (layers_state D.state self.old).blocks }
-        ensures any { Counts 0 result (layers_state D.state self.old) (layers_state D.state self.new) }
-        ensures honest { (D.state (lower_of self.new)).honest ≡ true
-            → Reads n into.new result (layers_state D.state self.old) (called D.state self.old self.new) }
+        ensures any { Between (layers_state D.state) (Counts 0 result) self.old self.new }
+        ensures honest { IfHonestBelow D.state (Reads n into.new result) self.old self.new }
         ensures below { (D.state (lower_of self.new)).honest ≡ true
             → IsApart D.state self.old self.new }
     {
@@ -123,9 +121,8 @@ impl<D: Disk> Layers<D> {
     /// the oldest is written out for it, and where memory is refused, it is itself.
     pub(crate) fn write(&mut self, n: u32, from: &[u8; 4096]) -> Result<(), DeviceFault>
         requires { n < (layers_state D.state self.old).blocks }
-        ensures any { Counts 0 result (layers_state D.state self.old) (layers_state D.state self.new) }
-        ensures honest { (D.state (lower_of self.new)).honest ≡ true
-            → Writes n from.now result (layers_state D.state self.old) (called D.state self.old self.new) }
+        ensures any { Between (layers_state D.state) (Counts 0 result) self.old self.new }
+        ensures honest { IfHonestBelow D.state (Writes n from.now result) self.old self.new }
         ensures below { (D.state (lower_of self.new)).honest ≡ true
             → IsApart D.state self.old self.new }
     {
@@ -146,9 +143,8 @@ impl<D: Disk> Layers<D> {
     /// Has block n wait no longer, and forgets it below.
     pub(crate) fn forget(&mut self, n: u32)
         requires { n < (layers_state D.state self.old).blocks }
-        ensures any { Idles (layers_state D.state self.old) (layers_state D.state self.new) }
-        ensures honest { (D.state (lower_of self.new)).honest ≡ true
-            → Forgets n (layers_state D.state self.old) (called D.state self.old self.new) }
+        ensures any { Between (layers_state D.state) Idles self.old self.new }
+        ensures honest { IfHonestBelow D.state (Forgets n) self.old self.new }
         ensures below { (D.state (lower_of self.new)).honest ≡ true
             → IsApart D.state self.old self.new }
         ensures gone { waits (waiting_of self.new) n ≡ false }
@@ -159,9 +155,8 @@ impl<D: Disk> Layers<D> {
 
     /// Writes out each block that waits, and syncs the disk below.
     pub(crate) fn sync(&mut self) -> Result<(), DeviceFault>
-        ensures any { Counts 0 result (layers_state D.state self.old) (layers_state D.state self.new) }
-        ensures honest { (D.state (lower_of self.new)).honest ≡ true
-            → Syncs result (layers_state D.state self.old) (called D.state self.old self.new) }
+        ensures any { Between (layers_state D.state) (Counts 0 result) self.old self.new }
+        ensures honest { IfHonestBelow D.state (Syncs result) self.old self.new }
         ensures below { (D.state (lower_of self.new)).honest ≡ true
             → IsApart D.state self.old self.new }
     {
@@ -172,10 +167,8 @@ impl<D: Disk> Layers<D> {
     /// Gives the disk below more blocks.
     pub(crate) fn extend(&mut self, blocks: u32) -> Result<(), DeviceFault>
         requires { (layers_state D.state self.old).blocks ≤ blocks }
-        ensures any { Extends blocks result
-            (layers_state D.state self.old) (layers_state D.state self.new) }
-        ensures honest { (D.state (lower_of self.new)).honest ≡ true
-            → Enlarges (layers_state D.state self.old) (called D.state self.old self.new) }
+        ensures any { Between (layers_state D.state) (Extends blocks result) self.old self.new }
+        ensures honest { IfHonestBelow D.state Enlarges self.old self.new }
         ensures below { (D.state (lower_of self.new)).honest ≡ true
             → IsApart D.state self.old self.new }
     {

@@ -1,5 +1,7 @@
 //! A disk in memory, for tests.
 ghost use Rattle.std.specs.Prelude.{◌≡◌, ◌<◌, ◌≤◌, ◌&&◌, ◌==◌, ◌^◌, ◌+◌, ◌-◌, ℕ, true, false, if◌then◌else◌, [], ◌++◌, length, take, replicate, slice_index_or, vec_capacity, IfOk, OnOk, OnErr, IsOk, IsErr};
+ghost use Rattle.vm_disk.specs.Filling.{filled_up};
+ghost use Rattle.vm_disk.specs.Between.{Between, IfHonest};
 ghost use Rattle.vm_disk.specs.Disk.{block, IsClean, MayLeave, Counts, Reads, Writes, Idles, Forgets, Syncs, Extends, Enlarges};
 
 use crate::disk::{DeviceFault, Disk};
@@ -41,8 +43,7 @@ pub struct MemDisk {
 // Adds an element until there are so many, in room that is there.
 fn fill_up<T: Copy>(items: &mut Vec<T>, item: T, count: usize)
     requires { count ≤ vec_capacity items.old }
-    ensures items { items.new.items
-        ≡ items.old.items ++ replicate (count - length items.old.items) item }
+    ensures items { items.new.items ≡ filled_up count item items.old.items }
     ensures capacity { vec_capacity items.old ≤ vec_capacity items.new }
 {
     while items.len() < count {
@@ -51,7 +52,7 @@ fn fill_up<T: Copy>(items: &mut Vec<T>, item: T, count: usize)
 }
 
 impl Platter {
-    ghost use Rattle.vm_disk.specs.Memory.{medium_of, filled};
+    ghost use Rattle.vm_disk.specs.Memory.{medium_of, IsRefilled, IsRefilledAt};
 
     // Room for so many blocks, and none of them.
     fn with_room(alloc: Global, room: u32) -> Result<Platter, AllocError>
@@ -70,11 +71,9 @@ impl Platter {
     fn lengthen(&mut self, blocks: u32)
         requires { blocks ≤ self.old.room }
         ensures blocks { self.new.blocks.items
-            ≡ self.old.blocks.items
-            ++ replicate (blocks - length self.old.blocks.items) (replicate 4096 0) }
+            ≡ filled_up blocks (replicate 4096 0) self.old.blocks.items }
         ensures dirty { self.new.dirty.items
-            ≡ self.old.dirty.items
-            ++ replicate (blocks - length self.old.blocks.items) true }
+            ≡ self.old.dirty.items ++ replicate (blocks - length self.old.blocks.items) true }
         ensures sure { self.new.sure ≡ self.old.sure }
         ensures room { self.new.room ≡ self.old.room }
     {
@@ -108,10 +107,7 @@ impl Platter {
         ensures sure { self.new.sure ≡ self.old.sure }
         ensures room { self.new.room ≡ self.old.room }
         ensures count { length self.new.blocks.items ≡ length self.old.blocks.items }
-        ensures filled { (k : ℕ) → block self.new.blocks.items k
-            ≡ (if (medium_of self.old).dirty k && n == k
-            then bytes.now
-            else block self.old.blocks.items k) }
+        ensures filled { IsRefilledAt n bytes.now (medium_of self.old) (medium_of self.new) }
     {
         if self.is_dirty(n) {
             self.blocks[n as usize] = *bytes;
@@ -135,10 +131,7 @@ impl Platter {
         ensures sure { self.new.sure ≡ self.old.sure }
         ensures room { self.new.room ≡ self.old.room }
         ensures count { length self.new.blocks.items ≡ length self.old.blocks.items }
-        ensures filled { (k : ℕ) → block self.new.blocks.items k
-            ≡ (if (medium_of self.old).dirty k
-            then filled fill.now k (block self.old.blocks.items k)
-            else block self.old.blocks.items k) }
+        ensures filled { IsRefilled fill.now (medium_of self.old) (medium_of self.new) }
     {
         for (n, bytes) in fill {
             self.refill_block(*n, bytes);
@@ -147,7 +140,7 @@ impl Platter {
 }
 
 impl MemDisk {
-    ghost use Rattle.vm_disk.specs.Memory.{memory_state, room_of, filled, IsBlank};
+    ghost use Rattle.vm_disk.specs.Memory.{memory_state, room_of, IsBlank, IsRefilled, IsRefilledBelow};
 
     /// A disk of zero bytes, all of it synced. It has no more room than its blocks take.
     pub fn new(alloc: Global, blocks: u32) -> Result<MemDisk, AllocError>
@@ -193,10 +186,7 @@ impl MemDisk {
     pub fn crash(self, fill: &[(u32, [u8; 4096])]) -> MemDisk
         ensures blocks { (memory_state result).blocks ≡ (memory_state self).blocks }
         ensures clean { IsClean (memory_state result).now }
-        ensures filled { (n : ℕ) → block (memory_state result).now.contents n
-            ≡ (if (memory_state self).now.dirty n
-            then filled fill.now n (block (memory_state self).now.contents n)
-            else block (memory_state self).now.contents n) }
+        ensures filled { IsRefilled fill.now (memory_state self).now (memory_state result).now }
         ensures left { MayLeave (memory_state self).now (memory_state result).now.contents }
         ensures reads { (memory_state result).reads ≡ 0 }
         ensures failures { (memory_state result).failures ≡ 0 }
@@ -226,10 +216,8 @@ impl MemDisk {
         requires fewer { blocks ≤ (memory_state self).blocks }
         ensures blocks { (memory_state result).blocks ≡ blocks }
         ensures clean { IsClean (memory_state result).now }
-        ensures filled { (n : ℕ) → n < blocks → block (memory_state result).now.contents n
-            ≡ (if (memory_state self).now.dirty n
-            then filled fill.now n (block (memory_state self).now.contents n)
-            else block (memory_state self).now.contents n) }
+        ensures filled { IsRefilledBelow blocks fill.now (memory_state self).now
+            (memory_state result).now }
         ensures left { MayLeave (memory_state self).now (memory_state result).now.contents }
         ensures reads { (memory_state result).reads ≡ 0 }
         ensures failures { (memory_state result).failures ≡ 0 }
@@ -243,7 +231,7 @@ impl MemDisk {
 
 impl Disk for MemDisk {
     ghost use Rattle.std.specs.Prelude.{refl};
-    ghost use Rattle.vm_disk.specs.Memory.{memory_state, room_of};
+    ghost use Rattle.vm_disk.specs.Memory.{memory_state, room_of, GetsZeros, JustFails};
 
     ghost state = { memory_state };
 
@@ -257,9 +245,8 @@ impl Disk for MemDisk {
 
     fn read(&mut self, n: u32, into: &mut [u8; 4096]) -> Result<(), DeviceFault>
         requires { n < (memory_state self.old).blocks }
-        ensures any { Counts 1 result (memory_state self.old) (memory_state self.new) }
-        ensures honest { (memory_state self.new).honest ≡ true
-            → Reads n into.new result (memory_state self.old) (memory_state self.new) }
+        ensures any { Between memory_state (Counts 1 result) self.old self.new }
+        ensures honest { IfHonest memory_state (Reads n into.new result) self.old self.new }
 
         ensures served { IsOk result }
         ensures room { room_of self.new ≡ room_of self.old }
@@ -272,9 +259,8 @@ impl Disk for MemDisk {
 
     fn write(&mut self, n: u32, from: &[u8; 4096]) -> Result<(), DeviceFault>
         requires { n < (memory_state self.old).blocks }
-        ensures any { Counts 0 result (memory_state self.old) (memory_state self.new) }
-        ensures honest { (memory_state self.new).honest ≡ true
-            → Writes n from.now result (memory_state self.old) (memory_state self.new) }
+        ensures any { Between memory_state (Counts 0 result) self.old self.new }
+        ensures honest { IfHonest memory_state (Writes n from.now result) self.old self.new }
 
         ensures served { IsOk result }
         ensures room { room_of self.new ≡ room_of self.old }
@@ -287,9 +273,8 @@ impl Disk for MemDisk {
 
     fn forget(&mut self, n: u32)
         requires { n < (memory_state self.old).blocks }
-        ensures any { Idles (memory_state self.old) (memory_state self.new) }
-        ensures honest { (memory_state self.new).honest ≡ true
-            → Forgets n (memory_state self.old) (memory_state self.new) }
+        ensures any { Between memory_state Idles self.old self.new }
+        ensures honest { IfHonest memory_state (Forgets n) self.old self.new }
 
         // Other bytes stand there then, so that a test finds who reads them.
         ensures other { block (memory_state self.new).now.contents n ≡ replicate 4096 165 }
@@ -302,9 +287,8 @@ impl Disk for MemDisk {
     }
 
     fn sync(&mut self) -> Result<(), DeviceFault>
-        ensures any { Counts 0 result (memory_state self.old) (memory_state self.new) }
-        ensures honest { (memory_state self.new).honest ≡ true
-            → Syncs result (memory_state self.old) (memory_state self.new) }
+        ensures any { Between memory_state (Counts 0 result) self.old self.new }
+        ensures honest { IfHonest memory_state (Syncs result) self.old self.new }
 
         ensures served { IsOk result }
         ensures room { room_of self.new ≡ room_of self.old }
@@ -316,20 +300,16 @@ impl Disk for MemDisk {
 
     fn extend(&mut self, blocks: u32) -> Result<(), DeviceFault>
         requires { (memory_state self.old).blocks ≤ blocks }
-        ensures any { Extends blocks result (memory_state self.old) (memory_state self.new) }
-        ensures honest { (memory_state self.new).honest ≡ true
-            → Enlarges (memory_state self.old) (memory_state self.new) }
+        ensures any { Between memory_state (Extends blocks result) self.old self.new }
+        ensures honest { IfHonest memory_state Enlarges self.old self.new }
 
         // Within its room it never fails, and the new blocks hold zeros.
         ensures within { blocks ≤ room_of self.old → IsOk result }
-        ensures zero { OnOk result ((memory_state self.new).now.contents
-            ≡ (memory_state self.old).now.contents
-            ++ replicate (blocks - (memory_state self.old).blocks) (replicate 4096 0)) }
+        ensures zero { OnOk result (Between memory_state (GetsZeros blocks) self.old self.new) }
 
         // Beyond it, it fails, and changes nothing but the count of failures.
         ensures beyond { room_of self.old < blocks → IsErr result }
-        ensures refused { OnErr result (memory_state self.new
-            ≡ record (memory_state self.old) { failures = (memory_state self.old).failures + 1 }) }
+        ensures refused { OnErr result (Between memory_state JustFails self.old self.new) }
         ensures room { room_of self.new ≡ room_of self.old }
     {
         if self.platter.room < blocks {

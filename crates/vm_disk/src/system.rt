@@ -3,7 +3,8 @@ ghost use Rattle.std.specs.Prelude.{◌≡◌, ℕ, ◌<ℤ◌, pos, ◌≤◌, 
 ghost use Rattle.std.specs.Fd.{file_raw_fd};
 ghost use Rattle.std.specs.Fs.{asks_write};
 ghost use Rattle.vm_disk.specs.Past.{noted};
-ghost use Rattle.vm_disk.specs.Positional.{joined, CountsFailures, ReadsAt, WritesAt, SyncsFile, Measures};
+ghost use Rattle.vm_disk.specs.Positional.{joined, zeros, CountsFailures, ReadsAt, WritesIn, SyncsFile, Measures};
+ghost use Rattle.vm_disk.specs.Between.{Between};
 ghost use Rattle.vm_disk.specs.Syncing.{counts_as_synced};
 
 use crate::disk::DeviceFault;
@@ -111,7 +112,7 @@ pub struct SystemFile<W> {
 }
 
 impl<W: World> SystemFile<W> {
-    ghost use Rattle.vm_disk.specs.System.{system_state, state_after, fresh, held_bytes, name_of, opening_of, is_read_alone};
+    ghost use Rattle.vm_disk.specs.System.{system_state, fresh, name_of, opening_of, is_read_alone, IsAfter, IsFresh};
 
     /// Opens a plain file or a block device that is there, to be read and written, after so many others.
     /// None where it cannot be opened, is neither of these, or has a standard descriptor.
@@ -120,8 +121,7 @@ impl<W: World> SystemFile<W> {
         path: &str,
         opened: &History<()>,
     ) -> Option<SystemFile<W>>
-        ensures state { IfSome result (λ file. system_state W.held W.torn file
-            ≡ fresh (held_bytes (W.held (length (noted opened.now)) path.now))) }
+        ensures state { IfSome result (IsFresh W.held W.torn (noted opened.now) path.now) }
         ensures mode { IfSome result (λ file. is_read_alone file ≡ false) }
         ensures name { IfSome result (λ file. name_of file ≡ path.now) }
         ensures opening { IfSome result (λ file. opening_of file ≡ length (noted opened.now)) }
@@ -142,8 +142,7 @@ impl<W: World> SystemFile<W> {
         path: &str,
         opened: &History<()>,
     ) -> Option<SystemFile<W>>
-        ensures state { IfSome result (λ file. system_state W.held W.torn file
-            ≡ fresh (held_bytes (W.held (length (noted opened.now)) path.now))) }
+        ensures state { IfSome result (IsFresh W.held W.torn (noted opened.now) path.now) }
         ensures mode { IfSome result (λ file. is_read_alone file ≡ true) }
         ensures name { IfSome result (λ file. name_of file ≡ path.now) }
         ensures opening { IfSome result (λ file. opening_of file ≡ length (noted opened.now)) }
@@ -185,9 +184,8 @@ impl<W: World> SystemFile<W> {
         opened: &History<()>,
         calls: History<Call>,
     ) -> Option<SystemFile<W>>
-        ensures state { IfSome result (λ file. system_state W.held W.torn file
-            ≡ state_after (not (asks_write how.now)) (held_bytes (W.held (length (noted opened.now)) path.now))
-            (W.torn (length (noted opened.now)) path.now) (noted calls)) }
+        ensures state { IfSome result (IsAfter W.held W.torn
+            (not (asks_write how.now)) (noted opened.now) path.now (noted calls)) }
         ensures mode { IfSome result (λ file. is_read_alone file ≡ not (asks_write how.now)) }
         ensures name { IfSome result (λ file. name_of file ≡ path.now) }
         ensures opening { IfSome result (λ file. opening_of file ≡ length (noted opened.now)) }
@@ -209,14 +207,13 @@ impl<W: World> SystemFile<W> {
 }
 
 impl<W: World> Positional for SystemFile<W> {
-    ghost use Rattle.vm_disk.specs.System.{system_state, is_read_alone, IsWithheld};
+    ghost use Rattle.vm_disk.specs.System.{IfHonestIn, Withholds, system_state, is_read_alone};
 
     ghost state = { system_state W.held W.torn };
 
     fn len(&mut self) -> Result<u64, DeviceFault>
-        ensures any { CountsFailures result (system_state W.held W.torn self.old) (system_state W.held W.torn self.new) }
-        ensures honest { (system_state W.held W.torn self.new).honest ≡ true
-            → Measures result (system_state W.held W.torn self.old) (system_state W.held W.torn self.new) }
+        ensures any { Between (system_state W.held W.torn) (CountsFailures result) self.old self.new }
+        ensures honest { IfHonestIn W.held W.torn (Measures result) self.old self.new }
 
         ensures mode { is_read_alone self.new ≡ is_read_alone self.old }
     {
@@ -229,9 +226,8 @@ impl<W: World> Positional for SystemFile<W> {
     }
 
     fn read_at(&mut self, into: &mut [u8; 4096], offset: u64) -> Result<(), DeviceFault>
-        ensures any { CountsFailures result (system_state W.held W.torn self.old) (system_state W.held W.torn self.new) }
-        ensures honest { (system_state W.held W.torn self.new).honest ≡ true
-            → ReadsAt offset into.new result (system_state W.held W.torn self.old) (system_state W.held W.torn self.new) }
+        ensures any { Between (system_state W.held W.torn) (CountsFailures result) self.old self.new }
+        ensures honest { IfHonestIn W.held W.torn (ReadsAt offset into.new result) self.old self.new }
 
         ensures mode { is_read_alone self.new ≡ is_read_alone self.old }
     {
@@ -244,14 +240,11 @@ impl<W: World> Positional for SystemFile<W> {
     }
 
     fn write_at(&mut self, from: &[u8; 4096], offset: u64) -> Result<(), DeviceFault>
-        ensures any { CountsFailures result (system_state W.held W.torn self.old) (system_state W.held W.torn self.new) }
-        ensures honest { (system_state W.held W.torn self.new).honest ≡ true
-            → offset ≤ length (system_state W.held W.torn self.old).bytes
-            → WritesAt offset from.now result (system_state W.held W.torn self.old) (system_state W.held W.torn self.new) }
+        ensures any { Between (system_state W.held W.torn) (CountsFailures result) self.old self.new }
+        ensures honest { IfHonestIn W.held W.torn (WritesIn offset from.now result) self.old self.new }
 
         ensures mode { is_read_alone self.new ≡ is_read_alone self.old }
-        ensures withheld { is_read_alone self.old ≡ true
-            → IsWithheld result (system_state W.held W.torn self.old) (system_state W.held W.torn self.new) }
+        ensures withheld { Withholds W.held W.torn result self.old self.new }
     {
         if self.reads_alone {
             self.calls.note(&Call::Withheld(offset, 4096));
@@ -266,14 +259,12 @@ impl<W: World> Positional for SystemFile<W> {
     }
 
     fn write_blocks_at(&mut self, from: &[[u8; 4096]], offset: u64) -> Result<(), DeviceFault>
-        ensures any { CountsFailures result (system_state W.held W.torn self.old) (system_state W.held W.torn self.new) }
-        ensures honest { (system_state W.held W.torn self.new).honest ≡ true
-            → offset ≤ length (system_state W.held W.torn self.old).bytes
-            → WritesAt offset (joined from.now) result (system_state W.held W.torn self.old) (system_state W.held W.torn self.new) }
+        ensures any { Between (system_state W.held W.torn) (CountsFailures result) self.old self.new }
+        ensures honest { IfHonestIn W.held W.torn
+            (WritesIn offset (joined from.now) result) self.old self.new }
 
         ensures mode { is_read_alone self.new ≡ is_read_alone self.old }
-        ensures withheld { is_read_alone self.old ≡ true
-            → IsWithheld result (system_state W.held W.torn self.old) (system_state W.held W.torn self.new) }
+        ensures withheld { Withholds W.held W.torn result self.old self.new }
     {
         let bytes = from.as_flattened();
         if self.reads_alone {
@@ -290,14 +281,11 @@ impl<W: World> Positional for SystemFile<W> {
 
     fn write_zeros_at(&mut self, count: usize, offset: u64) -> Result<(), DeviceFault>
         requires { count ≤ 65536 }
-        ensures any { CountsFailures result (system_state W.held W.torn self.old) (system_state W.held W.torn self.new) }
-        ensures honest { (system_state W.held W.torn self.new).honest ≡ true
-            → offset ≤ length (system_state W.held W.torn self.old).bytes
-            → WritesAt offset (replicate count 0) result (system_state W.held W.torn self.old) (system_state W.held W.torn self.new) }
+        ensures any { Between (system_state W.held W.torn) (CountsFailures result) self.old self.new }
+        ensures honest { IfHonestIn W.held W.torn (WritesIn offset (zeros count) result) self.old self.new }
 
         ensures mode { is_read_alone self.new ≡ is_read_alone self.old }
-        ensures withheld { is_read_alone self.old ≡ true
-            → IsWithheld result (system_state W.held W.torn self.old) (system_state W.held W.torn self.new) }
+        ensures withheld { Withholds W.held W.torn result self.old self.new }
     {
         if self.reads_alone {
             self.calls.note(&Call::Withheld(offset, count));
@@ -313,9 +301,8 @@ impl<W: World> Positional for SystemFile<W> {
     }
 
     fn sync(&mut self) -> Result<(), DeviceFault>
-        ensures any { CountsFailures result (system_state W.held W.torn self.old) (system_state W.held W.torn self.new) }
-        ensures honest { (system_state W.held W.torn self.new).honest ≡ true
-            → SyncsFile result (system_state W.held W.torn self.old) (system_state W.held W.torn self.new) }
+        ensures any { Between (system_state W.held W.torn) (CountsFailures result) self.old self.new }
+        ensures honest { IfHonestIn W.held W.torn (SyncsFile result) self.old self.new }
 
         ensures mode { is_read_alone self.new ≡ is_read_alone self.old }
     {

@@ -31,7 +31,7 @@ fn fill(room: &mut Room, bytes: &[u8; 4096])
 }
 
 impl Waiting {
-    ghost use Rattle.vm_disk.specs.Waiting.{bytes_for, waits, count_of, limit_of};
+    ghost use Rattle.vm_disk.specs.Waiting.{bytes_for, waits, count_of, limit_of, ChangesOne, IsRun, LosesRun};
 
     /// No blocks yet. Takes memory for the order of so many.
     pub(crate) fn new(alloc: Global, capacity: NonZeroUsize) -> Result<Waiting, AllocError>
@@ -91,8 +91,7 @@ impl Waiting {
     /// newest.
     pub(crate) fn change(&mut self, n: u32, bytes: &[u8; 4096]) -> bool
         ensures answer { result ≡ waits self.old n }
-        ensures changed { OnTrue result ((k : ℕ)
-            → bytes_for self.new k ≡ update nat_eq (bytes_for self.old) n (Some bytes.now) k) }
+        ensures changed { OnTrue result (ChangesOne n (Some bytes.now) self.old self.new) }
         ensures missed { OnFalse result (self.new ≡ self.old) }
     {
         match self.rooms.get_mut(&n) {
@@ -107,8 +106,7 @@ impl Waiting {
     /// Has block n wait with these bytes, and tells whether it does: not where no more may wait, or
     /// memory for it is refused.
     pub(crate) fn put(&mut self, n: u32, bytes: &[u8; 4096]) -> bool
-        ensures placed { OnTrue result ((k : ℕ)
-            → bytes_for self.new k ≡ update nat_eq (bytes_for self.old) n (Some bytes.now) k) }
+        ensures placed { OnTrue result (ChangesOne n (Some bytes.now) self.old self.new) }
         ensures refused { OnFalse result ((k : ℕ) → bytes_for self.new k ≡ bytes_for self.old k) }
     {
         if !self.has_place() {
@@ -128,8 +126,7 @@ impl Waiting {
 
     /// Has block n wait no longer.
     pub(crate) fn forget(&mut self, n: u32)
-        ensures gone { (k : ℕ)
-            → bytes_for self.new k ≡ update nat_eq (bytes_for self.old) n None k }
+        ensures gone { ChangesOne n None self.old self.new }
         ensures fewer { waits self.old n ≡ true → count_of self.new < count_of self.old }
         ensures most { count_of self.new ≤ count_of self.old }
     {
@@ -143,8 +140,7 @@ impl Waiting {
     /// Has the blocks of a row wait no longer, from the first one up to the one before the end.
     pub(crate) fn forget_run(&mut self, first: u32, end: u32)
         requires { first ≤ end }
-        ensures gone { (k : ℕ) → bytes_for self.new k
-            ≡ (if nat_le first k && nat_lt k end then None else bytes_for self.old k) }
+        ensures gone { LosesRun first end self.old self.new }
         ensures fewer { first < end
             → waits self.old first ≡ true
             → count_of self.new < count_of self.old }
@@ -168,8 +164,7 @@ impl Waiting {
     /// Copies the blocks out that wait in a row from this one on, up to so many as one call writes.
     /// They are fewer where memory is refused.
     pub(crate) fn copy_run(&self, first: u32, run: &mut Vec<[u8; 4096]>)
-        ensures { (i : ℕ) → i < length run.new.items
-            → bytes_for self.now (first + i) ≡ Some (slice_index_or run.new.items i []) }
+        ensures { IsRun first run.new.items self.now }
     {
         run.clear();
         for n in first..first.saturating_add(AT_ONCE) {

@@ -11,13 +11,13 @@ use Rattle.vm_types.proofs.ChangeLemmas.{with_changes-more}
 use Rattle.vm_types.proofs.Keys.{without_absent}
 use Rattle.vm_disk.specs.Disk.{Contents, Medium, block}
 use Rattle.vm_alloc.specs.Held.{IsHeld}
-use Rattle.vm_block.specs.FullPath.{FullBelow, FullPath, blocks_of}
 use Rattle.vm_block.specs.Leaf.{Record, IsLeaf}
 use Rattle.vm_block.specs.Node.{IsNode}
-use Rattle.vm_block.specs.Tree.{Children, Subtree}
 use Rattle.vm_block.specs.declared.node.Child.{Child}
 use Rattle.vm_block.proofs.EachLemmas.{each_front, each_back}
 use Rattle.vm_block.proofs.NodeLemmas.{node_one}
+use Rattle.vm_tree.specs.FullPath.{FullBelow, FullPath, blocks_of}
+use Rattle.vm_tree.specs.Tree.{Children, Subtree}
 use Rattle.vm_tree.specs.Answers.{LacksRoom, Puts}
 use Rattle.vm_tree.specs.Root.{IsRooted, IsRootedIn}
 use Rattle.vm_tree.specs.declared.root.Root.{Root}

@@ -5,7 +5,6 @@ use Rattle.vm_disk.specs.Disk.{Medium, IsClean}
 use Rattle.vm_disk.specs.Moments.{TouchesOnly}
 use Rattle.vm_disk.proofs.MomentLemmas.{clean_sure, spares_itself}
 use Rattle.vm_alloc.specs.Held.{IsHeld, HoldsMore}
-use Rattle.vm_block.specs.Tree.{IsData}
 use Rattle.vm_store.specs.Versions.{slot_entries}
 use Rattle.vm_store.specs.declared.version.Version.{Version}
 use Rattle.vm_block.specs.declared.slot.Entry.{Entry}
@@ -13,6 +12,7 @@ use Rattle.vm_catalog.specs.Place.{selected, is_used}
 use Rattle.vm_catalog.specs.Catalog.{SlotAt, AtRest}
 use Rattle.vm_catalog.specs.Publishing.{IsTurning, IsSafelyPublishing}
 use Rattle.vm_catalog.proofs.PlaceLemmas.{used_front}
+use Rattle.vm_tree.specs.Tree.{IsData}
 use Rattle.vm_tree.specs.Free.{is_free}
 use Rattle.vm_store.specs.Filed.{Filed, Standing}
 use Rattle.vm_store.specs.Guarded.{IsWhole, IsGuarded}

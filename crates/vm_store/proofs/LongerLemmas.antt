@@ -17,7 +17,7 @@ use Rattle.vm_disk.proofs.MomentLemmas.{goes_on, spares_itself, started}
 use Rattle.vm_alloc.specs.Held.{IsHeld}
 use Rattle.vm_alloc.proofs.HeldLemmas.{held_inside}
 use Rattle.vm_block.specs.Selector.{names_b}
-use Rattle.vm_block.specs.Tree.{IsData}
+use Rattle.vm_tree.specs.Tree.{IsData}
 use Rattle.vm_catalog.specs.Place.{is_used}
 use Rattle.vm_catalog.proofs.PublishLemmas.{names_in}
 use Rattle.vm_store.specs.Answers.{IsGrowDue}

@@ -6,7 +6,7 @@ use Rattle.vm_types.specs.State.{State}
 use Rattle.vm_disk.specs.Disk.{Medium}
 use Rattle.vm_alloc.specs.Held.{is_held, IsHeld, free_count}
 use Rattle.vm_alloc.specs.Marks.{is_marked, IsMarked}
-use Rattle.vm_block.specs.Tree.{IsData}
+use Rattle.vm_tree.specs.Tree.{IsData}
 use Rattle.vm_block.proofs.EachLemmas.{each_so, each_join, each_front, each_back}
 use Rattle.std.proofs.lemmas.List.{length-replicate}
 use Rattle.vm_check.specs.Marking.{IsClosed, MarksMore}

@@ -12,12 +12,12 @@ use Rattle.vm_alloc.specs.Held.{is_held, IsHeld, free_count}
 use Rattle.vm_alloc.specs.Marks.{is_marked, IsMarked}
 use Rattle.std.specs.List.{AllByRecursion}
 use Rattle.vm_block.specs.Slot.{SlotFits}
-use Rattle.vm_block.specs.Tree.{IsData}
 use Rattle.vm_block.specs.declared.slot.Entry.{Entry}
 use Rattle.std.proofs.lemmas.List.{length-replicate}
 use Rattle.std.proofs.lemmas.List.Elements.{Contains-append_left}
 use Rattle.vm_block.proofs.EachLemmas.{each_front, each_back, each_join}
-use Rattle.vm_block.proofs.TreeLemmas.{tree_one}
+use Rattle.vm_tree.specs.Tree.{IsData}
+use Rattle.vm_tree.proofs.TreeLemmas.{tree_one}
 use Rattle.vm_tree.specs.Root.{IsRooted}
 use Rattle.vm_check.specs.Marking.{MarksMore}
 use Rattle.vm_store.proofs.MarkedLemmas.{free_exactly}

@@ -18,7 +18,6 @@ use Rattle.vm_disk.proofs.MomentLemmas.{clean_sure, spared, same_medium}
 use Rattle.vm_alloc.specs.Held.{IsHeld, HoldsMore}
 use Rattle.vm_block.specs.Slot.{SlotFits, used_blocks}
 use Rattle.vm_block.specs.Slot as slot
-use Rattle.vm_block.specs.Tree.{IsData}
 use Rattle.vm_block.specs.declared.slot.Entry.{Entry}
 use Rattle.vm_block.specs.Selector.{names_b}
 use Rattle.vm_catalog.specs.Place.{is_used, slot_at}
@@ -26,6 +25,7 @@ use Rattle.vm_catalog.specs.Catalog.{Names, AtRest}
 use Rattle.vm_catalog.specs.Publishing.{IsPublished, PublishLeaves}
 use Rattle.vm_catalog.proofs.PlaceLemmas.{used_cases, sixteen}
 use Rattle.vm_catalog.proofs.PublishLemmas.{names_in}
+use Rattle.vm_tree.specs.Tree.{IsData}
 use Rattle.vm_tree.specs.Answers.{Puts}
 use Rattle.vm_tree.specs.Free.{is_free}
 use Rattle.vm_tree.specs.Root.{IsRootedIn}

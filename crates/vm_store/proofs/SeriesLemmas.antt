@@ -18,7 +18,7 @@ use Rattle.vm_tree.specs.Free.{is_free}
 use Rattle.vm_tree.specs.Root.{IsRootedIn}
 use Rattle.vm_tree.specs.declared.root.Root.{Root}
 use Rattle.vm_tree.proofs.Sparing.{spares_more, spares_then}
-use Rattle.vm_store.specs.Resting.{HoldsWith, IsInSeries, KeepsSeries, Rests, no_root, set_aside, state_aside}
+use Rattle.vm_store.specs.Resting.{HoldsWith, IsInSeries, KeepsSeries, Rests, before_of, before_series, no_root, set_aside, state_aside}
 use Rattle.vm_store.specs.Sizes.{sizes}
 use Rattle.vm_store.specs.Versions.{is_alternative_of, with_current}
 use Rattle.vm_store.specs.declared.version.Version.{Version}
@@ -51,15 +51,13 @@ changed_again (a ∷ t) name f g h same =
     ] refl
 
 module _ (m : Medium) (limit : ℕ) (slot_b : Bool) (bits before : List Bool) (committed working : List Version) (s : State) where
-  -- a series begins
-  pub begun : (alt : List ℕ) → before ≡ bits → Rests m limit slot_b bits committed working s → IsInSeries alt m limit slot_b bits before committed working s
-  begun alt same rests =
-      subst (λ held. IsInSeries alt m limit slot_b bits held committed working s) (sym same)
-      (record {
-        wider = holds_same bits;
-        others = current_rests m limit slot_b bits committed working s rests alt (λ _. []) m bits no_root (omega arith) (spares_itself (is_free bits) m) (holds_same bits)
-            (λ f found. none_grown (IsHeld bits) m.contents limit no_root refl);
-      })
+  -- all trees but that of the alternative's records stand in the held blocks
+  all_held : (alt : List ℕ) → Rests m limit slot_b bits committed working s → IsInSeries alt m limit slot_b bits bits committed working s
+  all_held alt rests = record {
+    wider = holds_same bits;
+    others = current_rests m limit slot_b bits committed working s rests alt (λ _. []) m bits no_root (omega arith) (spares_itself (is_free bits) m) (holds_same bits)
+        (λ f found. none_grown (IsHeld bits) m.contents limit no_root refl);
+  }
 
   -- it goes on, or begins
   pub gone_on : (alt : List ℕ) (old : List Bool) (series : Option (List ℕ)) → (series ≡ Some alt × before ≡ old) ⊎ (before ≡ bits) → HoldsWith m limit slot_b bits old series committed working s
@@ -67,7 +65,30 @@ module _ (m : Medium) (limit : ℕ) (slot_b : Bool) (bits before : List Bool) (c
   gone_on alt old series (inl same) holds =
       subst (λ held. IsInSeries alt m limit slot_b bits held committed working s) (sym same.1)
       (subst (λ o. KeepsSeries o m limit slot_b bits old committed working s) same.0 holds.series_kept)
-  gone_on alt old series (inr same) holds = begun alt same holds.rests
+  gone_on alt old series (inr same) holds =
+      subst (λ held. IsInSeries alt m limit slot_b bits held committed working s) (sym same) (all_held alt holds.rests)
+
+  -- it goes on, or begins, or none goes on
+  pub went_on : (alt : List ℕ) (old : List Bool) (series next : Option (List ℕ)) → (next ≡ Some alt) ⊎ (next ≡ None) → (next ≡ Some alt → (series ≡ Some alt × before ≡ old) ⊎ (before ≡ bits)) → HoldsWith m limit slot_b bits old series committed working s
+      → HoldsWith m limit slot_b bits before next committed working s
+  went_on alt old series next (inl is) on holds = record {
+    rests = holds.rests;
+    series_kept = subst (λ o. KeepsSeries o m limit slot_b bits before committed working s) (sym is) (gone_on alt old series (on is) holds);
+  }
+  went_on alt old series next (inr none) on holds = record {
+    rests = holds.rests;
+    series_kept = subst (λ o. KeepsSeries o m limit slot_b bits before committed working s) (sym none) tt;
+  }
+
+  -- the trees beside that of the alternative stand in blocks that a change of it may not touch
+  pub in_series : (alt : List ℕ) (series : Option (List ℕ)) (stays : List Bool) → (series ≡ Some alt) ⊎ (series ≡ None) → stays ≡ before_of (before_series series before) bits → HoldsWith m limit slot_b bits before series committed working s
+      → IsInSeries alt m limit slot_b bits stays committed working s
+  in_series alt series stays (inl is) same holds =
+      subst (λ b. IsInSeries alt m limit slot_b bits b committed working s) (sym (same ∙ ap (λ o. before_of (before_series o before) bits) is))
+      (subst (λ o. KeepsSeries o m limit slot_b bits before committed working s) is holds.series_kept)
+  in_series alt series stays (inr none) same holds =
+      subst (λ b. IsInSeries alt m limit slot_b bits b committed working s) (sym (same ∙ ap (λ o. before_of (before_series o before) bits) none))
+      (all_held alt holds.rests)
 
   -- other trees stand after calls that write free blocks alone
   series_more : (series : Option (List ℕ)) (now : Medium) (after : List Bool) → TouchesOnly (is_free bits) m now → HoldsMore bits after
@@ -131,6 +152,16 @@ read_holds old new limit slot_b bits before series committed working s reads hol
 pub holds_alone : {m : Medium} {limit : ℕ} {slot_b : Bool} {bits before : List Bool} {committed working : List Version} {s : State} → Rests m limit slot_b bits committed working s
     → HoldsWith m limit slot_b bits before None committed working s
 holds_alone rests = record { rests = rests; series_kept = tt }
+
+-- after a change the series goes on as before it, if one did
+pub holds_then : {m : Medium} {limit : ℕ} {slot_b : Bool} {bits before marks : List Bool} {committed working : List Version} {s : State} (alt : List ℕ) (series : Option (List ℕ)) (held : List Bool)
+    → (series ≡ Some alt) ⊎ (series ≡ None) → before ≡ before_of (before_series series marks) held
+    → HoldsWith m limit slot_b bits before (Some alt) committed working s → HoldsWith m limit slot_b bits marks series committed working s
+holds_then {m} {limit} {slot_b} {bits} {before} {marks} {committed} {working} {s} alt series held (inl is) same holds =
+    subst (λ o. HoldsWith m limit slot_b bits marks o committed working s) (sym is)
+    (subst (λ b. HoldsWith m limit slot_b bits b (Some alt) committed working s) (same ∙ ap (λ o. before_of (before_series o marks) held) is) holds)
+holds_then {m} {limit} {slot_b} {bits} {before} {marks} {committed} {working} {s} alt series held (inr none) same holds =
+    subst (λ o. HoldsWith m limit slot_b bits marks o committed working s) (sym none) (holds_alone holds.rests)
 
 -- a store with a series and entries that are known by other names
 pub holds_as : {m : Medium} {limit : ℕ} {slot_b : Bool} {bits before : List Bool} {series other : Option (List ℕ)} {committed working changed : List Version} {s : State} → other ≡ series → changed ≡ working

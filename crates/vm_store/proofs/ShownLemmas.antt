@@ -4,9 +4,8 @@ use Rattle.vm_types.specs.Map.{Map}
 use Rattle.vm_types.specs.State.{Seen}
 use Rattle.vm_types.specs.Tree.{Tree}
 use Rattle.vm_disk.specs.Disk.{Contents}
-use Rattle.vm_block.proofs.TreeLemmas.{tree_one}
-use Rattle.vm_block.specs.Tree.{IsTree}
 use Rattle.vm_catalog.proofs.SlotOne.{names_one}
+use Rattle.vm_tree.specs.Tree.{IsTree}
 use Rattle.vm_tree.specs.Root.{IsRootedIn}
 use Rattle.vm_tree.specs.declared.root.Root.{Root}
 use Rattle.vm_store.specs.Sizes.{sizes}
@@ -15,6 +14,7 @@ use Rattle.vm_store.specs.Shown.{Shows}
 use Rattle.vm_store.specs.Versions.{entry_of, slot_entries}
 use Rattle.vm_store.specs.declared.version.Version.{Version}
 use Rattle.vm_store.proofs.TopLemmas.{rooted_tree}
+use Rattle.vm_tree.proofs.TreeLemmas.{tree_one}
 
 -- under two roots of one block lies one map
 map_one : (P : ℕ → Type 0) (x : Contents) (limit : ℕ) (r q : Root) (m n : Map) → r.block ≡ q.block → IsRootedIn sizes P x limit r m → IsRootedIn sizes P x limit q n → m ≡ n

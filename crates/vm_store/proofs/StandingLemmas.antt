@@ -6,8 +6,8 @@ use Rattle.vm_types.specs.Map.{Map}
 use Rattle.vm_types.specs.Firsts.{change_first}
 use Rattle.vm_disk.specs.Disk.{Contents, block}
 use Rattle.vm_block.specs.Slot.{is_alternative}
-use Rattle.vm_block.specs.Tree.{IsData}
 use Rattle.vm_block.proofs.EachLemmas.{each_join, each_front, each_back, each_both}
+use Rattle.vm_tree.specs.Tree.{IsData}
 use Rattle.vm_tree.specs.Root.{IsRootedIn}
 use Rattle.vm_tree.specs.declared.root.Root.{Root}
 use Rattle.vm_store.specs.Sizes.{sizes}

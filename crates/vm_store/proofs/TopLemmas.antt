@@ -4,9 +4,9 @@ use Rattle.std.specs.List.{AllByRecursion}
 use Rattle.vm_types.specs.declared.key.Key.{Key}
 use Rattle.vm_types.specs.Map.{Map}
 use Rattle.vm_disk.specs.Disk.{Contents, block}
-use Rattle.vm_block.specs.Tree.{IsData, IsTree}
 use Rattle.vm_block.proofs.EachLemmas.{each_so, each_both}
-use Rattle.vm_block.proofs.TreeLemmas.{subtree_in, tree_data, tree_none, tree_closes}
+use Rattle.vm_tree.specs.Tree.{IsData, IsTree}
+use Rattle.vm_tree.proofs.TreeLemmas.{subtree_in, tree_data, tree_none, tree_closes}
 use Rattle.vm_tree.proofs.Descent.{subtree_top}
 use Rattle.vm_tree.specs.Answers as tree
 use Rattle.vm_tree.specs.Root.{IsRooted, IsRootedIn}

@@ -3,8 +3,8 @@ use Rattle.std.proofs.Common.{inl, inr, ℕ, zero, suc, ◌≤◌, List, [], ◌
 use Rattle.vm_types.specs.Map.{Map}
 use Rattle.vm_disk.specs.Disk.{Contents}
 use Rattle.vm_block.specs.Leaf.{Record}
-use Rattle.vm_block.specs.Tree.{IsData, Children, Subtree}
 use Rattle.vm_block.specs.declared.node.Child.{Child}
+use Rattle.vm_tree.specs.Tree.{IsData, Children, Subtree}
 use Rattle.vm_tree.specs.Root.{IsRootedIn, IsRooted}
 use Rattle.vm_tree.specs.declared.root.Root.{Root}
 use Rattle.vm_store.specs.Filed.{Filed, Standing}

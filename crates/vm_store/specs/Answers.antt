@@ -14,7 +14,7 @@ use Rattle.vm_types.specs.State.{State, outcome, tree_after, edits}
 use Rattle.vm_types.specs.Step.{Outcome, step}
 use Rattle.vm_types.specs.Tree.{Tree, current_of}
 use Rattle.vm_disk.specs.Disk.{Contents}
-use Rattle.vm_block.specs.FullPath.{FullPath}
+use Rattle.vm_tree.specs.FullPath.{FullPath}
 use Rattle.vm_store.specs.Sizes.{sizes}
 
 -- the key is absent from the map, and the tree under the root has no room for one more record where it belongs

@@ -4,7 +4,7 @@ use Rattle.vm_types.specs.declared.change.Change.{Change}
 use Rattle.vm_types.specs.Map.{Map, get, with_changes}
 use Rattle.vm_types.specs.Places.{place}
 use Rattle.vm_disk.specs.Disk.{Contents}
-use Rattle.vm_block.specs.FullPath.{FullPath}
+use Rattle.vm_tree.specs.FullPath.{FullPath}
 use Rattle.vm_tree.specs.Root.{IsRooted}
 use Rattle.vm_tree.specs.declared.root.Root.{Root}
 use Rattle.vm_tree.specs.declared.root.TreeFault.{TreeFault}

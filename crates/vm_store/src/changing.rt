@@ -40,8 +40,8 @@ fn make_change<D: Disk>(
         (λ r. IsRootedIn sizes (IsHeld held.new) (D.state disk.new).now.contents (length held.old) r (with_change m change.now)) }
 {
     match &change.after {
-        Some(value) => put_forgetting(disk, held, before, root, change.key, value),
-        None => match remove_forgetting(disk, held, before, root, change.key) {
+        Some(value) => put_forgetting(disk, held, Some(before), root, change.key, value),
+        None => match remove_forgetting(disk, held, Some(before), root, change.key) {
             Ok(Some(rest)) => Ok(rest),
             Ok(None) => Ok(root),
             Err(fault) => Err(fault),

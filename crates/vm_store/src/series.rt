@@ -1,7 +1,7 @@
 //! Series of changes: Puts and Removes in one alternative with no other command between them. A block
 //! that was taken since a series began stands in no tree but that of its alternative's records, so where
 //! a change replaces it, nothing needs its bytes.
-ghost use Rattle.std.specs.Prelude.{◌≡◌, ◌≢◌, ◌↔◌, ◌⊎◌, ◌+◌, ◌<◌, ◌≤◌, ℕ, true, length, None, Some, IsTrue, IfOk, OnErr};
+ghost use Rattle.std.specs.Prelude.{◌≡◌, ◌≢◌, ◌↔◌, ◌⊎◌, ◌+◌, ◌<◌, ◌≤◌, ℕ, true, length, None, Some, option_copied, IsTrue, IfOk, OnErr};
 ghost use Rattle.std.specs.List.{AllByRecursion};
 ghost use Rattle.vm_types.specs.Map.{get, with_value, without};
 ghost use Rattle.vm_disk.specs.Disk.{Goes, Idles, block};
@@ -12,6 +12,7 @@ ghost use Rattle.vm_tree.specs.Calls.{LooksIf};
 ghost use Rattle.vm_tree.specs.Free.{is_free};
 ghost use Rattle.vm_tree.specs.Replacing.{Lacks, path_under};
 ghost use Rattle.vm_tree.specs.Root.{IfWhole, IsRootedIn};
+ghost use Rattle.vm_store.specs.Resting.{before_of, before_series};
 ghost use Rattle.vm_store.specs.Sizes.{sizes};
 
 use crate::{FAN, LEAF, LEVELS};
@@ -30,19 +31,46 @@ pub fn goes_on(series: &Option<Name>, alt: &Name) -> bool
     }
 }
 
-/// Goes on with the series of this alternative, or begins it after the blocks that are held now.
-pub fn go_on(series: &mut Option<Name>, before: &mut Marks, held: &Held, alt: &Name)
+/// How many blocks a change pays for, when it is copied which of them are held.
+const BLOCKS_COPIED_A_CHANGE: u32 = 16_384;
+
+/// Goes on with the series of this alternative. Else it begins one after the blocks that are held now,
+/// where enough changes came since they were copied last, and otherwise none goes on: so on the whole a
+/// change copies the same at most, however large the store is.
+pub fn go_on(
+    series: &mut Option<Name>,
+    changes: &mut u32,
+    before: &mut Marks,
+    held: &Held,
+    alt: &Name,
+)
     requires { length held.now ≡ length before.old }
-    ensures series { series.new ≡ Some alt.now }
-    ensures before { ((series.old ≡ Some alt.now) × (before.new ≡ before.old))
-        ⊎ (before.new ≡ held.now) }
+    ensures series { (series.new ≡ Some alt.now) ⊎ (series.new ≡ None) }
+    ensures before { series.new ≡ Some alt.now
+        → ((series.old ≡ Some alt.now) × (before.new ≡ before.old)) ⊎ (before.new ≡ held.now) }
     ensures many { length before.new ≡ length before.old }
 {
     if goes_on(series, alt) {
         return;
     }
+    if *changes < before.blocks() / BLOCKS_COPIED_A_CHANGE {
+        *changes += 1;
+        *series = None;
+        return;
+    }
+    *changes = 0;
     before.copy_held(held);
     *series = Some(*alt);
+}
+
+/// The blocks that were held before the series, where one goes on.
+pub fn before_series<'a>(series: &Option<Name>, marks: &'a Marks) -> Option<&'a Marks>
+    ensures { option_copied result ≡ before_series series.now marks.now }
+{
+    match series {
+        Some(_) => Some(marks),
+        None => None,
+    }
 }
 
 // Forgets the blocks that were not held before.
@@ -82,17 +110,18 @@ fn forget_path<D: Disk>(disk: &mut D, before: &Marks, root: Root, path: &[u32; 8
 }
 
 /// Gives the key this value in the tree under a root, and returns the new root. The blocks of the path as
-/// it was are forgotten, but for those that were held before. The caller owes 16 free blocks.
+/// it was are forgotten, but for those that were held before the series; where none goes on, all of them
+/// were. The caller owes 16 free blocks.
 pub fn put_forgetting<D: Disk>(
     disk: &mut D,
     held: &mut Held,
-    before: &Marks,
+    before: Option<&Marks>,
     root: Root,
     key: Key,
     value: &Value,
 ) -> Result<Root, TreeFault>
     requires inside { length held.old ≤ (D.state disk.old).blocks }
-    requires before { length before.now ≡ length held.old }
+    requires before { length (before_of (option_copied before) held.old) ≡ length held.old }
     requires room { 16 ≤ free_count held.old }
     ensures any { Goes (result ≡ Err TreeFault.Device) (D.state disk.old) (D.state disk.new) }
     ensures memory { result ≢ Err TreeFault.Memory }
@@ -101,9 +130,9 @@ pub fn put_forgetting<D: Disk>(
     ensures block { IfOk result (λ r. r.block < length held.new) }
 
     // At no moment has a block that was held before other bytes, and where no root is answered, no held one has.
-    ensures moments { (D.state disk.new).honest ≡ true → HoldsMore before.now held.old
+    ensures moments { (D.state disk.new).honest ≡ true → HoldsMore (before_of (option_copied before.entry) held.old) held.old
         → Throughout (D.state disk.old) (D.state disk.new)
-        (TouchesOnly (is_free before.now) (D.state disk.old).now) }
+        (TouchesOnly (is_free (before_of (option_copied before.entry) held.old)) (D.state disk.old).now) }
     ensures failed { (D.state disk.new).honest ≡ true
         → OnErr result (Throughout (D.state disk.old) (D.state disk.new)
         (TouchesOnly (is_free held.old) (D.state disk.old).now)) }
@@ -117,7 +146,9 @@ pub fn put_forgetting<D: Disk>(
     let mut path = [0; 8];
     match put::<D, LEAF, FAN, LEVELS>(disk, held, root, key, value, &mut path) {
         Ok(new_root) => {
-            forget_path(disk, before, root, &path);
+            if let Some(before) = before {
+                forget_path(disk, before, root, &path);
+            }
             Ok(new_root)
         }
         Err(fault) => Err(fault),
@@ -125,17 +156,17 @@ pub fn put_forgetting<D: Disk>(
 }
 
 /// Takes the record of a key out of the tree under a root, and returns the new root, or None where the
-/// key is absent. The blocks of the path as it was are forgotten, but for those that were held before.
-/// The caller owes 16 free blocks.
+/// key is absent. The blocks of the path as it was are forgotten, but for those that were held before the
+/// series; where none goes on, all of them were. The caller owes 16 free blocks.
 pub fn remove_forgetting<D: Disk>(
     disk: &mut D,
     held: &mut Held,
-    before: &Marks,
+    before: Option<&Marks>,
     root: Root,
     key: Key,
 ) -> Result<Option<Root>, TreeFault>
     requires inside { length held.old ≤ (D.state disk.old).blocks }
-    requires before { length before.now ≡ length held.old }
+    requires before { length (before_of (option_copied before) held.old) ≡ length held.old }
     requires room { 16 ≤ free_count held.old }
     ensures any { Goes (result ≡ Err TreeFault.Device) (D.state disk.old) (D.state disk.new) }
     ensures deep { result ≢ Err TreeFault.Deep }
@@ -146,9 +177,9 @@ pub fn remove_forgetting<D: Disk>(
         (D.state disk.old) (D.state disk.new) }
 
     // At no moment has a block that was held before other bytes, and where the device fails, no held one has.
-    ensures moments { (D.state disk.new).honest ≡ true → HoldsMore before.now held.old
+    ensures moments { (D.state disk.new).honest ≡ true → HoldsMore (before_of (option_copied before.entry) held.old) held.old
         → Throughout (D.state disk.old) (D.state disk.new)
-        (TouchesOnly (is_free before.now) (D.state disk.old).now) }
+        (TouchesOnly (is_free (before_of (option_copied before.entry) held.old)) (D.state disk.old).now) }
     ensures failed { (D.state disk.new).honest ≡ true
         → OnErr result (Throughout (D.state disk.old) (D.state disk.new)
         (TouchesOnly (is_free held.old) (D.state disk.old).now)) }
@@ -162,7 +193,9 @@ pub fn remove_forgetting<D: Disk>(
     let mut path = [0; 8];
     match remove::<D, LEAF, FAN, LEVELS>(disk, held, root, key, &mut path) {
         Ok(Some(rest)) => {
-            forget_path(disk, before, root, &path);
+            if let Some(before) = before {
+                forget_path(disk, before, root, &path);
+            }
             Ok(Some(rest))
         }
         Ok(None) => Ok(None),

@@ -46,6 +46,8 @@ pub struct Store<D: Disk> {
     marks: Marks,
     // The alternative of which the commands since then changed records, and no other command came.
     series: Option<Name>,
+    // How many changes were made outside a series since the held blocks were copied last.
+    changes: u32,
     failed: bool,
     ghost least: { 64 ≤ blocks },
     ghost most: { blocks ≤ 2 ^ 20 },
@@ -143,6 +145,7 @@ impl<D: Disk> Store<D> {
             held: _,
             marks: _,
             series: _,
+            changes: _,
             failed: _,
         } = self;
         disk

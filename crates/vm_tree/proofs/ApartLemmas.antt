@@ -4,13 +4,13 @@ use Rattle.std.specs.List.{AllByRecursion}
 use Rattle.vm_types.specs.declared.key.Key.{Key}
 use Rattle.vm_types.specs.Places.{place, RisesFrom, places}
 use Rattle.vm_disk.specs.Disk.{Contents, block}
-use Rattle.vm_block.specs.Leaf.{Record}
-use Rattle.vm_block.specs.Tree.{Sizes, BeginsWith, Children, Subtree}
+use Rattle.vm_block.specs.Leaf.{Record, BeginsWith}
 use Rattle.vm_block.specs.declared.node.Child.{Child}
 use Rattle.vm_block.proofs.EachLemmas.{each_front, each_back, each_join}
 use Rattle.vm_block.proofs.NodeLemmas.{node_one}
-use Rattle.vm_block.proofs.TreeLemmas.{holds_or_node, holds_some, subtree_one}
+use Rattle.vm_tree.specs.Tree.{Sizes, Children, Subtree}
 use Rattle.vm_tree.specs.Replacing.{Lacks, Apart}
+use Rattle.vm_tree.proofs.TreeLemmas.{holds_or_node, holds_some, subtree_one}
 use Rattle.vm_tree.proofs.Rising.{Above, rises_front, rises_back, rises_above}
 
 -- the first of these records stands at p

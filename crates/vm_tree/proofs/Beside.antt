@@ -7,12 +7,12 @@ use Rattle.std.proofs.lemmas.List.{take_more, get_or-set_same, get_or-set_other}
 use Rattle.vm_types.specs.Places.{RisesFrom, places}
 use Rattle.vm_disk.specs.Disk.{Contents, Medium}
 use Rattle.vm_alloc.specs.Held.{IsHeld}
-use Rattle.vm_block.specs.Leaf.{Record}
+use Rattle.vm_block.specs.Leaf.{Record, BeginsWith}
 use Rattle.vm_block.specs.Node.{lows}
-use Rattle.vm_block.specs.FullPath.{IsChosen}
-use Rattle.vm_block.specs.Tree.{Sizes, BeginsWith, Children, Subtree}
+use Rattle.vm_block.specs.Way.{IsChosen}
 use Rattle.vm_block.specs.declared.node.Child.{Child}
 use Rattle.vm_block.proofs.EachLemmas.{each_front, each_back, each_join, each_so, each_both}
+use Rattle.vm_tree.specs.Tree.{Sizes, Children, Subtree}
 use Rattle.vm_tree.specs.Reading.{IsNodeAt}
 use Rattle.vm_tree.specs.Replacing.{Lacks, Apart, IsPathIn, IsRenewed, KeepsBeside, path_from}
 use Rattle.vm_tree.proofs.ApartLemmas.{all_above, children_before, subtree_once}

@@ -5,17 +5,16 @@ use Rattle.std.proofs.lemmas.List.{length-map, get_or-map, drop-map}
 use Rattle.vm_types.specs.declared.key.Key.{Key}
 use Rattle.vm_types.specs.Places.{place, RisesFrom, places, value_at}
 use Rattle.vm_disk.specs.Disk.{Contents, block, Medium}
-use Rattle.vm_block.specs.Leaf.{Record}
+use Rattle.vm_block.specs.Leaf.{Record, BeginsWith}
 use Rattle.vm_block.specs.Node.{IsNode, lows}
-use Rattle.vm_block.specs.FullPath.{IsChosen}
-use Rattle.vm_block.specs.Tree.{Sizes, IsData, BeginsWith, Children, Subtree}
-use Rattle.vm_block.specs.Way.{Lowest, Takes}
+use Rattle.vm_block.specs.Way.{IsChosen, Lowest, Takes}
 use Rattle.vm_block.specs.declared.node.Child.{Child}
 use Rattle.vm_block.proofs.NodeLemmas.{node_one}
-use Rattle.vm_block.proofs.TreeLemmas.{leaf_opens, node_opens}
+use Rattle.vm_tree.specs.Tree.{Sizes, IsData, Children, Subtree}
 use Rattle.vm_tree.specs.Answers.{OkOrDevice}
 use Rattle.vm_tree.specs.Reading.{IsLeafAt, IsNodeAt}
 use Rattle.vm_tree.specs.declared.root.TreeFault.{TreeFault}
+use Rattle.vm_tree.proofs.TreeLemmas.{leaf_opens, node_opens}
 use Rattle.vm_tree.proofs.Rising.{Below, Above, rises_front, rises_back, rises_before, rises_above, below_more, value_between}
 use Rattle.vm_tree.proofs.Splitting.{SplitAt, split_at}
 

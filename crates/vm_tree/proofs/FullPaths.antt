@@ -7,13 +7,14 @@ use Rattle.vm_types.specs.Places.{place, RisesFrom, places, value_at, with_recor
 use Rattle.vm_disk.specs.Disk.{Contents, block}
 use Rattle.vm_block.specs.Leaf.{Record}
 use Rattle.vm_block.specs.Node.{IsNode, lows}
-use Rattle.vm_block.specs.FullPath.{IsChosen, FullBelow, blocks_of}
-use Rattle.vm_block.specs.Tree.{Sizes}
+use Rattle.vm_block.specs.Way.{IsChosen}
 use Rattle.vm_block.specs.declared.node.Child.{Child}
 use Rattle.vm_block.proofs.LeafLemmas.{leaf_one}
 use Rattle.vm_block.proofs.NodeLemmas.{node_one}
-use Rattle.vm_block.proofs.TreeLemmas.{LeafAt}
+use Rattle.vm_tree.specs.FullPath.{FullBelow, blocks_of}
+use Rattle.vm_tree.specs.Tree.{Sizes}
 use Rattle.vm_tree.specs.Making.{Splits}
+use Rattle.vm_tree.proofs.TreeLemmas.{LeafAt}
 use Rattle.vm_tree.proofs.Descent.{Opened}
 use Rattle.vm_tree.proofs.Placing.{with_longest, with_longer, absent_before}
 use Rattle.vm_tree.proofs.Rising.{value_between}

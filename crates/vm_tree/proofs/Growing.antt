@@ -5,14 +5,14 @@ use Rattle.std.specs.List.{AllByRecursion}
 use Rattle.vm_types.specs.declared.key.Key.{Key}
 use Rattle.vm_types.specs.Places.{place, RisesFrom, places}
 use Rattle.vm_disk.specs.Disk.{Contents, block}
-use Rattle.vm_block.specs.Leaf.{Record, RecordFits, leaf_bytes}
+use Rattle.vm_block.specs.Leaf.{Record, BeginsWith, RecordFits, leaf_bytes}
 use Rattle.vm_block.specs.Node.{ChildFits, IsNode, lows, node_bytes}
-use Rattle.vm_block.specs.Tree.{Sizes, IsData, BeginsWith, Children, Subtree}
 use Rattle.vm_block.specs.Way.{Lowest}
 use Rattle.vm_block.specs.declared.node.Child.{Child}
 use Rattle.vm_block.proofs.EachLemmas.{each_front, each_back, each_join, each_so}
-use Rattle.vm_block.proofs.TreeLemmas.{subtree_in, leaf_closes, node_closes}
+use Rattle.vm_tree.specs.Tree.{Sizes, IsData, Children, Subtree}
 use Rattle.vm_tree.specs.Making.{Made}
+use Rattle.vm_tree.proofs.TreeLemmas.{subtree_in, leaf_closes, node_closes}
 use Rattle.vm_tree.proofs.Rising.{rises_back}
 use Rattle.vm_tree.proofs.Splitting.{children_in, children_join, child_alone, cut_at}
 

@@ -16,3 +16,4 @@ pub mod RootRemoval
 pub mod ScanLemmas
 pub mod Sparing
 pub mod Splitting
+pub mod TreeLemmas

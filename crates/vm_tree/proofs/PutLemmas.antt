@@ -6,14 +6,13 @@ use Rattle.std.proofs.lemmas.List.{length-map}
 use Rattle.vm_types.specs.Places.{place, RisesFrom, places, value_at, with_record}
 use Rattle.vm_disk.specs.Disk.{Contents, block, Medium}
 use Rattle.vm_alloc.specs.Held.{HoldsMore, IsHeld}
-use Rattle.vm_block.specs.Leaf.{Record}
+use Rattle.vm_block.specs.Leaf.{Record, BeginsWith}
 use Rattle.vm_block.specs.Node.{ChildFits, lows}
-use Rattle.vm_block.specs.FullPath.{IsChosen}
-use Rattle.vm_block.specs.Tree.{Sizes, BeginsWith, Children, Subtree}
+use Rattle.vm_block.specs.Way.{IsChosen}
 use Rattle.vm_block.specs.declared.node.Child.{Child}
 use Rattle.vm_block.proofs.EachLemmas.{each_front, each_back, each_so}
 use Rattle.vm_block.proofs.NodeLemmas.{node_one}
-use Rattle.vm_block.proofs.TreeLemmas.{subtree_in, LeafAt}
+use Rattle.vm_tree.specs.Tree.{Sizes, Children, Subtree}
 use Rattle.vm_tree.specs.Answers.{OkOrDevice}
 use Rattle.vm_tree.specs.Making.{Made, PutsBelow, Splits, children_of, is_split}
 use Rattle.vm_tree.specs.Reading.{IsNodeAt}
@@ -22,6 +21,7 @@ use Rattle.vm_tree.specs.declared.root.TreeFault.TheVariants.{Device, Damaged, D
 use Rattle.vm_tree.specs.declared.writing.Copied.{Copied}
 use Rattle.vm_tree.specs.declared.writing.Copied.TheVariants.{One, Two}
 use Rattle.vm_tree.specs.Replacing.{IsPathIn, IsRenewed, KeepsBeside, Replaces}
+use Rattle.vm_tree.proofs.TreeLemmas.{subtree_in, LeafAt}
 use Rattle.vm_tree.proofs.Beside.{if_ok_where, left_renewed, own_held, own_keeps, right_renewed}
 use Rattle.vm_tree.proofs.Descent.{Opened, opens}
 use Rattle.vm_tree.proofs.FullPaths.{leaf_splits, splits_leaf, node_splits, splits_node}

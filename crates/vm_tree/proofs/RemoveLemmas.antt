@@ -5,14 +5,12 @@ use Rattle.std.proofs.lemmas.List.{nil_from_length, length-map}
 use Rattle.vm_types.specs.Places.{place, RisesFrom, places, value_at}
 use Rattle.vm_disk.specs.Disk.{Contents, block, Medium}
 use Rattle.vm_alloc.specs.Held.{HoldsMore, IsHeld}
-use Rattle.vm_block.specs.Leaf.{Record}
+use Rattle.vm_block.specs.Leaf.{Record, BeginsWith}
 use Rattle.vm_block.specs.Node.{ChildFits, IsNode, lows}
-use Rattle.vm_block.specs.FullPath.{IsChosen}
-use Rattle.vm_block.specs.Tree.{Sizes, BeginsWith, Children, Subtree}
-use Rattle.vm_block.specs.Way.{Lowest, Takes}
+use Rattle.vm_block.specs.Way.{IsChosen, Lowest, Takes}
 use Rattle.vm_block.specs.declared.node.Child.{Child}
 use Rattle.vm_block.proofs.EachLemmas.{each_front, each_back, each_join, each_so}
-use Rattle.vm_block.proofs.TreeLemmas.{node_opens}
+use Rattle.vm_tree.specs.Tree.{Sizes, Children, Subtree}
 use Rattle.vm_tree.specs.Answers.{OkOrDevice}
 use Rattle.vm_tree.specs.Making.{Made}
 use Rattle.vm_tree.specs.Reading.{IsNodeAt}
@@ -22,6 +20,7 @@ use Rattle.vm_tree.specs.declared.root.Root.{Root}
 use Rattle.vm_tree.specs.declared.root.TreeFault.{TreeFault}
 use Rattle.vm_tree.specs.declared.removing.Left.{Left}
 use Rattle.vm_tree.specs.declared.removing.Left.TheVariants.{Same, Nothing, Rest}
+use Rattle.vm_tree.proofs.TreeLemmas.{node_opens}
 use Rattle.vm_tree.proofs.Beside.{left_renewed, own_held, own_keeps, right_renewed}
 use Rattle.vm_tree.proofs.Descent.{Opened, opens, lowest_of, ok_map}
 use Rattle.vm_tree.proofs.Growing.{made_moved}

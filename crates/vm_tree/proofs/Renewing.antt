@@ -5,8 +5,8 @@ use Rattle.std.proofs.lemmas.Bool.{cases_Bool, cases_eq, eq-eqb, false≢true, n
 use Rattle.vm_types.specs.Map.{Map}
 use Rattle.vm_disk.specs.Disk.{Contents}
 use Rattle.vm_alloc.specs.Held.{is_held, IsHeld, HoldsMore}
-use Rattle.vm_block.specs.Tree.{Sizes}
 use Rattle.vm_block.proofs.EachLemmas.{each_so}
+use Rattle.vm_tree.specs.Tree.{Sizes}
 use Rattle.vm_tree.specs.Free.{is_free}
 use Rattle.vm_tree.specs.Replacing.{Lacks, IsHeldBeside, IsPathIn, IsRenewed, Replaces, path_from, path_under}
 use Rattle.vm_tree.specs.Root.{IsRootedIn}

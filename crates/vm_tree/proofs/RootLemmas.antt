@@ -6,14 +6,13 @@ use Rattle.vm_types.specs.Map.{Map, get, with_value}
 use Rattle.vm_types.specs.Places.{place, KeyFits, FitKeys, RisesFrom, places, value_at, with_record}
 use Rattle.vm_types.proofs.Bridge.{value_at-get, with_record-value}
 use Rattle.vm_disk.specs.Disk.{Contents, block}
-use Rattle.vm_block.specs.Leaf.{Record, RecordFits}
-use Rattle.vm_block.specs.FullPath.{FullBelow}
-use Rattle.vm_block.specs.Tree.{Sizes, BeginsWith, Subtree}
+use Rattle.vm_block.specs.Leaf.{Record, BeginsWith, RecordFits}
 use Rattle.vm_block.specs.declared.node.Child.{Child}
 use Rattle.vm_block.proofs.EachLemmas.{each_so}
 use Rattle.vm_block.proofs.FormLemmas.{leaf_or_node}
 use Rattle.vm_block.proofs.NodeLemmas.{node_one}
-use Rattle.vm_block.proofs.TreeLemmas.{holds_or_node, subtree_fit}
+use Rattle.vm_tree.specs.FullPath.{FullBelow}
+use Rattle.vm_tree.specs.Tree.{Sizes, Subtree}
 use Rattle.vm_tree.specs.Answers.{LacksRoom, OkOrDevice, Puts}
 use Rattle.vm_tree.specs.Making.{Made, PutsBelow, Splits, children_of, is_split}
 use Rattle.vm_tree.specs.declared.writing.Copied.{Copied}
@@ -22,6 +21,7 @@ use Rattle.vm_tree.specs.Root.{IsTop, IsRootedIn}
 use Rattle.vm_tree.specs.declared.root.Root.{Root}
 use Rattle.vm_tree.specs.declared.root.TreeFault.{TreeFault}
 use Rattle.vm_tree.specs.declared.root.TreeFault.TheVariants.{Device, Damaged, Deep, Memory}
+use Rattle.vm_tree.proofs.TreeLemmas.{holds_or_node, subtree_fit}
 use Rattle.vm_tree.proofs.Descent.{subtree_top}
 use Rattle.vm_tree.proofs.Placing.{with_rises}
 

@@ -5,7 +5,7 @@ use Rattle.vm_types.specs.Map.{Map, get, without}
 use Rattle.vm_types.specs.Places.{place, KeyFits, value_at}
 use Rattle.vm_types.proofs.Bridge.{value_at-get}
 use Rattle.vm_disk.specs.Disk.{Contents}
-use Rattle.vm_block.specs.Tree.{Sizes}
+use Rattle.vm_tree.specs.Tree.{Sizes}
 use Rattle.vm_tree.specs.Making.{Made}
 use Rattle.vm_tree.specs.Removing.{child_of, without_place}
 use Rattle.vm_tree.specs.Root.{IsBare, IsTop, IsRooted, IsRootedIn}

@@ -4,8 +4,8 @@ use Rattle.std.proofs.lemmas.List.{take_more, take_at, drop_at, take_all}
 use Rattle.vm_disk.specs.Disk.{DiskState, Contents, Medium}
 use Rattle.vm_disk.proofs.MomentLemmas.{same_medium}
 use Rattle.vm_block.specs.Leaf.{Record}
-use Rattle.vm_block.specs.Tree.{Sizes, Children, Subtree}
 use Rattle.vm_block.specs.declared.node.Child.{Child}
+use Rattle.vm_tree.specs.Tree.{Sizes, Children, Subtree}
 use Rattle.vm_tree.specs.Answers.{Lists}
 use Rattle.vm_tree.specs.Calls.{OnlyLooks}
 use Rattle.vm_tree.specs.Reading.{IsNodeAt}

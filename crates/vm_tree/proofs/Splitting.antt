@@ -2,9 +2,9 @@
 use Rattle.std.proofs.Common.{◌≡◌, ℕ, zero, suc, ◌<◌, List, [], ◌∷◌, ◌++◌, length, get_or, take, drop, refl, sym, ap, ◌∙◌, subst, arith, append_assoc, append-nil}
 use Rattle.std.specs.List.{AllByRecursion}
 use Rattle.vm_block.proofs.EachLemmas.{each_front, each_back}
-use Rattle.vm_block.specs.Leaf.{Record}
-use Rattle.vm_block.specs.Tree.{BeginsWith, Children}
+use Rattle.vm_block.specs.Leaf.{Record, BeginsWith}
 use Rattle.vm_block.specs.declared.node.Child.{Child}
+use Rattle.vm_tree.specs.Tree.{Children}
 
 module _ (T : ℕ → List Record → List ℕ → Type 0) where
   -- what lies under the children before one of them, under it, and under those after it

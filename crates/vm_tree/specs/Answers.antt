@@ -4,8 +4,8 @@ use Rattle.vm_types.specs.declared.key.Key.{Key}
 use Rattle.vm_types.specs.Map.{Map, get}
 use Rattle.vm_types.specs.Places.{place}
 use Rattle.vm_disk.specs.Disk.{Contents}
-use Rattle.vm_block.specs.Tree.{Sizes}
-use Rattle.vm_block.specs.FullPath.{FullPath}
+use Rattle.vm_tree.specs.FullPath.{FullPath}
+use Rattle.vm_tree.specs.Tree.{Sizes}
 use Rattle.vm_tree.specs.declared.root.Root.{Root}
 use Rattle.vm_tree.specs.declared.root.TreeFault.{TreeFault}
 use Rattle.vm_tree.specs.declared.root.TreeFault.TheVariants.{Device, Damaged, Deep, Memory}

@@ -1,7 +1,7 @@
 -- Blocks that may be written.
-use Rattle.std.specs.Prelude.{ℕ, ◌<◌, ◌≤◌, Bool, not, List, length}
+use Rattle.std.specs.Prelude.{ℕ, ◌+◌, ◌<◌, ◌≤◌, Bool, not, List, length}
 use Rattle.std.specs.List.{AllByRecursion}
-use Rattle.vm_alloc.specs.Held.{is_held, IsHeld}
+use Rattle.vm_alloc.specs.Held.{is_held, IsHeld, free_count}
 use Rattle.vm_block.specs.declared.node.Child.{Child}
 
 -- is this block free?
@@ -17,3 +17,7 @@ pub record IsTaken (held : List Bool) (n : ℕ) : Type 0 where
 -- the blocks of these children are for data, and held now
 abbrev pub AreTaken : List Bool → List Child → Type 0
 AreTaken held cs = AllByRecursion (λ c. IsTaken held c.block) cs
+
+-- of the free blocks so many are taken at most
+abbrev pub TakesAtMost : ℕ → List Bool → List Bool → Type 0
+TakesAtMost n held later = free_count held ≤ free_count later + n

@@ -1,6 +1,12 @@
+pub mod Tree
+pub mod FullPath
 pub mod Free
+pub mod Giving
 pub mod Calls
+pub mod Laws
 pub mod Making
+pub mod Paths
+pub mod Putting
 pub mod Removing
 pub mod Root
 pub mod Answers

@@ -1,13 +1,18 @@
 -- Blocks of a tree as they are written anew.
-use Rattle.std.specs.Prelude.{◌≡◌, ◌↔◌, ℕ, Bool, true, false, ◌+◌, List, [], ◌∷◌, ◌++◌, take, drop, None, Result, Ok, Err}
+use Rattle.std.specs.Prelude.{◌≡◌, ◌↔◌, ℕ, ◌+◌, ◌-◌, ◌<◌, ◌≤◌, Bool, true, false, List, [], ◌∷◌, ◌++◌, length, take, drop, None, Result, Ok, Err, IfOk}
 use Rattle.std.specs.List.{AllByRecursion}
-use Rattle.vm_types.specs.Places.{value_at}
-use Rattle.vm_disk.specs.Disk.{Contents}
-use Rattle.vm_block.specs.Leaf.{Record}
-use Rattle.vm_block.specs.Node.{ChildFits}
-use Rattle.vm_block.specs.FullPath.{FullBelow}
-use Rattle.vm_block.specs.Tree.{Sizes, Children, Subtree}
+use Rattle.vm_types.specs.Places.{RisesFrom, places, value_at, with_record}
+use Rattle.vm_disk.specs.Disk.{Contents, DiskState, block}
+use Rattle.vm_alloc.specs.Held.{HoldsMore}
+use Rattle.vm_block.specs.Leaf.{Record, RecordFits, IsLeaf, leaf_bytes}
+use Rattle.vm_block.specs.Node.{ChildFits, IsNode, node_bytes}
+use Rattle.vm_block.specs.declared.way.Way.{Way}
 use Rattle.vm_block.specs.declared.node.Child.{Child}
+use Rattle.vm_tree.specs.FullPath.{FullBelow}
+use Rattle.vm_tree.specs.Tree.{Sizes, Children, Subtree}
+use Rattle.vm_tree.specs.Answers.{OkOrDevice}
+use Rattle.vm_tree.specs.Free.{AreTaken}
+use Rattle.vm_tree.specs.Replacing.{IsRenewed}
 use Rattle.vm_tree.specs.declared.root.TreeFault.{TreeFault}
 use Rattle.vm_tree.specs.declared.root.TreeFault.TheVariants.{Device, Damaged, Deep, Memory}
 use Rattle.vm_tree.specs.declared.writing.Copied.{Copied}
@@ -46,3 +51,94 @@ PutsBelow (Err Device) splits P = Unit {0}
 PutsBelow (Err (Damaged b)) splits P = ⊥
 PutsBelow (Err Deep) splits P = splits
 PutsBelow (Err Memory) splits P = ⊥
+
+-- where a block was written anew as one, P
+abbrev pub IfOne : {E : Type 0} → Result Copied E → Type 0 → Type 0
+IfOne result P = IfOk result (λ copied. is_split copied ≡ false → P)
+
+-- the blocks that were written are held now
+abbrev pub HasTaken : {E : Type 0} → Result Copied E → List Bool → Type 0
+HasTaken result held = IfOk result (λ copied. AreTaken held (children_of copied))
+
+-- the block that is answered has these bytes, where the disk is honest
+abbrev pub HasWritten : {E : Type 0} → Result ℕ E → DiskState → List ℕ → Type 0
+HasWritten result new bytes = new.honest ≡ true → IfOk result (λ n. block new.now.contents n ≡ bytes)
+
+-- # What is made of records, where the disk is honest after the call
+-- Whatever was held before, the blocks are held now, and those to be kept that were held before.
+
+-- records that rise, each within its limits, under children that are leaves, where so many may be in one
+abbrev pub MakesLeavesOf : {T : Type 0} → Result T TreeFault → (T → List Child) → ℕ → List Bool → List Bool → DiskState → List Record → Type 0
+MakesLeavesOf result children most held later new rs =
+    new.honest ≡ true → (before : List Bool) (keep : ℕ → Bool) → HoldsMore before held → (sizes : Sizes) → most ≤ sizes.leaf
+    → RisesFrom 0 (places rs) → AllByRecursion RecordFits rs
+    → IfOk result (λ done. Made (IsRenewed before later keep) sizes new.now.contents (length held) 0 (children done) rs)
+
+-- all of them in one leaf
+abbrev pub MakesLeaf : Result Child TreeFault → List Bool → List Bool → DiskState → List Record → Type 0
+MakesLeaf result held later new rs = MakesLeavesOf result (λ child. child ∷ []) (length rs) held later new rs
+
+-- in a leaf or two of so many records
+abbrev pub MakesLeaves : Result Copied TreeFault → ℕ → List Bool → List Bool → DiskState → List Record → Type 0
+MakesLeaves result most held later new rs = MakesLeavesOf result children_of most held later new rs
+
+-- the records of a leaf with this one, in a leaf or two of so many records
+abbrev pub PutsInLeaf : Result Copied TreeFault → ℕ → List Bool → List Bool → DiskState → List ℕ → Record → Type 0
+PutsInLeaf result most held later new bytes r =
+    new.honest ≡ true → (before : List Bool) (keep : ℕ → Bool) → HoldsMore before held → (sizes : Sizes) (rs : List Record)
+    → IsLeaf bytes rs → length rs ≤ most → most ≤ sizes.leaf
+    → IfOk result (λ copied. Made (IsRenewed before later keep) sizes new.now.contents (length held) 0 (children_of copied) (with_record r rs))
+
+-- the records of these bytes, where they are a leaf
+abbrev pub WritesLeaf : Result Child TreeFault → List Bool → List Bool → DiskState → List ℕ → Type 0
+WritesLeaf result held later new bytes =
+    new.honest ≡ true → (before : List Bool) (keep : ℕ → Bool) → HoldsMore before held → (sizes : Sizes) (rs : List Record)
+    → bytes ≡ leaf_bytes rs → 0 < length rs → length rs ≤ 16 → length rs ≤ sizes.leaf → RisesFrom 0 (places rs) → AllByRecursion RecordFits rs
+    → IfOk result (λ child. Made (IsRenewed before later keep) sizes new.now.contents (length held) 0 (child ∷ []) rs)
+
+-- the records under the children of these bytes, where they are an inner block
+abbrev pub WritesNode : Result Child TreeFault → List Bool → List Bool → DiskState → DiskState → List ℕ → Type 0
+WritesNode result held later old new bytes =
+    new.honest ≡ true → (before : List Bool) (keep : ℕ → Bool) → HoldsMore before held → (sizes : Sizes) (level : ℕ) (cs : List Child) (rs : List Record)
+    → bytes ≡ node_bytes level cs → 0 < level → level ≤ 7 → 0 < length cs → length cs ≤ 256 → length cs ≤ sizes.fan → RisesFrom 0 (places rs)
+    → Made (IsRenewed before held keep) sizes old.now.contents (length held) (level - 1) cs rs
+    → IfOk result (λ child. Made (IsRenewed before later keep) sizes new.now.contents (length held) level (child ∷ []) rs)
+
+-- records under these children, in inner blocks of this level, where so many children may be in one
+abbrev pub MakesNodesOf : {T : Type 0} → Result T TreeFault → (T → List Child) → ℕ → ℕ → List Child → List Bool → List Bool → DiskState → DiskState → Type 0
+MakesNodesOf result children most level cs held later old new =
+    new.honest ≡ true → (before : List Bool) (keep : ℕ → Bool) → HoldsMore before held → (sizes : Sizes) (rs : List Record)
+    → 0 < level → level ≤ 7 → most ≤ sizes.fan → RisesFrom 0 (places rs)
+    → Made (IsRenewed before held keep) sizes old.now.contents (length held) (level - 1) cs rs
+    → IfOk result (λ done. Made (IsRenewed before later keep) sizes new.now.contents (length held) level (children done) rs)
+
+-- in one
+abbrev pub MakesNode : Result Child TreeFault → ℕ → List Child → List Bool → List Bool → DiskState → DiskState → Type 0
+MakesNode result level cs held later old new = MakesNodesOf result (λ child. child ∷ []) (length cs) level cs held later old new
+
+-- in one or two of so many children
+abbrev pub MakesNodes : Result Copied TreeFault → ℕ → ℕ → List Child → List Bool → List Bool → DiskState → DiskState → Type 0
+MakesNodes result most level cs held later old new = MakesNodesOf result children_of most level cs held later old new
+
+-- the same of the children of an inner block, with the one that was taken replaced by what its block was written anew as
+abbrev pub MakesNodesWith : Result Copied TreeFault → ℕ → ℕ → Way → List ℕ → Copied → List Bool → List Bool → DiskState → DiskState → Type 0
+MakesNodesWith result most level way bytes copied held later old new =
+    new.honest ≡ true → (before : List Bool) (keep : ℕ → Bool) → HoldsMore before held
+    → (sizes : Sizes) (cs : List Child) (rs : List Record) → IsNode bytes level cs → way.count ≡ length cs → most ≤ sizes.fan
+    → RisesFrom 0 (places rs)
+    → Made (IsRenewed before held keep) sizes old.now.contents (length held) (level - 1) (with_copied cs way.index copied) rs
+    → IfOk result (λ done. Made (IsRenewed before later keep) sizes new.now.contents (length held) level (children_of done) rs)
+
+-- # Whether a block is split
+
+-- an inner block is, where it has more children than so many with those that replace one
+abbrev pub SplitsNodeOver : Result Copied TreeFault → ℕ → ℕ → Way → List ℕ → Copied → Type 0
+SplitsNodeOver result most level way bytes copied =
+    (cs : List Child) → IsNode bytes level cs → way.count ≡ length cs
+    → OkOrDevice result (λ done. (is_split done ≡ true) ↔ (most < length (with_copied cs way.index copied)))
+
+-- a leaf is, where it has more records than so many with this one
+abbrev pub SplitsLeafOver : Result Copied TreeFault → ℕ → List ℕ → Record → Type 0
+SplitsLeafOver result most bytes r =
+    (rs : List Record) → IsLeaf bytes rs → length rs ≤ most
+    → OkOrDevice result (λ copied. (is_split copied ≡ true) ↔ (most < length (with_record r rs)))

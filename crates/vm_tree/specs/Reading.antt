@@ -1,12 +1,18 @@
 -- Blocks of a tree as they are read.
-use Rattle.std.specs.Prelude.{◌≡◌, ℕ, zero, suc, ◌+◌, ◌*◌, ◌<◌, ◌≤◌, List, length, take, drop}
+use Rattle.std.specs.Prelude.{◌≡◌, ℕ, zero, suc, ◌+◌, ◌*◌, ◌<◌, ◌≤◌, true, List, length, take, drop, Result, IfOk}
 use Rattle.vm_types.specs.declared.key.Key.{Key}
-use Rattle.vm_disk.specs.Disk.{Contents, block}
+use Rattle.arrayvec.specs.ArrayVec.{ArrayVec}
+use Rattle.vm_disk.specs.Disk.{Contents, DiskState, block}
 use Rattle.vm_block.specs.Head.{IsLeafHead, IsNodeHead}
-use Rattle.vm_block.specs.Leaf.{Record, IsLeaf, key_bytes}
+use Rattle.vm_block.specs.Leaf.{Record, BeginsWith, IsLeaf, key_bytes}
 use Rattle.vm_block.specs.Node.{IsNode, child_bytes}
-use Rattle.vm_block.specs.Tree.{IsData}
 use Rattle.vm_block.specs.declared.node.Child.{Child}
+use Rattle.vm_tree.specs.declared.root.Root.{Root}
+use Rattle.vm_tree.specs.declared.root.TreeFault.{TreeFault}
+use Rattle.vm_block.specs.Way.{Lowest, Takes}
+use Rattle.vm_block.specs.declared.way.Way.{Way}
+use Rattle.vm_tree.specs.Tree.{IsData}
+use Rattle.vm_tree.specs.Answers.{OkOrDevice}
 
 -- of these two numbers of reads on a disk the later counts a block for data once more, and another not
 pub record ReadsOne (limit b old new : ℕ) : Type 0 where
@@ -69,3 +75,101 @@ pub record StepsTo (x : Contents) (limit level b : ℕ) (low : Key) (child : Chi
 unfoldable pub LeadsDown : Contents → ℕ → ℕ → ℕ → Key → Type 0
 LeadsDown x limit zero b low = EndsAt x limit b low
 LeadsDown x limit (suc l) b low = (child : Child) × StepsTo x limit (suc l) b low child × LeadsDown x limit l child.block child.low
+
+-- from one to so many
+abbrev pub IsCount : ℕ → ℕ → Type 0
+IsCount most n = (0 < n) × (n ≤ most)
+
+-- a way in an inner block with so many children at most
+abbrev pub IsWayAmong : ℕ → Way → Type 0
+IsWayAmong most way = (way.index < way.count) × (way.count ≤ most) × (way.count ≤ 256)
+
+-- # What a call found, where the disk is honest after it, of the contents before it
+
+-- a value was answered, and P holds of it and of these contents
+abbrev pub Finds : {T : Type 0} → Result T TreeFault → DiskState → DiskState → (Contents → T → Type 0) → Type 0
+Finds result old new P = new.honest ≡ true → IfOk result (P old.now.contents)
+
+-- the block is for data, and has these bytes
+abbrev pub FindsData : {T : Type 0} → Result T TreeFault → DiskState → DiskState → ℕ → ℕ → List ℕ → Type 0
+FindsData result old new limit b bytes = Finds result old new (λ x answer. IsDataAt x limit b bytes)
+
+-- this child's block is for data, has these bytes, and begins with its key
+abbrev pub FindsBlock : {T : Type 0} → Result T TreeFault → DiskState → DiskState → ℕ → Child → List ℕ → Type 0
+FindsBlock result old new limit top bytes = Finds result old new (λ x answer. IsBlockAt x limit top.block top.low bytes)
+
+-- the block is a leaf, and its records are answered
+abbrev pub FindsLeaf : Result (ArrayVec Record) TreeFault → DiskState → DiskState → ℕ → ℕ → Type 0
+FindsLeaf result old new limit b = Finds result old new (λ x records. IsLeafAt x limit b records.items)
+
+-- the block is an inner block of this level, and its children are answered
+abbrev pub FindsNode : Result (ArrayVec Child) TreeFault → DiskState → DiskState → ℕ → ℕ → ℕ → Type 0
+FindsNode result old new limit level b = Finds result old new (λ x children. IsNodeAt x limit level b children.items)
+
+-- this child's block has the head of a leaf, and begins with its key
+abbrev pub FindsEnd : {T : Type 0} → Result T TreeFault → DiskState → DiskState → ℕ → Child → Type 0
+FindsEnd result old new limit top = Finds result old new (λ x answer. EndsAt x limit top.block top.low)
+
+-- this child's block has the head of an inner block of this level, begins with its key, and has the child that is answered
+abbrev pub FindsStep : Result Way TreeFault → DiskState → DiskState → ℕ → ℕ → Child → Type 0
+FindsStep result old new limit level top = Finds result old new (λ x way. StepsTo x limit level top.block top.low way.child)
+
+-- from this child's block, of this level, a descent leads to a leaf
+abbrev pub FindsPath : {T : Type 0} → Result T TreeFault → DiskState → DiskState → ℕ → ℕ → Child → Type 0
+FindsPath result old new limit level top = Finds result old new (λ x answer. LeadsDown x limit level top.block top.low)
+
+-- from a root that has a block a descent leads to a leaf
+abbrev pub FindsPathFrom : {T : Type 0} → Root → Result T TreeFault → DiskState → DiskState → ℕ → Type 0
+FindsPathFrom root result old new limit =
+    Finds result old new (λ x answer. 0 < root.block → LeadsDown x limit root.level root.block root.low)
+
+-- # What a call gives, where the disk is honest after it, unless the device fails
+
+-- the bytes of a block for data
+abbrev pub GivesData : {T : Type 0} → Result T TreeFault → DiskState → DiskState → ℕ → ℕ → List ℕ → Type 0
+GivesData result old new limit b bytes = new.honest ≡ true → IsData limit b → OkOrDevice result (λ done. bytes ≡ block old.now.contents b)
+
+-- the bytes of a child's block that is a leaf and begins with the child's key
+abbrev pub GivesLeafUnder : {T : Type 0} → Result T TreeFault → DiskState → DiskState → ℕ → Child → List ℕ → Type 0
+GivesLeafUnder result old new limit top bytes =
+    new.honest ≡ true → (rs : List Record) → IsLeafAt old.now.contents limit top.block rs → BeginsWith top.low rs
+    → OkOrDevice result (λ done. IsLeaf bytes rs)
+
+-- the bytes of a child's block that is an inner block and begins with the child's key
+abbrev pub GivesNodeUnder : {T : Type 0} → Result T TreeFault → DiskState → DiskState → ℕ → Child → List ℕ → Type 0
+GivesNodeUnder result old new limit top bytes =
+    new.honest ≡ true → (level : ℕ) (cs : List Child) → IsNodeAt old.now.contents limit level top.block cs → Lowest top.low cs
+    → OkOrDevice result (λ done. IsNode bytes level cs)
+
+-- the bytes of a child's block that is an inner block of this level with so many children at most, and the way to place p in it
+abbrev pub GivesWay : Result Way TreeFault → DiskState → DiskState → ℕ → ℕ → Child → ℕ → ℕ → List ℕ → Type 0
+GivesWay result old new limit level top most p bytes =
+    new.honest ≡ true → (cs : List Child) → IsNodeAt old.now.contents limit level top.block cs → Lowest top.low cs → length cs ≤ most
+    → OkOrDevice result (λ way. IsNode bytes level cs × (way.count ≡ length cs) × Takes cs p way.index way.child)
+
+-- the records of a child's block that is a leaf of so many at most and begins with the child's key
+abbrev pub GivesRecordsUnder : Result (ArrayVec Record) TreeFault → DiskState → DiskState → ℕ → Child → ℕ → Type 0
+GivesRecordsUnder result old new limit top most =
+    new.honest ≡ true → (rs : List Record) → IsLeafAt old.now.contents limit top.block rs → BeginsWith top.low rs → length rs ≤ most
+    → OkOrDevice result (λ records. records.items ≡ rs)
+
+-- the records of a leaf
+abbrev pub GivesLeaf : Result (ArrayVec Record) TreeFault → DiskState → DiskState → ℕ → ℕ → Type 0
+GivesLeaf result old new limit b =
+    new.honest ≡ true → (rs : List Record) → IsLeafAt old.now.contents limit b rs → OkOrDevice result (λ records. records.items ≡ rs)
+
+-- the children of an inner block of this level
+abbrev pub GivesNode : Result (ArrayVec Child) TreeFault → DiskState → DiskState → ℕ → ℕ → ℕ → Type 0
+GivesNode result old new limit level b =
+    new.honest ≡ true → (cs : List Child) → IsNodeAt old.now.contents limit level b cs → OkOrDevice result (λ children. children.items ≡ cs)
+
+-- the bytes of a leaf, and how many records it has
+abbrev pub ReadsLeaf : Result ℕ TreeFault → DiskState → DiskState → ℕ → ℕ → List ℕ → Type 0
+ReadsLeaf result old new limit b bytes =
+    new.honest ≡ true → (rs : List Record) → IsLeafAt old.now.contents limit b rs → OkOrDevice result (λ count. IsLeaf bytes rs × (count ≡ length rs))
+
+-- the bytes of an inner block of this level, and how many children it has
+abbrev pub ReadsNode : Result ℕ TreeFault → DiskState → DiskState → ℕ → ℕ → ℕ → List ℕ → Type 0
+ReadsNode result old new limit level b bytes =
+    new.honest ≡ true → (cs : List Child) → IsNodeAt old.now.contents limit level b cs
+    → OkOrDevice result (λ count. IsNode bytes level cs × (count ≡ length cs))

@@ -1,11 +1,22 @@
 -- A record taken out, and what is left then.
-use Rattle.std.specs.Prelude.{◌≡◌, ◌≢◌, ◌==◌, ℕ, List, [], ◌∷◌, ◌++◌, None, Result, Ok, Err, if◌then◌else◌}
-use Rattle.vm_types.specs.Places.{place, value_at}
-use Rattle.vm_disk.specs.Disk.{Contents}
+use Rattle.std.specs.Prelude.{◌≡◌, ◌≢◌, ◌==◌, ℕ, ◌+◌, ◌-◌, true, Bool, List, [], ◌∷◌, ◌++◌, length, take, drop, Option, None, IfSome, IsSomeAnd, Result, Ok, Err, if◌then◌else◌}
+use Rattle.std.specs.List.{AllByRecursion}
+use Rattle.vm_types.specs.declared.key.Key.{Key}
+use Rattle.vm_types.specs.Map.{get, without}
+use Rattle.vm_types.specs.Places.{RisesFrom, place, places, value_at}
+use Rattle.arrayvec.specs.ArrayVec.{ArrayVec}
+use Rattle.vm_disk.specs.Disk.{Contents, DiskState}
+use Rattle.vm_alloc.specs.Held.{HoldsMore, IsHeld}
 use Rattle.vm_block.specs.Leaf.{Record}
-use Rattle.vm_block.specs.Node.{ChildFits}
-use Rattle.vm_block.specs.Tree.{Sizes, Children, Subtree}
+use Rattle.vm_block.specs.Node.{ChildFits, IsNode}
 use Rattle.vm_block.specs.declared.node.Child.{Child}
+use Rattle.vm_tree.specs.Tree.{Sizes, Children, Subtree}
+use Rattle.vm_block.specs.declared.way.Way.{Way}
+use Rattle.vm_tree.specs.Answers.{OkOrDevice, Removes}
+use Rattle.vm_tree.specs.Calls.{LooksIf}
+use Rattle.vm_tree.specs.Making.{Made}
+use Rattle.vm_tree.specs.Replacing.{IsHeldBeside, IsRenewed, Replaces, path_from, path_under}
+use Rattle.vm_tree.specs.Root.{IsRootedIn, IfUnder, IfWhole, sizes_of}
 use Rattle.vm_tree.specs.declared.root.Root.{Root}
 use Rattle.vm_tree.specs.declared.root.TreeFault.{TreeFault}
 use Rattle.vm_tree.specs.declared.root.TreeFault.TheVariants.{Device}
@@ -48,3 +59,60 @@ RemovesBelow (Ok Same) p rs P = value_at p rs ≡ None
 RemovesBelow (Ok Nothing) p rs P = (value_at p rs ≢ None) × (without_place p rs ≡ [])
 RemovesBelow (Ok (Rest root)) p rs P = (value_at p rs ≢ None) × P root
 RemovesBelow (Err e) p rs P = e ≡ Device
+
+-- where no record was there, the same blocks are held as before, and the disk was only looked at
+abbrev pub LooksIfSame : Result Left TreeFault → List Bool → List Bool → DiskState → DiskState → Type 0
+LooksIfSame result held later old new = LooksIf (result ≡ Ok Same) held later old new
+
+-- and where no record is left
+abbrev pub LooksIfNothing : Result Left TreeFault → List Bool → List Bool → DiskState → DiskState → Type 0
+LooksIfNothing result held later old new = LooksIf (result ≡ Ok Nothing) held later old new
+
+-- a list without what stands at i
+abbrev pub without_at : {X : Type 0} → ℕ → List X → List X
+without_at i xs = take i xs ++ drop (i + 1) xs
+
+-- the record at place p stands at the index that is answered
+abbrev pub FindsRecord : Option ℕ → ℕ → List Record → Type 0
+FindsRecord result p rs = IfSome result (λ i. (value_at p rs ≢ None) × (without_place p rs ≡ without_at i rs))
+
+-- the children of an inner block without the one that was taken
+abbrev pub LeavesOut : Option (ArrayVec Child) → Way → List ℕ → Type 0
+LeavesOut result way bytes =
+    (level : ℕ) (cs : List Child) → IsNode bytes level cs → way.count ≡ length cs → IsSomeAnd result (λ rest. rest.items ≡ without_at way.index cs)
+
+-- the root that is answered has all that lies under a child of this level
+abbrev pub NarrowsTo : Result Root TreeFault → ℕ → DiskState → DiskState → ℕ → ℕ → Child → Type 0
+NarrowsTo result fan old new limit level top =
+    new.honest ≡ true → (leaf levels : ℕ) (rs : List Record) (bs : List ℕ)
+    → Children (Subtree (sizes_of leaf fan levels) old.now.contents limit level) (top ∷ []) rs bs
+    → OkOrDevice result (λ root. Narrows (sizes_of leaf fan levels) old.now.contents limit top root rs bs)
+
+-- what is left of an inner block of this level with these children lies under a root, in blocks that are held now, and to be kept if they
+-- were held before
+abbrev pub LeavesRest : Result Left TreeFault → ℕ → ℕ → List Child → List Bool → List Bool → DiskState → DiskState → Type 0
+LeavesRest result fan level cs held later old new =
+    new.honest ≡ true → (leaf levels : ℕ) (rs : List Record) (bs : List ℕ) → RisesFrom 0 (places rs) → AllByRecursion ChildFits cs
+    → Children (Subtree (sizes_of leaf fan levels) old.now.contents (length held) (level - 1)) cs rs bs
+    → IsLeft result rs (λ root. (before : List Bool) (keep : ℕ → Bool) → HoldsMore before held → AllByRecursion (IsRenewed before held keep) bs
+    → Made (IsRenewed before later keep) (sizes_of leaf fan levels) new.now.contents (length held) root.level (child_of root ∷ []) rs)
+
+-- the records of a leaf are left without the one at place p, under a root in blocks that are held now, and to be kept if they were held before
+abbrev pub RemovesFromLeaf : Result Left TreeFault → ℕ → List Bool → List Bool → DiskState → DiskState → Child → ℕ → Type 0
+RemovesFromLeaf result leaf held later old new top p =
+    (fan levels : ℕ) → IfUnder old new (sizes_of leaf fan levels) (length held) 0 top (λ rs bs. RemovesBelow result p rs
+    (λ root. (keep : ℕ → Bool) → Made (IsRenewed held later keep) (sizes_of leaf fan levels) new.now.contents (length held) root.level (child_of root ∷ []) (without_place p rs)))
+
+-- the records under a child are left without the one at place p, under a root in blocks that replace those of this path
+abbrev pub RemovesUnder : Result Left TreeFault → ℕ → ℕ → List Bool → List Bool → DiskState → DiskState → ℕ → Child → ℕ → List ℕ → Type 0
+RemovesUnder result leaf fan held later old new level top p path =
+    (levels : ℕ) → IfUnder old new (sizes_of leaf fan levels) (length held) level top (λ rs bs. RemovesBelow result p rs
+    (λ root. Replaces held later (path_from level path) bs
+    (λ P. Made P (sizes_of leaf fan levels) new.now.contents (length held) root.level (child_of root ∷ []) (without_place p rs))))
+
+-- the answer is None just where the key is absent, and else a root, unless the device fails; and where the blocks of the tree are held,
+-- the root has the map without the key, in blocks that are none of this path
+abbrev pub RemovesFrom : Result (Option Root) TreeFault → Sizes → List Bool → List Bool → DiskState → DiskState → Root → Key → List ℕ → Type 0
+RemovesFrom result sizes held later old new root key path =
+    IfWhole old new sizes (length held) root (λ m bs. Removes result (get m key ≡ None) (λ r. AllByRecursion (IsHeld held) bs
+    → IsRootedIn sizes (IsHeldBeside later (path_under root path)) new.now.contents (length held) r (without m key)))

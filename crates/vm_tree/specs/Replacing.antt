@@ -1,5 +1,5 @@
 -- Blocks that a change replaces, and blocks that it keeps.
-use Rattle.std.specs.Prelude.{◌≡◌, ◌≢◌, ℕ, ◌+◌, ◌==◌, Bool, true, List, [], take, if◌then◌else◌}
+use Rattle.std.specs.Prelude.{◌≡◌, ◌≢◌, ℕ, ◌+◌, ◌≤◌, ◌==◌, Bool, true, List, [], take, slice_index, slice_set, if◌then◌else◌}
 use Rattle.std.specs.List.{AllByRecursion}
 use Rattle.vm_alloc.specs.Held.{IsHeld}
 use Rattle.vm_tree.specs.declared.root.Root.{Root}
@@ -43,3 +43,7 @@ IsPathIn path bs = (n : ℕ) → Lacks n bs → Lacks n path
 abbrev pub Replaces : (before held : List Bool) (path bs : List ℕ) → ((ℕ → Type 0) → Type 0) → Type 0
 Replaces before held path bs M =
     (keep : ℕ → Bool) → AllByRecursion (IsHeld before) bs → KeepsBeside path keep bs → M (IsRenewed before held keep)
+
+-- from this level up the path is as it was, but for this block at the level itself
+abbrev pub KeepsAbove : ℕ → ℕ → List ℕ → List ℕ → Type 0
+KeepsAbove level b path later = (k : ℕ) → level ≤ k → slice_index later k ≡ slice_index (slice_set path level b) k

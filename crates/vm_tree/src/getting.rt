@@ -1,13 +1,9 @@
 //! The value of a key.
-ghost use Rattle.std.specs.Prelude.{◌≡◌, ◌≢◌, ℕ, ◌<◌, ◌≤◌, true, List, IfOk};
-ghost use Rattle.vm_types.specs.Map.{Map, get};
-ghost use Rattle.vm_types.specs.Places.{KeyFits, RisesFrom, place, places, value_at};
-ghost use Rattle.vm_block.specs.Leaf.{Record};
-ghost use Rattle.vm_block.specs.Tree.{Sizes, BeginsWith, Subtree};
-ghost use Rattle.vm_tree.specs.Answers.{OkOrDevice};
+ghost use Rattle.std.specs.Prelude.{◌≡◌, ◌≢◌, ◌≤◌};
+ghost use Rattle.vm_types.specs.Places.{KeyFits};
 ghost use Rattle.vm_tree.specs.Calls.{OnlyLooks};
-ghost use Rattle.vm_tree.specs.Reading.{LeadsDown};
-ghost use Rattle.vm_tree.specs.Root.{IfUnder, IfWhole};
+ghost use Rattle.vm_tree.specs.Giving.{GivesValue, GivesValueUnder};
+ghost use Rattle.vm_tree.specs.Reading.{FindsPath, FindsPathFrom};
 
 use crate::reading::{block_at, way_at};
 use crate::root::{Root, TreeFault};
@@ -29,12 +25,8 @@ fn get_below<D: Disk>(
     ensures deep { result ≢ Err TreeFault.Deep }
     ensures memory { result ≢ Err TreeFault.Memory }
     ensures fits { KeyFits key }
-    ensures path { (D.state disk.new).honest ≡ true
-        → IfOk result (λ value. LeadsDown
-        (D.state disk.old).now.contents blocks level top.block top.low) }
-    ensures value { (sizes : Sizes)
-        → IfUnder (D.state disk.old) (D.state disk.new) sizes blocks level top
-        (λ rs bs. OkOrDevice result (λ value. value ≡ value_at (place key) rs)) }
+    ensures path { FindsPath result (D.state disk.old) (D.state disk.new) blocks level top }
+    ensures value { GivesValueUnder result (D.state disk.old) (D.state disk.new) blocks level top key }
 {
     if level == 0 {
         block_at(disk, blocks, top, bytes)?;
@@ -61,14 +53,10 @@ pub fn get<D: Disk>(
 
     // A value, or that there is none, is told only where each block on the path has the head of its level and begins
     // with the key that its parent says, the first with the lowest key of the root.
-    ensures path { (D.state disk.new).honest ≡ true
-        → IfOk result (λ value. 0 < root.block
-        → LeadsDown (D.state disk.old).now.contents blocks root.level root.block root.low) }
+    ensures path { FindsPathFrom root result (D.state disk.old) (D.state disk.new) blocks }
 
     // On a tree it is the value of its map, whatever the sizes of its blocks, unless the device fails.
-    ensures value { (sizes : Sizes)
-        → IfWhole (D.state disk.old) (D.state disk.new) sizes blocks root
-        (λ m bs. OkOrDevice result (λ value. value ≡ get m key)) }
+    ensures value { GivesValue result (D.state disk.old) (D.state disk.new) blocks root key }
 {
     if root.block == 0 {
         return Ok(None);

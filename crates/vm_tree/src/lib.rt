@@ -2,7 +2,9 @@
 //! records. A change copies the blocks of one path, and leaves all others as they are.
 //!
 //! It stands on `vm_disk`, `vm_alloc` and `vm_block`. Its one promise: the new root has the map
-//! changed at one key, and at no moment has a block that was held other bytes than before.
+//! changed at one key, and at no moment has a block that was held other bytes than before. What map
+//! lies under a root, and in which blocks of a disk, is defined here (`specs/Tree.antt`).
+//!
 //! A descent goes by the bytes of blocks. It compares the head and the first key of each with what
 //! stands above it, before any block is taken, and a block that differs there is refused and never
 //! copied. A change of one child is made in the bytes; `get` and `put` decode no block but a leaf
@@ -11,6 +13,7 @@
 #![tactic(auto)]
 
 mod getting;
+mod laws;
 mod putting;
 mod reading;
 mod removing;
@@ -20,6 +23,7 @@ mod splicing;
 mod writing;
 
 pub use getting::get;
+pub use laws::one_tree;
 pub use putting::put;
 pub use reading::{data_at, is_data, leaf_at, leaf_into, node_at, node_into};
 pub use removing::remove;

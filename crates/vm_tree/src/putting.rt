@@ -1,20 +1,17 @@
 //! A record more, or another value of a key.
-ghost use Rattle.std.specs.Prelude.{◌≡◌, ◌≢◌, ◌↔◌, ℕ, ◌+◌, ◌-◌, ◌*◌, ◌<◌, ◌≤◌, ◌++◌, ◌∷◌, Bool, true, false, List, [], None, length, take, drop, slice_index, slice_set, IfOk, IfErr, MatchResult};
-ghost use Rattle.std.specs.List.{AllByRecursion};
-ghost use Rattle.vm_types.specs.Map.{Map, get, with_value};
-ghost use Rattle.vm_types.specs.Places.{KeyFits, RisesFrom, place, places, value_at, with_record};
-ghost use Rattle.vm_alloc.specs.Held.{HoldsMore, IsHeld, free_count};
-ghost use Rattle.vm_block.specs.Leaf.{Record, RecordFits, IsLeaf};
-ghost use Rattle.vm_block.specs.Node.{IsNode};
-ghost use Rattle.vm_block.specs.Tree.{Sizes, BeginsWith, Subtree};
-ghost use Rattle.vm_block.specs.declared.node.Child.{Child};
-ghost use Rattle.vm_tree.specs.Answers.{LacksRoom, OkOrDevice, Puts};
+ghost use Rattle.std.specs.Prelude.{◌≡◌, ◌≢◌, ◌+◌, ◌*◌, ◌<◌, ◌≤◌, true, false, length, IfOk, MatchResult};
+ghost use Rattle.vm_types.specs.Places.{KeyFits, with_record};
+ghost use Rattle.vm_alloc.specs.Held.{free_count};
+ghost use Rattle.vm_block.specs.Leaf.{RecordFits};
+ghost use Rattle.vm_tree.specs.Answers.{OkOrDevice};
 ghost use Rattle.vm_tree.specs.Calls.{LooksIfDamaged, WritesFree};
-ghost use Rattle.vm_tree.specs.Free.{IsTaken, AreTaken};
-ghost use Rattle.vm_tree.specs.Making.{Made, PutsBelow, Splits, children_of, is_split, with_copied};
-ghost use Rattle.vm_tree.specs.Reading.{LeadsDown};
-ghost use Rattle.vm_tree.specs.Replacing.{IsHeldBeside, IsPathIn, IsRenewed, Replaces, path_from, path_under};
-ghost use Rattle.vm_tree.specs.Root.{AreSizes, IsRootedIn, IfUnder, IfWhole, sizes_of};
+ghost use Rattle.vm_tree.specs.Free.{IsTaken, AreTaken, TakesAtMost};
+ghost use Rattle.vm_tree.specs.Making.{HasTaken, IfOne, MakesNodesWith, PutsInLeaf, SplitsLeafOver, SplitsNodeOver, children_of, is_split};
+ghost use Rattle.vm_tree.specs.Paths.{NamesPath, NamesPathUnder};
+ghost use Rattle.vm_tree.specs.Putting.{GoesBefore, GoesOver, PutsFirst, PutsFrom, PutsUnder, PutsUnderLeaf, ReplacesFrom, ReplacesInLeaf, ReplacesUnder, SplitsOnly};
+ghost use Rattle.vm_tree.specs.Reading.{FindsPath, FindsPathFrom};
+ghost use Rattle.vm_tree.specs.Replacing.{KeepsAbove};
+ghost use Rattle.vm_tree.specs.Root.{AreSizes, sizes_of};
 
 use crate::reading::{block_at, way_at};
 use crate::root::{Root, TreeFault, root_at};
@@ -33,10 +30,8 @@ use vm_types::{Key, Value};
 fn position(records: &[(Key, Value)], key: Key) -> Result<usize, usize>
     ensures within { MatchResult result (λ i. i < length records.now)
         (λ i. i ≤ length records.now) }
-    ensures same { (value : List ℕ) → IfOk result (λ i. with_record (key, value) records.now
-        ≡ take i records.now ++ (key, value) ∷ drop (i + 1) records.now) }
-    ensures new { (value : List ℕ) → IfErr result (λ i. with_record (key, value) records.now
-        ≡ take i records.now ++ (key, value) ∷ drop i records.now) }
+    ensures same { GoesOver result key records.now }
+    ensures new { GoesBefore result key records.now }
     ensures fits { KeyFits key }
 {
     let place = key.place();
@@ -92,22 +87,12 @@ fn write_divided<D: Disk, const FAN: usize>(
     ensures writes { WritesFree result held.old held.new (D.state disk.old) (D.state disk.new) }
     ensures device { OkOrDevice result (λ done. AreTaken held.new (children_of done)) }
     ensures split { IfOk result (λ done. is_split done ≡ true → FAN ≤ way.count) }
-    ensures one { way.count < FAN → free_count held.old ≤ free_count held.new + 1 }
-    ensures single { IfOk result
-        (λ done. is_split done ≡ false → free_count held.old ≤ free_count held.new + 1) }
-    ensures taken { free_count held.old ≤ free_count held.new + 2 }
-    ensures fine { (cs : List Child) → IsNode bytes.now level cs → way.count ≡ length cs
-        → OkOrDevice result (λ done. (is_split done ≡ true)
-        ↔ (FAN < length (with_copied cs way.index (Copied.Two left right)))) }
-    ensures made { (D.state disk.new).honest ≡ true
-        → (before : List Bool) (keep : ℕ → Bool) → HoldsMore before held.old
-        → (sizes : Sizes) (cs : List Child) (rs : List Record) → IsNode bytes.now level cs
-        → way.count ≡ length cs → FAN ≤ sizes.fan
-        → RisesFrom 0 (places rs)
-        → Made (IsRenewed before held.old keep) sizes (D.state disk.old).now.contents
-        (length held.old) (level - 1) (with_copied cs way.index (Copied.Two left right)) rs
-        → IfOk result (λ done. Made (IsRenewed before held.new keep) sizes
-        (D.state disk.new).now.contents (length held.old) level (children_of done) rs) }
+    ensures one { way.count < FAN → TakesAtMost 1 held.old held.new }
+    ensures single { IfOne result (TakesAtMost 1 held.old held.new) }
+    ensures taken { TakesAtMost 2 held.old held.new }
+    ensures fine { SplitsNodeOver result FAN level way bytes.now (Copied.Two left right) }
+    ensures made { MakesNodesWith result FAN level way bytes.now (Copied.Two left right)
+        held.old held.new (D.state disk.old) (D.state disk.new) }
 {
     let children = spelled_children(bytes, way.count);
     let children = spliced(children.as_slice(), way.index, &[left, right]);
@@ -132,25 +117,14 @@ fn write_replaced<D: Disk, const FAN: usize>(
     requires free { 2 ≤ free_count held.old }
     ensures writes { WritesFree result held.old held.new (D.state disk.old) (D.state disk.new) }
     ensures device { OkOrDevice result (λ done. AreTaken held.new (children_of done)) }
-    ensures split { IfOk result
-        (λ done. is_split done ≡ true → (is_split copied ≡ true) × (FAN ≤ way.count)) }
-    ensures one { way.count < FAN → free_count held.old ≤ free_count held.new + 1 }
-    ensures alone { is_split copied ≡ false → free_count held.old ≤ free_count held.new + 1 }
-    ensures single { IfOk result
-        (λ done. is_split done ≡ false → free_count held.old ≤ free_count held.new + 1) }
-    ensures taken { free_count held.old ≤ free_count held.new + 2 }
-    ensures fine { (cs : List Child) → IsNode bytes.old level cs → way.count ≡ length cs
-        → OkOrDevice result (λ done. (is_split done ≡ true)
-        ↔ (FAN < length (with_copied cs way.index copied))) }
-    ensures made { (D.state disk.new).honest ≡ true
-        → (before : List Bool) (keep : ℕ → Bool) → HoldsMore before held.old
-        → (sizes : Sizes) (cs : List Child) (rs : List Record) → IsNode bytes.old level cs
-        → way.count ≡ length cs → FAN ≤ sizes.fan
-        → RisesFrom 0 (places rs)
-        → Made (IsRenewed before held.old keep) sizes (D.state disk.old).now.contents
-        (length held.old) (level - 1) (with_copied cs way.index copied) rs
-        → IfOk result (λ done. Made (IsRenewed before held.new keep) sizes
-        (D.state disk.new).now.contents (length held.old) level (children_of done) rs) }
+    ensures split { SplitsOnly result copied FAN way.count }
+    ensures one { way.count < FAN → TakesAtMost 1 held.old held.new }
+    ensures alone { is_split copied ≡ false → TakesAtMost 1 held.old held.new }
+    ensures single { IfOne result (TakesAtMost 1 held.old held.new) }
+    ensures taken { TakesAtMost 2 held.old held.new }
+    ensures fine { SplitsNodeOver result FAN level way bytes.old copied }
+    ensures made { MakesNodesWith result FAN level way bytes.old copied
+        held.old held.new (D.state disk.old) (D.state disk.new) }
 {
     match copied {
         Copied::One(child) => {
@@ -180,21 +154,13 @@ fn split_leaf<D: Disk, const LEAF: usize>(
     ensures writes { WritesFree result held.old held.new (D.state disk.old) (D.state disk.new) }
     ensures deep { result ≢ Err TreeFault.Deep }
     ensures memory { result ≢ Err TreeFault.Memory }
-    ensures device { IfOk result (λ copied. AreTaken held.new (children_of copied)) }
+    ensures device { HasTaken result held.new }
     ensures looks { LooksIfDamaged result held.old held.new (D.state disk.old) (D.state disk.new) }
-    ensures single { IfOk result
-        (λ copied. is_split copied ≡ false → free_count held.old ≤ free_count held.new + 1) }
-    ensures taken { free_count held.old ≤ free_count held.new + 2 }
-    ensures fine { (rs : List Record) → IsLeaf bytes.now rs → length rs ≤ LEAF
-        → OkOrDevice result (λ copied. (is_split copied ≡ true)
-        ↔ (LEAF < length (with_record (key, value.now) rs))) }
-    ensures made { (D.state disk.new).honest ≡ true
-        → (before : List Bool) (keep : ℕ → Bool) → HoldsMore before held.old
-        → (sizes : Sizes) (rs : List Record)
-        → IsLeaf bytes.now rs → length rs ≤ LEAF → LEAF ≤ sizes.leaf
-        → IfOk result (λ copied. Made (IsRenewed before held.new keep) sizes
-        (D.state disk.new).now.contents (length held.old) 0 (children_of copied)
-        (with_record (key, value.now) rs)) }
+    ensures single { IfOne result (TakesAtMost 1 held.old held.new) }
+    ensures taken { TakesAtMost 2 held.old held.new }
+    ensures fine { SplitsLeafOver result LEAF bytes.now (key, value.now) }
+    ensures made { PutsInLeaf result LEAF held.old held.new (D.state disk.new)
+        bytes.now (key, value.now) }
 {
     match read_leaf(bytes) {
         Some(records) if records.len() <= LEAF => {
@@ -220,29 +186,18 @@ fn put_in_leaf<D: Disk, const LEAF: usize>(
     requires free { 2 ≤ free_count held.old }
     ensures writes { WritesFree result held.old held.new (D.state disk.old) (D.state disk.new) }
     ensures memory { result ≢ Err TreeFault.Memory }
-    ensures device { IfOk result (λ copied. AreTaken held.new (children_of copied)) }
+    ensures device { HasTaken result held.new }
     ensures split { IfOk result (λ copied. is_split copied ≡ true → room ≡ true) }
     ensures deep { result ≡ Err TreeFault.Deep → (room ≡ false) × (held.new ≡ held.old) }
     ensures looks { LooksIfDamaged result held.old held.new (D.state disk.old) (D.state disk.new) }
-    ensures one { room ≡ false → free_count held.old ≤ free_count held.new + 1 }
-    ensures single { IfOk result
-        (λ copied. is_split copied ≡ false → free_count held.old ≤ free_count held.new + 1) }
-    ensures taken { free_count held.old ≤ free_count held.new + 2 }
-    ensures path { (D.state disk.new).honest ≡ true
-        → IfOk result (λ copied. LeadsDown (D.state disk.old).now.contents
-        (length held.old) 0 top.block top.low) }
-    ensures replaced { (fan levels : ℕ)
-        → IfUnder (D.state disk.old) (D.state disk.new) (sizes_of LEAF fan levels)
-        (length held.old) 0 top (λ rs bs. value_at (place key) rs ≢ None
-        → IfOk result (λ copied. free_count held.old ≤ free_count held.new + 1)) }
-    ensures put { (fan levels : ℕ)
-        → IfUnder (D.state disk.old) (D.state disk.new) (sizes_of LEAF fan levels)
-        (length held.old) 0 top (λ rs bs. PutsBelow result
-        (Splits (sizes_of LEAF fan levels) (D.state disk.old).now.contents
-        (place key) 0 top.block rs)
-        (λ cs. (keep : ℕ → Bool) → Made (IsRenewed held.old held.new keep)
-        (sizes_of LEAF fan levels) (D.state disk.new).now.contents
-        (length held.old) 0 cs (with_record (key, value.now) rs))) }
+    ensures one { room ≡ false → TakesAtMost 1 held.old held.new }
+    ensures single { IfOne result (TakesAtMost 1 held.old held.new) }
+    ensures taken { TakesAtMost 2 held.old held.new }
+    ensures path { FindsPath result (D.state disk.old) (D.state disk.new) (length held.old) 0 top }
+    ensures replaced { ReplacesInLeaf result LEAF held.old held.new
+        (D.state disk.old) (D.state disk.new) top key }
+    ensures put { PutsUnderLeaf result LEAF held.old held.new
+        (D.state disk.old) (D.state disk.new) top (key, value.now) }
 {
     let mut bytes = [0; 4096];
     block_at(disk, held.blocks(), top, &mut bytes)?;
@@ -280,37 +235,22 @@ fn put_below<D: Disk, const LEAF: usize, const FAN: usize>(
     ensures writes { WritesFree result held.old held.new (D.state disk.old) (D.state disk.new) }
     ensures memory { result ≢ Err TreeFault.Memory }
     ensures fits { KeyFits key }
-    ensures device { IfOk result (λ copied. AreTaken held.new (children_of copied)) }
+    ensures device { HasTaken result held.new }
     ensures split { IfOk result (λ copied. is_split copied ≡ true → room ≡ true) }
     ensures deep { result ≡ Err TreeFault.Deep → (room ≡ false) × (held.new ≡ held.old) }
     ensures looks { LooksIfDamaged result held.old held.new (D.state disk.old) (D.state disk.new) }
-    ensures one { room ≡ false → free_count held.old ≤ free_count held.new + (2 * level + 1) }
-    ensures single { IfOk result
-        (λ copied. is_split copied ≡ false
-        → free_count held.old ≤ free_count held.new + (2 * level + 1)) }
-    ensures taken { free_count held.old ≤ free_count held.new + (2 * level + 2) }
-    ensures path { (D.state disk.new).honest ≡ true
-        → IfOk result (λ copied. LeadsDown (D.state disk.old).now.contents
-        (length held.old) level top.block top.low) }
-    ensures replaced { (levels : ℕ)
-        → IfUnder (D.state disk.old) (D.state disk.new) (sizes_of LEAF FAN levels)
-        (length held.old) level top (λ rs bs. value_at (place key) rs ≢ None
-        → IfOk result (λ copied. free_count held.old ≤ free_count held.new + (level + 1))) }
-    ensures put { (levels : ℕ)
-        → IfUnder (D.state disk.old) (D.state disk.new) (sizes_of LEAF FAN levels)
-        (length held.old) level top (λ rs bs. PutsBelow result
-        (Splits (sizes_of LEAF FAN levels) (D.state disk.old).now.contents
-        (place key) level top.block rs)
-        (λ cs. Replaces held.old held.new (path_from level path.new) bs
-        (λ P. Made P (sizes_of LEAF FAN levels) (D.state disk.new).now.contents
-        (length held.old) level cs (with_record (key, value.now) rs)))) }
+    ensures one { room ≡ false → TakesAtMost (2 * level + 1) held.old held.new }
+    ensures single { IfOne result (TakesAtMost (2 * level + 1) held.old held.new) }
+    ensures taken { TakesAtMost (2 * level + 2) held.old held.new }
+    ensures path { FindsPath result (D.state disk.old) (D.state disk.new) (length held.old) level top }
+    ensures replaced { ReplacesUnder result LEAF FAN held.old held.new
+        (D.state disk.old) (D.state disk.new) level top key }
+    ensures put { PutsUnder result LEAF FAN held.old held.new
+        (D.state disk.old) (D.state disk.new) level top (key, value.now) path.new }
     ensures path_size { length path.new ≡ length path.old }
-    ensures path_above { (k : ℕ) → level ≤ k
-        → slice_index path.new k ≡ slice_index (slice_set path.old level top.block) k }
-    ensures path_in { (levels : ℕ)
-        → IfUnder (D.state disk.old) (D.state disk.new) (sizes_of LEAF FAN levels)
-        (length held.old) level top
-        (λ rs bs. IfOk result (λ copied. IsPathIn (path_from level path.new) bs)) }
+    ensures path_above { KeepsAbove level top.block path.old path.new }
+    ensures path_in { NamesPathUnder result LEAF FAN (D.state disk.old) (D.state disk.new)
+        (length held.old) level top path.new }
 {
     path[usize::from(level)] = top.block;
     if level == 0 {
@@ -343,11 +283,8 @@ fn put_first<D: Disk>(
     requires room { 16 ≤ free_count held.old }
     ensures writes { WritesFree result held.old held.new (D.state disk.old) (D.state disk.new) }
     ensures device { OkOrDevice result (λ r. IsTaken held.new r.block × (r.level ≡ 0)) }
-    ensures taken { free_count held.old ≤ free_count held.new + 1 }
-    ensures put { (D.state disk.new).honest ≡ true → (keep : ℕ → Bool) → (sizes : Sizes)
-        → 0 < sizes.leaf → 0 < sizes.levels
-        → IfOk result (λ r. IsRootedIn sizes (IsRenewed held.old held.new keep)
-        (D.state disk.new).now.contents (length held.old) r ((key, value.now) ∷ [])) }
+    ensures taken { TakesAtMost 1 held.old held.new }
+    ensures put { PutsFirst result held.old held.new (D.state disk.new) (key, value.now) }
 {
     let record = with_record(&[], key, value);
     let leaf = write_leaf_block(disk, held, record.as_slice())?;
@@ -377,46 +314,36 @@ pub fn put<D: Disk, const LEAF: usize, const FAN: usize, const LEVELS: usize>(
     ensures root { IfOk result (λ r. IsTaken held.new r.block × (r.level < LEVELS)) }
 
     // No more than 15 blocks are taken; none of them where the tree has no room.
-    ensures taken { free_count held.old ≤ free_count held.new + 15 }
+    ensures taken { TakesAtMost 15 held.old held.new }
     ensures deep { result ≡ Err TreeFault.Deep → held.new ≡ held.old }
 
     // It takes the blocks of one path alone: two a level at most and a new root, or two a level but one at the top
     // where the tree stays as high, and one for the empty map.
-    ensures path_taken { free_count held.old ≤ free_count held.new + (2 * root.level + 3) }
+    ensures path_taken { TakesAtMost (2 * root.level + 3) held.old held.new }
     ensures as_high { IfOk result
         (λ r. r.level ≡ root.level
-        → free_count held.old ≤ free_count held.new + (2 * root.level + 1)) }
-    ensures first_taken { root.block ≡ 0 → free_count held.old ≤ free_count held.new + 1 }
+        → TakesAtMost (2 * root.level + 1) held.old held.new) }
+    ensures first_taken { root.block ≡ 0 → TakesAtMost 1 held.old held.new }
 
     // On a tree that has the key it takes one block a level.
-    ensures replaced { IfWhole (D.state disk.old) (D.state disk.new) (sizes_of LEAF FAN LEVELS)
-        (length held.old) root (λ m bs. get m key ≢ None
-        → IfOk result (λ r. free_count held.old ≤ free_count held.new + (root.level + 1))) }
+    ensures replaced { ReplacesFrom result (sizes_of LEAF FAN LEVELS) held.old held.new
+        (D.state disk.old) (D.state disk.new) root key }
 
     // A block is found damaged before any is taken or written.
     ensures looks { LooksIfDamaged result held.old held.new (D.state disk.old) (D.state disk.new) }
 
     // A root is made only where each block on the path has the head of its level and begins with the key that its
     // parent says, the first with the lowest key of the old root.
-    ensures path { (D.state disk.new).honest ≡ true
-        → IfOk result (λ r. 0 < root.block
-        → LeadsDown (D.state disk.old).now.contents
-        (length held.old) root.level root.block root.low) }
+    ensures path { FindsPathFrom root result (D.state disk.old) (D.state disk.new) (length held.old) }
 
     // On a tree the answer is a root, or Deep just where there is no room, unless the device fails; and where the
     // blocks of the tree are held, the root has the map with the value, in blocks that are none of the old path.
-    ensures put { IfWhole (D.state disk.old) (D.state disk.new) (sizes_of LEAF FAN LEVELS)
-        (length held.old) root (λ m bs. Puts result
-        (LacksRoom (sizes_of LEAF FAN LEVELS) (D.state disk.old).now.contents root m key)
-        (λ r. AllByRecursion (IsHeld held.old) bs
-        → IsRootedIn (sizes_of LEAF FAN LEVELS)
-        (IsHeldBeside held.new (path_under root path.new)) (D.state disk.new).now.contents
-        (length held.old) r (with_value m key value.now))) }
+    ensures put { PutsFrom result (sizes_of LEAF FAN LEVELS) held.old held.new
+        (D.state disk.old) (D.state disk.new) root key value.now path.new }
 
     // The path is of blocks of the old tree.
-    ensures path_in { IfWhole (D.state disk.old) (D.state disk.new) (sizes_of LEAF FAN LEVELS)
-        (length held.old) root
-        (λ m bs. IfOk result (λ r. IsPathIn (path_under root path.new) bs)) }
+    ensures path_in { NamesPath result (sizes_of LEAF FAN LEVELS)
+        (D.state disk.old) (D.state disk.new) (length held.old) root path.new }
 {
     if root.block == 0 {
         return put_first(disk, held, key, value);

@@ -1,15 +1,9 @@
 //! Blocks of a tree, read from a disk, and the way down to a key.
-ghost use Rattle.std.specs.Prelude.{◌≡◌, ◌≢◌, ◌↔◌, ℕ, ◌<◌, ◌≤◌, true, List, length, IsTrue, IfOk};
+ghost use Rattle.std.specs.Prelude.{◌≡◌, ◌≢◌, ◌↔◌, ◌≤◌, length, IsTrue, IfOk};
 ghost use Rattle.vm_types.specs.Places.{place};
-ghost use Rattle.vm_disk.specs.Disk.{block as bytes_at};
-ghost use Rattle.vm_block.specs.Leaf.{Record, IsLeaf};
-ghost use Rattle.vm_block.specs.Node.{IsNode};
-ghost use Rattle.vm_block.specs.Tree.{IsData, BeginsWith};
-ghost use Rattle.vm_block.specs.Way.{Lowest, Takes};
-ghost use Rattle.vm_block.specs.declared.node.Child.{Child};
-ghost use Rattle.vm_tree.specs.Answers.{OkOrDevice};
+ghost use Rattle.vm_tree.specs.Tree.{IsData};
 ghost use Rattle.vm_tree.specs.Calls.{OnlyLooks};
-ghost use Rattle.vm_tree.specs.Reading.{EndsAt, IsBlockAt, IsDataAt, IsLeafAt, IsLeafOf, IsNodeAt, IsNodeOf, ReadsOne, StepsTo};
+ghost use Rattle.vm_tree.specs.Reading.{FindsBlock, FindsData, FindsEnd, FindsLeaf, FindsNode, FindsStep, GivesData, GivesLeaf, GivesLeafUnder, GivesNode, GivesNodeUnder, GivesRecordsUnder, GivesWay, IsCount, IsLeafOf, IsNodeOf, IsWayAmong, ReadsLeaf, ReadsNode, ReadsOne};
 
 use crate::root::TreeFault;
 use arrayvec::ArrayVec;
@@ -37,10 +31,8 @@ pub fn data_at<D: Disk>(
     ensures deep { result ≢ Err TreeFault.Deep }
     ensures memory { result ≢ Err TreeFault.Memory }
     ensures once { ReadsOne blocks block (D.state disk.old).reads (D.state disk.new).reads }
-    ensures found { (D.state disk.new).honest ≡ true
-        → IfOk result (λ done. IsDataAt (D.state disk.old).now.contents blocks block bytes.new) }
-    ensures only { (D.state disk.new).honest ≡ true → IsData blocks block
-        → OkOrDevice result (λ done. bytes.new ≡ bytes_at (D.state disk.old).now.contents block) }
+    ensures found { FindsData result (D.state disk.old) (D.state disk.new) blocks block bytes.new }
+    ensures only { GivesData result (D.state disk.old) (D.state disk.new) blocks block bytes.new }
 {
     if !is_data(blocks, block) {
         return Err(TreeFault::Damaged(block));
@@ -63,15 +55,9 @@ pub(crate) fn block_at<D: Disk>(
     ensures looks { OnlyLooks result (D.state disk.old) (D.state disk.new) }
     ensures deep { result ≢ Err TreeFault.Deep }
     ensures memory { result ≢ Err TreeFault.Memory }
-    ensures found { (D.state disk.new).honest ≡ true
-        → IfOk result (λ done. IsBlockAt
-        (D.state disk.old).now.contents blocks top.block top.low bytes.new) }
-    ensures leaf { (D.state disk.new).honest ≡ true → (rs : List Record)
-        → IsLeafAt (D.state disk.old).now.contents blocks top.block rs → BeginsWith top.low rs
-        → OkOrDevice result (λ done. IsLeaf bytes.new rs) }
-    ensures node { (D.state disk.new).honest ≡ true → (level : ℕ) (cs : List Child)
-        → IsNodeAt (D.state disk.old).now.contents blocks level top.block cs → Lowest top.low cs
-        → OkOrDevice result (λ done. IsNode bytes.new level cs) }
+    ensures found { FindsBlock result (D.state disk.old) (D.state disk.new) blocks top bytes.new }
+    ensures leaf { GivesLeafUnder result (D.state disk.old) (D.state disk.new) blocks top bytes.new }
+    ensures node { GivesNodeUnder result (D.state disk.old) (D.state disk.new) blocks top bytes.new }
 {
     data_at(disk, blocks, top.block, bytes)?;
     if lowest_key(bytes) != top.low {
@@ -95,16 +81,10 @@ pub(crate) fn way_at<D: Disk, const MOST: usize>(
     ensures deep { result ≢ Err TreeFault.Deep }
     ensures memory { result ≢ Err TreeFault.Memory }
     ensures level { IfOk result (λ way. (way.level ≡ level) × (level ≤ 7)) }
-    ensures within { IfOk result
-        (λ way. (way.index < way.count) × (way.count ≤ MOST) × (way.count ≤ 256)) }
-    ensures step { (D.state disk.new).honest ≡ true
-        → IfOk result (λ way. StepsTo
-        (D.state disk.old).now.contents blocks level top.block top.low way.child) }
-    ensures only { (D.state disk.new).honest ≡ true → (cs : List Child)
-        → IsNodeAt (D.state disk.old).now.contents blocks level top.block cs → Lowest top.low cs
-        → length cs ≤ MOST
-        → OkOrDevice result (λ way. IsNode bytes.new level cs × (way.count ≡ length cs)
-        × Takes cs (place key) way.index way.child) }
+    ensures within { IfOk result (IsWayAmong MOST) }
+    ensures step { FindsStep result (D.state disk.old) (D.state disk.new) blocks level top }
+    ensures only { GivesWay result (D.state disk.old) (D.state disk.new)
+        blocks level top MOST (place key) bytes.new }
 {
     block_at(disk, blocks, top, bytes)?;
     match find_child(bytes, key) {
@@ -123,14 +103,9 @@ pub(crate) fn leaf_under<D: Disk, const MOST: usize>(
     ensures looks { OnlyLooks result (D.state disk.old) (D.state disk.new) }
     ensures deep { result ≢ Err TreeFault.Deep }
     ensures memory { result ≢ Err TreeFault.Memory }
-    ensures count { IfOk result
-        (λ records. (0 < length records.items) × (length records.items ≤ MOST)) }
-    ensures end { (D.state disk.new).honest ≡ true
-        → IfOk result (λ records. EndsAt (D.state disk.old).now.contents blocks top.block top.low) }
-    ensures only { (D.state disk.new).honest ≡ true → (rs : List Record)
-        → IsLeafAt (D.state disk.old).now.contents blocks top.block rs → BeginsWith top.low rs
-        → length rs ≤ MOST
-        → OkOrDevice result (λ records. records.items ≡ rs) }
+    ensures count { IfOk result (λ records. IsCount MOST (length records.items)) }
+    ensures end { FindsEnd result (D.state disk.old) (D.state disk.new) blocks top }
+    ensures only { GivesRecordsUnder result (D.state disk.old) (D.state disk.new) blocks top MOST }
 {
     let mut bytes = [0; 4096];
     block_at(disk, blocks, top, &mut bytes)?;
@@ -151,14 +126,9 @@ pub fn leaf_at<D: Disk>(
     ensures deep { result ≢ Err TreeFault.Deep }
     ensures memory { result ≢ Err TreeFault.Memory }
     ensures once { ReadsOne blocks block (D.state disk.old).reads (D.state disk.new).reads }
-    ensures count { IfOk result
-        (λ records. (0 < length records.items) × (length records.items ≤ 16)) }
-    ensures found { (D.state disk.new).honest ≡ true
-        → IfOk result (λ records. IsLeafAt
-        (D.state disk.old).now.contents blocks block records.items) }
-    ensures only { (D.state disk.new).honest ≡ true → (rs : List Record)
-        → IsLeafAt (D.state disk.old).now.contents blocks block rs
-        → OkOrDevice result (λ records. records.items ≡ rs) }
+    ensures count { IfOk result (λ records. IsCount 16 (length records.items)) }
+    ensures found { FindsLeaf result (D.state disk.old) (D.state disk.new) blocks block }
+    ensures only { GivesLeaf result (D.state disk.old) (D.state disk.new) blocks block }
 {
     let mut bytes = [0; 4096];
     data_at(disk, blocks, block, &mut bytes)?;
@@ -180,15 +150,10 @@ pub fn node_at<D: Disk>(
     ensures deep { result ≢ Err TreeFault.Deep }
     ensures memory { result ≢ Err TreeFault.Memory }
     ensures once { ReadsOne blocks block (D.state disk.old).reads (D.state disk.new).reads }
-    ensures count { IfOk result
-        (λ children. (0 < length children.items) × (length children.items ≤ 256)) }
+    ensures count { IfOk result (λ children. IsCount 256 (length children.items)) }
     ensures low { IfOk result (λ children. level ≤ 7) }
-    ensures found { (D.state disk.new).honest ≡ true
-        → IfOk result (λ children. IsNodeAt
-        (D.state disk.old).now.contents blocks level block children.items) }
-    ensures only { (D.state disk.new).honest ≡ true → (cs : List Child)
-        → IsNodeAt (D.state disk.old).now.contents blocks level block cs
-        → OkOrDevice result (λ children. children.items ≡ cs) }
+    ensures found { FindsNode result (D.state disk.old) (D.state disk.new) blocks level block }
+    ensures only { GivesNode result (D.state disk.old) (D.state disk.new) blocks level block }
 {
     let mut bytes = [0; 4096];
     data_at(disk, blocks, block, &mut bytes)?;
@@ -211,11 +176,8 @@ pub fn leaf_into<D: Disk>(
     ensures memory { result ≢ Err TreeFault.Memory }
     ensures once { ReadsOne blocks block (D.state disk.old).reads (D.state disk.new).reads }
     ensures count { IfOk result (λ count. IsLeafOf bytes.new count) }
-    ensures found { (D.state disk.new).honest ≡ true
-        → IfOk result (λ count. IsDataAt (D.state disk.old).now.contents blocks block bytes.new) }
-    ensures only { (D.state disk.new).honest ≡ true → (rs : List Record)
-        → IsLeafAt (D.state disk.old).now.contents blocks block rs
-        → OkOrDevice result (λ count. IsLeaf bytes.new rs × (count ≡ length rs)) }
+    ensures found { FindsData result (D.state disk.old) (D.state disk.new) blocks block bytes.new }
+    ensures only { ReadsLeaf result (D.state disk.old) (D.state disk.new) blocks block bytes.new }
 {
     data_at(disk, blocks, block, bytes)?;
     match leaf_size(bytes) {
@@ -238,11 +200,9 @@ pub fn node_into<D: Disk>(
     ensures memory { result ≢ Err TreeFault.Memory }
     ensures once { ReadsOne blocks block (D.state disk.old).reads (D.state disk.new).reads }
     ensures count { IfOk result (λ count. IsNodeOf bytes.new level count) }
-    ensures found { (D.state disk.new).honest ≡ true
-        → IfOk result (λ count. IsDataAt (D.state disk.old).now.contents blocks block bytes.new) }
-    ensures only { (D.state disk.new).honest ≡ true → (cs : List Child)
-        → IsNodeAt (D.state disk.old).now.contents blocks level block cs
-        → OkOrDevice result (λ count. IsNode bytes.new level cs × (count ≡ length cs)) }
+    ensures found { FindsData result (D.state disk.old) (D.state disk.new) blocks block bytes.new }
+    ensures only { ReadsNode result (D.state disk.old) (D.state disk.new)
+        blocks level block bytes.new }
 {
     data_at(disk, blocks, block, bytes)?;
     match node_size(bytes) {

@@ -1,20 +1,14 @@
 //! A record less.
-ghost use Rattle.std.specs.Prelude.{◌≡◌, ◌≢◌, ◌↔◌, ℕ, ◌+◌, ◌-◌, ◌<◌, ◌≤◌, ◌++◌, ◌∷◌, Bool, true, false, List, [], None, Some, length, take, drop, slice_index, slice_set, IsTrue, IfOk, IfSome, IfNone, IsSomeAnd};
-ghost use Rattle.std.specs.List.{AllByRecursion};
-ghost use Rattle.vm_types.specs.Map.{Map, get, without};
-ghost use Rattle.vm_types.specs.Places.{KeyFits, RisesFrom, place, places, value_at};
-ghost use Rattle.vm_alloc.specs.Held.{HoldsMore, IsHeld, free_count};
-ghost use Rattle.vm_block.specs.Leaf.{Record};
-ghost use Rattle.vm_block.specs.Node.{ChildFits, IsNode};
-ghost use Rattle.vm_block.specs.Tree.{BeginsWith, Children, Subtree};
-ghost use Rattle.vm_block.specs.declared.node.Child.{Child};
-ghost use Rattle.vm_tree.specs.Answers.{OkOrDevice, Removes};
+ghost use Rattle.std.specs.Prelude.{◌≡◌, ◌≢◌, ◌+◌, ◌<◌, ◌≤◌, ◌++◌, true, false, None, length, IfOk, IfSome, IfNone};
+ghost use Rattle.vm_types.specs.Places.{KeyFits, place, value_at};
+ghost use Rattle.vm_alloc.specs.Held.{free_count};
 ghost use Rattle.vm_tree.specs.Calls.{OnlyLooks, LooksIf, LooksIfDamaged, WritesFree};
-ghost use Rattle.vm_tree.specs.Making.{Made};
-ghost use Rattle.vm_tree.specs.Reading.{LeadsDown};
-ghost use Rattle.vm_tree.specs.Removing.{Narrows, RemovesBelow, IsLeft, child_of, level_of, without_place};
-ghost use Rattle.vm_tree.specs.Replacing.{IsHeldBeside, IsPathIn, IsRenewed, Replaces, path_from, path_under};
-ghost use Rattle.vm_tree.specs.Root.{AreSizes, IsRootedIn, IfUnder, IfWhole, sizes_of};
+ghost use Rattle.vm_tree.specs.Free.{TakesAtMost};
+ghost use Rattle.vm_tree.specs.Paths.{NamesPath, NamesPathUnder};
+ghost use Rattle.vm_tree.specs.Reading.{FindsPath, FindsPathFrom};
+ghost use Rattle.vm_tree.specs.Removing.{FindsRecord, LeavesOut, LeavesRest, LooksIfNothing, LooksIfSame, NarrowsTo, RemovesFrom, RemovesFromLeaf, RemovesUnder, child_of, level_of, without_at};
+ghost use Rattle.vm_tree.specs.Replacing.{KeepsAbove};
+ghost use Rattle.vm_tree.specs.Root.{AreSizes, sizes_of};
 
 use crate::reading::{leaf_under, way_at};
 use crate::root::{Root, TreeFault, root_at};
@@ -50,9 +44,7 @@ fn child_of(root: Root) -> Child
 /// Where the record of the key at this place stands.
 fn index_of(records: &[(Key, Value)], place: u128) -> Option<usize>
     ensures within { IfSome result (λ i. i < length records.now) }
-    ensures found { IfSome result
-        (λ i. (value_at place records.now ≢ None)
-        × (without_place place records.now ≡ take i records.now ++ drop (i + 1) records.now)) }
+    ensures found { FindsRecord result place records.now }
     ensures absent { IfNone result (value_at place records.now ≡ None) }
 {
     for (i, (key, _)) in records.iter().enumerate() {
@@ -67,7 +59,7 @@ fn index_of(records: &[(Key, Value)], place: u128) -> Option<usize>
 fn without(records: &[(Key, Value)], i: usize) -> ArrayVec<(Key, Value), 16>
     requires few { length records.now ≤ 16 }
     requires within { i < length records.now }
-    ensures { result.items ≡ take i records.now ++ drop (i + 1) records.now }
+    ensures { result.items ≡ without_at i records.now }
 {
     let mut rest = ArrayVec::new();
     push_all(&records[..i], &mut rest);
@@ -80,8 +72,7 @@ fn without_child(bytes: &[u8; 4096], way: Way) -> Option<ArrayVec<Child, 257>>
     requires within { way.index < way.count }
     requires few { way.count ≤ 256 }
     ensures count { IfSome result (λ rest. length rest.items ≤ way.count) }
-    ensures only { (level : ℕ) (cs : List Child) → IsNode bytes.now level cs → way.count ≡ length cs
-        → IsSomeAnd result (λ rest. rest.items ≡ take way.index cs ++ drop (way.index + 1) cs) }
+    ensures only { LeavesOut result way bytes.now }
 {
     match read_node(bytes) {
         Some(node) if node.children.len() == way.count => {
@@ -105,21 +96,13 @@ fn remove_from_leaf<D: Disk, const LEAF: usize>(
     ensures deep { result ≢ Err TreeFault.Deep }
     ensures memory { result ≢ Err TreeFault.Memory }
     ensures level { IfOk result (λ left. level_of left 0 ≡ 0) }
-    ensures taken { free_count held.old ≤ free_count held.new + 1 }
-    ensures same { LooksIf (result ≡ Ok Left.Same) held.old held.new
-        (D.state disk.old) (D.state disk.new) }
-    ensures nothing { LooksIf (result ≡ Ok Left.Nothing) held.old held.new
-        (D.state disk.old) (D.state disk.new) }
+    ensures taken { TakesAtMost 1 held.old held.new }
+    ensures same { LooksIfSame result held.old held.new (D.state disk.old) (D.state disk.new) }
+    ensures nothing { LooksIfNothing result held.old held.new (D.state disk.old) (D.state disk.new) }
     ensures looks { LooksIfDamaged result held.old held.new (D.state disk.old) (D.state disk.new) }
-    ensures path { (D.state disk.new).honest ≡ true
-        → IfOk result (λ left. LeadsDown (D.state disk.old).now.contents
-        (length held.old) 0 top.block top.low) }
-    ensures remove { (fan levels : ℕ)
-        → IfUnder (D.state disk.old) (D.state disk.new) (sizes_of LEAF fan levels)
-        (length held.old) 0 top (λ rs bs. RemovesBelow result place rs
-        (λ root. (keep : ℕ → Bool) → Made (IsRenewed held.old held.new keep)
-        (sizes_of LEAF fan levels) (D.state disk.new).now.contents
-        (length held.old) root.level (child_of root ∷ []) (without_place place rs))) }
+    ensures path { FindsPath result (D.state disk.old) (D.state disk.new) (length held.old) 0 top }
+    ensures remove { RemovesFromLeaf result LEAF held.old held.new
+        (D.state disk.old) (D.state disk.new) top place }
 {
     let records = leaf_under::<D, LEAF>(disk, held.blocks(), top)?;
     let records = records.as_slice();
@@ -145,12 +128,7 @@ fn narrowed<D: Disk, const FAN: usize>(
     ensures deep { result ≢ Err TreeFault.Deep }
     ensures memory { result ≢ Err TreeFault.Memory }
     ensures level { IfOk result (λ root. root.level ≤ level) }
-    ensures narrow { (D.state disk.new).honest ≡ true
-        → (leaf levels : ℕ) (rs : List Record) (bs : List ℕ)
-        → Children (Subtree (sizes_of leaf FAN levels) (D.state disk.old).now.contents blocks level)
-        (top ∷ []) rs bs
-        → OkOrDevice result (λ root. Narrows (sizes_of leaf FAN levels)
-        (D.state disk.old).now.contents blocks top root rs bs) }
+    ensures narrow { NarrowsTo result FAN (D.state disk.old) (D.state disk.new) blocks level top }
 {
     if level == 0 {
         return Ok(root_at(top, 0));
@@ -186,20 +164,11 @@ fn write_rest<D: Disk, const FAN: usize>(
     ensures changed { result ≢ Ok Left.Same }
     ensures level { IfOk result (λ left. level_of left level ≤ level) }
     ensures same_level { is_root ≡ false → IfOk result (λ left. level_of left level ≡ level) }
-    ensures nothing { LooksIf (result ≡ Ok Left.Nothing) held.old held.new
-        (D.state disk.old) (D.state disk.new) }
+    ensures nothing { LooksIfNothing result held.old held.new (D.state disk.old) (D.state disk.new) }
     ensures looks { LooksIfDamaged result held.old held.new (D.state disk.old) (D.state disk.new) }
-    ensures taken { free_count held.old ≤ free_count held.new + 1 }
-    ensures rest { (D.state disk.new).honest ≡ true
-        → (leaf levels : ℕ) (rs : List Record) (bs : List ℕ) → RisesFrom 0 (places rs)
-        → AllByRecursion ChildFits children.now
-        → Children (Subtree (sizes_of leaf FAN levels) (D.state disk.old).now.contents
-        (length held.old) (level - 1)) children.now rs bs
-        → IsLeft result rs (λ root. (before : List Bool) (keep : ℕ → Bool)
-        → HoldsMore before held.old → AllByRecursion (IsRenewed before held.old keep) bs
-        → Made (IsRenewed before held.new keep) (sizes_of leaf FAN levels)
-        (D.state disk.new).now.contents
-        (length held.old) root.level (child_of root ∷ []) rs) }
+    ensures taken { TakesAtMost 1 held.old held.new }
+    ensures rest { LeavesRest result FAN level children.now held.old held.new
+        (D.state disk.old) (D.state disk.new) }
 {
     if children.is_empty() {
         return Ok(Left::Nothing);
@@ -235,28 +204,17 @@ fn remove_below<D: Disk, const LEAF: usize, const FAN: usize>(
     ensures fits { KeyFits key }
     ensures level { IfOk result (λ left. level_of left level ≤ level) }
     ensures same_level { is_root ≡ false → IfOk result (λ left. level_of left level ≡ level) }
-    ensures taken { free_count held.old ≤ free_count held.new + (level + 1) }
-    ensures same { LooksIf (result ≡ Ok Left.Same) held.old held.new
-        (D.state disk.old) (D.state disk.new) }
-    ensures nothing { LooksIf (result ≡ Ok Left.Nothing) held.old held.new
-        (D.state disk.old) (D.state disk.new) }
+    ensures taken { TakesAtMost (level + 1) held.old held.new }
+    ensures same { LooksIfSame result held.old held.new (D.state disk.old) (D.state disk.new) }
+    ensures nothing { LooksIfNothing result held.old held.new (D.state disk.old) (D.state disk.new) }
     ensures looks { LooksIfDamaged result held.old held.new (D.state disk.old) (D.state disk.new) }
-    ensures path { (D.state disk.new).honest ≡ true
-        → IfOk result (λ left. LeadsDown (D.state disk.old).now.contents
-        (length held.old) level top.block top.low) }
-    ensures remove { (levels : ℕ)
-        → IfUnder (D.state disk.old) (D.state disk.new) (sizes_of LEAF FAN levels)
-        (length held.old) level top (λ rs bs. RemovesBelow result (place key) rs
-        (λ root. Replaces held.old held.new (path_from level path.new) bs
-        (λ P. Made P (sizes_of LEAF FAN levels) (D.state disk.new).now.contents
-        (length held.old) root.level (child_of root ∷ []) (without_place (place key) rs)))) }
+    ensures path { FindsPath result (D.state disk.old) (D.state disk.new) (length held.old) level top }
+    ensures remove { RemovesUnder result LEAF FAN held.old held.new
+        (D.state disk.old) (D.state disk.new) level top (place key) path.new }
     ensures path_size { length path.new ≡ length path.old }
-    ensures path_above { (k : ℕ) → level ≤ k
-        → slice_index path.new k ≡ slice_index (slice_set path.old level top.block) k }
-    ensures path_in { (levels : ℕ)
-        → IfUnder (D.state disk.old) (D.state disk.new) (sizes_of LEAF FAN levels)
-        (length held.old) level top
-        (λ rs bs. IfOk result (λ left. IsPathIn (path_from level path.new) bs)) }
+    ensures path_above { KeepsAbove level top.block path.old path.new }
+    ensures path_in { NamesPathUnder result LEAF FAN (D.state disk.old) (D.state disk.new)
+        (length held.old) level top path.new }
 {
     path[usize::from(level)] = top.block;
     if level == 0 {
@@ -304,10 +262,10 @@ pub fn remove<D: Disk, const LEAF: usize, const FAN: usize, const LEVELS: usize>
     ensures writes { WritesFree result held.old held.new (D.state disk.old) (D.state disk.new) }
 
     // No more than 8 blocks are taken.
-    ensures taken { free_count held.old ≤ free_count held.new + 8 }
+    ensures taken { TakesAtMost 8 held.old held.new }
 
     // It takes the blocks of one path alone, one a level.
-    ensures path_taken { free_count held.old ≤ free_count held.new + (root.level + 1) }
+    ensures path_taken { TakesAtMost (root.level + 1) held.old held.new }
 
     // Where the answer is None, nothing was written or taken.
     ensures kept { LooksIf (result ≡ Ok None) held.old held.new
@@ -318,24 +276,16 @@ pub fn remove<D: Disk, const LEAF: usize, const FAN: usize, const LEVELS: usize>
 
     // What is left, or that the key is absent, is told only where each block on the path has the head of its level and
     // begins with the key that its parent says, the first with the lowest key of the old root.
-    ensures path { (D.state disk.new).honest ≡ true
-        → IfOk result (λ rest. 0 < root.block
-        → LeadsDown (D.state disk.old).now.contents
-        (length held.old) root.level root.block root.low) }
+    ensures path { FindsPathFrom root result (D.state disk.old) (D.state disk.new) (length held.old) }
 
     // On a tree the answer is None just where the key is absent, and else a root, unless the device fails; and where
     // the blocks of the tree are held, the root has the map without the key, in blocks that are none of the old path.
-    ensures remove { IfWhole (D.state disk.old) (D.state disk.new) (sizes_of LEAF FAN LEVELS)
-        (length held.old) root (λ m bs. Removes result (get m key ≡ None)
-        (λ r. AllByRecursion (IsHeld held.old) bs
-        → IsRootedIn (sizes_of LEAF FAN LEVELS)
-        (IsHeldBeside held.new (path_under root path.new)) (D.state disk.new).now.contents
-        (length held.old) r (without m key))) }
+    ensures remove { RemovesFrom result (sizes_of LEAF FAN LEVELS) held.old held.new
+        (D.state disk.old) (D.state disk.new) root key path.new }
 
     // The path is of blocks of the old tree.
-    ensures path_in { IfWhole (D.state disk.old) (D.state disk.new) (sizes_of LEAF FAN LEVELS)
-        (length held.old) root
-        (λ m bs. IfOk result (λ rest. IsPathIn (path_under root path.new) bs)) }
+    ensures path_in { NamesPath result (sizes_of LEAF FAN LEVELS)
+        (D.state disk.old) (D.state disk.new) (length held.old) root path.new }
 {
     if root.block == 0 {
         return Ok(None);

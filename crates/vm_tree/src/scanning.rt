@@ -1,11 +1,7 @@
 //! All records of a map, in order.
-ghost use Rattle.std.specs.Prelude.{◌≡◌, ◌≢◌, ℕ, ◌≤◌, ◌++◌, true, List, length, OnOk};
-ghost use Rattle.vm_types.specs.Map.{Map};
-ghost use Rattle.vm_block.specs.Leaf.{Record, IsLeaf};
-ghost use Rattle.vm_block.specs.Tree.{Sizes, Subtree};
-ghost use Rattle.vm_tree.specs.Answers.{Lists};
+ghost use Rattle.std.specs.Prelude.{◌≡◌, ◌≢◌, ◌≤◌};
 ghost use Rattle.vm_tree.specs.Calls.{OnlyLooks};
-ghost use Rattle.vm_tree.specs.Root.{IfWhole};
+ghost use Rattle.vm_tree.specs.Giving.{Adds, AddsLeaf, GivesMap};
 
 use crate::reading::{leaf_into, node_at};
 use crate::root::{Root, TreeFault};
@@ -17,8 +13,7 @@ use vm_types::Records;
 /// Adds so many records of a leaf, each from where it stands in the leaf's bytes.
 fn push_records(bytes: &[u8; 4096], count: usize, into: &mut Records) -> Result<(), AllocError>
     requires { count ≤ 16 }
-    ensures { (rs : List Record) → IsLeaf bytes.now rs → count ≡ length rs
-        → OnOk result (into.new ≡ into.old ++ rs) }
+    ensures { AddsLeaf result bytes.now count into.old into.new }
 {
     for i in 0..count {
         into.push(record_key(bytes, i), record_value(bytes, i))?;
@@ -36,10 +31,7 @@ fn scan_leaf<D: Disk>(
     requires { blocks ≤ (D.state disk.old).blocks }
     ensures looks { OnlyLooks result (D.state disk.old) (D.state disk.new) }
     ensures deep { result ≢ Err TreeFault.Deep }
-    ensures added { (D.state disk.new).honest ≡ true
-        → (sizes : Sizes) (rs : List Record) (bs : List ℕ)
-        → Subtree sizes (D.state disk.old).now.contents blocks 0 block rs bs
-        → Lists result (λ _. into.new ≡ into.old ++ rs) }
+    ensures added { Adds result (D.state disk.old) (D.state disk.new) blocks 0 block into.old into.new }
 {
     let mut bytes = [0; 4096];
     let count = leaf_into(disk, blocks, block, &mut bytes)?;
@@ -60,10 +52,8 @@ fn scan_below<D: Disk>(
     requires { blocks ≤ (D.state disk.old).blocks }
     ensures looks { OnlyLooks result (D.state disk.old) (D.state disk.new) }
     ensures deep { result ≢ Err TreeFault.Deep }
-    ensures added { (D.state disk.new).honest ≡ true
-        → (sizes : Sizes) (rs : List Record) (bs : List ℕ)
-        → Subtree sizes (D.state disk.old).now.contents blocks level block rs bs
-        → Lists result (λ _. into.new ≡ into.old ++ rs) }
+    ensures added { Adds result (D.state disk.old) (D.state disk.new)
+        blocks level block into.old into.new }
 {
     if level == 0 {
         return scan_leaf(disk, blocks, block, into);
@@ -87,9 +77,7 @@ pub fn scan<D: Disk>(
     ensures deep { result ≢ Err TreeFault.Deep }
 
     // On a tree it is the whole map, whatever the sizes of its blocks, unless the device fails or no memory is found.
-    ensures records { (sizes : Sizes)
-        → IfWhole (D.state disk.old) (D.state disk.new) sizes blocks root
-        (λ m bs. Lists result (λ records. records ≡ m)) }
+    ensures records { GivesMap result (D.state disk.old) (D.state disk.new) blocks root }
 {
     let mut records = Records::new(alloc);
     if root.block == 0 {

@@ -1,18 +1,10 @@
 //! Blocks of a tree, written anew in blocks that were free.
-ghost use Rattle.std.specs.Prelude.{◌≡◌, ◌≢◌, ◌↔◌, ℕ, ◌+◌, ◌-◌, ◌<◌, ◌≤◌, Bool, true, false, List, [], ◌∷◌, length, IfOk, OnOk};
-ghost use Rattle.std.specs.List.{AllByRecursion};
-ghost use Rattle.vm_types.specs.Places.{RisesFrom, places};
-ghost use Rattle.vm_disk.specs.Disk.{block};
-ghost use Rattle.vm_alloc.specs.Held.{HoldsMore, free_count};
-ghost use Rattle.vm_block.specs.Leaf.{Record, RecordFits, leaf_bytes};
-ghost use Rattle.vm_block.specs.Node.{node_bytes};
-ghost use Rattle.vm_block.specs.Tree.{Sizes};
-ghost use Rattle.vm_block.specs.declared.node.Child.{Child};
+ghost use Rattle.std.specs.Prelude.{◌≡◌, ◌≢◌, ◌↔◌, ◌+◌, ◌<◌, ◌≤◌, true, length, IfOk};
+ghost use Rattle.vm_alloc.specs.Held.{free_count};
 ghost use Rattle.vm_tree.specs.Answers.{OkOrDevice};
 ghost use Rattle.vm_tree.specs.Calls.{WritesFree};
-ghost use Rattle.vm_tree.specs.Free.{IsTaken, AreTaken, is_free};
-ghost use Rattle.vm_tree.specs.Making.{Made, children_of, is_split};
-ghost use Rattle.vm_tree.specs.Replacing.{IsRenewed};
+ghost use Rattle.vm_tree.specs.Free.{IsTaken, AreTaken, TakesAtMost, is_free};
+ghost use Rattle.vm_tree.specs.Making.{HasWritten, IfOne, MakesLeaf, MakesLeaves, MakesNode, MakesNodes, WritesLeaf, WritesNode, children_of, is_split};
 
 use crate::root::TreeFault;
 use vm_alloc::Held;
@@ -33,10 +25,9 @@ fn write_free<D: Disk>(disk: &mut D, held: &mut Held, bytes: &[u8; 4096]) -> Res
     requires room { 0 < free_count held.old }
     ensures writes { WritesFree result held.old held.new (D.state disk.old) (D.state disk.new) }
     ensures device { OkOrDevice result (IsTaken held.new) }
-    ensures taken { free_count held.old ≤ free_count held.new + 1 }
+    ensures taken { TakesAtMost 1 held.old held.new }
     ensures free { IfOk result (λ n. is_free held.old n ≡ true) }
-    ensures written { (D.state disk.new).honest ≡ true
-        → IfOk result (λ n. block (D.state disk.new).now.contents n ≡ bytes.now) }
+    ensures written { HasWritten result (D.state disk.new) bytes.now }
 {
     let free = held.free_count();
     prove!(free > 0);
@@ -59,25 +50,9 @@ pub(crate) fn write_bytes<D: Disk>(
     requires room { 0 < free_count held.old }
     ensures writes { WritesFree result held.old held.new (D.state disk.old) (D.state disk.new) }
     ensures device { OkOrDevice result (λ child. IsTaken held.new child.block) }
-    ensures taken { free_count held.old ≤ free_count held.new + 1 }
-    ensures leaf { (D.state disk.new).honest ≡ true → (before : List Bool) (keep : ℕ → Bool)
-        → HoldsMore before held.old → (sizes : Sizes) (rs : List Record)
-        → bytes.now ≡ leaf_bytes rs
-        → 0 < length rs → length rs ≤ 16 → length rs ≤ sizes.leaf → RisesFrom 0 (places rs)
-        → AllByRecursion RecordFits rs
-        → IfOk result (λ child. Made (IsRenewed before held.new keep) sizes
-        (D.state disk.new).now.contents (length held.old) 0 (child ∷ []) rs) }
-    ensures node { (D.state disk.new).honest ≡ true
-        → (before : List Bool) (keep : ℕ → Bool)
-        → HoldsMore before held.old → (sizes : Sizes) (level : ℕ) (cs : List Child)
-        → (rs : List Record)
-        → bytes.now ≡ node_bytes level cs
-        → 0 < level → level ≤ 7 → 0 < length cs → length cs ≤ 256 → length cs ≤ sizes.fan
-        → RisesFrom 0 (places rs)
-        → Made (IsRenewed before held.old keep) sizes (D.state disk.old).now.contents
-        (length held.old) (level - 1) cs rs
-        → IfOk result (λ child. Made (IsRenewed before held.new keep) sizes
-        (D.state disk.new).now.contents (length held.old) level (child ∷ []) rs) }
+    ensures taken { TakesAtMost 1 held.old held.new }
+    ensures leaf { WritesLeaf result held.old held.new (D.state disk.new) bytes.now }
+    ensures node { WritesNode result held.old held.new (D.state disk.old) (D.state disk.new) bytes.now }
 {
     let low = lowest_key(bytes);
     let block = write_free(disk, held, bytes)?;
@@ -96,13 +71,8 @@ pub(crate) fn write_leaf_block<D: Disk>(
     requires few { length records.now ≤ 16 }
     ensures writes { WritesFree result held.old held.new (D.state disk.old) (D.state disk.new) }
     ensures device { OkOrDevice result (λ child. IsTaken held.new child.block) }
-    ensures taken { free_count held.old ≤ free_count held.new + 1 }
-    ensures made { (D.state disk.new).honest ≡ true → (before : List Bool) (keep : ℕ → Bool)
-        → HoldsMore before held.old → (sizes : Sizes)
-        → length records.now ≤ sizes.leaf
-        → RisesFrom 0 (places records.now) → AllByRecursion RecordFits records.now
-        → IfOk result (λ child. Made (IsRenewed before held.new keep) sizes
-        (D.state disk.new).now.contents (length held.old) 0 (child ∷ []) records.now) }
+    ensures taken { TakesAtMost 1 held.old held.new }
+    ensures made { MakesLeaf result held.old held.new (D.state disk.new) records.now }
 {
     let mut bytes = [0; 4096];
     write_leaf(records, &mut bytes);
@@ -122,15 +92,9 @@ pub(crate) fn write_node_block<D: Disk>(
     requires few { length children.now ≤ 256 }
     ensures writes { WritesFree result held.old held.new (D.state disk.old) (D.state disk.new) }
     ensures device { OkOrDevice result (λ child. IsTaken held.new child.block) }
-    ensures taken { free_count held.old ≤ free_count held.new + 1 }
-    ensures made { (D.state disk.new).honest ≡ true → (before : List Bool) (keep : ℕ → Bool)
-        → HoldsMore before held.old → (sizes : Sizes) (rs : List Record) → 0 < level
-        → level ≤ 7 → length children.now ≤ sizes.fan
-        → RisesFrom 0 (places rs)
-        → Made (IsRenewed before held.old keep) sizes (D.state disk.old).now.contents
-        (length held.old) (level - 1) children.now rs
-        → IfOk result (λ child. Made (IsRenewed before held.new keep) sizes
-        (D.state disk.new).now.contents (length held.old) level (child ∷ []) rs) }
+    ensures taken { TakesAtMost 1 held.old held.new }
+    ensures made { MakesNode result level children.now
+        held.old held.new (D.state disk.old) (D.state disk.new) }
 {
     let mut bytes = [0; 4096];
     write_node(level, children, &mut bytes);
@@ -152,15 +116,10 @@ pub(crate) fn write_leaves<D: Disk, const LEAF: usize>(
     ensures writes { WritesFree result held.old held.new (D.state disk.old) (D.state disk.new) }
     ensures device { OkOrDevice result (λ copied. AreTaken held.new (children_of copied)) }
     ensures split { IfOk result (λ copied. (is_split copied ≡ true) ↔ (LEAF < length records.now)) }
-    ensures one { length records.now ≤ LEAF → free_count held.old ≤ free_count held.new + 1 }
-    ensures single { IfOk result
-        (λ copied. is_split copied ≡ false → free_count held.old ≤ free_count held.new + 1) }
-    ensures taken { free_count held.old ≤ free_count held.new + 2 }
-    ensures made { (D.state disk.new).honest ≡ true → (before : List Bool) (keep : ℕ → Bool)
-        → HoldsMore before held.old → (sizes : Sizes) → LEAF ≤ sizes.leaf
-        → RisesFrom 0 (places records.now) → AllByRecursion RecordFits records.now
-        → IfOk result (λ copied. Made (IsRenewed before held.new keep) sizes
-        (D.state disk.new).now.contents (length held.old) 0 (children_of copied) records.now) }
+    ensures one { length records.now ≤ LEAF → TakesAtMost 1 held.old held.new }
+    ensures single { IfOne result (TakesAtMost 1 held.old held.new) }
+    ensures taken { TakesAtMost 2 held.old held.new }
+    ensures made { MakesLeaves result LEAF held.old held.new (D.state disk.new) records.now }
 {
     if records.len() <= LEAF {
         let leaf = write_leaf_block(disk, held, records)?;
@@ -189,18 +148,11 @@ pub(crate) fn write_nodes<D: Disk, const FAN: usize>(
     ensures writes { WritesFree result held.old held.new (D.state disk.old) (D.state disk.new) }
     ensures device { OkOrDevice result (λ copied. AreTaken held.new (children_of copied)) }
     ensures split { IfOk result (λ copied. (is_split copied ≡ true) ↔ (FAN < length children.now)) }
-    ensures one { length children.now ≤ FAN → free_count held.old ≤ free_count held.new + 1 }
-    ensures single { IfOk result
-        (λ copied. is_split copied ≡ false → free_count held.old ≤ free_count held.new + 1) }
-    ensures taken { free_count held.old ≤ free_count held.new + 2 }
-    ensures made { (D.state disk.new).honest ≡ true → (before : List Bool) (keep : ℕ → Bool)
-        → HoldsMore before held.old → (sizes : Sizes) (rs : List Record) → 0 < level
-        → level ≤ 7 → FAN ≤ sizes.fan
-        → RisesFrom 0 (places rs)
-        → Made (IsRenewed before held.old keep) sizes (D.state disk.old).now.contents
-        (length held.old) (level - 1) children.now rs
-        → IfOk result (λ copied. Made (IsRenewed before held.new keep) sizes
-        (D.state disk.new).now.contents (length held.old) level (children_of copied) rs) }
+    ensures one { length children.now ≤ FAN → TakesAtMost 1 held.old held.new }
+    ensures single { IfOne result (TakesAtMost 1 held.old held.new) }
+    ensures taken { TakesAtMost 2 held.old held.new }
+    ensures made { MakesNodes result FAN level children.now
+        held.old held.new (D.state disk.old) (D.state disk.new) }
 {
     if children.len() <= FAN {
         let node = write_node_block(disk, held, level, children)?;

@@ -1,7 +1,7 @@
 //! Answers that are lists.
 ghost use Rattle.std.specs.Prelude.{◌≡◌, ◌+◌, ◌≤◌, [], length, IfOk, OnErr, OnOk};
-ghost use Rattle.vm_cli.specs.Carried.{WritesStart, Carries};
-ghost use Rattle.vm_cli.specs.Feeding.{ListReplied, joined};
+ghost use Rattle.vm_cli.specs.Carried.{Begins, GainsBut};
+ghost use Rattle.vm_cli.specs.Feeding.{RepliesWithList, joined};
 
 use crate::answers::listing::Listing;
 use crate::answers::reply::Reply;
@@ -22,7 +22,7 @@ pub fn reply_with_list<L: Listing + Drop, W: Write>(
 ) -> Result<Reply, WriteFault>
     requires { text.old ≡ [] }
     ensures room { OnOk result (length text.new + 1024 ≤ 65536) }
-    ensures list { ListReplied L.lines list result (W.contents writer.old) (W.contents writer.new) text.new }
+    ensures list { RepliesWithList L.lines W.contents list result writer.old writer.new text.new }
 {
     match list {
         Ok(list) => write_list(&list, text, writer),
@@ -39,8 +39,8 @@ fn write_list<L: Listing, W: Write>(
     requires { text.old ≡ [] }
     ensures room { OnOk result (length text.new + 1024 ≤ 65536) }
     ensures reply { IfOk result (λ reply. reply ≡ Reply.End (length (L.lines list.now))) }
-    ensures ok { OnOk result (Carries (W.contents writer.old) (W.contents writer.new) text.new (joined (L.lines list.now))) }
-    ensures err { OnErr result (WritesStart (W.contents writer.old) (W.contents writer.new) (joined (L.lines list.now))) }
+    ensures ok { OnOk result (GainsBut W.contents text.new (joined (L.lines list.now)) writer.old writer.new) }
+    ensures err { OnErr result (Begins W.contents (joined (L.lines list.now)) writer.old writer.new) }
 {
     let count = list.count();
     for i in 0..count {
@@ -54,8 +54,8 @@ fn write_list<L: Listing, W: Write>(
 // Makes room for one more line, and writes what there is where that is too much.
 fn make_room<W: Write>(text: &mut Text, writer: &mut W) -> Result<(), WriteFault>
     ensures room { OnOk result (length text.new + 2304 ≤ 65536) }
-    ensures ok { OnOk result (Carries (W.contents writer.old) (W.contents writer.new) text.new text.old) }
-    ensures err { OnErr result (WritesStart (W.contents writer.old) (W.contents writer.new) text.old) }
+    ensures ok { OnOk result (GainsBut W.contents text.new text.old writer.old writer.new) }
+    ensures err { OnErr result (Begins W.contents text.old writer.old writer.new) }
 {
     if text.as_bytes().len() > Text::MAX_LEN - LONGEST_LINE {
         put_all(writer, text.as_bytes())?;

@@ -1,5 +1,6 @@
 //! Bytes on their way to a writer.
-ghost use Rattle.std.specs.Io.KnownBytes.{Appends, Keeps};
+ghost use Rattle.std.specs.Io.KnownBytes.{Keeps};
+ghost use Rattle.vm_cli.specs.Carried.{Gains};
 ghost use Rattle.std.specs.Prelude.{◌≡◌, ℕ, OnErr, OnOk, take};
 
 use std::io::Write;
@@ -11,9 +12,8 @@ pub struct WriteFault;
 /// Writes all the bytes. Unlike `write_all` it takes an interrupted call for a failure, and its
 /// contract says what was written before one.
 pub fn put_all<W: Write>(writer: &mut W, bytes: &[u8]) -> Result<(), WriteFault>
-    ensures ok { OnOk result (Appends (W.contents writer.old) (W.contents writer.new) bytes.now) }
-    ensures err { OnErr result ((k : ℕ)
-        × Appends (W.contents writer.old) (W.contents writer.new) (take k bytes.now)) }
+    ensures ok { OnOk result (Gains W.contents bytes.now writer.old writer.new) }
+    ensures err { OnErr result ((k : ℕ) × Gains W.contents (take k bytes.now) writer.old writer.new) }
 {
     let mut rest = bytes;
     while !rest.is_empty() {

@@ -1,6 +1,6 @@
 //! Values as they are written in lines.
 ghost use Rattle.std.specs.Prelude.{◌≡◌, ◌+◌, ◌<◌, ◌≤◌, ◌++◌, ◌∷◌, length, MatchOption, None, Some, option_map, true};
-ghost use Rattle.vm_cli.specs.Escapes.{ArePlain, byte_text, hex_digit, hex_text, is_plain as is_plain_byte, unescaped, value_of, value_text};
+ghost use Rattle.vm_cli.specs.Escapes.{ArePlain, SpellsFirst, byte_text, hex_digit, hex_text, is_plain as is_plain_byte, unescaped, value_of, value_text};
 
 use crate::answers::text::Text;
 use memchr::memchr;
@@ -36,8 +36,7 @@ pub fn value(word: &[u8]) -> Option<Value>
 fn first_byte(word: &[u8]) -> Option<(u8, &[u8])>
     requires { 0 < length word.now }
     ensures { MatchOption result (unescaped word.now ≡ None)
-        (λ p. (unescaped word.now ≡ option_map (λ bytes. p.0 ∷ bytes) (unescaped p.1.now))
-        × (length p.1.now < length word.now)) }
+        (λ p. SpellsFirst word.now p.0 p.1.now) }
 {
     if word[0] != b'%' {
         return Some((word[0], &word[1..]));

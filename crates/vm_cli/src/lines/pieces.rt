@@ -1,14 +1,14 @@
 //! The words of a line, and the pieces of a word.
 ghost use Rattle.std.specs.Prelude.{◌≡◌, ◌<◌, ◌∷◌, [], length, MatchOption};
 ghost use Rattle.vm_cli.specs.Pieces.{before_mark, behind_mark};
-ghost use Rattle.vm_cli.specs.Spaces.{words_of};
+ghost use Rattle.vm_cli.specs.Spaces.{BeginsWith, words_of};
 
 use memchr::memchr;
 
 /// The first word of a line, and what stands after it.
 pub fn first_word(line: &[u8]) -> Option<(&[u8], &[u8])>
     ensures { MatchOption result (words_of line.now ≡ [])
-        (λ p. words_of line.now ≡ p.0.now ∷ words_of p.1.now) }
+        (λ p. BeginsWith line.now p.0.now p.1.now) }
 {
     let mut rest = line;
     while !rest.is_empty() {

@@ -32,7 +32,7 @@ pub enum Request {
 
 ghost use Rattle.std.specs.Prelude.{◌≡◌, ◌∷◌, [], ℕ, List, codes, IfOk, MatchOption, OnErr};
 ghost use Rattle.vm_cli.specs.Requests.{IsLongMerge, asked_by, command_of, grow_of, merge_of, name_of, named_of, names_of, new_of, put_of, query_of, record_of, request_of, two_named};
-ghost use Rattle.vm_cli.specs.Spaces.{words_of};
+ghost use Rattle.vm_cli.specs.Spaces.{HasWord, words_of};
 
 /// Reads a line, given without the bytes that end it.
 pub fn read_request(alloc: Global, line: &[u8]) -> Result<Request, AllocError>
@@ -269,8 +269,7 @@ fn name(word: &[u8]) -> Option<Name>
 
 // No word is left.
 fn ends(rest: &[u8]) -> Option<()>
-    ensures { MatchOption result ((word : List ℕ) × (words : List (List ℕ))
-        × (words_of rest.now ≡ word ∷ words)) (λ _. words_of rest.now ≡ []) }
+    ensures { MatchOption result (HasWord rest.now) (λ _. words_of rest.now ≡ []) }
 {
     match first_word(rest) {
         None => Some(()),

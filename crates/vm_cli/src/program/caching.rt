@@ -1,8 +1,8 @@
 //! Lines that are answered over a disk of which blocks stay in memory, with those over it that wait.
 ghost use Rattle.std.specs.Prelude.{◌≡◌, ◌⊎◌};
 ghost use Rattle.vm_types.specs.declared.refusal.Refusal.{Refusal as RefusalValue};
-ghost use Rattle.vm_cli.specs.Caching.{IsNotServed, IsServed};
-ghost use Rattle.vm_cli.specs.Exits.{MayEnd, Tells, refused_text};
+ghost use Rattle.vm_cli.specs.Runs.{AnswersInMemory, TellsRefusalInMemory, disks};
+ghost use Rattle.vm_cli.specs.Exits.{TalkEnds};
 
 use crate::program::Exit;
 use crate::program::delaying::answer_lines_late;
@@ -24,14 +24,12 @@ pub fn answer_lines_in_memory<D: Disk, R: Read, W: Write, F: Write>(
     output: &mut W,
     errors: &mut F,
 ) -> (Exit, D)
-    ensures ends { ((errors.new ≡ errors.old) × MayEnd on_refusal result.0)
-        ⊎ ((output.new ≡ output.old) × ((refusal : RefusalValue) × Tells Exit.Refused result.0 (F.contents errors.old) (F.contents errors.new) (refused_text refusal))) }
+    ensures ends { TalkEnds F.contents on_refusal result.0 output.old output.new errors.old errors.new }
     // The lines are answered as `answer_lines_late` promises, over the disk itself or over a cache of its blocks; or it is said why the
     // one or the other shows no store, and that it is at most synced.
-    ensures served { IsServed D.Disk ⟦<CachedDisk<D> as Disk>⟧ ⟦<DelayedDisk<D> as Disk>⟧ ⟦<DelayedDisk<CachedDisk<D>> as Disk>⟧ in_memory on_refusal disk result.1 result.0
-        (R.remaining input.old) (W.contents output.old) (W.contents output.new)
-        ⊎ ((refusal : RefusalValue) × IsNotServed D.Disk ⟦<CachedDisk<D> as Disk>⟧ ⟦<DelayedDisk<D> as Disk>⟧ ⟦<DelayedDisk<CachedDisk<D>> as Disk>⟧ in_memory disk result.1 refusal
-        × Tells Exit.Refused result.0 (F.contents errors.old) (F.contents errors.new) (refused_text refusal)) }
+    ensures served { let over = disks D.Disk ⟦<CachedDisk<D> as Disk>⟧ ⟦<DelayedDisk<D> as Disk>⟧ ⟦<DelayedDisk<CachedDisk<D>> as Disk>⟧ in
+        AnswersInMemory over disk result in_memory R.remaining W.contents on_refusal input.old output.old output.new
+        ⊎ TellsRefusalInMemory over disk result in_memory F.contents errors.old errors.new }
 {
     let InMemory { cache, buffer } = in_memory;
     if cache == 0 {

@@ -3,8 +3,9 @@ ghost use Rattle.std.specs.Prelude.{◌≡◌, ◌≢◌, ◌+◌, ◌≤◌, �
 ghost use Rattle.vm_store.specs.Store.{Holds, free_of, has_failed};
 ghost use Rattle.vm_types.specs.Shape.{shape};
 ghost use Rattle.vm_types.specs.State.{State};
-ghost use Rattle.vm_cli.specs.Counting.{checkpoint_count};
-ghost use Rattle.vm_cli.specs.Exits.{check_text};
+ghost use Rattle.vm_cli.specs.Counting.{AreCounts};
+ghost use Rattle.vm_cli.specs.Standing.{GivesCheckpoints, InListed, InState, IsMemory};
+ghost use Rattle.vm_cli.specs.Exits.{counts_text};
 
 use crate::answers::text::Text;
 use std::alloc::Global;
@@ -24,7 +25,7 @@ impl Counts {
     /// Writes them, a line each.
     pub fn push_onto(&self, text: &mut Text)
         requires { length text.old + 200 ≤ 65536 }
-        ensures { text.new ≡ text.old ++ check_text self.now.alternatives self.now.checkpoints self.now.free }
+        ensures { text.new ≡ text.old ++ counts_text self.now }
     {
         text.push_bytes(b"alternatives ");
         text.push_number(self.alternatives as u64);
@@ -38,11 +39,8 @@ impl Counts {
 
 /// Counts what a store holds. It makes no device call.
 pub fn count<D: Disk>(alloc: Global, store: &Store<D>) -> Result<Counts, Refusal>
-    ensures counted { has_failed store.now ≡ false → (s : State) → Holds store.now s
-        → IfOk result (λ counts. (counts.alternatives ≡ length s.working)
-        × (counts.checkpoints ≡ checkpoint_count s.working) × (counts.free ≡ free_of store.now)) }
-    ensures refused { has_failed store.now ≡ false → (s : State) → Holds store.now s
-        → IfErr result (λ refusal. refusal ≡ Refusal.Memory) }
+    ensures counted { InState store.now (λ s. IfOk result (AreCounts store.now s)) }
+    ensures refused { InState store.now (λ s. IfErr result IsMemory) }
     ensures never { has_failed store.now ≡ false → result ≢ Err Refusal.Device }
 {
     let alternatives = match store.alternatives(alloc) {
@@ -69,12 +67,8 @@ fn count_checkpoints<D: Disk>(
     store: &Store<D>,
     listed: &[(Name, Option<Name>)],
 ) -> Result<usize, Refusal>
-    ensures counted { has_failed store.now ≡ false → (s : State) → Holds store.now s
-        → listed.now ≡ shape s.working
-        → IfOk result (λ count. count ≡ checkpoint_count s.working) }
-    ensures refused { has_failed store.now ≡ false → (s : State) → Holds store.now s
-        → listed.now ≡ shape s.working
-        → IfErr result (λ refusal. refusal ≡ Refusal.Memory) }
+    ensures counted { InListed store.now listed.now (GivesCheckpoints result) }
+    ensures refused { InListed store.now listed.now (λ s. IfErr result IsMemory) }
     ensures never { has_failed store.now ≡ false → result ≢ Err Refusal.Device }
 {
     let mut count: usize = 0;

@@ -1,8 +1,8 @@
 //! Lines that are answered over a disk of which written blocks wait in memory.
 ghost use Rattle.std.specs.Prelude.{◌≡◌, ◌⊎◌};
 ghost use Rattle.vm_types.specs.declared.refusal.Refusal.{Refusal as RefusalValue};
-ghost use Rattle.vm_cli.specs.Delaying.{IsRefusedLate, IsServedLate};
-ghost use Rattle.vm_cli.specs.Exits.{MayEnd, Tells, refused_text};
+ghost use Rattle.vm_cli.specs.Told.{AnswersLate, TellsRefusalLate};
+ghost use Rattle.vm_cli.specs.Exits.{TalkEnds};
 
 use crate::program::{Exit, answer_lines};
 use crate::talk::OnRefusal;
@@ -22,13 +22,12 @@ pub fn answer_lines_late<D: Disk, R: Read, W: Write, F: Write>(
     output: &mut W,
     errors: &mut F,
 ) -> (Exit, D)
-    ensures ends { ((errors.new ≡ errors.old) × MayEnd on_refusal result.0)
-        ⊎ ((output.new ≡ output.old) × ((refusal : RefusalValue) × Tells Exit.Refused result.0 (F.contents errors.old) (F.contents errors.new) (refused_text refusal))) }
+    ensures ends { TalkEnds F.contents on_refusal result.0 output.old output.new errors.old errors.new }
     // The lines are answered as `answer_lines` promises, over the disk itself or over a late disk over it; or it is said why the one or
     // the other shows no store, and that it is at most synced.
-    ensures served { IsServedLate D.Disk ⟦<DelayedDisk<D> as Disk>⟧ buffer on_refusal disk result.1 result.0 (R.remaining input.old) (W.contents output.old) (W.contents output.new)
-        ⊎ ((refusal : RefusalValue) × IsRefusedLate D.Disk ⟦<DelayedDisk<D> as Disk>⟧ buffer disk result.1 refusal
-        × Tells Exit.Refused result.0 (F.contents errors.old) (F.contents errors.new) (refused_text refusal)) }
+    ensures served { let late = ⟦<DelayedDisk<D> as Disk>⟧ in
+        AnswersLate D.Disk R.remaining W.contents on_refusal disk result late buffer input.old output.old output.new
+        ⊎ TellsRefusalLate D.Disk late F.contents buffer disk result errors.old errors.new }
 {
     if buffer == 0 {
         return answer_lines(alloc, disk, on_refusal, input, output, errors);

@@ -2,7 +2,7 @@
 ghost use Rattle.std.specs.Fmt.{decimal};
 ghost use Rattle.std.specs.List.{list_any};
 ghost use Rattle.std.specs.Prelude.{◌≡◌, ◌++◌, ◌≤◌, IfOk, OnOk, flat_map, length};
-ghost use Rattle.vm_cli.specs.Drawing.{at_right, branch_line, checkpoint_line, columns_of, columns_text, drawing, have_under, is_under as is_under_parent, lines_under, own_stem, post_text, stem_below};
+ghost use Rattle.vm_cli.specs.Drawing.{Adds, at_right, branch_line, checkpoint_line, checkpoint_lines, columns_of, drawing, have_under, is_under as is_under_parent, lines_under, own_stem, post_text, stem_below};
 
 use std::alloc::{AllocError, Global};
 use std::marker::Model;
@@ -59,7 +59,7 @@ fn push_under(
     parent: &Name,
     branches: &[Branch],
 ) -> Result<(), AllocError>
-    ensures drawn { OnOk result (text.new.items ≡ text.old.items ++ lines_under stems.old.items parent.now branches.now) }
+    ensures drawn { OnOk result (Adds text.old text.new (lines_under stems.old.items parent.now branches.now)) }
     ensures stems { OnOk result (stems.new.items ≡ stems.old.items) }
 {
     let Some((branch, later)) = branches.split_first() else {
@@ -105,7 +105,7 @@ fn push_line(
     own: &[u8],
     branch: &Branch,
 ) -> Result<(), AllocError>
-    ensures { OnOk result (text.new.items ≡ text.old.items ++ branch_line stems.now own.now branch.now) }
+    ensures { OnOk result (Adds text.old text.new (branch_line stems.now own.now branch.now)) }
 {
     push_columns(text, &branch.tally)?;
     text.extend_from_slice(stems)?;
@@ -117,7 +117,7 @@ fn push_line(
 
 // Writes the lines of checkpoints.
 fn push_checkpoints(text: &mut Vec<u8>, stems: &[u8], names: &[Name]) -> Result<(), AllocError>
-    ensures { OnOk result (text.new.items ≡ text.old.items ++ flat_map (checkpoint_line stems.now) names.now) }
+    ensures { OnOk result (Adds text.old text.new (checkpoint_lines stems.now names.now)) }
 {
     for name in names {
         push_checkpoint(text, stems, name)?;
@@ -127,7 +127,7 @@ fn push_checkpoints(text: &mut Vec<u8>, stems: &[u8], names: &[Name]) -> Result<
 
 // Writes the line of a checkpoint.
 fn push_checkpoint(text: &mut Vec<u8>, stems: &[u8], name: &Name) -> Result<(), AllocError>
-    ensures { OnOk result (text.new.items ≡ text.old.items ++ checkpoint_line stems.now name.now) }
+    ensures { OnOk result (Adds text.old text.new (checkpoint_line stems.now name.now)) }
 {
     text.extend_from_slice(b"                                 ")?;
     text.extend_from_slice(stems)?;
@@ -139,7 +139,7 @@ fn push_checkpoint(text: &mut Vec<u8>, stems: &[u8], name: &Name) -> Result<(), 
 
 // Writes the columns of an alternative.
 fn push_columns(text: &mut Vec<u8>, tally: &Option<Tally>) -> Result<(), AllocError>
-    ensures { OnOk result (text.new.items ≡ text.old.items ++ columns_of tally.now) }
+    ensures { OnOk result (Adds text.old text.new (columns_of tally.now)) }
 {
     match tally {
         Some(tally) => push_numbers(text, tally),
@@ -149,7 +149,7 @@ fn push_columns(text: &mut Vec<u8>, tally: &Option<Tally>) -> Result<(), AllocEr
 
 // Writes the columns of an alternative that has numbers.
 fn push_numbers(text: &mut Vec<u8>, tally: &Tally) -> Result<(), AllocError>
-    ensures { OnOk result (text.new.items ≡ text.old.items ++ columns_text (decimal tally.now.changed) (decimal tally.now.unmerged) (decimal tally.now.conflicts) (post_text tally.now.can_post)) }
+    ensures { OnOk result (Adds text.old text.new (columns_of (Some tally.now))) }
 {
     push_number(text, 7, tally.changed)?;
     push_number(text, 9, tally.unmerged)?;
@@ -160,7 +160,7 @@ fn push_numbers(text: &mut Vec<u8>, tally: &Tally) -> Result<(), AllocError>
 
 // Writes a number at the right of a column of this width.
 fn push_number(text: &mut Vec<u8>, width: usize, number: usize) -> Result<(), AllocError>
-    ensures { OnOk result (text.new.items ≡ text.old.items ++ at_right width (decimal number)) }
+    ensures { OnOk result (Adds text.old text.new (at_right width (decimal number))) }
 {
     let mut buffer = itoa::Buffer::new();
     push_right(text, width, buffer.format(number as u64).as_bytes())
@@ -168,7 +168,7 @@ fn push_number(text: &mut Vec<u8>, width: usize, number: usize) -> Result<(), Al
 
 // Writes a text at the right of a column of this width.
 fn push_right(text: &mut Vec<u8>, width: usize, word: &[u8]) -> Result<(), AllocError>
-    ensures { OnOk result (text.new.items ≡ text.old.items ++ at_right width word.now) }
+    ensures { OnOk result (Adds text.old text.new (at_right width word.now)) }
 {
     for _ in 0..width.saturating_sub(word.len()) {
         text.push(b' ')?;

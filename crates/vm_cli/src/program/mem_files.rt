@@ -32,7 +32,7 @@ pub struct MemFiles {
 
 impl MemFiles {
     ghost use Rattle.vm_cli.specs.MemFiles.{files_state, room_given};
-    ghost use Rattle.vm_cli.specs.Places.{Creates, Finds};
+    ghost use Rattle.vm_cli.specs.Places.{CreatesIn, FindsIn, WasHonest};
 
     /// No files. Disks that are made can't get longer.
     pub fn new(alloc: Global) -> MemFiles
@@ -70,10 +70,8 @@ impl MemFiles {
     fn made(&mut self, file: &str, blocks: u32) -> Option<MemDisk>
         ensures denied { noted self.new.denied ≡ noted self.old.denied }
         ensures to_write { noted self.new.to_write ≡ noted self.old.to_write }
-        ensures earlier { (files_state self.new).honest ≡ true
-            → (files_state self.old).honest ≡ true }
-        ensures honest { (files_state self.new).honest ≡ true
-            → Creates file.now blocks (option_map memory_state result) (files_state self.old) (files_state self.new) }
+        ensures earlier { WasHonest (files_state self.old) (files_state self.new) }
+        ensures honest { CreatesIn files_state memory_state file.now blocks result self.old self.new }
         ensures room { IfSome result (λ disk. room_of disk ≡ max (room_given self.old) blocks) }
     {
         if self.slots.contains_key(file) {
@@ -94,10 +92,8 @@ impl MemFiles {
     fn found(&mut self, file: &str) -> Option<MemDisk>
         ensures denied { noted self.new.denied ≡ noted self.old.denied }
         ensures to_write { noted self.new.to_write ≡ noted self.old.to_write }
-        ensures earlier { (files_state self.new).honest ≡ true
-            → (files_state self.old).honest ≡ true }
-        ensures honest { (files_state self.new).honest ≡ true
-            → Finds file.now (option_map memory_state result) (files_state self.old) (files_state self.new) }
+        ensures earlier { WasHonest (files_state self.old) (files_state self.new) }
+        ensures honest { FindsIn files_state memory_state file.now result self.old self.new }
     {
         let slot = self.slots.get_mut(file)?;
         let disk = slot.disk.take()?;

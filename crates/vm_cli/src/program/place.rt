@@ -1,6 +1,7 @@
 //! Where disks are found by name.
 ghost use Rattle.std.specs.Prelude.{◌≡◌, ◌+◌, ℕ, true, None, IfSome, option_map};
-ghost use Rattle.vm_cli.specs.Places.{PlaceState, Creates, Finds, TakesBack};
+ghost use Rattle.vm_disk.specs.Between.{Between};
+ghost use Rattle.vm_cli.specs.Places.{PlaceState, CreatesIn, FindsIn, TakesBackIn, WasHonest};
 
 use crate::program::progress::{Progress, Watched};
 use std::fs::File;
@@ -30,35 +31,31 @@ pub trait Place {
         ensures none { result ≡ None → denied self.new ≡ denied self.old + 1 }
         ensures some { IfSome result (λ disk. denied self.new ≡ denied self.old) }
         ensures writes { to_write self.new ≡ to_write self.old + 1 }
-        ensures earlier { (state self.new).honest ≡ true → (state self.old).honest ≡ true }
-        ensures honest { (state self.new).honest ≡ true
-            → Creates file.now blocks (option_map Self.D.state result) (state self.old) (state self.new) };
+        ensures earlier { WasHonest (state self.old) (state self.new) }
+        ensures honest { CreatesIn state Self.D.state file.now blocks result self.old self.new };
 
     /// A disk that is there.
     fn find(&mut self, file: &str) -> Option<Self::D>
         ensures none { result ≡ None → denied self.new ≡ denied self.old + 1 }
         ensures some { IfSome result (λ disk. denied self.new ≡ denied self.old) }
         ensures writes { to_write self.new ≡ to_write self.old + 1 }
-        ensures earlier { (state self.new).honest ≡ true → (state self.old).honest ≡ true }
-        ensures honest { (state self.new).honest ≡ true
-            → Finds file.now (option_map Self.D.state result) (state self.old) (state self.new) };
+        ensures earlier { WasHonest (state self.old) (state self.new) }
+        ensures honest { FindsIn state Self.D.state file.now result self.old self.new };
 
     /// A disk that is there, for reading alone: it need not be one that may be written.
     fn look(&mut self, file: &str) -> Option<Self::D>
         ensures none { result ≡ None → denied self.new ≡ denied self.old + 1 }
         ensures some { IfSome result (λ disk. denied self.new ≡ denied self.old) }
         ensures reads { to_write self.new ≡ to_write self.old }
-        ensures earlier { (state self.new).honest ≡ true → (state self.old).honest ≡ true }
-        ensures honest { (state self.new).honest ≡ true
-            → Finds file.now (option_map Self.D.state result) (state self.old) (state self.new) };
+        ensures earlier { WasHonest (state self.old) (state self.new) }
+        ensures honest { FindsIn state Self.D.state file.now result self.old self.new };
 
     /// Takes a disk back that it gave.
     fn give_back(&mut self, file: &str, disk: Self::D)
         ensures denied { denied self.new ≡ denied self.old }
         ensures reads { to_write self.new ≡ to_write self.old }
-        ensures earlier { (state self.new).honest ≡ true → (state self.old).honest ≡ true }
-        ensures honest { (state self.new).honest ≡ true
-            → TakesBack file.now (Self.D.state disk) (state self.old) (state self.new) };
+        ensures earlier { WasHonest (state self.old) (state self.new) }
+        ensures honest { TakesBackIn state Self.D.state file.now disk self.old self.new };
 }
 
 // What was done with a file of the system. Missed is that one was to be had which may be written, and
@@ -129,16 +126,14 @@ impl<'a, R: Files<File = File>, W: World> RealFiles<'a, R, W> {
 }
 
 impl<'a, R: Files<File = File>, W: World> RealFiles<'a, R, W> {
-    ghost use Rattle.vm_cli.specs.RealFiles.{asked_to_write, real_disk, real_state, times_denied};
+    ghost use Rattle.vm_cli.specs.RealFiles.{asked_to_write, real_state, times_denied, CreatesReal, FindsReal};
 
     // Makes a file that is not there yet, and a disk of it.
     fn made(&mut self, file: &str, blocks: u32) -> Option<FileDisk<Watched<'a, SystemFile<W>>>>
         ensures denied { times_denied self.new ≡ times_denied self.old }
         ensures to_write { asked_to_write self.new ≡ asked_to_write self.old + 1 }
-        ensures earlier { (real_state W.held W.torn self.new).honest ≡ true
-            → (real_state W.held W.torn self.old).honest ≡ true }
-        ensures honest { (real_state W.held W.torn self.new).honest ≡ true
-            → Creates file.now blocks (option_map (real_disk W.held W.torn) result) (real_state W.held W.torn self.old) (real_state W.held W.torn self.new) }
+        ensures earlier { Between (real_state W.held W.torn) WasHonest self.old self.new }
+        ensures honest { CreatesReal W.held W.torn file.now blocks result self.old self.new }
     {
         let Some(made) = SystemFile::create(self.rt, file, &self.opened) else {
             self.events.note(&Event::Missed);
@@ -154,10 +149,8 @@ impl<'a, R: Files<File = File>, W: World> RealFiles<'a, R, W> {
     fn found(&mut self, file: &str) -> Option<FileDisk<Watched<'a, SystemFile<W>>>>
         ensures denied { times_denied self.new ≡ times_denied self.old }
         ensures to_write { asked_to_write self.new ≡ asked_to_write self.old + 1 }
-        ensures earlier { (real_state W.held W.torn self.new).honest ≡ true
-            → (real_state W.held W.torn self.old).honest ≡ true }
-        ensures honest { (real_state W.held W.torn self.new).honest ≡ true
-            → Finds file.now (option_map (real_disk W.held W.torn) result) (real_state W.held W.torn self.old) (real_state W.held W.torn self.new) }
+        ensures earlier { Between (real_state W.held W.torn) WasHonest self.old self.new }
+        ensures honest { FindsReal W.held W.torn file.now result self.old self.new }
     {
         let Some(found) = SystemFile::open(self.rt, file, &self.opened) else {
             self.events.note(&Event::Missed);
@@ -172,10 +165,8 @@ impl<'a, R: Files<File = File>, W: World> RealFiles<'a, R, W> {
     fn looked(&mut self, file: &str) -> Option<FileDisk<Watched<'a, SystemFile<W>>>>
         ensures denied { times_denied self.new ≡ times_denied self.old }
         ensures to_write { asked_to_write self.new ≡ asked_to_write self.old }
-        ensures earlier { (real_state W.held W.torn self.new).honest ≡ true
-            → (real_state W.held W.torn self.old).honest ≡ true }
-        ensures honest { (real_state W.held W.torn self.new).honest ≡ true
-            → Finds file.now (option_map (real_disk W.held W.torn) result) (real_state W.held W.torn self.old) (real_state W.held W.torn self.new) }
+        ensures earlier { Between (real_state W.held W.torn) WasHonest self.old self.new }
+        ensures honest { FindsReal W.held W.torn file.now result self.old self.new }
     {
         let found = SystemFile::open_to_read(self.rt, file, &self.opened)?;
         self.opened.note(&());

@@ -4,9 +4,10 @@ ghost use Rattle.vm_types.specs.State.{Seen, State};
 ghost use Rattle.vm_types.specs.declared.refusal.Refusal.{Refusal as RefusalValue};
 ghost use Rattle.vm_store.specs.Store.{Holds, has_failed, IsHonest, GoesOn};
 ghost use Rattle.vm_cli.specs.Drawing.{Branch, drawing, tree_text};
-ghost use Rattle.vm_cli.specs.Exits.{SaysRefused, Tells, refused_text};
-ghost use Rattle.vm_cli.specs.Files.{Declines, Draws};
-ghost use Rattle.vm_cli.specs.Sessions.{HasRefused, HasShown};
+ghost use Rattle.vm_cli.specs.Exits.{DrawEnds, JobEnds, TellsOn};
+ghost use Rattle.vm_cli.specs.Runs.{DrawsIn};
+ghost use Rattle.vm_cli.specs.Told.{TellsRefusal, TellsTree};
+ghost use Rattle.vm_cli.specs.Standing.{FromState, GivesTree, IsDeviceOrMemory};
 ghost use Rattle.vm_cli.specs.Talk.{Passes};
 ghost use Rattle.vm_cli.specs.Words.Wanted.{draw as draw_wanted};
 
@@ -28,14 +29,11 @@ pub fn tree<P: Place, W: Write, F: Write>(
     output: &mut W,
     errors: &mut F,
 ) -> Exit
-    ensures says { ((errors.new ≡ errors.old) × ((branches : List Branch)
-        × Tells Exit.Done result (W.contents output.old) (W.contents output.new) (drawing branches)))
-        ⊎ ((output.new ≡ output.old) × ((text : List ℕ) × SaysRefused (draw_wanted file.now) text
-        × Tells Exit.Refused result (F.contents errors.old) (F.contents errors.new) text)) }
+    ensures says { JobEnds W.contents F.contents (draw_wanted file.now) result
+        output.old output.new errors.old errors.new }
     ensures reads { P.to_write place.new ≡ P.to_write place.old }
-    ensures files { (P.state place.new).honest ≡ true
-        → Draws P.D.Disk file.now result (P.state place.old) (P.state place.new) (W.contents output.old) (W.contents output.new)
-        ⊎ Declines P.D.Disk (P.denied place.new ≡ P.denied place.old + 1) file.now result (P.state place.old) (P.state place.new) (F.contents errors.old) (F.contents errors.new) }
+    ensures files { DrawsIn P.D.Disk P.state P.denied place.old place.new file.now result
+        (W.contents output.old) (W.contents output.new) (F.contents errors.old) (F.contents errors.new) }
 {
     let Some(disk) = place.look(file) else {
         return no_file(b"altctl: cannot open ", file, errors);
@@ -52,16 +50,12 @@ fn show_disk<D: Disk, W: Write, F: Write>(
     output: &mut W,
     errors: &mut F,
 ) -> (Exit, D)
-    ensures ends { ((errors.new ≡ errors.old) × ((branches : List Branch)
-        × Tells Exit.Done result.0 (W.contents output.old) (W.contents output.new) (drawing branches)))
-        ⊎ ((output.new ≡ output.old) × ((refusal : RefusalValue) × Tells Exit.Refused result.0 (F.contents errors.old) (F.contents errors.new) (refused_text refusal))) }
+    ensures ends { DrawEnds W.contents F.contents result.0 output.old output.new errors.old errors.new }
     // The tree is the one that the disk shows, or it is said why the disk was refused. At each moment nothing has changed, or all is
     // synced.
     ensures told { (D.state result.1).honest ≡ true
-        → ((seen : Seen) × HasShown (D.state disk) (D.state result.1) seen
-        × Tells Exit.Done result.0 (W.contents output.old) (W.contents output.new) (tree_text seen.tree))
-        ⊎ ((refusal : RefusalValue) × HasRefused (D.state disk) (D.state result.1) refusal
-        × Tells Exit.Refused result.0 (F.contents errors.old) (F.contents errors.new) (refused_text refusal)) }
+        → TellsTree D.Disk W.contents disk result output.old output.new
+        ⊎ TellsRefusal D.Disk F.contents disk result errors.old errors.new }
 {
     match open(alloc, disk) {
         Ok(mut store) => {
@@ -82,12 +76,8 @@ fn draw_store<D: Disk>(alloc: Global, store: &mut Store<D>) -> Result<Vec<u8>, R
     ensures passes { Passes store.old store.new None }
     ensures text { IfOk result (λ text. (branches : List Branch)
         × (text.items ≡ drawing branches)) }
-    ensures drawn { IsHonest store.new → has_failed store.old ≡ false → (s : State)
-        → Holds store.old s
-        → IfOk result (λ text. text.items ≡ tree_text s.working) }
-    ensures refused { IsHonest store.new → has_failed store.old ≡ false → (s : State)
-        → Holds store.old s
-        → IfErr result (λ refusal. (refusal ≡ Refusal.Device) ⊎ (refusal ≡ Refusal.Memory)) }
+    ensures drawn { FromState store.old store.new (GivesTree result) }
+    ensures refused { FromState store.old store.new (λ s. IfErr result IsDeviceOrMemory) }
 {
     let branches = survey(alloc, store)?;
     let Ok(text) = draw(alloc, &branches) else {
@@ -98,7 +88,7 @@ fn draw_store<D: Disk>(alloc: Global, store: &mut Store<D>) -> Result<Vec<u8>, R
 
 // Writes a text to the output.
 fn show<W: Write>(text: &[u8], output: &mut W) -> Exit
-    ensures { Tells Exit.Done result (W.contents output.old) (W.contents output.new) text.now }
+    ensures { TellsOn W.contents Exit.Done result output.old output.new text.now }
 {
     unless_fault(say(output, text), Exit::Done)
 }

@@ -5,7 +5,8 @@ ghost use Rattle.vm_types.specs.Shape.{shape};
 ghost use Rattle.vm_types.specs.State.{State};
 ghost use Rattle.vm_store.specs.Store.{Holds, has_failed, IsHonest, GoesOn};
 ghost use Rattle.vm_store.specs.Tallies.{tally_in};
-ghost use Rattle.vm_cli.specs.Drawing.{branches_of, numbers as numbers_of};
+ghost use Rattle.vm_cli.specs.Drawing.{HasNoNumbers, HasNumbers, IsDrawn, IsUndrawn};
+ghost use Rattle.vm_cli.specs.Standing.{FromListed, FromState, GivesBranches, IsDeviceOrMemory};
 ghost use Rattle.vm_cli.specs.Talk.{Passes};
 
 use crate::program::drawing::Branch;
@@ -19,12 +20,8 @@ use vm_types::{Name, Refusal};
 pub fn survey<D: Disk>(alloc: Global, store: &mut Store<D>) -> Result<Vec<Branch>, Refusal>
     ensures any { GoesOn (result ≡ Err Refusal.Device) store.old store.new }
     ensures passes { Passes store.old store.new None }
-    ensures drawn { IsHonest store.new → has_failed store.old ≡ false → (s : State)
-        → Holds store.old s
-        → IfOk result (λ branches. branches.items ≡ branches_of s.working) }
-    ensures refused { IsHonest store.new → has_failed store.old ≡ false → (s : State)
-        → Holds store.old s
-        → IfErr result (λ refusal. (refusal ≡ Refusal.Device) ⊎ (refusal ≡ Refusal.Memory)) }
+    ensures drawn { FromState store.old store.new (GivesBranches result) }
+    ensures refused { FromState store.old store.new (λ s. IfErr result IsDeviceOrMemory) }
 {
     let listed = store.alternatives(alloc)?;
     survey_listed(alloc, store, &listed)
@@ -38,12 +35,8 @@ fn survey_listed<D: Disk>(
 ) -> Result<Vec<Branch>, Refusal>
     ensures any { GoesOn (result ≡ Err Refusal.Device) store.old store.new }
     ensures passes { Passes store.old store.new None }
-    ensures drawn { IsHonest store.new → has_failed store.old ≡ false → (s : State)
-        → Holds store.old s → listed.now ≡ shape s.working
-        → IfOk result (λ branches. branches.items ≡ branches_of s.working) }
-    ensures refused { IsHonest store.new → has_failed store.old ≡ false → (s : State)
-        → Holds store.old s → listed.now ≡ shape s.working
-        → IfErr result (λ refusal. (refusal ≡ Refusal.Device) ⊎ (refusal ≡ Refusal.Memory)) }
+    ensures drawn { FromListed store.old store.new listed.now (GivesBranches result) }
+    ensures refused { FromListed store.old store.new listed.now (λ s. IfErr result IsDeviceOrMemory) }
 {
     let mut branches = Vec::new(alloc);
     for alternative in listed {
@@ -64,15 +57,8 @@ fn branch_of<D: Disk>(
 ) -> Result<Branch, Refusal>
     ensures any { GoesOn (result ≡ Err Refusal.Device) store.old store.new }
     ensures passes { Passes store.old store.new None }
-    ensures drawn { IsHonest store.new → has_failed store.old ≡ false → (s : State)
-        → Holds store.old s
-        → IfOk result (λ branch. (branch.name ≡ name.now) × (branch.parent ≡ parent)
-        × (branch.tally ≡ numbers_of (tally_in s.working name.now))
-        × (Ok branch.checkpoints ≡ checkpoints_in s.working name.now)) }
-    ensures refused { IsHonest store.new → has_failed store.old ≡ false → (s : State)
-        → Holds store.old s
-        → IfErr result (λ refusal. (refusal ≡ Refusal.Device)
-        ⊎ ((refusal ≡ Refusal.Memory) ⊎ (Err refusal ≡ checkpoints_in s.working name.now))) }
+    ensures drawn { FromState store.old store.new (λ s. IfOk result (IsDrawn s name.now parent)) }
+    ensures refused { FromState store.old store.new (λ s. IfErr result (IsUndrawn s name.now)) }
 {
     let tally = numbers(store.tally(alloc, name))?;
     let checkpoints = store.checkpoints(alloc, name)?;
@@ -86,10 +72,8 @@ fn branch_of<D: Disk>(
 
 // The numbers, where there are any: an alternative without a parent has none.
 fn numbers(tallied: Result<Tally, Refusal>) -> Result<Option<Tally>, Refusal>
-    ensures ok { IfOk result (λ tally. (tally ≡ numbers_of tallied) × (tallied ≢ Err Refusal.Device)
-        × (tallied ≢ Err Refusal.Memory)) }
-    ensures err { IfErr result (λ refusal. (tallied ≡ Err refusal) × (refusal ≢ Refusal.IsTop)
-        × (refusal ≢ Refusal.NoSuchAlternative)) }
+    ensures ok { IfOk result (HasNumbers tallied) }
+    ensures err { IfErr result (HasNoNumbers tallied) }
 {
     match tallied {
         Ok(tally) => Ok(Some(tally)),

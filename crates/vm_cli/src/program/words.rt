@@ -1,9 +1,8 @@
 //! The words that the program is started with, read by `clap`.
 ghost use Rattle.clap.specs.Words.{FailsBy, app_of, fault_of, kind_of, one_of, rule_of, rows_of, found_of, first_of, subcommand_of, subcommand_rows_of, with_rule, with_subcommand};
-ghost use Rattle.clap.specs.declared.builder.command.Command.TheViews.{out-Command};
 ghost use Rattle.std.specs.Prelude.{◌≡◌, ◌⊎◌, if◌then◌else◌, IfErr, IfOk, None, Some, false, map, ℕ, List, option_map, option_and_then, codes};
 ghost use Rattle.std.specs.String.{string_bytes};
-ghost use Rattle.vm_cli.specs.Words.{altctl, asked_by, asked_of, blocks_rule, buffer_rule, cache_rule, check_app, create_app, do_app, file_rule, line_rule, is_set, number_in, memory_by, run_app, strict_rule, top_app, tree_app, wanted_of};
+ghost use Rattle.vm_cli.specs.Words.{IsAsked, IsAskedOf, IsLocal, WordsAsk, altctl, blocks_rule, buffer_rule, cache_rule, check_app, create_app, do_app, file_rule, first_app, line_rule, is_set, number_by, memory_by, run_app, strict_rule, top_app, tree_app, wanted_of, with_options};
 
 use crate::program::given::input_of;
 use crate::program::help;
@@ -27,8 +26,7 @@ pub const MOST_BUFFER: u32 = 65_536;
 /// Reads the program's words, of which the first is its name. An `Err` has the text to show, help
 /// included.
 pub fn job<'a>(alloc: Global, words: &'a [String]) -> Result<Job<'a>, Error>
-    ensures ok { IfOk result (λ j.
-        asked_of (subcommand_of altctl (map string_bytes words.entry.now)) ≡ Some (wanted_of j)) }
+    ensures ok { IfOk result (λ job. WordsAsk (map string_bytes words.entry.now) job) }
     // An Ok comes only where the parse has no fault, and an Err has the kind of its fault, or memory was wanting.
     ensures faults { FailsBy (fault_of altctl (map string_bytes words.entry.now)) result }
 {
@@ -41,7 +39,7 @@ pub fn job<'a>(alloc: Global, words: &'a [String]) -> Result<Job<'a>, Error>
 
 // The job that the matches ask for.
 fn asked<'a>(alloc: Global, matches: &ArgMatches<'a>) -> Result<Option<Job<'a>>, AllocError>
-    ensures { IfOk result (λ job. option_map wanted_of job ≡ asked_of (subcommand_rows_of matches.now)) }
+    ensures { IfOk result (IsAskedOf (subcommand_rows_of matches.now)) }
 {
     let Some((name, matches)) = matches.subcommand() else {
         return Ok(None);
@@ -61,7 +59,7 @@ fn asked<'a>(alloc: Global, matches: &ArgMatches<'a>) -> Result<Option<Job<'a>>,
 
 // The job of `create` with these matches.
 fn asked_create<'a>(matches: &ArgMatches<'a>, file: &'a str) -> Option<Job<'a>>
-    ensures { option_map wanted_of result ≡ asked_by (codes "create") (rows_of (found_of matches.now)) file.now }
+    ensures { IsAsked (codes "create") (rows_of (found_of matches.now)) file.now result }
 {
     let blocks = number_of(matches, "blocks", LEAST_BLOCKS, MOST_BLOCKS)?;
     Some(Job::Create { file, blocks })
@@ -69,7 +67,7 @@ fn asked_create<'a>(matches: &ArgMatches<'a>, file: &'a str) -> Option<Job<'a>>
 
 // The job of `run` with these matches.
 fn asked_run<'a>(matches: &ArgMatches<'a>, file: &'a str) -> Option<Job<'a>>
-    ensures { option_map wanted_of result ≡ asked_by (codes "run") (rows_of (found_of matches.now)) file.now }
+    ensures { IsAsked (codes "run") (rows_of (found_of matches.now)) file.now result }
 {
     let in_memory = in_memory(matches)?;
     let on_refusal = on_refusal(is_strict(matches), OnRefusal::Ignore);
@@ -86,7 +84,7 @@ fn asked_do<'a>(
     matches: &ArgMatches<'a>,
     file: &'a str,
 ) -> Result<Option<Job<'a>>, AllocError>
-    ensures { IfOk result (λ job. option_map wanted_of job ≡ asked_by (codes "do") (rows_of (found_of matches.now)) file.now) }
+    ensures { IfOk result (IsAsked (codes "do") (rows_of (found_of matches.now)) file.now) }
 {
     let Some(lines) = matches.get_strs("line") else {
         return Ok(None);
@@ -135,7 +133,7 @@ fn on_refusal(strict: bool, otherwise: OnRefusal) -> OnRefusal
 
 // The number that an argument has, where it lies in the range.
 fn number_of(matches: &ArgMatches<'_>, name: &str, least: u32, most: u32) -> Option<u32>
-    ensures { result ≡ option_and_then (number_in least most) (one_of name.now (rows_of (found_of matches.now))) }
+    ensures { result ≡ number_by least most name.now (rows_of (found_of matches.now)) }
 {
     let number = matches.get_one::<u32>(name)?;
     if number < least {
@@ -159,7 +157,7 @@ fn command<'a>(alloc: Global) -> Result<Command<'a>, AllocError>
 
 // The program's command line up to `run`.
 fn first_commands<'a>(alloc: Global) -> Result<Command<'a>, AllocError>
-    ensures { IfOk result (λ c. app_of c ≡ with_subcommand (with_subcommand top_app create_app.top) run_app.top) }
+    ensures { IfOk result (λ c. app_of c ≡ first_app) }
 {
     top(alloc)?
         .subcommand(create(alloc)?)?
@@ -182,7 +180,7 @@ fn top<'a>(alloc: Global) -> Result<Command<'a>, AllocError>
 
 fn create<'a>(alloc: Global) -> Result<Command<'a>, AllocError>
     ensures app { IfOk result (λ c. app_of c ≡ create_app) }
-    ensures local { IfOk result (λ c. (out-Command c).has_globals ≡ false) }
+    ensures local { IfOk result (λ c. IsLocal c) }
 {
     Command::new(alloc, "create")
         .about("Makes a file with an empty store")
@@ -194,7 +192,7 @@ fn create<'a>(alloc: Global) -> Result<Command<'a>, AllocError>
 
 fn run<'a>(alloc: Global) -> Result<Command<'a>, AllocError>
     ensures app { IfOk result (λ c. app_of c ≡ run_app) }
-    ensures local { IfOk result (λ c. (out-Command c).has_globals ≡ false) }
+    ensures local { IfOk result (λ c. IsLocal c) }
 {
     let command = Command::new(alloc, "run")
         .about("Opens a store and answers the lines of the standard input")
@@ -206,7 +204,7 @@ fn run<'a>(alloc: Global) -> Result<Command<'a>, AllocError>
 
 fn do_lines<'a>(alloc: Global) -> Result<Command<'a>, AllocError>
     ensures app { IfOk result (λ c. app_of c ≡ do_app) }
-    ensures local { IfOk result (λ c. (out-Command c).has_globals ≡ false) }
+    ensures local { IfOk result (λ c. IsLocal c) }
 {
     let command = Command::new(alloc, "do")
         .about("Opens a store and answers the lines that the words are")
@@ -219,9 +217,8 @@ fn do_lines<'a>(alloc: Global) -> Result<Command<'a>, AllocError>
 
 // A command with the options of a talk.
 fn with_options<'a>(alloc: Global, command: Command<'a>) -> Result<Command<'a>, AllocError>
-    ensures app { IfOk result (λ c. app_of c ≡ with_rule (with_rule (with_rule (app_of command.entry) cache_rule) buffer_rule) strict_rule) }
-    ensures local { (out-Command command.entry).has_globals ≡ false
-        → IfOk result (λ c. (out-Command c).has_globals ≡ false) }
+    ensures app { IfOk result (λ c. app_of c ≡ with_options (app_of command.entry)) }
+    ensures local { IsLocal command.entry → IfOk result (λ c. IsLocal c) }
 {
     command
         .arg(cache(alloc))?
@@ -231,7 +228,7 @@ fn with_options<'a>(alloc: Global, command: Command<'a>) -> Result<Command<'a>, 
 
 fn check<'a>(alloc: Global) -> Result<Command<'a>, AllocError>
     ensures app { IfOk result (λ c. app_of c ≡ check_app) }
-    ensures local { IfOk result (λ c. (out-Command c).has_globals ≡ false) }
+    ensures local { IfOk result (λ c. IsLocal c) }
 {
     Command::new(alloc, "check")
         .about("Opens a store, changes nothing, and prints what it holds")
@@ -242,7 +239,7 @@ fn check<'a>(alloc: Global) -> Result<Command<'a>, AllocError>
 
 fn tree<'a>(alloc: Global) -> Result<Command<'a>, AllocError>
     ensures app { IfOk result (λ c. app_of c ≡ tree_app) }
-    ensures local { IfOk result (λ c. (out-Command c).has_globals ≡ false) }
+    ensures local { IfOk result (λ c. IsLocal c) }
 {
     Command::new(alloc, "tree")
         .about("Opens a store, changes nothing, and draws its alternatives as a tree")

@@ -231,6 +231,7 @@ pub fn open<D: Disk>(alloc: Global, mut disk: D) -> Result<Store<D>, (D, Refusal
                 held,
                 marks,
                 series: None,
+                changes: 0,
                 failed: false,
             })
         }

@@ -1,7 +1,7 @@
-use Rattle.std.proofs.Common.{◌≡◌, ◌-◌, length, take, drop, sym, ap, ◌∙◌, arith, length-drop}
+use Rattle.std.proofs.Common.{◌≡◌, ◌-◌, length, drop, sym, ap, ◌∙◌, arith, length-drop}
 use Rattle.std.proofs.lemmas.List.{take_all}
 use Rattle.byteorder.specs.Endian.{little_number}
-use Rattle.vm_block.specs.Row.{leaf_row, record_of}
+use Rattle.vm_block.specs.Row.{record_of}
 use Rattle.vm_block.proofs.RowLemmas.{leaf_record, record_of_value}
 use Rattle.vm_block.proofs.row.record_value.Goals as goal
 

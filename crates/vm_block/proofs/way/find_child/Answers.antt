@@ -1,9 +1,9 @@
 use Rattle.std.proofs.Common.{◌≡◌, length, refl, sym, subst, ◌∙◌, arith}
 use Rattle.std.proofs.lemmas.List.{length-map}
 use Rattle.vm_types.specs.Places.{place}
-use Rattle.vm_block.specs.FullPath.{IsChosen}
 use Rattle.vm_block.specs.Node.{lows}
 use Rattle.vm_block.specs.declared.node.Child.{Child}
+use Rattle.vm_block.specs.Way.{IsChosen}
 use Rattle.vm_block.proofs.HeadLemmas.{node_headed, node_same}
 use Rattle.vm_block.proofs.WayLemmas.{node_keys}
 use Rattle.vm_block.proofs.way.find_child.Goals as goal

@@ -2,8 +2,8 @@ use Rattle.std.proofs.Common.{◌≡◌, ◌+◌, ◌-◌, ◌*◌, length, take
 use Rattle.std.specs.Prelude.{slice_index}
 use Rattle.std.proofs.lemmas.List.{length-map, take-take}
 use Rattle.vm_types.specs.Places.{place, places}
-use Rattle.vm_block.specs.FullPath.{IsChosen}
 use Rattle.vm_block.specs.Leaf.{Record}
+use Rattle.vm_block.specs.Way.{IsChosen}
 use Rattle.vm_block.proofs.HeadLemmas.{leaf_headed, some_same}
 use Rattle.vm_block.proofs.WayLemmas.{leaf_keys, leaf_piece, record_read, chosen_value, chosen_none}
 use Rattle.vm_block.proofs.way.find_record.Goals as goal

@@ -1,8 +1,8 @@
 use Rattle.std.proofs.Common.{Ok, ◌≡◌, ◌+◌, ◌-◌, ◌≤◌, true, List, length}
 use Rattle.vm_alloc.specs.Held.{HoldsMore}
 use Rattle.vm_block.specs.Node.{IsNode}
-use Rattle.vm_block.specs.Tree.{Sizes}
 use Rattle.vm_block.specs.declared.node.Child.{Child}
+use Rattle.vm_tree.specs.Tree.{Sizes}
 use Rattle.vm_tree.specs.Calls.{OnlyLooks}
 use Rattle.vm_check.specs.Marking.{unmarked}
 use Rattle.vm_check.proofs.MarkLemmas.{IsBelow, MarkedSoFar}

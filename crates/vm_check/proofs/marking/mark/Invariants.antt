@@ -1,6 +1,6 @@
 use Rattle.std.proofs.Common.{Ok, ◌≡◌, ◌+◌, ◌≤◌, true, length}
 use Rattle.vm_alloc.specs.Held.{HoldsMore}
-use Rattle.vm_block.specs.Tree.{Sizes}
+use Rattle.vm_tree.specs.Tree.{Sizes}
 use Rattle.vm_tree.specs.Calls.{OnlyLooks}
 use Rattle.vm_check.specs.Marking.{IsUnder, unmarked}
 use Rattle.vm_check.proofs.RootLemmas.{RootsSoFar}

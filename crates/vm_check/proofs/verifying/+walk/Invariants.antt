@@ -1,4 +1,4 @@
-use Rattle.std.proofs.Common.{Ok, ◌≡◌, ◌+◌, ◌*◌, ◌≤◌, ◌<◌, ℕ, true, List, length, take}
+use Rattle.std.proofs.Common.{Ok, ◌≡◌, ◌+◌, ◌*◌, ◌<◌, ℕ, true, List, length, take}
 use Rattle.std.specs.Prelude.{slice_index_or}
 use Rattle.vm_types.specs.Places.{place}
 use Rattle.vm_alloc.specs.Held.{HoldsMore}

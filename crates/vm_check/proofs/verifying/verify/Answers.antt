@@ -1,4 +1,4 @@
-use Rattle.std.proofs.Common.{Bool, false, List, length, map, refl, ap, ◌∙◌, arith, rules}
+use Rattle.std.proofs.Common.{Bool, false, List, length, map, ap, ◌∙◌, arith, rules}
 use Rattle.std.proofs.lemmas.List.{length-replicate}
 use Rattle.vm_tree.specs.declared.root.Root.{Root}
 use Rattle.vm_disk.proofs.MomentLemmas.{same_medium}

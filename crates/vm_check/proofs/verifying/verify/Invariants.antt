@@ -1,4 +1,4 @@
-use Rattle.std.proofs.Common.{Ok, ◌≡◌, ◌+◌, ◌≤◌, true, length, take, map}
+use Rattle.std.proofs.Common.{Ok, ◌≡◌, ◌+◌, true, length, take, map}
 use Rattle.vm_tree.specs.Calls.{OnlyLooks}
 use Rattle.vm_tree.specs.Root.{sizes_of}
 use Rattle.vm_tree.specs.declared.root.Root.{Root}

@@ -1,5 +1,5 @@
 use Rattle.std.proofs.Common.{sym, ◌∙◌, arith}
-use Rattle.vm_block.proofs.TreeLemmas.{tree_opens}
+use Rattle.vm_tree.proofs.TreeLemmas.{tree_opens}
 use Rattle.vm_tree.proofs.Looking.{passed_on}
 use Rattle.vm_check.proofs.FoundLemmas.{bare_visited}
 use Rattle.vm_check.proofs.verifying.visit_root.Goals as goal

@@ -1,3 +1,4 @@
+use Rattle.std.proofs.Common.{refl}
 use Rattle.vm_alloc.specs.Held.{IsHeld}
 use Rattle.vm_tree.specs.Replacing.{IsHeldBeside, path_under}
 use Rattle.vm_store.proofs.ForgetLemmas.{fault_alike}
@@ -5,15 +6,26 @@ use Rattle.vm_store.proofs.SeriesLemmas.{forgot_in_series, wrote_in_series}
 use Rattle.vm_store.proofs.TopLemmas.{grown_in}
 use Rattle.vm_store.proofs.series.put_forgetting.Goals as goal
 
-pub returns-in-Ok-clause-moments : goal.returns-in-Ok-clause-moments
-returns-in-Ok-clause-moments g c honest wider =
-    forgot_in_series _ _ _ _ _ wider (c.put.ensures.writes.moments (c.forget_path.ensures.any.earlier honest)) (c.forget_path.ensures.moments honest)
+pub returns-in-Some-clause-moments : goal.returns-in-Some-clause-moments
+returns-in-Some-clause-moments g c =
+    rw (c.in-Some.is)
+    (λ honest wider. forgot_in_series _ _ _ _ _ wider (c.put.ensures.writes.moments (c.forget_path.ensures.any.earlier honest)) (c.forget_path.ensures.moments honest))
 
-pub returns-in-Ok-clause-put : goal.returns-in-Ok-clause-put
-returns-in-Ok-clause-put g c honest m bs tree =
+pub returns-in-Some-clause-put : goal.returns-in-Some-clause-put
+returns-in-Some-clause-put g c honest m bs tree =
     let others = c.forget_path.ensures.others honest in
     let put = c.in-Ok.ensures.put (c.forget_path.ensures.any.earlier honest) m bs tree in (
       (λ each. grown_in (IsHeldBeside c.put.new.held (path_under c.args.root c.put.new.path)) (IsHeld c.put.new.held) _ _ _ (λ n p. others n p.lacks) (λ n p. p.now) c.in-Ok.new_root _ (put.0 each)),
+      put.1,
+    )
+
+pub returns-in_default-clause-moments : goal.returns-in_default-clause-moments
+returns-in_default-clause-moments g c honest wider = wrote_in_series _ _ _ _ wider (c.put.ensures.writes.moments honest)
+
+pub returns-in_default-clause-put : goal.returns-in_default-clause-put
+returns-in_default-clause-put g c honest m bs tree =
+    let put = c.in-Ok.ensures.put honest m bs tree in (
+      (λ each. grown_in (IsHeldBeside c.put.new.held (path_under c.args.root c.put.new.path)) (IsHeld c.put.new.held) _ _ _ (λ n p. refl) (λ n p. p.now) c.in-Ok.new_root _ (put.0 each)),
       put.1,
     )
 

@@ -1,19 +1,31 @@
+use Rattle.std.proofs.Common.{refl}
 use Rattle.vm_alloc.specs.Held.{IsHeld}
 use Rattle.vm_tree.specs.Replacing.{IsHeldBeside, path_under}
 use Rattle.vm_store.proofs.SeriesLemmas.{forgot_in_series, wrote_in_series}
 use Rattle.vm_store.proofs.TopLemmas.{grown_in}
 use Rattle.vm_store.proofs.series.remove_forgetting.Goals as goal
 
-pub returns-in-Ok-Some-clause-moments : goal.returns-in-Ok-Some-clause-moments
-returns-in-Ok-Some-clause-moments g c honest wider =
-    forgot_in_series _ _ _ _ _ wider (c.remove.ensures.writes.moments (c.forget_path.ensures.any.earlier honest)) (c.forget_path.ensures.moments honest)
+pub returns-in-Some-clause-moments : goal.returns-in-Some-clause-moments
+returns-in-Some-clause-moments g c =
+    rw (c.in-Some.is)
+    (λ honest wider. forgot_in_series _ _ _ _ _ wider (c.remove.ensures.writes.moments (c.forget_path.ensures.any.earlier honest)) (c.forget_path.ensures.moments honest))
 
-pub returns-in-Ok-Some-clause-remove : goal.returns-in-Ok-Some-clause-remove
-returns-in-Ok-Some-clause-remove g c honest m bs tree =
+pub returns-in-Some-clause-remove : goal.returns-in-Some-clause-remove
+returns-in-Some-clause-remove g c honest m bs tree =
     let others = c.forget_path.ensures.others honest in
     let removed = rw c.in-Ok-Some.field-0-is at (c.in-Ok-Some.ensures.remove (c.forget_path.ensures.any.earlier honest) m bs tree) in (
       removed.0,
       (λ each. grown_in (IsHeldBeside c.remove.new.held (path_under c.args.root c.remove.new.path)) (IsHeld c.remove.new.held) _ _ _ (λ n p. others n p.lacks) (λ n p. p.now) c.in-Ok-Some.rest _ (removed.1 each)),
+    )
+
+pub returns-in_default-clause-moments : goal.returns-in_default-clause-moments
+returns-in_default-clause-moments g c honest wider = wrote_in_series _ _ _ _ wider (c.remove.ensures.writes.moments honest)
+
+pub returns-in_default-clause-remove : goal.returns-in_default-clause-remove
+returns-in_default-clause-remove g c honest m bs tree =
+    let removed = rw c.in-Ok-Some.field-0-is at (c.in-Ok-Some.ensures.remove honest m bs tree) in (
+      removed.0,
+      (λ each. grown_in (IsHeldBeside c.remove.new.held (path_under c.args.root c.remove.new.path)) (IsHeld c.remove.new.held) _ _ _ (λ n p. refl) (λ n p. p.now) c.in-Ok-Some.rest _ (removed.1 each)),
     )
 
 pub returns-in-Ok-None-clause-moments : goal.returns-in-Ok-None-clause-moments

@@ -3,7 +3,7 @@ ghost use Rattle.std.specs.Prelude.{◌≡◌, ◌≢◌, true, OnErr};
 ghost use Rattle.vm_types.specs.State.{State};
 
 use crate::faults::refusal_of;
-use crate::series::{go_on, put_forgetting};
+use crate::series::{before_series, go_on, put_forgetting};
 use crate::store::Store;
 use vm_disk::Disk;
 use vm_types::{Answer, Command, Key, Name, Refusal, Value};
@@ -30,11 +30,17 @@ impl<D: Disk> Store<D> {
             Ok(false) => return Err(Refusal::Full),
             Err(refusal) => return Err(refusal),
         }
-        go_on(&mut self.series, &mut self.marks, &self.held, alt);
+        go_on(
+            &mut self.series,
+            &mut self.changes,
+            &mut self.marks,
+            &self.held,
+            alt,
+        );
         match put_forgetting(
             &mut self.disk,
             &mut self.held,
-            &self.marks,
+            before_series(&self.series, &self.marks),
             version.current,
             key,
             value,

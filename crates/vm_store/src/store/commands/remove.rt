@@ -7,7 +7,7 @@ ghost use Rattle.vm_store.specs.Answers.{IsEarly};
 ghost use Rattle.vm_store.specs.Versions.{is_alternative_of};
 
 use crate::faults::refusal_of;
-use crate::series::{go_on, goes_on, remove_forgetting};
+use crate::series::{before_series, go_on, goes_on, remove_forgetting};
 use crate::store::Store;
 use crate::version::Version;
 use vm_disk::Disk;
@@ -64,12 +64,18 @@ impl<D: Disk> Store<D> {
             Ok(false) => return Err(Refusal::Full),
             Err(refusal) => return Err(refusal),
         }
-        go_on(&mut self.series, &mut self.marks, &self.held, alt);
+        go_on(
+            &mut self.series,
+            &mut self.changes,
+            &mut self.marks,
+            &self.held,
+            alt,
+        );
         self.remove_in_series(alt, version, key, Refusal::Damaged(root.block))
     }
 
-    // Takes a record out of the alternative whose series goes on, or answers that it is missing. The blocks
-    // that the series took for the path as it was are forgotten.
+    // Takes a record out of the alternative whose series goes on, or of one where none does, or answers
+    // that it is missing. The blocks that the series took for the path as it was are forgotten.
     fn remove_in_series(
         &mut self,
         alt: &Name,
@@ -78,7 +84,7 @@ impl<D: Disk> Store<D> {
         missing: Refusal,
     ) -> Result<Answer, Refusal>
         requires found { find (is_alternative_of alt.now) (entries_of self.old).1 ≡ Some version }
-        requires series { series_of self.old ≡ Some alt.now }
+        requires series { (series_of self.old ≡ Some alt.now) ⊎ (series_of self.old ≡ None) }
         requires room { 16 * 1 ≤ free_of self.old }
         requires device { missing ≢ Refusal.Device }
         requires never { (missing ≢ Refusal.Failed) × (missing ≢ Refusal.Memory) }
@@ -95,7 +101,7 @@ impl<D: Disk> Store<D> {
         match remove_forgetting(
             &mut self.disk,
             &mut self.held,
-            &self.marks,
+            before_series(&self.series, &self.marks),
             version.current,
             key,
         ) {

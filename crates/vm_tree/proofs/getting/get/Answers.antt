@@ -4,7 +4,7 @@ use Rattle.vm_types.specs.Places.{KeyFits, FitKeys, place, value_at}
 use Rattle.vm_types.proofs.Bridge.{value_at-get}
 use Rattle.vm_block.specs.Leaf.{RecordFits}
 use Rattle.vm_block.proofs.EachLemmas.{each_so}
-use Rattle.vm_block.proofs.TreeLemmas.{subtree_fit}
+use Rattle.vm_tree.proofs.TreeLemmas.{subtree_fit}
 use Rattle.vm_tree.proofs.Descent.{subtree_top, ok_map}
 use Rattle.vm_tree.proofs.Leading.{if_ok_so}
 use Rattle.vm_tree.proofs.getting.get.Goals as goal

@@ -3,10 +3,10 @@ use Rattle.std.proofs.Math.ListN.{length-set}
 use Rattle.std.proofs.lemmas.Bool.{false≢true, ltb-false}
 use Rattle.vm_disk.proofs.MomentLemmas.{same_medium}
 use Rattle.vm_block.specs.Leaf.{Record}
-use Rattle.vm_block.specs.Tree.{Subtree}
 use Rattle.vm_block.specs.declared.node.Child.{Child}
 use Rattle.vm_types.specs.Places.{place}
 use Rattle.vm_alloc.specs.Held.{free_count}
+use Rattle.vm_tree.specs.Tree.{Subtree}
 use Rattle.vm_tree.specs.declared.root.TreeFault.TheVariants.{Deep}
 use Rattle.vm_tree.specs.Root.{sizes_of}
 use Rattle.vm_tree.specs.Making.{Made, is_split, with_copied}

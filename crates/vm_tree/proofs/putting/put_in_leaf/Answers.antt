@@ -2,11 +2,11 @@ use Rattle.std.proofs.Common.{ℕ, Bool, List, length, sym, subst, refl, arith, 
 use Rattle.std.proofs.lemmas.Bool.{false≢true}
 use Rattle.vm_types.specs.Places.{with_record}
 use Rattle.vm_block.specs.Leaf.{Record, IsLeaf}
-use Rattle.vm_block.proofs.TreeLemmas.{leaf_opens}
 use Rattle.vm_alloc.proofs.HeldLemmas.{holds_same}
 use Rattle.vm_tree.specs.Root.{sizes_of}
 use Rattle.vm_tree.specs.Making.{Made}
 use Rattle.vm_tree.specs.Replacing.{IsRenewed}
+use Rattle.vm_tree.proofs.TreeLemmas.{leaf_opens}
 use Rattle.vm_tree.proofs.Beside.{if_ok_each}
 use Rattle.vm_tree.proofs.Looking.{looks_free, looks_if, looks_write, passed_on}
 use Rattle.vm_tree.proofs.Descent.{leaf_there}

@@ -1,6 +1,6 @@
 use Rattle.std.proofs.Common.{◌∙◌, ap, sym, arith}
-use Rattle.vm_block.specs.Tree.{Subtree}
 use Rattle.vm_disk.proofs.MomentLemmas.{same_medium}
+use Rattle.vm_tree.specs.Tree.{Subtree}
 use Rattle.vm_tree.specs.Root.{sizes_of}
 use Rattle.vm_tree.proofs.Looking.{looks_on, passed_on}
 use Rattle.vm_tree.proofs.Descent.{node_read}

@@ -3,13 +3,13 @@ use Rattle.std.specs.List.{AllByRecursion}
 use Rattle.std.proofs.lemmas.List.{nil_from_length}
 use Rattle.vm_types.specs.Places.{RisesFrom, places, value_at}
 use Rattle.vm_block.specs.Leaf.{Record, RecordFits}
-use Rattle.vm_block.proofs.TreeLemmas.{subtree_fit}
 use Rattle.vm_alloc.proofs.HeldLemmas.{holds_same}
 use Rattle.vm_tree.specs.Making.{Made}
 use Rattle.vm_tree.specs.Removing.{child_of, without_place}
 use Rattle.vm_tree.specs.Replacing.{IsRenewed}
 use Rattle.vm_tree.specs.Root.{sizes_of}
 use Rattle.vm_tree.specs.declared.root.Root.{Root}
+use Rattle.vm_tree.proofs.TreeLemmas.{subtree_fit}
 use Rattle.vm_tree.proofs.Looking.{looks_free, looks_write, passed_on}
 use Rattle.vm_tree.proofs.Descent.{leaf_read, leaf_there}
 use Rattle.vm_tree.proofs.Leading.{leads_end}

@@ -3,8 +3,8 @@ use Rattle.std.specs.List.{AllByRecursion}
 use Rattle.vm_disk.specs.Disk.{Medium}
 use Rattle.vm_disk.proofs.MomentLemmas.{same_medium}
 use Rattle.vm_block.specs.Node.{ChildFits}
-use Rattle.vm_block.specs.Tree.{Children, Subtree}
 use Rattle.vm_block.specs.declared.node.Child.{Child}
+use Rattle.vm_tree.specs.Tree.{Children, Subtree}
 use Rattle.vm_tree.specs.Removing.{Narrows}
 use Rattle.vm_tree.specs.Replacing.{IsRenewed}
 use Rattle.vm_tree.specs.Root.{sizes_of}

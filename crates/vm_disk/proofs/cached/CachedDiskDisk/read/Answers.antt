@@ -5,6 +5,6 @@ pub invariant_of-self : goal.invariant_of-self
 invariant_of-self g c =
     record { right = right_after_hit (g.D.Disk.state c.args.self.now.inner) c.args.n _ _ _ _ c.recall.result c.if-recall.true c.recall.ensures.found c.recall.ensures.first c.args.self.now.right }
 
-pub invariant_of-self-in-Ok : goal.invariant_of-self-in-Ok
-invariant_of-self-in-Ok g c =
-    record { right = right_after_miss c.read.result _ (g.D.Disk.state c.args.self.now.inner) (g.D.Disk.state c.read.new.self) c.args.n _ c.read.new.into _ _ _ c.recall.result _ _ c.in-Ok.is c.if-recall.false c.recall.ensures.missed (record { there = c.requires; whole = g.met.D.Disk.whole c.read.new.self }) c.read.ensures.any c.read.ensures.honest c.keep.ensures.kept c.args.self.now.right }
+pub invariant_of-self-2 : goal.invariant_of-self-2
+invariant_of-self-2 g c =
+    record { right = right_after_miss c.read.result _ (g.D.Disk.state c.args.self.now.inner) (g.D.Disk.state c.read.new.self) c.args.n _ c.read.new.into _ _ _ c.recall.result _ _ c.in_ok-read.was c.if-recall.false c.recall.ensures.missed (record { there = c.requires; whole = g.met.D.Disk.whole c.read.new.self }) c.read.ensures.any c.read.ensures.honest c.keep.ensures.kept c.args.self.now.right }

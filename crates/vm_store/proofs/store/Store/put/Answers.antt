@@ -10,12 +10,14 @@ use Rattle.vm_store.proofs.CarryLemmas.{changed, looked, stayed}
 use Rattle.vm_store.proofs.SpareTests.{room_for, full_for}
 use Rattle.vm_store.proofs.TopLemmas.{rooted_of, grown_of, lacks_under, lacks_over}
 use Rattle.vm_store.proofs.RestingLemmas.{found_entry, answers_absent, answers_full, answers_done, answers_fault, deep_here, here_deep}
-use Rattle.vm_store.proofs.SeriesLemmas.{gone_on, holds_as, holds_more, put_holds}
+use Rattle.vm_store.proofs.SeriesLemmas.{went_on, in_series, holds_as, holds_more, holds_then, put_holds}
+use Rattle.vm_store.specs.Resting.{before_of}
 use Rattle.vm_store.proofs.store.Store.put.Goals as goal
 
 pub returns-in_default-clause-carried : goal.returns-in_default-clause-carried
 returns-in_default-clause-carried g c honest s holds =
-    stayed _ s holds (Put c.args.alt.now c.args.key c.args.value.now) _ (answers_absent _ _ _ _ _ _ s holds.rests c.args.alt.now c.args.key c.args.value.now _ _ (sym c.in_default.ensures))
+    let same = stayed c.args.self.now s holds (Put c.args.alt.now c.args.key c.args.value.now) _ (answers_absent _ _ _ _ _ _ s holds.rests c.args.alt.now c.args.key c.args.value.now _ _ (sym c.in_default.ensures)) in
+    record { answers = same.answers; state = same.state; crash = same.crash; guarded = same.guarded }
 
 pub returns-in-Ok-false-clause-carried : goal.returns-in-Ok-false-clause-carried
 returns-in-Ok-false-clause-carried g c honest s holds =
@@ -43,15 +45,18 @@ returns-in-Ok-clause-carried g c honest s holds =
     let current = found.stands.current in
     let put = c.in-Ok.ensures.put honest found.filed.current current.stands_in (rooted_of _ _ _ e.current _ _ mid.bits current.rooted) in
     let grown = grown_of _ _ _ _ c.in-Ok.root _ mid.bits (put.0 current.each) in
-    let series = gone_on _ _ _ _ _ _ _ s c.args.alt.now mid.marks mid.series c.go_on.ensures.before holds' in
+    let on = went_on _ _ _ _ _ _ _ s c.args.alt.now mid.marks mid.series _ c.go_on.ensures.series c.go_on.ensures.before holds' in
+    let stays = ap (λ o. before_of o mid.held) c.before_series.ensures in
+    let series = in_series _ _ _ _ _ _ _ s c.args.alt.now _ _ c.go_on.ensures.series stays on in
     changed _ _ s holds (Put c.args.alt.now c.args.key c.args.value.now) _ (answers_done _ _ _ _ _ _ s rests c.args.alt.now c.args.key c.args.value.now _ (sym c.in-Some.ensures) _ _ (room_for _ _ _ (c.in-Ok-true.ensures.spare marked s holds) c.in-Ok-true.field-0-test)
     (λ deep. put.1 (lacks_over _ e.current _ _ (deep_here _ _ _ _ _ _ s rests' c.args.alt.now c.args.key c.args.value.now e is (g.D.Disk.state mid.disk).now.contents
     (subst (λ (m : Medium). LacksRoom m.contents (root_of mid c.args.alt.now) (current_of s.working c.args.alt.now) c.args.key) (sym read)
     (subst (λ f. LacksRoom (g.D.Disk.state c.args.self.now.disk).now.contents (f c.args.alt.now) (current_of s.working c.args.alt.now) c.args.key) (sym c.has_spare.ensures.roots) deep))))))
     _ (c.has_spare.ensures.reads marked) series (c.in-Ok.ensures.moments honest series.wider) c.in-Ok.ensures.still
-    (λ _. holds_as c.go_on.ensures.series c.set_current.ensures
+    (λ _. holds_as refl c.set_current.ensures
+    (holds_then c.args.alt.now _ _ c.go_on.ensures.series stays
     (put_holds _ _ _ _ _ _ _ s rests' c.args.alt.now e is series _ c.put_forgetting.new.held c.in-Ok.root (omega (arith, c.in-Ok.ensures.block, c.in-Ok.ensures.still.same_length, mid.bits, mid.most))
-    (at_end _ _ _ (c.in-Ok.ensures.moments honest series.wider)) c.in-Ok.ensures.still c.args.key c.args.value.now grown))
+    (at_end _ _ _ (c.in-Ok.ensures.moments honest series.wider)) c.in-Ok.ensures.still c.args.key c.args.value.now grown)))
 
 pub returns-in-Err-put_forgetting-clause-carried : goal.returns-in-Err-put_forgetting-clause-carried
 returns-in-Err-put_forgetting-clause-carried g c honest s holds =
@@ -66,12 +71,13 @@ returns-in-Err-put_forgetting-clause-carried g c honest s holds =
     let found = found_entry _ _ _ _ _ _ s rests' c.args.alt.now e is in
     let current = found.stands.current in
     let put = c.in-Err-put_forgetting.ensures.put honest found.filed.current current.stands_in (rooted_of _ _ _ e.current _ _ mid.bits current.rooted) in
-    let series = gone_on _ _ _ _ _ _ _ s c.args.alt.now mid.marks mid.series c.go_on.ensures.before holds' in
+    let on = went_on _ _ _ _ _ _ _ s c.args.alt.now mid.marks mid.series _ c.go_on.ensures.series c.go_on.ensures.before holds' in
+    let stays = ap (λ o. before_of o mid.held) c.before_series.ensures in
+    let series = in_series _ _ _ _ _ _ _ s c.args.alt.now _ _ c.go_on.ensures.series stays on in
     changed _ _ s holds (Put c.args.alt.now c.args.key c.args.value.now) _ (answers_fault _ _ _ _ _ _ s rests c.args.alt.now c.args.key c.args.value.now _ (sym c.in-Some.ensures) _ _ _ c.in-Err-put_forgetting.fault c.refusal_of.result _ (room_for _ _ _ (c.in-Ok-true.ensures.spare marked s holds) c.in-Ok-true.field-0-test)
     (λ here. subst (λ f. LacksRoom (g.D.Disk.state c.args.self.now.disk).now.contents (f c.args.alt.now) (current_of s.working c.args.alt.now) c.args.key) c.has_spare.ensures.roots
     (subst (λ (m : Medium). LacksRoom m.contents (root_of mid c.args.alt.now) (current_of s.working c.args.alt.now) c.args.key) read
     (here_deep _ _ _ _ _ _ s rests' c.args.alt.now c.args.key c.args.value.now e is (g.D.Disk.state mid.disk).now.contents (lacks_under _ e.current _ _ here))))
     c.refusal_of.ensures put)
     _ (c.has_spare.ensures.reads marked) series (c.in-Err-put_forgetting.ensures.moments honest series.wider) c.in-Err-put_forgetting.ensures.still
-    (λ _. holds_as c.go_on.ensures.series refl
-    (holds_more _ _ _ _ _ _ _ s _ _ _ (at_end _ _ _ (c.in-Err-put_forgetting.ensures.failed honest)) c.in-Err-put_forgetting.ensures.still (record { rests = rests'; series_kept = series })))
+    (λ _. holds_more _ _ _ _ _ _ _ s _ _ _ (at_end _ _ _ (c.in-Err-put_forgetting.ensures.failed honest)) c.in-Err-put_forgetting.ensures.still on)

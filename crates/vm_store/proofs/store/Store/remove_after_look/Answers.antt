@@ -7,7 +7,7 @@ use Rattle.vm_store.proofs.SpareTests.{room_for, full_for, no_fewer}
 use Rattle.vm_store.proofs.RestingLemmas.{found_entry, value_found}
 use Rattle.vm_store.specs.Sizes.{sizes}
 use Rattle.vm_store.proofs.Removing.{removes_missing, removes_full, removes_device, removes_alike, spare_after}
-use Rattle.vm_store.proofs.SeriesLemmas.{gone_on, holds_as, read_holds}
+use Rattle.vm_store.proofs.SeriesLemmas.{went_on, read_holds}
 use Rattle.vm_store.proofs.store.Store.remove_after_look.Goals as goal
 
 pub returns-in-Ok-None-clause-carried : goal.returns-in-Ok-None-clause-carried
@@ -60,8 +60,7 @@ returns-clause-carried g c honest s holds =
     let read = c.in-Ok-Some.ensures.looks.reads (c.has_spare.ensures.any.earlier marked) in
     let mid = c.has_spare.new.self in
     let holds' = c.has_spare.ensures.state marked s (read_holds _ _ _ _ _ _ _ _ _ s read holds) in
-    let series = gone_on _ _ _ _ _ _ _ s c.args.alt.now mid.marks mid.series c.go_on.ensures.before holds' in
-    let between = holds_as c.go_on.ensures.series refl (record { rests = holds'.rests; series_kept = series }) in
+    let between = went_on _ _ _ _ _ _ _ s c.args.alt.now mid.marks mid.series _ c.go_on.ensures.series c.go_on.ensures.before holds' in
     let enough = no_fewer _ _ (omega (arith, c.in-Ok-true.ensures.free, free_at_most _ _ _ _ _ _ s mid.bits between.rests)) in
     let room = room_for _ _ _ (spare_after _ _ _ _ _ _ _ _ _ s _ _ (c.in-Ok-Some.ensures.looks.reads (c.in-Ok-true.ensures.any.earlier marked)) (c.in-Ok-true.ensures.spare marked) holds) c.in-Ok-true.field-0-test in
     let carried = c.remove_in_series.ensures.carried honest s between (inr (λ missing. let clash = there ∙ missing in cc)) in

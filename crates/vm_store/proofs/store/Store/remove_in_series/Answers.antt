@@ -5,12 +5,12 @@ use Rattle.vm_types.specs.declared.refusal.Refusal.TheVariants.{NoSuchRecord}
 use Rattle.vm_disk.proofs.MomentLemmas.{at_end, reads_keep, spares_itself, started}
 use Rattle.vm_tree.specs.Free.{is_free}
 use Rattle.vm_store.specs.Answers.{IsAnswer}
-use Rattle.vm_store.specs.Resting.{spare_of}
+use Rattle.vm_store.specs.Resting.{before_of, spare_of}
 use Rattle.vm_store.proofs.CarryLemmas.{changed, wrote}
 use Rattle.vm_store.proofs.MarkedLemmas.{free_at_most}
 use Rattle.vm_store.proofs.Removing.{removes_missing, removes_done, removes_device, removed_root, removed_none, removed_there, some_value, for_reason}
 use Rattle.vm_store.proofs.RestingLemmas.{found_entry, value_found}
-use Rattle.vm_store.proofs.SeriesLemmas.{gone_on, holds_as, holds_more, remove_holds}
+use Rattle.vm_store.proofs.SeriesLemmas.{in_series, holds_as, holds_more, holds_then, remove_holds}
 use Rattle.vm_store.proofs.SpareTests.{no_fewer}
 use Rattle.vm_store.proofs.TopLemmas.{grown_of, grown_small}
 use Rattle.vm_store.proofs.store.Store.remove_in_series.Goals as goal
@@ -29,12 +29,14 @@ returns-in-Ok-Some-clause-carried g c honest s holds reason =
     let value = some_value _ (removed_there _ _ _ _ c.in-Ok-Some.field-0-is removed) in
     let there = value_found _ _ _ _ _ _ s rests alt e is c.args.key (Some value.0) (sym value.1) in
     let room = no_fewer _ _ (omega (arith, c.requires.room, free_at_most _ _ _ _ _ _ s self.bits rests)) in
-    let series = gone_on _ _ _ _ _ _ _ s alt self.marks self.series (inl (c.requires.series, refl)) holds in
+    let stays = ap (λ o. before_of o self.held) c.before_series.ensures in
+    let series = in_series _ _ _ _ _ _ _ s alt _ _ c.requires.series stays holds in
     changed _ _ s holds (Remove alt c.args.key) _ (removes_done s alt c.args.key _ _ value.0 there room (λ deep. deep))
     _ (started _ _ refl) series (c.in-Ok-Some.ensures.moments honest series.wider) c.in-Ok-Some.ensures.still
-    (λ _. holds_as c.requires.series c.set_current.ensures
+    (λ _. holds_as refl c.set_current.ensures
+    (holds_then alt _ _ c.requires.series stays
     (remove_holds _ _ _ _ _ _ _ s rests alt e is series _ c.remove_forgetting.new.held c.in-Ok-Some.root (grown_small _ _ _ _ _ self.most grown)
-    (at_end _ _ _ (c.in-Ok-Some.ensures.moments honest series.wider)) c.in-Ok-Some.ensures.still c.args.key value.0 there grown))
+    (at_end _ _ _ (c.in-Ok-Some.ensures.moments honest series.wider)) c.in-Ok-Some.ensures.still c.args.key value.0 there grown)))
 
 pub returns-in-Ok-None-clause-carried : goal.returns-in-Ok-None-clause-carried
 returns-in-Ok-None-clause-carried g c honest s holds reason =

@@ -1,10 +1,9 @@
 -- Trees in blocks: what map lies under a root, and in which blocks.
 use Rattle.std.specs.Prelude.{◌≡◌, ℕ, zero, suc, ◌<◌, ◌≤◌, List, [], ◌∷◌, ◌++◌, length}
 use Rattle.std.specs.List.{AllByRecursion}
-use Rattle.vm_types.specs.declared.key.Key.{Key}
 use Rattle.vm_types.specs.Places.{RisesFrom, places}
 use Rattle.vm_disk.specs.Disk.{Contents, block}
-use Rattle.vm_block.specs.Leaf.{Record, IsLeaf}
+use Rattle.vm_block.specs.Leaf.{Record, BeginsWith, IsLeaf}
 use Rattle.vm_block.specs.Node.{IsNode}
 use Rattle.vm_block.specs.declared.node.Child.{Child}
 
@@ -17,11 +16,6 @@ pub record Sizes : Type 0 where
 -- a block for data, in a store of so many blocks
 abbrev pub IsData : ℕ → ℕ → Type 0
 IsData limit b = (34 ≤ b) × (b < limit)
-
--- the records begin with this key
-abbrev pub BeginsWith : Key → List Record → Type 0
-BeginsWith low [] = ⊥
-BeginsWith low (r ∷ rs) = r.0 ≡ low
 
 -- under these children lie these records, joined, in these blocks; T tells what lies under one of them
 abbrev pub Children : (ℕ → List Record → List ℕ → Type 0) → List Child → List Record → List ℕ → Type 0

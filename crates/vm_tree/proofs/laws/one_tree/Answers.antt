@@ -1,7 +1,7 @@
 use Rattle.std.proofs.Common.{◌≡◌}
 use Rattle.vm_disk.specs.Disk.{block}
-use Rattle.vm_block.proofs.TreeLemmas.{tree_one, tree_data, tree_rises, tree_fit, tree_in}
-use Rattle.vm_block.proofs.laws.one_tree.Goals as goal
+use Rattle.vm_tree.proofs.TreeLemmas.{tree_one, tree_data, tree_rises, tree_fit, tree_in}
+use Rattle.vm_tree.proofs.laws.one_tree.Goals as goal
 
 pub returns : goal.returns
 returns c = record {

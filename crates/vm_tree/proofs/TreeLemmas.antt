@@ -7,11 +7,11 @@ use Rattle.vm_block.specs.declared.node.Child.{Child}
 use Rattle.vm_types.specs.Places.{KeyFits, FitKeys, RisesFrom, places}
 use Rattle.vm_block.specs.Leaf.{Record, RecordFits}
 use Rattle.vm_block.specs.Node.{IsNode}
-use Rattle.vm_block.specs.Tree.{Sizes, IsData, LeafHolds, Children, Subtree, IsTree, Stands}
 use Rattle.vm_block.proofs.LeafLemmas.{leaf_one}
 use Rattle.vm_block.proofs.NodeLemmas.{node_one}
 use Rattle.vm_block.proofs.FormLemmas.{leaf_or_node}
-use Rattle.vm_block.proofs.EachLemmas.{each_front, each_back, each_join, each_so, each_both}
+use Rattle.vm_block.proofs.EachLemmas.{each_front, each_back, each_join, each_so}
+use Rattle.vm_tree.specs.Tree.{Sizes, IsData, LeafHolds, Children, Subtree, IsTree, Stands}
 
 -- # What a leaf holds
 

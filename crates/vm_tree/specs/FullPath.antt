@@ -1,16 +1,11 @@
 -- Full paths: where a tree has no room for one more record.
-use Rattle.std.specs.Prelude.{◌≡◌, ℕ, zero, suc, ◌+◌, ◌<◌, ◌≤◌, List, length, map, slice_index}
+use Rattle.std.specs.Prelude.{◌≡◌, ℕ, zero, suc, ◌+◌, ◌≤◌, List, length, map, slice_index}
 use Rattle.vm_disk.specs.Disk.{Contents, block}
 use Rattle.vm_block.specs.Leaf.{Record, IsLeaf}
 use Rattle.vm_block.specs.Node.{IsNode, lows}
-use Rattle.vm_block.specs.Tree.{Sizes}
+use Rattle.vm_block.specs.Way.{IsChosen}
 use Rattle.vm_block.specs.declared.node.Child.{Child}
-
--- which child a descent to place p takes: the last whose lowest key is not above it, or else the first
-pub record IsChosen (places : List ℕ) (p i : ℕ) : Type 0 where
-  pub within : i < length places
-  pub reached : 0 < i → slice_index places i ≤ p
-  pub last : i + 1 < length places → p < slice_index places (i + 1)
+use Rattle.vm_tree.specs.Tree.{Sizes}
 
 -- the blocks of children
 abbrev pub blocks_of : List Child → List ℕ

@@ -1,0 +1,85 @@
+-- What a job does to a place that is honest after it, by what is known of the place.
+use Rattle.std.specs.Prelude.{◌≡◌, ◌≢◌, ◌⊎◌, ◌+◌, ℕ, true, List, Option}
+use Rattle.clap.specs.Words.{Text}
+use Rattle.vm_types.specs.declared.refusal.Refusal.{Refusal}
+use Rattle.vm_disk.specs.declared.cached.CachedDisk.{CachedDisk}
+use Rattle.vm_disk.specs.declared.delayed.DelayedDisk.{DelayedDisk}
+use Rattle.vm_disk.specs.declared.disk.Disk.{Ghosts}
+use Rattle.vm_cli.specs.Caching.{IsNotServed, IsServed}
+use Rattle.vm_cli.specs.Exits.{TellsOn, refused_text, status_of}
+use Rattle.vm_cli.specs.Files.{Answers, Counts, Declines, Does, Draws, Makes}
+use Rattle.vm_cli.specs.Places.{PlaceState}
+use Rattle.vm_cli.specs.declared.program.Exit.{Exit}
+use Rattle.vm_cli.specs.declared.program.Exit.TheVariants.{Refused, Stopped}
+use Rattle.vm_cli.specs.declared.program.task.InMemory.{InMemory}
+use Rattle.vm_cli.specs.declared.talk.OnRefusal.{OnRefusal}
+
+-- the disks over which lines may be answered: a file's own, one with blocks of it in memory, one of which written blocks wait, and one
+-- with both
+pub record Disks (D : Type 0) : Type 1 where
+  pub own : Ghosts D
+  pub cached : Ghosts (CachedDisk D own)
+  pub late : Ghosts (DelayedDisk D own)
+  pub late_cached : Ghosts (DelayedDisk (CachedDisk D own) cached)
+
+-- these four
+abbrev pub disks : {D : Type 0} → (own : Ghosts D) → (cached : Ghosts (CachedDisk D own)) → Ghosts (DelayedDisk D own) → Ghosts (DelayedDisk (CachedDisk D own) cached) → Disks D
+disks own cached late late_cached = record { own = own; cached = cached; late = late; late_cached = late_cached }
+
+-- lines were to be answered over one of them, and the disk came back beside this end
+module _ {D : Type 0} (over : Disks D) (old : D) (result : Exit × D) (in_memory : InMemory) where
+  -- they were, of the reader, to the writer
+  abbrev pub AnswersInMemory : {R W : Type 0} → (R → Option (List ℕ)) → (W → Option (List ℕ)) → OnRefusal → R → W → W → Type 0
+  AnswersInMemory input_of contents on reader writer writer' =
+      IsServed over.own over.cached over.late over.late_cached in_memory on old result.1 result.0 (input_of reader) (contents writer) (contents writer')
+
+  -- the disk was refused, and the errors are told why
+  abbrev pub TellsRefusalInMemory : {F : Type 0} → (F → Option (List ℕ)) → F → F → Type 0
+  TellsRefusalInMemory in_errors errors errors' =
+      (refusal : Refusal) × IsNotServed over.own over.cached over.late over.late_cached in_memory old result.1 refusal
+      × TellsOn in_errors Refused result.0 errors errors' (refused_text refusal)
+
+module _ {P D : Type 0} (own : Ghosts D) (state : P → PlaceState) (denied : P → ℕ) (place place' : P) where
+  -- a file was to be made, with a new store
+  abbrev pub MakesIn : Text → ℕ → Exit → Option (List ℕ) → Option (List ℕ) → Option (List ℕ) → Option (List ℕ) → Type 0
+  MakesIn name blocks exit before after errors errors' =
+      (state place').honest ≡ true
+      → Makes own (denied place' ≡ denied place + 1) name blocks exit (state place) (state place') before after errors errors'
+
+  -- no file changed, and it is told why
+  abbrev pub DeclinesIn : Text → Exit → Option (List ℕ) → Option (List ℕ) → Type 0
+  DeclinesIn name exit errors errors' = Declines own (denied place' ≡ denied place + 1) name exit (state place) (state place') errors errors'
+
+  -- the store in a file was to be counted
+  abbrev pub CountsIn : Text → Exit → Option (List ℕ) → Option (List ℕ) → Option (List ℕ) → Option (List ℕ) → Type 0
+  CountsIn name exit before after errors errors' =
+      (state place').honest ≡ true
+      → Counts own name exit (state place) (state place') before after ⊎ DeclinesIn name exit errors errors'
+
+  -- the tree that a file showed was to be drawn
+  abbrev pub DrawsIn : Text → Exit → Option (List ℕ) → Option (List ℕ) → Option (List ℕ) → Option (List ℕ) → Type 0
+  DrawsIn name exit before after errors errors' =
+      (state place').honest ≡ true
+      → Draws own name exit (state place) (state place') before after ⊎ DeclinesIn name exit errors errors'
+
+module _ {P D : Type 0} (over : Disks D) (state : P → PlaceState) (denied : P → ℕ) (place place' : P) where
+  -- lines were to be answered over a file
+  abbrev pub AnswersIn : Text → InMemory → OnRefusal → Exit → Option (List ℕ) → Option (List ℕ) → Option (List ℕ) → Option (List ℕ) → Option (List ℕ) → Type 0
+  AnswersIn name in_memory on exit input before after errors errors' =
+      (state place').honest ≡ true
+      → Answers over.own over.cached over.late over.late_cached name in_memory on exit (state place) (state place') input before after
+      ⊎ DeclinesIn over.own state denied place place' name exit errors errors'
+
+  -- a run of the program with these words came to this end, before it is said that the program stopped
+  abbrev pub DoesIn : (P → ℕ) → List Text → Exit → Option (List ℕ) → Option (List ℕ) → Option (List ℕ) → Option (List ℕ) → Option (List ℕ) → Type 0
+  DoesIn to_write words exit input before after errors errors' =
+      Does over.own over.cached over.late over.late_cached (place' ≡ place) (to_write place' ≡ to_write place) (denied place' ≡ denied place + 1)
+      words exit (state place) (state place') input before after errors errors'
+
+  -- a run of the program with these words gave this status: by the end that it came to, and what was said to the errors by then, which is
+  -- all but where the program stopped
+  abbrev pub RunsIn : {F : Type 0} → (P → ℕ) → List Text → ℕ → Option (List ℕ) → Option (List ℕ) → Option (List ℕ) → (F → Option (List ℕ)) → F → F → Type 0
+  RunsIn {F} to_write words status input before after in_errors errors errors' =
+      (state place').honest ≡ true
+      → ((exit : Exit) × (said : F) × (status ≡ status_of exit) × (exit ≢ Stopped → said ≡ errors')
+      × DoesIn to_write words exit input before after (in_errors errors) (in_errors said))

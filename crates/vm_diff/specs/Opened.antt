@@ -1,0 +1,63 @@
+-- A block that is read, and what it holds comes next.
+use Rattle.std.specs.Prelude.{◌≡◌, ◌≢◌, ℕ, ◌-◌, ◌≤◌, true, List, length, drop, Option, Some, None, Result}
+use Rattle.vm_types.specs.declared.key.Key.{Key}
+use Rattle.vm_types.specs.Places.{place}
+use Rattle.vm_disk.specs.Disk.{DiskState}
+use Rattle.vm_block.specs.Leaf.{Record}
+use Rattle.vm_block.specs.declared.node.Child.{Child}
+use Rattle.vm_tree.specs.Answers.{OkOrDevice}
+use Rattle.vm_tree.specs.Reading.{IsLeafAt, IsNodeAt}
+use Rattle.vm_tree.specs.declared.root.Root.{Root}
+use Rattle.vm_tree.specs.declared.root.TreeFault.{TreeFault}
+use Rattle.vm_diff.specs.Front.{front_of, next_of}
+use Rattle.vm_diff.specs.Front.Front.{Pair}
+use Rattle.vm_diff.specs.Walk.{Walk, into_tops, past_record, tops_of}
+use Rattle.vm_diff.specs.declared.front.Next.TheVariants.{Record as OneRecord}
+
+-- where the disk is honest after the call, these are the records of a leaf, unless the device failed
+abbrev pub HoldsLeaf : {T : Type 0} → Result T TreeFault → DiskState → DiskState → ℕ → ℕ → List Record → Type 0
+HoldsLeaf result old new limit b records =
+    new.honest ≡ true → (rs : List Record) → IsLeafAt old.now.contents limit b rs → OkOrDevice result (λ _. records ≡ rs)
+
+-- these are the children of an inner block of this level
+abbrev pub HoldsNode : {T : Type 0} → Result T TreeFault → DiskState → DiskState → ℕ → ℕ → ℕ → List Child → Type 0
+HoldsNode result old new limit level b children =
+    new.honest ≡ true → (cs : List Child) → IsNodeAt old.now.contents limit level b cs → OkOrDevice result (λ _. children ≡ cs)
+
+-- a walk has the records of a leaf in the place of the leaf
+abbrev pub OpensLeaf : {T : Type 0} → Result T TreeFault → DiskState → DiskState → ℕ → Root → Walk → Walk → Type 0
+OpensLeaf result old new limit top walk later =
+    new.honest ≡ true → (rs : List Record) → IsLeafAt old.now.contents limit top.block rs
+    → OkOrDevice result (λ _. later ≡ record { pending = rs; tops = drop 1 walk.tops })
+
+-- it has the tops under an inner block in the place of the block
+abbrev pub OpensNode : {T : Type 0} → Result T TreeFault → DiskState → DiskState → ℕ → Root → Walk → Walk → Type 0
+OpensNode result old new limit top walk later =
+    new.honest ≡ true → (cs : List Child) → IsNodeAt old.now.contents limit top.level top.block cs
+    → OkOrDevice result (λ _. later ≡ into_tops (tops_of (top.level - 1) cs) walk)
+
+-- it has no more than 16 records in the place of a leaf
+abbrev pub IsIntoRecords : Walk → Walk → Type 0
+IsIntoRecords walk later = (length later.pending ≤ 16) × (later.tops ≡ drop 1 walk.tops)
+
+-- it has no more than 256 tops in the place of one of this level
+abbrev pub IsIntoTops : ℕ → Walk → Walk → Type 0
+IsIntoTops level walk later = (cs : List Child) × (length cs ≤ 256) × (later ≡ into_tops (tops_of (level - 1) cs) walk)
+
+-- a record at the place of this key, before which the walk stands, is taken
+abbrev pub TakesPair : Option (List ℕ) → Key → Walk → Walk → Type 0
+TakesPair result key walk later =
+    (low : Key) (value : List ℕ) → front_of walk ≡ Pair low value → place low ≡ place key → (result ≡ Some value) × (later ≡ past_record walk)
+
+-- where it stands before none, none is
+abbrev pub TakesNone : Option (List ℕ) → Key → Walk → Walk → Type 0
+TakesNone result key walk later =
+    ((low : Key) (value : List ℕ) → front_of walk ≡ Pair low value → place low ≢ place key) → (result ≡ None) × (later ≡ walk)
+
+-- where the walk stands before a record, this is its value
+abbrev pub IsNextValue : List ℕ → Walk → Type 0
+IsNextValue bytes walk = (key : Key) (value : List ℕ) → front_of walk ≡ Pair key value → bytes ≡ value
+
+-- the walk stands before a record at the place of this key
+abbrev pub StandsAt : Key → Walk → Type 0
+StandsAt key walk = (low : Key) × (next_of (front_of walk) ≡ OneRecord low) × (place key ≡ place low)
