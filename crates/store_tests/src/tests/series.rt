@@ -31,6 +31,37 @@ fn load_leaves_nothing_but_its_tree(rt: HostRuntime) {
     in_256_blocks(&rt, &[row]);
 }
 
+// The sixteenth Put finds 15 free blocks and marks, which leaves block 48 alone. It takes block 34 again, and the
+// next one three blocks.
+#[test]
+fn a_series_goes_on_over_a_marking(rt: HostRuntime) {
+    let row = "
+        format 64
+        open
+        puts top 1:1 17 v
+        free -> 25
+        close
+        forgotten -> 34 38 39 40 41 42 43 44 45 46 47 48";
+    and_late(&rt, &[row]);
+}
+
+// Block 34 is committed. The fifteenth Put behind it finds 15 free blocks and marks, which leaves 34 and 48.
+#[test]
+fn what_is_committed_is_not_forgotten_after_a_marking(rt: HostRuntime) {
+    let row = "
+        format 64
+        open
+        put top 7:1 duct
+        commit
+        puts top 1:1 15 v
+        close
+        forgotten -> 36 37 38 39 40 41 42 43 44 45 46 47 48
+        crash all=41
+        open
+        list top -> 7:1=duct";
+    and_late(&rt, &[row]);
+}
+
 // The root is in block 37, over the leaves 35 and 36, which are committed. The second Put replaces the leaf and the
 // root of the first, the third one the leaf 36 and the root of the second, and the Remove both of the third.
 #[test]

@@ -17,7 +17,7 @@ use crate::faults::refusal_of;
 use crate::versions::Versions;
 use crate::{FAN, LEAF, LEVELS};
 use std::alloc::Global;
-use vm_alloc::Held;
+use vm_alloc::{Held, Snapshot};
 use vm_block::Entry;
 use vm_catalog::{LoadFault, Slot, first_block, load, slot_in_use};
 use vm_check::verify;
@@ -138,8 +138,11 @@ fn read_maps<D: Disk>(
         → IfErr result (IsRefused (D.state disk.old).now.contents) }
 {
     let Slot { blocks, entries } = slot;
-    let (Some(numbers), Ok(mut held)) = (root_numbers(alloc, &entries), Held::new(alloc, blocks))
-    else {
+    let (Some(numbers), Ok(mut held), Ok(before)) = (
+        root_numbers(alloc, &entries),
+        Held::new(alloc, blocks),
+        Snapshot::new(alloc, blocks),
+    ) else {
         return Err(Refusal::Memory);
     };
     match verify::<D, LEAF, FAN, LEVELS>(alloc, disk, blocks, &numbers) {
@@ -156,6 +159,7 @@ fn read_maps<D: Disk>(
                 working,
                 held,
                 marks,
+                before,
             })
         }
         Err(fault) => Err(refusal_of(fault)),
@@ -219,6 +223,7 @@ pub fn open<D: Disk>(alloc: Global, mut disk: D) -> Result<Store<D>, (D, Refusal
                 working,
                 held,
                 marks,
+                before,
             } = parts;
             Ok(Store {
                 disk,
@@ -230,6 +235,7 @@ pub fn open<D: Disk>(alloc: Global, mut disk: D) -> Result<Store<D>, (D, Refusal
                 working,
                 held,
                 marks,
+                before,
                 series: None,
                 changes: 0,
                 failed: false,

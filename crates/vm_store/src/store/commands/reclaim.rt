@@ -24,7 +24,10 @@ impl<D: Disk> Store<D> {
             → Carries self.old self.new s holds Command.Reclaim result }
     {
         match self.mark_all() {
-            Ok(()) => Ok(Answer::Done),
+            Ok(()) => {
+                self.series = None;
+                Ok(Answer::Done)
+            }
             Err(refusal) => Err(refusal),
         }
     }
