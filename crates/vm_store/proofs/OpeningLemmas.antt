@@ -1,6 +1,5 @@
 -- An opening: a sync, and reads that find a store or why there is none.
 use Rattle.std.proofs.Common.{◌≡◌, ◌≢◌, inl, inr, ⊎_elim, ℕ, ◌<◌, ◌≤◌, Bool, List, [], ◌∷◌, ◌++◌, length, replicate, false, Result, Ok, Err, OnOk, refl, sym, ap, ◌∙◌, subst, arith}
-use Rattle.vm_types.specs.Map.{Map}
 use Rattle.vm_types.specs.State.{State, opened}
 use Rattle.vm_types.specs.declared.refusal.Refusal.{Refusal}
 use Rattle.vm_types.specs.declared.refusal.Refusal.TheVariants as refusal
@@ -17,7 +16,6 @@ use Rattle.std.proofs.lemmas.List.{length-replicate}
 use Rattle.std.proofs.lemmas.List.Elements.{Contains-append_left}
 use Rattle.vm_block.proofs.EachLemmas.{each_front, each_back, each_join}
 use Rattle.vm_tree.specs.Tree.{IsData}
-use Rattle.vm_tree.specs.Root.{IsRooted}
 use Rattle.vm_check.specs.Marking.{MarksMore}
 use Rattle.vm_store.proofs.MarkedLemmas.{free_exactly}
 use Rattle.vm_store.proofs.MarkingLemmas.{none_marked}

@@ -48,10 +48,10 @@ impl<D: Disk> Store<D> {
         let Ok(held) = self.held.extended(self.alloc, blocks) else {
             return Err(Refusal::Memory);
         };
-        let (Ok(marks), Ok(before)) = (
-            Marks::new(self.alloc, blocks),
-            Snapshot::new(self.alloc, blocks),
-        ) else {
+        let Ok(marks) = Marks::new(self.alloc, blocks) else {
+            return Err(Refusal::Memory);
+        };
+        let Ok(before) = Snapshot::new(self.alloc, blocks) else {
             return Err(Refusal::Memory);
         };
         self.lengthen(blocks)?;

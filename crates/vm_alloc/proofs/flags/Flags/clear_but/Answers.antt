@@ -1,4 +1,4 @@
-use Rattle.std.proofs.Common.{◌∙◌, ℕ, List, Bool, length, get_or, false, ap, sym, arith}
+use Rattle.std.proofs.Common.{◌∙◌, ℕ, List, length, get_or, false, ap, sym, arith}
 use Rattle.std.proofs.lemmas.List.{with_items_is}
 use Rattle.vm_alloc.specs.Flags.{flags_of}
 use Rattle.vm_alloc.proofs.FlagLemmas.{flags_both, length-flags_of, many_flags, packed_both, same_many}

@@ -1,4 +1,4 @@
-use Rattle.std.proofs.Common.{Some, None, Err, inl, inr, refl, sym, ap, ◌∙◌, arith}
+use Rattle.std.proofs.Common.{Some, None, Err, inl, inr, sym, ap, ◌∙◌, arith}
 use Rattle.vm_types.specs.declared.command.Command.TheVariants.{Remove}
 use Rattle.vm_disk.proofs.MomentLemmas.{reads_then}
 use Rattle.vm_store.proofs.CarryLemmas.{looked, read_carried}
