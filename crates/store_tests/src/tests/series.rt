@@ -1,7 +1,7 @@
 //! Which blocks are forgotten: those that a Put or a Remove replaces, where the series took them that it goes on
 //! with. A disk in memory fills them with other bytes.
 use super::records::TWO_RECORDS;
-use super::script::{NEW, SEVENTEEN, and_late, in_256_blocks, on_each};
+use super::script::{NEW, SEVENTEEN, and_late, in_256_blocks, on_both, on_each};
 
 // Each Put takes a block, from 34 on.
 #[test]
@@ -42,7 +42,7 @@ fn a_series_goes_on_over_a_marking(rt: HostRuntime) {
         free -> 25
         close
         forgotten -> 34 38 39 40 41 42 43 44 45 46 47 48";
-    and_late(&rt, &[row]);
+    on_both(&rt, &[row]);
 }
 
 // Block 34 is committed. The fifteenth Put behind it finds 15 free blocks and marks, which leaves 34 and 48.
@@ -59,7 +59,7 @@ fn what_is_committed_is_not_forgotten_after_a_marking(rt: HostRuntime) {
         crash all=41
         open
         list top -> 7:1=duct";
-    and_late(&rt, &[row]);
+    on_both(&rt, &[row]);
 }
 
 // The root is in block 37, over the leaves 35 and 36, which are committed. The second Put replaces the leaf and the
