@@ -1,4 +1,4 @@
-use Rattle.vm_store.proofs.store.Store.carry_out.Goals as goal
+use Rattle.vm_store.proofs.store.Store.dispatch.Goals as goal
 
 pub returns-in-Put-clause-carried : goal.returns-in-Put-clause-carried
 returns-in-Put-clause-carried g c honest s holds = rw c.in-Put.is (c.put.ensures.carried honest s holds)
