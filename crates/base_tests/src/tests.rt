@@ -8,6 +8,7 @@ mod headers;
 mod holding;
 mod inner_blocks;
 mod leaves;
+mod merging;
 mod packed;
 mod records;
 mod script;

@@ -31,7 +31,7 @@ pub use laws::{one_form, written_is_a_form};
 pub use leaf::{read_leaf, write_leaf};
 pub use node::{Child, Node, read_node, spelled_children, write_node};
 pub use row::{child_row, record_row, record_value};
-pub use selector::{read_selector, write_selector};
+pub use selector::{SlotName, read_selector, write_selector};
 pub use slot::{
     Entry, Kind, MAX_BLOCKS, MAX_ENTRIES, MIN_BLOCKS, SlotHead, read_entry, read_slot_head,
     write_entry, write_slot_head,

@@ -1,20 +1,53 @@
 //! Block 1, which names one of the two slots.
 ghost use Rattle.std.specs.Prelude.{◌≡◌};
-ghost use Rattle.vm_block.specs.Selector.{names_b, selector_bytes};
+ghost use Rattle.vm_block.specs.Selector.{named_slot, other_slot, selector_byte, selector_bytes};
 
 use crate::spelling::put_zeros;
 
-/// Whether the block names slot B; any bytes name a slot.
-pub fn read_selector(bytes: &[u8; 4096]) -> bool
-    ensures { result ≡ names_b bytes.now }
-{
-    bytes[0] % 2 == 1
+/// One of the two slots.
+#[derive(Clone, Copy, Debug, PartialEq, Eq)]
+pub enum SlotName {
+    A,
+    B,
 }
 
-/// Writes the selector that names slot B, or slot A.
-pub fn write_selector(slot_b: bool, out: &mut [u8; 4096])
-    ensures { out.new ≡ selector_bytes slot_b }
+impl SlotName {
+    /// The other slot.
+    pub fn other(self) -> SlotName
+        ensures { result ≡ other_slot self }
+    {
+        match self {
+            SlotName::A => SlotName::B,
+            SlotName::B => SlotName::A,
+        }
+    }
+
+    // The first byte of its selector.
+    fn byte(self) -> u8
+        ensures { result ≡ selector_byte self }
+    {
+        match self {
+            SlotName::A => 0,
+            SlotName::B => 1,
+        }
+    }
+}
+
+/// The slot that the block names; any bytes name one.
+pub fn read_selector(bytes: &[u8; 4096]) -> SlotName
+    ensures { result ≡ named_slot bytes.now }
+{
+    if bytes[0] % 2 == 1 {
+        SlotName::B
+    } else {
+        SlotName::A
+    }
+}
+
+/// Writes the selector that names a slot.
+pub fn write_selector(slot_name: SlotName, out: &mut [u8; 4096])
+    ensures { out.new ≡ selector_bytes slot_name }
 {
     put_zeros(out);
-    out[0] = u8::from(slot_b);
+    out[0] = slot_name.byte();
 }

@@ -1,9 +1,12 @@
 -- Which blocks are whose.
-use Rattle.std.proofs.Common.{◌≡◌, ◌≢◌, ℕ, zero, suc, ◌+◌, ◌<◌, ◌≤◌, Bool, true, false, not, List, [], ◌∷◌, ◌++◌, length, refl, ap, ◌∙◌, arith, add-one, zero-add, inl, inr, ◌⊎◌, ⊎_elim}
+use Rattle.std.proofs.Common.{◌≡◌, ◌≢◌, ℕ, zero, suc, ◌+◌, ◌<◌, ◌≤◌, true, false, List, [], ◌∷◌, ◌++◌, length, refl, ap, ◌∙◌, arith, add-one, zero-add, inl, inr, ◌⊎◌, ⊎_elim}
 use Rattle.std.proofs.lemmas.Bool.{cases_lt}
 use Rattle.std.proofs.lemmas.Bool.Decides.{nat_tests}
 use Rattle.vm_disk.specs.Disk.{Contents, block}
+use Rattle.vm_block.specs.Selector.{other_slot}
 use Rattle.vm_block.specs.Slot.{used_blocks}
+use Rattle.vm_block.specs.declared.selector.SlotName.{SlotName}
+use Rattle.vm_block.specs.declared.selector.SlotName.TheVariants.{A, B}
 use Rattle.vm_catalog.specs.Place.{blocks_from, region, slot_at, is_used}
 
 -- a block of a region is one of it
@@ -61,31 +64,31 @@ length-blocks x at zero = refl
 length-blocks x at (suc k) = ap suc (length-blocks x (at + 1) k)
 
 -- a used block is the header, the selector, or one of the slot
-pub used_cases : (slot_b : Bool) (count n : ℕ) → is_used slot_b count n ≡ true → (n < 2) ⊎ ((slot_at slot_b ≤ n) × (n < slot_at slot_b + used_blocks count))
-used_cases slot_b count n h =
-    ⊎_elim (λ low. inl low) (λ high. let inside : region (slot_at slot_b) (used_blocks count) n ≡ true = grind (arith, nat_tests) in inr (region_low _ _ n inside, region_high _ _ n inside)) (cases_lt n 2)
+pub used_cases : (slot_name : SlotName) (count n : ℕ) → is_used slot_name count n ≡ true → (n < 2) ⊎ ((slot_at slot_name ≤ n) × (n < slot_at slot_name + used_blocks count))
+used_cases slot_name count n h =
+    ⊎_elim (λ low. inl low) (λ high. let inside : region (slot_at slot_name) (used_blocks count) n ≡ true = grind (arith, nat_tests) in inr (region_low _ _ n inside, region_high _ _ n inside)) (cases_lt n 2)
 
 -- the header and the selector are used, and so is each block of the slot
-pub used_front : (slot_b : Bool) (count n : ℕ) → n < 2 → is_used slot_b count n ≡ true
-used_front slot_b count n low = grind (arith, nat_tests)
+pub used_front : (slot_name : SlotName) (count n : ℕ) → n < 2 → is_used slot_name count n ≡ true
+used_front slot_name count n low = grind (arith, nat_tests)
 
-pub used_slot : (slot_b : Bool) (count n : ℕ) → slot_at slot_b ≤ n → n < slot_at slot_b + used_blocks count → is_used slot_b count n ≡ true
-used_slot slot_b count n low high =
-    let inside = in_region (slot_at slot_b) (used_blocks count) n low high in grind (arith, nat_tests)
+pub used_slot : (slot_name : SlotName) (count n : ℕ) → slot_at slot_name ≤ n → n < slot_at slot_name + used_blocks count → is_used slot_name count n ≡ true
+used_slot slot_name count n low high =
+    let inside = in_region (slot_at slot_name) (used_blocks count) n low high in grind (arith, nat_tests)
 
 -- no block of one slot, nor the header, nor the selector is a block of the other slot
-pub apart : (slot_b : Bool) (k count n : ℕ) → k ≤ 511 → count ≤ 511 → is_used slot_b k n ≡ true → region (slot_at (not slot_b)) (used_blocks count) n ≡ false
-apart true k count n few less h =
-    ⊎_elim (λ (low : n < 2). before_region 2 (used_blocks count) n low) (λ (here : (18 ≤ n) × (n < 18 + used_blocks k)). behind_region 2 (used_blocks count) n (omega (arith, sixteen count less))) (used_cases true k n h)
-apart false k count n few less h =
-    ⊎_elim (λ (low : n < 2). before_region 18 (used_blocks count) n (omega arith)) (λ (here : (2 ≤ n) × (n < 2 + used_blocks k)). before_region 18 (used_blocks count) n (omega (arith, sixteen k few))) (used_cases false k n h)
+pub apart : (slot_name : SlotName) (k count n : ℕ) → k ≤ 511 → count ≤ 511 → is_used slot_name k n ≡ true → region (slot_at (other_slot slot_name)) (used_blocks count) n ≡ false
+apart B k count n few less h =
+    ⊎_elim (λ (low : n < 2). before_region 2 (used_blocks count) n low) (λ (here : (18 ≤ n) × (n < 18 + used_blocks k)). behind_region 2 (used_blocks count) n (omega (arith, sixteen count less))) (used_cases B k n h)
+apart A k count n few less h =
+    ⊎_elim (λ (low : n < 2). before_region 18 (used_blocks count) n (omega arith)) (λ (here : (2 ≤ n) × (n < 2 + used_blocks k)). before_region 18 (used_blocks count) n (omega (arith, sixteen k few))) (used_cases A k n h)
 
 -- no data block is a block of a slot
-pub no_data : (slot_b : Bool) (count n : ℕ) → count ≤ 511 → 34 ≤ n → region (slot_at slot_b) (used_blocks count) n ≡ false
-no_data true count n few far = behind_region 18 (used_blocks count) n (omega (arith, sixteen count few))
-no_data false count n few far = behind_region 2 (used_blocks count) n (omega (arith, sixteen count few))
+pub no_data : (slot_name : SlotName) (count n : ℕ) → count ≤ 511 → 34 ≤ n → region (slot_at slot_name) (used_blocks count) n ≡ false
+no_data B count n few far = behind_region 18 (used_blocks count) n (omega (arith, sixteen count few))
+no_data A count n few far = behind_region 2 (used_blocks count) n (omega (arith, sixteen count few))
 
 -- no slot has the selector among its blocks
-pub slot_high : (slot_b : Bool) (n : ℕ) → slot_at slot_b ≤ n → n ≢ 1
-slot_high true n low = λ (e : n ≡ 1). omega arith
-slot_high false n low = λ (e : n ≡ 1). omega arith
+pub slot_high : (slot_name : SlotName) (n : ℕ) → slot_at slot_name ≤ n → n ≢ 1
+slot_high B n low = λ (e : n ≡ 1). omega arith
+slot_high A n low = λ (e : n ≡ 1). omega arith

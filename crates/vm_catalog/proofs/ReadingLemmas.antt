@@ -1,10 +1,11 @@
 -- How the cells of a slot are read, one after another.
-use Rattle.std.proofs.Common.{◌≡◌, ◌≢◌, Bool, Result, Err, ℕ, ◌+◌, ◌-◌, ◌*◌, ◌<◌, ◌≤◌, List, [], ◌∷◌, ◌++◌, length, take, drop, min, refl, sym, ap, ◌∙◌, subst, arith, length-append, append_assoc}
+use Rattle.std.proofs.Common.{◌≡◌, ◌≢◌, Result, Err, ℕ, ◌+◌, ◌-◌, ◌*◌, ◌<◌, ◌≤◌, List, [], ◌∷◌, ◌++◌, length, take, drop, min, refl, sym, ap, ◌∙◌, subst, arith, length-append, append_assoc}
 use Rattle.std.specs.List.{AllByRecursion, flat_map}
 use Rattle.std.proofs.lemmas.Grind.{flat_map-append}
 use Rattle.std.proofs.lemmas.List.{append-nil, drop-drop, length_push, nil_from_length, take-append-drop}
 use Rattle.vm_block.specs.Slot.{head_bytes, entry_bytes, used_blocks, EntryFits, IsEntry, HeadFits, IsHead, IsSlot, IsLedger}
 use Rattle.vm_block.specs.declared.slot.Entry.{Entry}
+use Rattle.vm_block.specs.declared.selector.SlotName.{SlotName}
 use Rattle.vm_block.proofs.EachLemmas.{each_join}
 use Rattle.vm_block.proofs.Rows.{all_push, rows_read, length-rows}
 use Rattle.vm_disk.specs.Disk.{Contents, block}
@@ -97,9 +98,9 @@ pub record IsFront (bytes : List ℕ) (limit n : ℕ) : Type 0 where
   pub head : IsHead (take 128 bytes) limit n
   pub each : (i : ℕ) → i < min n 31 → HasEntry bytes (1 + i)
 
-pub front_is : (x : Contents) (slot_b : Bool) (limit : ℕ) (es : List Entry) (bytes : List ℕ) → SlotAt x slot_b limit es → bytes ≡ block x (slot_at slot_b) → IsFront bytes limit (length es)
-front_is x slot_b limit es bytes slot is =
-    let at = slot_at slot_b in
+pub front_is : (x : Contents) (slot_name : SlotName) (limit : ℕ) (es : List Entry) (bytes : List ℕ) → SlotAt x slot_name limit es → bytes ≡ block x (slot_at slot_name) → IsFront bytes limit (length es)
+front_is x slot_name limit es bytes slot is =
+    let at = slot_at slot_name in
     let used : 0 < used_blocks (length es) = omega (arith, slot.fits.head.some) in
     let P : List ℕ → Type 0 = λ b. IsHead (take 128 b) limit (length es) in
     let first : block x (at + 0) ≡ block x at = ap (block x) (omega arith) in
@@ -111,9 +112,9 @@ front_is x slot_b limit es bytes slot is =
     }
 
 -- another block
-pub other_is : (x : Contents) (slot_b : Bool) (limit : ℕ) (es : List Entry) (l n k count : ℕ) (bytes : List ℕ) (mid : List Entry) → SlotAt x slot_b limit es → FitsSoFar l n k mid → BeginsSlot (blocks_from x (slot_at slot_b) k) l n mid → 1 ≤ k → k < used_blocks n → count ≡ min (n - length mid) 32 → bytes ≡ block x (slot_at slot_b + k) → (i : ℕ) → i < count → HasEntry bytes (0 + i)
-other_is x slot_b limit es l n k count bytes mid slot so_far begins some inside many is i lt =
-    let at = slot_at slot_b in
+pub other_is : (x : Contents) (slot_name : SlotName) (limit : ℕ) (es : List Entry) (l n k count : ℕ) (bytes : List ℕ) (mid : List Entry) → SlotAt x slot_name limit es → FitsSoFar l n k mid → BeginsSlot (blocks_from x (slot_at slot_name) k) l n mid → 1 ≤ k → k < used_blocks n → count ≡ min (n - length mid) 32 → bytes ≡ block x (slot_at slot_name + k) → (i : ℕ) → i < count → HasEntry bytes (0 + i)
+other_is x slot_name limit es l n k count bytes mid slot so_far begins some inside many is i lt =
+    let at = slot_at slot_name in
     let used = used_blocks (length es) in
     let head = begins_head x at k l n mid begins (omega arith) in
     let other = head_is x at used limit es slot (omega (arith, slot.fits.head.some)) in
@@ -131,10 +132,10 @@ pub all_read : (limit n : ℕ) (es : List Entry) → FitsSoFar limit n (used_blo
 all_read limit n es fits = omega (arith, fits.many)
 
 -- they are those of the slot
-pub loaded : (x : Contents) (slot_b : Bool) (limit n : ℕ) (es : List Entry) → FitsSoFar limit n (used_blocks n) es → BeginsSlot (blocks_from x (slot_at slot_b) (used_blocks n)) limit n es → IsLedger es → SlotAt x slot_b limit es
-loaded x slot_b limit n es fits begins ledger =
+pub loaded : (x : Contents) (slot_name : SlotName) (limit n : ℕ) (es : List Entry) → FitsSoFar limit n (used_blocks n) es → BeginsSlot (blocks_from x (slot_at slot_name) (used_blocks n)) limit n es → IsLedger es → SlotAt x slot_name limit es
+loaded x slot_name limit n es fits begins ledger =
     let all = all_read limit n es fits in
-    let P : ℕ → Type 0 = λ k. IsSlot (blocks_from x (slot_at slot_b) (used_blocks k)) limit es in
+    let P : ℕ → Type 0 = λ k. IsSlot (blocks_from x (slot_at slot_name) (used_blocks k)) limit es in
     let H : ℕ → Type 0 = λ k. HeadFits limit k in
     subst P (sym all) (record {
       fits = record { head = subst H (sym all) fits.head; each = fits.each; ledger = ledger };
@@ -144,9 +145,9 @@ loaded x slot_b limit n es fits begins ledger =
     })
 
 -- and no others
-pub loaded_one : (x : Contents) (slot_b : Bool) (limit n : ℕ) (es : List Entry) (limit' : ℕ) (es' : List Entry) → FitsSoFar limit n (used_blocks n) es → BeginsSlot (blocks_from x (slot_at slot_b) (used_blocks n)) limit n es → SlotAt x slot_b limit' es' → (limit ≡ limit') × (es ≡ es')
-loaded_one x slot_b limit n es limit' es' fits begins slot =
-    read_one x slot_b limit n es limit' es' fits.head fits.each (all_read limit n es fits) begins slot
+pub loaded_one : (x : Contents) (slot_name : SlotName) (limit n : ℕ) (es : List Entry) (limit' : ℕ) (es' : List Entry) → FitsSoFar limit n (used_blocks n) es → BeginsSlot (blocks_from x (slot_at slot_name) (used_blocks n)) limit n es → SlotAt x slot_name limit' es' → (limit ≡ limit') × (es ≡ es')
+loaded_one x slot_name limit n es limit' es' fits begins slot =
+    read_one x slot_name limit n es limit' es' fits.head fits.each (all_read limit n es fits) begins slot
 
 -- a fault other than a damage says nothing
 pub loads_fault : {T : Type 0} (fault : LoadFault) (limit : ℕ) (es : List Entry) → (let r : Result T LoadFault = Err fault in r ≢ Err Damaged) → Loads (Err fault) limit es

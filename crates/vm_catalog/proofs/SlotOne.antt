@@ -1,9 +1,10 @@
 -- A slot holds one list of entries.
-use Rattle.std.proofs.Common.{◌≡◌, ℕ, ◌*◌, Bool, List, ◌++◌, length, take, drop, refl, sym, ap, ◌∙◌, arith, append_assoc}
+use Rattle.std.proofs.Common.{◌≡◌, ℕ, ◌*◌, List, ◌++◌, length, take, drop, refl, sym, ap, ◌∙◌, arith, append_assoc}
 use Rattle.std.specs.List.{AllByRecursion, flat_map}
 use Rattle.std.proofs.lemmas.List.{take_at, drop_at}
 use Rattle.vm_block.specs.Slot.{head_bytes, entry_bytes, used_blocks, EntryFits, HeadFits}
 use Rattle.vm_block.specs.declared.slot.Entry.{Entry}
+use Rattle.vm_block.specs.declared.selector.SlotName.{SlotName}
 use Rattle.vm_block.proofs.Rows.{length-rows, rows_one}
 use Rattle.vm_block.proofs.SlotLemmas.{length-head, length-entry, head_one, entry_one}
 use Rattle.vm_disk.specs.Disk.{Contents, block}
@@ -31,9 +32,9 @@ one_row limit n es fs xs ys p q many e =
     (sym (take_at (flat_map entry_bytes es) xs (128 * length es) a) ∙ ap (take (128 * length es)) from ∙ take_at (flat_map entry_bytes fs) ys (128 * length es) b)
 
 -- blocks that begin with a head and its entries, and are a slot, are the slot of those entries
-pub read_one : (x : Contents) (slot_b : Bool) (limit n : ℕ) (es : List Entry) (limit' : ℕ) (es' : List Entry) → HeadFits limit n → AllByRecursion EntryFits es → length es ≡ n → BeginsSlot (blocks_from x (slot_at slot_b) (used_blocks n)) limit n es → SlotAt x slot_b limit' es' → (limit ≡ limit') × (es ≡ es')
-read_one x slot_b limit n es limit' es' fits each many begins slot =
-    let at = slot_at slot_b in
+pub read_one : (x : Contents) (slot_name : SlotName) (limit n : ℕ) (es : List Entry) (limit' : ℕ) (es' : List Entry) → HeadFits limit n → AllByRecursion EntryFits es → length es ≡ n → BeginsSlot (blocks_from x (slot_at slot_name) (used_blocks n)) limit n es → SlotAt x slot_name limit' es' → (limit ≡ limit') × (es ≡ es')
+read_one x slot_name limit n es limit' es' fits each many begins slot =
+    let at = slot_at slot_name in
     let head = begins_head x at (used_blocks n) limit n es begins (omega (arith, fits.some)) in
     let other = head_is x at (used_blocks (length es')) limit' es' slot (omega (arith, slot.fits.head.some)) in
     let heads = head_one (take 128 (block x at)) limit n limit' (length es') (record { spelled = head; fits = fits }) other in
@@ -43,9 +44,9 @@ read_one x slot_b limit n es limit' es' fits each many begins slot =
     (heads.0, one_row limit n es es' begins.rest slot.rest each slot.fits.each (many ∙ heads.1) bytes)
 
 -- a slot holds the entries of one store, and one list of them
-pub slot_one : (x : Contents) (slot_b : Bool) (limit limit' : ℕ) (es es' : List Entry) → SlotAt x slot_b limit es → SlotAt x slot_b limit' es' → (limit ≡ limit') × (es ≡ es')
-slot_one x slot_b limit limit' es es' a b =
-    read_one x slot_b limit (length es) es limit' es' a.fits.head a.fits.each refl (record { whole = a.whole; rest = a.rest; spelled = a.spelled }) b
+pub slot_one : (x : Contents) (slot_name : SlotName) (limit limit' : ℕ) (es es' : List Entry) → SlotAt x slot_name limit es → SlotAt x slot_name limit' es' → (limit ≡ limit') × (es ≡ es')
+slot_one x slot_name limit limit' es es' a b =
+    read_one x slot_name limit (length es) es limit' es' a.fits.head a.fits.each refl (record { whole = a.whole; rest = a.rest; spelled = a.spelled }) b
 
 -- contents name the entries of one store, and one list of them
 pub names_one : (x : Contents) (limit limit' : ℕ) (es es' : List Entry) → Names x limit es → Names x limit' es' → (limit ≡ limit') × (es ≡ es')

@@ -1,4 +1,6 @@
+pub mod Calls
 pub mod Catalog
+pub mod Laws
 pub mod Place
 pub mod Publishing
 pub mod Reading

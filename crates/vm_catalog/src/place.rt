@@ -3,14 +3,19 @@ ghost use Rattle.std.specs.Prelude.{◌≡◌, ◌≤◌};
 ghost use Rattle.vm_block.specs.Slot.{used_blocks};
 ghost use Rattle.vm_catalog.specs.Place.{slot_at};
 
+use vm_block::SlotName;
+
 /// How many entries a slot can have.
 pub const MAX_ENTRIES: usize = vm_block::MAX_ENTRIES as usize;
 
-/// The number of the first block of a slot, slot B or slot A.
-pub fn first_block(slot_b: bool) -> u32
-    ensures { result ≡ slot_at slot_b }
+/// The number of the first block of a slot.
+pub fn first_block(slot_name: SlotName) -> u32
+    ensures { result ≡ slot_at slot_name }
 {
-    if slot_b { 18 } else { 2 }
+    match slot_name {
+        SlotName::A => 2,
+        SlotName::B => 18,
+    }
 }
 
 /// How many blocks of a slot are used where it has so many entries, beside its head.

@@ -1,18 +1,16 @@
 //! How a slot is loaded.
-ghost use Rattle.std.specs.Prelude.{◌≡◌, ◌≢◌, ℕ, ◌+◌, ◌*◌, ◌<◌, ◌≤◌, true, min, List, [], length, take, Some, OnOk, IfOk, IfSome, IsSome, vec_len, vec_capacity};
+ghost use Rattle.std.specs.Prelude.{◌≡◌, ◌≢◌, ℕ, ◌+◌, ◌*◌, ◌<◌, ◌≤◌, true, min, [], length, take, Some, OnOk, IfOk, IfSome, vec_len, vec_capacity};
 ghost use Rattle.std.specs.Bool.{OnTrue};
 ghost use Rattle.vm_disk.specs.Disk.{Goes, block};
 ghost use Rattle.vm_disk.specs.Moments.{OnlyReads};
 ghost use Rattle.vm_block.specs.Slot.{SlotFits, used_blocks, IsHead, IsEntry};
-ghost use Rattle.vm_block.specs.declared.slot.Entry.{Entry};
-ghost use Rattle.vm_catalog.specs.Place.{blocks_from, slot_at};
-ghost use Rattle.vm_catalog.specs.Catalog.{SlotAt};
-ghost use Rattle.vm_catalog.specs.Reading.{cell_of, HasEntry, HasTaken, FitsSoFar, BeginsSlot, Loads};
+ghost use Rattle.vm_catalog.specs.Calls.{FindsFront, HasFront, LoadsAll, LoadsHeld, ReadsFront, ReadsOthers, ReadsUsed, TakesSlot};
+ghost use Rattle.vm_catalog.specs.Reading.{cell_of, HasEntry, HasTaken, FitsSoFar};
 
 use crate::ledger::is_ledger;
 use crate::place::{MAX_ENTRIES, first_block, used_blocks};
 use std::alloc::{Allocator, Global};
-use vm_block::{Entry, SlotHead, read_entry, read_slot_head};
+use vm_block::{Entry, SlotHead, SlotName, read_entry, read_slot_head};
 use vm_disk::Disk;
 
 /// Why a slot could not be loaded.
@@ -75,9 +73,7 @@ fn read_front(block: &[u8], entries: &mut Vec<Entry>) -> Option<SlotHead>
     ensures room { vec_capacity entries.new ≡ vec_capacity entries.old }
     ensures head { IfSome result (λ head. IsHead (take 128 block.now) head.blocks head.entries) }
     ensures found { IfSome result (λ head. HasTaken block.now 1 (min head.entries 31) [] entries.new.items) }
-    ensures only { (limit n : ℕ) → IsHead (take 128 block.now) limit n
-        → ((i : ℕ) → i < min n 31 → HasEntry block.now (1 + i))
-        → IsSome result }
+    ensures only { FindsFront result block.now }
 {
     let head = read_slot_head(&block[..128])?;
     // Behind the head a block has room for 31 entries.
@@ -88,7 +84,7 @@ fn read_front(block: &[u8], entries: &mut Vec<Entry>) -> Option<SlotHead>
 // Reads the first block of a slot: its head, and the entries behind it.
 fn read_first<D: Disk>(
     disk: &mut D,
-    slot_b: bool,
+    slot_name: SlotName,
     entries: &mut Vec<Entry>,
 ) -> Result<SlotHead, LoadFault>
     requires blocks { 34 ≤ (D.state disk.old).blocks }
@@ -100,14 +96,11 @@ fn read_first<D: Disk>(
     ensures once { (D.state disk.new).reads ≡ (D.state disk.old).reads + 1 }
     ensures room { vec_capacity entries.new ≡ vec_capacity entries.old }
     ensures fits { IfOk result (λ head. FitsSoFar head.blocks head.entries 1 entries.new.items) }
-    ensures found { (D.state disk.new).honest ≡ true
-        → IfOk result (λ head. BeginsSlot (blocks_from (D.state disk.old).now.contents (slot_at slot_b) 1)
-        head.blocks head.entries entries.new.items) }
-    ensures only { (D.state disk.new).honest ≡ true → (limit : ℕ) (es : List Entry)
-        → SlotAt (D.state disk.old).now.contents slot_b limit es → result ≢ Err LoadFault.Damaged }
+    ensures found { ReadsFront result (D.state disk.old) (D.state disk.new) slot_name entries.new.items }
+    ensures only { TakesSlot result (D.state disk.old) (D.state disk.new) slot_name }
 {
     let mut block = [0; 4096];
-    let Ok(()) = disk.read(first_block(slot_b), &mut block) else {
+    let Ok(()) = disk.read(first_block(slot_name), &mut block) else {
         return Err(LoadFault::Device);
     };
     match read_front(&block, entries) {
@@ -119,16 +112,14 @@ fn read_first<D: Disk>(
 // Reads the other used blocks of a slot whose first block has this head.
 fn read_others<D: Disk>(
     disk: &mut D,
-    slot_b: bool,
+    slot_name: SlotName,
     head: SlotHead,
     entries: &mut Vec<Entry>,
 ) -> Result<(), LoadFault>
     requires blocks { 34 ≤ (D.state disk.old).blocks }
     requires room { MAX_ENTRIES ≤ vec_capacity entries.old }
     requires fits { FitsSoFar head.blocks head.entries 1 entries.old.items }
-    requires found { (D.state disk.old).honest ≡ true
-        → BeginsSlot (blocks_from (D.state disk.old).now.contents (slot_at slot_b) 1)
-        head.blocks head.entries entries.old.items }
+    requires found { HasFront (D.state disk.old) slot_name head entries.old.items }
     ensures any { Goes (result ≡ Err LoadFault.Device) (D.state disk.old) (D.state disk.new) }
     ensures reads { (D.state disk.new).honest ≡ true
         → OnlyReads (D.state disk.old) (D.state disk.new) }
@@ -136,13 +127,10 @@ fn read_others<D: Disk>(
     ensures whole { OnOk result ((D.state disk.new).reads + 1 ≡ (D.state disk.old).reads + used_blocks head.entries) }
     ensures room { vec_capacity entries.new ≡ vec_capacity entries.old }
     ensures fits { OnOk result (FitsSoFar head.blocks head.entries (used_blocks head.entries) entries.new.items) }
-    ensures found { (D.state disk.new).honest ≡ true
-        → OnOk result (BeginsSlot (blocks_from (D.state disk.old).now.contents (slot_at slot_b) (used_blocks head.entries))
-        head.blocks head.entries entries.new.items) }
-    ensures only { (D.state disk.new).honest ≡ true → (limit : ℕ) (es : List Entry)
-        → SlotAt (D.state disk.old).now.contents slot_b limit es → result ≢ Err LoadFault.Damaged }
+    ensures found { ReadsOthers result (D.state disk.old) (D.state disk.new) slot_name head entries.new.items }
+    ensures only { TakesSlot result (D.state disk.old) (D.state disk.new) slot_name }
 {
-    let first = first_block(slot_b);
+    let first = first_block(slot_name);
     let mut block = [0; 4096];
     for index in 1..used_blocks(head.entries as usize) {
         let Ok(()) = disk.read(first + index, &mut block) else {
@@ -156,9 +144,9 @@ fn read_others<D: Disk>(
     Ok(())
 }
 
-/// Loads the entries of a slot: slot B, or slot A. It reads the used blocks of that slot, each once
+/// Loads the entries of a slot. It reads the used blocks of that slot, each once
 /// and in order, and reserves room for as many entries as a slot can have.
-pub fn load<D: Disk>(alloc: Global, disk: &mut D, slot_b: bool) -> Result<Slot, LoadFault>
+pub fn load<D: Disk>(alloc: Global, disk: &mut D, slot_name: SlotName) -> Result<Slot, LoadFault>
     requires { 34 ≤ (D.state disk.old).blocks }
     ensures any { Goes (result ≡ Err LoadFault.Device) (D.state disk.old) (D.state disk.new) }
     ensures reads { (D.state disk.new).honest ≡ true
@@ -166,24 +154,21 @@ pub fn load<D: Disk>(alloc: Global, disk: &mut D, slot_b: bool) -> Result<Slot, 
 
     // It makes no more reads than a slot has blocks, and at Ok one for each used block.
     ensures once { (D.state disk.new).reads ≤ (D.state disk.old).reads + 16 }
-    ensures whole { IfOk result (λ slot. (D.state disk.new).reads
-        ≡ (D.state disk.old).reads + used_blocks (length slot.entries.items)) }
+    ensures whole { ReadsUsed result (D.state disk.old) (D.state disk.new) }
 
     // On any disk what is loaded are entries that a slot may have, with room for as many as it can.
     ensures fits { IfOk result (λ slot. SlotFits slot.blocks slot.entries.items) }
     ensures reserved { IfOk result (λ slot. MAX_ENTRIES ≤ vec_capacity slot.entries) }
 
     // On an honest disk they are exactly those of the slot.
-    ensures found { (D.state disk.new).honest ≡ true
-        → IfOk result (λ slot. SlotAt (D.state disk.old).now.contents slot_b slot.blocks slot.entries.items) }
-    ensures only { (D.state disk.new).honest ≡ true → (limit : ℕ) (es : List Entry)
-        → SlotAt (D.state disk.old).now.contents slot_b limit es → Loads result limit es }
+    ensures found { LoadsHeld result (D.state disk.old) (D.state disk.new) slot_name }
+    ensures only { LoadsAll result (D.state disk.old) (D.state disk.new) slot_name }
 {
     let Ok(mut entries) = Vec::with_capacity(alloc, MAX_ENTRIES) else {
         return Err(LoadFault::Memory);
     };
-    let head = read_first(disk, slot_b, &mut entries)?;
-    read_others(disk, slot_b, head, &mut entries)?;
+    let head = read_first(disk, slot_name, &mut entries)?;
+    read_others(disk, slot_name, head, &mut entries)?;
     if is_ledger(&entries) {
         Ok(Slot {
             blocks: head.blocks,

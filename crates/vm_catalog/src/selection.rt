@@ -1,16 +1,16 @@
 //! The selector, which names the slot that is in use.
 ghost use Rattle.std.specs.Prelude.{◌≡◌, ◌≤◌, true, IfOk, IsErr};
-ghost use Rattle.vm_disk.specs.Disk.{Goes, Counts, Writes};
+ghost use Rattle.vm_disk.specs.Disk.{Goes, Counts};
 ghost use Rattle.vm_disk.specs.Moments.{OnlyReads};
-ghost use Rattle.vm_block.specs.Selector.{selector_bytes};
+ghost use Rattle.vm_catalog.specs.Calls.{WritesSelector};
 ghost use Rattle.vm_catalog.specs.Catalog.{Selects};
 
-use vm_block::{is_header, read_selector, write_selector};
+use vm_block::{SlotName, is_header, read_selector, write_selector};
 use vm_disk::{DeviceFault, Disk};
 
-/// The slot in use, slot B where true; None where block 0 is no header. It reads block 0, and behind
+/// The slot in use; None where block 0 is no header. It reads block 0, and behind
 /// a header block 1.
-pub fn slot_in_use<D: Disk>(disk: &mut D) -> Result<Option<bool>, DeviceFault>
+pub fn slot_in_use<D: Disk>(disk: &mut D) -> Result<Option<SlotName>, DeviceFault>
     requires { 2 ≤ (D.state disk.old).blocks }
     ensures any { Goes (IsErr result) (D.state disk.old) (D.state disk.new) }
     ensures reads { (D.state disk.new).honest ≡ true
@@ -27,14 +27,13 @@ pub fn slot_in_use<D: Disk>(disk: &mut D) -> Result<Option<bool>, DeviceFault>
     Ok(Some(read_selector(&block)))
 }
 
-/// Makes the selector name a slot, slot B where true. It syncs nothing.
-pub fn select_slot<D: Disk>(disk: &mut D, slot_b: bool) -> Result<(), DeviceFault>
+/// Makes the selector name a slot. It syncs nothing.
+pub fn select_slot<D: Disk>(disk: &mut D, slot_name: SlotName) -> Result<(), DeviceFault>
     requires { 2 ≤ (D.state disk.old).blocks }
     ensures any { Counts 0 result (D.state disk.old) (D.state disk.new) }
-    ensures honest { (D.state disk.new).honest ≡ true
-        → Writes 1 (selector_bytes slot_b) result (D.state disk.old) (D.state disk.new) }
+    ensures honest { WritesSelector result (D.state disk.old) (D.state disk.new) slot_name }
 {
     let mut selector = [0; 4096];
-    write_selector(slot_b, &mut selector);
+    write_selector(slot_name, &mut selector);
     disk.write(1, &selector)
 }

@@ -1,18 +1,14 @@
 //! How new entries take the place of those in use.
-ghost use Rattle.std.specs.Prelude.{◌≡◌, ℕ, ◌+◌, ◌*◌, ◌<◌, ◌≤◌, ◌++◌, true, not, List, [], length, take, drop, slice_index_or, OnOk, IsErr};
+ghost use Rattle.std.specs.Prelude.{◌≡◌, ◌+◌, ◌*◌, ◌<◌, ◌≤◌, ◌++◌, [], length, take, drop, slice_index_or, IsErr};
 ghost use Rattle.vm_disk.specs.Disk.{Goes};
-ghost use Rattle.vm_disk.specs.Moments.{Throughout, Leaves, TouchesOnly};
 ghost use Rattle.vm_block.specs.Padding.{padded};
-ghost use Rattle.vm_block.specs.Slot.{SlotFits, used_blocks};
-ghost use Rattle.vm_block.specs.declared.slot.Entry.{Entry};
-ghost use Rattle.vm_catalog.specs.Place.{blocks_from, region, slot_at};
+ghost use Rattle.vm_block.specs.Slot.{used_blocks};
+ghost use Rattle.vm_catalog.specs.Calls.{CrashLeavesOne, Publishes, PublishesSafely, TouchesSlot, WritesSlot};
 ghost use Rattle.vm_catalog.specs.Written.{slot_blocks, cells, joined};
-ghost use Rattle.vm_catalog.specs.Catalog.{AtRest};
-ghost use Rattle.vm_catalog.specs.Publishing.{IsPublished, IsSafelyPublishing, PublishLeaves};
 
 use crate::place::{MAX_ENTRIES, first_block, used_blocks};
 use crate::selection::select_slot;
-use vm_block::{Entry, SlotHead, write_entry, write_slot_head};
+use vm_block::{Entry, SlotHead, SlotName, write_entry, write_slot_head};
 use vm_disk::{DeviceFault, Disk};
 
 // The head of a slot is its cell 0, and its entries are those from 1 on.
@@ -59,25 +55,21 @@ fn write_block(blocks: u32, entries: &[Entry], index: u32, out: &mut [u8; 4096])
     write_cells(blocks, entries, first, count, out);
 }
 
-/// Writes these entries into a slot, slot B where true: its used blocks, in order, and no other
+/// Writes these entries into a slot: its used blocks, in order, and no other
 /// block. It syncs nothing. `blocks` is the block count of the store, which the slot says.
 pub fn write_slot<D: Disk>(
     disk: &mut D,
-    slot_b: bool,
+    slot_name: SlotName,
     blocks: u32,
     entries: &[Entry],
 ) -> Result<(), DeviceFault>
     requires few { length entries.now ≤ MAX_ENTRIES }
     requires room { 34 ≤ (D.state disk.old).blocks }
     ensures any { Goes (IsErr result) (D.state disk.old) (D.state disk.new) }
-    ensures written { (D.state disk.new).honest ≡ true
-        → OnOk result (blocks_from (D.state disk.new).now.contents (slot_at slot_b) (used_blocks (length entries.now))
-        ≡ slot_blocks blocks entries.now) }
-    ensures moments { (D.state disk.new).honest ≡ true
-        → Throughout (D.state disk.old) (D.state disk.new)
-        (TouchesOnly (region (slot_at slot_b) (used_blocks (length entries.now))) (D.state disk.old).now) }
+    ensures written { WritesSlot result (D.state disk.new) slot_name blocks entries.now }
+    ensures moments { TouchesSlot (D.state disk.old) (D.state disk.new) slot_name entries.now }
 {
-    let first = first_block(slot_b);
+    let first = first_block(slot_name);
     let mut block = [0; 4096];
     for index in 0..used_blocks(entries.len()) {
         write_block(blocks, entries, index, &mut block);
@@ -89,12 +81,12 @@ pub fn write_slot<D: Disk>(
 /// Puts these entries in the place of those in use: writes them into the slot that is not in use,
 /// syncs, makes the selector name that slot, and syncs. It takes no memory and touches no data block.
 ///
-/// `in_use` is the slot that the selector names now (slot B where true), and `blocks` the block count
+/// `in_use` is the slot that the selector names now, and `blocks` the block count
 /// of the store. After an error the old entries or the new ones are in use; only a new look at
 /// the disk tells which.
 pub fn publish<D: Disk>(
     disk: &mut D,
-    in_use: bool,
+    in_use: SlotName,
     blocks: u32,
     entries: &[Entry],
 ) -> Result<(), DeviceFault>
@@ -103,23 +95,15 @@ pub fn publish<D: Disk>(
     ensures any { Goes (IsErr result) (D.state disk.old) (D.state disk.new) }
 
     // At Ok the new entries alone are named, no block is dirty, and the data blocks are as they were.
-    ensures done { (D.state disk.new).honest ≡ true → (limit : ℕ) (es : List Entry)
-        → AtRest in_use (D.state disk.old).now limit es → SlotFits blocks entries.now
-        → OnOk result (IsPublished (not in_use) (D.state disk.old).now (D.state disk.new).now blocks entries.now) }
+    ensures done { Publishes (D.state disk.old) (D.state disk.new) in_use blocks entries.now result }
 
     // At each moment what the selector may name is whole and clean, and nothing writes it.
-    ensures moments { (D.state disk.new).honest ≡ true → (limit : ℕ) (es : List Entry)
-        → AtRest in_use (D.state disk.old).now limit es → SlotFits blocks entries.now
-        → Throughout (D.state disk.old) (D.state disk.new)
-        (IsSafelyPublishing in_use (D.state disk.old).now limit es blocks entries.now) }
+    ensures moments { PublishesSafely (D.state disk.old) (D.state disk.new) in_use blocks entries.now }
 
     // So a crash at any moment leaves the old entries or the new, with their data blocks.
-    ensures any_moment { (D.state disk.new).honest ≡ true → (limit : ℕ) (es : List Entry)
-        → AtRest in_use (D.state disk.old).now limit es → SlotFits blocks entries.now
-        → Throughout (D.state disk.old) (D.state disk.new)
-        (Leaves (PublishLeaves (D.state disk.old).now limit es blocks entries.now)) }
+    ensures any_moment { CrashLeavesOne (D.state disk.old) (D.state disk.new) in_use blocks entries.now }
 {
-    let free = !in_use;
+    let free = in_use.other();
     write_slot(disk, free, blocks, entries)?;
     disk.sync()?;
     select_slot(disk, free)?;

@@ -56,7 +56,7 @@ module _ {D : Type 0} {members : _} where
   same_store store = record {
     alloc = refl;
     blocks = refl;
-    slot_b = refl;
+    slot_name = refl;
     entries = refl;
     committed = refl;
     working = refl;

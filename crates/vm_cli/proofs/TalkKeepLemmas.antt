@@ -76,7 +76,7 @@ module _ {D : Type 0} {members : _} where
 
   -- before a command a crash shows what is committed
   stands_show : (store : Store D members) (s : State) → Holds store s → ShowsCommitted s (members.state store.disk).now
-  stands_show store s holds = rests_show (members.state store.disk).now store.blocks store.slot_b store.held store.committed store.working s holds.rests
+  stands_show store s holds = rests_show (members.state store.disk).now store.blocks store.slot_name store.held store.committed store.working s holds.rests
 
   module _ (start : DiskState) (s : State) where
     -- the lines so far, up to this store

@@ -9,5 +9,3 @@ pub mod PayLemmas
 pub mod StepLemmas
 pub mod SkipLemmas
 pub mod CompareLemmas
-pub mod MergingLemmas
-pub mod SettledLemmas

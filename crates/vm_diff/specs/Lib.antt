@@ -6,4 +6,3 @@ pub mod Opened
 pub mod Shared
 pub mod Differ
 pub mod Steps
-pub mod Merging

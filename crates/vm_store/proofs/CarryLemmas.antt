@@ -9,6 +9,7 @@ use Rattle.vm_types.specs.Kept.{LeftBy}
 use Rattle.vm_disk.specs.Disk.{DiskState}
 use Rattle.vm_disk.specs.Moments.{Leaves, OnlyReads, Throughout, TouchesOnly}
 use Rattle.vm_disk.proofs.MomentLemmas.{started, weaken, spares_itself, reads_first}
+use Rattle.vm_block.specs.declared.selector.SlotName.{SlotName}
 use Rattle.vm_alloc.specs.Held.{HoldsMore}
 use Rattle.vm_alloc.proofs.HeldLemmas.{holds_more_then}
 use Rattle.vm_tree.specs.Free.{is_free}
@@ -24,33 +25,33 @@ use Rattle.vm_store.proofs.RestingLemmas.{shows_old}
 module _ {D : Type 0} {members : _} (old new : Store D members) (s : State) (holds : Holds old s) (command : Command) (answer : Result Answer Refusal) (due : Answers old new s holds command answer)
   where
     -- calls that read, and then calls that touch no block of what was committed
-    pub spared : {limit : ℕ} {slot_b : Bool} {bits : List Bool} {committed working : List Version} (mid : DiskState) → OnlyReads (members.state old.disk) mid
-        → (stood : State) → committed_of stood ≡ committed_of s → Rests mid.now limit slot_b bits committed working stood
+    pub spared : {limit : ℕ} {slot_name : SlotName} {bits : List Bool} {committed working : List Version} (mid : DiskState) → OnlyReads (members.state old.disk) mid
+        → (stood : State) → committed_of stood ≡ committed_of s → Rests mid.now limit slot_name bits committed working stood
         → Throughout mid (members.state new.disk) (TouchesOnly (is_free bits) mid.now) → HoldsMore bits new.held → (answer ≢ Err Device → Holds new (next s command answer)) → Carries old new s holds command answer
-    spared {limit} {slot_b} {bits} {committed} {working} mid reads stood same rests moments still state =
+    spared {limit} {slot_name} {bits} {committed} {working} mid reads stood same rests moments still state =
         let P = TouchesOnly (is_free bits) mid.now in
         let Q = Leaves (LeftBy Shows s command) in
         record {
           answers = due;
           state = state;
-          crash = reads_first _ _ _ Q reads (weaken _ _ P Q (λ m spares left may. inl (subst (Shows left) same (shows_old mid.now limit slot_b bits committed working stood rests m spares left may))) moments);
-          guarded = reads_first _ _ _ (IsGuarded new.held) reads (weaken _ _ P (IsGuarded new.held) (λ m spares. guarded_on mid.now limit slot_b bits committed working stood rests m new.held spares still) moments);
+          crash = reads_first _ _ _ Q reads (weaken _ _ P Q (λ m spares left may. inl (subst (Shows left) same (shows_old mid.now limit slot_name bits committed working stood rests m spares left may))) moments);
+          guarded = reads_first _ _ _ (IsGuarded new.held) reads (weaken _ _ P (IsGuarded new.held) (λ m spares. guarded_on mid.now limit slot_name bits committed working stood rests m new.held spares still) moments);
         }
 
     -- calls that read, and then calls that write free blocks alone
-    pub wrote : {limit : ℕ} {slot_b : Bool} {bits : List Bool} {committed working : List Version} (mid : DiskState) → OnlyReads (members.state old.disk) mid → Rests mid.now limit slot_b bits committed working s
+    pub wrote : {limit : ℕ} {slot_name : SlotName} {bits : List Bool} {committed working : List Version} (mid : DiskState) → OnlyReads (members.state old.disk) mid → Rests mid.now limit slot_name bits committed working s
         → Throughout mid (members.state new.disk) (TouchesOnly (is_free bits) mid.now) → HoldsMore bits new.held → (answer ≢ Err Device → Holds new (next s command answer)) → Carries old new s holds command answer
     wrote mid reads rests moments still state = spared mid reads s refl rests moments still state
 
     -- calls that read, and then changes of a series
-    pub changed : {limit : ℕ} {slot_b : Bool} {bits before : List Bool} {committed working : List Version} {alt : List ℕ} (mid : DiskState) → OnlyReads (members.state old.disk) mid
-        → IsInSeries alt mid.now limit slot_b bits before committed working s
+    pub changed : {limit : ℕ} {slot_name : SlotName} {bits before : List Bool} {committed working : List Version} {alt : List ℕ} (mid : DiskState) → OnlyReads (members.state old.disk) mid
+        → IsInSeries alt mid.now limit slot_name bits before committed working s
         → Throughout mid (members.state new.disk) (TouchesOnly (is_free before) mid.now) → HoldsMore bits new.held → (answer ≢ Err Device → Holds new (next s command answer)) → Carries old new s holds command answer
     changed {alt = alt} mid reads series moments still state =
         spared mid reads (state_aside alt s) refl series.others moments (holds_more_then _ _ _ series.wider still) state
 
     -- calls that read
-    pub looked : {limit : ℕ} {slot_b : Bool} {committed working : List Version} → OnlyReads (members.state old.disk) (members.state new.disk) → Rests (members.state new.disk).now limit slot_b new.held committed working s
+    pub looked : {limit : ℕ} {slot_name : SlotName} {committed working : List Version} → OnlyReads (members.state old.disk) (members.state new.disk) → Rests (members.state new.disk).now limit slot_name new.held committed working s
         → (answer ≢ Err Device → Holds new (next s command answer)) → Carries old new s holds command answer
     looked reads rests state =
         wrote (members.state new.disk) reads rests (started _ _ (spares_itself (is_free new.held) _)) (record { same_length = refl; still = λ n h. h }) state

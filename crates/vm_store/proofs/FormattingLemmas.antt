@@ -9,7 +9,8 @@ use Rattle.vm_disk.specs.Disk.{Contents, DiskState, IsClean, Medium, Syncs, Writ
 use Rattle.vm_disk.specs.declared.disk.DeviceFault.{DeviceFault}
 use Rattle.vm_disk.specs.Moments.{Leaves, TouchesOnly}
 use Rattle.vm_block.specs.Header.{IsHeader}
-use Rattle.vm_block.specs.Selector.{names_b, selector_bytes}
+use Rattle.vm_block.specs.Selector.{named_slot, selector_bytes}
+use Rattle.vm_block.specs.declared.selector.SlotName.TheVariants.{A}
 use Rattle.vm_block.specs.Slot.{SlotFits, IsSlot, used_blocks}
 use Rattle.vm_tree.specs.Root.{IsRootedIn}
 use Rattle.vm_tree.specs.declared.root.Root.{Root}
@@ -87,9 +88,9 @@ one_filed x limit (v ∷ []) (f ∷ []) is s =
         ∙ ap (λ (b : Map). record f { kind = kind.Alternative; name = fresh_entry.name; owner = None; current = []; base = b }) b
 
 -- where slot A holds the one entry of a new store, and is named, only a new store can be shown
-pub only_fresh : (x : Contents) (blocks : ℕ) → selected x ≡ false → SlotAt x false blocks (fresh_entry ∷ []) → ShowsAtMostNew blocks x
+pub only_fresh : (x : Contents) (blocks : ℕ) → selected x ≡ A → SlotAt x A blocks (fresh_entry ∷ []) → ShowsAtMostNew blocks x
 only_fresh x blocks in_use slot seen shown =
-    let same = slot_one x false seen.blocks blocks (slot_entries shown.versions) (fresh_entry ∷ []) (subst (λ b. SlotAt x b seen.blocks (slot_entries shown.versions)) in_use shown.names.slot) slot in
+    let same = slot_one x A seen.blocks blocks (slot_entries shown.versions) (fresh_entry ∷ []) (subst (λ b. SlotAt x b seen.blocks (slot_entries shown.versions)) in_use shown.names.slot) slot in
     let tree : seen.tree ≡ fresh = sym shown.gives ∙ one_filed x seen.blocks shown.versions shown.filed same.1 shown.stands in
     ap (λ (t : Tree). record { tree = t; blocks = seen.blocks }) tree ∙ ap new_store same.0
 
@@ -101,8 +102,8 @@ pub record KeepsRest (old m : Medium) : Type 0 where
 
 rest_fresh : (blocks : ℕ) (old : Medium) (x : Contents) → IsLaidOut blocks old → ((n : ℕ) → n ≢ 0 → block x n ≡ block old.contents n) → ShowsAtMostNew blocks x
 rest_fresh blocks old x laid same =
-    only_fresh x blocks (ap (λ b. names_b b) (same 1 (λ (e : 1 ≡ 0). omega arith)) ∙ laid.selected)
-    (slot_in old.contents x false blocks (fresh_entry ∷ []) (λ n low high. same n (λ (e : n ≡ 0). omega (arith, low))) laid.slot)
+    only_fresh x blocks (ap (λ b. named_slot b) (same 1 (λ (e : 1 ≡ 0). omega arith)) ∙ laid.selected)
+    (slot_in old.contents x A blocks (fresh_entry ∷ []) (λ n low high. same n (λ (e : n ≡ 0). omega (arith, low))) laid.slot)
 
 pub at_header : (blocks : ℕ) (old m : Medium) → IsLaidOut blocks old → KeepsRest old m → Leaves (ShowsAtMostNew blocks) m
 at_header blocks old m laid keeps left may = rest_fresh blocks old left laid (λ n other. may.clean n (keeps.clean n other) ∙ keeps.same n other)
@@ -121,8 +122,8 @@ formatted_now blocks (Err e) old mid new laid keeps header inside sync = tt
 formatted_now blocks (Ok y) old mid new laid keeps header inside sync =
     let x = new.now.contents in
     let same : (n : ℕ) → n ≢ 0 → block x n ≡ block old.contents n = λ n other. ap (λ (x : Contents). block x n) sync.same ∙ keeps.same n other in
-    let in_use : selected x ≡ false = ap (λ b. names_b b) (same 1 (λ (e : 1 ≡ 0). omega arith)) ∙ laid.selected in
-    let slot : SlotAt x false blocks (fresh_entry ∷ []) = slot_in old.contents x false blocks (fresh_entry ∷ []) (λ n low high. same n (λ (e : n ≡ 0). omega (arith, low))) laid.slot in
+    let in_use : selected x ≡ A = ap (λ b. named_slot b) (same 1 (λ (e : 1 ≡ 0). omega arith)) ∙ laid.selected in
+    let slot : SlotAt x A blocks (fresh_entry ∷ []) = slot_in old.contents x A blocks (fresh_entry ∷ []) (λ n low high. same n (λ (e : n ≡ 0). omega (arith, low))) laid.slot in
     record {
       shown = record {
         versions = fresh_version ∷ [];
@@ -141,18 +142,18 @@ formatted_now blocks (Ok y) old mid new laid keeps header inside sync =
 -- the slot and the selector are written, and synced
 pub laid_now : {T : Type 0} (blocks : ℕ) (es : List Entry) (result : Result T DeviceFault) (written chosen new : DiskState) {U : Type 0} (select : Result U DeviceFault) (u : U) → es ≡ fresh_entry ∷ []
     → SlotFits blocks (fresh_entry ∷ [])
-    → blocks_from written.now.contents 2 (used_blocks (length es)) ≡ slot_blocks blocks es → select ≡ Ok u → Writes 1 (selector_bytes false) select written chosen → Syncs result chosen new → OnOk result (IsLaidOut blocks new.now)
+    → blocks_from written.now.contents 2 (used_blocks (length es)) ≡ slot_blocks blocks es → select ≡ Ok u → Writes 1 (selector_bytes A) select written chosen → Syncs result chosen new → OnOk result (IsLaidOut blocks new.now)
 laid_now blocks es (Err e) written chosen new select u is fits slot ok writes sync = tt
 laid_now blocks es (Ok y) written chosen new (Err e) u is fits slot ok writes sync = cc
 laid_now blocks es (Ok y) written chosen new (Ok v) u is fits slot ok writes sync =
     let x = new.now.contents in
     let same : (n : ℕ) → n ≢ 1 → block x n ≡ block written.now.contents n = λ n other. ap (λ (x : Contents). block x n) sync.same ∙ writes.others n other in
-    let there : SlotAt written.now.contents false blocks (fresh_entry ∷ []) =
+    let there : SlotAt written.now.contents A blocks (fresh_entry ∷ []) =
     subst (λ (bs : List (List ℕ)). IsSlot bs blocks (fresh_entry ∷ []))
     (sym (subst (λ (l : List Entry). blocks_from written.now.contents 2 (used_blocks (length l)) ≡ slot_blocks blocks l) is slot)) (written_slot blocks (fresh_entry ∷ []) fits) in
     record {
-      selected = ap (λ b. names_b b) (ap (λ (x : Contents). block x 1) sync.same ∙ writes.written) ∙ written_selector false;
-      slot = slot_in written.now.contents x false blocks (fresh_entry ∷ []) (λ n low high. same n (λ (e : n ≡ 1). omega (arith, low))) there;
+      selected = ap (λ b. named_slot b) (ap (λ (x : Contents). block x 1) sync.same ∙ writes.written) ∙ written_selector A;
+      slot = slot_in written.now.contents x A blocks (fresh_entry ∷ []) (λ n low high. same n (λ (e : n ≡ 1). omega (arith, low))) there;
       clean = sync.synced;
     }
 

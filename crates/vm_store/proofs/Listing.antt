@@ -5,6 +5,7 @@ use Rattle.vm_types.specs.declared.refusal.Refusal.TheVariants.{NoSuchAlternativ
 use Rattle.vm_types.specs.Map.{Map}
 use Rattle.vm_types.specs.State.{State}
 use Rattle.vm_disk.specs.Disk.{Medium}
+use Rattle.vm_block.specs.declared.selector.SlotName.{SlotName}
 use Rattle.vm_store.specs.Versions.{is_alternative_of}
 use Rattle.vm_store.specs.declared.version.Version.{Version}
 use Rattle.vm_store.specs.Faults.{refusal_of}
@@ -16,19 +17,19 @@ use Rattle.vm_tree.specs.declared.root.TreeFault.{TreeFault}
 use Rattle.vm_tree.specs.declared.root.TreeFault.TheVariants as fault
 use Rattle.vm_store.proofs.RestingLemmas.{found_entry, named_as, unnamed}
 
-module _ (m : Medium) (limit : ℕ) (slot_b : Bool) (bits : List Bool) (committed working : List Version) (s : State)
-    (rests : Rests m limit slot_b bits committed working s) (name : List ℕ) where
+module _ (m : Medium) (limit : ℕ) (slot_name : SlotName) (bits : List Bool) (committed working : List Version) (s : State)
+    (rests : Rests m limit slot_name bits committed working s) (name : List ℕ) where
   -- the records of an alternative that was found
   pub records_found : (e : Version) (is : find (is_alternative_of name) working ≡ Some e) (records : Map)
-      → records ≡ (found_entry m limit slot_b bits committed working s rests name e is).filed.current → records_in s.working name ≡ Ok records
+      → records ≡ (found_entry m limit slot_name bits committed working s rests name e is).filed.current → records_in s.working name ≡ Ok records
   records_found e is records same =
-      let found = found_entry m limit slot_b bits committed working s rests name e is in
-      let as_named = named_as m limit slot_b bits committed working s rests name found.filed found.found in
+      let found = found_entry m limit slot_name bits committed working s rests name e is in
+      let as_named = named_as m limit slot_name bits committed working s rests name found.filed found.found in
       ap records_of as_named.named ∙ ap Ok (as_named.current ∙ sym same)
 
   -- there is no such alternative
   pub records_absent : find (is_alternative_of name) working ≡ None → records_in s.working name ≡ Err NoSuchAlternative
-  records_absent none = ap records_of (unnamed m limit slot_b bits committed working s rests name none)
+  records_absent none = ap records_of (unnamed m limit slot_name bits committed working s rests name none)
 
 -- a list that was refused for the device or for memory
 pub list_refused : {T : Type 0} (f : TreeFault) (r : Refusal) (P : T → Type 0) (due : Type 0) → r ≡ refusal_of f → Lists (Err f) P → (r ≡ Device) ⊎ ((r ≡ Memory) ⊎ due)

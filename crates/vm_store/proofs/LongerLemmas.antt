@@ -16,7 +16,8 @@ use Rattle.vm_disk.specs.Moments.{Leaves, Throughout}
 use Rattle.vm_disk.proofs.MomentLemmas.{goes_on, spares_itself, started}
 use Rattle.vm_alloc.specs.Held.{IsHeld}
 use Rattle.vm_alloc.proofs.HeldLemmas.{held_inside}
-use Rattle.vm_block.specs.Selector.{names_b}
+use Rattle.vm_block.specs.Selector.{named_slot}
+use Rattle.vm_block.specs.declared.selector.SlotName.{SlotName}
 use Rattle.vm_tree.specs.Tree.{IsData}
 use Rattle.vm_catalog.specs.Place.{is_used}
 use Rattle.vm_catalog.proofs.PublishLemmas.{names_in}
@@ -48,14 +49,14 @@ growing_keeps old new Q larger first last = goes_on old old new Q (started old Q
 
 -- ---- what a store stands for
 
-module _ (old new : Medium) (longer : Lengthens old new) (limit more : ℕ) (slot_b : Bool) (bits after : List Bool) (committed working : List Version) (s : State)
-    (rests : Rests old limit slot_b bits committed working s) (still : (n : ℕ) → IsHeld bits n → IsHeld after n)
+module _ (old new : Medium) (longer : Lengthens old new) (limit more : ℕ) (slot_name : SlotName) (bits after : List Bool) (committed working : List Version) (s : State)
+    (rests : Rests old limit slot_name bits committed working s) (still : (n : ℕ) → IsHeld bits n → IsHeld after n)
     (few : limit ≤ more) (inside : more ≤ length new.contents) (most : more ≤ 2 ^ 20) where
   -- the blocks of the slot in use were there before
-  used_inside : (n : ℕ) → is_used slot_b (length (slot_entries committed)) n ≡ true → n < length old.contents
+  used_inside : (n : ℕ) → is_used slot_name (length (slot_entries committed)) n ≡ true → n < length old.contents
   used_inside n used =
       let head = rests.rest.names.slot.fits.head in
-      let low : n < 34 = used_low slot_b (length (slot_entries committed)) n head.few used in
+      let low : n < 34 = used_low slot_name (length (slot_entries committed)) n head.few used in
       omega (arith, low, head.least, rests.fewer, rests.inside)
 
   first_inside : 1 < length old.contents
@@ -68,7 +69,7 @@ module _ (old new : Medium) (longer : Lengthens old new) (limit more : ℕ) (slo
   new_inside n place = omega (arith, place.1, rests.inside)
 
   -- where all that was held is held, the store stands for the same, with so many blocks
-  pub rests_longer : Rests new more slot_b after committed working (record s { blocks = more })
+  pub rests_longer : Rests new more slot_name after committed working (record s { blocks = more })
   rests_longer = record {
     old = rests.old;
     new = rests.new;
@@ -78,8 +79,8 @@ module _ (old new : Medium) (longer : Lengthens old new) (limit more : ℕ) (slo
     sure = omega (arith, rests.sure, longer.sure);
     system = λ n low. still n (rests.system n low);
     rest = record {
-      names = names_in old.contents new.contents slot_b s.kept (slot_entries committed) (λ n used. longer.same n (used_inside n used)) rests.rest.in_use rests.rest.names;
-      in_use = ap (λ b. names_b b) (longer.same 1 first_inside) ∙ rests.rest.in_use;
+      names = names_in old.contents new.contents slot_name s.kept (slot_entries committed) (λ n used. longer.same n (used_inside n used)) rests.rest.in_use rests.rest.names;
+      in_use = ap (λ b. named_slot b) (longer.same 1 first_inside) ∙ rests.rest.in_use;
       clean = λ n used. longer.same_dirty n (used_inside n used) ∙ rests.rest.clean n used;
     };
     fits = record {
@@ -99,25 +100,25 @@ module _ (old new : Medium) (longer : Lengthens old new) (limit more : ℕ) (slo
 
 -- ---- moment by moment
 
-module _ (old new : DiskState) (larger : Enlarges old new) (limit : ℕ) (slot_b : Bool) (bits : List Bool) (committed working : List Version) (s : State)
-    (rests : Rests old.now limit slot_b bits committed working s) where
+module _ (old new : DiskState) (larger : Enlarges old new) (limit : ℕ) (slot_name : SlotName) (bits : List Bool) (committed working : List Version) (s : State)
+    (rests : Rests old.now limit slot_name bits committed working s) where
   -- what rests on the longer disk, with as many blocks and other bits
-  as_many : (m : Medium) → Lengthens old.now m → (after : List Bool) → ((n : ℕ) → IsHeld bits n → IsHeld after n) → Rests m limit slot_b after committed working (record s { blocks = limit })
+  as_many : (m : Medium) → Lengthens old.now m → (after : List Bool) → ((n : ℕ) → IsHeld bits n → IsHeld after n) → Rests m limit slot_name after committed working (record s { blocks = limit })
   as_many m longer after still =
-      rests_longer old.now m longer limit limit slot_b bits after committed working s rests still (omega arith) (omega (arith, rests.inside, longer.more)) rests.fits.head.most
+      rests_longer old.now m longer limit limit slot_name bits after committed working s rests still (omega arith) (omega (arith, rests.inside, longer.more)) rests.fits.head.most
 
   -- a crash leaves what was committed
   pub longer_crash : (command : Command) → Throughout old new (Leaves (LeftBy Shows s command))
   longer_crash command =
       let shown : (m : Medium) → Lengthens old.now m → Leaves (LeftBy Shows s command) m =
-      λ m longer left may. inl (shows_old m limit slot_b bits committed working (record s { blocks = limit }) (as_many m longer bits (λ n held. held)) m (spares_itself _ m) left may) in
+      λ m longer left may. inl (shows_old m limit slot_name bits committed working (record s { blocks = limit }) (as_many m longer bits (λ n held. held)) m (spares_itself _ m) left may) in
       growing_keeps old new (Leaves (LeftBy Shows s command)) larger (shown old.now (longer_itself old.now)) (shown new.now larger.longer)
 
   -- the slots that it may leave in use stay whole
   pub longer_guarded : (after : List Bool) → ((n : ℕ) → IsHeld bits n → IsHeld after n) → Throughout old new (IsGuarded after)
   longer_guarded after still =
       let whole : (m : Medium) → Lengthens old.now m → IsGuarded after m =
-      λ m longer. guarded_at_rest m limit slot_b after committed working (record s { blocks = limit }) (as_many m longer after still) in
+      λ m longer. guarded_at_rest m limit slot_name after committed working (record s { blocks = limit }) (as_many m longer after still) in
       growing_keeps old new (IsGuarded after) larger (whole old.now (longer_itself old.now)) (whole new.now larger.longer)
 
 -- what is held is held in a longer list
@@ -135,8 +136,8 @@ grow_is_accepted s blocks result good due = subst (λ (o : Outcome). IsGrowDue o
 
 -- ---- the same store, with fields of its own
 
-pub rests_renamed : (m : Medium) (limit : ℕ) (slot_b other : Bool) (bits : List Bool) (committed working old new : List Version) (s : State) → other ≡ slot_b → old ≡ committed → new ≡ working
-    → Rests m limit slot_b bits committed working s → Rests m limit other bits old new s
-rests_renamed m limit slot_b other bits committed working old new s slot first second rests =
+pub rests_renamed : (m : Medium) (limit : ℕ) (slot_name other : SlotName) (bits : List Bool) (committed working old new : List Version) (s : State) → other ≡ slot_name → old ≡ committed → new ≡ working
+    → Rests m limit slot_name bits committed working s → Rests m limit other bits old new s
+rests_renamed m limit slot_name other bits committed working old new s slot first second rests =
     subst (λ b. Rests m limit b bits old new s) (sym slot)
-    (subst (λ (vs : List Version). Rests m limit slot_b bits vs new s) (sym first) (subst (λ (vs : List Version). Rests m limit slot_b bits committed vs s) (sym second) rests))
+    (subst (λ (vs : List Version). Rests m limit slot_name bits vs new s) (sym first) (subst (λ (vs : List Version). Rests m limit slot_name bits committed vs s) (sym second) rests))

@@ -8,6 +8,7 @@ use Rattle.vm_alloc.specs.Held.{is_held, IsHeld, free_count}
 use Rattle.vm_alloc.specs.Marks.{is_marked, IsMarked}
 use Rattle.vm_tree.specs.Tree.{IsData}
 use Rattle.vm_block.proofs.EachLemmas.{each_so, each_join, each_front, each_back}
+use Rattle.vm_block.specs.declared.selector.SlotName.{SlotName}
 use Rattle.std.proofs.lemmas.List.{length-replicate}
 use Rattle.vm_check.specs.Marking.{IsClosed, MarksMore}
 use Rattle.vm_check.proofs.MarkLemmas.{more_then}
@@ -19,8 +20,8 @@ use Rattle.vm_store.proofs.MarkingLemmas.{none_marked, any_contained, standing_r
 use Rattle.vm_store.proofs.SpareLemmas.{free-spare, free-le-spare, any_of}
 use Rattle.vm_store.proofs.StandingLemmas.{standing_in, standing_data, standing_and, reach_each}
 
-module _ (m : Medium) (limit : ℕ) (slot_b : Bool) (bits : List Bool) (committed working : List Version) (s : State)
-    (many : length bits ≡ limit) (rests : Rests m limit slot_b bits committed working s) where
+module _ (m : Medium) (limit : ℕ) (slot_name : SlotName) (bits : List Bool) (committed working : List Version) (s : State)
+    (many : length bits ≡ limit) (rests : Rests m limit slot_name bits committed working s) where
   -- all that is reached is held, and so no more blocks are free than are spare
   pub free_at_most : free_count bits ≤ spare_of rests
   free_at_most =
@@ -59,7 +60,7 @@ module _ (m : Medium) (limit : ℕ) (slot_b : Bool) (bits : List Bool) (committe
       free_exactly = free-spare after limit reached many' system' (λ n far. replaced n far ∙ same_flags n)
 
       -- a marking changes nothing of what the store stands for
-      pub rests_marked : Rests m limit slot_b after committed working s
+      pub rests_marked : Rests m limit slot_name after committed working s
       rests_marked = record {
         old = rests.old;
         new = rests.new;
@@ -84,8 +85,8 @@ module _ (m : Medium) (limit : ℕ) (slot_b : Bool) (bits : List Bool) (committe
 
 -- ---- the two markings
 
-module _ (m : Medium) (limit : ℕ) (slot_b : Bool) (bits : List Bool) (committed working : List Version) (s : State)
-    (rests : Rests m limit slot_b bits committed working s)
+module _ (m : Medium) (limit : ℕ) (slot_name : SlotName) (bits : List Bool) (committed working : List Version) (s : State)
+    (rests : Rests m limit slot_name bits committed working s)
     (marks cleared : List Bool) (count : length marks ≡ limit) (clear : cleared ≡ replicate (length marks) false) (lent : List Version) (same : lent ≡ committed) where
   is_clear : cleared ≡ replicate limit false
   is_clear = clear ∙ ap (λ n. replicate n false) count

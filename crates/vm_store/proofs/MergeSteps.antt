@@ -22,6 +22,7 @@ use Rattle.vm_disk.specs.Moments.{TouchesOnly}
 use Rattle.vm_alloc.specs.Held.{IsHeld, HoldsMore}
 use Rattle.vm_block.specs.Slot as slot
 use Rattle.vm_block.specs.Slot.{SlotFits}
+use Rattle.vm_block.specs.declared.selector.SlotName.{SlotName}
 use Rattle.vm_tree.specs.Free.{is_free}
 use Rattle.vm_tree.specs.Root.{IsRootedIn}
 use Rattle.vm_tree.specs.declared.root.Root.{Root}
@@ -92,16 +93,16 @@ module _ (s : State) (spare : ℕ) (deep : Type 0) (alt : List ℕ) (settled : L
 
 -- ---- a Merge of an alternative that has a parent
 
-module _ (m : Medium) (limit : ℕ) (slot_b : Bool) (bits : List Bool) (committed working : List Version) (s : State)
-    (rests : Rests m limit slot_b bits committed working s) (alt : List ℕ) (pair : Version × Version) (is : IsPair working alt pair) (settled : List (Key × Side)) where
+module _ (m : Medium) (limit : ℕ) (slot_name : SlotName) (bits : List Bool) (committed working : List Version) (s : State)
+    (rests : Rests m limit slot_name bits committed working s) (alt : List ℕ) (pair : Version × Version) (is : IsPair working alt pair) (settled : List (Key × Side)) where
   abbrev own : Map
-  own = own_map m limit slot_b bits committed working s rests alt pair is
+  own = own_map m limit slot_name bits committed working s rests alt pair is
 
   abbrev parent : Map
-  parent = parent_map m limit slot_b bits committed working s rests alt pair is
+  parent = parent_map m limit slot_name bits committed working s rests alt pair is
 
   abbrev base : Map
-  base = base_map m limit slot_b bits committed working s rests alt pair is
+  base = base_map m limit slot_name bits committed working s rests alt pair is
 
   abbrev pub merged : Map
   merged = merge base parent own settled
@@ -109,15 +110,15 @@ module _ (m : Medium) (limit : ℕ) (slot_b : Bool) (bits : List Bool) (committe
   abbrev pub merged_tree : Tree
   merged_tree = changed s.working alt (λ x. record x { current = merged; base = parent })
 
-  own_is : named s.working alt ≡ Some (whole alt rests.new (own_there m limit slot_b bits committed working s rests alt pair is).filed)
-  own_is = (own_there m limit slot_b bits committed working s rests alt pair is).is
+  own_is : named s.working alt ≡ Some (whole alt rests.new (own_there m limit slot_name bits committed working s rests alt pair is).filed)
+  own_is = (own_there m limit slot_name bits committed working s rests alt pair is).is
 
   pub merge_refusal : (r : Refusal) → refusal_in base parent own settled ≡ Some r → step s.working (Merge alt settled) ≡ Err r
   merge_refusal r one =
-      merge_refused s.working alt _ own_is pair.1.name _ (under m limit slot_b bits committed working s rests alt pair is) (parent_there m limit slot_b bits committed working s rests alt pair is).is settled r one
+      merge_refused s.working alt _ own_is pair.1.name _ (under m limit slot_name bits committed working s rests alt pair is) (parent_there m limit slot_name bits committed working s rests alt pair is).is settled r one
 
   own_rises : IsMap own
-  own_rises = let at = (own_there m limit slot_b bits committed working s rests alt pair is).stands.current in rooted_map m.contents limit pair.0.current own at.stands_in at.rooted
+  own_rises = let at = (own_there m limit slot_name bits committed working s rests alt pair is).stands.current in rooted_map m.contents limit pair.0.current own at.stands_in at.rooted
 
   -- a tree of the own map with the changes made is one of the merged map
   pub made_of : (P : ℕ → Type 0) (x : Contents) (size : ℕ) (root : Root) (changes : List Change) → changes ≡ delta own merged → IsRootedIn sizes P x size root (with_changes own changes) → IsRootedIn sizes P x size root merged
@@ -127,7 +128,7 @@ module _ (m : Medium) (limit : ℕ) (slot_b : Bool) (bits : List Bool) (committe
   module _ (all : refusal_in base parent own settled ≡ None) where
     pub merge_step : step s.working (Merge alt settled) ≡ Ok (merged_tree, Merged (length (delta own merged)))
     merge_step =
-        merge_accepted s.working alt _ own_is pair.1.name _ (under m limit slot_b bits committed working s rests alt pair is) (parent_there m limit slot_b bits committed working s rests alt pair is).is settled all
+        merge_accepted s.working alt _ own_is pair.1.name _ (under m limit slot_name bits committed working s rests alt pair is) (parent_there m limit slot_name bits committed working s rests alt pair is).is settled all
 
     pub current_is : current_of s.working alt ≡ own
     current_is = ap (λ o. unwrap_or (option_map (λ (a : Alternative). a.current) o) []) own_is
@@ -148,21 +149,21 @@ module _ (m : Medium) (limit : ℕ) (slot_b : Bool) (bits : List Bool) (committe
     parent_small = (fits_of (standing rests) (is_alternative_of pair.1.name) (slot.is_alternative_of pair.1.name) (λ v. refl) pair.1 is.parent).current
 
     pub merge_rests : (now : Medium) (after : List Bool) (root : Root) → root.block < 2 ^ 32 → TouchesOnly (is_free bits) m now → HoldsMore bits after → IsRootedIn sizes (IsHeld after) now.contents limit root merged
-        → Rests now limit slot_b after committed (change_first (is_alternative_of alt) (with_base pair.1.current) (change_first (is_alternative_of alt) (with_current root) working)) (next s (Merge alt settled) (Ok (Merged (length (delta own merged)))))
+        → Rests now limit slot_name after committed (change_first (is_alternative_of alt) (with_base pair.1.current) (change_first (is_alternative_of alt) (with_current root) working)) (next s (Merge alt settled) (Ok (Merged (length (delta own merged)))))
     merge_rests now after root small spares more new =
         let first = change_first (is_filed alt) (refiled (λ _. merged)) rests.new in
         let turned = change_first (is_alternative_of alt) (with_current root) working in
         let both = change_first (is_alternative_of alt) (with_base pair.1.current) turned in
-        let above = grown_in (IsHeld bits) (IsHeld after) m.contents now.contents limit (λ n held. spares.same n (ap not held)) more.still pair.1.current parent (parent_there m limit slot_b bits committed working s rests alt pair is).stands.current in
-        subst (λ (t : Tree). Rests now limit slot_b after committed both (record s { working = t })) (sym (ap (tree_after s.working) merge_step))
-        (rests_on m limit slot_b bits committed working s rests now after both (change_first (is_filed alt) (refiled_both (λ c. c) (λ _. parent)) first) merged_tree spares more
+        let above = grown_in (IsHeld bits) (IsHeld after) m.contents now.contents limit (λ n held. spares.same n (ap not held)) more.still pair.1.current parent (parent_there m limit slot_name bits committed working s rests alt pair is).stands.current in
+        subst (λ (t : Tree). Rests now limit slot_name after committed both (record s { working = t })) (sym (ap (tree_after s.working) merge_step))
+        (rests_on m limit slot_name bits committed working s rests now after both (change_first (is_filed alt) (refiled_both (λ c. c) (λ _. parent)) first) merged_tree spares more
         (subst (SlotFits limit) (sym (slot_changed (is_alternative_of alt) (slot.is_alternative_of alt) (λ v. refl) (with_base pair.1.current) (ledger.with_base pair.1.current.block) (λ v. refl) turned))
-        (fits_alike limit (slot_entries turned) _ (alike_based alt pair.1.current.block parent_small (not_top m limit slot_b bits committed working s rests alt pair is) (slot_entries turned))
+        (fits_alike limit (slot_entries turned) _ (alike_based alt pair.1.current.block parent_small (not_top m limit slot_name bits committed working s rests alt pair is) (slot_entries turned))
         (subst (SlotFits limit) (sym (slot_changed (is_alternative_of alt) (slot.is_alternative_of alt) (λ v. refl) (with_current root) (ledger.with_current root.block) (λ v. refl) working))
         (fits_alike limit (slot_entries working) _ (alike_turned (slot.is_alternative_of alt) root.block small (slot_entries working)) rests.fits))))
         (standing_first (IsHeld after) now.contents limit (is_alternative_of alt) (is_filed alt) (agree_alternative (IsHeld after) now.contents limit alt) (with_base pair.1.current) (refiled_both (λ c. c) (λ _. parent)) turned first
         (standing_first (IsHeld after) now.contents limit (is_alternative_of alt) (is_filed alt) (agree_alternative (IsHeld after) now.contents limit alt) (with_current root) (refiled (λ _. merged)) working rests.new
-        (stands_on m limit slot_b bits committed working s rests now after spares more)
+        (stands_on m limit slot_name bits committed working s rests now after spares more)
         (λ d f stands. record { kind = stands.kind; name = stands.name; owner = stands.owner; current = new; base = stands.base }))
         (λ d f stands. record { kind = stands.kind; name = stands.name; owner = stands.owner; current = stands.current; base = above }))
         (grown_turned alt (λ c. c) (λ _. parent) [] first refl
@@ -171,35 +172,35 @@ module _ (m : Medium) (limit : ℕ) (slot_b : Bool) (bits : List Bool) (committe
 
 -- ---- what is known between the reading and the changes
 
-module _ (m : Medium) (limit : ℕ) (slot_b : Bool) (bits : List Bool) (committed working : List Version) (s : State) (rests : Rests m limit slot_b bits committed working s)
-    (m' : Medium) (limit' : ℕ) (slot_b' : Bool) (bits' : List Bool) (committed' working' : List Version) (rests' : Rests m' limit' slot_b' bits' committed' working' s)
+module _ (m : Medium) (limit : ℕ) (slot_name : SlotName) (bits : List Bool) (committed working : List Version) (s : State) (rests : Rests m limit slot_name bits committed working s)
+    (m' : Medium) (limit' : ℕ) (slot_name' : SlotName) (bits' : List Bool) (committed' working' : List Version) (rests' : Rests m' limit' slot_name' bits' committed' working' s)
     (alt : List ℕ) (pair : Version × Version) (is : IsPair working alt pair) (is' : IsPair working' alt pair) (settled : List (Key × Side)) (changes : List Change) where
   abbrev own_before : Map
-  own_before = own_map m limit slot_b bits committed working s rests alt pair is
+  own_before = own_map m limit slot_name bits committed working s rests alt pair is
 
   abbrev own_after : Map
-  own_after = own_map m' limit' slot_b' bits' committed' working' s rests' alt pair is'
+  own_after = own_map m' limit' slot_name' bits' committed' working' s rests' alt pair is'
 
   abbrev base_before : Map
-  base_before = base_map m limit slot_b bits committed working s rests alt pair is
+  base_before = base_map m limit slot_name bits committed working s rests alt pair is
 
   abbrev base_after : Map
-  base_after = base_map m' limit' slot_b' bits' committed' working' s rests' alt pair is'
+  base_after = base_map m' limit' slot_name' bits' committed' working' s rests' alt pair is'
 
   abbrev parent_before : Map
-  parent_before = parent_map m limit slot_b bits committed working s rests alt pair is
+  parent_before = parent_map m limit slot_name bits committed working s rests alt pair is
 
   abbrev parent_after : Map
-  parent_after = parent_map m' limit' slot_b' bits' committed' working' s rests' alt pair is'
+  parent_after = parent_map m' limit' slot_name' bits' committed' working' s rests' alt pair is'
 
   some_same : {X : Type 0} {a b : X} → Some a ≡ Some b → a ≡ b
   some_same h = cc
 
-  own_same : whole alt rests.new (own_there m limit slot_b bits committed working s rests alt pair is).filed ≡ whole alt rests'.new (own_there m' limit' slot_b' bits' committed' working' s rests' alt pair is').filed
-  own_same = some_same (sym (own_there m limit slot_b bits committed working s rests alt pair is).is ∙ (own_there m' limit' slot_b' bits' committed' working' s rests' alt pair is').is)
+  own_same : whole alt rests.new (own_there m limit slot_name bits committed working s rests alt pair is).filed ≡ whole alt rests'.new (own_there m' limit' slot_name' bits' committed' working' s rests' alt pair is').filed
+  own_same = some_same (sym (own_there m limit slot_name bits committed working s rests alt pair is).is ∙ (own_there m' limit' slot_name' bits' committed' working' s rests' alt pair is').is)
 
-  parent_same : whole pair.1.name rests.new (parent_there m limit slot_b bits committed working s rests alt pair is).filed ≡ whole pair.1.name rests'.new (parent_there m' limit' slot_b' bits' committed' working' s rests' alt pair is').filed
-  parent_same = some_same (sym (parent_there m limit slot_b bits committed working s rests alt pair is).is ∙ (parent_there m' limit' slot_b' bits' committed' working' s rests' alt pair is').is)
+  parent_same : whole pair.1.name rests.new (parent_there m limit slot_name bits committed working s rests alt pair is).filed ≡ whole pair.1.name rests'.new (parent_there m' limit' slot_name' bits' committed' working' s rests' alt pair is').filed
+  parent_same = some_same (sym (parent_there m limit slot_name bits committed working s rests alt pair is).is ∙ (parent_there m' limit' slot_name' bits' committed' working' s rests' alt pair is').is)
 
   -- what was planned holds of the same maps in the store that they are made in
   pub planned : (refusal_in base_before parent_before own_before settled ≡ None) × (changes ≡ delta own_before (merge base_before parent_before own_before settled))

@@ -12,6 +12,7 @@ use Rattle.vm_alloc.specs.Marks.{is_marked, IsMarked}
 use Rattle.std.specs.List.{AllByRecursion}
 use Rattle.vm_block.specs.Slot.{SlotFits}
 use Rattle.vm_block.specs.declared.slot.Entry.{Entry}
+use Rattle.vm_block.specs.declared.selector.SlotName.{SlotName}
 use Rattle.std.proofs.lemmas.List.{length-replicate}
 use Rattle.std.proofs.lemmas.List.Elements.{Contains-append_left}
 use Rattle.vm_block.proofs.EachLemmas.{each_front, each_back, each_join}
@@ -110,10 +111,10 @@ pub on_ok : {T E : Type 0} (r : Result T E) (A : Type 0) → A → OnOk r A
 on_ok (Ok x) A a = a
 on_ok (Err e) A a = tt
 
-module _ (m : Medium) (limit : ℕ) (slot_b : Bool) (es : List Entry) (clean : IsClean m) (store : IsStore m.contents) (in_use : slot_b ≡ selected m.contents) (slot : SlotAt m.contents slot_b limit es)
+module _ (m : Medium) (limit : ℕ) (slot_name : SlotName) (es : List Entry) (clean : IsClean m) (store : IsStore m.contents) (in_use : slot_name ≡ selected m.contents) (slot : SlotAt m.contents slot_name limit es)
     (inside : limit ≤ length m.contents) where
   names : Names m.contents limit es
-  names = names_slot m.contents slot_b limit es store.header (sym in_use) slot
+  names = names_slot m.contents slot_name limit es store.header (sym in_use) slot
 
   -- versions that all stand are shown
   pub shows_found : (P : ℕ → Type 0) (vs : List Version) (fs : List Filed) → slot_entries vs ≡ es → Standing P m.contents limit vs fs → Shows m.contents (record { tree = tree_of fs; blocks = limit })
@@ -128,7 +129,7 @@ module _ (m : Medium) (limit : ℕ) (slot_b : Bool) (es : List Entry) (clean : I
 
   -- and a store with them stands for the tree that is shown
   pub rests_found : (marks bits : List Bool) (vs : List Version) (fs : List Filed) → slot_entries vs ≡ es → ((n : ℕ) → n < 34 → IsHeld bits n) → ((n : ℕ) → 34 ≤ n → is_held bits n ≡ is_marked marks n) → Standing (IsMarked marks) m.contents limit vs fs
-      → Rests m limit slot_b bits vs vs (opened (record { tree = tree_of fs; blocks = limit }))
+      → Rests m limit slot_name bits vs vs (opened (record { tree = tree_of fs; blocks = limit }))
   rests_found marks bits vs fs same system replaced s =
       let data_blocks = standing_data (IsMarked marks) m.contents limit vs fs s in
       record {
@@ -148,7 +149,7 @@ module _ (m : Medium) (limit : ℕ) (slot_b : Bool) (es : List Entry) (clean : I
       }
 
 -- without a premise on what is clean
-module _ (m : Medium) (limit : ℕ) (slot_b : Bool) (es : List Entry) (store : IsStore m.contents) (in_use : slot_b ≡ selected m.contents) (slot : SlotAt m.contents slot_b limit es)
+module _ (m : Medium) (limit : ℕ) (slot_name : SlotName) (es : List Entry) (store : IsStore m.contents) (in_use : slot_name ≡ selected m.contents) (slot : SlotAt m.contents slot_name limit es)
     (inside : limit ≤ length m.contents) where
   -- entries of which some root has no map
   pub lacks_map : (HaveTrees sizes m.contents limit (numbers_of es) → ⊥) → LacksMap m.contents
@@ -221,10 +222,10 @@ pub found_alike : (es lent : List Entry) (rs lent_roots : List Root) → lent �
 found_alike es lent rs lent_roots same same' = ap (λ l. versions_of l lent_roots) same ∙ ap (versions_of es) same'
 
 -- the same versions, known by other names
-pub rests_named : (m : Medium) (limit : ℕ) (slot_b : Bool) (bits : List Bool) (vs committed working : List Version) (s : State) → committed ≡ vs → working ≡ vs
-    → Rests m limit slot_b bits vs vs s → Rests m limit slot_b bits committed working s
-rests_named m limit slot_b bits vs committed working s same same' rests =
-    subst (λ (us : List Version). Rests m limit slot_b bits us working s) (sym same) (subst (λ (us : List Version). Rests m limit slot_b bits vs us s) (sym same') rests)
+pub rests_named : (m : Medium) (limit : ℕ) (slot_name : SlotName) (bits : List Bool) (vs committed working : List Version) (s : State) → committed ≡ vs → working ≡ vs
+    → Rests m limit slot_name bits vs vs s → Rests m limit slot_name bits committed working s
+rests_named m limit slot_name bits vs committed working s same same' rests =
+    subst (λ (us : List Version). Rests m limit slot_name bits us working s) (sym same) (subst (λ (us : List Version). Rests m limit slot_name bits vs us s) (sym same') rests)
 
 -- ---- what is free after an opening
 
@@ -257,11 +258,11 @@ reached_named P x few limit le es rs bs vs fs same are =
     subst (λ (us : List Version). (s : Standing P x few us fs) → reach P x few us fs s ≡ bs) (sym same) (roots_reach P x few limit le es rs bs fs are)
 
 -- just the spare blocks are free
-pub freed : (m : Medium) (limit : ℕ) (slot_b : Bool) (after : List Bool) (committed working : List Version) (es : List Entry) (rs : List Root) (marks : List Bool)
+pub freed : (m : Medium) (limit : ℕ) (slot_name : SlotName) (after : List Bool) (committed working : List Version) (es : List Entry) (rs : List Root) (marks : List Bool)
     → committed ≡ versions_of es rs → working ≡ versions_of es rs → Found sizes m.contents limit (numbers_of es) rs marks
     → length after ≡ limit → ((n : ℕ) → n < 34 → IsHeld after n) → ((n : ℕ) → 34 ≤ n → is_held after n ≡ is_marked marks n)
-    → (s : State) (rests : Rests m limit slot_b after committed working s) → free_count after ≡ spare_of rests
-freed m limit slot_b after committed working es rs marks old new found many system replaced s rests =
+    → (s : State) (rests : Rests m limit slot_name after committed working s) → free_count after ≡ spare_of rests
+freed m limit slot_name after committed working es rs marks old new found many system replaced s rests =
     let first = reached_named (IsSafe after m) m.contents s.kept limit rests.fewer es rs found.blocks committed rests.old old found.are rests.safe in
     let then = reached_named (IsHeld after) m.contents limit limit (omega arith) es rs found.blocks working rests.new new found.are rests.stands in
     let all : MarksMore (found.blocks ++ found.blocks) (replicate limit false) marks = record {
@@ -269,7 +270,7 @@ freed m limit slot_b after committed working es rs marks old new found many syst
       each = each_join (IsMarked marks) found.blocks found.blocks found.each found.each;
       only = λ n is. inr (Contains-append_left found.blocks found.blocks n (found.only n is));
     } in
-    free_exactly m limit slot_b after committed working s many rests marks
+    free_exactly m limit slot_name after committed working s many rests marks
     (subst (λ (ds : List ℕ). MarksMore (ds ++ reach (IsHeld after) m.contents limit working rests.new rests.stands) (replicate limit false) marks) (sym first)
     (subst (λ (ds : List ℕ). MarksMore (found.blocks ++ ds) (replicate limit false) marks) (sym then) all)) after many system replaced
 
@@ -278,8 +279,8 @@ pub found_as_named : (x : Contents) (limit : ℕ) (es first : List Entry) (numbe
 found_as_named x limit es first numbers lent rs marks same are is found = subst (λ ns. Found sizes x limit ns rs marks) (same ∙ are ∙ ap numbers_of is) found
 
 -- what is known of one medium is known of the same
-pub freed_on : (old mid : Medium) (limit : ℕ) (slot_b : Bool) (after : List Bool) (committed working : List Version) → mid ≡ old
-    → ((s : State) (rests : Rests old limit slot_b after committed working s) → free_count after ≡ spare_of rests)
-    → (s : State) (rests : Rests mid limit slot_b after committed working s) → free_count after ≡ spare_of rests
-freed_on old mid limit slot_b after committed working same free =
-    subst (λ (m : Medium). (s : State) (rests : Rests m limit slot_b after committed working s) → free_count after ≡ spare_of rests) (sym same) free
+pub freed_on : (old mid : Medium) (limit : ℕ) (slot_name : SlotName) (after : List Bool) (committed working : List Version) → mid ≡ old
+    → ((s : State) (rests : Rests old limit slot_name after committed working s) → free_count after ≡ spare_of rests)
+    → (s : State) (rests : Rests mid limit slot_name after committed working s) → free_count after ≡ spare_of rests
+freed_on old mid limit slot_name after committed working same free =
+    subst (λ (m : Medium). (s : State) (rests : Rests m limit slot_name after committed working s) → free_count after ≡ spare_of rests) (sym same) free

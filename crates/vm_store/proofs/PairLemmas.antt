@@ -19,6 +19,7 @@ use Rattle.vm_disk.specs.Disk.{Medium}
 use Rattle.vm_alloc.specs.Held.{IsHeld}
 use Rattle.vm_block.specs.Slot as slot
 use Rattle.vm_block.specs.Slot.{SlotFits, is_alternative}
+use Rattle.vm_block.specs.declared.selector.SlotName.{SlotName}
 use Rattle.vm_types.specs.Queries.{conflicts_with, conflicts_under, conflicts_of, conflicts_in}
 use Rattle.vm_store.specs.Pairs.{IsPair, LacksPair}
 use Rattle.vm_store.specs.Resting.{Rests}
@@ -49,8 +50,8 @@ is_pair vs alt parent own above found owner there = record {
   parent = subst (λ (n : List ℕ). find (is_alternative_of n) vs ≡ Some above) (sym (called vs parent above there)) there;
 }
 
-module _ (m : Medium) (limit : ℕ) (slot_b : Bool) (bits : List Bool) (committed working : List Version) (s : State)
-    (rests : Rests m limit slot_b bits committed working s) (alt : List ℕ) where
+module _ (m : Medium) (limit : ℕ) (slot_name : SlotName) (bits : List Bool) (committed working : List Version) (s : State)
+    (rests : Rests m limit slot_name bits committed working s) (alt : List ℕ) where
   -- what the model does with an alternative and its parent
   abbrev with_parent : (Alternative → List ℕ → Alternative → Outcome) → Outcome
   with_parent rest =
@@ -131,11 +132,11 @@ module _ (m : Medium) (limit : ℕ) (slot_b : Bool) (bits : List Bool) (committe
         differs true never = absurd (never refl)
         differs false never = refl
 
-    pub post_rests : base_map ≡ parent_map → Rests m limit slot_b bits committed posted (next s (Post alt) (Ok Done))
+    pub post_rests : base_map ≡ parent_map → Rests m limit slot_name bits committed posted (next s (Post alt) (Ok Done))
     post_rests same =
         let first = change_first (is_filed pair.1.name) (refiled (λ _. own_map)) rests.new in
         let turned = change_first (is_alternative_of pair.1.name) (with_current pair.0.current) working in
-        stepped m limit slot_b bits committed working s rests (Post alt) posted (change_first (is_filed alt) (refiled_both (λ c. c) (λ _. own_map)) first) posted_tree refl (post_step same)
+        stepped m limit slot_name bits committed working s rests (Post alt) posted (change_first (is_filed alt) (refiled_both (λ c. c) (λ _. own_map)) first) posted_tree refl (post_step same)
         (subst (SlotFits limit) (sym (slot_changed (is_alternative_of alt) (slot.is_alternative_of alt) (λ v. refl) (with_base pair.0.current) (ledger.with_base pair.0.current.block) (λ v. refl) turned))
         (fits_alike limit (slot_entries turned) _ (alike_based alt pair.0.current.block own_small not_top (slot_entries turned))
         (subst (SlotFits limit) (sym (slot_changed (is_alternative_of pair.1.name) (slot.is_alternative_of pair.1.name) (λ v. refl) (with_current pair.0.current) (ledger.with_current pair.0.current.block) (λ v. refl) working))

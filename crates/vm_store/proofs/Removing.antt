@@ -13,6 +13,7 @@ use Rattle.vm_types.specs.State.{State}
 use Rattle.vm_disk.specs.Disk.{DiskState, Medium}
 use Rattle.vm_disk.specs.Moments.{OnlyReads}
 use Rattle.vm_disk.proofs.MomentLemmas.{same_medium}
+use Rattle.vm_block.specs.declared.selector.SlotName.{SlotName}
 use Rattle.vm_tree.specs.Answers.{Removes}
 use Rattle.vm_store.specs.declared.version.Version.{Version}
 use Rattle.vm_store.specs.Faults.{refusal_of}
@@ -91,11 +92,11 @@ module _ (s : State) (name : List ℕ) (key : Key) (spare : ℕ) (deep : Type 0)
 -- ---- what is known between the look-up and the Remove
 
 -- a test whether so many blocks are spare, before reads and after them
-pub spare_after : (old new : DiskState) (limit : ℕ) (slot_b : Bool) (bits before : List Bool) (series : Option (List ℕ)) (committed working : List Version) (s : State) (count : ℕ) (b : Bool) → OnlyReads old new
-    → ((s : State) (holds : HoldsWith new.now limit slot_b bits before series committed working s) → (IsTrue b → count ≤ spare_of holds.rests) × (count ≤ spare_of holds.rests → IsTrue b))
-    → (holds : HoldsWith old.now limit slot_b bits before series committed working s) → (IsTrue b → count ≤ spare_of holds.rests) × (count ≤ spare_of holds.rests → IsTrue b)
-spare_after old new limit slot_b bits before series committed working s count b reads test =
-    let T : Medium → Type 0 = λ m. (holds : HoldsWith m limit slot_b bits before series committed working s) → (IsTrue b → count ≤ spare_of holds.rests) × (count ≤ spare_of holds.rests → IsTrue b) in
+pub spare_after : (old new : DiskState) (limit : ℕ) (slot_name : SlotName) (bits before : List Bool) (series : Option (List ℕ)) (committed working : List Version) (s : State) (count : ℕ) (b : Bool) → OnlyReads old new
+    → ((s : State) (holds : HoldsWith new.now limit slot_name bits before series committed working s) → (IsTrue b → count ≤ spare_of holds.rests) × (count ≤ spare_of holds.rests → IsTrue b))
+    → (holds : HoldsWith old.now limit slot_name bits before series committed working s) → (IsTrue b → count ≤ spare_of holds.rests) × (count ≤ spare_of holds.rests → IsTrue b)
+spare_after old new limit slot_name bits before series committed working s count b reads test =
+    let T : Medium → Type 0 = λ m. (holds : HoldsWith m limit slot_name bits before series committed working s) → (IsTrue b → count ≤ spare_of holds.rests) × (count ≤ spare_of holds.rests → IsTrue b) in
     subst T (same_medium old new reads) (test s)
 
 -- the root that a Remove answered

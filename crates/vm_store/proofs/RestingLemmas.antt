@@ -19,7 +19,9 @@ use Rattle.vm_alloc.specs.Held.{IsHeld, HoldsMore}
 use Rattle.vm_block.specs.Slot.{SlotFits, used_blocks}
 use Rattle.vm_block.specs.Slot as slot
 use Rattle.vm_block.specs.declared.slot.Entry.{Entry}
-use Rattle.vm_block.specs.Selector.{names_b}
+use Rattle.vm_block.specs.declared.selector.SlotName.{SlotName}
+use Rattle.vm_block.specs.declared.selector.SlotName.TheVariants.{A, B}
+use Rattle.vm_block.specs.Selector.{named_slot, other_slot}
 use Rattle.vm_catalog.specs.Place.{is_used, slot_at}
 use Rattle.vm_catalog.specs.Catalog.{Names, AtRest}
 use Rattle.vm_catalog.specs.Publishing.{IsPublished, PublishLeaves}
@@ -52,16 +54,16 @@ held_not_free : (bits : List Bool) (n : ℕ) → IsHeld bits n → is_free bits 
 held_not_free bits n is = ap not is
 
 -- the used blocks of a slot are the store's own
-pub used_low : (slot_b : Bool) (count n : ℕ) → count ≤ 511 → is_used slot_b count n ≡ true → n < 34
-used_low slot_b count n few is = low slot_b (used_cases slot_b count n is)
+pub used_low : (slot_name : SlotName) (count n : ℕ) → count ≤ 511 → is_used slot_name count n ≡ true → n < 34
+used_low slot_name count n few is = low slot_name (used_cases slot_name count n is)
   where
-    low : (slot_b : Bool) → (n < 2) ⊎ ((slot_at slot_b ≤ n) × (n < slot_at slot_b + used_blocks count)) → n < 34
-    low slot_b (inl front) = omega arith
-    low true (inr at) = omega (arith, sixteen count few)
-    low false (inr at) = omega (arith, sixteen count few)
+    low : (slot_name : SlotName) → (n < 2) ⊎ ((slot_at slot_name ≤ n) × (n < slot_at slot_name + used_blocks count)) → n < 34
+    low slot_name (inl front) = omega arith
+    low B (inr at) = omega (arith, sixteen count few)
+    low A (inr at) = omega (arith, sixteen count few)
 
-module _ (m : Medium) (limit : ℕ) (slot_b : Bool) (bits : List Bool) (committed working : List Version) (s : State)
-    (rests : Rests m limit slot_b bits committed working s) where
+module _ (m : Medium) (limit : ℕ) (slot_name : SlotName) (bits : List Bool) (committed working : List Version) (s : State)
+    (rests : Rests m limit slot_name bits committed working s) where
   few : length (slot_entries committed) ≤ 511
   few = rests.rest.names.slot.fits.head.few
 
@@ -69,28 +71,28 @@ module _ (m : Medium) (limit : ℕ) (slot_b : Bool) (bits : List Bool) (committe
   kept_safe : (now : Medium) → TouchesOnly (is_free bits) m now → (left : Contents) → MayLeave now left → (n : ℕ) → IsSafe bits m n → block left n ≡ block m.contents n
   kept_safe now spares left may n safe = spared (is_free bits) m now spares left may n (held_not_free bits n safe.held) safe.clean
 
-  kept_used : (now : Medium) → TouchesOnly (is_free bits) m now → (left : Contents) → MayLeave now left → (n : ℕ) → is_used slot_b (length (slot_entries committed)) n ≡ true → block left n ≡ block m.contents n
+  kept_used : (now : Medium) → TouchesOnly (is_free bits) m now → (left : Contents) → MayLeave now left → (n : ℕ) → is_used slot_name (length (slot_entries committed)) n ≡ true → block left n ≡ block m.contents n
   kept_used now spares left may n used =
-      spared (is_free bits) m now spares left may n (held_not_free bits n (rests.system n (used_low slot_b (length (slot_entries committed)) n few used))) (rests.rest.clean n used)
+      spared (is_free bits) m now spares left may n (held_not_free bits n (rests.system n (used_low slot_name (length (slot_entries committed)) n few used))) (rests.rest.clean n used)
 
   -- a crash after calls that write free blocks alone shows what was committed
   pub shows_old : (now : Medium) → TouchesOnly (is_free bits) m now → (left : Contents) → MayLeave now left → Shows left (committed_of s)
   shows_old now spares left may = record {
     versions = committed;
     filed = rests.old;
-    names = names_in m.contents left slot_b s.kept (slot_entries committed) (kept_used now spares left may) rests.rest.in_use rests.rest.names;
+    names = names_in m.contents left slot_name s.kept (slot_entries committed) (kept_used now spares left may) rests.rest.in_use rests.rest.names;
     inside = omega (arith, may.least, spares.sure, rests.sure);
     stands = standing_in (IsSafe bits m) (λ n. Unit {0}) m.contents left s.kept (kept_safe now spares left may) (λ n safe. tt) committed rests.old rests.safe;
     gives = rests.gives_old;
   }
 
   -- the committed entries are at rest after calls that write free blocks alone
-  pub at_rest : (now : Medium) → TouchesOnly (is_free bits) m now → AtRest slot_b now s.kept (slot_entries committed)
+  pub at_rest : (now : Medium) → TouchesOnly (is_free bits) m now → AtRest slot_name now s.kept (slot_entries committed)
   at_rest now spares =
-      let same : (n : ℕ) → is_used slot_b (length (slot_entries committed)) n ≡ true → is_free bits n ≡ false = λ n used. held_not_free bits n (rests.system n (used_low slot_b (length (slot_entries committed)) n few used)) in
+      let same : (n : ℕ) → is_used slot_name (length (slot_entries committed)) n ≡ true → is_free bits n ≡ false = λ n used. held_not_free bits n (rests.system n (used_low slot_name (length (slot_entries committed)) n few used)) in
       record {
-        names = names_in m.contents now.contents slot_b s.kept (slot_entries committed) (λ n used. spares.same n (same n used)) rests.rest.in_use rests.rest.names;
-        in_use = ap (λ b. names_b b) (spares.same 1 (held_not_free bits 1 (rests.system 1 (omega arith)))) ∙ rests.rest.in_use;
+        names = names_in m.contents now.contents slot_name s.kept (slot_entries committed) (λ n used. spares.same n (same n used)) rests.rest.in_use rests.rest.names;
+        in_use = ap (λ b. named_slot b) (spares.same 1 (held_not_free bits 1 (rests.system 1 (omega arith)))) ∙ rests.rest.in_use;
         clean = λ n used. spares.clean n (same n used) (rests.rest.clean n used);
       }
 
@@ -106,7 +108,7 @@ module _ (m : Medium) (limit : ℕ) (slot_b : Bool) (bits : List Bool) (committe
   -- the store stands for other working entries, after calls that write free blocks alone
   pub rests_on : (now : Medium) (after : List Bool) (changed : List Version) (new : List Filed) (tree : Tree) → TouchesOnly (is_free bits) m now → HoldsMore bits after
       → SlotFits limit (slot_entries changed) → Standing (IsHeld after) now.contents limit changed new → tree_of new ≡ tree
-      → Rests now limit slot_b after committed changed (record s { working = tree })
+      → Rests now limit slot_name after committed changed (record s { working = tree })
   rests_on now after changed new tree spares more fits stands gives = record {
     old = rests.old;
     new = new;
@@ -124,13 +126,13 @@ module _ (m : Medium) (limit : ℕ) (slot_b : Bool) (bits : List Bool) (committe
   }
 
   -- the store stands for the same, after calls that write free blocks alone
-  pub rests_more : (now : Medium) (after : List Bool) → TouchesOnly (is_free bits) m now → HoldsMore bits after → Rests now limit slot_b after committed working s
+  pub rests_more : (now : Medium) (after : List Bool) → TouchesOnly (is_free bits) m now → HoldsMore bits after → Rests now limit slot_name after committed working s
   rests_more now after spares more = rests_on now after working rests.new s.working spares more rests.fits (stands_on now after spares more) rests.gives_new
 
   -- the store stands for other records of an alternative, after calls that write free blocks alone
   pub current_rests : (name : List ℕ) (g : Map → Map) (now : Medium) (after : List Bool) (root : Root) → root.block < 2 ^ 32 → TouchesOnly (is_free bits) m now → HoldsMore bits after
       → ((f : Filed) → find (is_filed name) rests.new ≡ Some f → IsRootedIn sizes (IsHeld after) now.contents limit root (g f.current))
-      → Rests now limit slot_b after committed (change_first (is_alternative_of name) (with_current root) working) (record s { working = changed s.working name (recurrent g) })
+      → Rests now limit slot_name after committed (change_first (is_alternative_of name) (with_current root) working) (record s { working = changed s.working name (recurrent g) })
   current_rests name g now after root small spares more new =
       rests_on now after (change_first (is_alternative_of name) (with_current root) working) (change_first (is_filed name) (refiled g) rests.new) (changed s.working name (recurrent g)) spares more
       (subst (SlotFits limit) (sym (slot_changed (is_alternative_of name) (slot.is_alternative_of name) (λ v. refl) (with_current root) (ledger.with_current root.block) (λ v. refl) working))
@@ -168,11 +170,11 @@ module _ (m : Medium) (limit : ℕ) (slot_b : Bool) (bits : List Bool) (committe
       )
 
   -- after a publish the working entries are the committed ones
-  pub published : (now : Medium) (copied : List Version) (answer : Answer) → IsPublished (not slot_b) m now limit (slot_entries working) → copied ≡ working
-      → Rests now limit (not slot_b) bits copied working (next s Commit (Ok answer))
+  pub published : (now : Medium) (copied : List Version) (answer : Answer) → IsPublished (other_slot slot_name) m now limit (slot_entries working) → copied ≡ working
+      → Rests now limit (other_slot slot_name) bits copied working (next s Commit (Ok answer))
   published now copied answer done same =
       let stands : Standing (λ n. IsHeld bits n × IsData limit n) m.contents limit working rests.new = standing_data (IsHeld bits) m.contents limit working rests.new rests.stands in
-      let rests' : Rests now limit (not slot_b) bits working working (next s Commit (Ok answer)) = record {
+      let rests' : Rests now limit (other_slot slot_name) bits working working (next s Commit (Ok answer)) = record {
         old = rests.new;
         new = rests.new;
         blocks = rests.blocks;
@@ -180,7 +182,7 @@ module _ (m : Medium) (limit : ℕ) (slot_b : Bool) (bits : List Bool) (committe
         inside = subst (λ n. limit ≤ n) (sym done.count) rests.inside;
         sure = omega (arith, clean_sure now done.clean, done.count, rests.inside, rests.blocks);
         system = rests.system;
-        rest = subst (λ n. AtRest (not slot_b) now n (slot_entries working)) rests.blocks done.rest;
+        rest = subst (λ n. AtRest (other_slot slot_name) now n (slot_entries working)) rests.blocks done.rest;
         fits = rests.fits;
         safe = subst (λ n. Standing (IsSafe bits now) now.contents n working rests.new) rests.blocks
             (standing_in (λ n. IsHeld bits n × IsData limit n) (IsSafe bits now) m.contents now.contents limit (λ n held. done.same n held.1.0) (λ n held. record { held = held.0; clean = done.clean n }) working rests.new stands);
@@ -188,7 +190,7 @@ module _ (m : Medium) (limit : ℕ) (slot_b : Bool) (bits : List Bool) (committe
         gives_old = rests.gives_new;
         gives_new = rests.gives_new;
       } in
-      subst (λ (es : List Version). Rests now limit (not slot_b) bits es working (next s Commit (Ok answer))) (sym same) rests'
+      subst (λ (es : List Version). Rests now limit (other_slot slot_name) bits es working (next s Commit (Ok answer))) (sym same) rests'
 
   -- the alternative of an entry that was found
   pub record IsNamedAs (f : Filed) (name : List ℕ) : Type 0 where
@@ -246,20 +248,20 @@ module _ (m : Medium) (limit : ℕ) (slot_b : Bool) (bits : List Bool) (committe
         ap (λ o. unwrap_or (option_map (λ (a : Alternative). a.current) o) []) as_named.named ∙ as_named.current
 
 -- a crash in a publish of the working entries, written to a list of their own
-pub lent_left : (m : Medium) (limit : ℕ) (slot_b : Bool) (bits : List Bool) (committed working : List Version) (s : State) → (rests : Rests m limit slot_b bits committed working s)
+pub lent_left : (m : Medium) (limit : ℕ) (slot_name : SlotName) (bits : List Bool) (committed working : List Version) (s : State) → (rests : Rests m limit slot_name bits committed working s)
     → (lent : List Entry) → lent ≡ slot_entries working → (left : Contents) → PublishLeaves m s.kept (slot_entries committed) limit lent left → LeftBy Shows s Commit left
-lent_left m limit slot_b bits committed working s rests lent same left leaves =
-    published_left m limit slot_b bits committed working s rests left (subst (λ (es : List Entry). PublishLeaves m s.kept (slot_entries committed) limit es left) same leaves)
+lent_left m limit slot_name bits committed working s rests lent same left leaves =
+    published_left m limit slot_name bits committed working s rests left (subst (λ (es : List Entry). PublishLeaves m s.kept (slot_entries committed) limit es left) same leaves)
 
 -- reads change nothing
-pub read_rests : (old new : DiskState) (limit : ℕ) (slot_b : Bool) (bits : List Bool) (committed working : List Version) (s : State) → OnlyReads old new
-    → Rests old.now limit slot_b bits committed working s → Rests new.now limit slot_b bits committed working s
-read_rests old new limit slot_b bits committed working s reads rests =
-    subst (λ (m : Medium). Rests m limit slot_b bits committed working s) (sym (same_medium old new reads)) rests
+pub read_rests : (old new : DiskState) (limit : ℕ) (slot_name : SlotName) (bits : List Bool) (committed working : List Version) (s : State) → OnlyReads old new
+    → Rests old.now limit slot_name bits committed working s → Rests new.now limit slot_name bits committed working s
+read_rests old new limit slot_name bits committed working s reads rests =
+    subst (λ (m : Medium). Rests m limit slot_name bits committed working s) (sym (same_medium old new reads)) rests
 
 -- what is committed is shown
-pub shows_now : (m : Medium) (limit : ℕ) (slot_b : Bool) (bits : List Bool) (committed working : List Version) (s : State) → Rests m limit slot_b bits committed working s → Shows m.contents (committed_of s)
-shows_now m limit slot_b bits committed working s rests = record {
+pub shows_now : (m : Medium) (limit : ℕ) (slot_name : SlotName) (bits : List Bool) (committed working : List Version) (s : State) → Rests m limit slot_name bits committed working s → Shows m.contents (committed_of s)
+shows_now m limit slot_name bits committed working s rests = record {
   versions = committed;
   filed = rests.old;
   names = rests.rest.names;
@@ -268,8 +270,8 @@ shows_now m limit slot_b bits committed working s rests = record {
   gives = rests.gives_old;
 }
 
-pub is_published_as : (slot_b : Bool) (old new : Medium) (limit : ℕ) (lent working : List Entry) → lent ≡ working → IsPublished slot_b old new limit lent → IsPublished slot_b old new limit working
-is_published_as slot_b old new limit lent working same done = subst (λ (es : List Entry). IsPublished slot_b old new limit es) same done
+pub is_published_as : (slot_name : SlotName) (old new : Medium) (limit : ℕ) (lent working : List Entry) → lent ≡ working → IsPublished slot_name old new limit lent → IsPublished slot_name old new limit working
+is_published_as slot_name old new limit lent working same done = subst (λ (es : List Entry). IsPublished slot_name old new limit es) same done
 
 -- which fault a put into a tree answers
 pub fault_of_put : (f : TreeFault) (deep : Type 0) (P : Root → Type 0) → Puts (Err f) deep P → (f ≡ fault.Device) ⊎ ((f ≡ fault.Deep) × deep)
@@ -278,10 +280,10 @@ fault_of_put (fault.Damaged b) deep P h = absurd h
 fault_of_put fault.Deep deep P h = inr (refl, h)
 fault_of_put fault.Memory deep P h = absurd h
 
-module _ (m : Medium) (limit : ℕ) (slot_b : Bool) (bits : List Bool) (committed working : List Version) (s : State)
-    (rests : Rests m limit slot_b bits committed working s) (name : List ℕ) (key : Key) (value : List ℕ) where
+module _ (m : Medium) (limit : ℕ) (slot_name : SlotName) (bits : List Bool) (committed working : List Version) (s : State)
+    (rests : Rests m limit slot_name bits committed working s) (name : List ℕ) (key : Key) (value : List ℕ) where
   due_absent : (full : Bool) (deep : Type 0) → find (is_alternative_of name) working ≡ None → IsDue (step s.working (Put name key value)) full deep (Err NoSuchAlternative)
-  due_absent full deep none = subst (λ o. IsDue o full deep (Err NoSuchAlternative)) (sym (put_absent m limit slot_b bits committed working s rests name key value none)) refl
+  due_absent full deep none = subst (λ o. IsDue o full deep (Err NoSuchAlternative)) (sym (put_absent m limit slot_name bits committed working s rests name key value none)) refl
 
   -- a Put into no alternative
   pub answers_absent : (spare : ℕ) (deep : Type 0) → find (is_alternative_of name) working ≡ None → IsAnswer s spare deep (Put name key value) (Err NoSuchAlternative)
@@ -289,7 +291,7 @@ module _ (m : Medium) (limit : ℕ) (slot_b : Bool) (bits : List Bool) (committe
 
   module _ (e : Version) (is : find (is_alternative_of name) working ≡ Some e) where
     accepts : step s.working (Put name key value) ≡ Ok (changed s.working name (λ x. record x { current = with_value x.current key value }), Done)
-    accepts = put_step m limit slot_b bits committed working s rests name e is key value
+    accepts = put_step m limit slot_name bits committed working s rests name e is key value
 
     -- a Put for which too few blocks are spare
     pub answers_full : (spare : ℕ) (deep : Type 0) → nat_lt spare 16 ≡ true → IsAnswer s spare deep (Put name key value) (Err Full)
@@ -314,17 +316,17 @@ module _ (m : Medium) (limit : ℕ) (slot_b : Bool) (bits : List Bool) (committe
             (subst (λ (b : Bool). IsDue (Ok (changed s.working name (λ x. record x { current = with_value x.current key value }), Done)) b deep (Err r)) (sym room) (inr (ap Err (same ∙ ap refusal_of at.0), so at.1))))
 
     -- the tree of the alternative and the records that the model has there
-    pub deep_here : (x : Contents) → LacksRoom x (current_root (find (is_alternative_of name) working)) (current_of s.working name) key → LacksRoom x e.current.block (found_entry m limit slot_b bits committed working s rests name e is).filed.current key
+    pub deep_here : (x : Contents) → LacksRoom x (current_root (find (is_alternative_of name) working)) (current_of s.working name) key → LacksRoom x e.current.block (found_entry m limit slot_name bits committed working s rests name e is).filed.current key
     deep_here x deep =
-        subst (λ (c : Map). LacksRoom x e.current.block c key) (put_current m limit slot_b bits committed working s rests name e is key value)
+        subst (λ (c : Map). LacksRoom x e.current.block c key) (put_current m limit slot_name bits committed working s rests name e is key value)
         (subst (λ (o : Option Version). LacksRoom x (current_root o) (current_of s.working name) key) is deep)
 
-    pub here_deep : (x : Contents) → LacksRoom x e.current.block (found_entry m limit slot_b bits committed working s rests name e is).filed.current key → LacksRoom x (current_root (find (is_alternative_of name) working)) (current_of s.working name) key
+    pub here_deep : (x : Contents) → LacksRoom x e.current.block (found_entry m limit slot_name bits committed working s rests name e is).filed.current key → LacksRoom x (current_root (find (is_alternative_of name) working)) (current_of s.working name) key
     here_deep x here =
         subst (λ (o : Option Version). LacksRoom x (current_root o) (current_of s.working name) key) (sym is)
-        (subst (λ (c : Map). LacksRoom x e.current.block c key) (sym (put_current m limit slot_b bits committed working s rests name e is key value)) here)
+        (subst (λ (c : Map). LacksRoom x e.current.block c key) (sym (put_current m limit slot_name bits committed working s rests name e is key value)) here)
 
 -- entries that are known by another name
-pub rests_as : (m : Medium) (limit : ℕ) (slot_b : Bool) (bits : List Bool) (committed working other : List Version) (s : State) → working ≡ other
-    → Rests m limit slot_b bits committed working s → Rests m limit slot_b bits committed other s
-rests_as m limit slot_b bits committed working other s same rests = subst (λ (es : List Version). Rests m limit slot_b bits committed es s) same rests
+pub rests_as : (m : Medium) (limit : ℕ) (slot_name : SlotName) (bits : List Bool) (committed working other : List Version) (s : State) → working ≡ other
+    → Rests m limit slot_name bits committed working s → Rests m limit slot_name bits committed other s
+rests_as m limit slot_name bits committed working other s same rests = subst (λ (es : List Version). Rests m limit slot_name bits committed es s) same rests

@@ -13,6 +13,7 @@ use Rattle.vm_types.specs.Tree.{Tree, Alternative, named, changed}
 use Rattle.vm_disk.specs.Disk.{DiskState, Medium}
 use Rattle.vm_disk.specs.Moments.{OnlyReads, Throughout, TouchesOnly}
 use Rattle.vm_disk.proofs.MomentLemmas.{same_medium, spares_itself, started}
+use Rattle.vm_block.specs.declared.selector.SlotName.{SlotName}
 use Rattle.vm_alloc.specs.Held.{HoldsMore, IsHeld, is_held}
 use Rattle.vm_alloc.proofs.HeldLemmas.{holds_more_then, holds_same}
 use Rattle.vm_tree.specs.Free.{is_free}
@@ -52,85 +53,85 @@ changed_again (a ∷ t) name f g h same =
           ∙ ap (λ u. a ∷ u) (changed_again t name f g h (λ c found. same c (ap (λ b. cond b (Some a) (named t name)) is ∙ found)))
     ] refl
 
-module _ (m : Medium) (limit : ℕ) (slot_b : Bool) (bits before : List Bool) (committed working : List Version) (s : State) where
+module _ (m : Medium) (limit : ℕ) (slot_name : SlotName) (bits before : List Bool) (committed working : List Version) (s : State) where
   -- all trees but that of the alternative's records stand in the held blocks
-  all_held : (alt : List ℕ) → Rests m limit slot_b bits committed working s → IsInSeries alt m limit slot_b bits bits committed working s
+  all_held : (alt : List ℕ) → Rests m limit slot_name bits committed working s → IsInSeries alt m limit slot_name bits bits committed working s
   all_held alt rests = record {
     wider = holds_same bits;
-    others = current_rests m limit slot_b bits committed working s rests alt (λ _. []) m bits no_root (omega arith) (spares_itself (is_free bits) m) (holds_same bits)
+    others = current_rests m limit slot_name bits committed working s rests alt (λ _. []) m bits no_root (omega arith) (spares_itself (is_free bits) m) (holds_same bits)
         (λ f found. none_grown (IsHeld bits) m.contents limit no_root refl);
   }
 
   -- it goes on, or begins
-  pub gone_on : (alt : List ℕ) (old : List Bool) (series : Option (List ℕ)) → (series ≡ Some alt × before ≡ old) ⊎ (before ≡ bits) → HoldsWith m limit slot_b bits old series committed working s
-      → IsInSeries alt m limit slot_b bits before committed working s
+  pub gone_on : (alt : List ℕ) (old : List Bool) (series : Option (List ℕ)) → (series ≡ Some alt × before ≡ old) ⊎ (before ≡ bits) → HoldsWith m limit slot_name bits old series committed working s
+      → IsInSeries alt m limit slot_name bits before committed working s
   gone_on alt old series (inl same) holds =
-      subst (λ held. IsInSeries alt m limit slot_b bits held committed working s) (sym same.1)
-      (subst (λ o. KeepsSeries o m limit slot_b bits old committed working s) same.0 holds.series_kept)
+      subst (λ held. IsInSeries alt m limit slot_name bits held committed working s) (sym same.1)
+      (subst (λ o. KeepsSeries o m limit slot_name bits old committed working s) same.0 holds.series_kept)
   gone_on alt old series (inr same) holds =
-      subst (λ held. IsInSeries alt m limit slot_b bits held committed working s) (sym same) (all_held alt holds.rests)
+      subst (λ held. IsInSeries alt m limit slot_name bits held committed working s) (sym same) (all_held alt holds.rests)
 
   -- it goes on, or begins, or none goes on
-  pub went_on : (alt : List ℕ) (old : List Bool) (series next : Option (List ℕ)) → (next ≡ Some alt) ⊎ (next ≡ None) → (next ≡ Some alt → (series ≡ Some alt × before ≡ old) ⊎ (before ≡ bits)) → HoldsWith m limit slot_b bits old series committed working s
-      → HoldsWith m limit slot_b bits before next committed working s
+  pub went_on : (alt : List ℕ) (old : List Bool) (series next : Option (List ℕ)) → (next ≡ Some alt) ⊎ (next ≡ None) → (next ≡ Some alt → (series ≡ Some alt × before ≡ old) ⊎ (before ≡ bits)) → HoldsWith m limit slot_name bits old series committed working s
+      → HoldsWith m limit slot_name bits before next committed working s
   went_on alt old series next (inl is) on holds = record {
     rests = holds.rests;
-    series_kept = subst (λ o. KeepsSeries o m limit slot_b bits before committed working s) (sym is) (gone_on alt old series (on is) holds);
+    series_kept = subst (λ o. KeepsSeries o m limit slot_name bits before committed working s) (sym is) (gone_on alt old series (on is) holds);
   }
   went_on alt old series next (inr none) on holds = record {
     rests = holds.rests;
-    series_kept = subst (λ o. KeepsSeries o m limit slot_b bits before committed working s) (sym none) tt;
+    series_kept = subst (λ o. KeepsSeries o m limit slot_name bits before committed working s) (sym none) tt;
   }
 
   -- the trees beside that of the alternative stand in blocks that a change of it may not touch
-  pub in_series : (alt : List ℕ) (series : Option (List ℕ)) (stays : List Bool) → (series ≡ Some alt) ⊎ (series ≡ None) → stays ≡ before_of (before_series series before) bits → HoldsWith m limit slot_b bits before series committed working s
-      → IsInSeries alt m limit slot_b bits stays committed working s
+  pub in_series : (alt : List ℕ) (series : Option (List ℕ)) (stays : List Bool) → (series ≡ Some alt) ⊎ (series ≡ None) → stays ≡ before_of (before_series series before) bits → HoldsWith m limit slot_name bits before series committed working s
+      → IsInSeries alt m limit slot_name bits stays committed working s
   in_series alt series stays (inl is) same holds =
-      subst (λ b. IsInSeries alt m limit slot_b bits b committed working s) (sym (same ∙ ap (λ o. before_of (before_series o before) bits) is))
-      (subst (λ o. KeepsSeries o m limit slot_b bits before committed working s) is holds.series_kept)
+      subst (λ b. IsInSeries alt m limit slot_name bits b committed working s) (sym (same ∙ ap (λ o. before_of (before_series o before) bits) is))
+      (subst (λ o. KeepsSeries o m limit slot_name bits before committed working s) is holds.series_kept)
   in_series alt series stays (inr none) same holds =
-      subst (λ b. IsInSeries alt m limit slot_b bits b committed working s) (sym (same ∙ ap (λ o. before_of (before_series o before) bits) none))
+      subst (λ b. IsInSeries alt m limit slot_name bits b committed working s) (sym (same ∙ ap (λ o. before_of (before_series o before) bits) none))
       (all_held alt holds.rests)
 
   -- other trees stand after calls that write free blocks alone
   series_more : (series : Option (List ℕ)) (now : Medium) (after : List Bool) → TouchesOnly (is_free bits) m now → HoldsMore bits after
-      → KeepsSeries series m limit slot_b bits before committed working s → KeepsSeries series now limit slot_b after before committed working s
+      → KeepsSeries series m limit slot_name bits before committed working s → KeepsSeries series now limit slot_name after before committed working s
   series_more None now after spares more kept = tt
   series_more (Some alt) now after spares more kept = record {
     wider = holds_more_then _ _ _ kept.wider more;
-    others = rests_more m limit slot_b before committed (set_aside alt working) (state_aside alt s) kept.others now before
+    others = rests_more m limit slot_name before committed (set_aside alt working) (state_aside alt s) kept.others now before
         (spares_more before bits m m now kept.wider (spares_itself (is_free before) m) spares) (holds_same before);
   }
 
   -- the store stands for the same, after calls that write free blocks alone
   pub holds_more : (series : Option (List ℕ)) (now : Medium) (after : List Bool) → TouchesOnly (is_free bits) m now → HoldsMore bits after
-      → HoldsWith m limit slot_b bits before series committed working s → HoldsWith now limit slot_b after before series committed working s
+      → HoldsWith m limit slot_name bits before series committed working s → HoldsWith now limit slot_name after before series committed working s
   holds_more series now after spares more holds = record {
-    rests = rests_more m limit slot_b bits committed working s holds.rests now after spares more;
+    rests = rests_more m limit slot_name bits committed working s holds.rests now after spares more;
     series_kept = series_more series now after spares more holds.series_kept;
   }
 
-  module _ (alt : List ℕ) (series : IsInSeries alt m limit slot_b bits before committed working s) (g : Map → Map) (now : Medium) (after : List Bool) (root : Root)
+  module _ (alt : List ℕ) (series : IsInSeries alt m limit slot_name bits before committed working s) (g : Map → Map) (now : Medium) (after : List Bool) (root : Root)
       (spares : TouchesOnly (is_free before) m now) (more : HoldsMore bits after) where
     abbrev set : List Version → List Version
     set vs = change_first (is_alternative_of alt) (with_current root) vs
 
     -- a change of the series leaves other records in its alternative, and all other trees as they were
     pub series_rests : (records : Map) → root.block < 2 ^ 32 → ((a : Alternative) → named s.working alt ≡ Some a → records ≡ g a.current) → IsRootedIn sizes (IsHeld after) now.contents limit root records
-        → Rests now limit slot_b after committed (set working) (record s { working = changed s.working alt (recurrent g) })
+        → Rests now limit slot_name after committed (set working) (record s { working = changed s.working alt (recurrent g) })
     series_rests records small are new =
-        subst (λ vs. Rests now limit slot_b after committed vs (record s { working = changed s.working alt (recurrent g) })) (set_again alt root no_root working)
-        (subst (λ (t : Tree). Rests now limit slot_b after committed (set (set_aside alt working)) (record s { working = t })) (changed_again s.working alt (λ _. []) (λ _. records) g are)
-        (current_rests m limit slot_b before committed (set_aside alt working) (state_aside alt s) series.others alt (λ _. records) now after root small spares (holds_more_then _ _ _ series.wider more) (λ f found. new)))
+        subst (λ vs. Rests now limit slot_name after committed vs (record s { working = changed s.working alt (recurrent g) })) (set_again alt root no_root working)
+        (subst (λ (t : Tree). Rests now limit slot_name after committed (set (set_aside alt working)) (record s { working = t })) (changed_again s.working alt (λ _. []) (λ _. records) g are)
+        (current_rests m limit slot_name before committed (set_aside alt working) (state_aside alt s) series.others alt (λ _. records) now after root small spares (holds_more_then _ _ _ series.wider more) (λ f found. new)))
 
     -- and the series goes on
-    pub series_on : IsInSeries alt now limit slot_b after before committed (set working) (record s { working = changed s.working alt (recurrent g) })
+    pub series_on : IsInSeries alt now limit slot_name after before committed (set working) (record s { working = changed s.working alt (recurrent g) })
     series_on = record {
       wider = holds_more_then _ _ _ series.wider more;
       others =
-          subst (λ vs. Rests now limit slot_b before committed vs (state_aside alt (record s { working = changed s.working alt (recurrent g) }))) (sym (set_again alt no_root root working))
-          (subst (λ (t : Tree). Rests now limit slot_b before committed (set_aside alt working) (record s { working = t })) (sym (changed_again s.working alt g (λ _. []) (λ _. []) (λ a is. refl)))
-          (rests_more m limit slot_b before committed (set_aside alt working) (state_aside alt s) series.others now before spares (holds_same before)));
+          subst (λ vs. Rests now limit slot_name before committed vs (state_aside alt (record s { working = changed s.working alt (recurrent g) }))) (sym (set_again alt no_root root working))
+          (subst (λ (t : Tree). Rests now limit slot_name before committed (set_aside alt working) (record s { working = t })) (sym (changed_again s.working alt g (λ _. []) (λ _. []) (λ a is. refl)))
+          (rests_more m limit slot_name before committed (set_aside alt working) (state_aside alt s) series.others now before spares (holds_same before)));
     }
 
 -- at no moment a change of a series touches a block that was held before it
@@ -145,19 +146,19 @@ forgot_in_series before bits old mid new wider moments then =
     spares_then before before old mid new (holds_same before) (wrote_in_series before bits old mid wider moments) then
 
 -- reads change nothing
-pub read_holds : (old new : DiskState) (limit : ℕ) (slot_b : Bool) (bits before : List Bool) (series : Option (List ℕ)) (committed working : List Version) (s : State) → OnlyReads old new
-    → HoldsWith old.now limit slot_b bits before series committed working s → HoldsWith new.now limit slot_b bits before series committed working s
-read_holds old new limit slot_b bits before series committed working s reads holds =
-    subst (λ (m : Medium). HoldsWith m limit slot_b bits before series committed working s) (sym (same_medium old new reads)) holds
+pub read_holds : (old new : DiskState) (limit : ℕ) (slot_name : SlotName) (bits before : List Bool) (series : Option (List ℕ)) (committed working : List Version) (s : State) → OnlyReads old new
+    → HoldsWith old.now limit slot_name bits before series committed working s → HoldsWith new.now limit slot_name bits before series committed working s
+read_holds old new limit slot_name bits before series committed working s reads holds =
+    subst (λ (m : Medium). HoldsWith m limit slot_name bits before series committed working s) (sym (same_medium old new reads)) holds
 
 and_second : (x y : Bool) → (x && y) ≡ true → y ≡ true
 and_second true y is = is
 and_second false y is = absurd (false≢true is)
 
 -- it stands for the same in blocks of which it is known twice that they are held
-rests_both : (m : Medium) (limit : ℕ) (slot_b : Bool) (one other both : List Bool) (committed working : List Version) (s : State) → ((n : ℕ) → IsHeld one n → IsHeld other n → IsHeld both n)
-    → Rests m limit slot_b one committed working s → Rests m limit slot_b other committed working s → Rests m limit slot_b both committed working s
-rests_both m limit slot_b one other both committed working s so rests rests' = record {
+rests_both : (m : Medium) (limit : ℕ) (slot_name : SlotName) (one other both : List Bool) (committed working : List Version) (s : State) → ((n : ℕ) → IsHeld one n → IsHeld other n → IsHeld both n)
+    → Rests m limit slot_name one committed working s → Rests m limit slot_name other committed working s → Rests m limit slot_name both committed working s
+rests_both m limit slot_name one other both committed working s so rests rests' = record {
   old = rests.old;
   new = rests.new;
   blocks = rests.blocks;
@@ -176,67 +177,67 @@ rests_both m limit slot_b one other both committed working s so rests rests' = r
 }
 
 -- a series goes on over a marking, after which other blocks are held: of those that were held before it, those that are held still
-kept_marked : (m : Medium) (limit : ℕ) (slot_b : Bool) (bits before after narrowed : List Bool) (series : Option (List ℕ)) (committed working : List Version) (s : State) → length after ≡ length narrowed
-    → ((n : ℕ) → is_held narrowed n ≡ (is_held before n && is_held after n)) → Rests m limit slot_b after committed working s
-    → KeepsSeries series m limit slot_b bits before committed working s → KeepsSeries series m limit slot_b after narrowed committed working s
-kept_marked m limit slot_b bits before after narrowed None committed working s many both rests kept = tt
-kept_marked m limit slot_b bits before after narrowed (Some alt) committed working s many both rests kept = record {
+kept_marked : (m : Medium) (limit : ℕ) (slot_name : SlotName) (bits before after narrowed : List Bool) (series : Option (List ℕ)) (committed working : List Version) (s : State) → length after ≡ length narrowed
+    → ((n : ℕ) → is_held narrowed n ≡ (is_held before n && is_held after n)) → Rests m limit slot_name after committed working s
+    → KeepsSeries series m limit slot_name bits before committed working s → KeepsSeries series m limit slot_name after narrowed committed working s
+kept_marked m limit slot_name bits before after narrowed None committed working s many both rests kept = tt
+kept_marked m limit slot_name bits before after narrowed (Some alt) committed working s many both rests kept = record {
   wider = record { same_length = many; still = λ n is. and_second (is_held before n) (is_held after n) (sym (both n) ∙ is) };
-  others = rests_both m limit slot_b before after narrowed committed (set_aside alt working) (state_aside alt s) (λ n is is'. both n ∙ ap (λ b. b && is_held after n) is ∙ is') kept.others
-      (all_held m limit slot_b after after committed working s alt rests).others;
+  others = rests_both m limit slot_name before after narrowed committed (set_aside alt working) (state_aside alt s) (λ n is is'. both n ∙ ap (λ b. b && is_held after n) is ∙ is') kept.others
+      (all_held m limit slot_name after after committed working s alt rests).others;
 }
 
 -- the store stands for the same after a marking, and the series goes on
-pub holds_marked : (m now : Medium) (limit : ℕ) (slot_b : Bool) (bits before after narrowed : List Bool) (series : Option (List ℕ)) (committed working : List Version) (s : State) → now ≡ m → length after ≡ length narrowed
-    → ((n : ℕ) → is_held narrowed n ≡ (is_held before n && is_held after n)) → Rests m limit slot_b after committed working s
-    → HoldsWith m limit slot_b bits before series committed working s → HoldsWith now limit slot_b after narrowed series committed working s
-holds_marked m now limit slot_b bits before after narrowed series committed working s read many both rests holds =
-    subst (λ (x : Medium). HoldsWith x limit slot_b after narrowed series committed working s) (sym read)
-    (record { rests = rests; series_kept = kept_marked m limit slot_b bits before after narrowed series committed working s many both rests holds.series_kept })
+pub holds_marked : (m now : Medium) (limit : ℕ) (slot_name : SlotName) (bits before after narrowed : List Bool) (series : Option (List ℕ)) (committed working : List Version) (s : State) → now ≡ m → length after ≡ length narrowed
+    → ((n : ℕ) → is_held narrowed n ≡ (is_held before n && is_held after n)) → Rests m limit slot_name after committed working s
+    → HoldsWith m limit slot_name bits before series committed working s → HoldsWith now limit slot_name after narrowed series committed working s
+holds_marked m now limit slot_name bits before after narrowed series committed working s read many both rests holds =
+    subst (λ (x : Medium). HoldsWith x limit slot_name after narrowed series committed working s) (sym read)
+    (record { rests = rests; series_kept = kept_marked m limit slot_name bits before after narrowed series committed working s many both rests holds.series_kept })
 
 -- no series goes on
-pub holds_alone : {m : Medium} {limit : ℕ} {slot_b : Bool} {bits before : List Bool} {committed working : List Version} {s : State} → Rests m limit slot_b bits committed working s
-    → HoldsWith m limit slot_b bits before None committed working s
+pub holds_alone : {m : Medium} {limit : ℕ} {slot_name : SlotName} {bits before : List Bool} {committed working : List Version} {s : State} → Rests m limit slot_name bits committed working s
+    → HoldsWith m limit slot_name bits before None committed working s
 holds_alone rests = record { rests = rests; series_kept = tt }
 
 -- after a change the series goes on as before it, if one did
-pub holds_then : {m : Medium} {limit : ℕ} {slot_b : Bool} {bits before marks : List Bool} {committed working : List Version} {s : State} (alt : List ℕ) (series : Option (List ℕ)) (held : List Bool)
+pub holds_then : {m : Medium} {limit : ℕ} {slot_name : SlotName} {bits before marks : List Bool} {committed working : List Version} {s : State} (alt : List ℕ) (series : Option (List ℕ)) (held : List Bool)
     → (series ≡ Some alt) ⊎ (series ≡ None) → before ≡ before_of (before_series series marks) held
-    → HoldsWith m limit slot_b bits before (Some alt) committed working s → HoldsWith m limit slot_b bits marks series committed working s
-holds_then {m} {limit} {slot_b} {bits} {before} {marks} {committed} {working} {s} alt series held (inl is) same holds =
-    subst (λ o. HoldsWith m limit slot_b bits marks o committed working s) (sym is)
-    (subst (λ b. HoldsWith m limit slot_b bits b (Some alt) committed working s) (same ∙ ap (λ o. before_of (before_series o marks) held) is) holds)
-holds_then {m} {limit} {slot_b} {bits} {before} {marks} {committed} {working} {s} alt series held (inr none) same holds =
-    subst (λ o. HoldsWith m limit slot_b bits marks o committed working s) (sym none) (holds_alone holds.rests)
+    → HoldsWith m limit slot_name bits before (Some alt) committed working s → HoldsWith m limit slot_name bits marks series committed working s
+holds_then {m} {limit} {slot_name} {bits} {before} {marks} {committed} {working} {s} alt series held (inl is) same holds =
+    subst (λ o. HoldsWith m limit slot_name bits marks o committed working s) (sym is)
+    (subst (λ b. HoldsWith m limit slot_name bits b (Some alt) committed working s) (same ∙ ap (λ o. before_of (before_series o marks) held) is) holds)
+holds_then {m} {limit} {slot_name} {bits} {before} {marks} {committed} {working} {s} alt series held (inr none) same holds =
+    subst (λ o. HoldsWith m limit slot_name bits marks o committed working s) (sym none) (holds_alone holds.rests)
 
 -- a store with a series and entries that are known by other names
-pub holds_as : {m : Medium} {limit : ℕ} {slot_b : Bool} {bits before : List Bool} {series other : Option (List ℕ)} {committed working changed : List Version} {s : State} → other ≡ series → changed ≡ working
-    → HoldsWith m limit slot_b bits before series committed working s → HoldsWith m limit slot_b bits before other committed changed s
-holds_as {m} {limit} {slot_b} {bits} {before} {series} {other} {committed} {working} {changed} {s} same alike holds =
-    subst (λ o. HoldsWith m limit slot_b bits before o committed changed s) (sym same) (subst (λ (vs : List Version). HoldsWith m limit slot_b bits before series committed vs s) (sym alike) holds)
+pub holds_as : {m : Medium} {limit : ℕ} {slot_name : SlotName} {bits before : List Bool} {series other : Option (List ℕ)} {committed working changed : List Version} {s : State} → other ≡ series → changed ≡ working
+    → HoldsWith m limit slot_name bits before series committed working s → HoldsWith m limit slot_name bits before other committed changed s
+holds_as {m} {limit} {slot_name} {bits} {before} {series} {other} {committed} {working} {changed} {s} same alike holds =
+    subst (λ o. HoldsWith m limit slot_name bits before o committed changed s) (sym same) (subst (λ (vs : List Version). HoldsWith m limit slot_name bits before series committed vs s) (sym alike) holds)
 
-module _ (m : Medium) (limit : ℕ) (slot_b : Bool) (bits before : List Bool) (committed working : List Version) (s : State) (rests : Rests m limit slot_b bits committed working s)
-    (name : List ℕ) (e : Version) (is : find (is_alternative_of name) working ≡ Some e) (series : IsInSeries name m limit slot_b bits before committed working s)
+module _ (m : Medium) (limit : ℕ) (slot_name : SlotName) (bits before : List Bool) (committed working : List Version) (s : State) (rests : Rests m limit slot_name bits committed working s)
+    (name : List ℕ) (e : Version) (is : find (is_alternative_of name) working ≡ Some e) (series : IsInSeries name m limit slot_name bits before committed working s)
     (now : Medium) (after : List Bool) (root : Root) (small : root.block < 2 ^ 32) (spares : TouchesOnly (is_free before) m now) (more : HoldsMore bits after) (key : Key) where
   -- the store stands for other records of the alternative, and the series goes on
-  series_holds : (g : Map → Map) (tree : Tree) → changed s.working name (recurrent g) ≡ tree → IsRootedIn sizes (IsHeld after) now.contents limit root (g (found_entry m limit slot_b bits committed working s rests name e is).filed.current)
-      → HoldsWith now limit slot_b after before (Some name) committed (change_first (is_alternative_of name) (with_current root) working) (record s { working = tree })
+  series_holds : (g : Map → Map) (tree : Tree) → changed s.working name (recurrent g) ≡ tree → IsRootedIn sizes (IsHeld after) now.contents limit root (g (found_entry m limit slot_name bits committed working s rests name e is).filed.current)
+      → HoldsWith now limit slot_name after before (Some name) committed (change_first (is_alternative_of name) (with_current root) working) (record s { working = tree })
   series_holds g tree same new =
-      let found = found_entry m limit slot_b bits committed working s rests name e is in
-      let as_named = named_as m limit slot_b bits committed working s rests name found.filed found.found in
-      subst (λ (t : Tree). HoldsWith now limit slot_b after before (Some name) committed (change_first (is_alternative_of name) (with_current root) working) (record s { working = t })) same
+      let found = found_entry m limit slot_name bits committed working s rests name e is in
+      let as_named = named_as m limit slot_name bits committed working s rests name found.filed found.found in
+      subst (λ (t : Tree). HoldsWith now limit slot_name after before (Some name) committed (change_first (is_alternative_of name) (with_current root) working) (record s { working = t })) same
       (record {
-        rests = series_rests m limit slot_b bits before committed working s name series g now after root spares more (g found.filed.current) small
+        rests = series_rests m limit slot_name bits before committed working s name series g now after root spares more (g found.filed.current) small
             (λ a there. let one : a ≡ as_named.alternative = cc (there, as_named.named) in sym (ap (λ (a : Alternative). g a.current) one ∙ ap g as_named.current)) new;
-        series_kept = series_on m limit slot_b bits before committed working s name series g now after root spares more;
+        series_kept = series_on m limit slot_name bits before committed working s name series g now after root spares more;
       })
 
   -- after a Put of the series
-  pub put_holds : (value : List ℕ) → IsRootedIn sizes (IsHeld after) now.contents limit root (with_value (found_entry m limit slot_b bits committed working s rests name e is).filed.current key value)
-      → HoldsWith now limit slot_b after before (Some name) committed (change_first (is_alternative_of name) (with_current root) working) (next s (Put name key value) (Ok Done))
-  put_holds value new = series_holds (λ m. with_value m key value) _ (sym (ap (tree_after s.working) (put_step m limit slot_b bits committed working s rests name e is key value))) new
+  pub put_holds : (value : List ℕ) → IsRootedIn sizes (IsHeld after) now.contents limit root (with_value (found_entry m limit slot_name bits committed working s rests name e is).filed.current key value)
+      → HoldsWith now limit slot_name after before (Some name) committed (change_first (is_alternative_of name) (with_current root) working) (next s (Put name key value) (Ok Done))
+  put_holds value new = series_holds (λ m. with_value m key value) _ (sym (ap (tree_after s.working) (put_step m limit slot_name bits committed working s rests name e is key value))) new
 
   -- after a Remove of the series
-  pub remove_holds : (value : List ℕ) → Ok (Some value) ≡ value_in s.working name key → IsRootedIn sizes (IsHeld after) now.contents limit root (without (found_entry m limit slot_b bits committed working s rests name e is).filed.current key)
-      → HoldsWith now limit slot_b after before (Some name) committed (change_first (is_alternative_of name) (with_current root) working) (next s (Remove name key) (Ok Done))
+  pub remove_holds : (value : List ℕ) → Ok (Some value) ≡ value_in s.working name key → IsRootedIn sizes (IsHeld after) now.contents limit root (without (found_entry m limit slot_name bits committed working s rests name e is).filed.current key)
+      → HoldsWith now limit slot_name after before (Some name) committed (change_first (is_alternative_of name) (with_current root) working) (next s (Remove name key) (Ok Done))
   remove_holds value there new = series_holds (λ m. without m key) _ (sym (ap (tree_after s.working) (step_there s.working name key value there))) new

@@ -3,6 +3,7 @@ use Rattle.std.proofs.Common.{◌≡◌, ℕ, Bool, true, false, cond, List, [],
 use Rattle.vm_types.specs.Map.{Map}
 use Rattle.vm_types.specs.State.{State}
 use Rattle.vm_disk.specs.Disk.{Contents, Medium}
+use Rattle.vm_block.specs.declared.selector.SlotName.{SlotName}
 use Rattle.vm_alloc.specs.Held.{IsHeld}
 use Rattle.vm_tree.specs.Root.{IsRooted}
 use Rattle.vm_store.specs.Filed.{Filed, Standing}
@@ -34,8 +35,8 @@ module _ (P : ℕ → Type 0) (x : Contents) (limit : ℕ) (alt : List ℕ) wher
         | false ↦ λ h. base_under vs fs s.1 e h
       ] found
 
-module _ (m : Medium) (limit : ℕ) (slot_b : Bool) (bits : List Bool) (committed working : List Version) (s : State)
-    (rests : Rests m limit slot_b bits committed working s) where
+module _ (m : Medium) (limit : ℕ) (slot_name : SlotName) (bits : List Bool) (committed working : List Version) (s : State)
+    (rests : Rests m limit slot_name bits committed working s) where
   -- what lies under the roots of an alternative lies in its blocks
   pub current_rooted : (alt : List ℕ) (e : Version) → find (is_alternative_of alt) working ≡ Some e → (n : Map) × IsRooted sizes m.contents limit e.current n (current_blocks (IsHeld bits) m.contents limit working rests.new rests.stands alt)
   current_rooted alt e found = current_under (IsHeld bits) m.contents limit alt working rests.new rests.stands e found

@@ -13,6 +13,7 @@ use Rattle.vm_types.specs.Step.{step}
 use Rattle.vm_types.specs.Tree.{Alternative}
 use Rattle.vm_types.proofs.Maps.{same_map-Decides, delta-nil, delta-same}
 use Rattle.vm_disk.specs.Disk.{Medium}
+use Rattle.vm_block.specs.declared.selector.SlotName.{SlotName}
 use Rattle.vm_store.specs.Pairs.{IsPair, LacksPair}
 use Rattle.vm_store.specs.Resting.{Rests}
 use Rattle.vm_store.specs.Sides.{ReadsOr}
@@ -45,8 +46,8 @@ counted base parent own g h theirs mine keys theirs_are mine_are keys_are tally 
     let four : tally.can_post ≡ same_map base parent = none_differ tally.can_post base parent g h (subst (λ (l : List Change). IsTrue tally.can_post ↔ (l ≡ [])) theirs_are posted) in
     λ i. record { changed = one i; unmerged = two i; conflicts = three i; can_post = four i }
 
-module _ (m : Medium) (limit : ℕ) (slot_b : Bool) (bits : List Bool) (committed working : List Version) (s : State)
-    (rests : Rests m limit slot_b bits committed working s) (alt : List ℕ) where
+module _ (m : Medium) (limit : ℕ) (slot_name : SlotName) (bits : List Bool) (committed working : List Version) (s : State)
+    (rests : Rests m limit slot_name bits committed working s) (alt : List ℕ) where
   -- why there is no alternative with a parent is why it has no numbers
   pub tally_lacking : (refusal : Refusal) → LacksPair working alt refusal → tally_in s.working alt ≡ Err refusal
   tally_lacking refusal (inl none) = ap (tally_of s.working) (absent (standing rests) alt none.1) ∙ ap Err (sym none.0)
@@ -60,36 +61,36 @@ module _ (m : Medium) (limit : ℕ) (slot_b : Bool) (bits : List Bool) (committe
 
   module _ (pair : Version × Version) (is : IsPair working alt pair) where
     abbrev base : Map
-    base = base_map m limit slot_b bits committed working s rests alt pair is
+    base = base_map m limit slot_name bits committed working s rests alt pair is
 
     abbrev own : Map
-    own = own_map m limit slot_b bits committed working s rests alt pair is
+    own = own_map m limit slot_name bits committed working s rests alt pair is
 
     abbrev parent : Map
-    parent = parent_map m limit slot_b bits committed working s rests alt pair is
+    parent = parent_map m limit slot_name bits committed working s rests alt pair is
 
     -- the model accepts a Post just where base and parent are the same
     posted : is_ok (step s.working (Post alt)) ≡ same_map base parent
     posted = by_case (same_map base parent) refl
       where
         by_case : (b : Bool) → same_map base parent ≡ b → is_ok (step s.working (Post alt)) ≡ b
-        by_case true same = ap is_ok (post_step m limit slot_b bits committed working s rests alt pair is ((same_map-Decides base parent).0 same))
+        by_case true same = ap is_ok (post_step m limit slot_name bits committed working s rests alt pair is ((same_map-Decides base parent).0 same))
         by_case false other =
             let apart : ¬ (base ≡ parent) = λ same. true≢false (sym ((same_map-Decides base parent).1 same) ∙ other) in
-            ap is_ok (post_refused m limit slot_b bits committed working s rests alt pair is apart)
+            ap is_ok (post_refused m limit slot_name bits committed working s rests alt pair is apart)
 
     -- the alternative that was found has the name by which it was looked for
-    named_so : (whole alt rests.new (own_there m limit slot_b bits committed working s rests alt pair is).filed).name ≡ alt
-    named_so = (own_there m limit slot_b bits committed working s rests alt pair is).stands.name ∙ called working alt pair.0 is.own
+    named_so : (whole alt rests.new (own_there m limit slot_name bits committed working s rests alt pair is).filed).name ≡ alt
+    named_so = (own_there m limit slot_name bits committed working s rests alt pair is).stands.name ∙ called working alt pair.0 is.own
 
     -- the numbers of an alternative that has a parent
     pub tally_there : tally_in s.working alt ≡ Ok (tally_between base parent own)
     tally_there =
-        let a : Alternative = whole alt rests.new (own_there m limit slot_b bits committed working s rests alt pair is).filed in
+        let a : Alternative = whole alt rests.new (own_there m limit slot_name bits committed working s rests alt pair is).filed in
         let post : is_ok (step s.working (Post a.name)) ≡ same_map base parent = ap (λ (n : List ℕ). is_ok (step s.working (Post n))) named_so ∙ posted in
-        ap (tally_of s.working) (own_there m limit slot_b bits committed working s rests alt pair is).is
-        ∙ ap (λ o. tally_under s.working o a) (under m limit slot_b bits committed working s rests alt pair is)
-        ∙ ap (λ o. tally_with s.working o a) (parent_there m limit slot_b bits committed working s rests alt pair is).is
+        ap (tally_of s.working) (own_there m limit slot_name bits committed working s rests alt pair is).is
+        ∙ ap (λ o. tally_under s.working o a) (under m limit slot_name bits committed working s rests alt pair is)
+        ∙ ap (λ o. tally_with s.working o a) (parent_there m limit slot_name bits committed working s rests alt pair is).is
         ∙ ap Ok (λ i. record { changed = length (delta base own); unmerged = length (delta base parent); conflicts = length (conflicts base parent own); can_post = post i })
 
     -- so they are what is due, where they were counted, or the device failed or memory was wanting

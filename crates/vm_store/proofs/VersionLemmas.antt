@@ -14,6 +14,7 @@ use Rattle.vm_disk.specs.Disk.{Medium}
 use Rattle.vm_disk.proofs.MomentLemmas.{spares_itself}
 use Rattle.vm_alloc.specs.Held.{IsHeld}
 use Rattle.vm_block.specs.Slot.{SlotFits}
+use Rattle.vm_block.specs.declared.selector.SlotName.{SlotName}
 use Rattle.vm_store.specs.declared.version.Version.{Version}
 use Rattle.vm_store.specs.Answers.{IsDue, IsAnswer}
 use Rattle.vm_store.specs.Versions.{slot_entries}
@@ -51,25 +52,25 @@ due s spare command r (Ok o) is none same =
     (subst (λ (b : Bool). IsDue (Ok o) b ⊥ r) (sym (ap (λ n. nat_lt spare (16 * n)) none ∙ none_less spare)) (inl (same, λ never. never))))
 
 -- what the working versions of a store stand for
-abbrev pub standing : {m : Medium} {limit : ℕ} {slot_b : Bool} {bits : List Bool} {committed working : List Version} {s : State} → Rests m limit slot_b bits committed working s → StandFor bits m.contents limit working s.working
+abbrev pub standing : {m : Medium} {limit : ℕ} {slot_name : SlotName} {bits : List Bool} {committed working : List Version} {s : State} → Rests m limit slot_name bits committed working s → StandFor bits m.contents limit working s.working
 standing rests = record { filed = rests.new; fits = rests.fits; stands = rests.stands; gives = rests.gives_new }
 
-module _ (m : Medium) (limit : ℕ) (slot_b : Bool) (bits : List Bool) (committed working : List Version) (s : State)
-    (rests : Rests m limit slot_b bits committed working s) where
+module _ (m : Medium) (limit : ℕ) (slot_name : SlotName) (bits : List Bool) (committed working : List Version) (s : State)
+    (rests : Rests m limit slot_name bits committed working s) where
   -- other entries, which stand in blocks that are held, without a device call
   pub stepped : (command : Command) (changed : List Version) (new : List Filed) (tree : Tree) → next s command (Ok Done) ≡ record s { working = tree_after s.working (step s.working command) } → step s.working command ≡ done tree → SlotFits limit (slot_entries changed)
-      → Standing (IsHeld bits) m.contents limit changed new → tree_of new ≡ tree → Rests m limit slot_b bits committed changed (next s command (Ok Done))
+      → Standing (IsHeld bits) m.contents limit changed new → tree_of new ≡ tree → Rests m limit slot_name bits committed changed (next s command (Ok Done))
   stepped command changed new tree plain is fits stands gives =
-      subst (λ (t : State). Rests m limit slot_b bits committed changed t) (sym (plain ∙ ap (λ (o : Outcome). record s { working = tree_after s.working o }) is))
-      (rests_on m limit slot_b bits committed working s rests m bits changed new tree (spares_itself _ m) (record { same_length = refl; still = λ n h. h }) fits stands gives)
+      subst (λ (t : State). Rests m limit slot_name bits committed changed t) (sym (plain ∙ ap (λ (o : Outcome). record s { working = tree_after s.working o }) is))
+      (rests_on m limit slot_name bits committed working s rests m bits changed new tree (spares_itself _ m) (record { same_length = refl; still = λ n h. h }) fits stands gives)
 
   -- other entries, as a command that changes entries alone leaves them
-  pub turned_rests : (command : Command) (r : Result Answer Refusal) (changed : List Version) → ChangesEntriesAlone command → Turns working changed command r → Rests m limit slot_b bits committed changed (next s command r)
-  turned_rests command (Err refusal) changed alone turned = subst (λ (es : List Version). Rests m limit slot_b bits committed es s) (sym turned.kept) rests
+  pub turned_rests : (command : Command) (r : Result Answer Refusal) (changed : List Version) → ChangesEntriesAlone command → Turns working changed command r → Rests m limit slot_name bits committed changed (next s command r)
+  turned_rests command (Err refusal) changed alone turned = subst (λ (es : List Version). Rests m limit slot_name bits committed es s) (sym turned.kept) rests
   turned_rests command (Ok answer) changed alone turned =
       let left = turned.stand bits m.contents limit s.working (standing rests) in
-      subst (Rests m limit slot_b bits committed changed) (sym (plain command alone))
-      (rests_on m limit slot_b bits committed working s rests m bits changed left.filed _ (spares_itself _ m) (record { same_length = refl; still = λ n h. h }) left.fits left.stands left.gives)
+      subst (Rests m limit slot_name bits committed changed) (sym (plain command alone))
+      (rests_on m limit slot_name bits committed working s rests m bits changed left.filed _ (spares_itself _ m) (record { same_length = refl; still = λ n h. h }) left.fits left.stands left.gives)
     where
       plain : (command : Command) → ChangesEntriesAlone command → accepted s command ≡ record s { working = tree_after s.working (step s.working command) }
       plain (New name parent) alone = refl

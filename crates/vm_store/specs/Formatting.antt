@@ -1,11 +1,12 @@
 -- What a formatting leaves.
-use Rattle.std.specs.Prelude.{◌≡◌, ◌⊎◌, ℕ, ◌<◌, ◌^◌, false, [], ◌∷◌, None, Result, Ok, Err, codes}
+use Rattle.std.specs.Prelude.{◌≡◌, ◌⊎◌, ℕ, ◌<◌, ◌^◌, [], ◌∷◌, None, Result, Ok, Err, codes}
 use Rattle.vm_types.specs.declared.refusal.Refusal.{Refusal}
 use Rattle.vm_disk.specs.Disk.{Medium, IsClean, block}
 use Rattle.vm_disk.specs.Moments.{Leaves}
 use Rattle.vm_block.specs.Header.{IsHeader}
 use Rattle.vm_block.specs.declared.slot.Kind.TheVariants as kind
 use Rattle.vm_block.specs.declared.slot.Entry.{Entry}
+use Rattle.vm_block.specs.declared.selector.SlotName.TheVariants.{A}
 use Rattle.vm_catalog.specs.Place.{selected}
 use Rattle.vm_catalog.specs.Catalog.{SlotAt}
 use Rattle.vm_store.specs.Refused.{IsAtMostSynced}
@@ -21,8 +22,8 @@ IsBadSize blocks available = (blocks < 64) ⊎ ((2 ^ 20 < blocks) ⊎ (available
 
 -- the selector names slot A with the one entry of a new store of so many blocks, and all is synced
 pub record IsLaidOut (blocks : ℕ) (m : Medium) : Type 0 where
-  pub selected : selected m.contents ≡ false
-  pub slot : SlotAt m.contents false blocks (fresh_entry ∷ [])
+  pub selected : selected m.contents ≡ A
+  pub slot : SlotAt m.contents A blocks (fresh_entry ∷ [])
   pub clean : IsClean m
 
 -- a new store of so many blocks is shown, and all is synced

@@ -14,8 +14,8 @@ use Rattle.vm_store.specs.declared.store.parts.Parts.{Parts}
 pub record PartsHold (m : Medium) (parts : Parts) : Type 0 where
   pub seen : Seen
   pub shown : Shows m.contents seen
-  pub holds : Rests m parts.blocks parts.slot_b parts.held parts.committed parts.working (opened seen)
-  pub free : (s : State) (rests : Rests m parts.blocks parts.slot_b parts.held parts.committed parts.working s) → free_count parts.held ≡ spare_of rests
+  pub holds : Rests m parts.blocks parts.slot_name parts.held parts.committed parts.working (opened seen)
+  pub free : (s : State) (rests : Rests m parts.blocks parts.slot_name parts.held parts.committed parts.working s) → free_count parts.held ≡ spare_of rests
 
 module _ {D : Type 0} {members : _} where
   -- the store stands for what these contents show, committed and working alike, and just the spare blocks are free

@@ -6,6 +6,7 @@ use Rattle.vm_types.specs.Tree.{changed}
 use Rattle.vm_disk.specs.Disk.{Medium}
 use Rattle.vm_alloc.specs.Held.{HoldsMore, IsHeld}
 use Rattle.vm_block.specs.Slot.{SlotFits}
+use Rattle.vm_block.specs.declared.selector.SlotName.{SlotName}
 use Rattle.vm_catalog.specs.Catalog.{AtRest}
 use Rattle.vm_store.specs.Filed.{Filed, Standing, tree_of, reach}
 use Rattle.vm_store.specs.Spare.{spare}
@@ -21,7 +22,7 @@ pub record IsSafe (bits : List Bool) (m : Medium) (n : ℕ) : Type 0 where
 -- a store with these versions, blocks and held blocks stands for this state, on a disk that holds m: the slot in use names the
 -- committed ones, and says how many blocks were committed, all of which a crash leaves; their trees stand in blocks of those that are
 -- held and clean, those of the working ones in blocks that are held
-pub record Rests (m : Medium) (limit : ℕ) (slot_b : Bool) (bits : List Bool) (committed working : List Version) (s : State) : Type 0 where
+pub record Rests (m : Medium) (limit : ℕ) (slot_name : SlotName) (bits : List Bool) (committed working : List Version) (s : State) : Type 0 where
   pub old : List Filed
   pub new : List Filed
   pub blocks : limit ≡ s.blocks
@@ -29,7 +30,7 @@ pub record Rests (m : Medium) (limit : ℕ) (slot_b : Bool) (bits : List Bool) (
   pub inside : limit ≤ length m.contents
   pub sure : s.kept ≤ m.sure
   pub system : (n : ℕ) → n < 34 → IsHeld bits n
-  pub rest : AtRest slot_b m s.kept (slot_entries committed)
+  pub rest : AtRest slot_name m s.kept (slot_entries committed)
   pub fits : SlotFits limit (slot_entries working)
   pub safe : Standing (IsSafe bits m) m.contents s.kept committed old
   pub stands : Standing (IsHeld bits) m.contents limit working new
@@ -37,8 +38,8 @@ pub record Rests (m : Medium) (limit : ℕ) (slot_b : Bool) (bits : List Bool) (
   pub gives_new : tree_of new ≡ s.working
 
 -- how many blocks are spare: for data, and under no root of the committed or the working versions
-abbrev pub spare_of : {m : Medium} {limit : ℕ} {slot_b : Bool} {bits : List Bool} {committed working : List Version} {s : State} → Rests m limit slot_b bits committed working s → ℕ
-spare_of {m} {limit} {slot_b} {bits} {committed} {working} {s} rests =
+abbrev pub spare_of : {m : Medium} {limit : ℕ} {slot_name : SlotName} {bits : List Bool} {committed working : List Version} {s : State} → Rests m limit slot_name bits committed working s → ℕ
+spare_of {m} {limit} {slot_name} {bits} {committed} {working} {s} rests =
     spare limit (reach (IsSafe bits m) m.contents s.kept committed rests.old rests.safe ++ reach (IsHeld bits) m.contents limit working rests.new rests.stands)
 
 -- the root of the empty map
@@ -54,9 +55,9 @@ state_aside alt s = record s { working = changed s.working alt (λ a. record a {
 
 -- a series of changes of one alternative goes on, before which these blocks were held: they still are, and all trees but that of the
 -- alternative's records stand in them
-pub record IsInSeries (alt : List ℕ) (m : Medium) (limit : ℕ) (slot_b : Bool) (bits before : List Bool) (committed working : List Version) (s : State) : Type 0 where
+pub record IsInSeries (alt : List ℕ) (m : Medium) (limit : ℕ) (slot_name : SlotName) (bits before : List Bool) (committed working : List Version) (s : State) : Type 0 where
   pub wider : HoldsMore before bits
-  pub others : Rests m limit slot_b before committed (set_aside alt working) (state_aside alt s)
+  pub others : Rests m limit slot_name before committed (set_aside alt working) (state_aside alt s)
 
 -- the blocks that were held before the series, where one goes on
 abbrev pub before_series : Option (List ℕ) → List Bool → Option (List Bool)
@@ -69,11 +70,11 @@ before_of None bits = bits
 before_of (Some before) bits = before
 
 -- what is known of the series that goes on, if one does
-abbrev pub KeepsSeries : Option (List ℕ) → (m : Medium) (limit : ℕ) (slot_b : Bool) (bits before : List Bool) (committed working : List Version) (s : State) → Type 0
-KeepsSeries None m limit slot_b bits before committed working s = Unit {0}
-KeepsSeries (Some alt) m limit slot_b bits before committed working s = IsInSeries alt m limit slot_b bits before committed working s
+abbrev pub KeepsSeries : Option (List ℕ) → (m : Medium) (limit : ℕ) (slot_name : SlotName) (bits before : List Bool) (committed working : List Version) (s : State) → Type 0
+KeepsSeries None m limit slot_name bits before committed working s = Unit {0}
+KeepsSeries (Some alt) m limit slot_name bits before committed working s = IsInSeries alt m limit slot_name bits before committed working s
 
 -- the same store, in which this series goes on, if one does
-pub record HoldsWith (m : Medium) (limit : ℕ) (slot_b : Bool) (bits before : List Bool) (series : Option (List ℕ)) (committed working : List Version) (s : State) : Type 0 where
-  pub rests : Rests m limit slot_b bits committed working s
-  pub series_kept : KeepsSeries series m limit slot_b bits before committed working s
+pub record HoldsWith (m : Medium) (limit : ℕ) (slot_name : SlotName) (bits before : List Bool) (series : Option (List ℕ)) (committed working : List Version) (s : State) : Type 0 where
+  pub rests : Rests m limit slot_name bits committed working s
+  pub series_kept : KeepsSeries series m limit slot_name bits before committed working s

@@ -2,6 +2,7 @@
 use Rattle.std.specs.Prelude.{ℕ, Bool, List, [], ◌∷◌, find, Option, Some, None, unwrap_or, if◌then◌else◌}
 use Rattle.vm_types.specs.State.{State}
 use Rattle.vm_disk.specs.Disk.{Contents, Medium}
+use Rattle.vm_block.specs.declared.selector.SlotName.{SlotName}
 use Rattle.vm_alloc.specs.Held.{IsHeld}
 use Rattle.vm_diff.specs.Shared.{unshared}
 use Rattle.vm_store.specs.Filed.{Filed, Standing}
@@ -29,7 +30,7 @@ abbrev pub parent_name : Option Version → List ℕ
 parent_name None = []
 parent_name (Some v) = unwrap_or v.owner []
 
-module _ {m : Medium} {limit : ℕ} {slot_b : Bool} {bits : List Bool} {committed working : List Version} {s : State} (rests : Rests m limit slot_b bits committed working s) where
+module _ {m : Medium} {limit : ℕ} {slot_name : SlotName} {bits : List Bool} {committed working : List Version} {s : State} (rests : Rests m limit slot_name bits committed working s) where
   -- how many blocks only one of the base tree of an alternative and the current tree of this one has
   abbrev pub unshared_from : List ℕ → List ℕ → ℕ
   unshared_from alt other =

@@ -47,7 +47,7 @@ module _ {D : Type 0} {members : _} where
   pub record IsSameButDisk (old new : Store D members) : Type 0 where
     pub alloc : new.alloc ≡ old.alloc
     pub blocks : new.blocks ≡ old.blocks
-    pub slot_b : new.slot_b ≡ old.slot_b
+    pub slot_name : new.slot_name ≡ old.slot_name
     pub entries : new.entries ≡ old.entries
     pub committed : new.committed ≡ old.committed
     pub working : new.working ≡ old.working
@@ -92,7 +92,7 @@ module _ {D : Type 0} {members : _} where
   -- the store stands for this state
   abbrev pub Holds : Store D members → State → Type 0
   Holds store s =
-      HoldsWith (members.state store.disk).now store.blocks store.slot_b store.held store.before store.series store.committed store.working s
+      HoldsWith (members.state store.disk).now store.blocks store.slot_name store.held store.before store.series store.committed store.working s
 
   -- a crash at any moment of the call leaves what was committed, or what the command commits
   abbrev pub CrashLeaves : (old new : Store D members) → State → Command → Type 0

@@ -12,10 +12,13 @@ ghost use Rattle.vm_store.specs.Tallies.{tally_between};
 use crate::faults::refusal_of;
 use crate::tally::Tally;
 use std::alloc::Global;
-use vm_diff::{changed, changes_by_merge, conflicts_between, keys_in_conflict, settled_refusal};
+use vm_diff::changed;
 use vm_disk::Disk;
 use vm_tree::Root;
-use vm_types::{Changes, Conflicts, Key, Refusal, Side};
+use vm_types::{
+    Changes, Conflicts, Key, Refusal, Side, changes_by_merge, conflicts_between, keys_in_conflict,
+    settled_refusal,
+};
 
 /// The roots of a base, and of the two maps that came of it.
 #[derive(Clone, Copy, Debug)]

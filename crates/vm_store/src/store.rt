@@ -21,7 +21,7 @@ pub use opening::open;
 pub use running::Stop;
 use std::alloc::Global;
 use vm_alloc::{Held, Marks, Snapshot};
-use vm_block::Entry;
+use vm_block::{Entry, SlotName};
 use vm_disk::Disk;
 use vm_types::{Answer, Command, Name, Refusal};
 
@@ -37,7 +37,7 @@ pub struct Store<D: Disk> {
     disk: D,
     alloc: Global,
     blocks: u32,
-    slot_b: bool,
+    slot_name: SlotName,
     entries: Vec<Entry>,
     committed: Versions,
     working: Versions,
@@ -120,7 +120,7 @@ impl<D: Disk> Store<D> {
         if self.failed {
             return Err(Refusal::Failed);
         }
-        let answer = self.carry_out(command);
+        let answer = self.dispatch(command);
         self.failed = is_device(&answer);
         answer
     }
@@ -141,7 +141,7 @@ impl<D: Disk> Store<D> {
             disk,
             alloc: _,
             blocks: _,
-            slot_b: _,
+            slot_name: _,
             entries: _,
             committed: _,
             working: _,

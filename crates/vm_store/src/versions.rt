@@ -236,7 +236,7 @@ impl Versions {
     }
 
     /// Carries out a command that makes, drops or goes back to an alternative or a checkpoint.
-    pub fn carry_out(&mut self, command: &Command) -> Result<Answer, Refusal>
+    pub fn change_by(&mut self, command: &Command) -> Result<Answer, Refusal>
         requires { ChangesEntriesAlone command.now }
         ensures { Turns self.old self.new command.now result }
     {

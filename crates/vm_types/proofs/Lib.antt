@@ -8,9 +8,11 @@ pub mod IsolationLemmas
 pub mod KeptLemmas
 pub mod Keys
 pub mod Maps
+pub mod MergingLemmas
 pub mod MomentsLemmas
 pub mod PackedLemmas
 pub mod Runs
+pub mod SettledLemmas
 pub mod ShapeLemmas
 pub mod SoundLemmas
 pub mod Steps

@@ -1,5 +1,5 @@
-//! The words of the store: keys, values, names, commands, answers and refusals, and the model
-//! that every crate above is proved against.
+//! The words of the store: keys, values, names, commands, answers and refusals, the model that
+//! every crate above is proved against, and what a merge makes of two lists of changes.
 //!
 //! It stands on the standard library alone and knows nothing of blocks or disks. Its one promise:
 //! the limits of a value and of a name hold exactly, and keys are ordered by table, then by number.
@@ -12,9 +12,11 @@ mod command;
 mod conflicts;
 mod key;
 pub mod laws;
+mod merging;
 mod name;
 mod records;
 mod refusal;
+mod settling;
 mod value;
 mod values;
 
@@ -24,7 +26,9 @@ pub use changes::{Changes, ChangesIter};
 pub use command::{Command, Settled, Side};
 pub use conflicts::{Conflicts, ConflictsIter};
 pub use key::Key;
+pub use merging::{changes_by_merge, conflicts_between, keys_in_conflict};
 pub use name::Name;
 pub use records::{Records, RecordsIter};
 pub use refusal::Refusal;
+pub use settling::settled_refusal;
 pub use value::Value;

@@ -1,7 +1,7 @@
 //! What stands on a disk after a publish, byte by byte, and which slots are refused.
 use std::alloc::Global;
 use std::test::Fail;
-use vm_block::{Entry, Kind, write_header};
+use vm_block::{Entry, Kind, SlotName, write_header};
 use vm_catalog::{
     LoadFault, MAX_ENTRIES, Slot, load, publish, select_slot, slot_in_use, write_slot,
 };
@@ -42,28 +42,32 @@ fn family(alloc: Global, count: usize) -> Option<Vec<Entry>> {
 }
 
 // The calls under test, on a disk that is large enough.
-fn put<D: Disk>(disk: &mut D, in_use: bool, entries: &[Entry]) -> Result<(), DeviceFault> {
+fn put<D: Disk>(disk: &mut D, in_use: SlotName, entries: &[Entry]) -> Result<(), DeviceFault> {
     if disk.blocks() < 34 || entries.len() > MAX_ENTRIES {
         return Err(DeviceFault);
     }
     publish(disk, in_use, 64, entries)
 }
 
-fn put_alone<D: Disk>(disk: &mut D, slot_b: bool, entries: &[Entry]) -> Result<(), DeviceFault> {
+fn put_alone<D: Disk>(
+    disk: &mut D,
+    slot_name: SlotName,
+    entries: &[Entry],
+) -> Result<(), DeviceFault> {
     if disk.blocks() < 34 || entries.len() > MAX_ENTRIES {
         return Err(DeviceFault);
     }
-    write_slot(disk, slot_b, 64, entries)
+    write_slot(disk, slot_name, 64, entries)
 }
 
-fn get<D: Disk>(alloc: Global, disk: &mut D, slot_b: bool) -> Result<Slot, LoadFault> {
+fn get<D: Disk>(alloc: Global, disk: &mut D, slot_name: SlotName) -> Result<Slot, LoadFault> {
     if disk.blocks() < 34 {
         return Err(LoadFault::Device);
     }
-    load(alloc, disk, slot_b)
+    load(alloc, disk, slot_name)
 }
 
-fn found<D: Disk>(disk: &mut D) -> Result<Option<bool>, DeviceFault> {
+fn found<D: Disk>(disk: &mut D) -> Result<Option<SlotName>, DeviceFault> {
     if disk.blocks() < 2 {
         return Err(DeviceFault);
     }
@@ -99,9 +103,9 @@ fn stands_after(
     byte: u8,
 ) -> Result<bool, Fail> {
     let mut disk = MemDisk::new(alloc, 64)?;
-    put_alone(&mut disk, false, entries)?;
+    put_alone(&mut disk, SlotName::A, entries)?;
     set(&mut disk, n, at, byte)?;
-    match get(alloc, &mut disk, false) {
+    match get(alloc, &mut disk, SlotName::A) {
         Ok(_) => Ok(true),
         Err(LoadFault::Damaged) => Ok(false),
         Err(fault) => Err(Fail::from(fault)),
@@ -114,9 +118,9 @@ fn what_is_published_is_loaded(rt: HostRuntime) -> Result<(), Fail> {
         let entries = family(rt.alloc(), count).ok_or("names")?;
         let disk = MemDisk::new(rt.alloc(), 64)?;
         let mut disk = FuseDisk::once(disk, 1000, [9; 4096]);
-        put(&mut disk, false, &entries)?;
+        put(&mut disk, SlotName::A, &entries)?;
         assert_eq!(rt; disk.calls(), used + 3, "writes of {count} entries");
-        let slot = get(rt.alloc(), &mut disk, true)?;
+        let slot = get(rt.alloc(), &mut disk, SlotName::B)?;
         assert_eq!(rt; disk.calls(), used + 3 + used, "reads of {count} entries");
         assert_eq!(rt; slot.blocks, 64);
         assert_eq!(rt; slot.entries.as_slice(), entries.as_slice());
@@ -128,7 +132,7 @@ fn what_is_published_is_loaded(rt: HostRuntime) -> Result<(), Fail> {
 #[test]
 fn slot_b_has_the_bytes_of_one_entry(rt: HostRuntime) -> Result<(), Fail> {
     let mut disk = MemDisk::new(rt.alloc(), 64)?;
-    put(&mut disk, false, &[top().ok_or("top")?])?;
+    put(&mut disk, SlotName::A, &[top().ok_or("top")?])?;
     let mut wanted = [0; 4096];
     wanted[..16].copy_from_slice(b"SLOT\x01\0\0\0\x40\0\0\0\x01\0\0\0");
     wanted[128..133].copy_from_slice(b"\x41\x03top");
@@ -147,11 +151,11 @@ fn selector_behind_a_header_names_a_slot(rt: HostRuntime) -> Result<(), Fail> {
     if disk.blocks() > 2 {
         disk.write(0, &header)?;
     }
-    assert_eq!(rt; found(&mut disk)?, Some(false));
+    assert_eq!(rt; found(&mut disk)?, Some(SlotName::A));
     if disk.blocks() > 2 {
-        select_slot(&mut disk, true)?;
+        select_slot(&mut disk, SlotName::B)?;
     }
-    assert_eq!(rt; found(&mut disk)?, Some(true));
+    assert_eq!(rt; found(&mut disk)?, Some(SlotName::B));
     Ok(())
 }
 
@@ -185,9 +189,9 @@ fn owner_in_a_later_entry_is_refused(rt: HostRuntime) -> Result<(), Fail> {
     assert_eq!(rt; entries.len(), 3);
     entries[1].owner = Some(entries[2].name);
     let mut disk = MemDisk::new(alloc, 64)?;
-    put_alone(&mut disk, false, &entries)?;
+    put_alone(&mut disk, SlotName::A, &entries)?;
     assert_eq!(rt;
-        get(alloc, &mut disk, false).err(),
+        get(alloc, &mut disk, SlotName::A).err(),
         Some(LoadFault::Damaged)
     );
     Ok(())

@@ -1,6 +1,6 @@
 //! Header and selector, byte for byte.
 use super::spelled::is_block;
-use vm_block::{is_header, read_selector, write_header, write_selector};
+use vm_block::{SlotName, is_header, read_selector, write_header, write_selector};
 
 #[test]
 fn header_is_spelled_and_read(rt: HostRuntime) {
@@ -18,15 +18,15 @@ fn header_is_spelled_and_read(rt: HostRuntime) {
 #[test]
 fn selector_is_its_lowest_bit(rt: HostRuntime) {
     let mut block = [7; 4096];
-    write_selector(true, &mut block);
+    write_selector(SlotName::B, &mut block);
     assert!(rt; is_block(&block, b"\x01"));
-    assert!(rt; read_selector(&block));
-    write_selector(false, &mut block);
+    assert_eq!(rt; read_selector(&block), SlotName::B);
+    write_selector(SlotName::A, &mut block);
     assert!(rt; is_block(&block, b""));
-    assert!(rt; !read_selector(&block));
+    assert_eq!(rt; read_selector(&block), SlotName::A);
     block[0] = 0xfe;
     block[1] = 0xff;
-    assert!(rt; !read_selector(&block), "even");
+    assert_eq!(rt; read_selector(&block), SlotName::A, "even");
     block[0] = 0xff;
-    assert!(rt; read_selector(&block), "odd");
+    assert_eq!(rt; read_selector(&block), SlotName::B, "odd");
 }

@@ -3,7 +3,7 @@ use super::image::Image;
 use super::{BLOCKS, Wrong, name};
 use std::alloc::Global;
 use std::test::Fail;
-use vm_block::{Child, Entry, Kind, write_header, write_leaf, write_node};
+use vm_block::{Child, Entry, Kind, SlotName, write_header, write_leaf, write_node};
 use vm_catalog::write_slot;
 use vm_disk::{Disk, MemDisk};
 use vm_store::{format, open};
@@ -176,7 +176,7 @@ fn put_slot(alloc: Global, disk: &mut MemDisk, lines: &[Line]) -> Result<(), Wro
         entries.push(entry(*line)).map_err(|_| Wrong::Memory)?;
     }
     if entries.len() <= 511 && disk.blocks() >= 34 {
-        write_slot(disk, false, BLOCKS, &entries)?;
+        write_slot(disk, SlotName::A, BLOCKS, &entries)?;
     }
     Ok(())
 }
@@ -195,7 +195,7 @@ fn put_children(alloc: Global, disk: &mut MemDisk, count: usize) -> Result<(), W
         entries.push(child).map_err(|_| Wrong::Memory)?;
     }
     if entries.len() <= 511 && disk.blocks() >= 34 {
-        write_slot(disk, false, BLOCKS, &entries)?;
+        write_slot(disk, SlotName::A, BLOCKS, &entries)?;
     }
     Ok(())
 }

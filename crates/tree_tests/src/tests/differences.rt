@@ -2,7 +2,6 @@
 ghost use Rattle.vm_tree.specs.Root.{AreSizes};
 
 mod levels;
-mod merging;
 
 use std::alloc::Global;
 use std::test::Fail;

@@ -22,7 +22,7 @@ impl<D: Disk> Store<D> {
     ghost use Rattle.vm_store.specs.Store.{disk_of, entries_of, Carries, Holds, held_of, free_of, IsHonest, GrowsOn, EarlyKeeps};
 
     // Carries out one command, and leaves it to `apply` to note that the device failed.
-    pub(super) fn carry_out(&mut self, command: &Command) -> Result<Answer, Refusal>
+    pub(super) fn dispatch(&mut self, command: &Command) -> Result<Answer, Refusal>
         ensures any { GrowsOn (result ≡ Err Refusal.Device) self.old self.new }
         ensures as_long { (IsGrow command.now → ⊥)
             → (D.state (disk_of self.new)).blocks ≡ (D.state (disk_of self.old)).blocks }

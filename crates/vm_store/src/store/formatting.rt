@@ -7,7 +7,7 @@ ghost use Rattle.vm_store.specs.Formatting.{IsBadSize, IsFormatted, IsFormatting
 ghost use Rattle.vm_store.specs.Refused.{IsAtMostSynced, IsSynced};
 ghost use Rattle.vm_store.specs.Shown.{ShowsAtMostNew};
 
-use vm_block::{Entry, Kind, is_header, write_header};
+use vm_block::{Entry, Kind, SlotName, is_header, write_header};
 use vm_catalog::{select_slot, write_slot};
 use vm_disk::{DeviceFault, Disk};
 use vm_types::{Name, Refusal};
@@ -67,10 +67,10 @@ fn lay_out<D: Disk>(disk: &mut D, blocks: u32) -> Result<(), DeviceFault>
     ensures laid { (D.state disk.new).honest ≡ true
         → OnOk result (IsLaidOut blocks (D.state disk.new).now) }
 {
-    let Ok(()) = write_slot(disk, false, blocks, &[fresh_entry()]) else {
+    let Ok(()) = write_slot(disk, SlotName::A, blocks, &[fresh_entry()]) else {
         return Err(DeviceFault);
     };
-    let Ok(()) = select_slot(disk, false) else {
+    let Ok(()) = select_slot(disk, SlotName::A) else {
         return Err(DeviceFault);
     };
     disk.sync()

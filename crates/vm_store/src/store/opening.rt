@@ -2,7 +2,7 @@
 ghost use Rattle.std.specs.Prelude.{◌≡◌, ◌≢◌, ◌*◌, ◌≤◌, length, true, false, vec_capacity, IfOk, IfErr, OnOk, IsErrAnd, IfSome};
 ghost use Rattle.vm_disk.specs.Disk.{Goes, IsClean, block};
 ghost use Rattle.vm_disk.specs.Moments.{Throughout, OnlyReads};
-ghost use Rattle.vm_block.specs.Selector.{names_b};
+ghost use Rattle.vm_block.specs.Selector.{named_slot};
 ghost use Rattle.vm_block.specs.Slot.{SlotFits};
 ghost use Rattle.vm_catalog.specs.Catalog.{SlotAt};
 ghost use Rattle.vm_store.specs.Refused.{IsAtMostSynced, IsSynced, IsRefused, IsStore};
@@ -18,7 +18,7 @@ use crate::versions::Versions;
 use crate::{FAN, LEAF, LEVELS};
 use std::alloc::Global;
 use vm_alloc::{Held, Snapshot};
-use vm_block::Entry;
+use vm_block::{Entry, SlotName};
 use vm_catalog::{LoadFault, Slot, first_block, load, slot_in_use};
 use vm_check::verify;
 use vm_disk::Disk;
@@ -29,7 +29,7 @@ use vm_types::Refusal;
 const LEAST_BLOCKS: u32 = 64;
 
 // Syncs, and tells whether there is a store, and which slot its selector names.
-fn find_slot<D: Disk>(disk: &mut D) -> Result<bool, Refusal>
+fn find_slot<D: Disk>(disk: &mut D) -> Result<SlotName, Refusal>
     ensures any { Goes (result ≡ Err Refusal.Device) (D.state disk.old) (D.state disk.new) }
     ensures room { OnOk result (64 ≤ (D.state disk.old).blocks) }
     ensures moments { (D.state disk.new).honest ≡ true
@@ -37,8 +37,8 @@ fn find_slot<D: Disk>(disk: &mut D) -> Result<bool, Refusal>
     ensures synced { (D.state disk.new).honest ≡ true → result ≢ Err Refusal.Device
         → IsSynced (D.state disk.old).now (D.state disk.new).now }
     ensures found { (D.state disk.new).honest ≡ true
-        → IfOk result (λ slot_b. IsStore (D.state disk.old).now.contents
-        × (slot_b ≡ names_b (block (D.state disk.old).now.contents 1))) }
+        → IfOk result (λ slot_name. IsStore (D.state disk.old).now.contents
+        × (slot_name ≡ named_slot (block (D.state disk.old).now.contents 1))) }
     ensures refused { (D.state disk.new).honest ≡ true
         → IfErr result (IsRefused (D.state disk.old).now.contents) }
 {
@@ -49,14 +49,14 @@ fn find_slot<D: Disk>(disk: &mut D) -> Result<bool, Refusal>
         return Err(Refusal::NotAStore);
     }
     match slot_in_use(disk) {
-        Ok(Some(slot_b)) => Ok(slot_b),
+        Ok(Some(slot_name)) => Ok(slot_name),
         Ok(None) => Err(Refusal::NotAStore),
         Err(_) => Err(Refusal::Device),
     }
 }
 
 // The entries of that slot, where the store lies within the disk.
-fn load_slot<D: Disk>(alloc: Global, disk: &mut D, slot_b: bool) -> Result<Slot, Refusal>
+fn load_slot<D: Disk>(alloc: Global, disk: &mut D, slot_name: SlotName) -> Result<Slot, Refusal>
     requires { 64 ≤ (D.state disk.old).blocks }
     ensures any { Goes (result ≡ Err Refusal.Device) (D.state disk.old) (D.state disk.new) }
     ensures reads { (D.state disk.new).honest ≡ true
@@ -65,12 +65,12 @@ fn load_slot<D: Disk>(alloc: Global, disk: &mut D, slot_b: bool) -> Result<Slot,
     ensures reserved { IfOk result (λ slot. 511 ≤ vec_capacity slot.entries) }
     ensures inside { IfOk result (λ slot. slot.blocks ≤ (D.state disk.old).blocks) }
     ensures found { (D.state disk.new).honest ≡ true
-        → IfOk result (λ slot. SlotAt (D.state disk.old).now.contents slot_b slot.blocks slot.entries.items) }
+        → IfOk result (λ slot. SlotAt (D.state disk.old).now.contents slot_name slot.blocks slot.entries.items) }
     ensures refused { (D.state disk.new).honest ≡ true → IsStore (D.state disk.old).now.contents
-        → slot_b ≡ names_b (block (D.state disk.old).now.contents 1)
+        → slot_name ≡ named_slot (block (D.state disk.old).now.contents 1)
         → IfErr result (IsRefused (D.state disk.old).now.contents) }
 {
-    match load(alloc, disk, slot_b) {
+    match load(alloc, disk, slot_name) {
         Ok(slot) => {
             if slot.blocks > disk.blocks() {
                 return Err(Refusal::BadSize);
@@ -79,7 +79,7 @@ fn load_slot<D: Disk>(alloc: Global, disk: &mut D, slot_b: bool) -> Result<Slot,
         }
         Err(LoadFault::Device) => Err(Refusal::Device),
         Err(LoadFault::Memory) => Err(Refusal::Memory),
-        Err(LoadFault::Damaged) => Err(Refusal::Damaged(first_block(slot_b))),
+        Err(LoadFault::Damaged) => Err(Refusal::Damaged(first_block(slot_name))),
     }
 }
 
@@ -117,7 +117,7 @@ fn versions_twice(alloc: Global, entries: &[Entry], roots: &[Root]) -> Option<(V
 fn read_maps<D: Disk>(
     alloc: Global,
     disk: &mut D,
-    slot_b: bool,
+    slot_name: SlotName,
     slot: Slot,
 ) -> Result<Parts, Refusal>
     requires inside { slot.blocks ≤ (D.state disk.old).blocks }
@@ -129,12 +129,12 @@ fn read_maps<D: Disk>(
     ensures inside { IfOk result (λ parts. parts.blocks ≤ (D.state disk.old).blocks) }
     ensures holds { (D.state disk.new).honest ≡ true → IsClean (D.state disk.old).now
         → IsStore (D.state disk.old).now.contents
-        → slot_b ≡ names_b (block (D.state disk.old).now.contents 1)
-        → SlotAt (D.state disk.old).now.contents slot_b slot.blocks slot.entries.items
+        → slot_name ≡ named_slot (block (D.state disk.old).now.contents 1)
+        → SlotAt (D.state disk.old).now.contents slot_name slot.blocks slot.entries.items
         → IfOk result (PartsHold (D.state disk.new).now) }
     ensures refused { (D.state disk.new).honest ≡ true → IsStore (D.state disk.old).now.contents
-        → slot_b ≡ names_b (block (D.state disk.old).now.contents 1)
-        → SlotAt (D.state disk.old).now.contents slot_b slot.blocks slot.entries.items
+        → slot_name ≡ named_slot (block (D.state disk.old).now.contents 1)
+        → SlotAt (D.state disk.old).now.contents slot_name slot.blocks slot.entries.items
         → IfErr result (IsRefused (D.state disk.old).now.contents) }
 {
     let Slot { blocks, entries } = slot;
@@ -153,7 +153,7 @@ fn read_maps<D: Disk>(
             };
             Ok(Parts {
                 blocks,
-                slot_b,
+                slot_name,
                 entries,
                 committed,
                 working,
@@ -180,8 +180,8 @@ fn find_store<D: Disk>(alloc: Global, disk: &mut D) -> Result<Parts, Refusal>
         → IfErr result (IsRefused (D.state disk.old).now.contents) }
 {
     match find_slot(disk) {
-        Ok(slot_b) => match load_slot(alloc, disk, slot_b) {
-            Ok(slot) => read_maps(alloc, disk, slot_b, slot),
+        Ok(slot_name) => match load_slot(alloc, disk, slot_name) {
+            Ok(slot) => read_maps(alloc, disk, slot_name, slot),
             Err(refusal) => Err(refusal),
         },
         Err(refusal) => Err(refusal),
@@ -217,7 +217,7 @@ pub fn open<D: Disk>(alloc: Global, mut disk: D) -> Result<Store<D>, (D, Refusal
         Ok(parts) => {
             let Parts {
                 blocks,
-                slot_b,
+                slot_name,
                 entries,
                 committed,
                 working,
@@ -229,7 +229,7 @@ pub fn open<D: Disk>(alloc: Global, mut disk: D) -> Result<Store<D>, (D, Refusal
                 disk,
                 alloc,
                 blocks,
-                slot_b,
+                slot_name,
                 entries,
                 committed,
                 working,

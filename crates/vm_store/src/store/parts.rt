@@ -3,13 +3,13 @@ ghost use Rattle.std.specs.Prelude.{◌≡◌, ◌<◌, ◌≤◌, ◌^◌, leng
 
 use crate::versions::Versions;
 use vm_alloc::{Held, Marks, Snapshot};
-use vm_block::Entry;
+use vm_block::{Entry, SlotName};
 
 /// What is known of a store beside its disk.
 #[derive(Drop)]
 pub struct Parts {
     pub blocks: u32,
-    pub slot_b: bool,
+    pub slot_name: SlotName,
     pub entries: Vec<Entry>,
     pub committed: Versions,
     pub working: Versions,

@@ -21,9 +21,9 @@ impl<D: Disk> Store<D> {
             → Carries self.old self.new s holds Command.Commit result }
     {
         write_entries(&mut self.entries, self.working.as_slice());
-        match publish(&mut self.disk, self.slot_b, self.blocks, &self.entries) {
+        match publish(&mut self.disk, self.slot_name, self.blocks, &self.entries) {
             Ok(()) => {
-                self.slot_b = !self.slot_b;
+                self.slot_name = self.slot_name.other();
                 self.committed.copy_from(&self.working);
                 self.series = None;
                 Ok(Answer::Done)

@@ -23,7 +23,7 @@ impl<D: Disk> Store<D> {
         ensures carried { IsHonest self.new → (s : State) (holds : Holds self.old s)
             → Carries self.old self.new s holds command.now result }
     {
-        match self.working.carry_out(command) {
+        match self.working.change_by(command) {
             Ok(answer) => {
                 self.series = None;
                 Ok(answer)

@@ -3,20 +3,20 @@ use Rattle.vm_store.proofs.RunLemmas.{answers_on}
 use Rattle.vm_store.proofs.store.Store.apply.Goals as goal
 
 pub returns-clause-guarded : goal.returns-clause-guarded
-returns-clause-guarded g c honest sound s holds = (c.carry_out-answer.ensures.carried honest s holds).guarded
+returns-clause-guarded g c honest sound s holds = (c.dispatch-answer.ensures.carried honest s holds).guarded
 
 pub returns-clause-reclaimed : goal.returns-clause-reclaimed
-returns-clause-reclaimed g c honest sound is s holds = c.carry_out-answer.ensures.reclaimed honest is s holds
+returns-clause-reclaimed g c honest sound is s holds = c.dispatch-answer.ensures.reclaimed honest is s holds
 
 pub returns-clause-grown : goal.returns-clause-grown
-returns-clause-grown g c sound blocks is s holds = c.carry_out-answer.ensures.grown blocks is s holds
+returns-clause-grown g c sound blocks is s holds = c.dispatch-answer.ensures.grown blocks is s holds
 
 pub returns-clause-answer : goal.returns-clause-answer
 returns-clause-answer g c honest sound s holds =
-    answers_on c.args.self.now c.carry_out-answer.new.self s holds c.carry_out-answer.result (record c.carry_out-answer.new.self { failed = c.is_device-self.result }) c.args.command.now refl refl (c.carry_out-answer.ensures.carried honest s holds).answers
+    answers_on c.args.self.now c.dispatch-answer.new.self s holds c.dispatch-answer.result (record c.dispatch-answer.new.self { failed = c.is_device-self.result }) c.args.command.now refl refl (c.dispatch-answer.ensures.carried honest s holds).answers
 
 pub returns-clause-state : goal.returns-clause-state
-returns-clause-state g c honest sound fine s holds = (c.carry_out-answer.ensures.carried honest s holds).state fine
+returns-clause-state g c honest sound fine s holds = (c.dispatch-answer.ensures.carried honest s holds).state fine
 
 pub returns-clause-crash : goal.returns-clause-crash
-returns-clause-crash g c honest sound s holds = (c.carry_out-answer.ensures.carried honest s holds).crash
+returns-clause-crash g c honest sound s holds = (c.dispatch-answer.ensures.carried honest s holds).crash

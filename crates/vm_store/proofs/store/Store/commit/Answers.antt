@@ -4,6 +4,7 @@ use Rattle.vm_disk.proofs.MomentLemmas.{weaken}
 use Rattle.vm_block.specs.Slot.{SlotFits}
 use Rattle.vm_store.specs.Versions.{slot_entries}
 use Rattle.vm_store.proofs.GuardLemmas.{lent_guarded}
+use Rattle.vm_store.proofs.LongerLemmas.{rests_renamed}
 use Rattle.vm_store.proofs.RestingLemmas.{published, lent_left, is_published_as}
 use Rattle.vm_types.specs.declared.command.Command.TheVariants.{Commit}
 use Rattle.vm_store.proofs.VersionLemmas.{answers_done}
@@ -16,7 +17,7 @@ returns-in-Ok-clause-carried g c honest s holds =
     let is = c.deref.ensures.value ∙ c.write_entries.ensures.items ∙ ap slot_entries c.as_slice.ensures.items in
     record {
       answers = answers_done s _ ⊥ Commit s.working refl (λ never. never) refl;
-      state = λ fine. holds_alone (published _ _ _ _ _ _ s rests _ _ Done (is_published_as _ _ _ _ _ _ is (c.in-Ok.ensures.done honest _ _ rests.rest (subst (SlotFits c.args.self.now.blocks) (sym is) rests.fits))) c.copy_from.ensures);
+      state = λ fine. holds_alone (rests_renamed _ _ _ _ _ _ _ _ _ _ c.other-self.ensures refl refl (published _ _ _ _ _ _ s rests _ _ Done (is_published_as _ _ _ _ _ _ is (c.in-Ok.ensures.done honest _ _ rests.rest (subst (SlotFits c.args.self.now.blocks) (sym is) rests.fits))) c.copy_from.ensures));
       crash = weaken _ _ _ _ (λ m leaves left may. lent_left _ _ _ _ _ _ s rests _ is left (leaves left may)) (c.in-Ok.ensures.any_moment honest _ _ rests.rest (subst (SlotFits c.args.self.now.blocks) (sym is) rests.fits));
       guarded = weaken _ _ _ _ (λ m publishing. lent_guarded _ _ _ _ _ _ s rests _ is m publishing) (c.in-Ok.ensures.moments honest _ _ rests.rest (subst (SlotFits c.args.self.now.blocks) (sym is) rests.fits));
     }

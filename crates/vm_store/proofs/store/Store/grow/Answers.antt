@@ -53,7 +53,7 @@ returns-clause-carried g c honest s holds =
     let still : (n : ℕ) → IsHeld c.args.self.now.held n → IsHeld c.in-Ok.held n = λ n held. subst (λ (bits : List Bool). IsHeld bits n) (sym c.in-Ok.ensures.blocks) (still_held c.args.self.now.held _ n held) in
     record {
       answers = grow_is_accepted s c.args.blocks _ (good_size s.blocks c.args.blocks (omega (arith, c.if-blocks-self.false, holds.rests.blocks)) (omega (arith, c.if-blocks-gt-MOST_BLOCKS.false))) (inr (inr refl));
-      state = λ fine. holds_alone (rests_renamed new c.args.blocks c.args.self.now.slot_b c.lengthen.new.self.slot_b c.in-Ok.held c.args.self.now.committed c.args.self.now.working c.lengthen.new.self.committed c.lengthen.new.self.working (record s { blocks = c.args.blocks }) same.slot_b same.committed same.working (rests_longer old new (c.lengthen.ensures.longer honest).longer c.args.self.now.blocks c.args.blocks c.args.self.now.slot_b c.args.self.now.held c.in-Ok.held c.args.self.now.committed c.args.self.now.working s holds.rests still (omega (arith, c.if-blocks-self.false)) inside (omega (arith, c.if-blocks-gt-MOST_BLOCKS.false))));
+      state = λ fine. holds_alone (rests_renamed new c.args.blocks c.args.self.now.slot_name c.lengthen.new.self.slot_name c.in-Ok.held c.args.self.now.committed c.args.self.now.working c.lengthen.new.self.committed c.lengthen.new.self.working (record s { blocks = c.args.blocks }) same.slot_name same.committed same.working (rests_longer old new (c.lengthen.ensures.longer honest).longer c.args.self.now.blocks c.args.blocks c.args.self.now.slot_name c.args.self.now.held c.in-Ok.held c.args.self.now.committed c.args.self.now.working s holds.rests still (omega (arith, c.if-blocks-self.false)) inside (omega (arith, c.if-blocks-gt-MOST_BLOCKS.false))));
       crash = longer_crash _ _ (c.lengthen.ensures.longer honest) _ _ _ _ _ s holds.rests (Grow c.args.blocks);
       guarded = longer_guarded _ _ (c.lengthen.ensures.longer honest) _ _ _ _ _ s holds.rests c.in-Ok.held still;
     }

@@ -39,14 +39,14 @@ returns-in-Some-clause-holds g c honest clean store in_use slot =
     let are = c.in-Some.ensures in
     let alike = found_alike _ _ _ _ c.deref-in-Ok.ensures.value c.deref-in-Ok-2.ensures.value in
     let seen : Seen = record { tree = tree_of found.filed; blocks = limit } in
-    let rests = rests_found m limit c.args.slot_b c.args.slot.entries.items clean store in_use slot inside c.in-Ok.marks c.replace.new.self _ found.filed found.same c.replace.ensures.system c.replace.ensures.marked found.stands in
+    let rests = rests_found m limit c.args.slot_name c.args.slot.entries.items clean store in_use slot inside c.in-Ok.marks c.replace.new.self _ found.filed found.same c.replace.ensures.system c.replace.ensures.marked found.stands in
     record {
       seen = seen;
-      shown = subst (λ (n : Medium). Shows n.contents seen) (sym read) (shows_found m limit c.args.slot_b c.args.slot.entries.items clean store in_use slot inside (IsMarked c.in-Ok.marks) _ found.filed found.same found.stands);
-      holds = subst (λ (n : Medium). Rests n limit c.args.slot_b c.replace.new.self c.in-Some.committed c.in-Some.working (opened seen)) (sym read)
-          (rests_named m limit c.args.slot_b c.replace.new.self _ c.in-Some.committed c.in-Some.working (opened seen) (are.0 ∙ alike) (are.1 ∙ alike) rests);
-      free = freed_on m _ limit c.args.slot_b c.replace.new.self c.in-Some.committed c.in-Some.working read
-          (freed m limit c.args.slot_b c.replace.new.self c.in-Some.committed c.in-Some.working c.args.slot.entries.items c.in-Ok.roots.items c.in-Ok.marks (are.0 ∙ alike) (are.1 ∙ alike)
+      shown = subst (λ (n : Medium). Shows n.contents seen) (sym read) (shows_found m limit c.args.slot_name c.args.slot.entries.items clean store in_use slot inside (IsMarked c.in-Ok.marks) _ found.filed found.same found.stands);
+      holds = subst (λ (n : Medium). Rests n limit c.args.slot_name c.replace.new.self c.in-Some.committed c.in-Some.working (opened seen)) (sym read)
+          (rests_named m limit c.args.slot_name c.replace.new.self _ c.in-Some.committed c.in-Some.working (opened seen) (are.0 ∙ alike) (are.1 ∙ alike) rests);
+      free = freed_on m _ limit c.args.slot_name c.replace.new.self c.in-Some.committed c.in-Some.working read
+          (freed m limit c.args.slot_name c.replace.new.self c.in-Some.committed c.in-Some.working c.args.slot.entries.items c.in-Ok.roots.items c.in-Ok.marks (are.0 ∙ alike) (are.1 ∙ alike)
           (found_as_named _ _ _ _ _ _ _ _ c.deref-2.ensures.value c.in-Some-Ok-Ok.ensures c.deref.ensures.value (c.in-Ok.ensures.found honest)) (c.replace.ensures.count ∙ c.in-Some-Ok-Ok.ensures'.count) c.replace.ensures.system c.replace.ensures.marked);
     }
 
@@ -56,5 +56,5 @@ returns-in-Err-clause-refused g c honest store in_use slot =
     let limit = c.args.slot.blocks in
     let whole = g.met.D.Disk.whole c.args.disk.now (c.verify.ensures.looks.goes.earlier honest) in
     let inside : limit ≤ length m.contents = omega (arith, whole, c.requires.inside) in
-    fault_refused m limit c.args.slot_b c.args.slot.entries.items store in_use slot inside c.in-Err.fault c.refusal_of.result c.refusal_of.ensures (λ same. c.in-Err.ensures.deep (ap Err same))
+    fault_refused m limit c.args.slot_name c.args.slot.entries.items store in_use slot inside c.in-Err.fault c.refusal_of.result c.refusal_of.ensures (λ same. c.in-Err.ensures.deep (ap Err same))
     (λ trees. fault_lists c.in-Err.fault _ _ (c.in-Err.ensures.only honest (trees_here _ _ _ _ _ _ c.deref-2.ensures.value c.in-Some-Ok-Ok.ensures c.deref.ensures.value trees)))
