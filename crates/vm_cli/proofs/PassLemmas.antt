@@ -62,6 +62,7 @@ module _ {D : Type 0} {members : _} where
     working = refl;
     held = refl;
     marks = refl;
+    before = refl;
     series = refl;
     failed = refl;
   }

@@ -34,6 +34,7 @@ module _ {D : Type 0} {members : _} where
           working = b.working ∙ a.working;
           held = b.held ∙ a.held;
           marks = b.marks ∙ a.marks;
+          before = b.before ∙ a.before;
           series = b.series ∙ a.series;
           failed = b.failed ∙ a.failed;
         };
@@ -44,7 +45,7 @@ module _ {D : Type 0} {members : _} where
   still_holds old new passes honest s holds =
       let same = passes.unchanged refl in
       let medium = same_medium _ _ (passes.reads honest refl) in
-      rw (medium, same.blocks, same.slot_name, same.held, same.marks, same.series, same.committed, same.working) holds
+      rw (medium, same.blocks, same.slot_name, same.held, same.before, same.series, same.committed, same.working) holds
 
 module _ {D : Type 0} {members : _} (store : Store D members) (s : State) (holds : Holds store s) (listed : List (List ℕ × Option (List ℕ))) (is : listed ≡ shape s.working) where
   -- all are drawn

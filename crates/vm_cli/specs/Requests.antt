@@ -63,13 +63,6 @@ abbrev pub alone : {X : Type 0} → X → List (List ℕ) → Option X
 alone x [] = Some x
 alone x _ = None
 
--- the command that two names complete
-abbrev pub two_named : List ℕ → List ℕ → List ℕ → Option Command
-two_named verb first second =
-    if bytes_eq verb (codes "checkpoint") then Some (Checkpoint first second)
-    else (if bytes_eq verb (codes "uncheck") then Some (Uncheck first second)
-    else (if bytes_eq verb (codes "back") then Some (Back first second) else None))
-
 -- the command that the words after the first complete, but for a merge
 abbrev pub command_of : List ℕ → List (List ℕ) → Option Command
 command_of verb words =
@@ -81,7 +74,9 @@ command_of verb words =
     else (if bytes_eq verb (codes "drop") then option_map Drop (named_of words)
     else (if bytes_eq verb (codes "post") then option_map Post (named_of words)
     else (if bytes_eq verb (codes "new") then new_of words
-    else option_and_then (λ names. two_named verb names.0 names.1) (names_of words))))))))
+    else (if bytes_eq verb (codes "checkpoint") then option_map (λ names. Checkpoint names.0 names.1) (names_of words)
+    else (if bytes_eq verb (codes "uncheck") then option_map (λ names. Uncheck names.0 names.1) (names_of words)
+    else (if bytes_eq verb (codes "back") then option_map (λ names. Back names.0 names.1) (names_of words) else None))))))))))
 
 -- the query that the words after the first complete
 abbrev pub query_of : List ℕ → List (List ℕ) → Option Request

@@ -31,7 +31,7 @@ pub enum Request {
 }
 
 ghost use Rattle.std.specs.Prelude.{◌≡◌, ◌∷◌, [], ℕ, List, codes, IfOk, MatchOption, OnErr};
-ghost use Rattle.vm_cli.specs.Requests.{IsLongMerge, asked_by, command_of, grow_of, merge_of, name_of, named_of, names_of, new_of, put_of, query_of, record_of, request_of, two_named};
+ghost use Rattle.vm_cli.specs.Requests.{IsLongMerge, asked_by, command_of, grow_of, merge_of, name_of, named_of, names_of, new_of, put_of, query_of, record_of, request_of};
 ghost use Rattle.vm_cli.specs.Spaces.{HasWord, words_of};
 
 /// Reads a line, given without the bytes that end it.
@@ -112,31 +112,17 @@ fn command(verb: &[u8], rest: &[u8]) -> Option<Command>
     if verb == b"new".as_slice() {
         return new_alternative(rest);
     }
-    let (first, second) = two_names(rest)?;
-    of_two_names(verb, first, second)
-}
-
-// The command that two names complete.
-fn of_two_names(verb: &[u8], first: Name, second: Name) -> Option<Command>
-    ensures { result ≡ two_named verb.now first second }
-{
     if verb == b"checkpoint".as_slice() {
-        return Some(Command::Checkpoint {
-            alt: first,
-            name: second,
-        });
+        let (alt, name) = two_names(rest)?;
+        return Some(Command::Checkpoint { alt, name });
     }
     if verb == b"uncheck".as_slice() {
-        return Some(Command::Uncheck {
-            alt: first,
-            name: second,
-        });
+        let (alt, name) = two_names(rest)?;
+        return Some(Command::Uncheck { alt, name });
     }
     if verb == b"back".as_slice() {
-        return Some(Command::Back {
-            alt: first,
-            name: second,
-        });
+        let (alt, name) = two_names(rest)?;
+        return Some(Command::Back { alt, name });
     }
     None
 }
