@@ -1,5 +1,5 @@
 -- The flags that lie in words, as a list.
-use Rattle.std.proofs.Common.{◌≡◌, ◌≢◌, ℕ, ◌+◌, ◌-◌, ◌*◌, ◌/◌, ◌^◌, ◌<◌, ◌≤◌, min, Bool, true, false, List, ◌++◌, length, get_or, drop, replicate, refl, sym, ◌∙◌, ap, inl, inr, arith, length-append, length-drop}
+use Rattle.std.proofs.Common.{◌≡◌, ◌≢◌, ℕ, ◌+◌, ◌-◌, ◌*◌, ◌/◌, ◌^◌, ◌<◌, ◌≤◌, ◌&&◌, min, Bool, true, false, List, ◌++◌, length, get_or, drop, replicate, refl, sym, ◌∙◌, ap, inl, inr, arith, length-append, length-drop}
 use Rattle.std.proofs.Math.ListN.{set, length-set}
 use Rattle.std.proofs.lemmas.Bool.{cases_eq, cases_lt, false≢true}
 use Rattle.std.proofs.lemmas.Grind.{common_steps}
@@ -106,6 +106,22 @@ pub flags_copied : (words new : List ℕ) (count others : ℕ) (flags : List Boo
 flags_copied words new count others flags view same many =
     ap (λ (ws : List ℕ). flags_of ws count) same ∙ ap (λ (m : ℕ). flags_of words m) many ∙ view
 
+-- flags that are set in both words, and read as such
+pub flags_both : (words read others lent new : List ℕ) (count count' : ℕ) (flags flags' : List Bool) → flags_of words count ≡ flags → flags_of others count' ≡ flags' → length flags' ≡ length flags → read ≡ words → lent ≡ others
+    → ((k : ℕ) → is_bit_set new k ≡ (is_bit_set read k && is_bit_set lent k)) → (k : ℕ) → get_or (flags_of new count) k false ≡ (get_or flags k false && get_or flags' k false)
+flags_both words read others lent new count count' flags flags' view view' many same same' both k =
+    let here = many_flags words count flags view in
+    elim (cases_lt k count) [
+      | inl inside ↦
+          flag_at new count k inside
+          ∙ both k
+          ∙ ap (λ b. b && is_bit_set lent k) (flag_read words read count flags k view same (omega (arith, here)))
+          ∙ ap (λ b. get_or flags k false && b) (flag_read others lent count' flags' k view' same' (omega (arith, here, many)))
+      | inr past ↦
+          get_or_past (flags_of new count) k false (omega (arith, past, length-flags_of new count))
+          ∙ ap (λ b. b && get_or flags' k false) (sym (get_or_past flags k false (omega (arith, past, here))))
+    ]
+
 -- bits below `from` are set where its flags are
 pub bits_below : (words read : List ℕ) (count from : ℕ) (flags : List Bool) → flags_of words count ≡ flags → read ≡ words
     → ((k : ℕ) → k < from → get_or flags k false ≡ true) → (k : ℕ) → k < from → is_bit_set read k ≡ true
@@ -163,3 +179,11 @@ flags_longer words new count more m flags view packed longer is =
       | inl inside ↦ get_or_append_left flags rest false k inside ∙ sym (flag_read words words count flags k view refl inside) ∙ sym bits
       | inr past ↦ get_or-append_right flags rest (length flags) k false refl past ∙ get_or-replicate (more - length flags) (k - length flags) false false (omega arith) ∙ sym (bits ∙ packed.clear k (omega arith))
     ])
+
+-- flags of which some were cleared
+pub packed_both : (words read lent new : List ℕ) (count : ℕ) → IsPacked words count → read ≡ words → length new ≡ length read → ((k : ℕ) → is_bit_set new k ≡ (is_bit_set read k && is_bit_set lent k)) → IsPacked new count
+packed_both words read lent new count packed same many both = record {
+  few = packed.few;
+  fits = many ∙ ap length same ∙ packed.fits;
+  clear = λ k past. both k ∙ ap (λ b. b && is_bit_set lent k) (ap (λ (ws : List ℕ). is_bit_set ws k) same ∙ packed.clear k past);
+}

@@ -1,13 +1,13 @@
 -- Bits that lie 64 in a word, and what a write of one word does to them.
-use Rattle.std.proofs.Common.{◌≡◌, ◌≢◌, ℕ, ◌+◌, ◌*◌, ◌-◌, ◌/◌, ◌%◌, ◌^◌, ◌<◌, ◌≤◌, max, true, false, eqb, List, ◌++◌, length, get_or, replicate, refl, sym, ◌∙◌, ap, inl, inr, arith}
+use Rattle.std.proofs.Common.{◌≡◌, ◌≢◌, ℕ, zero, suc, ◌+◌, ◌*◌, ◌-◌, ◌/◌, ◌%◌, ◌^◌, ◌<◌, ◌≤◌, ◌&&◌, max, min, true, false, eqb, List, ◌++◌, length, get_or, replicate, refl, sym, ◌∙◌, ap, inl, inr, arith}
 use Rattle.std.specs.Int.{bit_at, w64, trailing_ones}
-use Rattle.std.specs.Prelude.{bit_or}
+use Rattle.std.specs.Prelude.{bit_and, bit_or}
 use Rattle.std.proofs.Math.ListN.{set}
 use Rattle.std.proofs.Math.Nat.{max-eq_right, max-zero}
 use Rattle.std.proofs.lemmas.Bool.{cases_eq, cases_lt}
 use Rattle.std.proofs.lemmas.List.{get_or-set_same, get_or-set_other, get_or-replicate, get_or_past, get_or_append_left, get_or-append_right, length-replicate}
 use Rattle.std.proofs.lemmas.Nat.{one_shl}
-use Rattle.std.proofs.lemmas.Nat.Bits.{bit_at-lt, bit_at_or, bit_at_ones, bit_at_ones_above, bit_at_set_same, bit_at_set_other, bit_at-trailing_ones, bit_at-zero}
+use Rattle.std.proofs.lemmas.Nat.Bits.{bit_at-lt, bit_at_and, bit_at_or, bit_at_ones, bit_at_ones_above, bit_at_set_same, bit_at_set_other, bit_at-trailing_ones, bit_at-zero}
 use Rattle.vm_alloc.specs.Words.{is_bit_set}
 
 -- a bit of the word that was written
@@ -128,3 +128,34 @@ same_bits_longer words m k =
       | inr past ↦ get_or-append_right words zeros (length words) (k / 64) 0 refl past ∙ zero_word m (k / 64 - length words) ∙ sym (get_or_past words (k / 64) 0 past)
     ] in
     ap (λ (w : ℕ). eqb (bit_at w (k % 64)) 1) same_word
+
+-- a bit is set in both of two words
+both_one : (x y : ℕ) → x < 2 → y < 2 → eqb (min x y) 1 ≡ (eqb x 1 && eqb y 1)
+both_one zero zero low low' = refl
+both_one zero (suc zero) low low' = refl
+both_one zero (suc (suc y)) low low' = absurd (omega arith)
+both_one (suc zero) zero low low' = refl
+both_one (suc zero) (suc zero) low low' = refl
+both_one (suc zero) (suc (suc y)) low low' = absurd (omega arith)
+both_one (suc (suc x)) y low low' = absurd (omega arith)
+
+-- `words[i] &= others[i]` leaves the bits of that word that are set in both
+pub both_here : (words others : List ℕ) (i k : ℕ) → i < length words → k / 64 ≡ i
+    → is_bit_set (set words i (bit_and (get_or words i 0) (get_or others i 0))) k ≡ (is_bit_set words k && is_bit_set others k)
+both_here words others i k inside at =
+    bit_there words i _ k inside at
+    ∙ ap (λ (b : ℕ). eqb b 1) (bit_at_and (get_or words i 0) (get_or others i 0) (k % 64))
+    ∙ both_one _ _ (bit_at-lt (get_or words i 0) (k % 64)) (bit_at-lt (get_or others i 0) (k % 64))
+    ∙ ap (λ (j : ℕ). eqb (bit_at (get_or words j 0) (k % 64)) 1 && eqb (bit_at (get_or others j 0) (k % 64)) 1) (sym at)
+
+-- and so from the first word on
+pub both_so_far : (first words others : List ℕ) (i : ℕ) → i < length words
+    → ((k : ℕ) → k < 64 * i → is_bit_set words k ≡ (is_bit_set first k && is_bit_set others k)) → ((k : ℕ) → 64 * i ≤ k → is_bit_set words k ≡ is_bit_set first k)
+    → (k : ℕ) → k < 64 * (i + 1) → is_bit_set (set words i (bit_and (get_or words i 0) (get_or others i 0))) k ≡ (is_bit_set first k && is_bit_set others k)
+both_so_far first words others i inside before behind k low = elim (cases_lt k (64 * i)) [
+  | inl lower ↦ bit_elsewhere words i _ k (λ at. omega (arith, at)) ∙ before k lower
+  | inr here ↦ both_here words others i k inside (omega arith) ∙ ap (λ b. b && is_bit_set others k) (behind k here)
+]
+
+pub behind_kept : (first words : List ℕ) (i x : ℕ) → ((k : ℕ) → 64 * i ≤ k → is_bit_set words k ≡ is_bit_set first k) → (k : ℕ) → 64 * (i + 1) ≤ k → is_bit_set (set words i x) k ≡ is_bit_set first k
+behind_kept first words i x behind k high = bit_elsewhere words i x k (λ at. omega (arith, at)) ∙ behind k (omega arith)

@@ -1,7 +1,7 @@
 //! A fixed number of flags, of which a contract sees the list.
-ghost use Rattle.std.specs.Prelude.{◌≡◌, ℕ, ◌-◌, ◌^◌, ◌<◌, ◌≤◌, ◌++◌, true, false, length, replicate, drop, slice_index_or, slice_set, IfOk};
+ghost use Rattle.std.specs.Prelude.{◌≡◌, ℕ, ◌-◌, ◌^◌, ◌<◌, ◌≤◌, ◌++◌, ◌&&◌, true, false, length, replicate, drop, slice_index_or, slice_set, IfOk};
 
-use crate::words::{bit, first_clear_bit, set_bit, set_first_bits};
+use crate::words::{bit, clear_bits_but, first_clear_bit, set_bit, set_first_bits};
 use std::alloc::{AllocError, Global};
 use std::marker::Model;
 
@@ -86,6 +86,16 @@ impl Flags {
         ensures { self.new ≡ other.now }
     {
         self.words.copy_from_slice(other.words.as_slice());
+    }
+
+    // Clears each flag that is clear among the others.
+    pub(crate) fn clear_but(&mut self, others: &Flags)
+        requires { length others.now ≡ length self.old }
+        ensures count { length self.new ≡ length self.old }
+        ensures both { (k : ℕ) → slice_index_or self.new k false
+            ≡ (slice_index_or self.old k false && slice_index_or others.now k false) }
+    {
+        clear_bits_but(self.words.as_mut_slice(), others.words.as_slice());
     }
 
     // The lowest clear flag, or their number where all are set. The search starts at flag `from`.

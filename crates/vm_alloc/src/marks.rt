@@ -3,7 +3,7 @@ ghost use Rattle.vm_alloc.specs.Held.{free_count};
 ghost use Rattle.vm_alloc.specs.Marks.{IsMarked};
 
 use crate::flags::Flags;
-use crate::held::{FIRST_DATA, Held};
+use crate::held::FIRST_DATA;
 use std::alloc::{AllocError, Global};
 use std::marker::Model;
 
@@ -72,15 +72,6 @@ impl Marks {
         let blocks = self.blocks();
         self.flags.clear();
         self.unmarked = blocks - FIRST_DATA;
-    }
-
-    /// Marks the held blocks, and no other.
-    pub fn copy_held(&mut self, held: &Held)
-        requires { length held.now ≡ length self.old }
-        ensures { self.new ≡ held.now }
-    {
-        self.flags.copy_from(held.flags());
-        self.unmarked = held.free_count();
     }
 
     pub(crate) fn flags(&self) -> &Flags

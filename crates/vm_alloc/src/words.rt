@@ -1,5 +1,5 @@
 //! Bits that lie 64 in a word.
-ghost use Rattle.std.specs.Prelude.{◌≡◌, ◌≢◌, ℕ, ◌+◌, ◌*◌, ◌/◌, ◌^◌, ◌<◌, ◌≤◌, true, false, length};
+ghost use Rattle.std.specs.Prelude.{◌≡◌, ◌≢◌, ℕ, ◌+◌, ◌*◌, ◌/◌, ◌^◌, ◌<◌, ◌≤◌, ◌&&◌, true, false, length};
 ghost use Rattle.vm_alloc.specs.Words.{is_bit_set};
 
 pub(crate) fn bit(words: &[u64], n: usize) -> bool
@@ -25,6 +25,16 @@ pub(crate) fn set_first_bits(words: &mut [u64], count: u32)
     ensures others { (k : ℕ) → count ≤ k → is_bit_set words.new k ≡ is_bit_set words.old k }
 {
     words[0] |= (1 << count) - 1;
+}
+
+// Clears each bit that is clear in the other words.
+pub(crate) fn clear_bits_but(words: &mut [u64], others: &[u64])
+    requires { length others.now ≡ length words.old }
+    ensures { (k : ℕ) → is_bit_set words.new k ≡ (is_bit_set words.old k && is_bit_set others.now k) }
+{
+    for i in 0..words.len() {
+        words[i] &= others[i];
+    }
 }
 
 // The lowest clear bit, or the number of bits where all are set.

@@ -1,6 +1,5 @@
 -- An opening: a sync, and reads that find a store or why there is none.
 use Rattle.std.proofs.Common.{◌≡◌, ◌≢◌, inl, inr, ⊎_elim, ℕ, ◌<◌, ◌≤◌, Bool, List, [], ◌∷◌, ◌++◌, length, replicate, false, Result, Ok, Err, OnOk, refl, sym, ap, ◌∙◌, subst, arith}
-use Rattle.vm_types.specs.Map.{Map}
 use Rattle.vm_types.specs.State.{State, opened}
 use Rattle.vm_types.specs.declared.refusal.Refusal.{Refusal}
 use Rattle.vm_types.specs.declared.refusal.Refusal.TheVariants as refusal
@@ -18,8 +17,6 @@ use Rattle.std.proofs.lemmas.List.{length-replicate}
 use Rattle.std.proofs.lemmas.List.Elements.{Contains-append_left}
 use Rattle.vm_block.proofs.EachLemmas.{each_front, each_back, each_join}
 use Rattle.vm_tree.specs.Tree.{IsData}
-use Rattle.vm_tree.proofs.TreeLemmas.{tree_one}
-use Rattle.vm_tree.specs.Root.{IsRooted}
 use Rattle.vm_check.specs.Marking.{MarksMore}
 use Rattle.vm_store.proofs.MarkedLemmas.{free_exactly}
 use Rattle.vm_store.proofs.MarkingLemmas.{none_marked}
@@ -36,7 +33,7 @@ use Rattle.vm_store.specs.Faults.{refusal_of}
 use Rattle.vm_store.specs.Sizes.{sizes}
 use Rattle.vm_store.specs.Versions.{numbers_of, slot_entries, versions_of}
 use Rattle.vm_store.specs.declared.version.Version.{Version}
-use Rattle.vm_store.proofs.TopLemmas.{rooted_tree}
+use Rattle.vm_store.proofs.TopLemmas.{rooted_one, rooted_tree}
 use Rattle.vm_store.proofs.WiderLemmas.{rooted_wider}
 use Rattle.vm_store.specs.Filed.{Filed, Standing, reach, tree_of}
 use Rattle.vm_store.specs.Shown.{Shows, ShowsNothing}
@@ -231,10 +228,6 @@ rests_named m limit slot_name bits vs committed working s same same' rests =
     subst (λ (us : List Version). Rests m limit slot_name bits us working s) (sym same) (subst (λ (us : List Version). Rests m limit slot_name bits vs us s) (sym same') rests)
 
 -- ---- what is free after an opening
-
--- under one root lie one map and one list of blocks
-rooted_one : (x : Contents) (limit : ℕ) (r : Root) (m n : Map) (bs ds : List ℕ) → IsRooted sizes x limit r m bs → IsRooted sizes x limit r n ds → bs ≡ ds
-rooted_one x limit r m n bs ds one other = (tree_one sizes x limit r.block m n bs ds (rooted_tree x limit r m bs one) (rooted_tree x limit r n ds other)).1
 
 -- standing versions, also of a store of fewer blocks, reach just what the walk found under their roots
 roots_reach : (P : ℕ → Type 0) (x : Contents) (few limit : ℕ) → few ≤ limit → (es : List Entry) (rs : List Root) (bs : List ℕ) (fs : List Filed) → AreRoots sizes x limit (numbers_of es) rs bs

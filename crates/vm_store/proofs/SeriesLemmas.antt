@@ -1,5 +1,6 @@
 -- What a store stands for while a series of changes goes on.
-use Rattle.std.proofs.Common.{◌≡◌, ◌⊎◌, inl, inr, ℕ, ◌<◌, ◌^◌, Bool, true, false, cond, List, [], ◌∷◌, find, Option, Some, None, Ok, refl, sym, ap, ◌∙◌, subst, arith}
+use Rattle.std.proofs.Common.{◌≡◌, ◌⊎◌, inl, inr, ℕ, ◌<◌, ◌^◌, ◌&&◌, Bool, true, false, cond, length, List, [], ◌∷◌, find, Option, Some, None, Ok, refl, sym, ap, ◌∙◌, subst, arith}
+use Rattle.std.proofs.lemmas.Bool.{false≢true}
 use Rattle.std.specs.Str.{bytes_eq}
 use Rattle.vm_types.specs.Firsts.{change_first}
 use Rattle.vm_types.specs.Map.{Map, with_value, without}
@@ -13,19 +14,20 @@ use Rattle.vm_disk.specs.Disk.{DiskState, Medium}
 use Rattle.vm_disk.specs.Moments.{OnlyReads, Throughout, TouchesOnly}
 use Rattle.vm_disk.proofs.MomentLemmas.{same_medium, spares_itself, started}
 use Rattle.vm_block.specs.declared.selector.SlotName.{SlotName}
-use Rattle.vm_alloc.specs.Held.{HoldsMore, IsHeld}
+use Rattle.vm_alloc.specs.Held.{HoldsMore, IsHeld, is_held}
 use Rattle.vm_alloc.proofs.HeldLemmas.{holds_more_then, holds_same}
 use Rattle.vm_tree.specs.Free.{is_free}
 use Rattle.vm_tree.specs.Root.{IsRootedIn}
 use Rattle.vm_tree.specs.declared.root.Root.{Root}
 use Rattle.vm_tree.proofs.Sparing.{spares_more, spares_then}
-use Rattle.vm_store.specs.Resting.{HoldsWith, IsInSeries, KeepsSeries, Rests, before_of, before_series, no_root, set_aside, state_aside}
+use Rattle.vm_store.specs.Resting.{HoldsWith, IsInSeries, IsSafe, KeepsSeries, Rests, before_of, before_series, no_root, set_aside, state_aside}
 use Rattle.vm_store.specs.Sizes.{sizes}
 use Rattle.vm_store.specs.Versions.{is_alternative_of, with_current}
 use Rattle.vm_store.specs.declared.version.Version.{Version}
 use Rattle.vm_store.proofs.FiledLemmas.{recurrent}
 use Rattle.vm_store.proofs.RestingLemmas.{current_rests, found_entry, named_as, put_step, rests_more}
 use Rattle.vm_store.proofs.Removing.{step_there}
+use Rattle.vm_store.proofs.StandingLemmas.{standing_both, standing_in}
 use Rattle.vm_store.proofs.TopLemmas.{none_grown}
 
 -- the current root that was set last is the one that stands
@@ -148,6 +150,50 @@ pub read_holds : (old new : DiskState) (limit : ℕ) (slot_name : SlotName) (bit
     → HoldsWith old.now limit slot_name bits before series committed working s → HoldsWith new.now limit slot_name bits before series committed working s
 read_holds old new limit slot_name bits before series committed working s reads holds =
     subst (λ (m : Medium). HoldsWith m limit slot_name bits before series committed working s) (sym (same_medium old new reads)) holds
+
+and_second : (x y : Bool) → (x && y) ≡ true → y ≡ true
+and_second true y is = is
+and_second false y is = absurd (false≢true is)
+
+-- it stands for the same in blocks of which it is known twice that they are held
+rests_both : (m : Medium) (limit : ℕ) (slot_name : SlotName) (one other both : List Bool) (committed working : List Version) (s : State) → ((n : ℕ) → IsHeld one n → IsHeld other n → IsHeld both n)
+    → Rests m limit slot_name one committed working s → Rests m limit slot_name other committed working s → Rests m limit slot_name both committed working s
+rests_both m limit slot_name one other both committed working s so rests rests' = record {
+  old = rests.old;
+  new = rests.new;
+  blocks = rests.blocks;
+  fewer = rests.fewer;
+  inside = rests.inside;
+  sure = rests.sure;
+  system = λ n low. so n (rests.system n low) (rests'.system n low);
+  rest = rests.rest;
+  fits = rests.fits;
+  safe = standing_in (λ n. IsSafe one m n × IsSafe other m n) (IsSafe both m) m.contents m.contents s.kept (λ n h. refl) (λ n h. record { held = so n h.0.held h.1.held; clean = h.0.clean }) committed rests.old
+      (standing_both (IsSafe one m) (IsSafe other m) m.contents s.kept committed rests.old rests'.old rests.safe rests'.safe);
+  stands = standing_in (λ n. IsHeld one n × IsHeld other n) (IsHeld both) m.contents m.contents limit (λ n h. refl) (λ n h. so n h.0 h.1) working rests.new
+      (standing_both (IsHeld one) (IsHeld other) m.contents limit working rests.new rests'.new rests.stands rests'.stands);
+  gives_old = rests.gives_old;
+  gives_new = rests.gives_new;
+}
+
+-- a series goes on over a marking, after which other blocks are held: of those that were held before it, those that are held still
+kept_marked : (m : Medium) (limit : ℕ) (slot_name : SlotName) (bits before after narrowed : List Bool) (series : Option (List ℕ)) (committed working : List Version) (s : State) → length after ≡ length narrowed
+    → ((n : ℕ) → is_held narrowed n ≡ (is_held before n && is_held after n)) → Rests m limit slot_name after committed working s
+    → KeepsSeries series m limit slot_name bits before committed working s → KeepsSeries series m limit slot_name after narrowed committed working s
+kept_marked m limit slot_name bits before after narrowed None committed working s many both rests kept = tt
+kept_marked m limit slot_name bits before after narrowed (Some alt) committed working s many both rests kept = record {
+  wider = record { same_length = many; still = λ n is. and_second (is_held before n) (is_held after n) (sym (both n) ∙ is) };
+  others = rests_both m limit slot_name before after narrowed committed (set_aside alt working) (state_aside alt s) (λ n is is'. both n ∙ ap (λ b. b && is_held after n) is ∙ is') kept.others
+      (all_held m limit slot_name after after committed working s alt rests).others;
+}
+
+-- the store stands for the same after a marking, and the series goes on
+pub holds_marked : (m now : Medium) (limit : ℕ) (slot_name : SlotName) (bits before after narrowed : List Bool) (series : Option (List ℕ)) (committed working : List Version) (s : State) → now ≡ m → length after ≡ length narrowed
+    → ((n : ℕ) → is_held narrowed n ≡ (is_held before n && is_held after n)) → Rests m limit slot_name after committed working s
+    → HoldsWith m limit slot_name bits before series committed working s → HoldsWith now limit slot_name after narrowed series committed working s
+holds_marked m now limit slot_name bits before after narrowed series committed working s read many both rests holds =
+    subst (λ (x : Medium). HoldsWith x limit slot_name after narrowed series committed working s) (sym read)
+    (record { rests = rests; series_kept = kept_marked m limit slot_name bits before after narrowed series committed working s many both rests holds.series_kept })
 
 -- no series goes on
 pub holds_alone : {m : Medium} {limit : ℕ} {slot_name : SlotName} {bits before : List Bool} {committed working : List Version} {s : State} → Rests m limit slot_name bits committed working s

@@ -14,7 +14,7 @@ use Rattle.vm_store.specs.Sizes.{sizes}
 use Rattle.vm_store.specs.Filed.{Filed, StandsAs, Standing, reach}
 use Rattle.vm_store.specs.Versions.{is_alternative_of, with_current}
 use Rattle.vm_store.specs.declared.version.Version.{Version}
-use Rattle.vm_store.proofs.TopLemmas.{grown_in, grown_data}
+use Rattle.vm_store.proofs.TopLemmas.{grown_in, grown_both, grown_data}
 use Rattle.vm_store.proofs.FiledLemmas.{is_filed, refiled}
 
 -- the frame law for versions: their blocks keep their bytes, and have another property as well
@@ -33,6 +33,24 @@ standing_in P Q x y limit same so (e ∷ es) (f ∷ fs) s = (
 )
 standing_in P Q x y limit same so [] (f ∷ fs) s = absurd s
 standing_in P Q x y limit same so (e ∷ es) [] s = absurd s
+
+-- versions stand in blocks of which two things are known
+pub standing_both : (P Q : ℕ → Type 0) (x : Contents) (limit : ℕ) (es : List Version) (fs gs : List Filed) → Standing P x limit es fs → Standing Q x limit es gs → Standing (λ n. P n × Q n) x limit es fs
+standing_both P Q x limit [] [] [] s t = tt
+standing_both P Q x limit (e ∷ es) (f ∷ fs) (g ∷ gs) s t = (
+  record {
+    kind = s.0.kind;
+    name = s.0.name;
+    owner = s.0.owner;
+    current = grown_both P Q x limit e.current f.current g.current s.0.current t.0.current;
+    base = grown_both P Q x limit e.base f.base g.base s.0.base t.0.base;
+  },
+  standing_both P Q x limit es fs gs s.1 t.1,
+)
+standing_both P Q x limit [] [] (g ∷ gs) s t = absurd t
+standing_both P Q x limit [] (f ∷ fs) gs s t = absurd s
+standing_both P Q x limit (e ∷ es) [] gs s t = absurd s
+standing_both P Q x limit (e ∷ es) (f ∷ fs) [] s t = absurd t
 
 -- all blocks of standing versions are for data
 pub standing_data : (P : ℕ → Type 0) (x : Contents) (limit : ℕ) (es : List Version) (fs : List Filed) → Standing P x limit es fs → Standing (λ n. P n × IsData limit n) x limit es fs

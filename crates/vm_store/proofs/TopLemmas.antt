@@ -6,7 +6,7 @@ use Rattle.vm_types.specs.Map.{Map}
 use Rattle.vm_disk.specs.Disk.{Contents, block}
 use Rattle.vm_block.proofs.EachLemmas.{each_so, each_both}
 use Rattle.vm_tree.specs.Tree.{IsData, IsTree}
-use Rattle.vm_tree.proofs.TreeLemmas.{subtree_in, tree_data, tree_none, tree_closes}
+use Rattle.vm_tree.proofs.TreeLemmas.{subtree_in, tree_data, tree_none, tree_closes, tree_one}
 use Rattle.vm_tree.proofs.Descent.{subtree_top}
 use Rattle.vm_tree.specs.Answers as tree
 use Rattle.vm_tree.specs.Root.{IsRooted, IsRootedIn}
@@ -22,6 +22,18 @@ rooted_tree x limit root m bs (inl bare) =
 rooted_tree x limit root m bs (inr top) =
     let inside = subtree_top sizes x limit root.level root.block m bs top.subtree in
     tree_closes sizes x limit root.block m bs (omega (arith, inside.0)) (record { level = root.level; low = top.level; subtree = top.subtree; rising = top.rising })
+
+-- under one root lie one map and one list of blocks
+pub rooted_one : (x : Contents) (limit : ℕ) (r : Root) (m n : Map) (bs ds : List ℕ) → IsRooted sizes x limit r m bs → IsRooted sizes x limit r n ds → bs ≡ ds
+rooted_one x limit r m n bs ds one other = (tree_one sizes x limit r.block m n bs ds (rooted_tree x limit r m bs one) (rooted_tree x limit r n ds other)).1
+
+-- what is known of its blocks from two sides
+pub grown_both : (P Q : ℕ → Type 0) (x : Contents) (limit : ℕ) (root : Root) (m n : Map) → IsRootedIn sizes P x limit root m → IsRootedIn sizes Q x limit root n → IsRootedIn sizes (λ b. P b × Q b) x limit root m
+grown_both P Q x limit root m n one other = record {
+  stands_in = one.stands_in;
+  rooted = one.rooted;
+  each = each_both P Q one.stands_in one.each (subst (AllByRecursion Q) (rooted_one x limit root n m other.stands_in one.stands_in other.rooted one.rooted) other.each);
+}
 
 -- the frame law for a map under a root
 rooted_in : (P : ℕ → Type 0) (x y : Contents) (limit : ℕ) → ((n : ℕ) → P n → block y n ≡ block x n)

@@ -59,10 +59,10 @@ pub record IsInSeries (alt : List ℕ) (m : Medium) (limit : ℕ) (slot_name : S
   pub wider : HoldsMore before bits
   pub others : Rests m limit slot_name before committed (set_aside alt working) (state_aside alt s)
 
--- the blocks that were held before the series, where one goes on; marks is what is kept of them
+-- the blocks that were held before the series, where one goes on
 abbrev pub before_series : Option (List ℕ) → List Bool → Option (List Bool)
-before_series None marks = None
-before_series (Some alt) marks = Some marks
+before_series None before = None
+before_series (Some alt) before = Some before
 
 -- the blocks that a change may not touch: those that were held before its series, and with no series those that are held
 abbrev pub before_of : Option (List Bool) → List Bool → List Bool

@@ -53,6 +53,7 @@ module _ {D : Type 0} {members : _} where
     pub working : new.working ≡ old.working
     pub held : new.held ≡ old.held
     pub marks : new.marks ≡ old.marks
+    pub before : new.before ≡ old.before
     pub series : new.series ≡ old.series
     pub failed : new.failed ≡ old.failed
 
@@ -91,7 +92,7 @@ module _ {D : Type 0} {members : _} where
   -- the store stands for this state
   abbrev pub Holds : Store D members → State → Type 0
   Holds store s =
-      HoldsWith (members.state store.disk).now store.blocks store.slot_name store.held store.marks store.series store.committed store.working s
+      HoldsWith (members.state store.disk).now store.blocks store.slot_name store.held store.before store.series store.committed store.working s
 
   -- Q holds for each state that a store stands for which has not failed
   abbrev pub InState : Store D members → (State → Type 0) → Type 0

@@ -16,7 +16,7 @@ ghost use Rattle.vm_store.specs.Resting.{before_of, before_series};
 ghost use Rattle.vm_store.specs.Sizes.{sizes};
 
 use crate::{FAN, LEAF, LEVELS};
-use vm_alloc::{Held, Marks};
+use vm_alloc::{Held, Snapshot};
 use vm_disk::Disk;
 use vm_tree::{Root, TreeFault, put, remove};
 use vm_types::{Key, Name, Value};
@@ -40,7 +40,7 @@ const BLOCKS_COPIED_A_CHANGE: u32 = 16_384;
 pub fn go_on(
     series: &mut Option<Name>,
     changes: &mut u32,
-    before: &mut Marks,
+    before: &mut Snapshot,
     held: &Held,
     alt: &Name,
 )
@@ -59,22 +59,22 @@ pub fn go_on(
         return;
     }
     *changes = 0;
-    before.copy_held(held);
+    before.take(held);
     *series = Some(*alt);
 }
 
 /// The blocks that were held before the series, where one goes on.
-pub fn before_series<'a>(series: &Option<Name>, marks: &'a Marks) -> Option<&'a Marks>
-    ensures { option_copied result ≡ before_series series.now marks.now }
+pub fn before_series<'a>(series: &Option<Name>, before: &'a Snapshot) -> Option<&'a Snapshot>
+    ensures { option_copied result ≡ before_series series.now before.now }
 {
     match series {
-        Some(_) => Some(marks),
+        Some(_) => Some(before),
         None => None,
     }
 }
 
 // Forgets the blocks that were not held before.
-fn forget_taken<D: Disk>(disk: &mut D, before: &Marks, blocks: &[u32])
+fn forget_taken<D: Disk>(disk: &mut D, before: &Snapshot, blocks: &[u32])
     requires { length before.now ≤ (D.state disk.old).blocks }
     ensures any { Idles (D.state disk.old) (D.state disk.new) }
     ensures moments { (D.state disk.new).honest ≡ true
@@ -84,7 +84,7 @@ fn forget_taken<D: Disk>(disk: &mut D, before: &Marks, blocks: &[u32])
         → block (D.state disk.new).now.contents n ≡ block (D.state disk.old).now.contents n }
 {
     for n in blocks {
-        if *n < before.blocks() && !before.is_set(*n) {
+        if *n < before.blocks() && !before.has(*n) {
             disk.forget(*n);
         }
     }
@@ -92,7 +92,7 @@ fn forget_taken<D: Disk>(disk: &mut D, before: &Marks, blocks: &[u32])
 
 // Tells the disk that the blocks of a path which a change replaced are not needed, but for those that
 // were held before. The root is the one that the path led from.
-fn forget_path<D: Disk>(disk: &mut D, before: &Marks, root: Root, path: &[u32; 8])
+fn forget_path<D: Disk>(disk: &mut D, before: &Snapshot, root: Root, path: &[u32; 8])
     requires { length before.now ≤ (D.state disk.old).blocks }
     ensures any { Idles (D.state disk.old) (D.state disk.new) }
     ensures moments { (D.state disk.new).honest ≡ true
@@ -115,7 +115,7 @@ fn forget_path<D: Disk>(disk: &mut D, before: &Marks, root: Root, path: &[u32; 8
 pub fn put_forgetting<D: Disk>(
     disk: &mut D,
     held: &mut Held,
-    before: Option<&Marks>,
+    before: Option<&Snapshot>,
     root: Root,
     key: Key,
     value: &Value,
@@ -161,7 +161,7 @@ pub fn put_forgetting<D: Disk>(
 pub fn remove_forgetting<D: Disk>(
     disk: &mut D,
     held: &mut Held,
-    before: Option<&Marks>,
+    before: Option<&Snapshot>,
     root: Root,
     key: Key,
 ) -> Result<Option<Root>, TreeFault>

@@ -17,7 +17,7 @@ pub use formatting::format;
 pub use opening::open;
 pub use running::Stop;
 use std::alloc::Global;
-use vm_alloc::{Held, Marks};
+use vm_alloc::{Held, Marks, Snapshot};
 use vm_block::{Entry, SlotName};
 use vm_disk::Disk;
 use vm_types::{Answer, Command, Name, Refusal};
@@ -39,8 +39,10 @@ pub struct Store<D: Disk> {
     committed: Versions,
     working: Versions,
     held: Held,
-    // While a series of changes goes on, the blocks that were held before it.
+    // What a marking has marked: no more than room for one, from call to call.
     marks: Marks,
+    // While a series of changes goes on, the blocks that were held before it and are held still.
+    before: Snapshot,
     // The alternative of which the commands since then changed records, and no other command came.
     series: Option<Name>,
     // How many changes were made outside a series since the held blocks were copied last.
@@ -51,6 +53,7 @@ pub struct Store<D: Disk> {
     ghost inside: { blocks ≤ (D.state disk).blocks },
     ghost bits: { length held ≡ blocks },
     ghost mark_bits: { length marks ≡ blocks },
+    ghost before_bits: { length before ≡ blocks },
     ghost room_entries: { 511 ≤ vec_capacity entries },
 }
 
@@ -123,6 +126,7 @@ impl<D: Disk> Store<D> {
             working: _,
             held: _,
             marks: _,
+            before: _,
             series: _,
             changes: _,
             failed: _,

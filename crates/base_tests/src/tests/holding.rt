@@ -2,7 +2,7 @@
 use std::alloc::{AllocError, Global};
 use std::process::Abort;
 use std::test::Fail;
-use vm_alloc::{Held, Marks};
+use vm_alloc::{Held, Marks, Snapshot};
 
 // Takes all blocks for data, of so many in all.
 fn take_all(rt: &impl Abort, held: &mut Held, blocks: u32) {
@@ -140,4 +140,50 @@ fn marks_and_clears(rt: HostRuntime) -> Result<(), Fail> {
     assert!(rt; !marks.is_set(33));
     assert!(rt; !marks.is_set(64));
     Ok(())
+}
+
+// A store of 130 blocks in which block 34 is held, and 129, and what was held of it before.
+#[test]
+fn keeps_of_a_snapshot_what_is_held(rt: HostRuntime) -> Result<(), Fail> {
+    let mut held = Held::new(rt.alloc(), 130)?;
+    let mut marks = Marks::new(rt.alloc(), 130)?;
+    mark_all(&rt, &mut marks, &[34, 40, 129]);
+    hold(&rt, &mut held, &marks);
+    let mut before = Snapshot::new(rt.alloc(), 130)?;
+    assert_eq!(rt; before.blocks(), 130);
+    assert!(rt; !before.has(0));
+    keep(&rt, &mut before, &held);
+    assert!(rt; !has(&rt, &before, 40));
+    snap(&rt, &mut before, &held);
+    assert!(rt; has(&rt, &before, 33));
+    assert!(rt; has(&rt, &before, 129));
+    assert!(rt; !has(&rt, &before, 35));
+
+    // Block 40 is let go, and 35 is held besides.
+    marks.clear();
+    mark_all(&rt, &mut marks, &[34, 35, 129]);
+    hold(&rt, &mut held, &marks);
+    keep(&rt, &mut before, &held);
+    assert!(rt; has(&rt, &before, 34));
+    assert!(rt; has(&rt, &before, 129));
+    assert!(rt; !has(&rt, &before, 35));
+    assert!(rt; !has(&rt, &before, 40));
+    Ok(())
+}
+
+// Takes a snapshot of what is held.
+fn snap(rt: &impl Abort, snapshot: &mut Snapshot, held: &Held) {
+    assert_eq!(rt; snapshot.blocks(), held.blocks());
+    snapshot.take(held);
+}
+
+// Keeps of it what is held still.
+fn keep(rt: &impl Abort, snapshot: &mut Snapshot, held: &Held) {
+    assert_eq!(rt; snapshot.blocks(), held.blocks());
+    snapshot.keep_held(held);
+}
+
+fn has(rt: &impl Abort, snapshot: &Snapshot, n: u32) -> bool {
+    assert!(rt; n < snapshot.blocks());
+    snapshot.has(n)
 }

@@ -1,7 +1,7 @@
 //! Which blocks are forgotten: those that a Put or a Remove replaces, where the series took them that it goes on
 //! with. A disk in memory fills them with other bytes.
 use super::records::TWO_RECORDS;
-use super::script::{NEW, SEVENTEEN, and_late, in_256_blocks, on_each};
+use super::script::{NEW, SEVENTEEN, and_late, in_256_blocks, on_both, on_each};
 
 // Each Put takes a block, from 34 on.
 #[test]
@@ -29,6 +29,37 @@ fn load_leaves_nothing_but_its_tree(rt: HostRuntime) {
         close
         forgotten -> 34 35 36 37 38 39 40 41 42 43 44 45 46 47 48 49 51 52 53 54 55 56";
     in_256_blocks(&rt, &[row]);
+}
+
+// The sixteenth Put finds 15 free blocks and marks, which leaves block 48 alone. It takes block 34 again, and the
+// next one three blocks.
+#[test]
+fn a_series_goes_on_over_a_marking(rt: HostRuntime) {
+    let row = "
+        format 64
+        open
+        puts top 1:1 17 v
+        free -> 25
+        close
+        forgotten -> 34 38 39 40 41 42 43 44 45 46 47 48";
+    on_both(&rt, &[row]);
+}
+
+// Block 34 is committed. The fifteenth Put behind it finds 15 free blocks and marks, which leaves 34 and 48.
+#[test]
+fn what_is_committed_is_not_forgotten_after_a_marking(rt: HostRuntime) {
+    let row = "
+        format 64
+        open
+        put top 7:1 duct
+        commit
+        puts top 1:1 15 v
+        close
+        forgotten -> 36 37 38 39 40 41 42 43 44 45 46 47 48
+        crash all=41
+        open
+        list top -> 7:1=duct";
+    on_both(&rt, &[row]);
 }
 
 // The root is in block 37, over the leaves 35 and 36, which are committed. The second Put replaces the leaf and the

@@ -15,7 +15,7 @@ use crate::faults::refusal_of;
 use crate::versions::Versions;
 use crate::{FAN, LEAF, LEVELS};
 use std::alloc::Global;
-use vm_alloc::Held;
+use vm_alloc::{Held, Snapshot};
 use vm_block::{Entry, SlotName};
 use vm_catalog::{LoadFault, Slot, first_block, load, slot_in_use};
 use vm_check::verify;
@@ -121,8 +121,11 @@ fn read_maps<D: Disk>(
     ensures refused { RefusesMaps (D.state disk.old) (D.state disk.new) result slot_name slot }
 {
     let Slot { blocks, entries } = slot;
-    let (Some(numbers), Ok(mut held)) = (root_numbers(alloc, &entries), Held::new(alloc, blocks))
-    else {
+    let (Some(numbers), Ok(mut held), Ok(before)) = (
+        root_numbers(alloc, &entries),
+        Held::new(alloc, blocks),
+        Snapshot::new(alloc, blocks),
+    ) else {
         return Err(Refusal::Memory);
     };
     match verify::<D, LEAF, FAN, LEVELS>(alloc, disk, blocks, &numbers) {
@@ -139,6 +142,7 @@ fn read_maps<D: Disk>(
                 working,
                 held,
                 marks,
+                before,
             })
         }
         Err(fault) => Err(refusal_of(fault)),
@@ -195,6 +199,7 @@ pub fn open<D: Disk>(alloc: Global, mut disk: D) -> Result<Store<D>, (D, Refusal
                 working,
                 held,
                 marks,
+                before,
             } = parts;
             Ok(Store {
                 disk,
@@ -206,6 +211,7 @@ pub fn open<D: Disk>(alloc: Global, mut disk: D) -> Result<Store<D>, (D, Refusal
                 working,
                 held,
                 marks,
+                before,
                 series: None,
                 changes: 0,
                 failed: false,

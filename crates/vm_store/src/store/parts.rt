@@ -2,7 +2,7 @@
 ghost use Rattle.std.specs.Prelude.{◌≡◌, ◌<◌, ◌≤◌, ◌^◌, length, vec_capacity};
 
 use crate::versions::Versions;
-use vm_alloc::{Held, Marks};
+use vm_alloc::{Held, Marks, Snapshot};
 use vm_block::{Entry, SlotName};
 
 /// What is known of a store beside its disk.
@@ -15,9 +15,11 @@ pub struct Parts {
     pub working: Versions,
     pub held: Held,
     pub marks: Marks,
+    pub before: Snapshot,
     ghost least: { 64 ≤ blocks },
     ghost most: { blocks ≤ 2 ^ 20 },
     ghost bits: { length held ≡ blocks },
     ghost mark_bits: { length marks ≡ blocks },
+    ghost before_bits: { length before ≡ blocks },
     ghost room_entries: { 511 ≤ vec_capacity entries },
 }

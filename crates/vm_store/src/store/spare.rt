@@ -71,7 +71,8 @@ impl<D: Disk> Store<D> {
         Ok(self.held.free_count())
     }
 
-    // Holds just the blocks that the committed or the working entries reach, beside the store's own.
+    // Holds just the blocks that the committed or the working entries reach, beside the store's own. A series
+    // goes on over it: what its alternative's records alone need was not held before it, and is not now.
     pub(super) fn mark_all(&mut self) -> Result<(), Refusal>
         ensures any { GoesOn (result ≡ Err Refusal.Device) self.old self.new }
         ensures failed { has_failed self.new ≡ has_failed self.old }
@@ -86,7 +87,6 @@ impl<D: Disk> Store<D> {
             → OnOk result (free_of self.new ≡ spare_of holds.rests) }
         ensures state { IsHonest self.new → (s : State) → Holds self.old s → Holds self.new s }
     {
-        self.series = None;
         self.marks.clear();
         match mark_versions(&mut self.disk, self.committed.as_slice(), &mut self.marks) {
             Ok(()) => {}
@@ -97,6 +97,7 @@ impl<D: Disk> Store<D> {
             Err(fault) => return Err(refusal_of(fault)),
         }
         self.held.replace(&self.marks);
+        self.before.keep_held(&self.held);
         Ok(())
     }
 

@@ -6,7 +6,7 @@ ghost use Rattle.vm_types.specs.declared.command.Command.TheVariants.{Grow};
 
 use crate::store::Store;
 use crate::store::formatting::MOST_BLOCKS;
-use vm_alloc::Marks;
+use vm_alloc::{Marks, Snapshot};
 use vm_disk::Disk;
 use vm_types::{Answer, Refusal};
 
@@ -47,10 +47,14 @@ impl<D: Disk> Store<D> {
         let Ok(marks) = Marks::new(self.alloc, blocks) else {
             return Err(Refusal::Memory);
         };
+        let Ok(before) = Snapshot::new(self.alloc, blocks) else {
+            return Err(Refusal::Memory);
+        };
         self.lengthen(blocks)?;
         self.blocks = blocks;
         self.held = held;
         self.marks = marks;
+        self.before = before;
         self.series = None;
         Ok(Answer::Done)
     }

@@ -49,11 +49,11 @@ impl<D: Disk> Store<D> {
             Err(refusal) => return Err(refusal),
         }
         self.series = None;
-        self.marks.copy_held(&self.held);
+        self.before.take(&self.held);
         match make_changes(
             &mut self.disk,
             &mut self.held,
-            &self.marks,
+            &self.before,
             roots.own,
             &changes,
         ) {

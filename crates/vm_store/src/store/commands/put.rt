@@ -33,14 +33,14 @@ impl<D: Disk> Store<D> {
         go_on(
             &mut self.series,
             &mut self.changes,
-            &mut self.marks,
+            &mut self.before,
             &self.held,
             alt,
         );
         match put_forgetting(
             &mut self.disk,
             &mut self.held,
-            before_series(&self.series, &self.marks),
+            before_series(&self.series, &self.before),
             version.current,
             key,
             value,

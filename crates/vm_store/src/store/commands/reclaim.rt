@@ -20,7 +20,10 @@ impl<D: Disk> Store<D> {
         ensures carried { IsCarriedOut self.old self.new Command.Reclaim result }
     {
         match self.mark_all() {
-            Ok(()) => Ok(Answer::Done),
+            Ok(()) => {
+                self.series = None;
+                Ok(Answer::Done)
+            }
             Err(refusal) => Err(refusal),
         }
     }

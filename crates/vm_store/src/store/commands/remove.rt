@@ -67,7 +67,7 @@ impl<D: Disk> Store<D> {
         go_on(
             &mut self.series,
             &mut self.changes,
-            &mut self.marks,
+            &mut self.before,
             &self.held,
             alt,
         );
@@ -101,7 +101,7 @@ impl<D: Disk> Store<D> {
         match remove_forgetting(
             &mut self.disk,
             &mut self.held,
-            before_series(&self.series, &self.marks),
+            before_series(&self.series, &self.before),
             version.current,
             key,
         ) {

@@ -29,6 +29,11 @@ returns-in_default-new-clause-carried g c honest s holds =
     looked _ _ s holds (Grow c.args.blocks) _ (grow_is_accepted s c.args.blocks _ (good_size s.blocks c.args.blocks (omega (arith, c.if-blocks-self.false, holds.rests.blocks)) (omega (arith, c.if-blocks-gt-MOST_BLOCKS.false))) (inr (inl refl)))
     (started _ _ refl) holds.rests (λ _. holds)
 
+pub returns-in_default-new-2-clause-carried : goal.returns-in_default-new-2-clause-carried
+returns-in_default-new-2-clause-carried g c honest s holds =
+    looked _ _ s holds (Grow c.args.blocks) _ (grow_is_accepted s c.args.blocks _ (good_size s.blocks c.args.blocks (omega (arith, c.if-blocks-self.false, holds.rests.blocks)) (omega (arith, c.if-blocks-gt-MOST_BLOCKS.false))) (inr (inl refl)))
+    (started _ _ refl) holds.rests (λ _. holds)
+
 pub returns-in_err-lengthen-clause-carried : goal.returns-in_err-lengthen-clause-carried
 returns-in_err-lengthen-clause-carried g c honest s holds =
     record {

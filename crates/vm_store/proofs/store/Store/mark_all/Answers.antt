@@ -1,9 +1,8 @@
-use Rattle.std.proofs.Common.{ap, ◌∙◌}
+use Rattle.std.proofs.Common.{ap, sym, ◌∙◌}
 use Rattle.vm_disk.proofs.MomentLemmas.{reads_then, same_medium}
 use Rattle.vm_store.specs.Faults.{refusal_of}
 use Rattle.vm_store.proofs.MarkedLemmas.{first_reach, first_closed, second_reach, second_closed, both_marked, free_exactly, rests_marked}
-use Rattle.vm_store.proofs.RestingLemmas.{read_rests}
-use Rattle.vm_store.proofs.SeriesLemmas.{holds_alone}
+use Rattle.vm_store.proofs.SeriesLemmas.{holds_marked, read_holds}
 use Rattle.vm_store.proofs.store.Store.mark_all.Goals as goal
 
 pub returns-in-Err-clause-only : goal.returns-in-Err-clause-only
@@ -14,7 +13,7 @@ returns-in-Err-clause-only g c honest s holds =
     c.refusal_of.ensures ∙ ap refusal_of (c.in-Err.ensures.marked honest _ reach (first_closed _ _ _ _ _ _ s rests self.marks c.clear.new.self self.mark_bits c.clear.ensures _ c.as_slice.ensures.items))
 
 pub returns-in-Err-clause-state : goal.returns-in-Err-clause-state
-returns-in-Err-clause-state g c honest s holds = holds_alone (read_rests _ _ _ _ _ _ _ s (c.mark_versions.ensures.reads honest) holds.rests)
+returns-in-Err-clause-state g c honest s holds = read_holds _ _ _ _ _ _ _ _ _ s (c.mark_versions.ensures.reads honest) holds
 
 pub returns-in-Err-mark_versions-clause-reads : goal.returns-in-Err-mark_versions-clause-reads
 returns-in-Err-mark_versions-clause-reads g c honest =
@@ -33,7 +32,7 @@ returns-in-Err-mark_versions-clause-only g c honest s holds =
 
 pub returns-in-Err-mark_versions-clause-state : goal.returns-in-Err-mark_versions-clause-state
 returns-in-Err-mark_versions-clause-state g c honest s holds =
-    holds_alone (read_rests _ _ _ _ _ _ _ s (reads_then _ _ _ (c.mark_versions.ensures.reads (c.mark_versions-2.ensures.any.earlier honest)) (c.mark_versions-2.ensures.reads honest)) holds.rests)
+    read_holds _ _ _ _ _ _ _ _ _ s (reads_then _ _ _ (c.mark_versions.ensures.reads (c.mark_versions-2.ensures.any.earlier honest)) (c.mark_versions-2.ensures.reads honest)) holds
 
 pub returns-clause-reads : goal.returns-clause-reads
 returns-clause-reads g c honest =
@@ -63,5 +62,6 @@ returns-clause-state g c honest s holds =
     let closed = second_closed _ _ _ _ _ _ s rests self.marks c.clear.new.self self.mark_bits c.clear.ensures _ c.as_slice.ensures.items c.mark_versions.new.marks _ read c.mark_versions.ensures.many _ c.as_slice-2.ensures.items (c.in-Ok.ensures.closed (c.mark_versions-2.ensures.any.earlier honest) _ reach clear) in
     let marked = both_marked _ _ _ _ _ _ s rests self.marks c.clear.new.self self.mark_bits c.clear.ensures _ c.as_slice.ensures.items c.mark_versions.new.marks _ read c.mark_versions.ensures.many _ c.as_slice-2.ensures.items
     c.mark_versions-2.new.marks (c.in-Ok.ensures.marked (c.mark_versions-2.ensures.any.earlier honest) _ reach clear) (c.in-Ok-mark_versions.ensures.marked honest _ then closed) in
-    holds_alone (read_rests _ _ _ _ _ _ _ s (reads_then _ _ _ (c.mark_versions.ensures.reads (c.mark_versions-2.ensures.any.earlier honest)) (c.mark_versions-2.ensures.reads honest))
-    (rests_marked _ _ _ _ _ _ s self.bits rests c.mark_versions-2.new.marks marked c.replace.new.self (c.replace.ensures.count ∙ self.bits) c.replace.ensures.system c.replace.ensures.marked))
+    let read-all = same_medium _ _ (reads_then _ _ _ (c.mark_versions.ensures.reads (c.mark_versions-2.ensures.any.earlier honest)) (c.mark_versions-2.ensures.reads honest)) in
+    holds_marked _ _ _ _ _ self.before c.replace.new.self c.keep_held.new.self _ _ _ s read-all (c.replace.ensures.count ∙ self.bits ∙ sym (c.keep_held.ensures.count ∙ self.before_bits)) c.keep_held.ensures.kept
+    (rests_marked _ _ _ _ _ _ s self.bits rests c.mark_versions-2.new.marks marked c.replace.new.self (c.replace.ensures.count ∙ self.bits) c.replace.ensures.system c.replace.ensures.marked) holds

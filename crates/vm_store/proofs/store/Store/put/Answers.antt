@@ -45,7 +45,7 @@ returns-in-Ok-clause-carried g c honest s holds =
     let current = found.stands.current in
     let put = c.in-Ok.ensures.put honest found.filed.current current.stands_in (rooted_of _ _ _ e.current _ _ mid.bits current.rooted) in
     let grown = grown_of _ _ _ _ c.in-Ok.root _ mid.bits (put.0 current.each) in
-    let on = went_on _ _ _ _ _ _ _ s c.args.alt.now mid.marks mid.series _ c.go_on.ensures.series c.go_on.ensures.before holds' in
+    let on = went_on _ _ _ _ _ _ _ s c.args.alt.now mid.before mid.series _ c.go_on.ensures.series c.go_on.ensures.before holds' in
     let stays = ap (λ o. before_of o mid.held) c.before_series.ensures in
     let series = in_series _ _ _ _ _ _ _ s c.args.alt.now _ _ c.go_on.ensures.series stays on in
     changed _ _ s holds (Put c.args.alt.now c.args.key c.args.value.now) _ (answers_done _ _ _ _ _ _ s rests c.args.alt.now c.args.key c.args.value.now _ (sym c.in-Some.ensures) _ _ (room_for _ _ _ (c.in-Ok-true.ensures.spare marked s holds) c.in-Ok-true.field-0-test)
@@ -71,7 +71,7 @@ returns-in-Err-put_forgetting-clause-carried g c honest s holds =
     let found = found_entry _ _ _ _ _ _ s rests' c.args.alt.now e is in
     let current = found.stands.current in
     let put = c.in-Err-put_forgetting.ensures.put honest found.filed.current current.stands_in (rooted_of _ _ _ e.current _ _ mid.bits current.rooted) in
-    let on = went_on _ _ _ _ _ _ _ s c.args.alt.now mid.marks mid.series _ c.go_on.ensures.series c.go_on.ensures.before holds' in
+    let on = went_on _ _ _ _ _ _ _ s c.args.alt.now mid.before mid.series _ c.go_on.ensures.series c.go_on.ensures.before holds' in
     let stays = ap (λ o. before_of o mid.held) c.before_series.ensures in
     let series = in_series _ _ _ _ _ _ _ s c.args.alt.now _ _ c.go_on.ensures.series stays on in
     changed _ _ s holds (Put c.args.alt.now c.args.key c.args.value.now) _ (answers_fault _ _ _ _ _ _ s rests c.args.alt.now c.args.key c.args.value.now _ (sym c.in-Some.ensures) _ _ _ c.in-Err-put_forgetting.fault c.refusal_of.result _ (room_for _ _ _ (c.in-Ok-true.ensures.spare marked s holds) c.in-Ok-true.field-0-test)

@@ -1,4 +1,4 @@
-use Rattle.std.proofs.Common.{Some, None, Err, inl, inr, refl, sym, ap, ◌∙◌, arith}
+use Rattle.std.proofs.Common.{Some, None, Err, inl, inr, sym, ap, ◌∙◌, arith}
 use Rattle.vm_types.specs.declared.command.Command.TheVariants.{Remove}
 use Rattle.vm_disk.proofs.MomentLemmas.{reads_then}
 use Rattle.vm_store.proofs.CarryLemmas.{looked, read_carried}
@@ -60,7 +60,7 @@ returns-clause-carried g c honest s holds =
     let read = c.in-Ok-Some.ensures.looks.reads (c.has_spare.ensures.any.earlier marked) in
     let mid = c.has_spare.new.self in
     let holds' = c.has_spare.ensures.state marked s (read_holds _ _ _ _ _ _ _ _ _ s read holds) in
-    let between = went_on _ _ _ _ _ _ _ s c.args.alt.now mid.marks mid.series _ c.go_on.ensures.series c.go_on.ensures.before holds' in
+    let between = went_on _ _ _ _ _ _ _ s c.args.alt.now mid.before mid.series _ c.go_on.ensures.series c.go_on.ensures.before holds' in
     let enough = no_fewer _ _ (omega (arith, c.in-Ok-true.ensures.free, free_at_most _ _ _ _ _ _ s mid.bits between.rests)) in
     let room = room_for _ _ _ (spare_after _ _ _ _ _ _ _ _ _ s _ _ (c.in-Ok-Some.ensures.looks.reads (c.in-Ok-true.ensures.any.earlier marked)) (c.in-Ok-true.ensures.spare marked) holds) c.in-Ok-true.field-0-test in
     let carried = c.remove_in_series.ensures.carried honest s between (inr (λ missing. let clash = there ∙ missing in cc)) in

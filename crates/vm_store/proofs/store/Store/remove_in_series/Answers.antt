@@ -1,4 +1,4 @@
-use Rattle.std.proofs.Common.{◌≡◌, Err, inl, refl, subst, sym, ap, ◌∙◌, arith, Some, None, Ok}
+use Rattle.std.proofs.Common.{◌≡◌, Err, refl, subst, sym, ap, ◌∙◌, arith, Some, None, Ok}
 use Rattle.vm_types.specs.declared.command.Command.TheVariants.{Remove}
 use Rattle.vm_types.specs.declared.refusal.Refusal.{Refusal}
 use Rattle.vm_types.specs.declared.refusal.Refusal.TheVariants.{NoSuchRecord}

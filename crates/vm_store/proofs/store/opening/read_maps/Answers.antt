@@ -1,4 +1,5 @@
-use Rattle.std.proofs.Common.{◌≤◌, Err, length, subst, sym, ap, ◌∙◌, arith}
+use Rattle.std.proofs.Common.{◌≤◌, Err, false, length, subst, sym, ap, ◌∙◌, arith}
+use Rattle.std.proofs.lemmas.List.{length-replicate}
 use Rattle.vm_types.specs.State.{Seen, opened}
 use Rattle.vm_disk.specs.Disk.{Medium}
 use Rattle.vm_disk.proofs.MomentLemmas.{same_medium}
@@ -13,7 +14,7 @@ use Rattle.vm_store.proofs.store.opening.read_maps.Goals as goal
 
 pub versions_twice-requires-clause-roots : goal.versions_twice-requires-clause-roots
 versions_twice-requires-clause-roots g c =
-    roots_count _ _ _ _ _ _ _ c.deref-in-Ok-2.ensures.value c.in-Ok.ensures.roots c.deref-2.ensures.value c.in-Some-Ok.ensures c.deref.ensures.value c.deref-in-Ok.ensures.value
+    roots_count _ _ _ _ _ _ _ c.deref-in-Ok-2.ensures.value c.in-Ok.ensures.roots c.deref-2.ensures.value c.in-Some-Ok-Ok.ensures c.deref.ensures.value c.deref-in-Ok.ensures.value
 
 pub invariant_of-result : goal.invariant_of-result
 invariant_of-result g c =
@@ -21,8 +22,9 @@ invariant_of-result g c =
     record {
       least = head.least;
       most = head.most;
-      bits = c.replace.ensures.count ∙ c.in-Some-Ok.ensures'.count;
+      bits = c.replace.ensures.count ∙ c.in-Some-Ok-Ok.ensures'.count;
       mark_bits = c.in-Ok.ensures.count;
+      before_bits = ap length c.in-Some-Ok-Ok.ensures'' ∙ length-replicate c.args.slot.blocks false;
       room_entries = c.requires.reserved;
     }
 
@@ -33,7 +35,7 @@ returns-in-Some-clause-holds g c honest clean store in_use slot =
     let whole = g.met.D.Disk.whole c.args.disk.now (c.verify.ensures.looks.goes.earlier honest) in
     let inside : limit ≤ length m.contents = omega (arith, whole, c.requires.inside) in
     let read = same_medium _ _ (c.verify.ensures.looks.reads honest) in
-    let found = found_here _ _ _ _ _ _ _ _ c.deref-2.ensures.value c.in-Some-Ok.ensures c.deref.ensures.value (c.in-Ok.ensures.found honest) in
+    let found = found_here _ _ _ _ _ _ _ _ c.deref-2.ensures.value c.in-Some-Ok-Ok.ensures c.deref.ensures.value (c.in-Ok.ensures.found honest) in
     let are = c.in-Some.ensures in
     let alike = found_alike _ _ _ _ c.deref-in-Ok.ensures.value c.deref-in-Ok-2.ensures.value in
     let seen : Seen = record { tree = tree_of found.filed; blocks = limit } in
@@ -45,7 +47,7 @@ returns-in-Some-clause-holds g c honest clean store in_use slot =
           (rests_named m limit c.args.slot_name c.replace.new.self _ c.in-Some.committed c.in-Some.working (opened seen) (are.0 ∙ alike) (are.1 ∙ alike) rests);
       free = freed_on m _ limit c.args.slot_name c.replace.new.self c.in-Some.committed c.in-Some.working read
           (freed m limit c.args.slot_name c.replace.new.self c.in-Some.committed c.in-Some.working c.args.slot.entries.items c.in-Ok.roots.items c.in-Ok.marks (are.0 ∙ alike) (are.1 ∙ alike)
-          (found_as_named _ _ _ _ _ _ _ _ c.deref-2.ensures.value c.in-Some-Ok.ensures c.deref.ensures.value (c.in-Ok.ensures.found honest)) (c.replace.ensures.count ∙ c.in-Some-Ok.ensures'.count) c.replace.ensures.system c.replace.ensures.marked);
+          (found_as_named _ _ _ _ _ _ _ _ c.deref-2.ensures.value c.in-Some-Ok-Ok.ensures c.deref.ensures.value (c.in-Ok.ensures.found honest)) (c.replace.ensures.count ∙ c.in-Some-Ok-Ok.ensures'.count) c.replace.ensures.system c.replace.ensures.marked);
     }
 
 pub returns-in-Err-clause-refused : goal.returns-in-Err-clause-refused
@@ -55,4 +57,4 @@ returns-in-Err-clause-refused g c honest store in_use slot =
     let whole = g.met.D.Disk.whole c.args.disk.now (c.verify.ensures.looks.goes.earlier honest) in
     let inside : limit ≤ length m.contents = omega (arith, whole, c.requires.inside) in
     fault_refused m limit c.args.slot_name c.args.slot.entries.items store in_use slot inside c.in-Err.fault c.refusal_of.result c.refusal_of.ensures (λ same. c.in-Err.ensures.deep (ap Err same))
-    (λ trees. fault_lists c.in-Err.fault _ _ (c.in-Err.ensures.only honest (trees_here _ _ _ _ _ _ c.deref-2.ensures.value c.in-Some-Ok.ensures c.deref.ensures.value trees)))
+    (λ trees. fault_lists c.in-Err.fault _ _ (c.in-Err.ensures.only honest (trees_here _ _ _ _ _ _ c.deref-2.ensures.value c.in-Some-Ok-Ok.ensures c.deref.ensures.value trees)))

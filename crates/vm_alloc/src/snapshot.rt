@@ -1,0 +1,66 @@
+ghost use Rattle.std.specs.Prelude.{◌≡◌, ◌↔◌, ◌<◌, ◌≤◌, ◌&&◌, ℕ, false, length, replicate, IsTrue, IfOk};
+ghost use Rattle.vm_alloc.specs.Held.{is_held, IsHeld};
+
+use crate::flags::Flags;
+use crate::held::Held;
+use std::alloc::{AllocError, Global};
+use std::marker::Model;
+
+/// The blocks that were held at one time, but for those that were let go since.
+#[derive(Drop)]
+pub struct Snapshot {
+    flags: Flags,
+}
+
+impl Model for Snapshot {
+    ghost use Rattle.std.specs.Prelude.{List, Bool};
+
+    ghost Value = { List Bool };
+
+    ghost view = { λ a. a.flags };
+}
+
+impl Snapshot {
+    /// It has no block. The only call that takes memory.
+    pub fn new(alloc: Global, blocks: u32) -> Result<Snapshot, AllocError>
+        requires few { blocks ≤ 1048576 }
+        ensures { IfOk result (λ snapshot. snapshot ≡ replicate blocks false) }
+    {
+        Ok(Snapshot {
+            flags: Flags::new(alloc, blocks as usize)?,
+        })
+    }
+
+    /// How many blocks the store has.
+    pub fn blocks(&self) -> u32
+        ensures count { result ≡ length self.now }
+        ensures few { length self.now ≤ 1048576 }
+    {
+        self.flags.len() as u32
+    }
+
+    /// Whether it has the block.
+    pub fn has(&self, n: u32) -> bool
+        requires { n < length self.now }
+        ensures { IsTrue result ↔ IsHeld self.now n }
+    {
+        self.flags.get(n as usize)
+    }
+
+    /// From now on it has the blocks that are held, and no other.
+    pub fn take(&mut self, held: &Held)
+        requires { length held.now ≡ length self.old }
+        ensures { self.new ≡ held.now }
+    {
+        self.flags.copy_from(held.flags());
+    }
+
+    /// Leaves out the blocks that are not held any longer.
+    pub fn keep_held(&mut self, held: &Held)
+        requires { length held.now ≡ length self.old }
+        ensures count { length self.new ≡ length self.old }
+        ensures kept { (n : ℕ) → is_held self.new n ≡ (is_held self.old n && is_held held.now n) }
+    {
+        self.flags.clear_but(held.flags());
+    }
+}
