@@ -30,18 +30,10 @@ abbrev pub GivesCheckpoints : Result ℕ Refusal → State → Type 0
 GivesCheckpoints result s = IfOk result (λ count. count ≡ checkpoint_count s.working)
 
 module _ {D : Type 0} {members : _} where
-  -- Q holds for each state that a store stands for which has not failed
-  abbrev pub InState : Store D members → (State → Type 0) → Type 0
-  InState store Q = has_failed store ≡ false → (s : State) → Holds store s → Q s
-
-  -- the same, where these are the names of its alternatives and of their parents
+  -- Q holds for each state that a store stands for which has not failed, where these are the names of its alternatives and of their parents
   abbrev pub InListed : Store D members → List (List ℕ × Option (List ℕ)) → (State → Type 0) → Type 0
   InListed store listed Q = has_failed store ≡ false → (s : State) → Holds store s → listed ≡ shape s.working → Q s
 
-  -- Q holds for each state that the old store stood for, which had not failed, where the disk is honest under the new one
-  abbrev pub FromState : Store D members → Store D members → (State → Type 0) → Type 0
-  FromState old new Q = IsHonest new → has_failed old ≡ false → (s : State) → Holds old s → Q s
-
-  -- the same, where these were the names of its alternatives and of their parents
+  -- Q holds for each state that the old store stood for, which had not failed, where the disk is honest under the new one and these were the names of its alternatives and of their parents
   abbrev pub FromListed : Store D members → Store D members → List (List ℕ × Option (List ℕ)) → (State → Type 0) → Type 0
   FromListed old new listed Q = IsHonest new → has_failed old ≡ false → (s : State) → Holds old s → listed ≡ shape s.working → Q s

@@ -85,3 +85,15 @@ TakesMemory command = ⊥
 abbrev pub IsGrow : Command → Type 0
 IsGrow (Grow blocks) = Unit {0}
 IsGrow command = ⊥
+
+-- what a query answers: what is due, or that the device failed
+abbrev pub IsDueOrDevice : {T : Type 0} → Result T Refusal → Result T Refusal → Type 0
+IsDueOrDevice result due = (result ≡ Err Device) ⊎ (result ≡ due)
+
+-- the same of a query that takes memory, which may be wanting
+abbrev pub IsDueOrWanting : {T : Type 0} → Result T Refusal → Result T Refusal → Type 0
+IsDueOrWanting result due = (result ≡ Err Device) ⊎ ((result ≡ Err Memory) ⊎ (result ≡ due))
+
+-- memory was wanting, or P holds
+abbrev pub IsMemoryOr : Refusal → Type 0 → Type 0
+IsMemoryOr refusal P = (refusal ≡ Memory) ⊎ P

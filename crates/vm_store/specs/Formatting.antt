@@ -1,8 +1,9 @@
 -- What a formatting leaves.
-use Rattle.std.specs.Prelude.{◌≡◌, ◌⊎◌, ℕ, ◌<◌, ◌^◌, [], ◌∷◌, None, Result, Ok, Err, codes}
+use Rattle.std.specs.Prelude.{◌≡◌, ◌⊎◌, ◌↔◌, ℕ, ◌<◌, ◌≤◌, ◌^◌, Bool, true, [], ◌∷◌, None, Result, Ok, Err, IfOk, IsErr, IsErrAnd, IsTrue, OnOk, codes}
 use Rattle.vm_types.specs.declared.refusal.Refusal.{Refusal}
-use Rattle.vm_disk.specs.Disk.{Medium, IsClean, block}
-use Rattle.vm_disk.specs.Moments.{Leaves}
+use Rattle.vm_types.specs.declared.refusal.Refusal.TheVariants.{AlreadyAStore, BadSize, Device}
+use Rattle.vm_disk.specs.Disk.{DiskState, Medium, IsClean, block}
+use Rattle.vm_disk.specs.Moments.{Leaves, Throughout}
 use Rattle.vm_block.specs.Header.{IsHeader}
 use Rattle.vm_block.specs.declared.slot.Kind.TheVariants as kind
 use Rattle.vm_block.specs.declared.slot.Entry.{Entry}
@@ -39,3 +40,47 @@ IsFormatting blocks old m = IsAtMostSynced old m ⊎ ((IsHeader (block old.conte
 abbrev pub given_back : {D : Type 0} → Result D (D × Refusal) → D
 given_back (Ok disk) = disk
 given_back (Err e) = e.0
+
+-- the refusals of a formatting
+abbrev pub IsOfFormat : Refusal → Type 0
+IsOfFormat refusal = (refusal ≡ BadSize) ⊎ ((refusal ≡ AlreadyAStore) ⊎ (refusal ≡ Device))
+
+-- the disk came back with this refusal
+abbrev pub ComesBack : {T E : Type 0} → Result T (E × Refusal) → Refusal → Type 0
+ComesBack result refusal = IsErrAnd result (λ e. e.1 ≡ refusal)
+
+-- what a formatting does to a disk that is honest after it
+module _ (old new : DiskState) where
+  -- it is told whether block 0 is a header
+  abbrev pub TellsHeader : {E : Type 0} → Result Bool E → Type 0
+  TellsHeader result = new.honest ≡ true → IfOk result (λ header. IsTrue header ↔ IsHeader (block old.now.contents 0))
+
+  -- where P holds, block 0 was a header
+  abbrev pub HadHeader : Type 0 → Type 0
+  HadHeader P = new.honest ≡ true → P → IsHeader (block old.now.contents 0)
+
+  -- where block 0 was a header, this is refused, and the contents are as they were
+  abbrev pub SparesStore : {T E : Type 0} → Result T E → Type 0
+  SparesStore result = new.honest ≡ true → IsHeader (block old.now.contents 0) → IsErr result × (new.now.contents ≡ old.now.contents)
+
+  -- a crash at any moment shows at most a new store of so many blocks, where there was no header, and all was synced
+  abbrev pub LaysOut : ℕ → Type 0
+  LaysOut blocks =
+      new.honest ≡ true → IsClean old.now → (IsHeader (block old.now.contents 0) → ⊥) → Throughout old new (Leaves (ShowsAtMostNew blocks))
+
+  -- the same, where a slot and the selector were written before
+  abbrev pub ShowsAtMostLaidOut : Type 0
+  ShowsAtMostLaidOut = new.honest ≡ true → (blocks : ℕ) → IsLaidOut blocks old.now → Throughout old new (Leaves (ShowsAtMostNew blocks))
+
+  -- what was laid out before is a new store, where it was done
+  abbrev pub FormatsLaidOut : {T E : Type 0} → Result T E → Type 0
+  FormatsLaidOut result =
+      new.honest ≡ true → (blocks : ℕ) → IsLaidOut blocks old.now → blocks ≤ old.blocks → OnOk result (IsFormatted blocks new.now)
+
+  -- at each moment nothing has changed but that it may be synced; or there was no header, and a crash shows at most a new store
+  abbrev pub FormatsAtMost : ℕ → Type 0
+  FormatsAtMost blocks = new.honest ≡ true → Throughout old new (IsFormatting blocks old.now)
+
+-- a new store of so many blocks is shown, and all is synced, where it was done and the disk is honest after it
+abbrev pub Formats : {T E : Type 0} → ℕ → Result T E → DiskState → Type 0
+Formats blocks result new = new.honest ≡ true → OnOk result (IsFormatted blocks new.now)

@@ -1,8 +1,9 @@
 -- Why an opening refuses what a disk holds.
-use Rattle.std.specs.Prelude.{◌≡◌, ◌⊎◌, ℕ, ◌<◌, ◌≤◌, List, length}
+use Rattle.std.specs.Prelude.{◌≡◌, ◌⊎◌, ℕ, ◌<◌, ◌≤◌, true, List, Result, length, OnOk}
 use Rattle.vm_types.specs.declared.refusal.Refusal.{Refusal}
 use Rattle.vm_types.specs.declared.refusal.Refusal.TheVariants.{Device, Memory, Damaged, NotAStore, BadSize}
-use Rattle.vm_disk.specs.Disk.{Contents, Medium, IsClean, block}
+use Rattle.vm_disk.specs.Disk.{Contents, DiskState, Medium, IsClean, block}
+use Rattle.vm_disk.specs.Moments.{Throughout}
 use Rattle.vm_block.specs.Header.{IsHeader}
 use Rattle.vm_block.specs.declared.slot.Entry.{Entry}
 use Rattle.vm_catalog.specs.Place.{slot_at, selected}
@@ -55,3 +56,11 @@ pub record IsSynced (old new : Medium) : Type 0 where
 -- nothing has changed, or all is synced
 abbrev pub IsAtMostSynced : Medium → Medium → Type 0
 IsAtMostSynced old m = (m ≡ old) ⊎ IsSynced old m
+
+-- on a disk that is honest after the call: at each moment of it nothing has changed, or all is synced
+abbrev pub SyncsAtMost : DiskState → DiskState → Type 0
+SyncsAtMost old new = new.honest ≡ true → Throughout old new (IsAtMostSynced old.now)
+
+-- and where it was done, all is synced
+abbrev pub SyncsAll : {T E : Type 0} → Result T E → DiskState → DiskState → Type 0
+SyncsAll result old new = new.honest ≡ true → OnOk result (IsSynced old.now new.now)

@@ -1,17 +1,26 @@
 -- What a command does to a store, and what a run of commands does.
-use Rattle.std.specs.Prelude.{◌≡◌, ◌≢◌, ◌↔◌, ◌≤◌, ℕ, ◌+◌, ◌-◌, true, List, [], ◌∷◌, ◌++◌, Result, Err, IfErr, OnErr, OnOk, drop, length, take}
+use Rattle.std.specs.Prelude.{◌≡◌, ◌≢◌, ◌↔◌, ◌≤◌, ℕ, ◌+◌, ◌-◌, true, false, List, [], ◌∷◌, ◌++◌, Result, Err, OnErr, OnOk, drop, length, take}
 use Rattle.vm_types.specs.declared.answer.Answer.{Answer}
 use Rattle.vm_types.specs.declared.command.Command.{Command}
 use Rattle.vm_types.specs.declared.command.Command.TheVariants.{Grow, Reclaim}
 use Rattle.vm_types.specs.declared.refusal.Refusal.{Refusal}
 use Rattle.vm_types.specs.declared.refusal.Refusal.TheVariants.{Device, Failed, Memory}
+use Rattle.vm_types.specs.Isolation.{LeavesAlone}
+use Rattle.vm_types.specs.Moments.{KeptThroughout}
 use Rattle.vm_types.specs.State.{State, after, next}
-use Rattle.vm_disk.specs.Disk.{Medium}
-use Rattle.vm_store.specs.Answers.{ChangesEntriesAlone, IsEarly, IsGrow, TakesMemory}
+use Rattle.vm_types.specs.Tree.{named}
+use Rattle.vm_disk.specs.Disk.{LeftAt, Medium, moment}
+use Rattle.vm_disk.specs.Moments.{Throughout}
+use Rattle.vm_store.specs.Answers.{ChangesEntriesAlone, IsGrow, TakesMemory}
 use Rattle.vm_store.specs.Guarded.{IsGuarded}
 use Rattle.vm_store.specs.Resting.{spare_of}
-use Rattle.vm_store.specs.Store.{Answers, CrashLeaves, EarlyKeeps, GrowsOn, Holds, IsHonest, StaysGuarded, disk_of, entries_of, free_of, has_failed, held_of}
+use Rattle.vm_store.specs.Store.{Answers, CrashLeaves, EarlyKeeps, EarlySpares, GrowsOn, Holds, IsAsLong, IsHonest, LeavesBlocks, StaysGuarded, disk_of, entries_of, free_of, has_failed, held_of}
+use Rattle.vm_store.specs.Shown.{Shows}
 use Rattle.vm_store.specs.declared.store.Store.{Store}
+
+-- the commands that were answered, which are the first ones
+abbrev pub answered : List Command → List (Result Answer Refusal) → List Command
+answered commands answers = take (length answers) commands
 
 module _ {D : Type 0} {members : _} where
   -- a store carried out a command. What is said of its state asks that it stood for this one before, and that the disk is honest after it
@@ -24,8 +33,8 @@ module _ {D : Type 0} {members : _} where
     -- it is Device only where a device call failed
     pub goes : GrowsOn (answer ≡ Err Device) old new
     -- no command but a Grow gives the disk more blocks, and a Grow that is refused early makes no device call
-    pub as_long : (IsGrow command → ⊥) → (members.state new.disk).blocks ≡ (members.state old.disk).blocks
-    pub untouched : IsGrow command → IfErr answer (λ refusal. IsEarly refusal → disk_of new ≡ disk_of old)
+    pub as_long : (IsGrow command → ⊥) → IsAsLong old new
+    pub untouched : IsGrow command → EarlySpares answer old new
     -- then, and only then, the store has failed
     pub failed : has_failed new ≡ true ↔ answer ≡ Err Device
     -- a refusal leaves the entries as they were
@@ -33,7 +42,7 @@ module _ {D : Type 0} {members : _} where
     -- one that comes before blocks are marked, taken or written leaves all but the disk as it was, so as many blocks are free
     pub unchanged : EarlyKeeps answer old new
     -- to make, drop or go back to alternatives and checkpoints takes no device call and no block
-    pub blocks : ChangesEntriesAlone command → (disk_of new ≡ disk_of old) × (held_of new ≡ held_of old)
+    pub blocks : ChangesEntriesAlone command → LeavesBlocks old new
     -- a store that hasn't failed stands for what the answer leaves
     pub holds : IsHonest new → Holds old s → answer ≢ Err Device → Holds new (next s command answer)
     -- a crash at any moment leaves what was committed, or what the command commits
@@ -64,9 +73,34 @@ module _ {D : Type 0} {members : _} where
   abbrev pub IsGuardedOnTheWay : Store D members → Store D members → State → List Command → List (Result Answer Refusal) → Medium → Type 0
   IsGuardedOnTheWay old new s commands answers m = (mid : Store D members) × IsOnTheWay old new s commands answers mid × IsGuarded (held_of mid) m
 
--- the commands that were answered, which are the first ones
-abbrev pub answered : List Command → List (Result Answer Refusal) → List Command
-answered commands answers = take (length answers) commands
+  -- a run of these commands, the first of which were answered so
+  module _ (old new : Store D members) (commands : List Command) (answers : List (Result Answer Refusal)) where
+    -- each is answered in its turn, by a store that had not failed
+    abbrev pub RunsInTurn : Type 0
+    RunsInTurn = has_failed old ≡ false → (s : State) → AnswersInTurn old new s (answered commands answers) answers
+
+    -- a store that has not failed stands for what these answers leave
+    abbrev pub StandsAfterAll : Type 0
+    StandsAfterAll = IsHonest new → has_failed new ≡ false → (s : State) → Holds old s → Holds new (after s (answered commands answers) answers)
+
+    -- an alternative on which none of them works stays as it is
+    abbrev pub IsolatesOthers : Type 0
+    IsolatesOthers =
+        IsHonest new → (s : State) (name : List ℕ) → LeavesAlone s (answered commands answers) answers name
+        → named (after s (answered commands answers) answers).working name ≡ named s.working name
+
+    -- a crash at any moment shows the committed tree after a beginning of them that is empty or ends with a commit, and this beginning
+    -- holds every commit that was acknowledged
+    abbrev pub KeepsCommits : Type 0
+    KeepsCommits =
+        IsHonest new → has_failed old ≡ false → (s : State) → Holds old s
+        → KeptThroughout Shows (LeftAt (members.state (disk_of new))) s (moment (members.state (disk_of old))) (answered commands answers) answers (moment (members.state (disk_of new)))
+
+    -- at each moment the slots that it may leave are whole, clean, and held by the store as some of the commands left it
+    abbrev pub StaysGuardedInTurn : Type 0
+    StaysGuardedInTurn =
+        IsHonest new → has_failed old ≡ false → (s : State) → Holds old s
+        → Throughout (members.state (disk_of old)) (members.state (disk_of new)) (IsGuardedOnTheWay old new s (answered commands answers) answers)
 
 -- no answer is that the device failed
 abbrev pub NoneIsDevice : List (Result Answer Refusal) → Type 0

@@ -1,5 +1,5 @@
 -- The blocks of the trees of an alternative, and how many of them only one of two trees has.
-use Rattle.std.specs.Prelude.{ℕ, Bool, List, [], ◌∷◌, find, Option, Some, None, unwrap_or, if◌then◌else◌}
+use Rattle.std.specs.Prelude.{ℕ, ◌+◌, Bool, List, [], ◌∷◌, find, Option, Some, None, unwrap_or, if◌then◌else◌}
 use Rattle.vm_types.specs.State.{State}
 use Rattle.vm_disk.specs.Disk.{Contents, Medium}
 use Rattle.vm_block.specs.declared.selector.SlotName.{SlotName}
@@ -43,3 +43,7 @@ module _ {m : Medium} {limit : ℕ} {slot_name : SlotName} {bits : List Bool} {c
   -- how many only one of its base and its parent's current tree has
   abbrev pub unshared_with_parent : List ℕ → ℕ
   unshared_with_parent alt = unshared_from alt (parent_name (find (is_alternative_of alt) working))
+
+  -- both numbers together
+  abbrev pub unshared_on_sides : List ℕ → ℕ
+  unshared_on_sides alt = unshared_with_parent alt + unshared_of alt

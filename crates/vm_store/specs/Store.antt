@@ -1,12 +1,12 @@
 -- A store, and the state that it stands for.
-use Rattle.std.specs.Prelude.{◌≡◌, ◌≢◌, ℕ, Bool, true, List, Option, find, Result, Err, IfErr}
+use Rattle.std.specs.Prelude.{◌≡◌, ◌≢◌, ℕ, ◌+◌, ◌-◌, ◌≤◌, Bool, true, false, List, Option, find, Result, Err, IfErr, OnOk}
 use Rattle.vm_types.specs.declared.answer.Answer.{Answer}
 use Rattle.vm_types.specs.declared.command.Command.{Command}
-use Rattle.vm_types.specs.declared.command.Command.TheVariants.{Grow, Merge}
+use Rattle.vm_types.specs.declared.command.Command.TheVariants.{Grow, Merge, Reclaim}
 use Rattle.vm_types.specs.declared.refusal.Refusal.{Refusal}
 use Rattle.vm_types.specs.declared.refusal.Refusal.TheVariants.{Device}
 use Rattle.vm_types.specs.Kept.{LeftBy}
-use Rattle.vm_types.specs.State.{State, next, outcome}
+use Rattle.vm_types.specs.State.{Seen, State, committed_of, next, outcome}
 use Rattle.vm_types.specs.Tree.{current_of}
 use Rattle.vm_disk.specs.Disk.{Goes}
 use Rattle.vm_disk.specs.Moments.{Leaves, OnlyReads, Throughout}
@@ -94,6 +94,50 @@ module _ {D : Type 0} {members : _} where
   Holds store s =
       HoldsWith (members.state store.disk).now store.blocks store.slot_name store.held store.before store.series store.committed store.working s
 
+  -- Q holds for each state that a store stands for which has not failed
+  abbrev pub InState : Store D members → (State → Type 0) → Type 0
+  InState store Q = has_failed store ≡ false → (s : State) → Holds store s → Q s
+
+  -- Q holds for each state that the old store stood for, which had not failed, where the disk is honest under the new one
+  abbrev pub FromState : (old new : Store D members) → (State → Type 0) → Type 0
+  FromState old new Q = IsHonest new → has_failed old ≡ false → (s : State) → Holds old s → Q s
+
+  -- the disk has as many blocks as before
+  abbrev pub IsAsLong : (old new : Store D members) → Type 0
+  IsAsLong old new = (members.state (disk_of new)).blocks ≡ (members.state (disk_of old)).blocks
+
+  -- a refusal that comes before blocks are marked, taken or written comes without a device call
+  abbrev pub EarlySpares : Result Answer Refusal → (old new : Store D members) → Type 0
+  EarlySpares answer old new = IfErr answer (λ refusal. IsEarly refusal → disk_of new ≡ disk_of old)
+
+  -- no device call was made, and no block was taken or given back
+  abbrev pub LeavesBlocks : (old new : Store D members) → Type 0
+  LeavesBlocks old new = (disk_of new ≡ disk_of old) × (held_of new ≡ held_of old)
+
+  -- no more reads were made than so many, of a store that stood for a state; the disk is honest after the call
+  abbrev pub ReadsAtMost : (old new : Store D members) → ((s : State) → Holds old s → ℕ) → Type 0
+  ReadsAtMost old new most = IsHonest new → (s : State) (holds : Holds old s) → reads_of new ≤ reads_of old + most s holds
+
+  -- just the spare blocks are free, where it was done
+  abbrev pub SpareIsFree : {T : Type 0} → Result T Refusal → (old new : Store D members) → Type 0
+  SpareIsFree answer old new = (s : State) (holds : Holds old s) → OnOk answer (free_of new ≡ spare_of holds.rests)
+
+  -- after a Reclaim just the spare blocks are free
+  abbrev pub ReclaimsAll : Result Answer Refusal → (old new : Store D members) → Command → Type 0
+  ReclaimsAll answer old new command = command ≡ Reclaim → SpareIsFree answer old new
+
+  -- the blocks that a store lacks of so many are free, too, where it was done
+  abbrev pub NewAreFree : Result Answer Refusal → (old new : Store D members) → ℕ → Type 0
+  NewAreFree answer old new blocks = (s : State) → Holds old s → OnOk answer (free_of new ≡ free_of old + (blocks - s.blocks))
+
+  -- after a Grow the new blocks are free, too
+  abbrev pub GrowsFree : Result Answer Refusal → (old new : Store D members) → Command → Type 0
+  GrowsFree answer old new command = (blocks : ℕ) → command ≡ Grow blocks → NewAreFree answer old new blocks
+
+  -- P holds of what was committed by a store that has not failed, where the disk that is given back is honest
+  abbrev pub ClosesWith : Store D members → D → (Seen → Type 0) → Type 0
+  ClosesWith store disk P = (members.state disk).honest ≡ true → has_failed store ≡ false → (s : State) → Holds store s → P (committed_of s)
+
   -- a crash at any moment of the call leaves what was committed, or what the command commits
   abbrev pub CrashLeaves : (old new : Store D members) → State → Command → Type 0
   CrashLeaves old new s command = Throughout (members.state old.disk) (members.state new.disk) (Leaves (LeftBy Shows s command))
@@ -117,3 +161,17 @@ module _ {D : Type 0} {members : _} where
     pub state : answer ≢ Err Device → Holds new (next s command answer)
     pub crash : CrashLeaves old new s command
     pub guarded : StaysGuarded old new
+
+  -- the same, whatever state the store stood for, on a disk that is honest after it
+  abbrev pub IsCarriedOut : (old new : Store D members) → Command → Result Answer Refusal → Type 0
+  IsCarriedOut old new command answer = IsHonest new → (s : State) (holds : Holds old s) → Carries old new s holds command answer
+
+  -- the answer of a store that had not failed is the one that is due
+  abbrev pub IsAnswered : (old new : Store D members) → Command → Result Answer Refusal → Type 0
+  IsAnswered old new command answer =
+      IsHonest new → has_failed old ≡ false → (s : State) (holds : Holds old s) → Answers old new s holds command answer
+
+  -- unless the device failed, a store that had not failed stands for what this answer to the command leaves
+  abbrev pub StandsAfter : (old new : Store D members) → Command → Result Answer Refusal → Type 0
+  StandsAfter old new command answer =
+      IsHonest new → has_failed old ≡ false → answer ≢ Err Device → (s : State) → Holds old s → Holds new (next s command answer)

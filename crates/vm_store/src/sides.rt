@@ -1,13 +1,9 @@
 //! What two sides made of the map from which both went on.
-ghost use Rattle.std.specs.Prelude.{◌≡◌, ◌≢◌, ℕ, ◌+◌, ◌≤◌, true, List, Some, None, IfErr};
-ghost use Rattle.vm_types.specs.Map.{Map, delta, conflicts, merge};
+ghost use Rattle.std.specs.Prelude.{◌≡◌, ◌≢◌, ◌≤◌, true, Some, None};
+ghost use Rattle.vm_types.specs.Map.{conflicts};
 ghost use Rattle.vm_disk.specs.Disk.{Goes};
 ghost use Rattle.vm_disk.specs.Moments.{OnlyReads};
-ghost use Rattle.vm_tree.specs.Root.{IsRooted};
-ghost use Rattle.vm_diff.specs.Shared.{unshared};
-ghost use Rattle.vm_store.specs.Sides.{ReadsOr, refusal_in};
-ghost use Rattle.vm_store.specs.Sizes.{sizes};
-ghost use Rattle.vm_store.specs.Tallies.{tally_between};
+ghost use Rattle.vm_store.specs.Sides.{GivesConflicts, GivesMerge, GivesSides, GivesTally, ReadsSides};
 
 use crate::faults::refusal_of;
 use crate::tally::Tally;
@@ -47,17 +43,8 @@ fn read_sides<D: Disk>(
     ensures never { result ≢ Err Refusal.Failed }
     ensures reads { (D.state disk.new).honest ≡ true
         → OnlyReads (D.state disk.old) (D.state disk.new) }
-    ensures sides { (D.state disk.new).honest ≡ true → (base parent own : Map) (bs ps os : List ℕ)
-        → IsRooted sizes (D.state disk.old).now.contents blocks roots.base base bs
-        → IsRooted sizes (D.state disk.old).now.contents blocks roots.parent parent ps
-        → IsRooted sizes (D.state disk.old).now.contents blocks roots.own own os
-        → ReadsOr result (λ s. (s.theirs ≡ delta base parent)
-        × (s.mine ≡ delta base own)) (λ r. ⊥) }
-    ensures bound { (D.state disk.new).honest ≡ true → (base parent own : Map) (bs ps os : List ℕ)
-        → IsRooted sizes (D.state disk.old).now.contents blocks roots.base base bs
-        → IsRooted sizes (D.state disk.old).now.contents blocks roots.parent parent ps
-        → IsRooted sizes (D.state disk.old).now.contents blocks roots.own own os
-        → (D.state disk.new).reads ≤ (D.state disk.old).reads + (unshared bs ps + unshared bs os) }
+    ensures sides { GivesSides (D.state disk.old) (D.state disk.new) blocks roots result }
+    ensures bound { ReadsSides (D.state disk.old) (D.state disk.new) blocks roots }
 {
     let theirs = match changed(alloc, disk, blocks, roots.base, roots.parent) {
         Ok(changes) => changes,
@@ -81,17 +68,8 @@ pub fn conflicts_of<D: Disk>(
     ensures never { result ≢ Err Refusal.Failed }
     ensures reads { (D.state disk.new).honest ≡ true
         → OnlyReads (D.state disk.old) (D.state disk.new) }
-    ensures conflicts { (D.state disk.new).honest ≡ true
-        → (base parent own : Map) (bs ps os : List ℕ)
-        → IsRooted sizes (D.state disk.old).now.contents blocks roots.base base bs
-        → IsRooted sizes (D.state disk.old).now.contents blocks roots.parent parent ps
-        → IsRooted sizes (D.state disk.old).now.contents blocks roots.own own os
-        → ReadsOr result (λ list. list ≡ conflicts base parent own) (λ r. ⊥) }
-    ensures bound { (D.state disk.new).honest ≡ true → (base parent own : Map) (bs ps os : List ℕ)
-        → IsRooted sizes (D.state disk.old).now.contents blocks roots.base base bs
-        → IsRooted sizes (D.state disk.old).now.contents blocks roots.parent parent ps
-        → IsRooted sizes (D.state disk.old).now.contents blocks roots.own own os
-        → (D.state disk.new).reads ≤ (D.state disk.old).reads + (unshared bs ps + unshared bs os) }
+    ensures conflicts { GivesConflicts (D.state disk.old) (D.state disk.new) blocks roots result }
+    ensures bound { ReadsSides (D.state disk.old) (D.state disk.new) blocks roots }
 {
     let sides = read_sides(alloc, disk, blocks, roots)?;
     conflicts_between(alloc, &sides.theirs, &sides.mine)
@@ -109,16 +87,8 @@ pub fn tally_of<D: Disk>(
     ensures never { result ≢ Err Refusal.Failed }
     ensures reads { (D.state disk.new).honest ≡ true
         → OnlyReads (D.state disk.old) (D.state disk.new) }
-    ensures tally { (D.state disk.new).honest ≡ true → (base parent own : Map) (bs ps os : List ℕ)
-        → IsRooted sizes (D.state disk.old).now.contents blocks roots.base base bs
-        → IsRooted sizes (D.state disk.old).now.contents blocks roots.parent parent ps
-        → IsRooted sizes (D.state disk.old).now.contents blocks roots.own own os
-        → ReadsOr result (λ tally. tally ≡ tally_between base parent own) (λ r. ⊥) }
-    ensures bound { (D.state disk.new).honest ≡ true → (base parent own : Map) (bs ps os : List ℕ)
-        → IsRooted sizes (D.state disk.old).now.contents blocks roots.base base bs
-        → IsRooted sizes (D.state disk.old).now.contents blocks roots.parent parent ps
-        → IsRooted sizes (D.state disk.old).now.contents blocks roots.own own os
-        → (D.state disk.new).reads ≤ (D.state disk.old).reads + (unshared bs ps + unshared bs os) }
+    ensures tally { GivesTally (D.state disk.old) (D.state disk.new) blocks roots result }
+    ensures bound { ReadsSides (D.state disk.old) (D.state disk.new) blocks roots }
 {
     let sides = read_sides(alloc, disk, blocks, roots)?;
     let conflicts = keys_in_conflict(alloc, &sides.theirs, &sides.mine)?;
@@ -143,13 +113,7 @@ pub fn changes_of_merge<D: Disk>(
     ensures never { result ≢ Err Refusal.Failed }
     ensures reads { (D.state disk.new).honest ≡ true
         → OnlyReads (D.state disk.old) (D.state disk.new) }
-    ensures changes { (D.state disk.new).honest ≡ true → (base parent own : Map) (bs ps os : List ℕ)
-        → IsRooted sizes (D.state disk.old).now.contents blocks roots.base base bs
-        → IsRooted sizes (D.state disk.old).now.contents blocks roots.parent parent ps
-        → IsRooted sizes (D.state disk.old).now.contents blocks roots.own own os
-        → ReadsOr result (λ list. (refusal_in base parent own settled.now ≡ None)
-        × (list ≡ delta own (merge base parent own settled.now)))
-        (λ r. refusal_in base parent own settled.now ≡ Some r) }
+    ensures changes { GivesMerge (D.state disk.old) (D.state disk.new) blocks roots result settled.now }
 {
     let sides = read_sides(alloc, disk, blocks, roots)?;
     let conflicts = keys_in_conflict(alloc, &sides.theirs, &sides.mine)?;

@@ -1,10 +1,7 @@
 //! A store, and its commands and queries.
-ghost use Rattle.std.specs.Prelude.{◌≡◌, ◌≢◌, ◌↔◌, ◌≤◌, ◌+◌, ◌-◌, ◌^◌, true, false, length, ℕ, vec_capacity, OnErr, OnOk, IfErr, IsTrue};
-ghost use Rattle.vm_types.specs.State.{State, committed_of, next};
-ghost use Rattle.vm_types.specs.declared.command.Command.TheVariants.{Grow};
+ghost use Rattle.std.specs.Prelude.{◌≡◌, ◌≢◌, ◌↔◌, ◌≤◌, ◌^◌, true, false, length, vec_capacity, OnErr, IsTrue};
 ghost use Rattle.vm_disk.specs.Moments.{Leaves};
-ghost use Rattle.vm_store.specs.Answers.{ChangesEntriesAlone, IsEarly, IsGrow, TakesMemory};
-ghost use Rattle.vm_store.specs.Resting.{spare_of};
+ghost use Rattle.vm_store.specs.Answers.{ChangesEntriesAlone, IsGrow, TakesMemory};
 ghost use Rattle.vm_store.specs.Shown.{Shows};
 
 mod commands;
@@ -61,7 +58,7 @@ pub struct Store<D: Disk> {
 }
 
 impl<D: Disk> Store<D> {
-    ghost use Rattle.vm_store.specs.Store.{disk_of, has_failed, entries_of, Answers, Holds, held_of, free_of, IsHonest, GrowsOn, StaysGuarded, CrashLeaves, EarlyKeeps};
+    ghost use Rattle.vm_store.specs.Store.{disk_of, has_failed, entries_of, IsHonest, GrowsOn, IsAsLong, FromState, IsAnswered, StandsAfter, StaysGuarded, CrashLeaves, EarlyKeeps, EarlySpares, LeavesBlocks, ReclaimsAll, GrowsFree, ClosesWith};
 
     /// Carries out one command. After an answer `Device` the store answers `Failed` to every call but
     /// `close`: close it, and open the disk again.
@@ -79,43 +76,28 @@ impl<D: Disk> Store<D> {
         ensures memory { result ≡ Err Refusal.Memory → TakesMemory command.now }
 
         // No command but a Grow gives the disk blocks, and one that is refused early makes no device call.
-        ensures as_long { (IsGrow command.now → ⊥)
-            → (D.state (disk_of self.new)).blocks ≡ (D.state (disk_of self.old)).blocks }
-        ensures untouched { IsGrow command.now
-            → IfErr result (λ refusal. IsEarly refusal → disk_of self.new ≡ disk_of self.old) }
+        ensures as_long { (IsGrow command.now → ⊥) → IsAsLong self.old self.new }
+        ensures untouched { IsGrow command.now → EarlySpares result self.old self.new }
 
         // To make, drop or go back to alternatives and checkpoints takes no device call and no block.
-        ensures blocks { ChangesEntriesAlone command.now
-            → (disk_of self.new ≡ disk_of self.old) × (held_of self.new ≡ held_of self.old) }
+        ensures blocks { ChangesEntriesAlone command.now → LeavesBlocks self.old self.new }
 
         // The answer is the model's, or one that the device, or want of blocks or memory forces.
-        ensures answer { IsHonest self.new → has_failed self.old ≡ false
-            → (s : State) (holds : Holds self.old s)
-            → Answers self.old self.new s holds command.now result }
-        ensures state { IsHonest self.new → has_failed self.old ≡ false
-            → result ≢ Err Refusal.Device
-            → (s : State) → Holds self.old s → Holds self.new (next s command.now result) }
+        ensures answer { IsAnswered self.old self.new command.now result }
+        ensures state { StandsAfter self.old self.new command.now result }
 
         // A crash at any moment leaves what was committed, or what the command commits.
-        ensures crash { IsHonest self.new → has_failed self.old ≡ false
-            → (s : State) → Holds self.old s
-            → CrashLeaves self.old self.new s command.now }
+        ensures crash { FromState self.old self.new (λ s. CrashLeaves self.old self.new s command.now) }
 
         // For at each moment the slots that it may leave in use are whole, clean and held.
-        ensures guarded { IsHonest self.new → has_failed self.old ≡ false
-            → (s : State) → Holds self.old s
-            → StaysGuarded self.old self.new }
+        ensures guarded { FromState self.old self.new (λ s. StaysGuarded self.old self.new) }
 
         // After a Reclaim just the spare blocks are free.
         ensures reclaimed { IsHonest self.new → has_failed self.old ≡ false
-            → command.now ≡ Command.Reclaim
-            → (s : State) (holds : Holds self.old s)
-            → OnOk result (free_of self.new ≡ spare_of holds.rests) }
+            → ReclaimsAll result self.old self.new command.now }
 
         // After a Grow the new blocks are free, too.
-        ensures grown { has_failed self.old ≡ false → (blocks : ℕ) → command.now ≡ Grow blocks
-            → (s : State) → Holds self.old s
-            → OnOk result (free_of self.new ≡ free_of self.old + (blocks - s.blocks)) }
+        ensures grown { has_failed self.old ≡ false → GrowsFree result self.old self.new command.now }
     {
         if self.failed {
             return Err(Refusal::Failed);
@@ -128,14 +110,11 @@ impl<D: Disk> Store<D> {
     /// Gives the disk back. What was not committed is gone.
     pub fn close(self) -> D
         ensures disk { result ≡ disk_of self }
-        ensures shown { (D.state result).honest ≡ true → has_failed self ≡ false → (s : State)
-            → Holds self s
-            → Shows (D.state result).now.contents (committed_of s) }
+        ensures shown { ClosesWith self result (λ seen. Shows (D.state result).now.contents seen) }
 
         // A crash after it leaves what was committed.
-        ensures crash { (D.state result).honest ≡ true → has_failed self ≡ false → (s : State)
-            → Holds self s
-            → Leaves (λ x. Shows x (committed_of s)) (D.state result).now }
+        ensures crash { ClosesWith self result
+            (λ seen. Leaves (λ x. Shows x seen) (D.state result).now) }
     {
         let Store {
             disk,

@@ -1,10 +1,8 @@
 //! What a store holds, counted.
 ghost use Rattle.std.specs.Prelude.{◌≡◌, ◌≢◌, ◌+◌, ◌≤◌, ◌++◌, false, length, IfErr, IfOk};
-ghost use Rattle.vm_store.specs.Store.{Holds, free_of, has_failed};
-ghost use Rattle.vm_types.specs.Shape.{shape};
-ghost use Rattle.vm_types.specs.State.{State};
+ghost use Rattle.vm_store.specs.Store.{InState, has_failed};
 ghost use Rattle.vm_cli.specs.Counting.{AreCounts};
-ghost use Rattle.vm_cli.specs.Standing.{GivesCheckpoints, InListed, InState, IsMemory};
+ghost use Rattle.vm_cli.specs.Standing.{GivesCheckpoints, InListed, IsMemory};
 ghost use Rattle.vm_cli.specs.Exits.{counts_text};
 
 use crate::answers::text::Text;

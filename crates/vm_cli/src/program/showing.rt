@@ -1,13 +1,11 @@
 //! A store's tree of alternatives, shown.
-ghost use Rattle.std.specs.Prelude.{◌≡◌, ◌+◌, ◌⊎◌, List, ℕ, None, true, false, IfErr, IfOk, codes};
-ghost use Rattle.vm_types.specs.State.{Seen, State};
-ghost use Rattle.vm_types.specs.declared.refusal.Refusal.{Refusal as RefusalValue};
-ghost use Rattle.vm_store.specs.Store.{Holds, has_failed, IsHonest, GoesOn};
-ghost use Rattle.vm_cli.specs.Drawing.{Branch, drawing, tree_text};
+ghost use Rattle.std.specs.Prelude.{◌≡◌, ◌⊎◌, List, None, true, IfErr, IfOk};
+ghost use Rattle.vm_store.specs.Store.{FromState, GoesOn};
+ghost use Rattle.vm_cli.specs.Drawing.{Branch, drawing};
 ghost use Rattle.vm_cli.specs.Exits.{DrawEnds, JobEnds, TellsOn};
 ghost use Rattle.vm_cli.specs.Runs.{DrawsIn};
 ghost use Rattle.vm_cli.specs.Told.{TellsRefusal, TellsTree};
-ghost use Rattle.vm_cli.specs.Standing.{FromState, GivesTree, IsDeviceOrMemory};
+ghost use Rattle.vm_cli.specs.Standing.{GivesTree, IsDeviceOrMemory};
 ghost use Rattle.vm_cli.specs.Talk.{Passes};
 ghost use Rattle.vm_cli.specs.Words.Wanted.{draw as draw_wanted};
 

@@ -1,12 +1,8 @@
 //! What is drawn of each alternative of a store.
-ghost use Rattle.std.specs.Prelude.{◌≡◌, ◌≢◌, ◌⊎◌, true, false, None, IfErr, IfOk};
-ghost use Rattle.vm_types.specs.Queries.{checkpoints_in};
-ghost use Rattle.vm_types.specs.Shape.{shape};
-ghost use Rattle.vm_types.specs.State.{State};
-ghost use Rattle.vm_store.specs.Store.{Holds, has_failed, IsHonest, GoesOn};
-ghost use Rattle.vm_store.specs.Tallies.{tally_in};
+ghost use Rattle.std.specs.Prelude.{◌≡◌, None, IfErr, IfOk};
+ghost use Rattle.vm_store.specs.Store.{FromState, GoesOn};
 ghost use Rattle.vm_cli.specs.Drawing.{HasNoNumbers, HasNumbers, IsDrawn, IsUndrawn};
-ghost use Rattle.vm_cli.specs.Standing.{FromListed, FromState, GivesBranches, IsDeviceOrMemory};
+ghost use Rattle.vm_cli.specs.Standing.{FromListed, GivesBranches, IsDeviceOrMemory};
 ghost use Rattle.vm_cli.specs.Talk.{Passes};
 
 use crate::program::drawing::Branch;

@@ -1,11 +1,8 @@
 //! Formatting a disk.
-ghost use Rattle.std.specs.Prelude.{◌≡◌, ◌≢◌, ◌⊎◌, ◌↔◌, ℕ, ◌<◌, ◌≤◌, ◌^◌, true, IfOk, IfErr, OnOk, IsErr, IsErrAnd, IsErrOf, IsTrue};
-ghost use Rattle.vm_disk.specs.Disk.{Goes, IsClean, block};
-ghost use Rattle.vm_disk.specs.Moments.{Throughout, Leaves};
-ghost use Rattle.vm_block.specs.Header.{IsHeader};
-ghost use Rattle.vm_store.specs.Formatting.{IsBadSize, IsFormatted, IsFormatting, IsLaidOut, fresh_entry, given_back};
-ghost use Rattle.vm_store.specs.Refused.{IsAtMostSynced, IsSynced};
-ghost use Rattle.vm_store.specs.Shown.{ShowsAtMostNew};
+ghost use Rattle.std.specs.Prelude.{◌≡◌, ◌⊎◌, ◌↔◌, ◌<◌, ◌≤◌, ◌^◌, true, IfErr, OnOk, IsErr, IsErrAnd};
+ghost use Rattle.vm_disk.specs.Disk.{Goes, block};
+ghost use Rattle.vm_store.specs.Formatting.{ComesBack, Formats, FormatsAtMost, FormatsLaidOut, HadHeader, IsOfFormat, LaysOut, ShowsAtMostLaidOut, SparesStore, TellsHeader, IsBadSize, IsLaidOut, fresh_entry, given_back};
+ghost use Rattle.vm_store.specs.Refused.{SyncsAll, SyncsAtMost};
 
 use vm_block::{Entry, Kind, SlotName, is_header, write_header};
 use vm_catalog::{select_slot, write_slot};
@@ -38,12 +35,9 @@ fn fresh_entry() -> Entry
 fn has_header<D: Disk>(disk: &mut D) -> Result<bool, DeviceFault>
     requires { 64 ≤ (D.state disk.old).blocks }
     ensures any { Goes (IsErr result) (D.state disk.old) (D.state disk.new) }
-    ensures moments { (D.state disk.new).honest ≡ true
-        → Throughout (D.state disk.old) (D.state disk.new) (IsAtMostSynced (D.state disk.old).now) }
-    ensures synced { (D.state disk.new).honest ≡ true
-        → OnOk result (IsSynced (D.state disk.old).now (D.state disk.new).now) }
-    ensures header { (D.state disk.new).honest ≡ true
-        → IfOk result (λ header. IsTrue header ↔ IsHeader (block (D.state disk.old).now.contents 0)) }
+    ensures moments { SyncsAtMost (D.state disk.old) (D.state disk.new) }
+    ensures synced { SyncsAll result (D.state disk.old) (D.state disk.new) }
+    ensures header { TellsHeader (D.state disk.old) (D.state disk.new) result }
 {
     let mut block = [0; 4096];
     let Ok(()) = disk.sync() else {
@@ -61,9 +55,7 @@ fn lay_out<D: Disk>(disk: &mut D, blocks: u32) -> Result<(), DeviceFault>
     requires least { 64 ≤ blocks }
     requires most { blocks ≤ 2 ^ 20 }
     ensures any { Goes (IsErr result) (D.state disk.old) (D.state disk.new) }
-    ensures moments { (D.state disk.new).honest ≡ true → IsClean (D.state disk.old).now
-        → (IsHeader (block (D.state disk.old).now.contents 0) → ⊥)
-        → Throughout (D.state disk.old) (D.state disk.new) (Leaves (ShowsAtMostNew blocks)) }
+    ensures moments { LaysOut (D.state disk.old) (D.state disk.new) blocks }
     ensures laid { (D.state disk.new).honest ≡ true
         → OnOk result (IsLaidOut blocks (D.state disk.new).now) }
 {
@@ -80,12 +72,8 @@ fn lay_out<D: Disk>(disk: &mut D, blocks: u32) -> Result<(), DeviceFault>
 fn put_header<D: Disk>(disk: &mut D) -> Result<(), DeviceFault>
     requires { 64 ≤ (D.state disk.old).blocks }
     ensures any { Goes (IsErr result) (D.state disk.old) (D.state disk.new) }
-    ensures moments { (D.state disk.new).honest ≡ true → (blocks : ℕ)
-        → IsLaidOut blocks (D.state disk.old).now
-        → Throughout (D.state disk.old) (D.state disk.new) (Leaves (ShowsAtMostNew blocks)) }
-    ensures formatted { (D.state disk.new).honest ≡ true → (blocks : ℕ)
-        → IsLaidOut blocks (D.state disk.old).now → blocks ≤ (D.state disk.old).blocks
-        → OnOk result (IsFormatted blocks (D.state disk.new).now) }
+    ensures moments { ShowsAtMostLaidOut (D.state disk.old) (D.state disk.new) }
+    ensures formatted { FormatsLaidOut (D.state disk.old) (D.state disk.new) result }
 {
     let mut header = [0; 4096];
     write_header(&mut header);
@@ -102,15 +90,10 @@ fn make_store<D: Disk>(disk: &mut D, blocks: u32) -> Result<(), Refusal>
     requires most { blocks ≤ 2 ^ 20 }
     ensures any { Goes (result ≡ Err Refusal.Device) (D.state disk.old) (D.state disk.new) }
     ensures refusals { IfErr result (λ r. (r ≡ Refusal.AlreadyAStore) ⊎ (r ≡ Refusal.Device)) }
-    ensures already { (D.state disk.new).honest ≡ true → result ≡ Err Refusal.AlreadyAStore
-        → IsHeader (block (D.state disk.old).now.contents 0) }
-    ensures was_there { (D.state disk.new).honest ≡ true
-        → IsHeader (block (D.state disk.old).now.contents 0)
-        → IsErr result × ((D.state disk.new).now.contents ≡ (D.state disk.old).now.contents) }
-    ensures formatted { (D.state disk.new).honest ≡ true
-        → OnOk result (IsFormatted blocks (D.state disk.new).now) }
-    ensures moments { (D.state disk.new).honest ≡ true
-        → Throughout (D.state disk.old) (D.state disk.new) (IsFormatting blocks (D.state disk.old).now) }
+    ensures already { HadHeader (D.state disk.old) (D.state disk.new) (result ≡ Err Refusal.AlreadyAStore) }
+    ensures was_there { SparesStore (D.state disk.old) (D.state disk.new) result }
+    ensures formatted { Formats blocks result (D.state disk.new) }
+    ensures moments { FormatsAtMost (D.state disk.old) (D.state disk.new) blocks }
 {
     match has_header(disk) {
         Ok(true) => return Err(Refusal::AlreadyAStore),
@@ -135,22 +118,15 @@ pub fn format<D: Disk>(mut disk: D, blocks: u32) -> Result<D, (D, Refusal)>
     ensures bad_size { IsErrAnd result
         (λ e. e.1 ≡ Refusal.BadSize) ↔ IsBadSize blocks (D.state disk).blocks }
     ensures untouched { IsErrAnd result (λ e. e.1 ≡ Refusal.BadSize) → given_back result ≡ disk }
-    ensures refusals { IfErr result
-        (λ e. (e.1 ≡ Refusal.BadSize) ⊎ ((e.1 ≡ Refusal.AlreadyAStore) ⊎ (e.1 ≡ Refusal.Device))) }
+    ensures refusals { IfErr result (λ e. IsOfFormat e.1) }
 
     // It refuses a store that is there, and leaves it as it was.
-    ensures already { (D.state (given_back result)).honest ≡ true
-        → IsErrAnd result (λ e. e.1 ≡ Refusal.AlreadyAStore)
-        → IsHeader (block (D.state disk).now.contents 0) }
-    ensures was_there { (D.state (given_back result)).honest ≡ true
-        → IsHeader (block (D.state disk).now.contents 0)
-        → IsErr result × ((D.state (given_back result)).now.contents ≡ (D.state disk).now.contents) }
+    ensures already { HadHeader (D.state disk) (D.state (given_back result)) (ComesBack result Refusal.AlreadyAStore) }
+    ensures was_there { SparesStore (D.state disk) (D.state (given_back result)) result }
 
     // Where it succeeds, a new store is shown. At each moment before, a crash shows at most that.
-    ensures formatted { (D.state (given_back result)).honest ≡ true
-        → OnOk result (IsFormatted blocks (D.state (given_back result)).now) }
-    ensures moments { (D.state (given_back result)).honest ≡ true
-        → Throughout (D.state disk) (D.state (given_back result)) (IsFormatting blocks (D.state disk).now) }
+    ensures formatted { Formats blocks result (D.state (given_back result)) }
+    ensures moments { FormatsAtMost (D.state disk) (D.state (given_back result)) blocks }
 {
     if blocks < LEAST_BLOCKS || blocks > MOST_BLOCKS || blocks > disk.blocks() {
         return Err((disk, Refusal::BadSize));

@@ -1,13 +1,11 @@
 //! Opening a store.
-ghost use Rattle.std.specs.Prelude.{◌≡◌, ◌≢◌, ◌*◌, ◌≤◌, length, true, false, vec_capacity, IfOk, IfErr, OnOk, IsErrAnd, IfSome};
-ghost use Rattle.vm_disk.specs.Disk.{Goes, IsClean, block};
-ghost use Rattle.vm_disk.specs.Moments.{Throughout, OnlyReads};
-ghost use Rattle.vm_block.specs.Selector.{named_slot};
+ghost use Rattle.std.specs.Prelude.{◌≡◌, ◌*◌, ◌≤◌, length, true, false, vec_capacity, IfOk, IfErr, OnOk, IsErrAnd, IfSome};
+ghost use Rattle.vm_disk.specs.Disk.{Goes};
+ghost use Rattle.vm_disk.specs.Moments.{OnlyReads};
 ghost use Rattle.vm_block.specs.Slot.{SlotFits};
-ghost use Rattle.vm_catalog.specs.Catalog.{SlotAt};
-ghost use Rattle.vm_store.specs.Refused.{IsAtMostSynced, IsSynced, IsRefused, IsStore};
-ghost use Rattle.vm_store.specs.Shown.{ShowsNothing};
-ghost use Rattle.vm_store.specs.Opening.{OpensAs, PartsHold, disk_in};
+ghost use Rattle.vm_catalog.specs.Calls.{LoadsHeld};
+ghost use Rattle.vm_store.specs.Refused.{SyncsAll, SyncsAtMost, IsRefused};
+ghost use Rattle.vm_store.specs.Opening.{FindsSlot, IsTwice, OpensAs, PartsHold, ReadsMaps, RefusesFor, RefusesMaps, RefusesNothing, RefusesSlot, SyncsUnlessDevice, disk_in};
 ghost use Rattle.vm_store.specs.Store.{has_failed};
 ghost use Rattle.vm_store.specs.Versions.{numbers_of, versions_of};
 
@@ -32,13 +30,9 @@ const LEAST_BLOCKS: u32 = 64;
 fn find_slot<D: Disk>(disk: &mut D) -> Result<SlotName, Refusal>
     ensures any { Goes (result ≡ Err Refusal.Device) (D.state disk.old) (D.state disk.new) }
     ensures room { OnOk result (64 ≤ (D.state disk.old).blocks) }
-    ensures moments { (D.state disk.new).honest ≡ true
-        → Throughout (D.state disk.old) (D.state disk.new) (IsAtMostSynced (D.state disk.old).now) }
-    ensures synced { (D.state disk.new).honest ≡ true → result ≢ Err Refusal.Device
-        → IsSynced (D.state disk.old).now (D.state disk.new).now }
-    ensures found { (D.state disk.new).honest ≡ true
-        → IfOk result (λ slot_name. IsStore (D.state disk.old).now.contents
-        × (slot_name ≡ named_slot (block (D.state disk.old).now.contents 1))) }
+    ensures moments { SyncsAtMost (D.state disk.old) (D.state disk.new) }
+    ensures synced { SyncsUnlessDevice (D.state disk.old) (D.state disk.new) result }
+    ensures found { FindsSlot (D.state disk.old) (D.state disk.new) result }
     ensures refused { (D.state disk.new).honest ≡ true
         → IfErr result (IsRefused (D.state disk.old).now.contents) }
 {
@@ -64,11 +58,8 @@ fn load_slot<D: Disk>(alloc: Global, disk: &mut D, slot_name: SlotName) -> Resul
     ensures fits { IfOk result (λ slot. SlotFits slot.blocks slot.entries.items) }
     ensures reserved { IfOk result (λ slot. 511 ≤ vec_capacity slot.entries) }
     ensures inside { IfOk result (λ slot. slot.blocks ≤ (D.state disk.old).blocks) }
-    ensures found { (D.state disk.new).honest ≡ true
-        → IfOk result (λ slot. SlotAt (D.state disk.old).now.contents slot_name slot.blocks slot.entries.items) }
-    ensures refused { (D.state disk.new).honest ≡ true → IsStore (D.state disk.old).now.contents
-        → slot_name ≡ named_slot (block (D.state disk.old).now.contents 1)
-        → IfErr result (IsRefused (D.state disk.old).now.contents) }
+    ensures found { LoadsHeld result (D.state disk.old) (D.state disk.new) slot_name }
+    ensures refused { RefusesSlot (D.state disk.old) (D.state disk.new) result slot_name }
 {
     match load(alloc, disk, slot_name) {
         Ok(slot) => {
@@ -101,8 +92,7 @@ fn root_numbers(alloc: Global, entries: &[Entry]) -> Option<Vec<u32>>
 fn versions_twice(alloc: Global, entries: &[Entry], roots: &[Root]) -> Option<(Versions, Versions)>
     requires few { length entries.now ≤ 511 }
     requires roots { length roots.now ≡ 2 * length entries.now }
-    ensures { IfSome result (λ pair. (pair.0 ≡ versions_of entries.now roots.now)
-        × (pair.1 ≡ versions_of entries.now roots.now)) }
+    ensures { IfSome result (IsTwice (versions_of entries.now roots.now)) }
 {
     let (Ok(committed), Ok(working)) = (
         Versions::of_entries(alloc, entries, roots),
@@ -127,15 +117,8 @@ fn read_maps<D: Disk>(
     ensures reads { (D.state disk.new).honest ≡ true
         → OnlyReads (D.state disk.old) (D.state disk.new) }
     ensures inside { IfOk result (λ parts. parts.blocks ≤ (D.state disk.old).blocks) }
-    ensures holds { (D.state disk.new).honest ≡ true → IsClean (D.state disk.old).now
-        → IsStore (D.state disk.old).now.contents
-        → slot_name ≡ named_slot (block (D.state disk.old).now.contents 1)
-        → SlotAt (D.state disk.old).now.contents slot_name slot.blocks slot.entries.items
-        → IfOk result (PartsHold (D.state disk.new).now) }
-    ensures refused { (D.state disk.new).honest ≡ true → IsStore (D.state disk.old).now.contents
-        → slot_name ≡ named_slot (block (D.state disk.old).now.contents 1)
-        → SlotAt (D.state disk.old).now.contents slot_name slot.blocks slot.entries.items
-        → IfErr result (IsRefused (D.state disk.old).now.contents) }
+    ensures holds { ReadsMaps (D.state disk.old) (D.state disk.new) result slot_name slot }
+    ensures refused { RefusesMaps (D.state disk.old) (D.state disk.new) result slot_name slot }
 {
     let Slot { blocks, entries } = slot;
     let (Some(numbers), Ok(mut held), Ok(before)) = (
@@ -170,10 +153,8 @@ fn read_maps<D: Disk>(
 fn find_store<D: Disk>(alloc: Global, disk: &mut D) -> Result<Parts, Refusal>
     ensures any { Goes (result ≡ Err Refusal.Device) (D.state disk.old) (D.state disk.new) }
     ensures inside { IfOk result (λ parts. parts.blocks ≤ (D.state disk.old).blocks) }
-    ensures moments { (D.state disk.new).honest ≡ true
-        → Throughout (D.state disk.old) (D.state disk.new) (IsAtMostSynced (D.state disk.old).now) }
-    ensures synced { (D.state disk.new).honest ≡ true
-        → OnOk result (IsSynced (D.state disk.old).now (D.state disk.new).now) }
+    ensures moments { SyncsAtMost (D.state disk.old) (D.state disk.new) }
+    ensures synced { SyncsAll result (D.state disk.old) (D.state disk.new) }
     ensures holds { (D.state disk.new).honest ≡ true
         → IfOk result (PartsHold (D.state disk.new).now) }
     ensures refused { (D.state disk.new).honest ≡ true
@@ -199,19 +180,14 @@ pub fn open<D: Disk>(alloc: Global, mut disk: D) -> Result<Store<D>, (D, Refusal
     // The store stands for the tree that is shown, and just the spare blocks are free, on a disk that is synced.
     ensures opened { (D.state (disk_in result)).honest ≡ true
         → IfOk result (OpensAs (D.state disk).now.contents) }
-    ensures synced { (D.state (disk_in result)).honest ≡ true
-        → OnOk result (IsSynced (D.state disk).now (D.state (disk_in result)).now) }
+    ensures synced { SyncsAll result (D.state disk) (D.state (disk_in result)) }
 
     // A refusal has its reason. But for the device and memory it comes exactly where nothing is shown.
-    ensures refused { (D.state (disk_in result)).honest ≡ true
-        → IfErr result (λ e. IsRefused (D.state disk).now.contents e.1) }
-    ensures none { (D.state (disk_in result)).honest ≡ true
-        → IfErr result (λ e. e.1 ≢ Refusal.Device → e.1 ≢ Refusal.Memory
-        → ShowsNothing (D.state disk).now.contents) }
+    ensures refused { RefusesFor (D.state disk) (D.state (disk_in result)) result }
+    ensures none { RefusesNothing (D.state disk) (D.state (disk_in result)) result }
 
     // At each moment nothing has changed, or all is synced.
-    ensures moments { (D.state (disk_in result)).honest ≡ true
-        → Throughout (D.state disk) (D.state (disk_in result)) (IsAtMostSynced (D.state disk).now) }
+    ensures moments { SyncsAtMost (D.state disk) (D.state (disk_in result)) }
 {
     match find_store(alloc, &mut disk) {
         Ok(parts) => {

@@ -1,13 +1,6 @@
 //! Running a list of commands.
-ghost use Rattle.std.specs.Prelude.{◌≡◌, ◌≢◌, ℕ, true, false, List, [], length, take, All, Err, Some, None};
-ghost use Rattle.vm_types.specs.Isolation.{LeavesAlone};
-ghost use Rattle.vm_types.specs.Moments.{KeptThroughout};
-ghost use Rattle.vm_types.specs.State.{State, after};
-ghost use Rattle.vm_types.specs.Tree.{named};
-ghost use Rattle.vm_disk.specs.Disk.{LeftAt, moment};
-ghost use Rattle.vm_disk.specs.Moments.{Throughout};
-ghost use Rattle.vm_store.specs.Running.{answered, AnswersInTurn, EndsWithDevice, IsGuardedOnTheWay, NoneIsDevice};
-ghost use Rattle.vm_store.specs.Shown.{Shows};
+ghost use Rattle.std.specs.Prelude.{◌≡◌, ◌≢◌, true, false, [], length, All, Err, Some, None};
+ghost use Rattle.vm_store.specs.Running.{EndsWithDevice, IsolatesOthers, KeepsCommits, NoneIsDevice, RunsInTurn, StandsAfterAll, StaysGuardedInTurn};
 
 use super::{Store, is_device};
 use std::alloc::Global;
@@ -26,7 +19,7 @@ pub enum Stop {
 }
 
 impl<D: Disk> Store<D> {
-    ghost use Rattle.vm_store.specs.Store.{disk_of, has_failed, Holds, IsHonest, GrowsOn};
+    ghost use Rattle.vm_store.specs.Store.{has_failed, GrowsOn};
 
     /// Carries out commands in order, up to one that the device fails. The list of answers is reserved
     /// whole before the first command.
@@ -51,30 +44,19 @@ impl<D: Disk> Store<D> {
 
         // Each command is answered in its turn and does to the store just what `apply` promises of it, and the
         // store stands for what these answers leave.
-        ensures answers { has_failed self.old ≡ false → (s : State)
-            → AnswersInTurn self.old self.new s (answered commands.now result.0.items) result.0.items }
-        ensures state { IsHonest self.new → has_failed self.new ≡ false → (s : State)
-            → Holds self.old s
-            → Holds self.new (after s (answered commands.now result.0.items) result.0.items) }
+        ensures answers { RunsInTurn self.old self.new commands.now result.0.items }
+        ensures state { StandsAfterAll self.old self.new commands.now result.0.items }
 
         // An alternative on which no command works stays as it is.
-        ensures isolated { IsHonest self.new → (s : State) (name : List ℕ)
-            → LeavesAlone s (answered commands.now result.0.items) result.0.items name
-            → named (after s (answered commands.now result.0.items) result.0.items).working name ≡ named s.working name }
+        ensures isolated { IsolatesOthers self.old self.new commands.now result.0.items }
 
         // Stopped at any moment, a crash shows the committed tree after a beginning of the commands that is
         // empty or ends with a commit, and this beginning holds every commit that was acknowledged.
-        ensures kept { IsHonest self.new → has_failed self.old ≡ false → (s : State)
-            → Holds self.old s
-            → KeptThroughout Shows (LeftAt (D.state (disk_of self.new))) s (moment (D.state (disk_of self.old)))
-            (answered commands.now result.0.items) result.0.items (moment (D.state (disk_of self.new))) }
+        ensures kept { KeepsCommits self.old self.new commands.now result.0.items }
 
         // For at each moment the slots that it may leave in use are whole, clean, and held by the store as some
         // of the commands left it: in a command, as `answers` says, as that one does.
-        ensures guarded { IsHonest self.new → has_failed self.old ≡ false → (s : State)
-            → Holds self.old s
-            → Throughout (D.state (disk_of self.old)) (D.state (disk_of self.new))
-            (IsGuardedOnTheWay self.old self.new s (answered commands.now result.0.items) result.0.items) }
+        ensures guarded { StaysGuardedInTurn self.old self.new commands.now result.0.items }
     {
         if self.failed {
             return (Vec::new(alloc), Some(Stop::Failed));

@@ -1,6 +1,5 @@
 //! The command that makes the working entries the committed ones.
-ghost use Rattle.std.specs.Prelude.{◌≡◌, ◌⊎◌, true, OnErr, OnOk};
-ghost use Rattle.vm_types.specs.State.{State};
+ghost use Rattle.std.specs.Prelude.{◌≡◌, ◌⊎◌, OnErr};
 
 use crate::store::Store;
 use crate::versions::write_entries;
@@ -9,7 +8,7 @@ use vm_disk::Disk;
 use vm_types::{Answer, Command, Refusal};
 
 impl<D: Disk> Store<D> {
-    ghost use Rattle.vm_store.specs.Store.{has_failed, entries_of, Carries, Holds, IsHonest, GoesOn};
+    ghost use Rattle.vm_store.specs.Store.{has_failed, entries_of, IsCarriedOut, GoesOn};
 
     // Makes the working entries the committed ones.
     pub(super) fn commit(&mut self) -> Result<Answer, Refusal>
@@ -17,8 +16,7 @@ impl<D: Disk> Store<D> {
         ensures failed { has_failed self.new ≡ has_failed self.old }
         ensures result { (result ≡ Ok Answer.Done) ⊎ (result ≡ Err Refusal.Device) }
         ensures same { OnErr result (entries_of self.new ≡ entries_of self.old) }
-        ensures carried { IsHonest self.new → (s : State) (holds : Holds self.old s)
-            → Carries self.old self.new s holds Command.Commit result }
+        ensures carried { IsCarriedOut self.old self.new Command.Commit result }
     {
         write_entries(&mut self.entries, self.working.as_slice());
         match publish(&mut self.disk, self.slot_name, self.blocks, &self.entries) {

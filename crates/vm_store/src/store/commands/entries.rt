@@ -1,6 +1,5 @@
 //! The commands that change entries alone: those that make, drop and go back to alternatives and checkpoints.
-ghost use Rattle.std.specs.Prelude.{◌≡◌, ◌≢◌, true, OnErr, IfErr};
-ghost use Rattle.vm_types.specs.State.{State};
+ghost use Rattle.std.specs.Prelude.{◌≡◌, ◌≢◌, OnErr};
 ghost use Rattle.vm_store.specs.Answers.{ChangesEntriesAlone};
 
 use crate::store::Store;
@@ -8,7 +7,7 @@ use vm_disk::Disk;
 use vm_types::{Answer, Command, Refusal};
 
 impl<D: Disk> Store<D> {
-    ghost use Rattle.vm_store.specs.Store.{disk_of, has_failed, entries_of, Carries, Holds, held_of, IsHonest, GoesOn, EarlyKeeps};
+    ghost use Rattle.vm_store.specs.Store.{disk_of, has_failed, entries_of, IsCarriedOut, held_of, GoesOn, EarlyKeeps};
 
     // Carries one of them out. It makes no device call.
     pub(super) fn change_entries(&mut self, command: &Command) -> Result<Answer, Refusal>
@@ -20,8 +19,7 @@ impl<D: Disk> Store<D> {
         ensures never { (result ≢ Err Refusal.Failed) × (result ≢ Err Refusal.Memory) }
         ensures same { OnErr result (entries_of self.new ≡ entries_of self.old) }
         ensures unchanged { EarlyKeeps result self.old self.new }
-        ensures carried { IsHonest self.new → (s : State) (holds : Holds self.old s)
-            → Carries self.old self.new s holds command.now result }
+        ensures carried { IsCarriedOut self.old self.new command.now result }
     {
         match self.working.change_by(command) {
             Ok(answer) => {

@@ -1,8 +1,7 @@
 //! Making a store larger.
-ghost use Rattle.std.specs.Prelude.{◌≡◌, ◌≢◌, ◌+◌, ◌-◌, ◌≤◌, true, false, IsOk, IfErr, OnOk};
+ghost use Rattle.std.specs.Prelude.{◌≡◌, ◌≢◌, ◌≤◌, true, false, IsOk, IfErr, OnOk};
 ghost use Rattle.vm_types.specs.State.{State};
 ghost use Rattle.vm_disk.specs.Disk.{Enlarges};
-ghost use Rattle.vm_store.specs.Answers.{IsEarly};
 ghost use Rattle.vm_types.specs.declared.command.Command.TheVariants.{Grow};
 
 use crate::store::Store;
@@ -12,7 +11,7 @@ use vm_disk::Disk;
 use vm_types::{Answer, Refusal};
 
 impl<D: Disk> Store<D> {
-    ghost use Rattle.vm_store.specs.Store.{disk_of, has_failed, entries_of, Carries, Holds, free_of, IsHonest, IsSameButDisk, GrowsOn, EarlyKeeps};
+    ghost use Rattle.vm_store.specs.Store.{disk_of, has_failed, entries_of, EarlySpares, IsCarriedOut, NewAreFree, Holds, IsHonest, IsSameButDisk, GrowsOn, EarlyKeeps};
 
     /// How many blocks the store has, those of the slots included. The next Commit keeps that many.
     pub fn blocks(&self) -> Result<u32, Refusal>
@@ -35,12 +34,9 @@ impl<D: Disk> Store<D> {
         ensures never { result ≢ Err Refusal.Failed }
         ensures same { entries_of self.new ≡ entries_of self.old }
         ensures unchanged { EarlyKeeps result self.old self.new }
-        ensures untouched { IfErr result
-            (λ refusal. IsEarly refusal → disk_of self.new ≡ disk_of self.old) }
-        ensures carried { IsHonest self.new → (s : State) (holds : Holds self.old s)
-            → Carries self.old self.new s holds (Grow blocks) result }
-        ensures grown { (s : State) → Holds self.old s
-            → OnOk result (free_of self.new ≡ free_of self.old + (blocks - s.blocks)) }
+        ensures untouched { EarlySpares result self.old self.new }
+        ensures carried { IsCarriedOut self.old self.new (Grow blocks) result }
+        ensures grown { NewAreFree result self.old self.new blocks }
     {
         if blocks <= self.blocks || blocks > MOST_BLOCKS {
             return Err(Refusal::BadSize);

@@ -1,6 +1,5 @@
 //! The command that makes an alternative's records those of its parent.
-ghost use Rattle.std.specs.Prelude.{◌≡◌, ◌≢◌, true, OnErr, IfErr};
-ghost use Rattle.vm_types.specs.State.{State};
+ghost use Rattle.std.specs.Prelude.{◌≡◌, ◌≢◌, true, OnErr};
 
 use crate::faults::refusal_of;
 use crate::store::Store;
@@ -9,7 +8,7 @@ use vm_disk::Disk;
 use vm_types::{Answer, Command, Name, Refusal};
 
 impl<D: Disk> Store<D> {
-    ghost use Rattle.vm_store.specs.Store.{has_failed, entries_of, Carries, Holds, IsHonest, GoesOn, ReadsAlone, EarlyKeeps};
+    ghost use Rattle.vm_store.specs.Store.{has_failed, entries_of, IsCarriedOut, IsHonest, GoesOn, ReadsAlone, EarlyKeeps};
 
     // Gives the parent the alternative's records, which become the alternative's base, too. The parent must
     // have no other records than that base.
@@ -20,8 +19,7 @@ impl<D: Disk> Store<D> {
         ensures same { OnErr result (entries_of self.new ≡ entries_of self.old) }
         ensures unchanged { EarlyKeeps result self.old self.new }
         ensures reads { IsHonest self.new → ReadsAlone self.old self.new }
-        ensures carried { IsHonest self.new → (s : State) (holds : Holds self.old s)
-            → Carries self.old self.new s holds (Command.Post alt.now) result }
+        ensures carried { IsCarriedOut self.old self.new (Command.Post alt.now) result }
     {
         let (own, parent) = match self.working.pair_of(alt) {
             Ok(pair) => pair,

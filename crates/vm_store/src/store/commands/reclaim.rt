@@ -1,15 +1,13 @@
 //! The command that frees the blocks that no version needs.
-ghost use Rattle.std.specs.Prelude.{◌≡◌, ◌≢◌, true, Err, IfOk, IfErr, OnOk};
-ghost use Rattle.vm_types.specs.State.{State};
+ghost use Rattle.std.specs.Prelude.{◌≡◌, ◌≢◌, Err, IfErr};
 ghost use Rattle.vm_store.specs.Answers.{IsEarly};
-ghost use Rattle.vm_store.specs.Resting.{spare_of};
 
 use crate::store::Store;
 use vm_disk::Disk;
 use vm_types::{Answer, Command, Refusal};
 
 impl<D: Disk> Store<D> {
-    ghost use Rattle.vm_store.specs.Store.{has_failed, entries_of, Carries, Holds, free_of, IsHonest, GoesOn};
+    ghost use Rattle.vm_store.specs.Store.{has_failed, entries_of, IsCarriedOut, SpareIsFree, IsHonest, GoesOn};
 
     // Frees each block that neither the committed nor the working entries reach.
     pub(super) fn reclaim(&mut self) -> Result<Answer, Refusal>
@@ -18,10 +16,8 @@ impl<D: Disk> Store<D> {
         ensures never { (result ≢ Err Refusal.Failed) × (result ≢ Err Refusal.Memory) }
         ensures late { IfErr result (λ refusal. IsEarly refusal → ⊥) }
         ensures same { entries_of self.new ≡ entries_of self.old }
-        ensures exact { IsHonest self.new → (s : State) (holds : Holds self.old s)
-            → OnOk result (free_of self.new ≡ spare_of holds.rests) }
-        ensures carried { IsHonest self.new → (s : State) (holds : Holds self.old s)
-            → Carries self.old self.new s holds Command.Reclaim result }
+        ensures exact { IsHonest self.new → SpareIsFree result self.old self.new }
+        ensures carried { IsCarriedOut self.old self.new Command.Reclaim result }
     {
         match self.mark_all() {
             Ok(()) => {

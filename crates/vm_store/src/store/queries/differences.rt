@@ -1,5 +1,5 @@
 //! The queries for what an alternative changed since its base, and for its conflicts with its parent.
-ghost use Rattle.std.specs.Prelude.{◌≡◌, ◌≢◌, ◌+◌, ◌≤◌, true, false};
+ghost use Rattle.std.specs.Prelude.{◌≡◌, ◌≢◌, true, false};
 ghost use Rattle.vm_types.specs.State.{State};
 ghost use Rattle.vm_types.specs.Queries.{IsListing, changes_in, conflicts_in};
 
@@ -13,8 +13,8 @@ use vm_disk::Disk;
 use vm_types::{Changes, Conflicts, Name, Refusal};
 
 impl<D: Disk> Store<D> {
-    ghost use Rattle.vm_store.specs.Store.{has_failed, Holds, IsSameButDisk, IsHonest, GoesOn, ReadsAlone, reads_of};
-    ghost use Rattle.vm_store.specs.Shared.{unshared_of, unshared_with_parent};
+    ghost use Rattle.vm_store.specs.Store.{has_failed, FromState, ReadsAtMost, Holds, IsSameButDisk, IsHonest, GoesOn, ReadsAlone};
+    ghost use Rattle.vm_store.specs.Shared.{unshared_of, unshared_on_sides};
 
     /// What changed in the working state of an alternative since its base, by rising keys.
     pub fn changes(&mut self, alloc: Global, alt: &Name) -> Result<Changes, Refusal>
@@ -25,15 +25,13 @@ impl<D: Disk> Store<D> {
         ensures only_then { has_failed self.old ≡ false → result ≢ Err Refusal.Failed }
         ensures unchanged { IsSameButDisk self.old self.new }
 
-        ensures value { IsHonest self.new → has_failed self.old ≡ false → (s : State)
-            → Holds self.old s
-            → IsListing result (changes_in s.working alt.now) }
+        ensures value { FromState self.old self.new
+            (λ s. IsListing result (changes_in s.working alt.now)) }
         ensures state { IsHonest self.new → (s : State) → Holds self.old s → Holds self.new s }
         ensures reads { IsHonest self.new → ReadsAlone self.old self.new }
 
         // It makes no more reads than there are blocks that only one of its base and its current tree has.
-        ensures bound { IsHonest self.new → (s : State) (holds : Holds self.old s)
-            → reads_of self.new ≤ reads_of self.old + unshared_of holds.rests alt.now }
+        ensures bound { ReadsAtMost self.old self.new (λ s holds. unshared_of holds.rests alt.now) }
     {
         if self.failed {
             return Err(Refusal::Failed);
@@ -58,16 +56,15 @@ impl<D: Disk> Store<D> {
         ensures only_then { has_failed self.old ≡ false → result ≢ Err Refusal.Failed }
         ensures unchanged { IsSameButDisk self.old self.new }
 
-        ensures value { IsHonest self.new → has_failed self.old ≡ false → (s : State)
-            → Holds self.old s
-            → IsListing result (conflicts_in s.working alt.now) }
+        ensures value { FromState self.old self.new
+            (λ s. IsListing result (conflicts_in s.working alt.now)) }
         ensures state { IsHonest self.new → (s : State) → Holds self.old s → Holds self.new s }
         ensures reads { IsHonest self.new → ReadsAlone self.old self.new }
 
         // It makes no more reads than there are blocks that only one of its base and its parent's current tree has, and such that only
         // one of its base and its current tree has.
-        ensures bound { IsHonest self.new → (s : State) (holds : Holds self.old s)
-            → reads_of self.new ≤ reads_of self.old + (unshared_with_parent holds.rests alt.now + unshared_of holds.rests alt.now) }
+        ensures bound { ReadsAtMost self.old self.new
+            (λ s holds. unshared_on_sides holds.rests alt.now) }
     {
         if self.failed {
             return Err(Refusal::Failed);

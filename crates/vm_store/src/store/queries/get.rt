@@ -1,6 +1,7 @@
 //! The query for one record of an alternative.
-ghost use Rattle.std.specs.Prelude.{◌≡◌, ◌≢◌, ◌⊎◌, true, false};
+ghost use Rattle.std.specs.Prelude.{◌≡◌, ◌≢◌, true, false};
 ghost use Rattle.vm_types.specs.State.{State};
+ghost use Rattle.vm_store.specs.Answers.{IsDueOrDevice};
 ghost use Rattle.vm_types.specs.Queries.{value_in};
 
 use crate::faults::refusal_of;
@@ -10,7 +11,7 @@ use vm_tree::get;
 use vm_types::{Key, Name, Refusal, Value};
 
 impl<D: Disk> Store<D> {
-    ghost use Rattle.vm_store.specs.Store.{has_failed, Holds, IsSameButDisk, IsHonest, GoesOn, ReadsAlone};
+    ghost use Rattle.vm_store.specs.Store.{has_failed, FromState, Holds, IsSameButDisk, IsHonest, GoesOn, ReadsAlone};
 
     /// The value of a record in the working state of an alternative.
     pub fn get(&mut self, alt: &Name, key: Key) -> Result<Option<Value>, Refusal>
@@ -22,9 +23,8 @@ impl<D: Disk> Store<D> {
         ensures unchanged { IsSameButDisk self.old self.new }
         ensures no_memory { result ≢ Err Refusal.Memory }
 
-        ensures value { IsHonest self.new → has_failed self.old ≡ false → (s : State)
-            → Holds self.old s
-            → (result ≡ Err Refusal.Device) ⊎ (result ≡ value_in s.working alt.now key) }
+        ensures value { FromState self.old self.new
+            (λ s. IsDueOrDevice result (value_in s.working alt.now key)) }
         ensures state { IsHonest self.new → (s : State) → Holds self.old s → Holds self.new s }
         ensures reads { IsHonest self.new → ReadsAlone self.old self.new }
     {

@@ -1,5 +1,5 @@
 //! The query for all records of an alternative.
-ghost use Rattle.std.specs.Prelude.{◌≡◌, ◌≢◌, ◌⊎◌, true, false};
+ghost use Rattle.std.specs.Prelude.{◌≡◌, ◌≢◌, true, false};
 ghost use Rattle.vm_types.specs.State.{State};
 ghost use Rattle.vm_types.specs.Queries.{IsListing, records_in};
 
@@ -11,7 +11,7 @@ use vm_tree::scan;
 use vm_types::{Name, Records, Refusal};
 
 impl<D: Disk> Store<D> {
-    ghost use Rattle.vm_store.specs.Store.{has_failed, Holds, IsSameButDisk, IsHonest, GoesOn, ReadsAlone};
+    ghost use Rattle.vm_store.specs.Store.{has_failed, FromState, Holds, IsSameButDisk, IsHonest, GoesOn, ReadsAlone};
 
     /// All records in the working state of an alternative, by rising keys.
     pub fn list(&mut self, alloc: Global, alt: &Name) -> Result<Records, Refusal>
@@ -22,9 +22,8 @@ impl<D: Disk> Store<D> {
         ensures only_then { has_failed self.old ≡ false → result ≢ Err Refusal.Failed }
         ensures unchanged { IsSameButDisk self.old self.new }
 
-        ensures value { IsHonest self.new → has_failed self.old ≡ false → (s : State)
-            → Holds self.old s
-            → IsListing result (records_in s.working alt.now) }
+        ensures value { FromState self.old self.new
+            (λ s. IsListing result (records_in s.working alt.now)) }
         ensures state { IsHonest self.new → (s : State) → Holds self.old s → Holds self.new s }
         ensures reads { IsHonest self.new → ReadsAlone self.old self.new }
     {

@@ -1,7 +1,7 @@
 //! The queries for the names of alternatives and of checkpoints. They make no device call.
-ghost use Rattle.std.specs.Prelude.{◌≡◌, ◌⊎◌, true, false, Ok, Err, IfOk, IfErr};
+ghost use Rattle.std.specs.Prelude.{◌≡◌, true, false, Ok, Err, IfOk, IfErr};
 ghost use Rattle.vm_types.specs.Shape.{shape};
-ghost use Rattle.vm_types.specs.State.{State};
+ghost use Rattle.vm_store.specs.Answers.{IsMemoryOr};
 ghost use Rattle.vm_types.specs.Queries.{checkpoints_in};
 
 use crate::store::Store;
@@ -11,7 +11,7 @@ use vm_disk::Disk;
 use vm_types::{Name, Refusal};
 
 impl<D: Disk> Store<D> {
-    ghost use Rattle.vm_store.specs.Store.{has_failed, Holds};
+    ghost use Rattle.vm_store.specs.Store.{has_failed, InState};
 
     /// The alternatives of the working state, each with its parent, in order of creation. It makes no
     /// device call. It answers `Memory` where there is none for the list.
@@ -19,8 +19,7 @@ impl<D: Disk> Store<D> {
         ensures refused { has_failed self.now ≡ true → result ≡ Err Refusal.Failed }
         ensures only_then { has_failed self.now ≡ false
             → IfErr result (λ refusal. refusal ≡ Refusal.Memory) }
-        ensures value { has_failed self.now ≡ false → (s : State) → Holds self.now s
-            → IfOk result (λ list. list.items ≡ shape s.working) }
+        ensures value { InState self.now (λ s. IfOk result (λ list. list.items ≡ shape s.working)) }
     {
         if self.failed {
             return Err(Refusal::Failed);
@@ -34,13 +33,11 @@ impl<D: Disk> Store<D> {
     pub fn checkpoints(&self, alloc: Global, alt: &Name) -> Result<Vec<Name>, Refusal>
         ensures refused { has_failed self.now ≡ true → result ≡ Err Refusal.Failed }
         ensures only_then { has_failed self.now ≡ false
-            → IfErr result (λ refusal. (refusal ≡ Refusal.Memory)
-            ⊎ (refusal ≡ Refusal.NoSuchAlternative)) }
-        ensures value { has_failed self.now ≡ false → (s : State) → Holds self.now s
-            → IfOk result (λ list. Ok list.items ≡ checkpoints_in s.working alt.now) }
-        ensures none { has_failed self.now ≡ false → (s : State) → Holds self.now s
-            → IfErr result (λ refusal. (refusal ≡ Refusal.Memory)
-            ⊎ (Err refusal ≡ checkpoints_in s.working alt.now)) }
+            → IfErr result (λ r. IsMemoryOr r (r ≡ Refusal.NoSuchAlternative)) }
+        ensures value { InState self.now
+            (λ s. IfOk result (λ list. Ok list.items ≡ checkpoints_in s.working alt.now)) }
+        ensures none { InState self.now
+            (λ s. IfErr result (λ r. IsMemoryOr r (Err r ≡ checkpoints_in s.working alt.now))) }
     {
         if self.failed {
             return Err(Refusal::Failed);

@@ -1,6 +1,7 @@
 //! The query for how far an alternative has gone from its base and from its parent.
-ghost use Rattle.std.specs.Prelude.{◌≡◌, ◌≢◌, ◌⊎◌, ◌+◌, ◌≤◌, true, false};
+ghost use Rattle.std.specs.Prelude.{◌≡◌, ◌≢◌, true, false};
 ghost use Rattle.vm_types.specs.State.{State};
+ghost use Rattle.vm_store.specs.Answers.{IsDueOrWanting};
 
 use crate::sides::{ThreeRoots, tally_of};
 use crate::store::Store;
@@ -10,8 +11,8 @@ use vm_disk::Disk;
 use vm_types::{Name, Refusal};
 
 impl<D: Disk> Store<D> {
-    ghost use Rattle.vm_store.specs.Store.{has_failed, Holds, IsSameButDisk, IsHonest, GoesOn, ReadsAlone, reads_of};
-    ghost use Rattle.vm_store.specs.Shared.{unshared_of, unshared_with_parent};
+    ghost use Rattle.vm_store.specs.Store.{has_failed, FromState, ReadsAtMost, Holds, IsSameButDisk, IsHonest, GoesOn, ReadsAlone};
+    ghost use Rattle.vm_store.specs.Shared.{unshared_on_sides};
     ghost use Rattle.vm_store.specs.Tallies.{tally_in};
 
     /// In the working state, how many records an alternative changed since its base, how many its parent
@@ -28,17 +29,15 @@ impl<D: Disk> Store<D> {
         ensures unchanged { IsSameButDisk self.old self.new }
 
         // The numbers are the model's, and so are the refusals, unless the device fails or memory is wanting.
-        ensures value { IsHonest self.new → has_failed self.old ≡ false → (s : State)
-            → Holds self.old s
-            → (result ≡ Err Refusal.Device)
-            ⊎ ((result ≡ Err Refusal.Memory) ⊎ (result ≡ tally_in s.working alt.now)) }
+        ensures value { FromState self.old self.new
+            (λ s. IsDueOrWanting result (tally_in s.working alt.now)) }
         ensures state { IsHonest self.new → (s : State) → Holds self.old s → Holds self.new s }
         ensures reads { IsHonest self.new → ReadsAlone self.old self.new }
 
         // It makes no more reads than there are blocks that only one of its base and its parent's current tree has, and such that only
         // one of its base and its current tree has.
-        ensures bound { IsHonest self.new → (s : State) (holds : Holds self.old s)
-            → reads_of self.new ≤ reads_of self.old + (unshared_with_parent holds.rests alt.now + unshared_of holds.rests alt.now) }
+        ensures bound { ReadsAtMost self.old self.new
+            (λ s holds. unshared_on_sides holds.rests alt.now) }
     {
         if self.failed {
             return Err(Refusal::Failed);
