@@ -1,5 +1,6 @@
 //! What stands on a disk after a publish, byte by byte, and which slots are refused.
 use std::alloc::Global;
+use std::process::Abort;
 use std::test::Fail;
 use vm_block::{Entry, Kind, SlotName, write_header};
 use vm_catalog::{
@@ -112,19 +113,40 @@ fn stands_after(
     }
 }
 
+// These entries are those of slot B.
+fn expect_loaded<R: AllocGlobal + Abort>(rt: &R, disk: &mut FuseDisk<MemDisk>, entries: &[Entry]) {
+    match get(rt.alloc(), disk, SlotName::B) {
+        Ok(slot) => {
+            assert_eq!(rt; slot.blocks, 64);
+            assert_eq!(rt; slot.entries.as_slice(), entries);
+            assert!(rt; slot.entries.capacity() >= 511);
+        }
+        Err(fault) => panic!(rt; "{fault:?}"),
+    }
+}
+
+// Entries are published over slot A in use, and loaded: so many blocks are written, and read.
+fn expect_published<R: AllocGlobal + Abort>(
+    rt: &R,
+    disk: &mut FuseDisk<MemDisk>,
+    entries: &[Entry],
+    used: u32,
+) {
+    let (count, written) = (entries.len(), used.saturating_add(3));
+    assert!(rt; put(disk, SlotName::A, entries).is_ok(), "{count} entries");
+    assert_eq!(rt; disk.calls(), written, "writes of {count} entries");
+    expect_loaded(rt, disk, entries);
+    let read = written.saturating_add(used);
+    assert_eq!(rt; disk.calls(), read, "reads of {count} entries");
+}
+
 #[test]
 fn what_is_published_is_loaded(rt: HostRuntime) -> Result<(), Fail> {
     for (count, used) in [(1, 1), (31, 1), (32, 2), (511, 16)] {
         let entries = family(rt.alloc(), count).ok_or("names")?;
         let disk = MemDisk::new(rt.alloc(), 64)?;
         let mut disk = FuseDisk::once(disk, 1000, [9; 4096]);
-        put(&mut disk, SlotName::A, &entries)?;
-        assert_eq!(rt; disk.calls(), used + 3, "writes of {count} entries");
-        let slot = get(rt.alloc(), &mut disk, SlotName::B)?;
-        assert_eq!(rt; disk.calls(), used + 3 + used, "reads of {count} entries");
-        assert_eq!(rt; slot.blocks, 64);
-        assert_eq!(rt; slot.entries.as_slice(), entries.as_slice());
-        assert!(rt; slot.entries.capacity() >= 511);
+        expect_published(&rt, &mut disk, &entries, used);
     }
     Ok(())
 }
@@ -142,20 +164,32 @@ fn slot_b_has_the_bytes_of_one_entry(rt: HostRuntime) -> Result<(), Fail> {
     Ok(())
 }
 
+// This is the slot in use.
+fn expect_found(rt: &impl Abort, disk: &mut MemDisk, due: Option<SlotName>) {
+    match found(disk) {
+        Ok(slot) => assert_eq!(rt; slot, due),
+        Err(_) => panic!(rt; "a fault"),
+    }
+}
+
+fn lay_header(rt: &impl Abort, disk: &mut MemDisk) {
+    let mut header = [0; 4096];
+    write_header(&mut header);
+    assert!(rt; disk.blocks() > 0 && disk.write(0, &header).is_ok());
+}
+
+fn select(rt: &impl Abort, disk: &mut MemDisk, slot_name: SlotName) {
+    assert!(rt; disk.blocks() > 2 && select_slot(disk, slot_name).is_ok());
+}
+
 #[test]
 fn selector_behind_a_header_names_a_slot(rt: HostRuntime) -> Result<(), Fail> {
     let mut disk = MemDisk::new(rt.alloc(), 64)?;
-    assert_eq!(rt; found(&mut disk)?, None);
-    let mut header = [0; 4096];
-    write_header(&mut header);
-    if disk.blocks() > 2 {
-        disk.write(0, &header)?;
-    }
-    assert_eq!(rt; found(&mut disk)?, Some(SlotName::A));
-    if disk.blocks() > 2 {
-        select_slot(&mut disk, SlotName::B)?;
-    }
-    assert_eq!(rt; found(&mut disk)?, Some(SlotName::B));
+    expect_found(&rt, &mut disk, None);
+    lay_header(&rt, &mut disk);
+    expect_found(&rt, &mut disk, Some(SlotName::A));
+    select(&rt, &mut disk, SlotName::B);
+    expect_found(&rt, &mut disk, Some(SlotName::B));
     Ok(())
 }
 

@@ -1,25 +1,23 @@
 //! Which blocks a disk that writes late has written, by hand.
-use super::script::plays;
+use super::script::{on_a_late_disk, plays};
 use super::seen::{cached, late, memory, memory_with_room};
 use std::test::Fail;
 use vm_disk::FuseDisk;
 
 #[test]
 fn a_read_sees_the_blocks_that_wait(rt: HostRuntime) -> Result<(), Fail> {
-    let mut disk = late(rt.alloc(), memory(rt.alloc(), 4)?, 2)?;
     let row = "
         fill 1 7
         fill 1 8
         fill 3 9
         dirty 0 1 2 3 -> no no no no
         holds 0 1 2 3 -> 0 8 0 9";
-    plays(&rt, &mut disk, row);
+    on_a_late_disk(&rt, memory(rt.alloc(), 4)?, 2, row, "");
     Ok(())
 }
 
 #[test]
 fn the_oldest_goes_out_where_too_many_would_wait(rt: HostRuntime) -> Result<(), Fail> {
-    let mut disk = late(rt.alloc(), memory(rt.alloc(), 8)?, 2)?;
     let row = "
         fill 5 1
         fill 2 2
@@ -29,13 +27,12 @@ fn the_oldest_goes_out_where_too_many_would_wait(rt: HostRuntime) -> Result<(), 
         fill 7 4
         dirty 2 5 7 -> yes no no
         holds 2 5 7 -> 2 3 4";
-    plays(&rt, &mut disk, row);
+    on_a_late_disk(&rt, memory(rt.alloc(), 8)?, 2, row, "");
     Ok(())
 }
 
 #[test]
 fn neighbours_go_out_with_the_oldest(rt: HostRuntime) -> Result<(), Fail> {
-    let mut disk = late(rt.alloc(), memory(rt.alloc(), 9)?, 4)?;
     let row = "
         fill 5 1
         fill 1 2
@@ -44,14 +41,13 @@ fn neighbours_go_out_with_the_oldest(rt: HostRuntime) -> Result<(), Fail> {
         fill 8 5
         dirty 1 3 4 5 6 7 8 -> no no yes yes yes no no
         holds 1 3 4 5 6 7 8 -> 2 0 4 1 3 0 5";
-    plays(&rt, &mut disk, row);
+    on_a_late_disk(&rt, memory(rt.alloc(), 9)?, 4, row, "");
     Ok(())
 }
 
 #[test]
 fn a_sync_writes_all_and_then_syncs(rt: HostRuntime) -> Result<(), Fail> {
     let fuse = FuseDisk::once(memory(rt.alloc(), 4)?, 99, [0; 4096]);
-    let mut disk = late(rt.alloc(), fuse, 3)?;
     let row = "
         fill 3 1
         fill 0 2
@@ -61,11 +57,10 @@ fn a_sync_writes_all_and_then_syncs(rt: HostRuntime) -> Result<(), Fail> {
         calls -> 4
         sync
         calls -> 5";
-    plays(&rt, &mut disk, row);
     let below = "
         dirty 0 1 2 3 -> no no no no
         holds 0 1 2 3 -> 2 0 3 1";
-    plays(&rt, &mut disk.into_inner().into_inner(), below);
+    on_a_late_disk(&rt, fuse, 3, row, below);
     Ok(())
 }
 
@@ -97,9 +92,7 @@ fn what_waits_outlives_a_write_that_fails_below(rt: HostRuntime) -> Result<(), F
         (5, in_the_sync),
     ] {
         let fuse = FuseDisk::once(memory(rt.alloc(), 4)?, fails, [99; 4096]);
-        let mut disk = late(rt.alloc(), fuse, 2)?;
-        plays(&rt, &mut disk, row);
-        plays(&rt, &mut disk.into_inner().into_inner(), below);
+        on_a_late_disk(&rt, fuse, 2, row, below);
     }
     Ok(())
 }
@@ -107,7 +100,6 @@ fn what_waits_outlives_a_write_that_fails_below(rt: HostRuntime) -> Result<(), F
 #[test]
 fn a_fault_below_is_answered_where_it_is_met(rt: HostRuntime) -> Result<(), Fail> {
     let fuse = FuseDisk::stop(memory(rt.alloc(), 4)?, 0, [99; 4096]);
-    let mut disk = late(rt.alloc(), fuse, 2)?;
     let row = "
         fill 0 1
         fill 1 2
@@ -115,7 +107,7 @@ fn a_fault_below_is_answered_where_it_is_met(rt: HostRuntime) -> Result<(), Fail
         sync -> fault
         holds 3 -> fault
         holds 0 1 -> 1 2";
-    plays(&rt, &mut disk, row);
+    on_a_late_disk(&rt, fuse, 2, row, "");
     Ok(())
 }
 
@@ -138,7 +130,6 @@ fn a_crash_below_loses_what_waits_alone(rt: HostRuntime) -> Result<(), Fail> {
 
 #[test]
 fn a_late_disk_grows_with_the_one_below(rt: HostRuntime) -> Result<(), Fail> {
-    let mut disk = late(rt.alloc(), memory_with_room(rt.alloc(), 2, 4)?, 2)?;
     let row = "
         fill 1 7
         grow 4
@@ -149,14 +140,13 @@ fn a_late_disk_grows_with_the_one_below(rt: HostRuntime) -> Result<(), Fail> {
         grow 5 -> fault
         sync
         sure -> 4";
-    plays(&rt, &mut disk, row);
+    on_a_late_disk(&rt, memory_with_room(rt.alloc(), 2, 4)?, 2, row, "");
     Ok(())
 }
 
 #[test]
 fn a_forgotten_block_is_never_written(rt: HostRuntime) -> Result<(), Fail> {
     let fuse = FuseDisk::once(memory(rt.alloc(), 4)?, 99, [0; 4096]);
-    let mut disk = late(rt.alloc(), fuse, 2)?;
     let row = "
         fill 0 1
         fill 1 2
@@ -168,14 +158,13 @@ fn a_forgotten_block_is_never_written(rt: HostRuntime) -> Result<(), Fail> {
         calls -> 3
         is 0 1 -> no
         holds 1 2 3 -> 2 3 0";
-    plays(&rt, &mut disk, row);
+    on_a_late_disk(&rt, fuse, 2, row, "");
     Ok(())
 }
 
 #[test]
 fn a_forgotten_block_takes_no_place_in_a_cache_below(rt: HostRuntime) -> Result<(), Fail> {
     let fuse = FuseDisk::once(memory(rt.alloc(), 8)?, 99, [0; 4096]);
-    let mut disk = late(rt.alloc(), cached(rt.alloc(), fuse, 2)?, 2)?;
     let row = "
         holds 5 6 -> 0 0
         calls -> 2
@@ -191,14 +180,13 @@ fn a_forgotten_block_takes_no_place_in_a_cache_below(rt: HostRuntime) -> Result<
         calls -> 4
         holds 5 -> 0
         calls -> 5";
-    plays(&rt, &mut disk, row);
+    on_a_late_disk(&rt, cached(rt.alloc(), fuse, 2)?, 2, row, "");
     Ok(())
 }
 
 #[test]
 fn what_was_written_out_stays_in_a_cache_below(rt: HostRuntime) -> Result<(), Fail> {
     let fuse = FuseDisk::once(memory(rt.alloc(), 8)?, 99, [0; 4096]);
-    let mut disk = late(rt.alloc(), cached(rt.alloc(), fuse, 2)?, 2)?;
     let row = "
         fill 2 3
         fill 3 4
@@ -209,10 +197,9 @@ fn what_was_written_out_stays_in_a_cache_below(rt: HostRuntime) -> Result<(), Fa
         calls -> 3
         holds 2 3 -> 5 4
         calls -> 3";
-    plays(&rt, &mut disk, row);
     let below = "
         dirty 2 3 -> no no
         holds 2 3 -> 5 4";
-    plays(&rt, &mut disk.into_inner().into_inner().into_inner(), below);
+    on_a_late_disk(&rt, cached(rt.alloc(), fuse, 2)?, 2, row, below);
     Ok(())
 }

@@ -3,6 +3,7 @@ use super::script::plays;
 use std::alloc::{AllocError, Global};
 use std::fs;
 use std::marker::Brand;
+use std::process::Abort;
 use std::test::Fail;
 use vm_disk::{DeviceFault, FileDisk, History, Positional, SystemFile};
 
@@ -122,33 +123,38 @@ fn over_numbered(alloc: Global, count: usize) -> Result<FileDisk<Bytes>, Fail> {
     FileDisk::open(numbered(alloc, count)?).map_err(|_| Fail::new("no disk"))
 }
 
+// Plays a text on the disk over such a file, and gives what the file holds then.
+fn on_numbered<R: AllocGlobal + Abort>(rt: &R, count: usize, text: &str) -> Vec<u8> {
+    match over_numbered(rt.alloc(), count) {
+        Ok(mut disk) => {
+            plays(rt, &mut disk, text);
+            disk.into_file().bytes
+        }
+        Err(_) => panic!(rt; "no disk"),
+    }
+}
+
 #[test]
-fn file_reads_and_writes_at_its_offsets(rt: HostRuntime) -> Result<(), Fail> {
-    let mut disk = over_numbered(rt.alloc(), 12298)?;
+fn file_reads_and_writes_at_its_offsets(rt: HostRuntime) {
     let row = "
         blocks -> 3
         holds 0 1 2 -> 1 2 3
         fill 1 7
         sync
         holds 1 -> 7";
-    plays(&rt, &mut disk, row);
-    let file = disk.into_file();
+    let bytes = on_numbered(&rt, 12298, row);
     for (at, byte) in [(4095, 1), (4096, 7), (8191, 7), (8192, 3), (12297, 4)] {
-        assert_eq!(rt; file.bytes.get(at).copied(), Some(byte), "byte {at}");
+        assert_eq!(rt; bytes.get(at).copied(), Some(byte), "byte {at}");
     }
-    assert_eq!(rt; file.bytes.len(), 12298);
-    Ok(())
+    assert_eq!(rt; bytes.len(), 12298);
 }
 
 #[test]
-fn file_writes_blocks_in_a_row_at_their_offsets(rt: HostRuntime) -> Result<(), Fail> {
-    let mut disk = over_numbered(rt.alloc(), 5 * 4096)?;
+fn file_writes_blocks_in_a_row_at_their_offsets(rt: HostRuntime) {
     let row = "
         run 1 7 8 9
         holds 0 1 2 3 4 -> 1 7 8 9 5";
-    plays(&rt, &mut disk, row);
-    assert_eq!(rt; disk.into_file().bytes.len(), 5 * 4096);
-    Ok(())
+    assert_eq!(rt; on_numbered(&rt, 5 * 4096, row).len(), 5 * 4096);
 }
 
 #[test]
@@ -164,16 +170,13 @@ fn file_is_made_of_zero_blocks(rt: HostRuntime) -> Result<(), Fail> {
 }
 
 #[test]
-fn file_gets_longer(rt: HostRuntime) -> Result<(), Fail> {
-    let mut disk = over_numbered(rt.alloc(), 12298)?;
+fn file_gets_longer(rt: HostRuntime) {
     let row = "
         grow 20
         blocks -> 20
         fill 19 7
         holds 0 2 3 18 19 -> 1 3 0 0 7";
-    plays(&rt, &mut disk, row);
-    assert_eq!(rt; disk.into_file().bytes.len(), 81920);
-    Ok(())
+    assert_eq!(rt; on_numbered(&rt, 12298, row).len(), 81920);
 }
 
 #[test]

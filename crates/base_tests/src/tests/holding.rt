@@ -97,6 +97,16 @@ fn extended(rt: &impl Abort, held: &Held, alloc: Global, blocks: u32) -> Result<
     held.extended(alloc, blocks)
 }
 
+// Of so many blocks those from 36 on are free.
+fn expect_free_from_36(rt: &impl Abort, held: &mut Held, blocks: u32) {
+    assert_eq!(rt; held.blocks(), blocks, "of {blocks}");
+    assert_eq!(rt; held.free_count(), blocks.saturating_sub(36), "of {blocks}");
+    assert!(rt; is_held(rt, held, 35), "of {blocks}");
+    assert!(rt; !is_held(rt, held, 36), "of {blocks}");
+    assert!(rt; !is_held(rt, held, blocks.saturating_sub(1)), "of {blocks}");
+    take(rt, held, 36);
+}
+
 #[test]
 fn extends_within_a_word_and_past_it(rt: HostRuntime) -> Result<(), Fail> {
     let mut held = Held::new(rt.alloc(), 70)?;
@@ -104,12 +114,7 @@ fn extends_within_a_word_and_past_it(rt: HostRuntime) -> Result<(), Fail> {
     take(&rt, &mut held, 35);
     for blocks in [70, 71, 128, 129, 1000] {
         let mut longer = extended(&rt, &held, rt.alloc(), blocks)?;
-        assert_eq!(rt; longer.blocks(), blocks);
-        assert_eq!(rt; longer.free_count(), blocks - 36);
-        assert!(rt; is_held(&rt, &longer, 35));
-        assert!(rt; !is_held(&rt, &longer, 36));
-        assert!(rt; !is_held(&rt, &longer, blocks - 1));
-        take(&rt, &mut longer, 36);
+        expect_free_from_36(&rt, &mut longer, blocks);
     }
     assert_eq!(rt; held.blocks(), 70);
     assert_eq!(rt; held.free_count(), 34);

@@ -1,8 +1,9 @@
 //! Packed lists of changes and of conflicts, as they are filled and read.
 use super::spelled::key;
 use std::alloc::{AllocError, Global};
+use std::process::Abort;
 use std::test::Fail;
-use vm_types::{Change, Changes, Conflict, Conflicts, Value};
+use vm_types::{Change, Changes, Conflict, Conflicts, Key, Value};
 
 const LONG: [u8; 240] = [7; 240];
 
@@ -24,104 +25,146 @@ fn some_conflicts(alloc: Global) -> Result<Conflicts, AllocError> {
     Ok(conflicts)
 }
 
-#[test]
-fn new_lists_are_empty(rt: HostRuntime) -> Result<(), Fail> {
-    let changes = Changes::new(rt.alloc());
+// The change of these values.
+fn change(key: Key, before: Option<&[u8]>, after: Option<&[u8]>) -> Change {
+    Change {
+        key,
+        before: before.and_then(Value::new),
+        after: after.and_then(Value::new),
+    }
+}
+
+// What the list of changes is to have.
+fn due_changes() -> [Change; 4] {
+    [
+        change(key(1, 9), None, Some(b"duct")),
+        change(key(1, 10), Some(&LONG), Some(b"pipe")),
+        change(key(2, 0), Some(b"duct"), None),
+        change(key(2, 3), Some(b""), Some(b"x")),
+    ]
+}
+
+// The conflict of these values.
+fn conflict(key: Key, base: Option<&[u8]>, parent: Option<&[u8]>, mine: Option<&[u8]>) -> Conflict {
+    Conflict {
+        key,
+        base: base.and_then(Value::new),
+        parent: parent.and_then(Value::new),
+        mine: mine.and_then(Value::new),
+    }
+}
+
+// What the list of conflicts is to have.
+fn due_conflicts() -> [Conflict; 2] {
+    [
+        conflict(key(1, 9), Some(b"a"), Some(&LONG), None),
+        conflict(key(2, 0), None, Some(b"b"), Some(b"")),
+    ]
+}
+
+fn expect_no_changes(rt: &impl Abort, changes: &Changes) {
     assert!(rt; changes.is_empty());
     assert_eq!(rt; changes.len(), 0);
     assert!(rt; changes.at(0).is_none());
-    let conflicts = Conflicts::new(rt.alloc());
+}
+
+fn expect_no_conflicts(rt: &impl Abort, conflicts: &Conflicts) {
     assert!(rt; conflicts.is_empty());
     assert_eq!(rt; conflicts.len(), 0);
-    assert!(rt; conflicts.to_vec(rt.alloc())?.is_empty());
+    assert!(rt; conflicts.at(0).is_none());
+}
+
+#[test]
+fn new_lists_are_empty(rt: HostRuntime) -> Result<(), Fail> {
+    expect_no_changes(&rt, &Changes::new(rt.alloc()));
+    expect_no_conflicts(&rt, &Conflicts::new(rt.alloc()));
+    assert!(rt; Conflicts::new(rt.alloc()).to_vec(rt.alloc())?.is_empty());
     Ok(())
+}
+
+// The change at i is this one, by its parts and whole.
+fn expect_change(rt: &impl Abort, changes: &Changes, i: usize, due: Change) {
+    assert!(rt; i < changes.len(), "no change {i}");
+    let given = change(changes.key(i), changes.before(i), changes.after(i));
+    assert!(rt; given == due, "change {i}");
+    assert!(rt; changes.at(i) == Some(due), "change {i}, whole");
 }
 
 #[test]
 fn changes_are_given_in_the_order_of_the_pushes(rt: HostRuntime) -> Result<(), Fail> {
     let changes = some_changes(rt.alloc())?;
+    for (i, due) in due_changes().iter().enumerate() {
+        expect_change(&rt, &changes, i, *due);
+    }
     assert_eq!(rt; changes.len(), 4);
-    assert_eq!(rt; changes.key(1), key(1, 10));
-    assert!(rt; changes.before(0).is_none());
-    assert!(rt; changes.before(1).unwrap_or(b"") == LONG.as_slice());
-    assert!(rt; changes.after(1).unwrap_or(b"") == b"pipe".as_slice());
-    assert!(rt; changes.after(2).is_none());
-    assert!(rt; changes.before(3).unwrap_or(b"x") == b"".as_slice());
     assert!(rt; changes.at(4).is_none());
     Ok(())
 }
 
-#[test]
-fn changes_are_walked_in_order(rt: HostRuntime) -> Result<(), Fail> {
-    let mut lengths = [(0, 0); 4];
+// How many changes are walked until one is another than is due.
+fn walked_changes(changes: &Changes, due: &[Change]) -> usize {
     let mut walked = 0;
-    for (key, before, after) in &some_changes(rt.alloc())? {
-        assert!(rt; walked < 4);
-        assert_eq!(rt; key.table, if walked < 2 { 1 } else { 2 });
-        lengths[walked] = (before.map_or(9, |v| v.len()), after.map_or(9, |v| v.len()));
+    for (key, before, after) in changes {
+        if due.get(walked).copied() != Some(change(key, before, after)) {
+            return walked;
+        }
         walked += 1;
     }
-    assert_eq!(rt; walked, 4);
-    assert_eq!(rt; lengths, [(9, 4), (240, 4), (4, 9), (0, 1)]);
+    walked
+}
+
+#[test]
+fn changes_are_walked_in_order(rt: HostRuntime) -> Result<(), Fail> {
+    let changes = some_changes(rt.alloc())?;
+    assert_eq!(rt; walked_changes(&changes, &due_changes()), 4);
+    assert_eq!(rt; changes.len(), 4);
     Ok(())
 }
 
 #[test]
 fn changes_are_the_same_in_a_vec(rt: HostRuntime) -> Result<(), Fail> {
     let list = some_changes(rt.alloc())?.to_vec(rt.alloc())?;
-    assert_eq!(rt; list.len(), 4);
-    let changed = Change {
-        key: key(1, 10),
-        before: Value::new(&LONG),
-        after: Value::new(b"pipe"),
-    };
-    assert!(rt; list[1] == changed);
-    let removed = Change {
-        key: key(2, 0),
-        before: Value::new(b"duct"),
-        after: None,
-    };
-    assert!(rt; list[2] == removed);
+    assert!(rt; list.as_slice() == due_changes().as_slice());
     Ok(())
+}
+
+// The conflict at i is this one, by its parts and whole.
+fn expect_conflict(rt: &impl Abort, conflicts: &Conflicts, i: usize, due: Conflict) {
+    assert!(rt; i < conflicts.len(), "no conflict {i}");
+    let (base, parent) = (conflicts.base(i), conflicts.parent(i));
+    let given = conflict(conflicts.key(i), base, parent, conflicts.mine(i));
+    assert!(rt; given == due, "conflict {i}");
+    assert!(rt; conflicts.at(i) == Some(due), "conflict {i}, whole");
 }
 
 #[test]
 fn conflicts_are_given_in_the_order_of_the_pushes(rt: HostRuntime) -> Result<(), Fail> {
     let conflicts = some_conflicts(rt.alloc())?;
+    for (i, due) in due_conflicts().iter().enumerate() {
+        expect_conflict(&rt, &conflicts, i, *due);
+    }
     assert_eq!(rt; conflicts.len(), 2);
-    assert_eq!(rt; conflicts.key(1), key(2, 0));
-    assert!(rt; conflicts.base(0).unwrap_or(b"") == b"a".as_slice());
-    assert!(rt; conflicts.parent(0).unwrap_or(b"") == LONG.as_slice());
-    assert!(rt; conflicts.mine(0).is_none());
-    assert!(rt; conflicts.base(1).is_none());
-    assert!(rt; conflicts.mine(1).unwrap_or(b"x") == b"".as_slice());
-    let second = Conflict {
-        key: key(2, 0),
-        base: None,
-        parent: Value::new(b"b"),
-        mine: Some(Value::default()),
-    };
-    assert!(rt; conflicts.at(1) == Some(second));
     assert!(rt; conflicts.at(2).is_none());
     Ok(())
+}
+
+// How many conflicts are walked until one is another than is due.
+fn walked_conflicts(conflicts: &Conflicts, due: &[Conflict]) -> usize {
+    let mut walked = 0;
+    for (key, base, parent, mine) in conflicts {
+        if due.get(walked).copied() != Some(conflict(key, base, parent, mine)) {
+            return walked;
+        }
+        walked += 1;
+    }
+    walked
 }
 
 #[test]
 fn conflicts_are_walked_in_order_and_the_same_in_a_vec(rt: HostRuntime) -> Result<(), Fail> {
     let conflicts = some_conflicts(rt.alloc())?;
-    let list = conflicts.to_vec(rt.alloc())?;
-    let mut walked = 0;
-    for (key, base, parent, mine) in &conflicts {
-        let whole = Conflict {
-            key,
-            base: base.and_then(Value::new),
-            parent: parent.and_then(Value::new),
-            mine: mine.and_then(Value::new),
-        };
-        assert!(rt; walked < list.len());
-        assert!(rt; list[walked] == whole);
-        walked += 1;
-    }
-    assert_eq!(rt; walked, 2);
+    assert_eq!(rt; walked_conflicts(&conflicts, &due_conflicts()), 2);
+    assert_eq!(rt; conflicts.len(), 2);
+    assert!(rt; conflicts.to_vec(rt.alloc())?.as_slice() == due_conflicts().as_slice());
     Ok(())
 }

@@ -1,6 +1,7 @@
 //! Packed lists of records, as they are filled and read.
 use super::spelled::key;
 use std::alloc::{AllocError, Global};
+use std::process::Abort;
 use std::test::Fail;
 use vm_types::{Key, Records, Value};
 
@@ -14,14 +15,40 @@ fn some_records(alloc: Global) -> Result<Records, AllocError> {
     Ok(records)
 }
 
-#[test]
-fn new_list_is_empty(rt: HostRuntime) -> Result<(), Fail> {
-    let records = Records::new(rt.alloc());
+// The record of these bytes.
+fn record(key: Key, bytes: &[u8]) -> (Key, Value) {
+    (key, Value::new(bytes).unwrap_or_default())
+}
+
+// What the list is to have.
+fn due_records() -> [(Key, Value); 4] {
+    [
+        record(key(1, 9), b""),
+        record(key(1, 10), &[7; 240]),
+        record(key(2, 0), b"duct"),
+        record(key(2, 3), b""),
+    ]
+}
+
+fn expect_no_records(rt: &impl Abort, records: &Records) {
     assert!(rt; records.is_empty());
     assert_eq!(rt; records.len(), 0);
     assert!(rt; records.at(0).is_none());
-    assert!(rt; records.to_vec(rt.alloc())?.is_empty());
+}
+
+#[test]
+fn new_list_is_empty(rt: HostRuntime) -> Result<(), Fail> {
+    expect_no_records(&rt, &Records::new(rt.alloc()));
+    assert!(rt; Records::new(rt.alloc()).to_vec(rt.alloc())?.is_empty());
     Ok(())
+}
+
+// The record at i is this one, by its parts and whole.
+fn expect_record(rt: &impl Abort, records: &Records, i: usize, due: (Key, Value)) {
+    assert!(rt; i < records.len(), "no record {i}");
+    assert_eq!(rt; records.key(i), due.0, "record {i}");
+    assert!(rt; records.value(i) == due.1.as_bytes(), "record {i}");
+    assert!(rt; records.at(i) == Some(due), "record {i}, whole");
 }
 
 #[test]
@@ -30,48 +57,44 @@ fn list_of_an_empty_value_is_not_empty(rt: HostRuntime) -> Result<(), Fail> {
     records.push(key(0, 0), b"")?;
     assert!(rt; !records.is_empty());
     assert_eq!(rt; records.len(), 1);
-    assert!(rt; records.at(0) == Some((key(0, 0), Value::default())));
+    expect_record(&rt, &records, 0, record(key(0, 0), b""));
     Ok(())
 }
 
 #[test]
 fn records_are_given_in_the_order_of_the_pushes(rt: HostRuntime) -> Result<(), Fail> {
     let records = some_records(rt.alloc())?;
+    for (i, due) in due_records().iter().enumerate() {
+        expect_record(&rt, &records, i, *due);
+    }
     assert_eq!(rt; records.len(), 4);
-    assert_eq!(rt; records.key(1), key(1, 10));
-    assert!(rt; records.value(1) == [7; 240].as_slice());
-    assert!(rt; records.value(2) == b"duct".as_slice());
-    assert!(rt; records.value(3) == b"".as_slice());
     assert!(rt; records.at(4).is_none());
     Ok(())
 }
 
-#[test]
-fn list_is_walked_in_order(rt: HostRuntime) -> Result<(), Fail> {
-    let mut lengths = [0; 4];
+// How many records are walked until one is another than is due.
+fn walked(records: &Records, due: &[(Key, Value)]) -> usize {
     let mut walked = 0;
-    for (key, value) in &some_records(rt.alloc())? {
-        assert!(rt; walked < 4);
-        assert_eq!(rt; key.table, if walked < 2 { 1 } else { 2 });
-        lengths[walked] = value.len();
+    for (key, value) in records {
+        if due.get(walked).copied() != Some(record(key, value)) {
+            return walked;
+        }
         walked += 1;
     }
-    assert_eq!(rt; walked, 4);
-    assert_eq!(rt; lengths, [0, 240, 4, 0]);
+    walked
+}
+
+#[test]
+fn list_is_walked_in_order(rt: HostRuntime) -> Result<(), Fail> {
+    let records = some_records(rt.alloc())?;
+    assert_eq!(rt; walked(&records, &due_records()), 4);
+    assert_eq!(rt; records.len(), 4);
     Ok(())
 }
 
 #[test]
 fn list_is_the_same_in_a_vec(rt: HostRuntime) -> Result<(), Fail> {
-    let duct = Value::new(b"duct").ok_or("refused")?;
-    let long = Value::new(&[7; 240]).ok_or("refused")?;
-    let due: [(Key, Value); 4] = [
-        (key(1, 9), Value::default()),
-        (key(1, 10), long),
-        (key(2, 0), duct),
-        (key(2, 3), Value::default()),
-    ];
-    let records = some_records(rt.alloc())?;
-    assert!(rt; records.to_vec(rt.alloc())?.as_slice() == due.as_slice());
+    let list = some_records(rt.alloc())?.to_vec(rt.alloc())?;
+    assert!(rt; list.as_slice() == due_records().as_slice());
     Ok(())
 }

@@ -17,7 +17,7 @@
 //! | `dirty 1 2` | `no yes`: which blocks of that disk are not synced |
 //! | `calls` | `5`: how many calls the fuse over it has had |
 //! | `blown` | `no`: whether the fuse has failed one of them |
-use super::seen::Seen;
+use super::seen::{OverMemory, Seen, cached, late};
 use std::alloc::{AllocError, Global};
 use std::fmt;
 use std::process::Abort;
@@ -181,21 +181,20 @@ fn look<D: Seen>(disk: &mut D, words: &[&str], text: &mut String) -> Result<(), 
     }
 }
 
-// What a step is answered.
-fn answer<D: Seen>(alloc: Global, disk: &mut D, words: &[&str]) -> Result<String, Wrong> {
+// Adds what a step is answered to a text.
+fn answer<D: Seen>(disk: &mut D, words: &[&str], text: &mut String) -> Result<(), Wrong> {
     if change(disk, words)? {
-        return Ok(String::from_str(alloc, "ok")?);
+        text.push_str("ok")?;
+        return Ok(());
     }
-    let mut text = String::new(alloc);
-    look(disk, words, &mut text)?;
-    Ok(text)
+    look(disk, words, text)
 }
 
-// Plays a step. Its answer.
-fn play<D: Seen>(alloc: Global, disk: &mut D, step: &str) -> Result<String, Wrong> {
+// Plays a step. Its answer comes into the text.
+fn play<D: Seen>(alloc: Global, disk: &mut D, step: &str, text: &mut String) -> Result<(), Wrong> {
     let words: Vec<&str> = step.split_whitespace().collect(alloc)?;
-    match answer(alloc, disk, &words) {
-        Err(Wrong::Device) => Ok(String::from_str(alloc, "fault")?),
+    match answer(disk, &words, text) {
+        Err(Wrong::Device) => Ok(text.push_str("fault")?),
         other => other,
     }
 }
@@ -208,9 +207,44 @@ pub(super) fn plays<D: Seen, R: AllocGlobal + Abort>(rt: &R, disk: &mut D, text:
             continue;
         }
         let (step, due) = line.split_once(" -> ").unwrap_or((line, "ok"));
-        match play(rt.alloc(), disk, step) {
-            Ok(given) => assert_eq!(rt; given.trim(), due.trim(), "line {n}: {line}"),
+        let mut text = String::new(rt.alloc());
+        match play(rt.alloc(), disk, step, &mut text) {
+            Ok(()) => assert_eq!(rt; text.trim(), due.trim(), "line {n}: {line}"),
             Err(wrong) => panic!(rt; "line {n}: {line}: {wrong:?}"),
         }
+    }
+}
+
+/// Plays a text on a cache of a disk, and then one on the disk in memory below.
+pub(super) fn on_a_cache<D: OverMemory, R: AllocGlobal + Abort>(
+    rt: &R,
+    inner: D,
+    capacity: usize,
+    text: &str,
+    below: &str,
+) {
+    match cached(rt.alloc(), inner, capacity) {
+        Ok(mut disk) => {
+            plays(rt, &mut disk, text);
+            plays(rt, &mut disk.into_inner().below(), below);
+        }
+        Err(_) => panic!(rt; "no cache"),
+    }
+}
+
+/// The same on a late disk over it.
+pub(super) fn on_a_late_disk<D: OverMemory, R: AllocGlobal + Abort>(
+    rt: &R,
+    inner: D,
+    capacity: usize,
+    text: &str,
+    below: &str,
+) {
+    match late(rt.alloc(), inner, capacity) {
+        Ok(mut disk) => {
+            plays(rt, &mut disk, text);
+            plays(rt, &mut disk.into_inner().below(), below);
+        }
+        Err(_) => panic!(rt; "no late disk"),
     }
 }

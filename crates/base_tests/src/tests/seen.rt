@@ -62,6 +62,30 @@ impl<F: Positional> Seen for FileDisk<F> {
     }
 }
 
+/// A disk that has one in memory below it, to be played on alone.
+pub(super) trait OverMemory: Seen + Drop + Sized {
+    /// The disk in memory.
+    fn below(self) -> MemDisk;
+}
+
+impl OverMemory for MemDisk {
+    fn below(self) -> MemDisk {
+        self
+    }
+}
+
+impl OverMemory for FuseDisk<MemDisk> {
+    fn below(self) -> MemDisk {
+        self.into_inner()
+    }
+}
+
+impl OverMemory for CachedDisk<FuseDisk<MemDisk>> {
+    fn below(self) -> MemDisk {
+        self.into_inner().into_inner()
+    }
+}
+
 /// A disk in memory of so many blocks.
 pub(super) fn memory(alloc: Global, blocks: u32) -> Result<MemDisk, Fail> {
     Ok(MemDisk::new(alloc, blocks)?)
