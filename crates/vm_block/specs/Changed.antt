@@ -1,7 +1,11 @@
--- The bytes of a block with one child or one record put in them.
-use Rattle.std.specs.Prelude.{◌≡◌, ℕ, ◌+◌, ◌<◌, ◌≤◌, List, ◌∷◌, ◌++◌, length, take, drop}
-use Rattle.vm_types.specs.Places.{with_record}
-use Rattle.vm_block.specs.Leaf.{Record, RecordFits, IsLeaf, leaf_bytes}
+-- The bytes of a block with one child or one row put in them, or taken out.
+use Rattle.std.specs.Prelude.{◌≡◌, ◌≢◌, ℕ, ◌+◌, ◌-◌, ◌*◌, ◌/◌, ◌<◌, ◌≤◌, List, ◌∷◌, ◌++◌, length, take, drop, map, None}
+use Rattle.std.specs.List.{AllByRecursion, flat_map}
+use Rattle.vm_types.specs.declared.key.Key.{Key}
+use Rattle.vm_types.specs.Places.{KeyFits, value_at, with_record}
+use Rattle.vm_block.specs.Padding.{zeros}
+use Rattle.vm_block.specs.Leaf.{Record, Row, RecordFits, RowFits, IsLeaf, HasRows, StoredFits, leaf_bytes, record_bytes, stored_bytes}
+use Rattle.vm_block.specs.declared.stored.Stored.{Stored}
 use Rattle.vm_block.specs.Node.{IsNode, node_bytes}
 use Rattle.vm_block.specs.declared.node.Child.{Child}
 use Rattle.vm_block.specs.declared.changing.Placed.{Placed}
@@ -19,13 +23,29 @@ with_before i x xs = take i xs ++ x ∷ drop i xs
 abbrev pub SetsChild : ℕ → Child → List ℕ → List ℕ → Type 0
 SetsChild i child old new = (level : ℕ) (cs : List Child) → IsNode old level cs → i < length cs → new ≡ node_bytes level (with_at i child cs)
 
--- a leaf that has a record at i has this one there
-abbrev pub SetsRecord : ℕ → Record → List ℕ → List ℕ → Type 0
-SetsRecord i r old new = (rs : List Record) → IsLeaf old rs → i < length rs → RecordFits r → new ≡ leaf_bytes (with_at i r rs)
+-- a list without what stands at i
+abbrev pub leave_out : {X : Type 0} → ℕ → List X → List X
+leave_out i xs = take i xs ++ drop (i + 1) xs
 
--- a leaf of so many records has this one more, before what stood at i
-abbrev pub InsertsRecord : ℕ → ℕ → Record → List ℕ → List ℕ → Type 0
-InsertsRecord count i r old new = (rs : List Record) → IsLeaf old rs → count ≡ length rs → RecordFits r → new ≡ leaf_bytes (with_before i r rs)
+-- behind the sixteen bytes of a head these rows stand, and zero bytes
+abbrev pub HasBody : List ℕ → List Row → Type 0
+HasBody bytes ws = drop 16 bytes ≡ flat_map record_bytes ws ++ zeros (4096 - (16 + 252 * length ws))
+
+-- where so many rows stand behind a head, it is made that of their leaf
+abbrev pub Seals : ℕ → List ℕ → List ℕ → Type 0
+Seals count old new = (ws : List Row) → HasBody old ws → AllByRecursion RowFits ws → count ≡ length ws → new ≡ leaf_bytes ws
+
+-- a leaf of so many rows that has one at i has this one there
+abbrev pub SetsRow : ℕ → ℕ → Row → List ℕ → List ℕ → Type 0
+SetsRow count i w old new = (ws : List Row) → HasRows old ws → count ≡ length ws → i < length ws → RowFits w → new ≡ leaf_bytes (with_at i w ws)
+
+-- a leaf of so many rows has this one more, before what stood at i
+abbrev pub InsertsRow : ℕ → ℕ → Row → List ℕ → List ℕ → Type 0
+InsertsRow count i w old new = (ws : List Row) → HasRows old ws → count ≡ length ws → RowFits w → new ≡ leaf_bytes (with_before i w ws)
+
+-- a leaf of so many rows lacks the one at i
+abbrev pub TakesOut : ℕ → ℕ → List ℕ → List ℕ → Type 0
+TakesOut count i old new = (ws : List Row) → HasRows old ws → count ≡ length ws → i < length ws → new ≡ leaf_bytes (leave_out i ws)
 
 -- what a record that was to be put in a leaf of these records leaves of its bytes
 abbrev pub IsAfterPut : Placed → ℕ → Record → List Record → List ℕ → List ℕ → Type 0
@@ -36,3 +56,15 @@ IsAfterPut NoLeaf most r rs old new = ⊥
 -- what it leaves of a leaf of so many records at most
 abbrev pub PutsRecord : Placed → ℕ → Record → List ℕ → List ℕ → Type 0
 PutsRecord placed most r old new = (rs : List Record) → IsLeaf old rs → length rs ≤ most → IsAfterPut placed most r rs old new
+
+-- what it leaves of a leaf of so many rows at most
+abbrev pub PutsRow : Placed → ℕ → Row → List ℕ → List ℕ → Type 0
+PutsRow placed most w old new = (ws : List Row) → HasRows old ws → length ws ≤ most → IsAfterPut placed most w ws old new
+
+-- a row of a key and of what is stored
+abbrev pub row_of : Key × Stored → Row
+row_of pair = (pair.0, stored_bytes pair.1)
+
+-- each key fits, and what is stored of each is within its limits
+abbrev pub AreStored : List (Key × Stored) → Type 0
+AreStored pairs = AllByRecursion (λ pair. KeyFits pair.0 × StoredFits pair.1) pairs
