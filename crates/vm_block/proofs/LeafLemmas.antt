@@ -99,8 +99,8 @@ leaf_rows bytes ws k leaf enough =
     take_all k (drop 16 bytes) (omega (arith, length-drop 16 bytes, length-leaf bytes ws leaf)) ∙ (leaf_parts bytes ws leaf).behind
 
 -- the same bytes are one leaf
-pub leaf_one : (bytes : List ℕ) (ws vs : List Row) → HasRows bytes ws → HasRows bytes vs → ws ≡ vs
-leaf_one bytes ws vs a b =
+pub leaf_rows_one : (bytes : List ℕ) (ws vs : List Row) → HasRows bytes ws → HasRows bytes vs → ws ≡ vs
+leaf_rows_one bytes ws vs a b =
     let a_many = leaf_counted bytes ws (little_number 4 (take 4088 (drop 8 bytes))) 4088 a (omega (arith, length-leaf bytes ws a)) refl in
     let b_many = leaf_counted bytes vs (little_number 4 (take 4088 (drop 8 bytes))) 4088 b (omega (arith, length-leaf bytes ws a)) refl in
     let many : length ws ≡ length vs = sym a_many ∙ b_many in
@@ -177,3 +177,6 @@ rows_of bytes rs leaf = record { spelled = leaf.spelled; some = leaf.some; few =
 -- and the other way round
 pub leaf_of : (bytes : List ℕ) (ws : List Row) → HasRows bytes ws → AllByRecursion RecordFits ws → IsLeaf bytes ws
 leaf_of bytes ws leaf fit = record { spelled = leaf.spelled; some = leaf.some; few = leaf.few; fit = fit; rising = leaf.rising }
+
+pub leaf_one : (bytes : List ℕ) (rs qs : List Record) → IsLeaf bytes rs → IsLeaf bytes qs → rs ≡ qs
+leaf_one bytes rs qs a b = leaf_rows_one bytes rs qs (rows_of bytes rs a) (rows_of bytes qs b)

@@ -3,7 +3,7 @@ use Rattle.std.proofs.Common.{◌≡◌, ℕ, zero, suc, ◌+◌, ◌-◌, ◌*�
 use Rattle.std.specs.Str.{bytes_eq}
 use Rattle.std.proofs.lemmas.Slice.Eq.{bytes_eq-Decides}
 use Rattle.std.specs.Int.{byte_at, bytes_low_first}
-use Rattle.std.proofs.lemmas.List.{append-nil, take_at, drop_at, take_all, drop_all, drop-drop, drop-replicate, length-replicate, replicate_more, drop_more, take_more, same_from_push, take-append-drop, take-take, get_or-take, get_or-drop, get_or_past, length-take, length-take-le}
+use Rattle.std.proofs.lemmas.List.{append-nil, take_at, drop_at, take_all, drop_all, drop-drop, drop-replicate, length-replicate, replicate-append-replicate, replicate_more, drop_more, take_more, same_from_push, take-append-drop, take-take, get_or-take, get_or-drop, get_or_past, length-take, length-take-le}
 use Rattle.std.proofs.lemmas.Bool.{cases_lt, false≢true}
 use Rattle.std.proofs.lemmas.Nat.{le_or_l, le_or_r}
 use Rattle.std.specs.Int.Bits.{or_zero_l}
@@ -31,6 +31,10 @@ length-padded n bytes h = omega (arith, length-append bytes (zeros (n - length b
 pub drop-zeros : (k n : ℕ) → drop k (replicate n 0) ≡ zeros (n - k)
 unfolding zeros
 drop-zeros k n = drop-replicate k n 0
+
+pub zeros_join : (n m : ℕ) → zeros n ++ zeros m ≡ zeros (n + m)
+unfolding zeros
+zeros_join n m = replicate-append-replicate n m 0
 
 pub zeros_more : (n : ℕ) → zeros n ++ 0 ∷ [] ≡ zeros (n + 1)
 unfolding zeros

@@ -9,16 +9,16 @@ use Rattle.vm_types.specs.declared.key.Key.{Key}
 use Rattle.vm_types.specs.Places.{KeyFits, RisesFrom, place, places, value_at, with_record}
 use Rattle.vm_block.specs.declared.node.Child.{Child}
 use Rattle.vm_block.specs.Padding.{zeros, padded}
-use Rattle.vm_block.specs.Changed.{HasBody}
+use Rattle.vm_block.specs.Changed.{HasBody, without_place}
 use Rattle.vm_block.specs.Leaf.{Record, Row, BeginsWith, RowFits, HasRows, is_long, key_bytes, record_bytes, leaf_head}
 use Rattle.vm_block.specs.Node.{ChildFits, IsNode, lows, child_bytes, node_head, node_bytes}
 use Rattle.vm_block.specs.Way.{IsChosen, KeysStand, Lowest}
 use Rattle.vm_block.proofs.EachLemmas.{each_front, each_back, each_join}
 use Rattle.vm_block.proofs.LeafLemmas.{length-leaf, length-leaf_head, leaf_parts, leaf_whole}
 use Rattle.vm_block.proofs.NodeLemmas.{length-child, length-children, length-node, length-node_head, child_one, node_parts, node_whole}
-use Rattle.vm_block.proofs.Pieces.{length-zeros, zeros_are, drop-zeros}
+use Rattle.vm_block.proofs.Pieces.{length-zeros, zeros_are, zeros_join, drop-zeros}
 use Rattle.vm_block.proofs.RecordLemmas.{key_one, length-row, record_key, row_one}
-use Rattle.vm_block.proofs.Rows.{piece_at, row_set, row_insert}
+use Rattle.vm_block.proofs.Rows.{piece_at, row_set, row_insert, row_remove}
 use borrow.Rule.Slice.PartMut.{put_mid, mid_of}
 
 -- keys of one spelling are one
@@ -166,6 +166,32 @@ row_before old moved new ws i w k m leaf le few fits moving reach far wrote =
     ∙ drop_at head (flat_map record_bytes now ++ rest) 16 lh
     ∙ ap (λ x. flat_map record_bytes now ++ x) cleared
 
+-- one row taken out, and zero bytes written where the last one stood
+pub row_out : (old moved new : List ℕ) (ws : List Row) (i m e k : ℕ) → HasRows old ws → i < length ws → moved ≡ paste old (16 + 252 * i) (drop (16 + 252 * (i + 1)) old) m → m ≡ 252 * (length ws - (i + 1)) → length moved ≡ 4096 → e ≡ 16 + 252 * (length ws - 1) → k ≡ 252
+    → new ≡ zeros (length (mid_of e k moved)) → HasBody (put_mid e k moved new) (take i ws ++ drop (i + 1) ws)
+row_out old moved new ws i m e k leaf lt moving reach long end size cleared =
+    let now = take i ws ++ drop (i + 1) ws in
+    let head = leaf_head (list_any is_long ws) (length ws) in
+    let lh = length-leaf_head (list_any is_long ws) (length ws) in
+    let z = 4096 - (16 + 252 * length ws) in
+    let many : length now ≡ length ws - 1 = omega (arith, lt, length-append (take i ws) (drop (i + 1) ws), length-take-le i ws (omega (arith, lt)), length-drop (i + 1) ws) in
+    let count : m ≡ 252 * length (drop (i + 1) ws) = omega (arith, reach, length-drop (i + 1) ws) in
+    let wide : length (mid_of e k moved) ≡ 252 = ap (λ n. length (mid_of e n moved)) size ∙ length-take-le 252 (drop e moved) (omega (arith, length-drop e moved, long, end, leaf.few, lt)) in
+    let both : new ++ zeros z ≡ zeros (4096 - (16 + 252 * length now)) = ap (λ x. x ++ zeros z) (cleared ∙ ap zeros wide) ∙ zeros_join 252 z ∙ ap zeros (omega (arith, many, lt, leaf.few)) in
+    ap (λ n. drop 16 (put_mid e n moved new)) size
+    ∙ ap (λ x. drop 16 (put_mid e 252 x new)) moving
+    ∙ ap (drop 16) (row_remove record_bytes RowFits 252 length-row ws i 16 old head (zeros z) new m e leaf.fit lt lh (leaf_whole old ws leaf) count (omega (arith, end, reach, lt)))
+    ∙ drop_at head (flat_map record_bytes now ++ (new ++ zeros z)) 16 lh
+    ∙ ap (λ x. flat_map record_bytes now ++ x) both
+
+pub out_fit : (ws : List Row) (i : ℕ) → AllByRecursion RowFits ws → AllByRecursion RowFits (take i ws ++ drop (i + 1) ws)
+out_fit ws i all =
+    let cut = λ (n : ℕ). subst (AllByRecursion RowFits) (sym (take-append-drop n ws)) all in
+    each_join RowFits (take i ws) (drop (i + 1) ws) (each_front RowFits (take i ws) (drop i ws) (cut i)) (each_back RowFits (take (i + 1) ws) (drop (i + 1) ws) (cut (i + 1)))
+
+pub out_length : (ws : List Row) (i : ℕ) → i < length ws → length ws ≡ length (take i ws ++ drop (i + 1) ws) + 1
+out_length ws i lt = omega (arith, lt, length-append (take i ws) (drop (i + 1) ws), length-take-le i ws (omega (arith, lt)), length-drop (i + 1) ws)
+
 -- # What a descent finds in a leaf
 
 -- numbers that rise from one on are not below it
@@ -278,3 +304,17 @@ module _ (rs : List Record) (r : Record) (i : ℕ) (rises : RisesFrom 0 (places 
       (λ (low : slice_index (places rs) i < place r.0). count (i + 1) (omega (arith, chosen.within, count_places)) (chosen_behind low))
       (λ (high : place r.0 < slice_index (places rs) i). count i (omega (arith, chosen.within, count_places)) (chosen_before high)))
       (cases_order (slice_index (places rs) i) (place r.0))
+
+without_here : (low : ℕ) (ws : List Row) (p i : ℕ) → RisesFrom low (places ws) → i < length ws → slice_index (places ws) i ≡ p → without_place p ws ≡ take i ws ++ drop (suc i) ws
+without_here low [] p i rises lt e = absurd (omega arith)
+without_here low (w ∷ ws) p zero rises lt e = ap (λ t. cond t ws (w ∷ without_place p ws)) (eq-eqb (place w.0) p e)
+without_here low (w ∷ ws) p (suc i) rises lt e =
+    let above = least (place w.0 + 1) (places ws) i (omega (arith, lt, length-map ws (λ (q : Row). place q.0))) rises.1 in
+    ap (λ t. cond t ws (w ∷ without_place p ws)) (ne_eqb (place w.0) p (λ same. omega (arith, above, same, e)))
+    ∙ ap (λ (qs : List Row). w ∷ qs) (without_here (place w.0 + 1) ws p i rises.1 (omega arith) e)
+
+-- the row that is chosen is the one that is left out
+pub chosen_without : (ws : List Row) (p i : ℕ) → RisesFrom 0 (places ws) → IsChosen (places ws) p i → slice_index (places ws) i ≡ p → without_place p ws ≡ take i ws ++ drop (i + 1) ws
+chosen_without ws p i rises chosen e =
+    let one : suc i ≡ i + 1 = omega arith in
+    without_here 0 ws p i rises (omega (arith, chosen.within, length-map ws (λ (w : Row). place w.0))) e ∙ ap (λ n. take i ws ++ drop n ws) one

@@ -24,7 +24,9 @@ mod row;
 mod selector;
 mod slot;
 mod spelling;
+mod splitting;
 mod stored;
+mod taking;
 mod telling;
 mod way;
 
@@ -41,6 +43,8 @@ pub use slot::{
     Entry, Kind, MAX_BLOCKS, MAX_ENTRIES, MIN_BLOCKS, SlotHead, read_entry, read_slot_head,
     write_entry, write_slot_head,
 };
+pub use splitting::split_rows;
 pub use stored::{Link, Stored};
+pub use taking::{Taken, remove_row};
 pub use telling::{leaf_size, node_size, record_key, rows_size};
 pub use way::{Way, child_at, find_child, find_record, find_row, lowest_key};
