@@ -10,6 +10,7 @@ mod inner_blocks;
 mod leaves;
 mod packed;
 mod records;
+mod rows;
 mod script;
 mod seen;
 mod slots;
