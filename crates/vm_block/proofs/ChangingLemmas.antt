@@ -26,11 +26,6 @@ pub at_below : (ws : List Row) (index i : ℕ) (w : Row) → index ≤ length ws
 at_below ws index i w le lt =
     get_or_append_left (take index ws) (w ∷ drop index ws) w i (omega (arith, lt, length-take-le index ws le)) ∙ get_or-take index ws i w lt
 
-pub at_itself : (ws : List Row) (index i : ℕ) (w : Row) → index ≤ length ws → i ≡ index → get_or (take index ws ++ w ∷ drop index ws) i w ≡ w
-at_itself ws index i w le same =
-    let none : i - index ≡ 0 = omega (arith, same) in
-    get_or-append_right (take index ws) (w ∷ drop index ws) index i w (length-take-le index ws le) (omega (arith, same)) ∙ ap (λ k. get_or (w ∷ drop index ws) k w) none
-
 -- and behind it one further
 pub at_above : (ws : List Row) (index i : ℕ) (w : Row) → index ≤ length ws → index < i → get_or (take index ws ++ w ∷ drop index ws) i w ≡ get_or ws (i - 1) w
 at_above ws index i w le lt =

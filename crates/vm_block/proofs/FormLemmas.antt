@@ -1,9 +1,9 @@
 -- No block has two forms.
 use Rattle.std.proofs.Common.{◌≡◌, ℕ, Bool, true, false, List, ◌++◌, length, get_or, sym, ap, ◌∙◌, refl, arith}
-use Rattle.std.specs.List.{flat_map, list_any}
+use Rattle.std.specs.List.{list_any}
 use Rattle.vm_types.specs.declared.key.Key.{Key}
 use Rattle.vm_block.specs.declared.node.Child.{Child}
-use Rattle.vm_block.specs.Leaf.{Record, Row, IsLeaf, HasRows, is_long, leaf_head, leaf_bytes, record_bytes}
+use Rattle.vm_block.specs.Leaf.{Record, Row, IsLeaf, HasRows, is_long, leaf_head, leaf_bytes}
 use Rattle.vm_block.specs.Long.{IsLong, long_head, long_bytes}
 use Rattle.vm_block.specs.Node.{IsNode, node_head, node_bytes}
 use Rattle.vm_block.proofs.LeafLemmas.{rows_of}

@@ -1,5 +1,5 @@
 -- A leaf: its head, its rows and its zero bytes.
-use Rattle.std.proofs.Common.{◌≡◌, inl, inr, ℕ, ◌+◌, ◌-◌, ◌*◌, ◌<◌, ◌≤◌, Bool, true, false, ◌||◌, List, [], ◌∷◌, ◌++◌, length, take, drop, refl, sym, ap, ◌∙◌, subst, arith, length-drop, length-append, append_assoc}
+use Rattle.std.proofs.Common.{◌≡◌, inl, inr, ℕ, ◌+◌, ◌-◌, ◌*◌, ◌≤◌, Bool, true, false, ◌||◌, List, [], ◌∷◌, ◌++◌, length, take, drop, refl, sym, ap, ◌∙◌, arith, length-drop, length-append, append_assoc}
 use Rattle.std.specs.List.{AllByRecursion, flat_map, list_any}
 use Rattle.std.proofs.lemmas.Bool.{cases_lt, false≢true, le-ltb, lt-ltb}
 use Rattle.std.proofs.lemmas.List.{take_all, take_at, drop_at, take-append-drop, length-take-le}
@@ -141,10 +141,6 @@ body_at old w1 w2 ws n k1 k2 whole fit few many far wrote same far2 cleared =
     ∙ append_assoc head body (zeros (length old - length (head ++ body))))
     ∙ drop_at head (body ++ zeros (length old - length (head ++ body))) 16 lh
     ∙ ap (λ m. body ++ zeros m) (omega (arith, whole, length-append head body, lh, length-wide ws fit))
-
--- a leaf has its rows behind its head
-pub leaf_body : (bytes : List ℕ) (ws : List Row) → HasRows bytes ws → HasBody bytes ws
-leaf_body bytes ws leaf = (leaf_parts bytes ws leaf).behind
 
 -- # A leaf of records
 

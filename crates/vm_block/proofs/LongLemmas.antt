@@ -1,5 +1,5 @@
 -- The block of a long value: its head, its value and its zero bytes.
-use Rattle.std.proofs.Common.{◌≡◌, ℕ, ◌+◌, ◌-◌, ◌<◌, ◌≤◌, ◌^◌, List, [], ◌++◌, length, take, drop, codes, refl, sym, ap, ◌∙◌, arith, length-append, length-drop}
+use Rattle.std.proofs.Common.{◌≡◌, ℕ, ◌+◌, ◌-◌, ◌≤◌, List, [], ◌++◌, length, take, drop, codes, refl, sym, ap, ◌∙◌, arith, length-append, length-drop}
 use Rattle.std.proofs.lemmas.List.{take_all, take_at, drop_at, take-take, length-take-le}
 use Rattle.std.proofs.Math.Seq.{take-add}
 use Rattle.byteorder.specs.Endian.{little_bytes}
@@ -9,8 +9,8 @@ use Rattle.vm_block.specs.Head.{IsLongHead}
 use Rattle.vm_block.specs.Padding.{zeros, padded}
 use Rattle.vm_block.specs.Leaf.{key_bytes}
 use Rattle.vm_block.specs.Long.{IsLong, long_bytes, long_head}
-use Rattle.vm_block.proofs.HeadLemmas.{words, words_one}
-use Rattle.vm_block.proofs.Pieces.{Laid, length-padded, laid, number_one, parts_laid, then_writes, block_written}
+use Rattle.vm_block.proofs.HeadLemmas.{words}
+use Rattle.vm_block.proofs.Pieces.{Laid, length-padded, laid, number_one, parts_laid, block_written}
 use Rattle.vm_block.proofs.RecordLemmas.{key_one}
 use borrow.Rule.Slice.PartMut.{put_mid, mid_of}
 
@@ -19,10 +19,6 @@ use borrow.Rule.Slice.PartMut.{put_mid, mid_of}
 pub length-long_head : (key : Key) (n : ℕ) → length (long_head key n) ≡ 26
 unfolding long_head
 length-long_head key n = refl
-
--- the letters LONG as a number
-long_words : (n : ℕ) → words 1196314444 0 n 0 ≡ codes "LONG" ++ (little_bytes 4 0 ++ (little_bytes 4 n ++ little_bytes 4 0))
-long_words n = refl
 
 head_cut : (key : Key) (n : ℕ) → long_head key n ≡ words 1196314444 0 n 0 ++ key_bytes key
 unfolding long_head
@@ -39,19 +35,6 @@ head_key key n = refl
 head_count : (key : Key) (n : ℕ) → drop 8 (long_head key n) ≡ little_bytes 4 n ++ (little_bytes 4 0 ++ key_bytes key)
 unfolding long_head
 head_count key n = refl
-
--- the head that was read
-pub long_head_found : (bytes : List ℕ) (a b c d : ℕ) → take 16 bytes ≡ words a b c d → a ≡ 1196314444 → b ≡ 0 → 241 ≤ c → c ≤ 4000 → d ≡ 0 → IsLongHead bytes c
-long_head_found bytes a b c d is ea eb above most ed = record {
-  begins = is ∙ ap (λ z. words z b c d) ea ∙ ap (λ z. words 1196314444 z c d) eb ∙ ap (λ z. words 1196314444 0 c z) ed ∙ long_words c;
-  above = omega (arith, above);
-  most = most;
-}
-
--- and no other is read
-pub long_head_only : (bytes : List ℕ) (a b c d n : ℕ) → a < 2 ^ 32 → b < 2 ^ 32 → c < 2 ^ 32 → d < 2 ^ 32 → take 16 bytes ≡ words a b c d → IsLongHead bytes n → (a ≡ 1196314444) × (b ≡ 0) × (c ≡ n) × (d ≡ 0)
-long_head_only bytes a b c d n ha hb hc hd is head =
-    words_one a b c d 1196314444 0 n 0 ha hb hc hd (omega arith) (omega arith) (omega (arith, head.most)) (omega arith) (sym is ∙ head.begins ∙ sym (long_words n))
 
 -- # The block
 

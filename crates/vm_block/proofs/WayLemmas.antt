@@ -17,7 +17,7 @@ use Rattle.vm_block.proofs.EachLemmas.{each_front, each_back, each_join}
 use Rattle.vm_block.proofs.LeafLemmas.{length-leaf, length-leaf_head, leaf_parts, leaf_whole}
 use Rattle.vm_block.proofs.NodeLemmas.{length-child, length-children, length-node, length-node_head, child_one, node_parts, node_whole}
 use Rattle.vm_block.proofs.Pieces.{length-zeros, zeros_are, zeros_join, drop-zeros}
-use Rattle.vm_block.proofs.RecordLemmas.{key_one, length-row, record_key, row_one}
+use Rattle.vm_block.proofs.RecordLemmas.{key_one, length-row, record_key}
 use Rattle.vm_block.proofs.Rows.{piece_at, row_set, row_insert, row_remove}
 use borrow.Rule.Slice.PartMut.{put_mid, mid_of}
 
@@ -84,12 +84,6 @@ pub leaf_piece : (bytes : List ℕ) (rs : List Record) (i : ℕ) (d : Record) �
 leaf_piece bytes rs i d leaf lt =
     let piece = piece_at record_bytes RowFits 252 length-row rs i d (drop 16 bytes) (zeros (4096 - (16 + 252 * length rs))) leaf.fit lt (leaf_parts bytes rs leaf).behind in
     (ap (take 252) (sym (drop-drop (252 * i) 16 bytes)) ∙ piece.0, piece.1)
-
--- a record that was read where the one at i stands is that one
-pub record_read : (bytes : List ℕ) (rs : List Record) (i : ℕ) (r : Record) (k : ℕ) → HasRows bytes rs → i < length rs → RowFits r → k ≡ 252 → take k (drop (16 + 252 * i) bytes) ≡ record_bytes r → get_or rs i r ≡ r
-record_read bytes rs i r k leaf lt fits many is =
-    let piece = leaf_piece bytes rs i r leaf lt in
-    row_one (get_or rs i r) r piece.1 fits (sym piece.0 ∙ ap (λ n. take n (drop (16 + 252 * i) bytes)) (sym many) ∙ is)
 
 pub leaf_keys : (bytes : List ℕ) (rs : List Record) → HasRows bytes rs → KeysStand bytes 252 (places rs)
 leaf_keys bytes rs leaf i key lt fits is =

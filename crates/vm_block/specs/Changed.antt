@@ -4,7 +4,7 @@ use Rattle.std.specs.List.{AllByRecursion, flat_map}
 use Rattle.vm_types.specs.declared.key.Key.{Key}
 use Rattle.vm_types.specs.Places.{KeyFits, place, value_at, with_record}
 use Rattle.vm_block.specs.Padding.{zeros}
-use Rattle.vm_block.specs.Leaf.{Record, Row, RecordFits, RowFits, IsLeaf, HasRows, StoredFits, leaf_bytes, record_bytes, stored_bytes}
+use Rattle.vm_block.specs.Leaf.{Record, Row, RowFits, IsLeaf, HasRows, StoredFits, leaf_bytes, record_bytes, stored_bytes}
 use Rattle.vm_block.specs.declared.stored.Stored.{Stored}
 use Rattle.vm_block.specs.Node.{IsNode, node_bytes}
 use Rattle.vm_block.specs.declared.node.Child.{Child}

@@ -36,15 +36,6 @@ IsLeafSize bytes count = (rs : List Record) × IsLeaf bytes rs × (length rs ≡
 abbrev pub IsNodeSize : List ℕ → (ℕ × ℕ) → Type 0
 IsNodeSize bytes size = (cs : List Child) × IsNode bytes size.0 cs × (length cs ≡ size.1)
 
--- the bytes begin with so many records, and these are they
-abbrev pub AreRecords : List ℕ → ℕ → List Record → Type 0
-AreRecords bytes count rs = AllByRecursion RecordFits rs × (length rs ≡ count) × (take (252 * count) bytes ≡ flat_map record_bytes rs)
-
--- the bytes begin with so many records, whose keys rise strictly
-abbrev pub HaveRecords : List ℕ → ℕ → Type 0
-HaveRecords bytes count =
-    (rs : List Record) × AllByRecursion RecordFits rs × (length rs ≡ count) × (take (252 * count) bytes ≡ flat_map record_bytes rs) × RisesFrom 0 (places rs)
-
 -- the bytes begin with so many children, whose lowest keys rise strictly
 abbrev pub HaveChildren : List ℕ → ℕ → Type 0
 HaveChildren bytes count =
@@ -119,11 +110,6 @@ StandsAmong bytes stored = (long : Bool) (n : ℕ) → IsRowsHead bytes 16 long 
 -- in one of so many rows of a leaf stands none
 abbrev pub LacksRow : List ℕ → ℕ → Type 0
 LacksRow bytes n = (i : ℕ) × (i < n) × ((w : Row) → RowFits w → leaf_row bytes i ≡ record_bytes w → ⊥)
-
--- the bytes are a record of the key that they begin with
-abbrev pub IsRecordOfItsKey : List ℕ → Type 0
-IsRecordOfItsKey row =
-    (key : Key) → KeyFits key → take 10 row ≡ key_bytes key → (value : List ℕ) × RecordFits (key, value) × (row ≡ record_bytes (key, value))
 
 -- in one of so many rows of a leaf stands no record
 abbrev pub LacksRecord : List ℕ → ℕ → Type 0

@@ -1,4 +1,4 @@
-use Rattle.std.proofs.Common.{◌≡◌, ◌+◌, ◌<◌, ◌≤◌, length, refl, sym, ap, ◌∙◌, arith}
+use Rattle.std.proofs.Common.{◌+◌, ◌≤◌, length, refl, sym, ap, ◌∙◌, arith}
 use Rattle.vm_block.specs.Changed.{with_before}
 use Rattle.vm_block.specs.Leaf.{Row, stored_bytes}
 use Rattle.vm_block.proofs.WayLemmas.{before_fit, before_length, row_before}

@@ -1,7 +1,6 @@
-use Rattle.std.proofs.Common.{◌≡◌, ℕ, ◌≤◌, Bool, true, false, Some, take, refl, ap, sym, ◌∙◌, arith}
+use Rattle.std.proofs.Common.{true, false, Some, ap, sym, ◌∙◌, arith}
 use Rattle.std.proofs.lemmas.Bool.{false≢true}
-use Rattle.vm_block.specs.Head.{IsRowsHead}
-use Rattle.vm_block.proofs.HeadLemmas.{leaf_head_found, leaf_head_only, leaf_number}
+use Rattle.vm_block.proofs.HeadLemmas.{leaf_head_found, leaf_head_only}
 use Rattle.vm_block.proofs.head.rows_head.Goals as goal
 
 pub returns-then-is_leaf-clause-found : goal.returns-then-is_leaf-clause-found

@@ -1,5 +1,4 @@
-use Rattle.std.proofs.Common.{◌≡◌, Some, sym, ap, ◌∙◌, subst, arith}
-use Rattle.vm_block.specs.declared.stored.Stored.{Stored}
+use Rattle.std.proofs.Common.{◌≡◌, Some, sym, ap, ◌∙◌, subst}
 use Rattle.vm_block.specs.Leaf.{stored_bytes}
 use Rattle.vm_block.specs.Told.{IsInRow}
 use Rattle.vm_block.proofs.RecordLemmas.{no_record, record_fits}

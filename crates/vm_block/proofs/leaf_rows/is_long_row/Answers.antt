@@ -1,5 +1,5 @@
-use Rattle.std.proofs.Common.{◌≡◌, ◌+◌, ◌-◌, ◌*◌, length, take, drop, get_or, refl, ap, sym, ◌∙◌, arith, length-drop, ltb}
-use Rattle.std.proofs.lemmas.List.{take_all, length-take-le}
+use Rattle.std.proofs.Common.{◌≡◌, ◌+◌, ◌-◌, ◌*◌, length, take, drop, get_or, ap, ◌∙◌, arith, length-drop, ltb}
+use Rattle.std.proofs.lemmas.List.{take_all}
 use Rattle.byteorder.specs.Endian.{little_number}
 use Rattle.vm_block.specs.Leaf.{RowFits, record_bytes}
 use Rattle.vm_block.proofs.RecordLemmas.{length-row, row_length}

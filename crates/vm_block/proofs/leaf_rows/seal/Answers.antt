@@ -1,4 +1,4 @@
-use Rattle.std.proofs.Common.{◌-◌, ◌*◌, ◌+◌, length, sym, ap, ◌∙◌, arith}
+use Rattle.std.proofs.Common.{sym, arith}
 use Rattle.vm_block.proofs.LeafLemmas.{body_rows, head_written}
 use Rattle.vm_block.proofs.leaf_rows.seal.Goals as goal
 

@@ -1,8 +1,6 @@
-use Rattle.std.proofs.Common.{◌≡◌, ◌+◌, ◌*◌, ◌++◌, length, map, drop, sym, ap, ◌∙◌, refl, arith, subst}
-use Rattle.std.specs.List.{flat_map}
+use Rattle.std.proofs.Common.{◌≡◌, length, map, sym, refl}
 use Rattle.std.proofs.lemmas.List.{length-map}
-use Rattle.vm_block.specs.Changed.{row_of, HasBody}
-use Rattle.vm_block.specs.Leaf.{record_bytes}
+use Rattle.vm_block.specs.Changed.{row_of}
 use Rattle.vm_block.proofs.ChangingLemmas.{rows_are_fit}
 use Rattle.vm_block.proofs.LeafLemmas.{body_at}
 use Rattle.vm_block.proofs.leaf_rows.write_rows.Goals as goal

@@ -1,4 +1,4 @@
-use Rattle.std.proofs.Common.{refl, sym, arith}
+use Rattle.std.proofs.Common.{arith}
 use Rattle.vm_block.proofs.LongLemmas.{long_written}
 use Rattle.vm_block.proofs.long.write_long.Goals as goal
 

@@ -1,4 +1,4 @@
-use Rattle.std.proofs.Common.{◌≡◌, ◌+◌, length, take, drop, refl, sym, arith, length-drop}
+use Rattle.std.proofs.Common.{◌≡◌, length, take, drop, refl, sym, arith, length-drop}
 use Rattle.std.proofs.lemmas.List.{length-take-le}
 use Rattle.vm_block.specs.Changed.{with_before}
 use Rattle.vm_block.specs.Leaf.{Row, RowFits, stored_bytes}

@@ -1,8 +1,8 @@
-use Rattle.std.proofs.Common.{◌≡◌, ℕ, ◌+◌, ◌-◌, ◌*◌, ◌<◌, ◌++◌, None, Some, [], length, take, drop, get_or, refl, sym, ap, ◌∙◌, arith}
+use Rattle.std.proofs.Common.{◌≡◌, ◌+◌, ◌-◌, ◌*◌, ◌++◌, [], length, take, drop, refl, sym, ap, ◌∙◌, arith}
 use Rattle.std.specs.Prelude.{slice_index}
 use Rattle.std.specs.List.{list_any}
 use Rattle.std.proofs.lemmas.List.{drop_all}
-use Rattle.vm_types.specs.Places.{place, places, value_at}
+use Rattle.vm_types.specs.Places.{place, places}
 use Rattle.vm_block.specs.Leaf.{Row, is_long, leaf_bytes}
 use Rattle.vm_block.proofs.HeadLemmas.{rows_headed, rows_same_head}
 use Rattle.vm_block.proofs.WayLemmas.{chosen_none, chosen_value, chosen_without, leaf_choice}

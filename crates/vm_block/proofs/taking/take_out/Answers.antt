@@ -1,4 +1,4 @@
-use Rattle.std.proofs.Common.{◌≡◌, ◌+◌, ◌-◌, ◌*◌, length, refl, sym, ap, ◌∙◌, arith}
+use Rattle.std.proofs.Common.{◌+◌, ◌-◌, ◌*◌, ap, arith}
 use Rattle.vm_block.specs.Changed.{leave_out}
 use Rattle.vm_block.proofs.WayLemmas.{out_fit, out_length, row_out}
 use Rattle.vm_block.proofs.taking.take_out.Goals as goal

@@ -1,4 +1,4 @@
-use Rattle.std.proofs.Common.{ℕ, None, Some, length, ◌≡◌, Option, sym, subst}
+use Rattle.std.proofs.Common.{ℕ, None, Some, length, Option}
 use Rattle.std.specs.Prelude.{IfSome}
 use Rattle.vm_block.specs.Told.{IsLeafSize, IsRowsSize}
 use Rattle.vm_block.proofs.HeadLemmas.{leaf_headed, plain_leaf}

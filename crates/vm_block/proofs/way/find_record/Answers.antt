@@ -1,4 +1,4 @@
-use Rattle.std.proofs.Common.{◌≡◌, false, [], get_or, length, Some, refl, ap, sym, subst, ◌∙◌, arith}
+use Rattle.std.proofs.Common.{false, [], get_or, length, Some, refl, ap, sym, subst, ◌∙◌}
 use Rattle.std.specs.Prelude.{IfSome}
 use Rattle.vm_block.specs.Leaf.{Record, RecordFits, stored_bytes}
 use Rattle.vm_block.specs.Row.{leaf_row}

@@ -3,7 +3,7 @@ use Rattle.std.specs.Prelude.{slice_index}
 use Rattle.std.specs.List.{list_any}
 use Rattle.std.proofs.lemmas.List.{length-map, take-take}
 use Rattle.vm_types.specs.Places.{place, places}
-use Rattle.vm_block.specs.Leaf.{Row, is_long, record_bytes, stored_bytes}
+use Rattle.vm_block.specs.Leaf.{Row, is_long}
 use Rattle.vm_block.specs.Told.{IsInRow}
 use Rattle.vm_block.specs.Way.{IsChosen}
 use Rattle.vm_block.proofs.HeadLemmas.{rows_headed, rows_same_head}
