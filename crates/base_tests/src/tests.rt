@@ -11,6 +11,7 @@ mod leaves;
 mod merging;
 mod packed;
 mod records;
+mod rows;
 mod script;
 mod seen;
 mod slots;

@@ -1,5 +1,5 @@
 -- What holds of each element of a list: of its parts, and of a join.
-use Rattle.std.proofs.Common.{List, [], ◌∷◌, ◌++◌}
+use Rattle.std.proofs.Common.{ℕ, zero, suc, ◌<◌, List, [], ◌∷◌, ◌++◌, length, get_or, arith}
 use Rattle.std.specs.List.{AllByRecursion}
 
 module _ {X : Type 0} (P : X → Type 0) where
@@ -24,3 +24,9 @@ each_so P Q so (x ∷ xs) all = (so x all.0, each_so P Q so xs all.1)
 pub each_both : {X : Type 0} (P Q : X → Type 0) (xs : List X) → AllByRecursion P xs → AllByRecursion Q xs → AllByRecursion (λ x. P x × Q x) xs
 each_both P Q [] a b = tt
 each_both P Q (x ∷ xs) a b = ((a.0, b.0), each_both P Q xs a.1 b.1)
+
+-- what holds of each element holds of the one at i
+pub each_at : {X : Type 0} (P : X → Type 0) (xs : List X) (i : ℕ) (d : X) → AllByRecursion P xs → i < length xs → P (get_or xs i d)
+each_at P [] i d all lt = absurd (omega arith)
+each_at P (x ∷ xs) zero d all lt = all.0
+each_at P (x ∷ xs) (suc i) d all lt = each_at P xs i d all.1 (omega arith)

@@ -1,13 +1,14 @@
 -- The head of a block of a tree, and the numbers in it.
-use Rattle.std.proofs.Common.{◌≡◌, ℕ, ◌^◌, ◌<◌, ◌≤◌, List, [], ◌++◌, Option, None, Some, length, take, drop, get_or, refl, sym, ap, ◌∙◌, arith}
+use Rattle.std.proofs.Common.{◌≡◌, ℕ, ◌^◌, ◌<◌, ◌≤◌, Bool, true, false, List, [], ◌++◌, Option, None, Some, length, take, drop, get_or, refl, sym, ap, subst, ◌∙◌, arith}
 use Rattle.std.proofs.Math.Seq.{take-add}
 use Rattle.std.proofs.lemmas.List.{drop-drop}
 use Rattle.byteorder.specs.Endian.{little_bytes, little_number}
-use Rattle.vm_block.specs.Leaf.{IsLeaf, Record, leaf_head}
+use Rattle.std.specs.List.{list_any}
+use Rattle.vm_block.specs.Leaf.{IsLeaf, HasRows, Record, Row, is_long, leaf_head}
 use Rattle.vm_block.specs.Node.{IsNode, node_head}
-use Rattle.vm_block.specs.Head.{IsLeafHead, IsNodeHead}
+use Rattle.vm_block.specs.Head.{IsLeafHead, IsRowsHead, IsNodeHead}
 use Rattle.vm_block.specs.declared.node.Child.{Child}
-use Rattle.vm_block.proofs.LeafLemmas.{leaf_parts}
+use Rattle.vm_block.proofs.LeafLemmas.{all_short, leaf_of, leaf_parts, none_long, records_short, rows_of, short_fit}
 use Rattle.vm_block.proofs.NodeLemmas.{node_parts}
 use Rattle.vm_block.proofs.Pieces.{number_one, spelled_at, spelled_number}
 
@@ -50,18 +51,32 @@ words_one a b c d e f g h ha hb hc hd he hf hg hh is =
       number_one 4 d h [] [] hd hh four,
     )
 
--- the letters LEAF and NODE as numbers
-pub leaf_words : (n : ℕ) → words 1178682700 0 n 0 ≡ leaf_head n
-unfolding leaf_head
-leaf_words n = refl
+-- the letters LEAF and LEF2 as numbers
+abbrev pub leaf_number : Bool → ℕ
+leaf_number false = 1178682700
+leaf_number true = 843466060
 
+pub leaf_words : (long : Bool) (n : ℕ) → words (leaf_number long) 0 n 0 ≡ leaf_head long n
+unfolding leaf_head
+leaf_words false n = refl
+leaf_words true n = refl
+
+leaf_number_small : (long : Bool) → leaf_number long < 2 ^ 32
+leaf_number_small false = omega arith
+leaf_number_small true = omega arith
+
+-- the letters NODE as a number
 pub node_words : (level n : ℕ) → words 1162104654 level n 0 ≡ node_head level n
 unfolding node_head
 node_words level n = refl
 
 -- a leaf begins with the head of its count
+pub rows_headed : (bytes : List ℕ) (ws : List Row) (most : ℕ) → HasRows bytes ws → length ws ≤ most → IsRowsHead bytes most (list_any is_long ws) (length ws)
+rows_headed bytes ws most leaf few = record { begins = (leaf_parts bytes ws leaf).front; some = leaf.some; few = few }
+
 pub leaf_headed : (bytes : List ℕ) (rs : List Record) (most : ℕ) → IsLeaf bytes rs → length rs ≤ most → IsLeafHead bytes most (length rs)
-leaf_headed bytes rs most leaf few = record { begins = (leaf_parts bytes rs leaf).front; some = leaf.some; few = few }
+leaf_headed bytes rs most leaf few =
+    subst (λ b. IsRowsHead bytes most b (length rs)) (none_long rs (records_short rs leaf.fit)) (rows_headed bytes rs most (rows_of bytes rs leaf) few)
 
 -- an inner block begins with the head of its level and count
 pub node_headed : (bytes : List ℕ) (level : ℕ) (cs : List Child) → IsNode bytes level cs → IsNodeHead bytes level (length cs)
@@ -69,19 +84,25 @@ node_headed bytes level cs node =
     record { begins = (node_parts bytes level cs node).front; above = node.above; low = node.low; some = node.some; few = node.few }
 
 -- the head of a leaf that was read
-pub leaf_head_found : (bytes : List ℕ) (most a b c d : ℕ) → take 16 bytes ≡ words a b c d → (a ≡ 1178682700) × (b ≡ 0) × (0 < c) × (c ≤ most) × (d ≡ 0) → IsLeafHead bytes most c
-leaf_head_found bytes most a b c d is fits = record {
-  begins = is ∙ ap (λ z. words z b c d) fits.0 ∙ ap (λ z. words 1178682700 z c d) fits.1 ∙ ap (λ z. words 1178682700 0 c z) fits.4 ∙ leaf_words c;
+pub leaf_head_found : (bytes : List ℕ) (most : ℕ) (long : Bool) (a b c d : ℕ) → take 16 bytes ≡ words a b c d → (a ≡ leaf_number long) × (b ≡ 0) × (0 < c) × (c ≤ most) × (d ≡ 0) → IsRowsHead bytes most long c
+leaf_head_found bytes most long a b c d is fits = record {
+  begins = is ∙ ap (λ z. words z b c d) fits.0 ∙ ap (λ z. words (leaf_number long) z c d) fits.1 ∙ ap (λ z. words (leaf_number long) 0 c z) fits.4 ∙ leaf_words long c;
   some = fits.2;
   few = fits.3;
 }
 
--- and no other count is read
-pub leaf_head_only : (bytes : List ℕ) (most a b c d n : ℕ) → a < 2 ^ 32 → b < 2 ^ 32 → c < 2 ^ 32 → d < 2 ^ 32 → most ≤ 16 → take 16 bytes ≡ words a b c d → IsLeafHead bytes most n
-    → ((a ≡ 1178682700) × (b ≡ 0) × (0 < c) × (c ≤ most) × (d ≡ 0)) × (c ≡ n)
-leaf_head_only bytes most a b c d n ha hb hc hd room is head =
-    let one = words_one a b c d 1178682700 0 n 0 ha hb hc hd (omega arith) (omega arith) (omega (arith, head.few)) (omega arith) (sym is ∙ head.begins ∙ sym (leaf_words n)) in
+-- and no other is read
+pub leaf_head_only : (bytes : List ℕ) (most : ℕ) (long : Bool) (a b c d n : ℕ) → a < 2 ^ 32 → b < 2 ^ 32 → c < 2 ^ 32 → d < 2 ^ 32 → most ≤ 16 → take 16 bytes ≡ words a b c d → IsRowsHead bytes most long n
+    → ((a ≡ leaf_number long) × (b ≡ 0) × (0 < c) × (c ≤ most) × (d ≡ 0)) × (c ≡ n)
+leaf_head_only bytes most long a b c d n ha hb hc hd room is head =
+    let one = words_one a b c d (leaf_number long) 0 n 0 ha hb hc hd (leaf_number_small long) (omega arith) (omega (arith, head.few)) (omega arith) (sym is ∙ head.begins ∙ sym (leaf_words long n)) in
     ((one.0, one.1, omega (arith, head.some, one.2), omega (arith, head.few, one.2), one.3), one.2)
+
+-- the letters of a head are those of one
+pub heads_one : (bytes : List ℕ) (most : ℕ) (a b : Bool) (n m : ℕ) → most ≤ 16 → IsRowsHead bytes most a n → IsRowsHead bytes most b m → (leaf_number a ≡ leaf_number b) × (n ≡ m)
+heads_one bytes most a b n m room x y =
+    let one = words_one (leaf_number a) 0 n 0 (leaf_number b) 0 m 0 (leaf_number_small a) (omega arith) (omega (arith, x.few)) (omega arith) (leaf_number_small b) (omega arith) (omega (arith, y.few)) (omega arith) (leaf_words a n ∙ sym x.begins ∙ y.begins ∙ sym (leaf_words b m)) in
+    (one.0, one.2)
 
 -- the head of an inner block that was read
 pub node_head_found : (bytes : List ℕ) (a b c d : ℕ) → take 16 bytes ≡ words a b c d → (a ≡ 1162104654) × (0 < b) × (b ≤ 7) × (0 < c) × (c ≤ 256) × (d ≡ 0) → IsNodeHead bytes b c
@@ -117,3 +138,24 @@ node_same level n l m a b is_a is_b e =
     held : Option (ℕ × ℕ) → ℕ × ℕ
     held None = a
     held (Some k) = k
+
+-- what is told of a head is what is told
+pub rows_same_head : (long told : Bool) (n m : ℕ) (a b : Bool × ℕ) → a ≡ (told, m) → b ≡ (long, n) → Some a ≡ Some b → (told ≡ long) × (m ≡ n)
+rows_same_head long told n m a b is_a is_b e =
+    let same : a ≡ b = ap held e in
+    let both = sym is_a ∙ same ∙ is_b in
+    (ap (λ (x : Bool × ℕ). x.0) both, ap (λ (x : Bool × ℕ). x.1) both)
+  where
+    held : Option (Bool × ℕ) → Bool × ℕ
+    held None = a
+    held (Some k) = k
+
+-- a leaf whose letters say that no row is long has only short rows
+pub plain_leaf : (bytes : List ℕ) (ws : List Row) (n : ℕ) → HasRows bytes ws → IsLeafHead bytes 16 n → IsLeaf bytes ws
+plain_leaf bytes ws n leaf head =
+    let letters = (heads_one bytes 16 (list_any is_long ws) false (length ws) n (omega arith) (rows_headed bytes ws 16 leaf leaf.few) head).0 in
+    leaf_of bytes ws leaf (short_fit ws leaf.fit (all_short ws (plain (list_any is_long ws) letters)))
+  where
+    plain : (long : Bool) → leaf_number long ≡ leaf_number false → long ≡ false
+    plain false e = refl
+    plain true e = absurd (omega (arith, e))

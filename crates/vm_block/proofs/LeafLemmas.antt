@@ -1,98 +1,178 @@
--- A leaf: its head, its records and its zero bytes.
-use Rattle.std.proofs.Common.{◌≡◌, ℕ, ◌+◌, ◌-◌, ◌*◌, ◌<◌, ◌≤◌, List, [], ◌++◌, length, take, drop, refl, sym, ap, ◌∙◌, arith, length-drop, length-append, append_assoc}
-use Rattle.std.specs.List.{AllByRecursion, flat_map}
-use Rattle.std.proofs.lemmas.List.{take_all, take_at, append-nil}
+-- A leaf: its head, its rows and its zero bytes.
+use Rattle.std.proofs.Common.{◌≡◌, inl, inr, ℕ, ◌+◌, ◌-◌, ◌*◌, ◌≤◌, Bool, true, false, ◌||◌, List, [], ◌∷◌, ◌++◌, length, take, drop, refl, sym, ap, ◌∙◌, arith, length-drop, length-append, append_assoc}
+use Rattle.std.specs.List.{AllByRecursion, flat_map, list_any}
+use Rattle.std.proofs.lemmas.Bool.{cases_lt, false≢true, le-ltb, lt-ltb}
+use Rattle.std.proofs.lemmas.List.{take_all, take_at, drop_at, take-append-drop, length-take-le}
 use Rattle.byteorder.specs.Endian.{little_bytes, little_number}
 use Rattle.byteorder.specs.Numbers.{little_number-reads_back}
 use Rattle.vm_types.specs.Places.{RisesFrom, places}
+use Rattle.vm_block.specs.Head.{IsRowsHead}
 use Rattle.vm_block.specs.Padding.{zeros}
-use Rattle.vm_block.specs.Leaf.{Record, RecordFits, IsLeaf, leaf_head, leaf_bytes, record_bytes}
-use Rattle.vm_block.proofs.Pieces.{Laid, parts_laid, laid, length-padded}
+use Rattle.vm_block.specs.Changed.{HasBody}
+use Rattle.vm_block.specs.Leaf.{Record, Row, RecordFits, RowFits, IsLeaf, IsShort, HasRows, is_long, leaf_letters, leaf_head, leaf_bytes, record_bytes}
+use Rattle.vm_block.proofs.EachLemmas.{each_both, each_so}
+use Rattle.vm_block.proofs.Pieces.{Laid, block_written, parts_laid, laid, length-padded}
 use Rattle.vm_block.proofs.Rows.{length-rows, rows_one}
-use Rattle.vm_block.proofs.RecordLemmas.{length-record, record_one}
+use Rattle.vm_block.proofs.RecordLemmas.{length-row, row_one, record_fits}
+use borrow.Rule.Slice.PartMut.{put_mid, mid_of}
 
-pub length-leaf_head : (count : ℕ) → length (leaf_head count) ≡ 16
+-- # Its head
+
+pub length-leaf_head : (long : Bool) (count : ℕ) → length (leaf_head long count) ≡ 16
 unfolding leaf_head
-length-leaf_head count = refl
+length-leaf_head false count = refl
+length-leaf_head true count = refl
 
 -- what stands behind the letters and the level
-leaf_head-count : (count : ℕ) (rest : List ℕ) → drop 8 (leaf_head count ++ rest) ≡ little_bytes 4 count ++ (little_bytes 4 0 ++ rest)
+leaf_head-count : (long : Bool) (count : ℕ) (rest : List ℕ) → drop 8 (leaf_head long count ++ rest) ≡ little_bytes 4 count ++ (little_bytes 4 0 ++ rest)
 unfolding leaf_head
-leaf_head-count count rest = refl
+leaf_head-count false count rest = refl
+leaf_head-count true count rest = refl
 
-pub length-records : (rs : List Record) → AllByRecursion RecordFits rs → length (flat_map record_bytes rs) ≡ 252 * length rs
-length-records rs fit = length-rows record_bytes RecordFits 252 length-record rs fit
+-- its parts are written one behind the other
+pub head_parts : (long : Bool) (count : ℕ) → (length (leaf_letters long) ≡ 4) × (length (leaf_letters long ++ little_bytes 4 0) ≡ 8) × (length ((leaf_letters long ++ little_bytes 4 0) ++ little_bytes 4 count) ≡ 12) × (((leaf_letters long ++ little_bytes 4 0) ++ little_bytes 4 count) ++ little_bytes 4 0 ≡ leaf_head long count)
+unfolding leaf_head
+head_parts false count = (refl, refl, refl, refl)
+head_parts true count = (refl, refl, refl, refl)
+
+-- # A leaf of rows
+
+pub length-wide : (ws : List Row) → AllByRecursion RowFits ws → length (flat_map record_bytes ws) ≡ 252 * length ws
+length-wide ws fit = length-rows record_bytes RowFits 252 length-row ws fit
 
 -- a leaf fills a block
-pub length-leaf : (bytes : List ℕ) (rs : List Record) → IsLeaf bytes rs → length bytes ≡ 4096
+pub length-leaf : (bytes : List ℕ) (ws : List Row) → HasRows bytes ws → length bytes ≡ 4096
 unfolding leaf_bytes
-length-leaf bytes rs leaf =
-    let front = leaf_head (length rs) ++ flat_map record_bytes rs in
-    ap length leaf.spelled ∙ length-padded 4096 front (omega (arith, length-append (leaf_head (length rs)) (flat_map record_bytes rs), length-leaf_head (length rs), length-records rs leaf.fit, leaf.few))
+length-leaf bytes ws leaf =
+    let head = leaf_head (list_any is_long ws) (length ws) in
+    let front = head ++ flat_map record_bytes ws in
+    ap length leaf.spelled ∙ length-padded 4096 front (omega (arith, length-append head (flat_map record_bytes ws), length-leaf_head (list_any is_long ws) (length ws), length-wide ws leaf.fit, leaf.few))
 
 -- the parts of a leaf
-pub leaf_parts : (bytes : List ℕ) (rs : List Record) → IsLeaf bytes rs → Laid bytes (leaf_head (length rs)) (flat_map record_bytes rs) 16 (252 * length rs) (4096 - (16 + 252 * length rs))
+pub leaf_parts : (bytes : List ℕ) (ws : List Row) → HasRows bytes ws → Laid bytes (leaf_head (list_any is_long ws) (length ws)) (flat_map record_bytes ws) 16 (252 * length ws) (4096 - (16 + 252 * length ws))
 unfolding leaf_bytes
-leaf_parts bytes rs leaf =
-    parts_laid bytes (leaf_head (length rs)) (flat_map record_bytes rs) 4096 16 (252 * length rs) leaf.spelled (length-leaf_head (length rs)) (length-records rs leaf.fit)
+leaf_parts bytes ws leaf =
+    parts_laid bytes (leaf_head (list_any is_long ws) (length ws)) (flat_map record_bytes ws) 4096 16 (252 * length ws) leaf.spelled (length-leaf_head (list_any is_long ws) (length ws)) (length-wide ws leaf.fit)
 
--- its head, its records and its zero bytes
-pub leaf_whole : (bytes : List ℕ) (rs : List Record) → IsLeaf bytes rs → bytes ≡ leaf_head (length rs) ++ (flat_map record_bytes rs ++ zeros (4096 - length (leaf_head (length rs) ++ flat_map record_bytes rs)))
+-- its head, its rows and its zero bytes
+pub leaf_whole : (bytes : List ℕ) (ws : List Row) → HasRows bytes ws → bytes ≡ leaf_head (list_any is_long ws) (length ws) ++ (flat_map record_bytes ws ++ zeros (4096 - (16 + 252 * length ws)))
 unfolding leaf_bytes
-leaf_whole bytes rs leaf = leaf.spelled ∙ append_assoc (leaf_head (length rs)) (flat_map record_bytes rs) (zeros (4096 - length (leaf_head (length rs) ++ flat_map record_bytes rs)))
+leaf_whole bytes ws leaf =
+    let head = leaf_head (list_any is_long ws) (length ws) in
+    let body = flat_map record_bytes ws in
+    let far : 4096 - length (head ++ body) ≡ 4096 - (16 + 252 * length ws) = omega (arith, length-append head body, length-leaf_head (list_any is_long ws) (length ws), length-wide ws leaf.fit) in
+    leaf.spelled ∙ ap (λ n. (head ++ body) ++ zeros n) far ∙ append_assoc head body (zeros (4096 - (16 + 252 * length ws)))
 
 -- the count that a leaf has at byte 8
-pub leaf_counted : (bytes : List ℕ) (rs : List Record) (n k : ℕ) → IsLeaf bytes rs → length bytes ≤ 8 + k → n ≡ little_number 4 (take k (drop 8 bytes)) → n ≡ length rs
-unfolding leaf_bytes
-leaf_counted bytes rs n k leaf enough is =
-    let body = flat_map record_bytes rs in
-    let head = leaf_head (length rs) in
-    let rest = zeros (4096 - length (head ++ body)) in
-    let whole : drop 8 bytes ≡ little_bytes 4 (length rs) ++ (little_bytes 4 0 ++ (body ++ rest)) =
-    ap (drop 8) (leaf.spelled ∙ append_assoc head body rest) ∙ leaf_head-count (length rs) (body ++ rest) in
+leaf_counted : (bytes : List ℕ) (ws : List Row) (n k : ℕ) → HasRows bytes ws → length bytes ≤ 8 + k → n ≡ little_number 4 (take k (drop 8 bytes)) → n ≡ length ws
+leaf_counted bytes ws n k leaf enough is =
+    let rest = flat_map record_bytes ws ++ zeros (4096 - (16 + 252 * length ws)) in
+    let whole : drop 8 bytes ≡ little_bytes 4 (length ws) ++ (little_bytes 4 0 ++ rest) =
+    ap (drop 8) (leaf_whole bytes ws leaf) ∙ leaf_head-count (list_any is_long ws) (length ws) rest in
     is ∙ ap (little_number 4) (take_all k (drop 8 bytes) (omega (arith, length-drop 8 bytes)) ∙ whole)
-    ∙ little_number-reads_back 4 (length rs) (little_bytes 4 0 ++ (body ++ rest)) (omega (arith, leaf.few))
+    ∙ little_number-reads_back 4 (length ws) (little_bytes 4 0 ++ rest) (omega (arith, leaf.few))
 
--- the bytes in which a head, records and zero bytes were found are a leaf
-pub leaf_found : (bytes : List ℕ) (rs : List Record) (n k : ℕ) → length bytes ≡ 4096 → 0 < n → n ≤ 16 → length rs ≡ n → (head : List ℕ) → head ≡ leaf_head n ++ [] → take (length head) bytes ≡ head → drop (16 + 252 * n) bytes ≡ zeros (length bytes - (16 + 252 * n)) → 4096 ≤ 16 + k → take (252 * n) (take k (drop 16 bytes)) ≡ flat_map record_bytes rs → AllByRecursion RecordFits rs → RisesFrom 0 (places rs) → IsLeaf bytes rs
+-- the bytes in which a head, rows and zero bytes were found are a leaf
+pub leaf_told : (bytes : List ℕ) (ws : List Row) (long : Bool) (n k : ℕ) → length bytes ≡ 4096 → IsRowsHead bytes 16 long n → list_any is_long ws ≡ long → length ws ≡ n → drop (16 + 252 * n) bytes ≡ zeros (length bytes - (16 + 252 * n)) → 4096 ≤ 16 + k
+    → take (252 * n) (take k (drop 16 bytes)) ≡ flat_map record_bytes ws → AllByRecursion RowFits ws → RisesFrom 0 (places ws) → HasRows bytes ws
 unfolding leaf_bytes
-leaf_found bytes rs n k whole some few many head is begins back enough rows fit rising =
-    let count : leaf_head n ≡ leaf_head (length rs) = ap leaf_head (sym many) in
-    let headed : head ≡ leaf_head n = is ∙ append-nil (leaf_head n) in
-    let front : take 16 bytes ≡ leaf_head n = ap (λ m. take m bytes) (sym (ap length headed ∙ length-leaf_head n)) ∙ begins ∙ headed in
+leaf_told bytes ws long n k whole head same many back enough rows fit rising =
+    let front : take 16 bytes ≡ leaf_head (list_any is_long ws) (length ws) = head.begins ∙ ap (λ b. leaf_head b n) (sym same) ∙ ap (leaf_head (list_any is_long ws)) (sym many) in
     let all : take k (drop 16 bytes) ≡ drop 16 bytes = take_all k (drop 16 bytes) (omega (arith, length-drop 16 bytes)) in
     let cleared : drop (16 + 252 * n) bytes ≡ zeros (length (drop (16 + 252 * n) bytes)) = back ∙ ap zeros (sym (length-drop (16 + 252 * n) bytes)) in
     record {
-      spelled = laid bytes (leaf_head (length rs)) (flat_map record_bytes rs) 4096 16 (252 * n) whole (front ∙ count) (length-leaf_head (length rs)) (ap (take (252 * n)) (sym all) ∙ rows) (length-records rs fit ∙ ap (λ m. 252 * m) many) cleared;
-      some = omega arith;
-      few = omega arith;
+      spelled = laid bytes (leaf_head (list_any is_long ws) (length ws)) (flat_map record_bytes ws) 4096 16 (252 * n) whole front (length-leaf_head (list_any is_long ws) (length ws)) (ap (take (252 * n)) (sym all) ∙ rows) (length-wide ws fit ∙ ap (λ m. 252 * m) many) cleared;
+      some = omega (arith, head.some);
+      few = omega (arith, head.few);
       fit = fit;
       rising = rising;
     }
 
--- a leaf has this head and these zero bytes
-pub leaf_framed : (bytes : List ℕ) (rs : List Record) (n : ℕ) (head : List ℕ) → IsLeaf bytes rs → n ≡ length rs → head ≡ leaf_head n ++ [] → (take (length head) bytes ≡ head) × (drop (16 + 252 * n) bytes ≡ zeros (length bytes - (16 + 252 * n)))
-leaf_framed bytes rs n head leaf count is =
-    let parts = leaf_parts bytes rs leaf in
-    let front : head ≡ leaf_head (length rs) = is ∙ append-nil (leaf_head n) ∙ ap leaf_head count in
-    let long : length head ≡ 16 = ap length front ∙ length-leaf_head (length rs) in (
-      ap (λ k. take k bytes) long ∙ parts.front ∙ sym front,
-      ap (λ k. drop (16 + 252 * k) bytes) count ∙ parts.back ∙ ap zeros (omega (arith, length-leaf bytes rs leaf, count)),
-    )
+-- a leaf has these zero bytes
+pub leaf_zeros : (bytes : List ℕ) (ws : List Row) (n : ℕ) → HasRows bytes ws → n ≡ length ws → drop (16 + 252 * n) bytes ≡ zeros (length bytes - (16 + 252 * n))
+leaf_zeros bytes ws n leaf count =
+    ap (λ k. drop (16 + 252 * k) bytes) count ∙ (leaf_parts bytes ws leaf).back ∙ ap zeros (omega (arith, length-leaf bytes ws leaf, count))
 
--- the records of a leaf stand behind its head
-pub leaf_rows : (bytes : List ℕ) (rs : List Record) (k : ℕ) → IsLeaf bytes rs → 4080 ≤ k → take k (drop 16 bytes) ≡ flat_map record_bytes rs ++ zeros (4096 - (16 + 252 * length rs))
-leaf_rows bytes rs k leaf enough =
-    take_all k (drop 16 bytes) (omega (arith, length-drop 16 bytes, length-leaf bytes rs leaf)) ∙ (leaf_parts bytes rs leaf).behind
+-- the rows of a leaf stand behind its head
+pub leaf_rows : (bytes : List ℕ) (ws : List Row) (k : ℕ) → HasRows bytes ws → 4080 ≤ k → take k (drop 16 bytes) ≡ flat_map record_bytes ws ++ zeros (4096 - (16 + 252 * length ws))
+leaf_rows bytes ws k leaf enough =
+    take_all k (drop 16 bytes) (omega (arith, length-drop 16 bytes, length-leaf bytes ws leaf)) ∙ (leaf_parts bytes ws leaf).behind
 
 -- the same bytes are one leaf
+pub leaf_rows_one : (bytes : List ℕ) (ws vs : List Row) → HasRows bytes ws → HasRows bytes vs → ws ≡ vs
+leaf_rows_one bytes ws vs a b =
+    let a_many = leaf_counted bytes ws (little_number 4 (take 4088 (drop 8 bytes))) 4088 a (omega (arith, length-leaf bytes ws a)) refl in
+    let b_many = leaf_counted bytes vs (little_number 4 (take 4088 (drop 8 bytes))) 4088 b (omega (arith, length-leaf bytes ws a)) refl in
+    let many : length ws ≡ length vs = sym a_many ∙ b_many in
+    let one : flat_map record_bytes ws ≡ flat_map record_bytes vs =
+    sym (take_at (flat_map record_bytes ws) (zeros (4096 - (16 + 252 * length ws))) (252 * length ws) (length-wide ws a.fit))
+    ∙ ap (take (252 * length ws)) (sym (leaf_parts bytes ws a).behind ∙ (leaf_parts bytes vs b).behind)
+    ∙ take_at (flat_map record_bytes vs) (zeros (4096 - (16 + 252 * length vs))) (252 * length ws) (length-wide vs b.fit ∙ ap (λ n. 252 * n) (sym many)) in
+    rows_one record_bytes RowFits 252 length-row row_one ws vs a.fit b.fit many one
+
+-- a head written before rows and zero bytes
+pub head_written : (old new : List ℕ) (ws : List Row) (long : Bool) (n : ℕ) → HasBody old ws → AllByRecursion RowFits ws → long ≡ list_any is_long ws → n ≡ length ws → new ≡ leaf_head long n ++ drop 16 old → new ≡ leaf_bytes ws
+unfolding leaf_bytes
+head_written old new ws long n body fit same many wrote =
+    let head = leaf_head (list_any is_long ws) (length ws) in
+    let rows = flat_map record_bytes ws in
+    let far : 4096 - (16 + 252 * length ws) ≡ 4096 - length (head ++ rows) = omega (arith, length-append head rows, length-leaf_head (list_any is_long ws) (length ws), length-wide ws fit) in
+    wrote
+    ∙ ap (λ x. leaf_head long n ++ x) body
+    ∙ ap (λ b. leaf_head b n ++ (rows ++ zeros (4096 - (16 + 252 * length ws)))) same
+    ∙ ap (λ m. leaf_head (list_any is_long ws) m ++ (rows ++ zeros (4096 - (16 + 252 * length ws)))) many
+    ∙ sym (append_assoc head rows (zeros (4096 - (16 + 252 * length ws))))
+    ∙ ap (λ m. (head ++ rows) ++ zeros m) far
+
+-- the rows behind a head
+pub body_rows : (bytes : List ℕ) (ws : List Row) (k : ℕ) → length bytes ≡ 4096 → HasBody bytes ws → 4080 ≤ k → take k (drop 16 bytes) ≡ flat_map record_bytes ws ++ zeros (4096 - (16 + 252 * length ws))
+body_rows bytes ws k whole body enough = take_all k (drop 16 bytes) (omega (arith, length-drop 16 bytes, whole, enough)) ∙ body
+
+-- rows and zero bytes written behind a head
+pub body_at : (old w1 w2 : List ℕ) (ws : List Row) (n k1 k2 : ℕ) → length old ≡ 4096 → AllByRecursion RowFits ws → n ≤ 16 → n ≡ length ws → k1 ≡ 4080 → w1 ≡ flat_map record_bytes ws ++ drop (252 * n) (mid_of 16 k1 old) → length w1 ≡ length (mid_of 16 k1 old)
+    → k2 ≡ 4096 - (16 + 252 * n) → w2 ≡ zeros (length (mid_of (16 + 252 * n) k2 (put_mid 16 k1 old w1))) → HasBody (put_mid (16 + 252 * n) k2 (put_mid 16 k1 old w1) w2) ws
+body_at old w1 w2 ws n k1 k2 whole fit few many far wrote same far2 cleared =
+    let head = take 16 old in
+    let body = flat_map record_bytes ws in
+    let lh : length head ≡ 16 = length-take-le 16 old (omega (arith, whole)) in
+    let behind : length (mid_of 16 k1 old) ≡ 4080 = length-take-le k1 (drop 16 old) (omega (arith, far, whole, length-drop 16 old)) ∙ far in
+    let long : length (put_mid 16 k1 old w1) ≡ 4096 = omega (arith, length-append head (w1 ++ drop k1 (drop 16 old)), length-append w1 (drop k1 (drop 16 old)), length-drop k1 (drop 16 old), length-drop 16 old, lh, same, behind, whole, far) in
+    ap (drop 16) (block_written head body old old w1 w2 16 (252 * n) k1 k2 lh (omega (arith, whole, few)) (sym (take-append-drop 16 old)) (omega (arith, far, whole)) wrote same (omega (arith, far2, long)) cleared
+    ∙ append_assoc head body (zeros (length old - length (head ++ body))))
+    ∙ drop_at head (body ++ zeros (length old - length (head ++ body))) 16 lh
+    ∙ ap (λ m. body ++ zeros m) (omega (arith, whole, length-append head body, lh, length-wide ws fit))
+
+-- # A leaf of records
+
+-- no short row is long, and where none is long all are short
+pub none_long : (rs : List Row) → AllByRecursion IsShort rs → list_any is_long rs ≡ false
+none_long [] fit = refl
+none_long (r ∷ rs) fit = ap (λ b. b || list_any is_long rs) (le-ltb 240 (length r.1) fit.0) ∙ none_long rs fit.1
+
+pub all_short : (ws : List Row) → list_any is_long ws ≡ false → AllByRecursion IsShort ws
+all_short [] none = tt
+all_short (w ∷ ws) none =
+    elim (cases_lt 240 (length w.1)) [
+      | inl more ↦ absurd (false≢true (sym none ∙ ap (λ b. b || list_any is_long ws) (lt-ltb 240 (length w.1) more)))
+      | inr few ↦ (few, all_short ws (ap (λ b. b || list_any is_long ws) (sym (le-ltb 240 (length w.1) few)) ∙ none))
+    ]
+
+pub records_short : (rs : List Record) → AllByRecursion RecordFits rs → AllByRecursion IsShort rs
+records_short rs fit = each_so RecordFits IsShort (λ r fits. fits.1) rs fit
+
+pub short_fit : (ws : List Row) → AllByRecursion RowFits ws → AllByRecursion IsShort ws → AllByRecursion RecordFits ws
+short_fit ws fit short = each_so (λ (w : Row). RowFits w × IsShort w) RecordFits (λ w both. (both.0.0, both.1)) ws (each_both RowFits IsShort ws fit short)
+
+pub records_fit : (rs : List Record) → AllByRecursion RecordFits rs → AllByRecursion RowFits rs
+records_fit rs fit = each_so RecordFits RowFits record_fits rs fit
+
+-- a leaf of records is one of rows
+pub rows_of : (bytes : List ℕ) (rs : List Record) → IsLeaf bytes rs → HasRows bytes rs
+rows_of bytes rs leaf = record { spelled = leaf.spelled; some = leaf.some; few = leaf.few; fit = records_fit rs leaf.fit; rising = leaf.rising }
+
+-- and the other way round
+pub leaf_of : (bytes : List ℕ) (ws : List Row) → HasRows bytes ws → AllByRecursion RecordFits ws → IsLeaf bytes ws
+leaf_of bytes ws leaf fit = record { spelled = leaf.spelled; some = leaf.some; few = leaf.few; fit = fit; rising = leaf.rising }
+
 pub leaf_one : (bytes : List ℕ) (rs qs : List Record) → IsLeaf bytes rs → IsLeaf bytes qs → rs ≡ qs
-leaf_one bytes rs qs a b =
-    let a_many = leaf_counted bytes rs (little_number 4 (take 4088 (drop 8 bytes))) 4088 a (omega (arith, length-leaf bytes rs a)) refl in
-    let b_many = leaf_counted bytes qs (little_number 4 (take 4088 (drop 8 bytes))) 4088 b (omega (arith, length-leaf bytes rs a)) refl in
-    let many : length rs ≡ length qs = sym a_many ∙ b_many in
-    let one : flat_map record_bytes rs ≡ flat_map record_bytes qs =
-    sym (take_at (flat_map record_bytes rs) (zeros (4096 - (16 + 252 * length rs))) (252 * length rs) (length-records rs a.fit))
-    ∙ ap (take (252 * length rs)) (sym (leaf_parts bytes rs a).behind ∙ (leaf_parts bytes qs b).behind)
-    ∙ take_at (flat_map record_bytes qs) (zeros (4096 - (16 + 252 * length qs))) (252 * length rs) (length-records qs b.fit ∙ ap (λ n. 252 * n) (sym many)) in
-    rows_one record_bytes RecordFits 252 length-record record_one rs qs a.fit b.fit many one
+leaf_one bytes rs qs a b = leaf_rows_one bytes rs qs (rows_of bytes rs a) (rows_of bytes qs b)

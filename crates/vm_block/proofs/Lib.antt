@@ -1,7 +1,9 @@
+pub mod ChangingLemmas
 pub mod EachLemmas
 pub mod FormLemmas
 pub mod HeadLemmas
 pub mod LeafLemmas
+pub mod LongLemmas
 pub mod NodeLemmas
 pub mod Pieces
 pub mod RecordLemmas

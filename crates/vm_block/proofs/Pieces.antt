@@ -3,7 +3,7 @@ use Rattle.std.proofs.Common.{◌≡◌, ℕ, zero, suc, ◌+◌, ◌-◌, ◌*�
 use Rattle.std.specs.Str.{bytes_eq}
 use Rattle.std.proofs.lemmas.Slice.Eq.{bytes_eq-Decides}
 use Rattle.std.specs.Int.{byte_at, bytes_low_first}
-use Rattle.std.proofs.lemmas.List.{append-nil, take_at, drop_at, take_all, drop_all, drop-drop, drop-replicate, length-replicate, replicate_more, drop_more, take_more, same_from_push, take-append-drop, take-take, get_or-take, get_or-drop, get_or_past, length-take}
+use Rattle.std.proofs.lemmas.List.{append-nil, take_at, drop_at, take_all, drop_all, drop-drop, drop-replicate, length-replicate, replicate-append-replicate, replicate_more, drop_more, take_more, same_from_push, take-append-drop, take-take, get_or-take, get_or-drop, get_or_past, length-take, length-take-le}
 use Rattle.std.proofs.lemmas.Bool.{cases_lt, false≢true}
 use Rattle.std.proofs.lemmas.Nat.{le_or_l, le_or_r}
 use Rattle.std.specs.Int.Bits.{or_zero_l}
@@ -31,6 +31,10 @@ length-padded n bytes h = omega (arith, length-append bytes (zeros (n - length b
 pub drop-zeros : (k n : ℕ) → drop k (replicate n 0) ≡ zeros (n - k)
 unfolding zeros
 drop-zeros k n = drop-replicate k n 0
+
+pub zeros_join : (n m : ℕ) → zeros n ++ zeros m ≡ zeros (n + m)
+unfolding zeros
+zeros_join n m = replicate-append-replicate n m 0
 
 pub zeros_more : (n : ℕ) → zeros n ++ 0 ∷ [] ≡ zeros (n + 1)
 unfolding zeros
@@ -92,6 +96,23 @@ then_writes xs ys old mid new n k m t e len is wrote far =
     then_written xs (drop n old) mid new n k e len is
     ∙ ap (λ x. xs ++ x) (wrote ∙ ap (λ x. ys ++ drop m x) behind ∙ ap (λ x. ys ++ x) (drop-drop m n old ∙ ap (λ i. drop i old) (sym far)))
     ∙ sym (append_assoc xs ys (drop t old))
+
+-- a write that ends inside of what was there, of which the rest stays
+pub then_inside : (xs ys old mid new : List ℕ) (n k t : ℕ) → mid ≡ xs ++ drop n old → length xs ≡ n → new ≡ ys → t ≡ n + k → put_mid n k mid new ≡ (xs ++ ys) ++ drop t old
+then_inside xs ys old mid new n k t e len wrote far =
+    let front : take n mid ≡ xs = ap (take n) e ∙ take_at xs (drop n old) n len in
+    let behind : drop k (drop n mid) ≡ drop t old = ap (λ x. drop k (drop n x)) e ∙ ap (drop k) (drop_at xs (drop n old) n len) ∙ drop-drop k n old ∙ ap (λ i. drop i old) (sym far) in
+    ap (λ x. x ++ (new ++ drop k (drop n mid))) front
+    ∙ ap (λ x. xs ++ (x ++ drop k (drop n mid))) wrote
+    ∙ ap (λ x. xs ++ (ys ++ x)) behind
+    ∙ sym (append_assoc xs ys (drop t old))
+
+-- the same of zero bytes
+pub zeros_inside : (xs old mid new : List ℕ) (n k t : ℕ) → mid ≡ xs ++ drop n old → length xs ≡ n → t ≡ n + k → t ≤ length old → new ≡ zeros (length (mid_of n k mid)) → put_mid n k mid new ≡ (xs ++ zeros k) ++ drop t old
+zeros_inside xs old mid new n k t e len far room cleared =
+    let long : length mid ≡ n + (length old - n) = ap length e ∙ length-append xs (drop n old) ∙ ap (λ a. a + length (drop n old)) len ∙ ap (λ b. n + b) (length-drop n old) in
+    let many : length (mid_of n k mid) ≡ k = length-take-le k (drop n mid) (omega (arith, length-drop n mid, long)) in
+    then_inside xs (zeros k) old mid new n k t e len (cleared ∙ ap zeros many) far
 
 -- zero bytes behind what was written
 pub then_zeros : (xs old mid new : List ℕ) (n k total : ℕ) → mid ≡ xs ++ drop n old → length xs ≡ n → length old ≡ total → n ≤ total → k ≡ length mid - n → new ≡ zeros (length (mid_of n k mid)) → put_mid n k mid new ≡ padded total xs

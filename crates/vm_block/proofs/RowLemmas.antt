@@ -11,6 +11,8 @@ use Rattle.vm_block.specs.Leaf.{Record, RecordFits, IsLeaf, key_bytes, record_by
 use Rattle.vm_block.specs.Node.{ChildFits, IsNode, child_bytes}
 use Rattle.vm_block.specs.Row.{key_of, record_of, child_of, leaf_row, node_row}
 use Rattle.vm_block.proofs.RecordLemmas.{key_is, record_value, record_length, record_key}
+use Rattle.vm_block.proofs.EachLemmas.{each_at}
+use Rattle.vm_block.proofs.LeafLemmas.{rows_of}
 use Rattle.vm_block.proofs.WayLemmas.{node_piece, leaf_piece}
 
 key_read : (key : Key) (rest : List ℕ) → KeyFits key → key_of (key_bytes key ++ rest) ≡ key
@@ -32,7 +34,7 @@ row_record row r fits is =
     let many : little_number 2 (drop 10 row) ≡ length r.1 = ap (λ z. little_number 2 (drop 10 z)) is ∙ record_length r fits in
     let few : min 240 (little_number 2 (drop 10 row)) ≡ length r.1 = omega (arith, many, fits.1) in
     let value : take (min 240 (little_number 2 (drop 10 row))) (drop 12 row) ≡ r.1 =
-    ap₂ take few (ap (drop 12) is ∙ record_value r) ∙ take_at r.1 (zeros (240 - length r.1)) (length r.1) refl in
+    ap₂ take few (ap (drop 12) is ∙ record_value r fits) ∙ take_at r.1 (zeros (240 - length r.1)) (length r.1) refl in
     λ i. (key i, value i)
 
 -- and a child in its own
@@ -46,8 +48,8 @@ row_child row c fits is =
 -- the records of a leaf, row by row
 pub leaf_record : (bytes : List ℕ) (rs : List Record) (i : ℕ) (d : Record) → IsLeaf bytes rs → i < length rs → record_of (leaf_row bytes i) ≡ get_or rs i d
 leaf_record bytes rs i d leaf lt =
-    let piece = leaf_piece bytes rs i d leaf lt in
-    row_record (leaf_row bytes i) (get_or rs i d) piece.1 piece.0
+    let piece = leaf_piece bytes rs i d (rows_of bytes rs leaf) lt in
+    row_record (leaf_row bytes i) (get_or rs i d) (each_at RecordFits rs i d leaf.fit lt) piece.0
 
 -- the children of an inner block
 pub node_child : (bytes : List ℕ) (level : ℕ) (cs : List Child) (i : ℕ) (d : Child) → IsNode bytes level cs → i < length cs → child_of (node_row bytes i) ≡ get_or cs i d

@@ -6,7 +6,7 @@ use Rattle.std.proofs.lemmas.Grind.{flat_map-append}
 use Rattle.std.proofs.Math.Nat.{mul-le-mul_left}
 use Rattle.std.proofs.Math.Seq.{paste, take-add}
 use Rattle.vm_block.proofs.EachLemmas.{each_front, each_back}
-use Rattle.vm_block.proofs.Pieces.{then_writes}
+use Rattle.vm_block.proofs.Pieces.{then_inside, then_writes}
 use borrow.Rule.Slice.PartMut.{put_mid, mid_of}
 
 pub all_push : {X : Type 0} (P : X → Type 0) (xs : List X) (x : X) → AllByRecursion P xs → P x → AllByRecursion P (xs ++ x ∷ [])
@@ -152,6 +152,36 @@ module _ {X : Type 0} (spelled : X → List ℕ) (P : X → Type 0) (size : ℕ)
 
       regroup_four : (a b c d : List ℕ) → a ++ (b ++ (c ++ d)) ≡ (a ++ (b ++ c)) ++ d
       regroup_four a b c d = simp append_assoc
+
+  -- the rows behind the one at i moved over it, and as many bytes as one of them written where the last one stood
+  pub row_remove : (xs : List X) (i h : ℕ) (bytes head rest new : List ℕ) (m e : ℕ) → AllByRecursion P xs → i < length xs → length head ≡ h → bytes ≡ head ++ (flat_map spelled xs ++ rest) → m ≡ size * length (drop (i + 1) xs) → e ≡ h + size * i + m
+      → put_mid e size (paste bytes (h + size * i) (drop (h + size * (i + 1)) bytes) m) new ≡ head ++ (flat_map spelled (take i xs ++ drop (i + 1) xs) ++ (new ++ rest))
+  row_remove xs i h bytes head rest new m e all lt long is many end =
+      let n = h + size * i in
+      let t = h + size * (i + 1) in
+      let a = flat_map spelled (take i xs) in
+      let b = flat_map spelled (drop (i + 1) xs) in
+      let split = λ (k : ℕ). subst (AllByRecursion P) (sym (take-append-drop k xs)) all in
+      let before : take n bytes ≡ head ++ a = (rows_cut xs i h bytes head rest all (omega arith) long is).0 in
+      let behind : drop t bytes ≡ b ++ rest = (rows_cut xs (i + 1) h bytes head rest all (omega arith) long is).1 in
+      let backs : length b ≡ m = length-rows (drop (i + 1) xs) (each_back P (take (i + 1) xs) (drop (i + 1) xs) (split (i + 1))) ∙ sym many in
+      let fronts : length (head ++ a) ≡ n = length-append head a ∙ ap (λ z. z + length a) long ∙ ap (λ z. h + z) (length-rows (take i xs) (each_front P (take i xs) (drop i xs) (split i)) ∙ ap (λ z. size * z) (length-take-le i xs (omega arith))) in
+      let under : take m (drop t bytes) ≡ b = ap (take m) behind ∙ take_at b rest m backs in
+      let moved = paste bytes n (drop t bytes) m in
+      let front = (head ++ a) ++ b in
+      let parts : moved ≡ front ++ drop e bytes =
+      ap (λ x. (x ++ take m (drop t bytes)) ++ drop (n + m) bytes) before ∙ ap (λ x. ((head ++ a) ++ x) ++ drop (n + m) bytes) under ∙ ap (λ k. front ++ drop k bytes) (sym end) in
+      let whole : length front ≡ e = length-append (head ++ a) b ∙ ap (λ z. z + length b) fronts ∙ ap (λ z. n + z) backs ∙ sym end in
+      let step : t ≡ n + size = omega arith in
+      let far : e + size ≡ t + m = omega (arith, step, end) in
+      let past : drop (e + size) bytes ≡ rest = ap (λ k. drop k bytes) far ∙ sym (drop-drop m t bytes) ∙ ap (drop m) behind ∙ drop_at b rest m backs in
+      then_inside front new bytes moved new e size (e + size) parts whole refl refl
+      ∙ ap (λ x. (front ++ new) ++ x) past
+      ∙ regroup head a b new rest
+      ∙ ap (λ x. head ++ (x ++ (new ++ rest))) (sym (flat_map-append spelled (take i xs) (drop (i + 1) xs)))
+    where
+      regroup : (a b c d e : List ℕ) → (((a ++ b) ++ c) ++ d) ++ e ≡ a ++ ((b ++ c) ++ (d ++ e))
+      regroup a b c d e = simp append_assoc
 
   module _ (spelled_one : (x y : X) → P x → P y → spelled x ≡ spelled y → x ≡ y) where
     -- as many pieces of one spelling are the same

@@ -3,13 +3,12 @@ use Rattle.std.proofs.Common.{◌≡◌, ℕ, ◌+◌, ◌-◌, ◌*◌, ◌<◌
 use Rattle.std.specs.List.{AllByRecursion, flat_map}
 use Rattle.std.proofs.lemmas.List.{length_push, map-append, drop_more, append-nil, take_all}
 use Rattle.vm_types.specs.declared.key.Key.{Key}
-use Rattle.vm_types.specs.Places.{KeyFits, RisesFrom, places}
+use Rattle.vm_types.specs.Places.{KeyFits, RisesFrom}
 use Rattle.vm_block.specs.declared.node.Child.{Child}
-use Rattle.vm_block.specs.Head.{IsLeafHead, IsNodeHead}
+use Rattle.vm_block.specs.Head.{IsNodeHead}
 use Rattle.vm_block.specs.Padding.{zeros}
-use Rattle.vm_block.specs.Leaf.{Record, RecordFits, IsLeaf, key_bytes, leaf_head, record_bytes}
+use Rattle.vm_block.specs.Leaf.{Row, RowFits, key_bytes, record_bytes}
 use Rattle.vm_block.specs.Node.{ChildFits, IsNode, lows, node_head, child_bytes}
-use Rattle.vm_block.proofs.LeafLemmas.{length-leaf_head, leaf_found, leaf_framed}
 use Rattle.vm_block.proofs.NodeLemmas.{length-node, length-node_head, node_found, node_framed, node_parts}
 use Rattle.vm_block.proofs.Pieces.{zero_behind}
 use Rattle.vm_block.proofs.RecordLemmas.{key_one, record_key}
@@ -79,18 +78,13 @@ module _ {X : Type 0} (spelled : X → List ℕ) (P : X → Type 0) (at : X → 
         let piece = piece_at spelled P size length-spelled xs i d bytes rest all (omega arith) e in
         subst (λ n. RisesFrom n (map at (drop (i + 1) xs))) (is (get_or xs i d) piece.1 piece.0) (follows_split count i low d xs rest lt follows all many e rises).1
 
--- # Records and children
+-- # Rows of leaves and inner blocks
 
--- the key with which a record begins
-pub key_here : (r : Record) (bytes : List ℕ) (key : Key) → RecordFits r → KeyFits key → bytes ≡ record_bytes r → take 10 bytes ≡ key_bytes key → r.0 ≡ key
+-- the key with which a row begins
+pub key_here : (r : Row) (bytes : List ℕ) (key : Key) → RowFits r → KeyFits key → bytes ≡ record_bytes r → take 10 bytes ≡ key_bytes key → r.0 ≡ key
 key_here r bytes key fits small is begins = key_one r.0 key [] [] fits.0 small (ap (λ x. x ++ []) (sym (record_key r) ∙ ap (take 10) (sym is) ∙ begins))
 
--- the rows between a head and zero bytes are a leaf, or an inner block
-pub leaf_told : (bytes : List ℕ) (rs : List Record) (n k : ℕ) → length bytes ≡ 4096 → IsLeafHead bytes 16 n → length rs ≡ n → drop (16 + 252 * n) bytes ≡ zeros (length bytes - (16 + 252 * n)) → 4096 ≤ 16 + k
-    → take (252 * n) (take k (drop 16 bytes)) ≡ flat_map record_bytes rs → AllByRecursion RecordFits rs → RisesFrom 0 (places rs) → IsLeaf bytes rs
-leaf_told bytes rs n k whole head many back enough rows fit rising =
-    leaf_found bytes rs n k whole head.some head.few many (leaf_head n) (sym (append-nil (leaf_head n))) (ap (λ m. take m bytes) (length-leaf_head n) ∙ head.begins) back enough rows fit rising
-
+-- the rows between a head and zero bytes are an inner block
 pub node_told : (bytes : List ℕ) (level : ℕ) (cs : List Child) (n k : ℕ) → length bytes ≡ 4096 → IsNodeHead bytes level n → length cs ≡ n → drop (16 + 14 * n) bytes ≡ zeros (length bytes - (16 + 14 * n)) → 4080 ≤ k
     → take (14 * n) (take k (drop 16 bytes)) ≡ flat_map child_bytes cs → AllByRecursion ChildFits cs → RisesFrom 0 (lows cs) → IsNode bytes level cs
 node_told bytes level cs n k whole head many back enough rows fit rising =
@@ -109,9 +103,6 @@ zero_from bytes end k whole far is = (zero_behind bytes end k (omega arith)).1 i
 pub zero_to : (bytes : List ℕ) (end k : ℕ) → length bytes ≡ 4096 → k ≡ 4096 - end → take k (drop end bytes) ≡ zeros (length (take k (drop end bytes))) → drop end bytes ≡ zeros (length bytes - end)
 zero_to bytes end k whole far is = (zero_behind bytes end k (omega arith)).0 is
 
--- a leaf has these zero bytes, and so has an inner block
-pub leaf_zeros : (bytes : List ℕ) (rs : List Record) (n : ℕ) → IsLeaf bytes rs → n ≡ length rs → drop (16 + 252 * n) bytes ≡ zeros (length bytes - (16 + 252 * n))
-leaf_zeros bytes rs n leaf count = (leaf_framed bytes rs n (leaf_head n) leaf count (sym (append-nil (leaf_head n)))).1
-
+-- an inner block has these zero bytes
 pub node_zeros : (bytes : List ℕ) (level : ℕ) (cs : List Child) (l n : ℕ) → IsNode bytes level cs → (l ≡ level) × (n ≡ length cs) → drop (16 + 14 * n) bytes ≡ zeros (length bytes - (16 + 14 * n))
 node_zeros bytes level cs l n node same = (node_framed bytes level cs l n (node_head l n) node same (sym (append-nil (node_head l n)))).1

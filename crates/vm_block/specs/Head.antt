@@ -1,5 +1,5 @@
 -- The head of a block of a tree: its first sixteen bytes.
-use Rattle.std.specs.Prelude.{◌≡◌, ℕ, ◌<◌, ◌≤◌, List, ◌++◌, take}
+use Rattle.std.specs.Prelude.{◌≡◌, ℕ, ◌<◌, ◌≤◌, Bool, false, List, ◌++◌, take, codes}
 use Rattle.byteorder.specs.Endian.{little_bytes}
 use Rattle.vm_block.specs.Leaf.{leaf_head}
 use Rattle.vm_block.specs.Node.{node_head}
@@ -17,11 +17,15 @@ IsHeadOfLeaf letters most head = (head.letters ≡ letters) × (head.level ≡ 0
 abbrev pub IsHeadOfNode : ℕ → Head → Type 0
 IsHeadOfNode letters head = (head.letters ≡ letters) × (0 < head.level) × (head.level ≤ 7) × (0 < head.count) × (head.count ≤ 256) × (head.zero ≡ 0)
 
--- the bytes begin with the head of a leaf of so many records, from one to the greatest count
-pub record IsLeafHead (bytes : List ℕ) (most n : ℕ) : Type 0 where
-  pub begins : take 16 bytes ≡ leaf_head n
+-- the bytes begin with the head of a leaf of so many rows, from one to the greatest count, whose letters say whether one is long
+pub record IsRowsHead (bytes : List ℕ) (most : ℕ) (long : Bool) (n : ℕ) : Type 0 where
+  pub begins : take 16 bytes ≡ leaf_head long n
   pub some : 0 < n
   pub few : n ≤ most
+
+-- the bytes begin with the head of a leaf of so many records, none of them long
+abbrev pub IsLeafHead : List ℕ → ℕ → ℕ → Type 0
+IsLeafHead bytes most n = IsRowsHead bytes most false n
 
 -- the bytes begin with the head of an inner block of this level, from one to seven, with so many children, from one to 256
 pub record IsNodeHead (bytes : List ℕ) (level n : ℕ) : Type 0 where
@@ -30,3 +34,9 @@ pub record IsNodeHead (bytes : List ℕ) (level n : ℕ) : Type 0 where
   pub low : level ≤ 7
   pub some : 0 < n
   pub few : n ≤ 256
+
+-- the bytes begin with the head of a block of a long value of so many bytes, from 241 to 4,000
+pub record IsLongHead (bytes : List ℕ) (n : ℕ) : Type 0 where
+  pub begins : take 16 bytes ≡ codes "LONG" ++ (little_bytes 4 0 ++ (little_bytes 4 n ++ little_bytes 4 0))
+  pub above : 240 < n
+  pub most : n ≤ 4000

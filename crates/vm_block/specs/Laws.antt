@@ -1,8 +1,10 @@
 -- Laws of the forms, each a sentence about all bytes.
-use Rattle.std.specs.Prelude.{◌≡◌, ℕ, ◌<◌, ◌≤◌, List, length}
+use Rattle.std.specs.Prelude.{◌≡◌, ◌↔◌, ℕ, ◌<◌, ◌≤◌, List, length}
 use Rattle.std.specs.List.{AllByRecursion}
-use Rattle.vm_types.specs.Places.{RisesFrom, places}
-use Rattle.vm_block.specs.Leaf.{Record, RecordFits, IsLeaf, leaf_bytes}
+use Rattle.vm_types.specs.Places.{KeyFits, RisesFrom, places}
+use Rattle.vm_types.specs.declared.key.Key.{Key}
+use Rattle.vm_block.specs.Leaf.{Record, Row, RecordFits, RowFits, IsLeaf, HasRows, leaf_bytes}
+use Rattle.vm_block.specs.Long.{IsLong, long_bytes}
 use Rattle.vm_block.specs.Node.{ChildFits, IsNode, lows, node_bytes}
 use Rattle.vm_block.specs.Slot.{EntryFits, HeadFits, IsEntry, IsHead, IsSlot, entry_bytes, head_bytes}
 use Rattle.vm_block.specs.declared.node.Child.{Child}
@@ -12,6 +14,18 @@ use Rattle.vm_block.specs.declared.slot.Entry.{Entry}
 abbrev pub LeavesAreOne : Type 0
 LeavesAreOne = (c : List ℕ) (rs qs : List Record) → IsLeaf c rs → IsLeaf c qs → rs ≡ qs
 
+-- the same bytes are one leaf of rows
+abbrev pub RowsAreOne : Type 0
+RowsAreOne = (c : List ℕ) (ws vs : List Row) → HasRows c ws → HasRows c vs → ws ≡ vs
+
+-- a leaf of records is a leaf of rows that are these, and a leaf of short rows is one of records
+abbrev pub LeavesHaveRows : Type 0
+LeavesHaveRows = (c : List ℕ) (rs : List Record) → IsLeaf c rs ↔ (HasRows c rs × AllByRecursion RecordFits rs)
+
+-- the same bytes are one block of a long value
+abbrev pub LongsAreOne : Type 0
+LongsAreOne = (c : List ℕ) (k l : Key) (v u : List ℕ) → IsLong c k v → IsLong c l u → (k ≡ l) × (v ≡ u)
+
 -- the same bytes are one inner block
 abbrev pub NodesAreOne : Type 0
 NodesAreOne = (c : List ℕ) (l m : ℕ) (cs ds : List Child) → IsNode c l cs → IsNode c m ds → (l ≡ m) × (cs ≡ ds)
@@ -19,6 +33,18 @@ NodesAreOne = (c : List ℕ) (l m : ℕ) (cs ds : List Child) → IsNode c l cs 
 -- no bytes are a leaf and an inner block
 abbrev pub NoLeafIsANode : Type 0
 NoLeafIsANode = (c : List ℕ) (rs : List Record) (l : ℕ) (cs : List Child) → IsLeaf c rs → IsNode c l cs → ⊥
+
+-- no bytes are a leaf of rows and an inner block
+abbrev pub NoRowsAreANode : Type 0
+NoRowsAreANode = (c : List ℕ) (ws : List Row) (l : ℕ) (cs : List Child) → HasRows c ws → IsNode c l cs → ⊥
+
+-- no bytes are a leaf of rows and the block of a long value
+abbrev pub NoRowsAreLong : Type 0
+NoRowsAreLong = (c : List ℕ) (ws : List Row) (key : Key) (value : List ℕ) → HasRows c ws → IsLong c key value → ⊥
+
+-- no bytes are an inner block and the block of a long value
+abbrev pub NoNodeIsLong : Type 0
+NoNodeIsLong = (c : List ℕ) (l : ℕ) (cs : List Child) (key : Key) (value : List ℕ) → IsNode c l cs → IsLong c key value → ⊥
 
 -- the same bytes are one head of a slot
 abbrev pub HeadsAreOne : Type 0
@@ -36,6 +62,15 @@ SlotsAreOne = (blocks : List (List ℕ)) (limit most : ℕ) (es fs : List Entry)
 abbrev pub WrittenLeavesAreLeaves : Type 0
 WrittenLeavesAreLeaves =
     (rs : List Record) → 0 < length rs → length rs ≤ 16 → AllByRecursion RecordFits rs → RisesFrom 0 (places rs) → IsLeaf (leaf_bytes rs) rs
+
+-- the leaf of rows that rise, each within its limits and 16 at most, is a leaf of these
+abbrev pub WrittenRowsAreRows : Type 0
+WrittenRowsAreRows =
+    (ws : List Row) → 0 < length ws → length ws ≤ 16 → AllByRecursion RowFits ws → RisesFrom 0 (places ws) → HasRows (leaf_bytes ws) ws
+
+-- the block of a key and a value of 241 to 4,000 bytes is theirs
+abbrev pub WrittenLongsAreLong : Type 0
+WrittenLongsAreLong = (key : Key) (value : List ℕ) → KeyFits key → 240 < length value → length value ≤ 4000 → IsLong (long_bytes key value) key value
 
 -- the inner block of a level from 1 to 7 and of children that rise, each of its size and 256 at most, is one of these
 abbrev pub WrittenNodesAreNodes : Type 0

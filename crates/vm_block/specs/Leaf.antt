@@ -1,14 +1,21 @@
--- A leaf: the block of a tree that holds records.
-use Rattle.std.specs.Prelude.{◌≡◌, ℕ, ◌<◌, ◌≤◌, List, [], ◌∷◌, ◌++◌, length, codes}
-use Rattle.std.specs.List.{AllByRecursion, flat_map}
+-- A leaf: the block of a tree that holds records, or says of those with a long value which block has it.
+use Rattle.std.specs.Prelude.{◌≡◌, ◌⊎◌, ℕ, ◌<◌, ◌≤◌, ◌^◌, Bool, true, false, nat_lt, List, [], ◌∷◌, ◌++◌, length, take, codes}
+use Rattle.std.specs.List.{AllByRecursion, flat_map, list_any}
 use Rattle.byteorder.specs.Endian.{little_bytes}
 use Rattle.vm_types.specs.declared.key.Key.{Key}
 use Rattle.vm_types.specs.Places.{KeyFits, RisesFrom, places}
 use Rattle.vm_block.specs.Padding.{padded}
+use Rattle.vm_block.specs.declared.stored.Link.{Link}
+use Rattle.vm_block.specs.declared.stored.Stored.{Stored}
+use Rattle.vm_block.specs.declared.stored.Stored.TheVariants.{Short, Long}
 
 -- a record: a key and the bytes of its value
 abbrev pub Record : Type 0
 Record = Key × List ℕ
+
+-- a row of a leaf: a key, and what the leaf has of its value, in as many bytes: the value itself, or a link
+abbrev pub Row : Type 0
+Row = Key × List ℕ
 
 -- the records begin with this key
 abbrev pub BeginsWith : Key → List Record → Type 0
@@ -19,30 +26,79 @@ BeginsWith low (r ∷ rs) = r.0 ≡ low
 abbrev pub key_bytes : Key → List ℕ
 key_bytes key = little_bytes 2 key.table ++ little_bytes 8 key.number
 
--- a value in its 242 bytes: its length, and it, with zero bytes behind it
+-- what a leaf has of a value, in its 242 bytes: the value's length, and the first 240 bytes, with zero bytes behind them
 abbrev pub value_bytes : List ℕ → List ℕ
-value_bytes value = little_bytes 2 (length value) ++ padded 240 value
+value_bytes value = little_bytes 2 (length value) ++ take 240 (padded 240 value)
 
--- a record in its 252 bytes
+-- a record or row in its 252 bytes
 unfoldable pub record_bytes : Record → List ℕ
 record_bytes r = key_bytes r.0 ++ value_bytes r.1
 
--- the letters LEAF, level 0, how many records, and zero
-unfoldable pub leaf_head : ℕ → List ℕ
-leaf_head count = codes "LEAF" ++ (little_bytes 4 0 ++ (little_bytes 4 count ++ little_bytes 4 0))
+-- whether a row is long: its value has more than 240 bytes, and so a block of its own
+abbrev pub is_long : Row → Bool
+is_long w = nat_lt 240 (length w.1)
 
--- the leaf of these records, as it is written
+-- the letters of a leaf, by whether it has a long row
+abbrev pub leaf_letters : Bool → List ℕ
+leaf_letters false = codes "LEAF"
+leaf_letters true = codes "LEF2"
+
+-- the letters LEAF or LEF2, level 0, how many rows, and zero
+unfoldable pub leaf_head : Bool → ℕ → List ℕ
+leaf_head long count = leaf_letters long ++ (little_bytes 4 0 ++ (little_bytes 4 count ++ little_bytes 4 0))
+
+-- the leaf of these records or rows, as it is written
 unfoldable pub leaf_bytes : List Record → List ℕ
-leaf_bytes rs = padded 4096 (leaf_head (length rs) ++ flat_map record_bytes rs)
+leaf_bytes rs = padded 4096 (leaf_head (list_any is_long rs) (length rs) ++ flat_map record_bytes rs)
+
+-- a link, in as many bytes as the value has: the number of the value's block, with zero bytes behind it
+abbrev pub link_bytes : Link → List ℕ
+link_bytes link = padded link.len (little_bytes 4 link.block)
+
+-- a link to a value of 241 to 4,000 bytes, by a number of its size
+pub record LinkFits (link : Link) : Type 0 where
+  pub long : 240 < link.len
+  pub most : link.len ≤ 4000
+  pub block : link.block < 2 ^ 32
+
+-- what a leaf may have of a value: up to 240 bytes, which are the value, or a link
+abbrev pub IsStored : List ℕ → Type 0
+IsStored stored = (length stored ≤ 240) ⊎ ((link : Link) × LinkFits link × (stored ≡ link_bytes link))
+
+-- a short value, or a link, within its limits
+abbrev pub StoredFits : Stored → Type 0
+StoredFits (Short value) = length value.now ≤ 240
+StoredFits (Long link) = LinkFits link
+
+-- what is stored, as the bytes that a row has
+abbrev pub stored_bytes : Stored → List ℕ
+stored_bytes (Short value) = value.now
+stored_bytes (Long link) = link_bytes link
+
+-- a row that is not long
+abbrev pub IsShort : Row → Type 0
+IsShort w = length w.1 ≤ 240
+
+-- a row within the limits of keys and of what a leaf may have of a value
+abbrev pub RowFits : Row → Type 0
+RowFits w = KeyFits w.0 × IsStored w.1
 
 -- a record within the limits of keys and values
 abbrev pub RecordFits : Record → Type 0
 RecordFits r = KeyFits r.0 × (length r.1 ≤ 240)
 
--- these bytes are the leaf of these records
+-- these bytes are the leaf of these records, none of them long
 pub record IsLeaf (bytes : List ℕ) (rs : List Record) : Type 0 where
   pub spelled : bytes ≡ leaf_bytes rs
   pub some : 0 < length rs
   pub few : length rs ≤ 16
   pub fit : AllByRecursion RecordFits rs
   pub rising : RisesFrom 0 (places rs)
+
+-- these bytes are the leaf of these rows: with the letters LEF2 just where one is long
+pub record HasRows (bytes : List ℕ) (ws : List Row) : Type 0 where
+  pub spelled : bytes ≡ leaf_bytes ws
+  pub some : 0 < length ws
+  pub few : length ws ≤ 16
+  pub fit : AllByRecursion RowFits ws
+  pub rising : RisesFrom 0 (places ws)

@@ -3,6 +3,7 @@ pub mod Head
 pub mod Header
 pub mod Laws
 pub mod Leaf
+pub mod Long
 pub mod Node
 pub mod Padding
 pub mod Selector

@@ -1,13 +1,14 @@
-//! One child or one record put in the bytes of a block, which is not written anew for it.
-ghost use Rattle.std.specs.Prelude.{◌≡◌, ◌≢◌, ◌↔◌, ℕ, ◌<◌, ◌≤◌};
-ghost use Rattle.vm_block.specs.Changed.{InsertsRecord, PutsRecord, SetsChild, SetsRecord};
-ghost use Rattle.vm_block.specs.Head.{IsLeafHead};
-ghost use Rattle.vm_block.specs.Leaf.{RecordFits};
+//! One child or one row put in the bytes of a block, which is not written anew for it.
+ghost use Rattle.std.specs.Prelude.{◌≡◌, ◌≢◌, ◌↔◌, ℕ, Bool, ◌<◌, ◌≤◌};
+ghost use Rattle.vm_block.specs.Changed.{InsertsRow, PutsRecord, PutsRow, SetsChild, SetsRow};
+ghost use Rattle.vm_block.specs.Head.{IsLeafHead, IsRowsHead};
+ghost use Rattle.vm_block.specs.Leaf.{RecordFits, RowFits, StoredFits, stored_bytes};
 
-use crate::head::leaf_count;
+use crate::head::{leaf_count, rows_head};
 use crate::keys::read_key;
-use crate::leaf::{write_leaf_head, write_record};
+use crate::leaf_rows::seal;
 use crate::node::{Child, write_child};
+use crate::stored::{Stored, write_row};
 use crate::way::choose;
 use vm_types::{Key, Value};
 
@@ -30,23 +31,55 @@ pub fn set_child(bytes: &mut [u8; 4096], index: usize, child: Child)
     write_child(child, &mut bytes[16 + 14 * index..]);
 }
 
-/// Writes the record over the one at this index of a leaf.
-fn set_record(bytes: &mut [u8; 4096], index: usize, key: Key, value: &Value)
-    requires { index < 16 }
-    ensures { SetsRecord index (key, value.now) bytes.old bytes.new }
+/// Writes the row over the one at this index of a leaf of so many.
+fn set_row(bytes: &mut [u8; 4096], count: usize, index: usize, key: Key, stored: Stored<'_>)
+    requires within { index < count }
+    requires few { count ≤ 16 }
+    requires fits { StoredFits stored }
+    ensures { SetsRow count index (key, stored_bytes stored.entry) bytes.old bytes.new }
 {
-    write_record(key, value, &mut bytes[16 + 252 * index..]);
+    write_row(key, stored, &mut bytes[16 + 252 * index..]);
+    seal(bytes, count);
 }
 
-/// Puts the record at this index of a leaf of so many records, before those that stand there.
-fn insert_record(bytes: &mut [u8; 4096], count: usize, index: usize, key: Key, value: &Value)
+/// Puts the row at this index of a leaf of so many, before those that stand there.
+fn insert_row(bytes: &mut [u8; 4096], count: usize, index: usize, key: Key, stored: Stored<'_>)
     requires within { index ≤ count }
     requires room { count < 16 }
-    ensures { InsertsRecord count index (key, value.now) bytes.old bytes.new }
+    requires fits { StoredFits stored }
+    ensures { InsertsRow count index (key, stored_bytes stored.entry) bytes.old bytes.new }
 {
     bytes.copy_within(16 + 252 * index..16 + 252 * count, 16 + 252 * (index + 1));
-    write_record(key, value, &mut bytes[16 + 252 * index..]);
-    write_leaf_head(count as u32 + 1, bytes);
+    write_row(key, stored, &mut bytes[16 + 252 * index..]);
+    seal(bytes, count + 1);
+}
+
+/// Gives the key this in a leaf of MOST rows at most, where it does not get more by that. The
+/// letters of the leaf are those of its rows then.
+pub fn put_row(bytes: &mut [u8; 4096], most: usize, key: Key, stored: Stored<'_>) -> Placed
+    requires few { most ≤ 16 }
+    requires stored { StoredFits stored }
+    ensures fits { RowFits (key, stored_bytes stored.entry) }
+    ensures head { (result ≢ Placed.NoLeaf) ↔ ((long : Bool) × (n : ℕ) × IsRowsHead bytes.old most long n) }
+    ensures kept { result ≢ Placed.Put → bytes.new ≡ bytes.old }
+    ensures only { PutsRow result most (key, stored_bytes stored.entry) bytes.old bytes.new }
+{
+    let Some((_, count)) = rows_head(bytes, most) else {
+        return Placed::NoLeaf;
+    };
+    let place = key.place();
+    let index = choose(bytes, 252, count, place);
+    let there = read_key(&bytes[16 + 252 * index..]).place();
+    if there == place {
+        set_row(bytes, count, index, key, stored);
+        return Placed::Put;
+    }
+    if count == most {
+        return Placed::Full;
+    }
+    let at = if there < place { index + 1 } else { index };
+    insert_row(bytes, count, at, key, stored);
+    Placed::Put
 }
 
 /// Gives the key this value in a leaf of MOST records at most, where it does not get more by that.
@@ -57,22 +90,10 @@ pub fn put_record(bytes: &mut [u8; 4096], most: usize, key: Key, value: &Value) 
     ensures kept { result ≢ Placed.Put → bytes.new ≡ bytes.old }
     ensures only { PutsRecord result most (key, value.now) bytes.old bytes.new }
 {
-    let short = value.as_bytes().len() <= Value::MAX_LEN;
-    prove!(short);
-    let Some(count) = leaf_count(bytes, most) else {
-        return Placed::NoLeaf;
-    };
-    let place = key.place();
-    let index = choose(bytes, 252, count, place);
-    let there = read_key(&bytes[16 + 252 * index..]).place();
-    if there == place {
-        set_record(bytes, index, key, value);
-        return Placed::Put;
+    let stored = Stored::Short(value.as_bytes());
+    let _place = key.place();
+    match leaf_count(bytes, most) {
+        Some(_) => put_row(bytes, most, key, stored),
+        None => Placed::NoLeaf,
     }
-    if count == most {
-        return Placed::Full;
-    }
-    let at = if there < place { index + 1 } else { index };
-    insert_record(bytes, count, at, key, value);
-    Placed::Put
 }

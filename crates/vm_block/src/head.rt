@@ -1,15 +1,24 @@
 //! The head of a block of a tree, compared as four numbers.
-ghost use Rattle.std.specs.Prelude.{◌≡◌, ℕ, ◌≤◌, ◌↔◌, Some, length, take, IsTrue, IfSome};
-ghost use Rattle.vm_block.specs.Head.{IsHeadOfLeaf, IsHeadOfNode, IsLeafHead, IsNodeHead, head_numbers};
+ghost use Rattle.std.specs.Prelude.{◌≡◌, ℕ, ◌≤◌, ◌↔◌, Bool, Some, length, take, IsTrue, IfSome};
+ghost use Rattle.vm_block.specs.Head.{IsHeadOfLeaf, IsHeadOfNode, IsLeafHead, IsLongHead, IsNodeHead, IsRowsHead, head_numbers};
 
 use crate::node::is_in_range;
 use byteorder::{ByteOrder, LittleEndian};
 
+/// The greatest number of rows of a leaf.
+pub(crate) const MAX_RECORDS: usize = 16;
+
 /// The letters LEAF as a number.
 const LEAF: u32 = 0x4641_454C;
 
+/// The letters LEF2 as a number.
+const LEF2: u32 = 0x3246_454C;
+
 /// The letters NODE as a number.
 const NODE: u32 = 0x4544_4F4E;
+
+/// The letters LONG as a number.
+const LONG: u32 = 0x474E_4F4C;
 
 /// The first sixteen bytes of a block.
 #[derive(Clone, Copy)]
@@ -32,11 +41,11 @@ fn read_head(bytes: &[u8]) -> Head
     }
 }
 
-/// Whether a leaf of so many records at most may have this head.
-fn is_leaf(head: Head, most: usize) -> bool
-    ensures { IsTrue result ↔ IsHeadOfLeaf LEAF most head }
+/// Whether a leaf of these letters and of so many rows at most may have this head.
+fn is_leaf(head: Head, letters: u32, most: usize) -> bool
+    ensures { IsTrue result ↔ IsHeadOfLeaf letters most head }
 {
-    head.letters == LEAF
+    head.letters == letters
         && head.level == 0
         && (1..=most).contains(&(head.count as usize))
         && head.zero == 0
@@ -49,15 +58,32 @@ fn is_node(head: Head) -> bool
     head.letters == NODE && is_in_range(head.level, head.count) && head.zero == 0
 }
 
+/// Whether a leaf has a long row by its head, and how many rows it has. None where the bytes begin
+/// with the head of no leaf of so many rows at most.
+pub(crate) fn rows_head(bytes: &[u8; 4096], most: usize) -> Option<(bool, usize)>
+    requires { most ≤ 16 }
+    ensures found { IfSome result (λ head. IsRowsHead bytes.now most head.0 head.1) }
+    ensures only { (long : Bool) (n : ℕ) → IsRowsHead bytes.now most long n → result ≡ Some (long, n) }
+{
+    let head = read_head(bytes);
+    if is_leaf(head, LEAF, most) {
+        Some((false, head.count as usize))
+    } else if is_leaf(head, LEF2, most) {
+        Some((true, head.count as usize))
+    } else {
+        None
+    }
+}
+
 /// How many records a leaf has by its head. None where the bytes begin with the head of no leaf of
-/// so many records at most.
+/// so many records at most, none of them long.
 pub(crate) fn leaf_count(bytes: &[u8; 4096], most: usize) -> Option<usize>
     requires { most ≤ 16 }
     ensures found { IfSome result (IsLeafHead bytes.now most) }
     ensures only { (n : ℕ) → IsLeafHead bytes.now most n → result ≡ Some n }
 {
     let head = read_head(bytes);
-    if is_leaf(head, most) {
+    if is_leaf(head, LEAF, most) {
         Some(head.count as usize)
     } else {
         None
@@ -73,6 +99,21 @@ pub(crate) fn node_numbers(bytes: &[u8; 4096]) -> Option<(u8, usize)>
     let head = read_head(bytes);
     if is_node(head) {
         Some((head.level as u8, head.count as usize))
+    } else {
+        None
+    }
+}
+
+/// How many bytes a long value has by the head of its block. None where the bytes begin with the
+/// head of none.
+pub(crate) fn long_len(bytes: &[u8; 4096]) -> Option<usize>
+    ensures found { IfSome result (IsLongHead bytes.now) }
+    ensures only { (n : ℕ) → IsLongHead bytes.now n → result ≡ Some n }
+{
+    let head = read_head(bytes);
+    let len = head.count as usize;
+    if head.letters == LONG && head.level == 0 && (241..=4000).contains(&len) && head.zero == 0 {
+        Some(len)
     } else {
         None
     }

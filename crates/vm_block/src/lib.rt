@@ -17,18 +17,25 @@ mod header;
 mod keys;
 mod laws;
 mod leaf;
+mod leaf_rows;
+mod long;
 mod node;
 mod row;
 mod selector;
 mod slot;
 mod spelling;
+mod splitting;
+mod stored;
+mod taking;
 mod telling;
 mod way;
 
-pub use changing::{Placed, put_record, set_child};
+pub use changing::{Placed, put_record, put_row, set_child};
 pub use header::{is_header, write_header};
 pub use laws::{one_form, written_is_a_form};
 pub use leaf::{read_leaf, write_leaf};
+pub use leaf_rows::{stored_at, write_rows};
+pub use long::{read_long, write_long};
 pub use node::{Child, Node, read_node, spelled_children, write_node};
 pub use row::{child_row, record_row, record_value};
 pub use selector::{SlotName, read_selector, write_selector};
@@ -36,5 +43,8 @@ pub use slot::{
     Entry, Kind, MAX_BLOCKS, MAX_ENTRIES, MIN_BLOCKS, SlotHead, read_entry, read_slot_head,
     write_entry, write_slot_head,
 };
-pub use telling::{leaf_size, node_size, record_key};
-pub use way::{Way, child_at, find_child, find_record, lowest_key};
+pub use splitting::split_rows;
+pub use stored::{Link, Stored};
+pub use taking::{Taken, remove_row};
+pub use telling::{leaf_size, node_size, record_key, rows_size};
+pub use way::{Way, child_at, find_child, find_record, find_row, lowest_key};

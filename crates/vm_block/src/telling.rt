@@ -1,43 +1,39 @@
 //! Whether a block is a leaf or an inner block, told by its bytes, of which nothing is copied out.
 ghost use Rattle.std.specs.Prelude.{◌≡◌, ◌<◌, ◌≤◌, ◌+◌, ◌*◌, Some, length, take, drop, IsTrue, IfSome};
 ghost use Rattle.vm_types.specs.Places.{KeyFits, RisesFrom, places};
-ghost use Rattle.vm_block.specs.Leaf.{Record, RecordFits, key_bytes, record_bytes};
+ghost use Rattle.vm_block.specs.Leaf.{Row, RowFits, key_bytes, record_bytes};
 ghost use Rattle.vm_block.specs.Node.{lows};
-ghost use Rattle.vm_block.specs.Told.{HaveChildren, HaveRecords, IfChildren, IfLeaf, IfNode, IfRecordAt, IfRecords, IsLeafSize, IsNodeSize, IsRecordOfItsKey};
+ghost use Rattle.vm_block.specs.Told.{HaveChildren, HaveRows, IfChildren, IfHasRows, IfLeaf, IfLeafRowAt, IfNode, IfRecordAt, IfRows, IsLeafSize, IsNodeSize, IsRowOfItsKey, IsRowsSize};
 
-use crate::head::{leaf_count, node_numbers};
+use crate::head::{MAX_RECORDS, leaf_count, node_numbers, rows_head};
 use crate::keys::read_key;
-use crate::leaf::MAX_RECORDS;
+use crate::leaf_rows::is_sealed;
 use crate::node::read_child;
 use crate::spelling::are_zero;
-use byteorder::{ByteOrder, LittleEndian};
-use vm_types::{Key, Value};
+use crate::stored::read_stored;
+use vm_types::Key;
 
-/// Whether the bytes are a record; its key is the one that they begin with.
-fn is_record(bytes: &[u8]) -> bool
+/// Whether the bytes are a row; its key is the one that they begin with.
+fn is_row(bytes: &[u8]) -> bool
     requires { length bytes.now ≡ 252 }
-    ensures found { IsTrue result → IsRecordOfItsKey bytes.now }
-    ensures only { (r : Record) → RecordFits r → bytes.now ≡ record_bytes r → IsTrue result }
+    ensures found { IsTrue result → IsRowOfItsKey bytes.now }
+    ensures only { (w : Row) → RowFits w → bytes.now ≡ record_bytes w → IsTrue result }
 {
-    let len = LittleEndian::read_u16(&bytes[10..]) as usize;
-    if len > Value::MAX_LEN {
-        return false;
-    }
-    are_zero(&bytes[12 + len..])
+    read_stored(bytes).is_some()
 }
 
-/// Whether the bytes begin with so many records whose keys rise strictly.
-fn are_records(bytes: &[u8], count: usize) -> bool
+/// Whether the bytes begin with so many rows whose keys rise strictly.
+fn are_rows(bytes: &[u8], count: usize) -> bool
     requires few { count ≤ 16 }
     requires room { 252 * count ≤ length bytes.now }
-    ensures found { IsTrue result → HaveRecords bytes.now count }
-    ensures only { IfRecords bytes.now count (λ rs. RisesFrom 0 (places rs) → IsTrue result) }
+    ensures found { IsTrue result → HaveRows bytes.now count }
+    ensures only { IfRows bytes.now count (λ ws. RisesFrom 0 (places ws) → IsTrue result) }
 {
     let mut low = 0;
     for i in 0..count {
-        let record = &bytes[252 * i..252 * i + 252];
-        let place = read_key(record).place();
-        if place < low || !is_record(record) {
+        let row = &bytes[252 * i..252 * i + 252];
+        let place = read_key(row).place();
+        if place < low || !is_row(row) {
             return false;
         }
         low = place + 1;
@@ -45,18 +41,32 @@ fn are_records(bytes: &[u8], count: usize) -> bool
     true
 }
 
-/// How many records a leaf has. None exactly where the bytes are none.
+/// How many rows a leaf has, short and long. None exactly where the bytes are none.
+pub fn rows_size(bytes: &[u8; 4096]) -> Option<usize>
+    ensures found { IfSome result (IsRowsSize bytes.now) }
+    ensures only { IfHasRows bytes.now (λ ws. result ≡ Some (length ws)) }
+{
+    let Some((long, count)) = rows_head(bytes, MAX_RECORDS) else {
+        return None;
+    };
+    if !are_rows(&bytes[16..], count)
+        || !are_zero(&bytes[16 + 252 * count..])
+        || !is_sealed(&bytes[16..], count, long)
+    {
+        return None;
+    }
+    Some(count)
+}
+
+/// How many records a leaf has. None exactly where the bytes are none, or a record is long.
 pub fn leaf_size(bytes: &[u8; 4096]) -> Option<usize>
     ensures found { IfSome result (IsLeafSize bytes.now) }
     ensures only { IfLeaf bytes.now (λ rs. result ≡ Some (length rs)) }
 {
-    let Some(count) = leaf_count(bytes, MAX_RECORDS as usize) else {
-        return None;
-    };
-    if !are_records(&bytes[16..], count) || !are_zero(&bytes[16 + 252 * count..]) {
-        return None;
+    match leaf_count(bytes, MAX_RECORDS) {
+        Some(_) => rows_size(bytes),
+        None => None,
     }
-    Some(count)
 }
 
 /// The key of the record at i, where a leaf has it.
@@ -64,6 +74,7 @@ pub fn record_key(bytes: &[u8; 4096], i: usize) -> Key
     requires { i < 16 }
     ensures fits { KeyFits result }
     ensures spelled { take 10 (drop (16 + 252 * i) bytes.now) ≡ key_bytes result }
+    ensures row { IfLeafRowAt bytes.now i (λ w. w.0 ≡ result) }
     ensures key { IfRecordAt bytes.now i (λ r. r.0 ≡ result) }
 {
     read_key(&bytes[16 + 252 * i..])

@@ -1,17 +1,17 @@
 //! The way down to a key in the bytes of blocks, which are not read whole for it.
-ghost use Rattle.std.specs.Prelude.{◌≡◌, ℕ, ◌+◌, ◌*◌, ◌<◌, ◌≤◌, None, length, take, drop, IfSome, IsSomeAnd, slice_index_or};
+ghost use Rattle.std.specs.Prelude.{◌≡◌, ℕ, Bool, ◌+◌, ◌*◌, ◌<◌, ◌≤◌, None, length, take, drop, IfSome, IsSomeAnd, slice_index_or};
 ghost use Rattle.vm_types.specs.Places.{KeyFits, place, value_at};
-ghost use Rattle.vm_block.specs.Head.{IsLeafHead, IsNodeHead};
+ghost use Rattle.vm_block.specs.Head.{IsLeafHead, IsNodeHead, IsRowsHead};
 ghost use Rattle.vm_block.specs.Leaf.{BeginsWith, key_bytes};
 ghost use Rattle.vm_block.specs.Node.{ChildFits, child_bytes};
 ghost use Rattle.vm_block.specs.Row.{node_row};
-ghost use Rattle.vm_block.specs.Told.{IfLeaf, IfNode, LacksRecord};
+ghost use Rattle.vm_block.specs.Told.{IfHasRows, IfLeaf, IfNode, LacksRecord, LacksRow, StandsAmong, found_bytes};
 ghost use Rattle.vm_block.specs.Way.{ChoosesAmong, IsWay, IsWayTo, Lowest, TellsHead};
 
-use crate::head::{leaf_count, node_numbers};
+use crate::head::{MAX_RECORDS, leaf_count, node_numbers, rows_head};
 use crate::keys::read_key;
-use crate::leaf::{MAX_RECORDS, read_record};
 use crate::node::{Child, read_child};
+use crate::stored::{Stored, read_stored};
 use vm_types::{Key, Value};
 
 /// Where a descent to a key goes in an inner block.
@@ -92,21 +92,24 @@ pub fn lowest_key(bytes: &[u8; 4096]) -> Key
     ensures fits { KeyFits result }
     ensures spelled { take 10 (drop 16 bytes.now) ≡ key_bytes result }
     ensures node { IfNode bytes.now (λ level cs. Lowest result cs) }
+    ensures rows { IfHasRows bytes.now (BeginsWith result) }
     ensures leaf { IfLeaf bytes.now (BeginsWith result) }
 {
     read_key(&bytes[16..])
 }
 
-/// The value of the key in a leaf. None just where the bytes begin with the head of none, or the
-/// record that was found is none.
-pub fn find_record(bytes: &[u8; 4096], key: Key) -> Option<Option<Value>>
-    // On any bytes: None where they begin with the head of no leaf, and else only where a record is none.
-    ensures head { IfSome result (λ value. (n : ℕ) × IsLeafHead bytes.now 16 n) }
-    ensures headed { (n : ℕ) → IsLeafHead bytes.now 16 n → result ≡ None → LacksRecord bytes.now n }
+/// What a leaf has of the key's value. None just where the bytes begin with the head of none, or
+/// the row that was found is none.
+pub fn find_row(bytes: &[u8; 4096], key: Key) -> Option<Option<Stored<'_>>>
+    // On any bytes: None where they begin with the head of no leaf, and else only where a row is none.
+    ensures head { IfSome result (λ found. (long : Bool) × (n : ℕ) × IsRowsHead bytes.now 16 long n) }
+    ensures headed { (long : Bool) (n : ℕ) → IsRowsHead bytes.now 16 long n → result ≡ None → LacksRow bytes.now n }
+    ensures stands { IfSome result (λ found. IfSome found (StandsAmong bytes.now)) }
 
-    ensures only { IfLeaf bytes.now (λ rs. IsSomeAnd result (λ v. v ≡ value_at (place key) rs)) }
+    ensures only { IfHasRows bytes.now
+        (λ ws. IsSomeAnd result (λ found. found_bytes found ≡ value_at (place key) ws)) }
 {
-    let Some(count) = leaf_count(bytes, MAX_RECORDS as usize) else {
+    let Some((_, count)) = rows_head(bytes, MAX_RECORDS) else {
         return None;
     };
     let place = key.place();
@@ -114,8 +117,31 @@ pub fn find_record(bytes: &[u8; 4096], key: Key) -> Option<Option<Value>>
     if read_key(&bytes[at..]).place() != place {
         return Some(None);
     }
-    match read_record(&bytes[at..at + 252]) {
-        Some(record) => Some(Some(record.1)),
+    match read_stored(&bytes[at..at + 252]) {
+        Some(stored) => Some(Some(stored)),
+        None => None,
+    }
+}
+
+/// The value of the key in a leaf of records. None just where the bytes begin with the head of
+/// none, or the record that was found is none.
+pub fn find_record(bytes: &[u8; 4096], key: Key) -> Option<Option<Value>>
+    // On any bytes: None where they begin with the head of no leaf, and else only where a record is none.
+    ensures head { IfSome result (λ value. (n : ℕ) × IsLeafHead bytes.now 16 n) }
+    ensures headed { (n : ℕ) → IsLeafHead bytes.now 16 n → result ≡ None → LacksRecord bytes.now n }
+
+    ensures only { IfLeaf bytes.now (λ rs. IsSomeAnd result (λ v. v ≡ value_at (place key) rs)) }
+{
+    let Some(_) = leaf_count(bytes, MAX_RECORDS) else {
+        return None;
+    };
+    match find_row(bytes, key) {
+        Some(Some(Stored::Short(value))) => match Value::new(value) {
+            Some(value) => Some(Some(value)),
+            None => None,
+        },
+        Some(Some(Stored::Long(_))) => None,
+        Some(None) => Some(None),
         None => None,
     }
 }

@@ -1,5 +1,5 @@
 -- Records without one: where it is taken out, and what is known of the rest.
-use Rattle.std.proofs.Common.{◌≡◌, ℕ, ◌+◌, ◌==◌, cond, true, false, List, [], ◌∷◌, ◌++◌, refl, ap, ◌∙◌, arith}
+use Rattle.std.proofs.Common.{◌≡◌, ℕ, ◌+◌, ◌≤◌, length, ◌==◌, cond, true, false, List, [], ◌∷◌, ◌++◌, refl, ap, ◌∙◌, arith}
 use Rattle.std.specs.List.{AllByRecursion}
 use Rattle.std.proofs.lemmas.Bool.{ne_eqb}
 use Rattle.vm_types.specs.declared.key.Key.{Key}
@@ -8,7 +8,7 @@ use Rattle.vm_types.specs.Places.{place, KeyFits, FitKeys, RisesFrom, places}
 use Rattle.vm_types.proofs.Bridge as bridge
 use Rattle.vm_types.proofs.Bridge.{RisesFrom-lower}
 use Rattle.vm_block.specs.Leaf.{Record}
-use Rattle.vm_tree.specs.Removing.{without_place}
+use Rattle.vm_block.specs.Changed.{without_place}
 use Rattle.vm_tree.proofs.Rising.{Below, Above}
 
 without_past : (p : ℕ) (xs ys : List Record) → Below p xs → without_place p (xs ++ ys) ≡ xs ++ without_place p ys
@@ -53,3 +53,13 @@ same_without p (r ∷ rs) = ap (λ (rest : List Record). cond (place r.0 == p) r
 -- the rest is the map without the key
 pub without_is : (key : Key) (m : Map) → KeyFits key → FitKeys m → RisesFrom 0 (places m) → without_place (place key) m ≡ without m key
 without_is key m fits fit rises = same_without (place key) m ∙ bridge.without_place-without key 0 m fits fit rises
+
+-- at most one record is taken out
+pub without_size : (p : ℕ) (rs : List Record) → (length (without_place p rs) ≤ length rs) × (length rs ≤ length (without_place p rs) + 1)
+without_size p [] = (omega arith, omega arith)
+without_size p (r ∷ rs) =
+    let rest = without_size p rs in
+    elim (place r.0 == p) as (λ t. (length (cond t rs (r ∷ without_place p rs)) ≤ length (r ∷ rs)) × (length (r ∷ rs) ≤ length (cond t rs (r ∷ without_place p rs)) + 1)) [
+      | true ↦ (omega arith, omega arith)
+      | false ↦ (omega (arith, rest.0), omega (arith, rest.1))
+    ]

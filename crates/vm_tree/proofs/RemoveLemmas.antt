@@ -14,7 +14,8 @@ use Rattle.vm_tree.specs.Tree.{Sizes, Children, Subtree}
 use Rattle.vm_tree.specs.Answers.{OkOrDevice}
 use Rattle.vm_tree.specs.Making.{Made}
 use Rattle.vm_tree.specs.Reading.{IsNodeAt}
-use Rattle.vm_tree.specs.Removing.{Narrows, IsLeft, RemovesBelow, child_of, without_place}
+use Rattle.vm_block.specs.Changed.{without_place}
+use Rattle.vm_tree.specs.Removing.{Narrows, IsLeft, RemovesBelow, child_of}
 use Rattle.vm_tree.specs.Replacing.{IsPathIn, IsRenewed, KeepsBeside, Replaces}
 use Rattle.vm_tree.specs.declared.root.Root.{Root}
 use Rattle.vm_tree.specs.declared.root.TreeFault.{TreeFault}

@@ -7,7 +7,8 @@ use Rattle.vm_types.proofs.Bridge.{value_at-get}
 use Rattle.vm_disk.specs.Disk.{Contents}
 use Rattle.vm_tree.specs.Tree.{Sizes}
 use Rattle.vm_tree.specs.Making.{Made}
-use Rattle.vm_tree.specs.Removing.{child_of, without_place}
+use Rattle.vm_block.specs.Changed.{without_place}
+use Rattle.vm_tree.specs.Removing.{child_of}
 use Rattle.vm_tree.specs.Root.{IsBare, IsTop, IsRooted, IsRootedIn}
 use Rattle.vm_tree.specs.declared.root.Root.{Root}
 use Rattle.vm_tree.proofs.Descent.{subtree_top}

@@ -67,26 +67,19 @@ HasWritten result new bytes = new.honest ≡ true → IfOk result (λ n. block n
 -- # What is made of records, where the disk is honest after the call
 -- Whatever was held before, the blocks are held now, and those to be kept that were held before.
 
--- records that rise, each within its limits, under children that are leaves, where so many may be in one
-abbrev pub MakesLeavesOf : {T : Type 0} → Result T TreeFault → (T → List Child) → ℕ → List Bool → List Bool → DiskState → List Record → Type 0
-MakesLeavesOf result children most held later new rs =
-    new.honest ≡ true → (before : List Bool) (keep : ℕ → Bool) → HoldsMore before held → (sizes : Sizes) → most ≤ sizes.leaf
-    → RisesFrom 0 (places rs) → AllByRecursion RecordFits rs
-    → IfOk result (λ done. Made (IsRenewed before later keep) sizes new.now.contents (length held) 0 (children done) rs)
+-- the records of these bytes, where they are two leaves, the first of lower keys
+abbrev pub MakesHalves : Result Copied TreeFault → List Bool → List Bool → DiskState → List ℕ → List ℕ → Type 0
+MakesHalves result held later new left right =
+    new.honest ≡ true → (before : List Bool) (keep : ℕ → Bool) → HoldsMore before held → (sizes : Sizes) (rs : List Record) (half : ℕ)
+    → left ≡ leaf_bytes (take half rs) → right ≡ leaf_bytes (drop half rs) → 0 < half → half < length rs → half ≤ sizes.leaf → length rs - half ≤ sizes.leaf
+    → half ≤ 16 → length rs - half ≤ 16 → RisesFrom 0 (places rs) → AllByRecursion RecordFits rs
+    → IfOk result (λ copied. Made (IsRenewed before later keep) sizes new.now.contents (length held) 0 (children_of copied) rs)
 
--- all of them in one leaf
-abbrev pub MakesLeaf : Result Child TreeFault → List Bool → List Bool → DiskState → List Record → Type 0
-MakesLeaf result held later new rs = MakesLeavesOf result (λ child. child ∷ []) (length rs) held later new rs
-
--- in a leaf or two of so many records
-abbrev pub MakesLeaves : Result Copied TreeFault → ℕ → List Bool → List Bool → DiskState → List Record → Type 0
-MakesLeaves result most held later new rs = MakesLeavesOf result children_of most held later new rs
-
--- the records of a leaf with this one, in a leaf or two of so many records
+-- the records of a leaf with this one, where they are more than so many, which a leaf may have
 abbrev pub PutsInLeaf : Result Copied TreeFault → ℕ → List Bool → List Bool → DiskState → List ℕ → Record → Type 0
 PutsInLeaf result most held later new bytes r =
     new.honest ≡ true → (before : List Bool) (keep : ℕ → Bool) → HoldsMore before held → (sizes : Sizes) (rs : List Record)
-    → IsLeaf bytes rs → length rs ≤ most → most ≤ sizes.leaf
+    → IsLeaf bytes rs → length rs ≤ most → most < length (with_record r rs) → most ≤ sizes.leaf
     → IfOk result (λ copied. Made (IsRenewed before later keep) sizes new.now.contents (length held) 0 (children_of copied) (with_record r rs))
 
 -- the records of these bytes, where they are a leaf
@@ -137,8 +130,8 @@ SplitsNodeOver result most level way bytes copied =
     (cs : List Child) → IsNode bytes level cs → way.count ≡ length cs
     → OkOrDevice result (λ done. (is_split done ≡ true) ↔ (most < length (with_copied cs way.index copied)))
 
--- a leaf is, where it has more records than so many with this one
+-- a leaf is, where it has more records than so many with this one, as it has here
 abbrev pub SplitsLeafOver : Result Copied TreeFault → ℕ → List ℕ → Record → Type 0
 SplitsLeafOver result most bytes r =
-    (rs : List Record) → IsLeaf bytes rs → length rs ≤ most
+    (rs : List Record) → IsLeaf bytes rs → length rs ≤ most → most < length (with_record r rs)
     → OkOrDevice result (λ copied. (is_split copied ≡ true) ↔ (most < length (with_record r rs)))

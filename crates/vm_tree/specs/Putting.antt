@@ -1,12 +1,11 @@
 -- What a change of one key makes of a tree.
-use Rattle.std.specs.Prelude.{◌≡◌, ◌≢◌, ℕ, ◌+◌, ◌<◌, ◌≤◌, Bool, true, List, [], ◌∷◌, length, None, Result, IfOk, IfErr}
+use Rattle.std.specs.Prelude.{◌≡◌, ◌≢◌, ℕ, ◌+◌, ◌<◌, ◌≤◌, Bool, true, List, [], ◌∷◌, length, None, Result, IfOk}
 use Rattle.std.specs.List.{AllByRecursion}
 use Rattle.vm_types.specs.declared.key.Key.{Key}
 use Rattle.vm_types.specs.Map.{get, with_value}
 use Rattle.vm_types.specs.Places.{place, value_at, with_record}
 use Rattle.vm_disk.specs.Disk.{DiskState}
 use Rattle.vm_alloc.specs.Held.{IsHeld}
-use Rattle.vm_block.specs.Changed.{with_at, with_before}
 use Rattle.vm_block.specs.Leaf.{Record}
 use Rattle.vm_block.specs.declared.node.Child.{Child}
 use Rattle.vm_tree.specs.Tree.{Sizes}
@@ -18,14 +17,6 @@ use Rattle.vm_tree.specs.Root.{IsRootedIn, IfUnder, IfWhole, sizes_of}
 use Rattle.vm_tree.specs.declared.root.Root.{Root}
 use Rattle.vm_tree.specs.declared.root.TreeFault.{TreeFault}
 use Rattle.vm_tree.specs.declared.writing.Copied.{Copied}
-
--- the record of the key, whatever its value, takes the place of the one at the index that is answered
-abbrev pub GoesOver : Result ℕ ℕ → Key → List Record → Type 0
-GoesOver result key rs = (value : List ℕ) → IfOk result (λ i. with_record (key, value) rs ≡ with_at i (key, value) rs)
-
--- it goes before the one at the index that is answered as where it would go
-abbrev pub GoesBefore : Result ℕ ℕ → Key → List Record → Type 0
-GoesBefore result key rs = (value : List ℕ) → IfErr result (λ i. with_record (key, value) rs ≡ with_before i (key, value) rs)
 
 -- a block above is split only where the one below was, and it has so many children
 abbrev pub SplitsOnly : {E : Type 0} → Result Copied E → Copied → ℕ → ℕ → Type 0

@@ -147,11 +147,11 @@ GivesWay result old new limit level top most p bytes =
     new.honest ≡ true → (cs : List Child) → IsNodeAt old.now.contents limit level top.block cs → Lowest top.low cs → length cs ≤ most
     → OkOrDevice result (λ way. IsNode bytes level cs × (way.count ≡ length cs) × Takes cs p way.index way.child)
 
--- the records of a child's block that is a leaf of so many at most and begins with the child's key
-abbrev pub GivesRecordsUnder : Result (ArrayVec Record) TreeFault → DiskState → DiskState → ℕ → Child → ℕ → Type 0
-GivesRecordsUnder result old new limit top most =
+-- the bytes of a child's block that is a leaf of so many at most and begins with the child's key
+abbrev pub GivesRecordsUnder : {T : Type 0} → Result T TreeFault → DiskState → DiskState → ℕ → Child → ℕ → List ℕ → Type 0
+GivesRecordsUnder result old new limit top most bytes =
     new.honest ≡ true → (rs : List Record) → IsLeafAt old.now.contents limit top.block rs → BeginsWith top.low rs → length rs ≤ most
-    → OkOrDevice result (λ records. records.items ≡ rs)
+    → OkOrDevice result (λ done. IsLeaf bytes rs)
 
 -- the records of a leaf
 abbrev pub GivesLeaf : Result (ArrayVec Record) TreeFault → DiskState → DiskState → ℕ → ℕ → Type 0

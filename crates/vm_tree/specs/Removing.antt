@@ -1,12 +1,13 @@
 -- A record taken out, and what is left then.
-use Rattle.std.specs.Prelude.{◌≡◌, ◌≢◌, ◌==◌, ℕ, ◌+◌, ◌-◌, true, Bool, List, [], ◌∷◌, ◌++◌, length, take, drop, Option, None, IfSome, IsSomeAnd, Result, Ok, Err, if◌then◌else◌}
+use Rattle.std.specs.Prelude.{◌≡◌, ◌≢◌, ℕ, ◌-◌, true, Bool, List, [], ◌∷◌, ◌++◌, length, Option, None, IsSomeAnd, Result, Ok, Err}
 use Rattle.std.specs.List.{AllByRecursion}
 use Rattle.vm_types.specs.declared.key.Key.{Key}
 use Rattle.vm_types.specs.Map.{get, without}
-use Rattle.vm_types.specs.Places.{RisesFrom, place, places, value_at}
+use Rattle.vm_types.specs.Places.{RisesFrom, places, value_at}
 use Rattle.arrayvec.specs.ArrayVec.{ArrayVec}
 use Rattle.vm_disk.specs.Disk.{Contents, DiskState}
 use Rattle.vm_alloc.specs.Held.{HoldsMore, IsHeld}
+use Rattle.vm_block.specs.Changed.{leave_out, without_place}
 use Rattle.vm_block.specs.Leaf.{Record}
 use Rattle.vm_block.specs.Node.{ChildFits, IsNode}
 use Rattle.vm_block.specs.declared.node.Child.{Child}
@@ -22,11 +23,6 @@ use Rattle.vm_tree.specs.declared.root.TreeFault.{TreeFault}
 use Rattle.vm_tree.specs.declared.root.TreeFault.TheVariants.{Device}
 use Rattle.vm_tree.specs.declared.removing.Left.{Left}
 use Rattle.vm_tree.specs.declared.removing.Left.TheVariants.{Same, Nothing, Rest}
-
--- the records without the one at a place, if there is one
-abbrev pub without_place : ℕ → List Record → List Record
-without_place p [] = []
-without_place p (r ∷ rs) = if place r.0 == p then rs else r ∷ without_place p rs
 
 -- the top of a tree, as the child of a block above it
 abbrev pub child_of : Root → Child
@@ -68,18 +64,10 @@ LooksIfSame result held later old new = LooksIf (result ≡ Ok Same) held later 
 abbrev pub LooksIfNothing : Result Left TreeFault → List Bool → List Bool → DiskState → DiskState → Type 0
 LooksIfNothing result held later old new = LooksIf (result ≡ Ok Nothing) held later old new
 
--- a list without what stands at i
-abbrev pub without_at : {X : Type 0} → ℕ → List X → List X
-without_at i xs = take i xs ++ drop (i + 1) xs
-
--- the record at place p stands at the index that is answered
-abbrev pub FindsRecord : Option ℕ → ℕ → List Record → Type 0
-FindsRecord result p rs = IfSome result (λ i. (value_at p rs ≢ None) × (without_place p rs ≡ without_at i rs))
-
 -- the children of an inner block without the one that was taken
 abbrev pub LeavesOut : Option (ArrayVec Child) → Way → List ℕ → Type 0
 LeavesOut result way bytes =
-    (level : ℕ) (cs : List Child) → IsNode bytes level cs → way.count ≡ length cs → IsSomeAnd result (λ rest. rest.items ≡ without_at way.index cs)
+    (level : ℕ) (cs : List Child) → IsNode bytes level cs → way.count ≡ length cs → IsSomeAnd result (λ rest. rest.items ≡ leave_out way.index cs)
 
 -- the root that is answered has all that lies under a child of this level
 abbrev pub NarrowsTo : Result Root TreeFault → ℕ → DiskState → DiskState → ℕ → ℕ → Child → Type 0

@@ -1,69 +1,28 @@
 //! A record more, or another value of a key.
-ghost use Rattle.std.specs.Prelude.{◌≡◌, ◌≢◌, ◌+◌, ◌*◌, ◌<◌, ◌≤◌, true, false, length, IfOk, MatchResult};
-ghost use Rattle.vm_types.specs.Places.{KeyFits, with_record};
+ghost use Rattle.std.specs.Prelude.{◌≡◌, ◌≢◌, ◌+◌, ◌*◌, ◌<◌, ◌≤◌, true, false, length, IfOk};
+ghost use Rattle.vm_types.specs.Places.{KeyFits};
 ghost use Rattle.vm_alloc.specs.Held.{free_count};
-ghost use Rattle.vm_block.specs.Leaf.{RecordFits};
 ghost use Rattle.vm_tree.specs.Answers.{OkOrDevice};
 ghost use Rattle.vm_tree.specs.Calls.{LooksIfDamaged, WritesFree};
 ghost use Rattle.vm_tree.specs.Free.{IsTaken, AreTaken, TakesAtMost};
-ghost use Rattle.vm_tree.specs.Making.{HasTaken, IfOne, MakesNodesWith, PutsInLeaf, SplitsLeafOver, SplitsNodeOver, children_of, is_split};
+ghost use Rattle.vm_tree.specs.Making.{HasTaken, IfOne, MakesHalves, MakesNodesWith, PutsInLeaf, SplitsLeafOver, SplitsNodeOver, children_of, is_split};
 ghost use Rattle.vm_tree.specs.Paths.{NamesPath, NamesPathUnder};
-ghost use Rattle.vm_tree.specs.Putting.{GoesBefore, GoesOver, PutsFirst, PutsFrom, PutsUnder, PutsUnderLeaf, ReplacesFrom, ReplacesInLeaf, ReplacesUnder, SplitsOnly};
+ghost use Rattle.vm_tree.specs.Putting.{PutsFirst, PutsFrom, PutsUnder, PutsUnderLeaf, ReplacesFrom, ReplacesInLeaf, ReplacesUnder, SplitsOnly};
 ghost use Rattle.vm_tree.specs.Reading.{FindsPath, FindsPathFrom};
 ghost use Rattle.vm_tree.specs.Replacing.{KeepsAbove};
 ghost use Rattle.vm_tree.specs.Root.{AreSizes, sizes_of};
 
 use crate::reading::{block_at, way_at};
 use crate::root::{Root, TreeFault, root_at};
-use crate::splicing::{push_all, spliced};
-use crate::writing::{
-    Copied, write_bytes, write_leaf_block, write_leaves, write_node_block, write_nodes,
-};
-use arrayvec::ArrayVec;
+use crate::splicing::spliced;
+use crate::writing::{Copied, write_bytes, write_node_block, write_nodes};
 use vm_alloc::Held;
-use vm_block::{Child, Placed, Way, put_record, read_leaf, set_child, spelled_children};
+use vm_block::{
+    Child, Placed, Stored, Way, leaf_size, put_record, set_child, spelled_children, split_rows,
+    write_rows,
+};
 use vm_disk::Disk;
 use vm_types::{Key, Value};
-
-/// Where a key stands among rising records: Ok with the index of its record, or else Err with the
-/// index at which its record would go.
-fn position(records: &[(Key, Value)], key: Key) -> Result<usize, usize>
-    ensures within { MatchResult result (λ i. i < length records.now)
-        (λ i. i ≤ length records.now) }
-    ensures same { GoesOver result key records.now }
-    ensures new { GoesBefore result key records.now }
-    ensures fits { KeyFits key }
-{
-    let place = key.place();
-    for (i, (other, _)) in records.iter().enumerate() {
-        if other.place() == place {
-            return Ok(i);
-        }
-        if other.place() > place {
-            return Err(i);
-        }
-    }
-    Err(records.len())
-}
-
-/// The records with this one, which takes the place of one of the same key.
-fn with_record(records: &[(Key, Value)], key: Key, value: &Value) -> ArrayVec<(Key, Value), 17>
-    requires { length records.now ≤ 16 }
-    ensures records { result.items ≡ with_record (key, value.now) records.now }
-    ensures fits { RecordFits (key, value.now) }
-{
-    let short = value.as_bytes().len() <= Value::MAX_LEN;
-    prove!(short);
-    let (at, rest) = match position(records, key) {
-        Ok(i) => (i, i + 1),
-        Err(i) => (i, i),
-    };
-    let mut changed = ArrayVec::new();
-    push_all(&records[..at], &mut changed);
-    changed.push((key, *value));
-    push_all(&records[rest..], &mut changed);
-    changed
-}
 
 /// Writes the inner block of these bytes anew as one or two, with both children in the place of the
 /// one that was taken. It stands alone, and is not put into its caller, so that only here a list of
@@ -138,7 +97,27 @@ fn write_replaced<D: Disk, const FAN: usize>(
     }
 }
 
-/// Writes a full leaf of these bytes anew as two, with the record of the key.
+/// Writes two leaves, the left one first.
+fn write_halves<D: Disk>(
+    disk: &mut D,
+    held: &mut Held,
+    left: &[u8; 4096],
+    right: &[u8; 4096],
+) -> Result<Copied, TreeFault>
+    requires inside { length held.old ≤ (D.state disk.old).blocks }
+    requires free { 2 ≤ free_count held.old }
+    ensures writes { WritesFree result held.old held.new (D.state disk.old) (D.state disk.new) }
+    ensures device { OkOrDevice result (λ done. AreTaken held.new (children_of done)) }
+    ensures two { IfOk result (λ done. is_split done ≡ true) }
+    ensures taken { TakesAtMost 2 held.old held.new }
+    ensures made { MakesHalves result held.old held.new (D.state disk.new) left.now right.now }
+{
+    let left = write_bytes(disk, held, left)?;
+    let right = write_bytes(disk, held, right)?;
+    Ok(Copied::Two(left, right))
+}
+
+/// Writes a full leaf of these bytes anew as two, with the record of the key, which it lacks.
 fn split_leaf<D: Disk, const LEAF: usize>(
     disk: &mut D,
     held: &mut Held,
@@ -148,7 +127,6 @@ fn split_leaf<D: Disk, const LEAF: usize>(
     value: &Value,
 ) -> Result<Copied, TreeFault>
     requires inside { length held.old ≤ (D.state disk.old).blocks }
-    requires least { 2 ≤ LEAF }
     requires most { LEAF ≤ 16 }
     requires free { 2 ≤ free_count held.old }
     ensures writes { WritesFree result held.old held.new (D.state disk.old) (D.state disk.new) }
@@ -162,10 +140,13 @@ fn split_leaf<D: Disk, const LEAF: usize>(
     ensures made { PutsInLeaf result LEAF held.old held.new (D.state disk.new)
         bytes.now (key, value.now) }
 {
-    match read_leaf(bytes) {
-        Some(records) if records.len() <= LEAF => {
-            let records = with_record(records.as_slice(), key, value);
-            write_leaves::<D, LEAF>(disk, held, records.as_slice())
+    match leaf_size(bytes) {
+        Some(count) if count <= LEAF => {
+            let stored = Stored::Short(value.as_bytes());
+            let mut left = [0; 4096];
+            let mut right = [0; 4096];
+            split_rows(bytes, key, stored, &mut left, &mut right);
+            write_halves(disk, held, &left, &right)
         }
         _ => Err(TreeFault::Damaged(block)),
     }
@@ -286,8 +267,10 @@ fn put_first<D: Disk>(
     ensures taken { TakesAtMost 1 held.old held.new }
     ensures put { PutsFirst result held.old held.new (D.state disk.new) (key, value.now) }
 {
-    let record = with_record(&[], key, value);
-    let leaf = write_leaf_block(disk, held, record.as_slice())?;
+    let stored = Stored::Short(value.as_bytes());
+    let mut bytes = [0; 4096];
+    write_rows(&[(key, stored)], &mut bytes);
+    let leaf = write_bytes(disk, held, &bytes)?;
     Ok(root_at(leaf, 0))
 }
 

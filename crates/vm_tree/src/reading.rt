@@ -93,24 +93,24 @@ pub(crate) fn way_at<D: Disk, const MOST: usize>(
     }
 }
 
-/// The records of this child's block, which is to be a leaf of MOST records at most.
+/// Reads this child's block, which is to be a leaf of MOST records at most, into these bytes.
 pub(crate) fn leaf_under<D: Disk, const MOST: usize>(
     disk: &mut D,
     blocks: u32,
     top: Child,
-) -> Result<ArrayVec<(Key, Value), 16>, TreeFault>
+    bytes: &mut [u8; 4096],
+) -> Result<(), TreeFault>
     requires { blocks ≤ (D.state disk.old).blocks }
     ensures looks { OnlyLooks result (D.state disk.old) (D.state disk.new) }
     ensures deep { result ≢ Err TreeFault.Deep }
     ensures memory { result ≢ Err TreeFault.Memory }
-    ensures count { IfOk result (λ records. IsCount MOST (length records.items)) }
     ensures end { FindsEnd result (D.state disk.old) (D.state disk.new) blocks top }
-    ensures only { GivesRecordsUnder result (D.state disk.old) (D.state disk.new) blocks top MOST }
+    ensures only { GivesRecordsUnder result (D.state disk.old) (D.state disk.new)
+        blocks top MOST bytes.new }
 {
-    let mut bytes = [0; 4096];
-    block_at(disk, blocks, top, &mut bytes)?;
-    match read_leaf(&bytes) {
-        Some(records) if records.len() <= MOST => Ok(records),
+    block_at(disk, blocks, top, bytes)?;
+    match leaf_size(bytes) {
+        Some(count) if count <= MOST => Ok(()),
         _ => Err(TreeFault::Damaged(top.block)),
     }
 }

@@ -1,24 +1,24 @@
 //! A record less.
-ghost use Rattle.std.specs.Prelude.{◌≡◌, ◌≢◌, ◌+◌, ◌<◌, ◌≤◌, ◌++◌, true, false, None, length, IfOk, IfSome, IfNone};
-ghost use Rattle.vm_types.specs.Places.{KeyFits, place, value_at};
+ghost use Rattle.std.specs.Prelude.{◌≡◌, ◌≢◌, ◌+◌, ◌<◌, ◌≤◌, true, false, None, length, IfOk, IfSome};
+ghost use Rattle.vm_types.specs.Places.{KeyFits, place};
 ghost use Rattle.vm_alloc.specs.Held.{free_count};
 ghost use Rattle.vm_tree.specs.Calls.{OnlyLooks, LooksIf, LooksIfDamaged, WritesFree};
 ghost use Rattle.vm_tree.specs.Free.{TakesAtMost};
 ghost use Rattle.vm_tree.specs.Paths.{NamesPath, NamesPathUnder};
 ghost use Rattle.vm_tree.specs.Reading.{FindsPath, FindsPathFrom};
-ghost use Rattle.vm_tree.specs.Removing.{FindsRecord, LeavesOut, LeavesRest, LooksIfNothing, LooksIfSame, NarrowsTo, RemovesFrom, RemovesFromLeaf, RemovesUnder, child_of, level_of, without_at};
+ghost use Rattle.vm_tree.specs.Removing.{LeavesOut, LeavesRest, LooksIfNothing, LooksIfSame, NarrowsTo, RemovesFrom, RemovesFromLeaf, RemovesUnder, child_of, level_of};
 ghost use Rattle.vm_tree.specs.Replacing.{KeepsAbove};
 ghost use Rattle.vm_tree.specs.Root.{AreSizes, sizes_of};
 
 use crate::reading::{leaf_under, way_at};
 use crate::root::{Root, TreeFault, root_at};
-use crate::splicing::{push_all, spliced};
-use crate::writing::{write_bytes, write_leaf_block, write_node_block};
+use crate::splicing::spliced;
+use crate::writing::{write_bytes, write_node_block};
 use arrayvec::ArrayVec;
 use vm_alloc::Held;
-use vm_block::{Child, Way, read_node, set_child};
+use vm_block::{Child, Taken, Way, read_node, remove_row, set_child};
 use vm_disk::Disk;
-use vm_types::{Key, Value};
+use vm_types::Key;
 
 /// What is left of a block without a record.
 #[derive(Clone, Copy, Debug)]
@@ -41,32 +41,6 @@ fn child_of(root: Root) -> Child
     }
 }
 
-/// Where the record of the key at this place stands.
-fn index_of(records: &[(Key, Value)], place: u128) -> Option<usize>
-    ensures within { IfSome result (λ i. i < length records.now) }
-    ensures found { FindsRecord result place records.now }
-    ensures absent { IfNone result (value_at place records.now ≡ None) }
-{
-    for (i, (key, _)) in records.iter().enumerate() {
-        if key.place() == place {
-            return Some(i);
-        }
-    }
-    None
-}
-
-/// The records without the one at i.
-fn without(records: &[(Key, Value)], i: usize) -> ArrayVec<(Key, Value), 16>
-    requires few { length records.now ≤ 16 }
-    requires within { i < length records.now }
-    ensures { result.items ≡ without_at i records.now }
-{
-    let mut rest = ArrayVec::new();
-    push_all(&records[..i], &mut rest);
-    push_all(&records[i + 1..], &mut rest);
-    rest
-}
-
 /// The children of an inner block of these bytes without the one that was taken.
 fn without_child(bytes: &[u8; 4096], way: Way) -> Option<ArrayVec<Child, 257>>
     requires within { way.index < way.count }
@@ -82,12 +56,12 @@ fn without_child(bytes: &[u8; 4096], way: Way) -> Option<ArrayVec<Child, 257>>
     }
 }
 
-/// Takes the record of the key at this place out of a leaf.
+/// Takes the record of the key out of a leaf.
 fn remove_from_leaf<D: Disk, const LEAF: usize>(
     disk: &mut D,
     held: &mut Held,
     top: Child,
-    place: u128,
+    key: Key,
 ) -> Result<Left, TreeFault>
     requires inside { length held.old ≤ (D.state disk.old).blocks }
     requires most { LEAF ≤ 16 }
@@ -102,18 +76,19 @@ fn remove_from_leaf<D: Disk, const LEAF: usize>(
     ensures looks { LooksIfDamaged result held.old held.new (D.state disk.old) (D.state disk.new) }
     ensures path { FindsPath result (D.state disk.old) (D.state disk.new) (length held.old) 0 top }
     ensures remove { RemovesFromLeaf result LEAF held.old held.new
-        (D.state disk.old) (D.state disk.new) top place }
+        (D.state disk.old) (D.state disk.new) top (place key) }
 {
-    let records = leaf_under::<D, LEAF>(disk, held.blocks(), top)?;
-    let records = records.as_slice();
-    let Some(i) = index_of(records, place) else {
-        return Ok(Left::Same);
-    };
-    if records.len() == 1 {
-        return Ok(Left::Nothing);
+    let mut bytes = [0; 4096];
+    leaf_under::<D, LEAF>(disk, held.blocks(), top, &mut bytes)?;
+    match remove_row(&mut bytes, LEAF, key) {
+        Taken::Out => {
+            let leaf = write_bytes(disk, held, &bytes)?;
+            Ok(Left::Rest(root_at(leaf, 0)))
+        }
+        Taken::Last => Ok(Left::Nothing),
+        Taken::Absent => Ok(Left::Same),
+        Taken::NoLeaf => Err(TreeFault::Damaged(top.block)),
     }
-    let leaf = write_leaf_block(disk, held, without(records, i).as_slice())?;
-    Ok(Left::Rest(root_at(leaf, 0)))
 }
 
 /// The first block from this one down that is a leaf or has more children than one.
@@ -218,7 +193,7 @@ fn remove_below<D: Disk, const LEAF: usize, const FAN: usize>(
 {
     path[usize::from(level)] = top.block;
     if level == 0 {
-        return remove_from_leaf::<D, LEAF>(disk, held, top, key.place());
+        return remove_from_leaf::<D, LEAF>(disk, held, top, key);
     }
     let mut bytes = [0; 4096];
     let way = way_at::<D, FAN>(disk, held.blocks(), level, top, key, &mut bytes)?;

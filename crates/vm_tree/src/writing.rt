@@ -4,13 +4,12 @@ ghost use Rattle.vm_alloc.specs.Held.{free_count};
 ghost use Rattle.vm_tree.specs.Answers.{OkOrDevice};
 ghost use Rattle.vm_tree.specs.Calls.{WritesFree};
 ghost use Rattle.vm_tree.specs.Free.{IsTaken, AreTaken, TakesAtMost, is_free};
-ghost use Rattle.vm_tree.specs.Making.{HasWritten, IfOne, MakesLeaf, MakesLeaves, MakesNode, MakesNodes, WritesLeaf, WritesNode, children_of, is_split};
+ghost use Rattle.vm_tree.specs.Making.{HasWritten, IfOne, MakesNode, MakesNodes, WritesLeaf, WritesNode, children_of, is_split};
 
 use crate::root::TreeFault;
 use vm_alloc::Held;
-use vm_block::{Child, lowest_key, write_leaf, write_node};
+use vm_block::{Child, lowest_key, write_node};
 use vm_disk::Disk;
-use vm_types::{Key, Value};
 
 /// What a block was written anew as: one block, or two where it was split.
 #[derive(Clone, Copy, Debug)]
@@ -59,26 +58,6 @@ pub(crate) fn write_bytes<D: Disk>(
     Ok(Child { low, block })
 }
 
-/// Writes the leaf of these records.
-pub(crate) fn write_leaf_block<D: Disk>(
-    disk: &mut D,
-    held: &mut Held,
-    records: &[(Key, Value)],
-) -> Result<Child, TreeFault>
-    requires inside { length held.old ≤ (D.state disk.old).blocks }
-    requires room { 0 < free_count held.old }
-    requires some { 0 < length records.now }
-    requires few { length records.now ≤ 16 }
-    ensures writes { WritesFree result held.old held.new (D.state disk.old) (D.state disk.new) }
-    ensures device { OkOrDevice result (λ child. IsTaken held.new child.block) }
-    ensures taken { TakesAtMost 1 held.old held.new }
-    ensures made { MakesLeaf result held.old held.new (D.state disk.new) records.now }
-{
-    let mut bytes = [0; 4096];
-    write_leaf(records, &mut bytes);
-    write_bytes(disk, held, &bytes)
-}
-
 /// Writes the inner block of this level and these children.
 pub(crate) fn write_node_block<D: Disk>(
     disk: &mut D,
@@ -99,36 +78,6 @@ pub(crate) fn write_node_block<D: Disk>(
     let mut bytes = [0; 4096];
     write_node(level, children, &mut bytes);
     write_bytes(disk, held, &bytes)
-}
-
-/// Writes one leaf or, where there are more than LEAF records, two: the left one gets the odd record.
-pub(crate) fn write_leaves<D: Disk, const LEAF: usize>(
-    disk: &mut D,
-    held: &mut Held,
-    records: &[(Key, Value)],
-) -> Result<Copied, TreeFault>
-    requires inside { length held.old ≤ (D.state disk.old).blocks }
-    requires least { 2 ≤ LEAF }
-    requires most { LEAF ≤ 16 }
-    requires some { 0 < length records.now }
-    requires few { length records.now ≤ LEAF + 1 }
-    requires room { 2 ≤ free_count held.old }
-    ensures writes { WritesFree result held.old held.new (D.state disk.old) (D.state disk.new) }
-    ensures device { OkOrDevice result (λ copied. AreTaken held.new (children_of copied)) }
-    ensures split { IfOk result (λ copied. (is_split copied ≡ true) ↔ (LEAF < length records.now)) }
-    ensures one { length records.now ≤ LEAF → TakesAtMost 1 held.old held.new }
-    ensures single { IfOne result (TakesAtMost 1 held.old held.new) }
-    ensures taken { TakesAtMost 2 held.old held.new }
-    ensures made { MakesLeaves result LEAF held.old held.new (D.state disk.new) records.now }
-{
-    if records.len() <= LEAF {
-        let leaf = write_leaf_block(disk, held, records)?;
-        return Ok(Copied::One(leaf));
-    }
-    let half = records.len().div_ceil(2);
-    let left = write_leaf_block(disk, held, &records[..half])?;
-    let right = write_leaf_block(disk, held, &records[half..])?;
-    Ok(Copied::Two(left, right))
 }
 
 /// Writes one inner block or, where there are more than FAN children, two: the left one gets the

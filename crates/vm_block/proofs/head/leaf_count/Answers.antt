@@ -1,4 +1,4 @@
-use Rattle.std.proofs.Common.{Some, ap, sym, ◌∙◌, arith}
+use Rattle.std.proofs.Common.{Some, false, ap, sym, ◌∙◌, arith}
 use Rattle.std.proofs.lemmas.Bool.{false≢true}
 use Rattle.vm_block.proofs.HeadLemmas.{leaf_head_found, leaf_head_only}
 use Rattle.vm_block.proofs.head.leaf_count.Goals as goal
@@ -6,14 +6,14 @@ use Rattle.vm_block.proofs.head.leaf_count.Goals as goal
 pub returns-then-is_leaf-clause-found : goal.returns-then-is_leaf-clause-found
 returns-then-is_leaf-clause-found c =
     let h = c.read_head-head.result in
-    leaf_head_found c.args.bytes.now c.args.most h.letters h.level h.count h.zero c.read_head-head.ensures (c.is_leaf.ensures.0 c.if-is_leaf.true)
+    leaf_head_found c.args.bytes.now c.args.most false h.letters h.level h.count h.zero c.read_head-head.ensures (c.is_leaf.ensures.0 c.if-is_leaf.true)
 
 pub returns-then-is_leaf-clause-only : goal.returns-then-is_leaf-clause-only
 returns-then-is_leaf-clause-only c n head =
     let h = c.read_head-head.result in
-    ap Some (leaf_head_only c.args.bytes.now c.args.most h.letters h.level h.count h.zero n (omega arith) (omega arith) (omega arith) (omega arith) c.requires c.read_head-head.ensures head).1
+    ap Some (leaf_head_only c.args.bytes.now c.args.most false h.letters h.level h.count h.zero n (omega arith) (omega arith) (omega arith) (omega arith) c.requires c.read_head-head.ensures head).1
 
 pub returns-else-is_leaf-clause-only : goal.returns-else-is_leaf-clause-only
 returns-else-is_leaf-clause-only c n head =
     let h = c.read_head-head.result in
-    absurd (false≢true (sym c.if-is_leaf.false ∙ c.is_leaf.ensures.1 (leaf_head_only c.args.bytes.now c.args.most h.letters h.level h.count h.zero n (omega arith) (omega arith) (omega arith) (omega arith) c.requires c.read_head-head.ensures head).0))
+    absurd (false≢true (sym c.if-is_leaf.false ∙ c.is_leaf.ensures.1 (leaf_head_only c.args.bytes.now c.args.most false h.letters h.level h.count h.zero n (omega arith) (omega arith) (omega arith) (omega arith) c.requires c.read_head-head.ensures head).0))

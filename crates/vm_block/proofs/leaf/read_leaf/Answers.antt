@@ -1,45 +1,28 @@
-use Rattle.std.proofs.Common.{List, sym, ◌∙◌, subst, arith}
+use Rattle.std.proofs.Common.{List, length, sym, ◌∙◌, subst, arith}
 use Rattle.std.proofs.lemmas.Bool.{false≢true}
-use Rattle.vm_types.specs.Places.{RisesFrom, places}
-use Rattle.vm_block.specs.Leaf.{Record}
-use Rattle.vm_block.proofs.LeafLemmas.{leaf_counted, leaf_framed, leaf_rows, leaf_found}
+use Rattle.vm_block.specs.Leaf.{Record, IsLeaf}
+use Rattle.vm_block.proofs.HeadLemmas.{some_same}
+use Rattle.vm_block.proofs.LeafLemmas.{leaf_rows, rows_of}
 use Rattle.vm_block.proofs.leaf.read_leaf.Goals as goal
-use Rattle.vm_block.proofs.leaf.read_leaf.Goals.{then-count-eq0-via-then-count-eq0, then-count-eq0-via-else-count-eq0+then-count-gt-MAX_RECORDS, then-not-read_records-via-then-not-read_records, then-not-read_records-via-else-not-read_records+then-not-are_rising}
 
-pub returns-then-count-eq0-clause-only : goal.returns-then-count-eq0-clause-only
-returns-then-count-eq0-clause-only c = λ rs leaf.
-    let count = leaf_counted c.args.bytes.now rs c.read_u32-count.result 4088 leaf (omega arith) c.read_u32-count.ensures in
-    elim c.then-count-eq0.branch [
-      | then-count-eq0-via-then-count-eq0 w ↦ omega (arith, leaf.some)
-      | then-count-eq0-via-else-count-eq0+then-count-gt-MAX_RECORDS w ↦ omega (arith, leaf.few)
-    ]
-
-pub returns-then-not-is_framed-clause-only : goal.returns-then-not-is_framed-clause-only
-returns-then-not-is_framed-clause-only c = λ rs leaf.
-    let count = leaf_counted c.args.bytes.now rs c.read_u32-count.result 4088 leaf (omega arith) c.read_u32-count.ensures in
-    let framed = leaf_framed c.args.bytes.now rs c.read_u32-count.result c.write_leaf_head.new.out leaf count c.write_leaf_head.ensures in
-    false≢true (sym c.if-not-is_framed.true ∙ c.is_framed.ensures.1 framed)
+pub returns-in_default-clause-only : goal.returns-in_default-clause-only
+returns-in_default-clause-only c rs leaf = absurd (cc (c.in_default.ensures.only rs leaf))
 
 pub returns-then-not-read_records-clause-only : goal.returns-then-not-read_records-clause-only
-returns-then-not-read_records-clause-only c = λ rs leaf.
-    let count = leaf_counted c.args.bytes.now rs c.read_u32-count.result 4088 leaf (omega arith) c.read_u32-count.ensures in
-    let read = c.read_records.ensures.only rs _ leaf.fit (sym count) (leaf_rows c.args.bytes.now rs 4080 leaf (omega arith)) in
-    elim c.then-not-read_records.branch [
-      | then-not-read_records-via-then-not-read_records w ↦ false≢true (sym w.if-not-read_records.true ∙ read.0)
-      | then-not-read_records-via-else-not-read_records+then-not-are_rising w ↦
-          let rising = subst (λ (qs : List Record). RisesFrom 0 (places qs)) (sym (w.as_slice.ensures.value ∙ read.1)) leaf.rising in
-          false≢true (sym w.if-not-are_rising.true ∙ w.are_rising.ensures.1 rising)
-    ]
+returns-then-not-read_records-clause-only c rs leaf =
+    let bytes = c.args.bytes.now in
+    let count = some_same (length rs) c.in-Some.count (c.in-Some.ensures.only rs leaf) in
+    absurd (false≢true (sym c.if-not-read_records.true ∙ (c.read_records.ensures rs _ leaf.fit (sym count) (leaf_rows bytes rs 4080 (rows_of bytes rs leaf) (omega arith))).0))
 
 pub returns-clause-found : goal.returns-clause-found
 returns-clause-found c =
-    let items = c.read_records.new.records.items in
-    let found = c.read_records.ensures.found c.if-not-read_records.false in
-    let framed = c.is_framed.ensures.0 c.if-not-is_framed.false in
-    let rising = subst (λ (rs : List Record). RisesFrom 0 (places rs)) c.as_slice.ensures.value (c.are_rising.ensures.0 c.if-not-are_rising.false) in
-    leaf_found c.args.bytes.now items c.read_u32-count.result 4080 c.told-bytes (omega arith) c.if-count-gt-MAX_RECORDS.false found.1 c.write_leaf_head.new.out c.write_leaf_head.ensures framed.0 framed.1 (omega arith) found.2 found.0 rising
+    let bytes = c.args.bytes.now in
+    let found = c.in-Some.ensures.found in
+    let same = (c.read_records.ensures found.0 _ found.1.fit found.2 (leaf_rows bytes found.0 4080 (rows_of bytes found.0 found.1) (omega arith))).1 in
+    subst (λ (rs : List Record). IsLeaf bytes rs) (sym same) found.1
 
 pub returns-clause-only : goal.returns-clause-only
-returns-clause-only c = λ rs leaf.
-    let count = leaf_counted c.args.bytes.now rs c.read_u32-count.result 4088 leaf (omega arith) c.read_u32-count.ensures in
-    (c.read_records.ensures.only rs _ leaf.fit (sym count) (leaf_rows c.args.bytes.now rs 4080 leaf (omega arith))).1
+returns-clause-only c rs leaf =
+    let bytes = c.args.bytes.now in
+    let count = some_same (length rs) c.in-Some.count (c.in-Some.ensures.only rs leaf) in
+    (c.read_records.ensures rs _ leaf.fit (sym count) (leaf_rows bytes rs 4080 (rows_of bytes rs leaf) (omega arith))).1

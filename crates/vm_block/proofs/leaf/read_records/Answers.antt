@@ -16,12 +16,12 @@ loop-i-preserved c =
       spelled = rows_read record_bytes 252 before c.loop-i.i c.in-Some.r c.args.bytes.now _ c.loop-i.invariant.spelled refl c.in-Some.ensures.found.1 ∙ ap (flat_map record_bytes) (sym items);
     }
 
-pub returns-in-None-clause-only : goal.returns-in-None-clause-only
-returns-in-None-clause-only c = λ rs rest fit many e.
+pub returns-in-None : goal.returns-in-None
+returns-in-None c = λ rs rest fit many e.
     let there = found_at record_bytes RecordFits 252 length-record rs c.loop-i.i c.args.bytes.now rest fit (omega arith) e in
     let none = c.in-None.ensures.only there.here there.fits (there.spells _ refl) in
     cc none
 
-pub returns-clause-only : goal.returns-clause-only
-returns-clause-only c = λ rs rest fit many e.
+pub returns : goal.returns
+returns c = λ rs rest fit many e.
     (refl, rows_same record_bytes RecordFits 252 length-record record_one c.loop-i.records.items rs c.args.bytes.now rest c.loop-i.i c.args.count c.loop-i.invariant.fit fit c.loop-i.invariant.many many (omega arith) c.loop-i.invariant.spelled e)

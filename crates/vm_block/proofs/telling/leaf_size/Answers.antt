@@ -1,32 +1,19 @@
-use Rattle.std.proofs.Common.{length, sym, ◌∙◌, arith}
-use Rattle.std.proofs.lemmas.Bool.{false≢true}
-use Rattle.vm_block.proofs.HeadLemmas.{leaf_headed, some_same}
-use Rattle.vm_block.proofs.LeafLemmas.{leaf_rows}
-use Rattle.vm_block.proofs.TellingLemmas.{leaf_told, leaf_zeros, zero_from, zero_to}
+use Rattle.std.proofs.Common.{ℕ, None, Some, length, Option}
+use Rattle.std.specs.Prelude.{IfSome}
+use Rattle.vm_block.specs.Told.{IsLeafSize, IsRowsSize}
+use Rattle.vm_block.proofs.HeadLemmas.{leaf_headed, plain_leaf}
+use Rattle.vm_block.proofs.LeafLemmas.{rows_of}
 use Rattle.vm_block.proofs.telling.leaf_size.Goals as goal
-use Rattle.vm_block.proofs.telling.leaf_size.Goals.{then-not-are_records-via-then-not-are_records, then-not-are_records-via-else-not-are_records+then-not-are_zero}
 
-pub returns-in_default-clause-only : goal.returns-in_default-clause-only
-returns-in_default-clause-only c rs leaf = absurd (cc (c.in_default.ensures.only (length rs) (leaf_headed c.args.bytes.now rs 16 leaf leaf.few)))
+pub returns-in-Some-clause-found : goal.returns-in-Some-clause-found
+returns-in-Some-clause-found c = told c.rows_size.result c.rows_size.ensures.found
+  where
+    told : (result : Option ℕ) → IfSome result (IsRowsSize c.args.bytes.now) → IfSome result (IsLeafSize c.args.bytes.now)
+    told None h = tt
+    told (Some n) h = (h.0, plain_leaf c.args.bytes.now h.0 c.in-Some.field-0 h.1 c.in-Some.ensures.found, h.2)
 
-pub returns-then-not-are_records-clause-only : goal.returns-then-not-are_records-clause-only
-returns-then-not-are_records-clause-only c rs leaf =
-    let bytes = c.args.bytes.now in
-    let count = some_same (length rs) c.in-Some.count (c.in-Some.ensures.only (length rs) (leaf_headed bytes rs 16 leaf leaf.few)) in
-    elim c.then-not-are_records.branch [
-      | then-not-are_records-via-then-not-are_records w ↦
-          absurd (false≢true (sym w.if-not-are_records.true ∙ c.are_records.ensures.only rs _ leaf.fit (sym count) (leaf_rows bytes rs 4080 leaf (omega arith)) leaf.rising))
-      | then-not-are_records-via-else-not-are_records+then-not-are_zero w ↦
-          absurd (false≢true (sym w.if-not-are_zero.true ∙ w.are_zero.ensures.1 (zero_from _ _ _ c.told-bytes (omega (arith, c.told-bytes)) (leaf_zeros bytes rs c.in-Some.count leaf count))))
-    ]
+pub returns-in-Some-clause-only : goal.returns-in-Some-clause-only
+returns-in-Some-clause-only c rs leaf = c.rows_size.ensures.only rs (rows_of c.args.bytes.now rs leaf)
 
-pub returns-clause-found : goal.returns-clause-found
-returns-clause-found c =
-    let found = c.are_records.ensures.found c.if-not-are_records.false in (
-      found.0,
-      leaf_told c.args.bytes.now found.0 c.in-Some.count 4080 c.told-bytes c.in-Some.ensures.found found.2 (zero_to _ _ _ c.told-bytes (omega (arith, c.told-bytes)) (c.are_zero.ensures.0 c.if-not-are_zero.false)) (omega arith) found.3 found.1 found.4,
-      found.2,
-    )
-
-pub returns-clause-only : goal.returns-clause-only
-returns-clause-only c rs leaf = c.in-Some.ensures.only (length rs) (leaf_headed c.args.bytes.now rs 16 leaf leaf.few)
+pub returns-in-None-clause-only : goal.returns-in-None-clause-only
+returns-in-None-clause-only c rs leaf = absurd (cc (c.in-None.ensures.only (length rs) (leaf_headed c.args.bytes.now rs 16 leaf leaf.few)))

@@ -48,11 +48,12 @@ returns-in-Full-2-clause-put g c fan levels honest rs bs tree begins rises =
     let at = leaf_opens sizes x limit 0 c.args.top.block rs bs refl tree in
     let leaf = c.in_ok-block_at.ensures.leaf (c.split_leaf.ensures.writes.goes.earlier honest) rs (leaf_there sizes x limit _ 0 c.args.top.block rs bs refl c.blocks-2.ensures.count tree) begins in
     let still = subst (λ (b : List ℕ). IsLeaf b rs) (sym (c.in-Full-2.ensures.only rs leaf at.few).0) leaf in
-    let fine = c.split_leaf.ensures.fine rs still at.few in
+    let full = (c.in-Full-2.ensures.only rs leaf at.few).1 in
+    let fine = c.split_leaf.ensures.fine rs still at.few full in
     leaf_put sizes x limit c.args.top.block r rs bs (with_record r rs) c.split_leaf.result _
     (λ cs qs. (keep : ℕ → Bool) → Made (IsRenewed c.args.held.now c.split_leaf.new.held keep) sizes (g.D.Disk.state c.split_leaf.new.disk).now.contents limit 0 cs qs)
     at rises refl fine (ok_if c.split_leaf.result _ fine)
-    (if_ok_each c.split_leaf.result _ (λ keep. c.split_leaf.ensures.made honest c.args.held.now keep (holds_same c.args.held.now) sizes rs still at.few (omega arith)))
+    (if_ok_each c.split_leaf.result _ (λ keep. c.split_leaf.ensures.made honest c.args.held.now keep (holds_same c.args.held.now) sizes rs still at.few full (omega arith)))
 
 pub returns-in-NoLeaf-clause-put : goal.returns-in-NoLeaf-clause-put
 returns-in-NoLeaf-clause-put g c fan levels honest rs bs tree begins rises =

@@ -5,6 +5,5 @@ use Rattle.vm_tree.proofs.reading.leaf_under.Goals as goal
 
 pub returns-in-Some-clause-end : goal.returns-in-Some-clause-end
 returns-in-Some-clause-end g c honest =
-    let items = c.in-Some.records.items in
-    let leaf = c.in-Some.ensures.found in
-    ends_at _ c.args.blocks c.args.top.block c.args.top.low _ 16 (length items) (omega arith) (c.in_ok-block_at.ensures.found honest) (leaf_headed _ items 16 leaf leaf.few)
+    let found = c.in-Some.ensures.found in
+    ends_at _ c.args.blocks c.args.top.block c.args.top.low _ 16 (length found.0) (omega arith) (c.in_ok-block_at.ensures.found honest) (leaf_headed _ found.0 16 found.1 found.1.few)

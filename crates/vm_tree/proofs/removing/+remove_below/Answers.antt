@@ -12,7 +12,8 @@ use Rattle.vm_block.proofs.EachLemmas.{each_so}
 use Rattle.vm_tree.specs.Tree.{Children, Subtree}
 use Rattle.vm_tree.specs.Making.{Made}
 use Rattle.vm_tree.specs.Reading.{IsNodeAt}
-use Rattle.vm_tree.specs.Removing.{RemovesBelow, child_of, level_of, without_place}
+use Rattle.vm_block.specs.Changed.{without_place}
+use Rattle.vm_tree.specs.Removing.{RemovesBelow, child_of, level_of}
 use Rattle.vm_tree.specs.Replacing.{IsRenewed, Replaces, path_from}
 use Rattle.vm_tree.specs.declared.removing.Left.{Left}
 use Rattle.vm_tree.specs.declared.root.Root.{Root}

@@ -2,7 +2,8 @@ use Rattle.std.proofs.Common.{◌∙◌, ◌≤◌, ℕ, List, Ok, [], ◌∷◌
 use Rattle.vm_types.specs.Map.{Map, get, without}
 use Rattle.vm_types.specs.Places.{place}
 use Rattle.vm_tree.specs.Making.{Made}
-use Rattle.vm_tree.specs.Removing.{RemovesBelow, child_of, level_of, without_place}
+use Rattle.vm_block.specs.Changed.{without_place}
+use Rattle.vm_tree.specs.Removing.{RemovesBelow, child_of, level_of}
 use Rattle.vm_tree.specs.Replacing.{IsHeldBeside, IsRenewed, Replaces, path_from, path_under}
 use Rattle.vm_tree.specs.Root.{IsRootedIn, sizes_of}
 use Rattle.vm_tree.specs.declared.removing.Left.{Left}

@@ -1,0 +1,87 @@
+//! The rows of a leaf, and the letters that say whether one is long.
+ghost use Rattle.std.specs.Prelude.{◌≡◌, ◌≤◌, ◌<◌, ◌+◌, ◌*◌, ◌++◌, ◌↔◌, length, drop, map, IfSome, IsTrue};
+ghost use Rattle.std.specs.List.{flat_map, list_any};
+ghost use Rattle.vm_block.specs.Changed.{AreStored, Seals, row_of};
+ghost use Rattle.vm_block.specs.Leaf.{is_long, leaf_bytes, record_bytes};
+ghost use Rattle.vm_block.specs.Row.{leaf_row};
+ghost use Rattle.vm_block.specs.Told.{IfLeafRowAt, IfRowAt, IfRows, IsInRow, IsRowOf, IsSomeOf};
+
+use crate::leaf::write_leaf_head;
+use crate::row::record_row;
+use crate::spelling::put_zeros;
+use crate::stored::{MAX_SHORT, Stored, read_stored, write_row};
+use byteorder::{ByteOrder, LittleEndian};
+use vm_types::Key;
+
+/// Whether the row at i is long, of the rows with which the bytes begin.
+fn is_long_row(bytes: &[u8], i: usize) -> bool
+    requires few { i < 16 }
+    requires room { 252 * i + 252 ≤ length bytes.now }
+    ensures { IfRowAt bytes.now i (λ w. result ≡ is_long w) }
+{
+    let row = &bytes[252 * i..252 * i + 252];
+    LittleEndian::read_u16(&row[10..]) > MAX_SHORT
+}
+
+/// Whether one of so many rows, with which the bytes begin, is long.
+fn has_long(bytes: &[u8], count: usize) -> bool
+    requires few { count ≤ 16 }
+    requires room { 252 * count ≤ length bytes.now }
+    ensures { IfRows bytes.now count (λ ws. result ≡ list_any is_long ws) }
+{
+    for i in 0..count {
+        if is_long_row(bytes, i) {
+            return true;
+        }
+    }
+    false
+}
+
+/// Whether letters say of so many rows, with which the bytes begin, what is so.
+pub(crate) fn is_sealed(bytes: &[u8], count: usize, long: bool) -> bool
+    requires few { count ≤ 16 }
+    requires room { 252 * count ≤ length bytes.now }
+    ensures { IfRows bytes.now count (λ ws. IsTrue result ↔ (list_any is_long ws ≡ long)) }
+{
+    has_long(bytes, count) == long
+}
+
+/// Writes the head of the leaf of so many rows, which stand behind it.
+pub(crate) fn seal(bytes: &mut [u8; 4096], count: usize)
+    requires { count ≤ 16 }
+    ensures { Seals count bytes.old bytes.new }
+{
+    let long = has_long(&bytes[16..], count);
+    write_leaf_head(long, count as u32, bytes);
+}
+
+/// What the row at i has of its value. None just where there stands no row.
+pub fn stored_at(bytes: &[u8; 4096], i: usize) -> Option<Stored<'_>>
+    requires { i < 16 }
+    ensures found { IfSome result (IsInRow (leaf_row bytes.now i)) }
+    ensures only { IsRowOf (leaf_row bytes.now i) result }
+    ensures row { IfLeafRowAt bytes.now i (IsSomeOf result) }
+{
+    read_stored(record_row(bytes, i))
+}
+
+fn write_each(rows: &[(Key, Stored<'_>)], out: &mut [u8])
+    requires fit { AreStored rows.now }
+    requires room { 252 * length rows.now ≤ length out.old }
+    ensures { out.new ≡ flat_map record_bytes (map row_of rows.now) ++ drop (252 * length rows.now) out.old }
+{
+    for (i, (key, stored)) in rows.iter().enumerate() {
+        write_row(*key, *stored, &mut out[252 * i..]);
+    }
+}
+
+/// Writes the leaf of these rows.
+pub fn write_rows(rows: &[(Key, Stored<'_>)], out: &mut [u8; 4096])
+    requires few { length rows.now ≤ 16 }
+    requires fit { AreStored rows.now }
+    ensures { out.new ≡ leaf_bytes (map row_of rows.now) }
+{
+    write_each(rows, &mut out[16..]);
+    put_zeros(&mut out[16 + 252 * rows.len()..]);
+    seal(out, rows.len());
+}

@@ -1,0 +1,105 @@
+//! A leaf with one row more, written as two from the bytes of the one.
+ghost use Rattle.std.specs.Prelude.{◌≡◌, ◌+◌, ◌*◌, ◌<◌, ◌≤◌, ◌++◌, length, drop, IsTrue};
+ghost use Rattle.vm_types.specs.Places.{KeyFits};
+ghost use Rattle.vm_block.specs.Changed.{SplitsRows, WritesPart, WritesPartAt, WritesRowOf};
+ghost use Rattle.vm_block.specs.Leaf.{StoredFits, stored_bytes};
+
+use crate::head::{MAX_RECORDS, rows_head};
+use crate::keys::read_key;
+use crate::leaf_rows::seal;
+use crate::row::record_row;
+use crate::spelling::{put, put_zeros};
+use crate::stored::{Stored, write_row};
+use crate::way::choose;
+use vm_types::Key;
+
+/// A row that is to stand in a leaf before the one at this index.
+#[derive(Clone, Copy, Debug)]
+struct Coming<'a> {
+    index: usize,
+    key: Key,
+    stored: Stored<'a>,
+}
+
+/// Writes the row that is at i once the one that comes stands in the leaf.
+fn write_row_of(bytes: &[u8; 4096], coming: &Coming<'_>, i: usize, out: &mut [u8])
+    requires index { coming.now.index ≤ 16 }
+    requires within { i ≤ 16 }
+    requires fits { StoredFits coming.now.stored }
+    requires room { 252 ≤ length out.old }
+    ensures { WritesRowOf bytes.now coming.now.index (coming.now.key, stored_bytes coming.now.stored) i out.old out.new }
+{
+    if i < coming.index {
+        put(record_row(bytes, i), out);
+    } else if i == coming.index {
+        write_row(coming.key, coming.stored, out);
+    } else {
+        put(record_row(bytes, i - 1), out);
+    }
+}
+
+/// Writes so many of the rows that the leaf has once the one that comes stands in it, from one on.
+fn write_part_rows(
+    bytes: &[u8; 4096],
+    coming: &Coming<'_>,
+    from: usize,
+    count: usize,
+    out: &mut [u8],
+)
+    requires index { coming.now.index ≤ 16 }
+    requires within { from + count ≤ 17 }
+    requires fits { StoredFits coming.now.stored }
+    requires room { 252 * count ≤ length out.old }
+    ensures { WritesPartAt bytes.now coming.now.index (coming.now.key, stored_bytes coming.now.stored) from count out.old out.new }
+{
+    for i in 0..count {
+        write_row_of(bytes, coming, from + i, &mut out[252 * i..]);
+    }
+}
+
+/// Writes the leaf of these rows.
+fn write_part(
+    bytes: &[u8; 4096],
+    coming: &Coming<'_>,
+    from: usize,
+    count: usize,
+    out: &mut [u8; 4096],
+)
+    requires index { coming.now.index ≤ 16 }
+    requires within { from + count ≤ 17 }
+    requires few { count ≤ 16 }
+    requires fits { StoredFits coming.now.stored }
+    requires key { KeyFits coming.now.key }
+    ensures { WritesPart bytes.now coming.now.index (coming.now.key, stored_bytes coming.now.stored) from count out.new }
+{
+    write_part_rows(bytes, coming, from, count, &mut out[16..]);
+    put_zeros(&mut out[16 + 252 * count..]);
+    seal(out, count);
+}
+
+/// Writes two leaves of the rows of one with this row, which it lacks: the left one gets the odd
+/// row. False just where the bytes begin with the head of no leaf.
+pub fn split_rows(
+    bytes: &[u8; 4096],
+    key: Key,
+    stored: Stored<'_>,
+    left: &mut [u8; 4096],
+    right: &mut [u8; 4096],
+) -> bool
+    requires { StoredFits stored }
+    ensures fits { KeyFits key }
+    ensures only { SplitsRows result (key, stored_bytes stored.entry) bytes.now left.new right.new }
+{
+    let Some((_, count)) = rows_head(bytes, MAX_RECORDS) else {
+        return false;
+    };
+    let place = key.place();
+    let index = choose(bytes, 252, count, place);
+    let there = read_key(&bytes[16 + 252 * index..]).place();
+    let index = if there < place { index + 1 } else { index };
+    let coming = Coming { index, key, stored };
+    let half = (count + 2) / 2;
+    write_part(bytes, &coming, 0, half, left);
+    write_part(bytes, &coming, half, count + 1 - half, right);
+    true
+}
