@@ -8,7 +8,7 @@ use Rattle.vm_alloc.specs.Counts.{IsCounted, IsTallied}
 use Rattle.vm_alloc.specs.Held.{IsHeld, free_count}
 use Rattle.vm_alloc.specs.Marks.{is_marked}
 use Rattle.vm_alloc.proofs.FlagLemmas.{first_flags_length, first_flags_low, first_flags_high}
-use Rattle.vm_alloc.proofs.HeldLemmas.{free_first, free_new, free_past, no_mark, unmarked_less, unmarked_same_low, mark_same}
+use Rattle.vm_alloc.proofs.HeldLemmas.{free_first, free_new, no_mark, unmarked_less, unmarked_same_low, mark_same}
 
 pub counted_none : (blocks : ℕ) (marks : List Bool) → 64 ≤ blocks → blocks ≤ 1048576 → marks ≡ replicate blocks false → IsCounted marks (blocks - 34)
 counted_none blocks marks enough few none =
@@ -38,14 +38,6 @@ counted_low marks unmarked n counted low = record {
 
 pub counted_again : (marks : List Bool) (unmarked n : ℕ) → IsCounted marks unmarked → is_marked marks n ≡ true → IsCounted (slice_set marks n true) unmarked
 counted_again marks unmarked n counted marked = rw (mark_same marks n marked) counted
-
--- the held blocks as marks
-pub counted_held : (marks held : List Bool) (free : ℕ) → marks ≡ held → 64 ≤ length held → length held ≤ 1048576 → ((n : ℕ) → n < 34 → IsHeld held n) → free ≡ free_count held → IsCounted marks free
-counted_held marks held free is enough few system count = rw is record {
-  enough = enough;
-  few = few;
-  count = count ∙ sym (free_past 34 held system);
-}
 
 -- the store's own blocks, and then the marked ones
 pub tallied_first : (held marks : List Bool) (free : ℕ) → held ≡ replicate 34 true ++ drop 34 marks → 64 ≤ length marks → length marks ≤ 1048576 → free ≡ free_count (drop 34 marks) → IsTallied held free 0

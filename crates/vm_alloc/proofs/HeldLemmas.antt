@@ -1,5 +1,5 @@
 -- What is known of the held blocks, for this crate and for those above it.
-use Rattle.std.proofs.Common.{◌≡◌, ◌≢◌, ℕ, ◌+◌, ◌-◌, ◌<◌, ◌≤◌, Bool, true, false, not, cond, Some, List, [], ◌∷◌, ◌++◌, length, get_or, drop, replicate, refl, sym, ◌∙◌, ap, inl, inr, arith, length-drop, zero, suc}
+use Rattle.std.proofs.Common.{◌≡◌, ◌≢◌, ℕ, ◌+◌, ◌-◌, ◌<◌, ◌≤◌, Bool, true, false, not, cond, Some, List, [], ◌∷◌, ◌++◌, length, get_or, drop, replicate, refl, sym, ◌∙◌, ap, inl, inr, arith, length-drop, suc}
 use Rattle.std.specs.Prelude.{slice_get, slice_set}
 use Rattle.std.proofs.Math.ListN.{set, length-set}
 use Rattle.std.proofs.lemmas.Bool.{cases_eq, cases_lt, false≢true}
@@ -93,16 +93,6 @@ free_append a b = sum_by-append weight a b
 -- the first blocks, and then as before
 pub free_first : (n : ℕ) (marks : List Bool) → free_count (replicate n true ++ drop n marks) ≡ free_count (drop n marks)
 free_first n marks = omega (arith, free_append (replicate n true) (drop n marks), free_replicate_held n)
-
--- none of the first blocks is free
-pub free_past : (first : ℕ) (held : List Bool) → ((n : ℕ) → n < first → IsHeld held n) → free_count (drop first held) ≡ free_count held
-free_past zero held all = refl
-free_past (suc first) [] all = refl
-free_past (suc first) (b ∷ held) all =
-    let here : b ≡ true = all 0 (omega arith) in
-    let weighs : weight b ≡ 0 = ap weight here in
-    let rest : free_count (drop first held) ≡ free_count held = free_past first held (λ n inside. all (suc n) (omega arith)) in
-    omega (arith, free_cons b held, weighs, rest)
 
 -- just the store's own blocks are held
 pub free_new : (first blocks : ℕ) → first ≤ blocks → free_count (drop first (replicate blocks false)) ≡ blocks - first

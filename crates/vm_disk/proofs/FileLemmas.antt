@@ -316,23 +316,6 @@ module _ {F : Type 0} (state : F → FileState) where
         time = record { step = inl (past_shown was now (sure_part was file) called) };
       }
 
-  -- one that failed
-  pub disk_sync_failed : {T : Type 0} (e : DeviceFault) (was now : FileDisk F) (file : F)
-      → IsCalled was now (same_part was file)
-      → ((state file).honest ≡ true → SyncsFile {T = T} (Err e) (state was.file) (state file))
-      → (file_state state now).honest ≡ true
-      → Syncs {T = T} (Err e) (file_state state was) (file_state state now)
-  disk_sync_failed e was now file called law honest =
-      let syncs = law (good_file was now (same_part was file) called honest) in
-      let same = now_shown was now (same_part was file) called ∙ same_shown was.blocks was.sure (forgetting (forgotten_of was) (state was.file)) (forgetting (forgotten_of was) (state file)) syncs.same (ap (waits_with (forgotten_of was)) syncs.failed) in
-      record {
-        synced = tt;
-        failed = same;
-        same = ap (λ m. m.contents) same;
-        sure = tt;
-        time = record { step = inl (past_shown was now (same_part was file) called) };
-      }
-
   -- a growing of the file, as one of the disk
   pub disk_extends : (was now : FileDisk F) (file : F) (blocks : ℕ)
       → IsCalled was now (grown_part was file blocks) → was.blocks ≤ blocks
