@@ -1,10 +1,11 @@
-//! The forms of a store's blocks: the header, the selector, leaves and inner blocks of trees, and
-//! the slots with their entries. Nothing else in the store knows how a block is spelled.
+//! The forms of a store's blocks: the header, the selector, leaves and inner blocks of trees, the
+//! slots with their entries, and blocks of long values. Nothing else in the store knows how a block
+//! is spelled.
 //!
 //! It stands on `vm_types` for keys, values and names, and on no disk. Its one promise: a block is
 //! read exactly where its bytes are the form, every zero byte included, and then as the one thing
 //! that it spells; and what is written is read again. A descent to a key, and a change of one child
-//! or record, go by the bytes alone: of a block that is of its form they say and make what reading,
+//! or row, go by the bytes alone: of a block that is of its form they say and make what reading,
 //! changing and writing it would. Of other bytes they answer that they are none where their first
 //! sixteen are no head, and behind a head they take what stands there. Whether a block is a leaf or
 //! an inner block is told by its bytes, each of which counts, and nothing is copied out for it. No
