@@ -1,4 +1,6 @@
 //! Leaves with long rows, what a change makes of their letters, and blocks of long values.
+ghost use Rattle.vm_block.specs.Leaf.{StoredFits};
+
 use super::spelled::{is_block, key};
 use vm_block::{
     Link, Placed, Stored, Taken, find_record, find_row, leaf_size, put_row, read_leaf, read_long,
@@ -6,7 +8,9 @@ use vm_block::{
 };
 
 // Where a value of 300 bytes stands.
-fn link() -> Stored<'static> {
+fn link() -> Stored<'static>
+    ensures { StoredFits result }
+{
     let (len, block) = (300, 34);
     Stored::Long(Link { len, block })
 }
