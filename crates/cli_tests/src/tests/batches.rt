@@ -1,10 +1,9 @@
 //! Lines that are given as words, and refused lines that end a talk.
 use super::faults::new_store;
-use super::{CREATE, Outcome, RUN, ran};
-use std::alloc::Global;
+use super::{Due, RUN, done, expect_run, new_files, refused, talk, told};
 use std::process::Abort;
 use std::test::Fail;
-use vm_cli::{Job, MemFiles, OnRefusal, ServeFault, job, serve};
+use vm_cli::{Job, MemFiles, OnRefusal, ServeFault, job};
 
 /// The second line is refused, and the last one commits.
 const LINES: [&str; 4] = [
@@ -20,41 +19,34 @@ const ANSWERS: &[u8] = b"ok\nerror 5 NoSuchRecord\nok\nok\n";
 /// What they are answered up to the one that is refused.
 const FIRST_ANSWERS: &[u8] = b"ok\nerror 5 NoSuchRecord\n";
 
-/// File `f` with a new store.
-fn new_files<R: AllocGlobal + Abort>(rt: &R) -> Result<MemFiles, Fail> {
-    let mut files = MemFiles::new(rt.alloc());
-    let made = ran(rt.alloc(), &mut files, CREATE.as_slice(), b"")?;
-    made.expect(rt, 0, b"created 64\n", b"");
-    Ok(files)
-}
-
-/// Has the lines answered, after these words.
-fn done(
-    alloc: Global,
+/// The lines are answered so, after these words.
+fn expect_done<R: AllocGlobal + Abort>(
+    rt: &R,
     files: &mut MemFiles,
     words: &[&str],
     lines: &[&str],
-) -> Result<Outcome, Fail> {
-    let mut all = Vec::new(alloc);
-    all.extend_from_slice(words)?;
-    all.extend_from_slice(lines)?;
-    ran(alloc, files, all.as_slice(), b"")
+    due: Due<'_>,
+) {
+    let mut all = Vec::new(rt.alloc());
+    for word in words.iter().chain(lines) {
+        let Ok(()) = all.push(*word) else {
+            panic!(rt; "no memory");
+        };
+    }
+    expect_run(rt, files, all.as_slice(), b"", due);
 }
 
 /// The file has these records, whatever was done before.
-fn expect_list<R: AllocGlobal + Abort>(
-    rt: &R,
-    files: &mut MemFiles,
-    list: &[u8],
-) -> Result<(), Fail> {
-    let listed = ran(rt.alloc(), files, RUN.as_slice(), b"list top\n")?;
-    listed.expect(rt, 0, list, b"");
-    Ok(())
+fn expect_list<R: AllocGlobal + Abort>(rt: &R, files: &mut MemFiles, list: &[u8]) {
+    expect_run(rt, files, RUN.as_slice(), b"list top\n", done(list));
 }
 
+/// The records that the lines leave.
+const BOTH: &[u8] = b"record 7 1 duct\nrecord 7 2 pipe\nend 2\n";
+
 #[test]
-fn answers_the_words(rt: HostRuntime) -> Result<(), Fail> {
-    let mut files = new_files(&rt)?;
+fn answers_the_words(rt: HostRuntime) {
+    let mut files = new_files(&rt);
     let words = [
         "altctl",
         "do",
@@ -63,84 +55,101 @@ fn answers_the_words(rt: HostRuntime) -> Result<(), Fail> {
         "get top 7 1",
         "commit",
     ];
-    let answered = ran(rt.alloc(), &mut files, words.as_slice(), b"free\n")?;
-    answered.expect(&rt, 0, b"ok\nvalue duct\nok\n", b"");
-    expect_list(&rt, &mut files, b"record 7 1 duct\nend 1\n")
-}
-
-#[test]
-fn keeps_nothing_that_no_word_commits(rt: HostRuntime) -> Result<(), Fail> {
-    let mut files = new_files(&rt)?;
-    let words = ["altctl", "do", "f", "put top 7 1 duct"];
-    ran(rt.alloc(), &mut files, words.as_slice(), b"commit\n")?.expect(&rt, 0, b"ok\n", b"");
-    expect_list(&rt, &mut files, b"end 0\n")
-}
-
-#[test]
-fn goes_on_after_a_refused_word_and_tells_it(rt: HostRuntime) -> Result<(), Fail> {
-    let mut files = new_files(&rt)?;
-    let words = ["altctl", "do", "f"];
-    let answered = done(rt.alloc(), &mut files, words.as_slice(), LINES.as_slice())?;
-    answered.expect(&rt, 4, ANSWERS, b"");
-    expect_list(
+    expect_run(
         &rt,
         &mut files,
-        b"record 7 1 duct\nrecord 7 2 pipe\nend 2\n",
-    )
+        words.as_slice(),
+        b"free\n",
+        done(b"ok\nvalue duct\nok\n"),
+    );
+    expect_list(&rt, &mut files, b"record 7 1 duct\nend 1\n");
 }
 
 #[test]
-fn commits_all_words_or_none(rt: HostRuntime) -> Result<(), Fail> {
-    let mut files = new_files(&rt)?;
+fn keeps_nothing_that_no_word_commits(rt: HostRuntime) {
+    let mut files = new_files(&rt);
+    let words = ["altctl", "do", "f", "put top 7 1 duct"];
+    expect_run(
+        &rt,
+        &mut files,
+        words.as_slice(),
+        b"commit\n",
+        done(b"ok\n"),
+    );
+    expect_list(&rt, &mut files, b"end 0\n");
+}
+
+#[test]
+fn goes_on_after_a_refused_word_and_tells_it(rt: HostRuntime) {
+    let mut files = new_files(&rt);
+    let words = ["altctl", "do", "f"];
+    expect_done(
+        &rt,
+        &mut files,
+        words.as_slice(),
+        LINES.as_slice(),
+        told(ANSWERS),
+    );
+    expect_list(&rt, &mut files, BOTH);
+}
+
+#[test]
+fn commits_all_words_or_none(rt: HostRuntime) {
+    let mut files = new_files(&rt);
     for words in [
         ["altctl", "do", "--strict", "f"].as_slice(),
         ["altctl", "do", "f", "--strict"].as_slice(),
         ["altctl", "do", "--cache", "0", "--strict", "f"].as_slice(),
         ["altctl", "do", "--strict", "f", "--"].as_slice(),
     ] {
-        let refused = done(rt.alloc(), &mut files, words, LINES.as_slice())?;
-        refused.expect(&rt, 4, FIRST_ANSWERS, b"");
-        expect_list(&rt, &mut files, b"end 0\n")?;
+        expect_done(
+            &rt,
+            &mut files,
+            words,
+            LINES.as_slice(),
+            told(FIRST_ANSWERS),
+        );
+        expect_list(&rt, &mut files, b"end 0\n");
     }
     let words = ["altctl", "do", "--strict", "f"];
     let lines = ["put top 7 1 duct", "put top 7 2 pipe", "commit"];
-    let answered = done(rt.alloc(), &mut files, words.as_slice(), lines.as_slice())?;
-    answered.expect(&rt, 0, b"ok\nok\nok\n", b"");
-    expect_list(
+    expect_done(
         &rt,
         &mut files,
-        b"record 7 1 duct\nrecord 7 2 pipe\nend 2\n",
-    )
+        words.as_slice(),
+        lines.as_slice(),
+        done(b"ok\nok\nok\n"),
+    );
+    expect_list(&rt, &mut files, BOTH);
 }
 
 #[test]
-fn ends_a_run_at_the_first_refused_line(rt: HostRuntime) -> Result<(), Fail> {
-    let mut files = new_files(&rt)?;
+fn ends_a_run_at_the_first_refused_line(rt: HostRuntime) {
+    let mut files = new_files(&rt);
     let lines = b"put top 7 1 duct\nremove top 7 9\nput top 7 2 pipe\ncommit\n";
     let strict = ["altctl", "run", "--strict", "f"];
-    let refused = ran(rt.alloc(), &mut files, strict.as_slice(), lines)?;
-    refused.expect(&rt, 4, FIRST_ANSWERS, b"");
-    expect_list(&rt, &mut files, b"end 0\n")?;
-    let told = ran(rt.alloc(), &mut files, RUN.as_slice(), lines)?;
-    told.expect(&rt, 0, ANSWERS, b"");
-    expect_list(
+    expect_run(
         &rt,
         &mut files,
-        b"record 7 1 duct\nrecord 7 2 pipe\nend 2\n",
-    )?;
-    let fine = ran(
-        rt.alloc(),
+        strict.as_slice(),
+        lines,
+        told(FIRST_ANSWERS),
+    );
+    expect_list(&rt, &mut files, b"end 0\n");
+    expect_run(&rt, &mut files, RUN.as_slice(), lines, done(ANSWERS));
+    expect_list(&rt, &mut files, BOTH);
+    expect_run(
+        &rt,
         &mut files,
         strict.as_slice(),
         b"get top 7 1\n# note\nget top 7 2",
-    )?;
-    fine.expect(&rt, 0, b"value duct\nvalue pipe\n", b"");
-    Ok(())
+        done(b"value duct\nvalue pipe\n"),
+    );
 }
 
 #[test]
-fn tells_a_refused_line_wherever_it_stands(rt: HostRuntime) -> Result<(), Fail> {
-    let mut files = new_files(&rt)?;
+fn tells_a_refused_line_wherever_it_stands(rt: HostRuntime) {
+    let mut files = new_files(&rt);
     for (lines, answers) in [
         (["nonsense"].as_slice(), b"error 22 BadLine\n".as_slice()),
         (
@@ -157,15 +166,13 @@ fn tells_a_refused_line_wherever_it_stands(rt: HostRuntime) -> Result<(), Fail> 
         ),
     ] {
         let words = ["altctl", "do", "f"];
-        let told = done(rt.alloc(), &mut files, words.as_slice(), lines)?;
-        told.expect(&rt, 4, answers, b"");
+        expect_done(&rt, &mut files, words.as_slice(), lines, told(answers));
     }
-    Ok(())
 }
 
 #[test]
-fn takes_a_word_as_the_line_that_it_is(rt: HostRuntime) -> Result<(), Fail> {
-    let mut files = new_files(&rt)?;
+fn takes_a_word_as_the_line_that_it_is(rt: HostRuntime) {
+    let mut files = new_files(&rt);
     let words = ["altctl", "do", "f"];
     for (lines, answers) in [
         (
@@ -185,32 +192,39 @@ fn takes_a_word_as_the_line_that_it_is(rt: HostRuntime) -> Result<(), Fail> {
             b"ok\nvalue -\n".as_slice(),
         ),
     ] {
-        let answered = done(rt.alloc(), &mut files, words.as_slice(), lines)?;
-        answered.expect(&rt, 0, answers, b"");
+        expect_done(&rt, &mut files, words.as_slice(), lines, done(answers));
     }
-    Ok(())
 }
 
 #[test]
 fn refuses_a_word_that_is_too_long(rt: HostRuntime) -> Result<(), Fail> {
-    let mut files = new_files(&rt)?;
+    let mut files = new_files(&rt);
     let mut long = String::new(rt.alloc());
     for _ in 0..1_048_577 {
         long.push('a')?;
     }
     let words = ["altctl", "do", "f", long.as_str(), "get top 7 1"];
-    let told = ran(rt.alloc(), &mut files, words.as_slice(), b"")?;
-    told.expect(&rt, 4, b"error 23 LongLine\nnone\n", b"");
+    expect_run(
+        &rt,
+        &mut files,
+        words.as_slice(),
+        b"",
+        told(b"error 23 LongLine\nnone\n"),
+    );
     Ok(())
 }
 
 #[test]
-fn says_that_there_is_no_such_file(rt: HostRuntime) -> Result<(), Fail> {
+fn says_that_there_is_no_such_file(rt: HostRuntime) {
     let mut files = MemFiles::new(rt.alloc());
     let words = ["altctl", "do", "--strict", "f", "free"];
-    let absent = ran(rt.alloc(), &mut files, words.as_slice(), b"")?;
-    absent.expect(&rt, 1, b"", b"altctl: cannot open f\n");
-    Ok(())
+    expect_run(
+        &rt,
+        &mut files,
+        words.as_slice(),
+        b"",
+        refused(b"altctl: cannot open f\n"),
+    );
 }
 
 #[test]
@@ -258,7 +272,7 @@ fn served<R: AllocGlobal + Abort>(
     let mut store = new_store(rt)?;
     let mut input = lines;
     let mut output = Vec::new(rt.alloc());
-    let served = serve(rt.alloc(), &mut input, &mut output, &mut store, on_refusal);
+    let served = talk(rt.alloc(), &mut input, &mut output, &mut store, on_refusal);
     let _disk = store.close();
     Ok((served, output))
 }

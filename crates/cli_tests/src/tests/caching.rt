@@ -1,9 +1,9 @@
 //! How many blocks of a file stay in memory, and how many wait there to be written.
-use super::{CREATE, RUN, ran};
+use super::{RUN, done, expect_run, new_files, ran};
 use std::alloc::Global;
 use std::process::Abort;
 use std::test::Fail;
-use vm_cli::{InMemory, Job, MemFiles, OnRefusal, Place, job};
+use vm_cli::{InMemory, Job, OnRefusal, Place, job};
 
 fn owned(alloc: Global, words: &[&str]) -> Result<Vec<String>, Fail> {
     let mut owned = Vec::new(alloc);
@@ -71,7 +71,7 @@ fn job_has_the_number_of_blocks_that_wait(rt: HostRuntime) -> Result<(), Fail> {
 }
 
 #[test]
-fn answers_are_the_same_whatever_is_kept(rt: HostRuntime) -> Result<(), Fail> {
+fn answers_are_the_same_whatever_is_kept(rt: HostRuntime) {
     for words in [
         RUN.as_slice(),
         ["altctl", "run", "--cache", "0", "f"].as_slice(),
@@ -82,23 +82,23 @@ fn answers_are_the_same_whatever_is_kept(rt: HostRuntime) -> Result<(), Fail> {
         ["altctl", "run", "--buffer", "1", "f"].as_slice(),
         ["altctl", "run", "--buffer", "2", "--cache", "0", "f"].as_slice(),
     ] {
-        let mut files = MemFiles::new(rt.alloc());
-        let made = ran(rt.alloc(), &mut files, CREATE.as_slice(), b"")?;
-        made.expect(&rt, 0, b"created 64\n", b"");
+        let mut files = new_files(&rt);
         let lines = b"put top 7 1 duct\ncommit\nput top 7 1 pipe\nget top 7 1\nlist top\n";
-        let first = ran(rt.alloc(), &mut files, words, lines)?;
         let answers = b"ok\nok\nok\nvalue pipe\nrecord 7 1 pipe\nend 1\n";
-        first.expect(&rt, 0, answers, b"");
-        let again = ran(rt.alloc(), &mut files, words, b"get top 7 1\nfree\n")?;
-        again.expect(&rt, 0, b"value duct\nfree 29\n", b"");
+        expect_run(&rt, &mut files, words, lines, done(answers));
+        expect_run(
+            &rt,
+            &mut files,
+            words,
+            b"get top 7 1\nfree\n",
+            done(b"value duct\nfree 29\n"),
+        );
     }
-    Ok(())
 }
 
 #[test]
 fn refuses_a_number_that_is_none_or_too_large(rt: HostRuntime) -> Result<(), Fail> {
-    let mut files = MemFiles::new(rt.alloc());
-    let _made = ran(rt.alloc(), &mut files, CREATE.as_slice(), b"")?;
+    let mut files = new_files(&rt);
     for words in [
         ["altctl", "run", "--cache", "65537", "f"].as_slice(),
         ["altctl", "run", "f", "--cache=65537"].as_slice(),

@@ -1,10 +1,10 @@
 //! An input and an output that fail.
-use super::{CHECK, CREATE, TREE, ran};
+use super::{CHECK, CREATE, TREE, new_files, run, talk};
 use std::alloc::Global;
 use std::io::{self, ErrorKind, Read, Write};
 use std::process::Abort;
 use std::test::Fail;
-use vm_cli::{MemFiles, OnRefusal, Place, ServeFault, run_words, serve};
+use vm_cli::{MemFiles, OnRefusal, Place, ServeFault};
 use vm_disk::{FuseDisk, MemDisk};
 use vm_store::{Store, format, open};
 
@@ -63,7 +63,7 @@ fn stops_where_the_input_fails(rt: HostRuntime) -> Result<(), Fail> {
         bytes: b"put top 1 1 a\nput top 1 1 b",
     };
     let mut output = Vec::new(rt.alloc());
-    let served = serve(
+    let served = talk(
         rt.alloc(),
         &mut input,
         &mut output,
@@ -72,7 +72,7 @@ fn stops_where_the_input_fails(rt: HostRuntime) -> Result<(), Fail> {
     );
     assert!(rt; matches!(&served, Err(ServeFault::Read)));
     let mut rest = b"get top 1 1".as_slice();
-    let served = serve(
+    let served = talk(
         rt.alloc(),
         &mut rest,
         &mut output,
@@ -93,7 +93,7 @@ fn stops_where_the_output_fails(rt: HostRuntime) -> Result<(), Fail> {
         taken: Vec::new(rt.alloc()),
         room: 4,
     };
-    let served = serve(
+    let served = talk(
         rt.alloc(),
         &mut input,
         &mut output,
@@ -104,7 +104,7 @@ fn stops_where_the_output_fails(rt: HostRuntime) -> Result<(), Fail> {
     assert_eq!(rt; output.taken.as_slice(), b"ok\no".as_slice());
     let mut rest = b"get top 1 2\nget top 1 3\n".as_slice();
     let mut answers = Vec::new(rt.alloc());
-    let served = serve(
+    let served = talk(
         rt.alloc(),
         &mut rest,
         &mut answers,
@@ -117,96 +117,56 @@ fn stops_where_the_output_fails(rt: HostRuntime) -> Result<(), Fail> {
     Ok(())
 }
 
+/// A run whose output takes so many bytes ends there, and says so.
+fn expect_stopped<R: AllocGlobal + Abort>(
+    rt: &R,
+    files: &mut MemFiles,
+    words: &[&str],
+    room: usize,
+    output: &[u8],
+) -> Result<(), Fail> {
+    let mut narrow = NarrowWriter {
+        taken: Vec::new(rt.alloc()),
+        room,
+    };
+    let mut errors = Vec::new(rt.alloc());
+    let mut input = b"".as_slice();
+    let status = run(
+        rt.alloc(),
+        files,
+        words,
+        &mut input,
+        &mut narrow,
+        &mut errors,
+    )?;
+    assert_eq!(rt; status, 3);
+    assert_eq!(rt; narrow.taken.as_slice(), output);
+    assert_eq!(rt; errors.as_slice(), b"altctl: stopped\n".as_slice());
+    Ok(())
+}
+
 #[test]
 fn stops_where_a_text_cannot_be_written(rt: HostRuntime) -> Result<(), Fail> {
     let mut files = MemFiles::new(rt.alloc());
-    let mut words = Vec::new(rt.alloc());
-    for word in CREATE {
-        words.push(String::from_str(rt.alloc(), word)?)?;
-    }
-    let mut input = b"".as_slice();
-    let mut output = NarrowWriter {
-        taken: Vec::new(rt.alloc()),
-        room: 3,
-    };
-    let mut errors = Vec::new(rt.alloc());
-    let words = words.as_slice();
-    let status = run_words(
-        rt.alloc(),
-        words,
-        &mut files,
-        &mut input,
-        &mut output,
-        &mut errors,
-    );
-    assert_eq!(rt; status, 3);
-    assert_eq!(rt; errors.as_slice(), b"altctl: stopped\n".as_slice());
+    expect_stopped(&rt, &mut files, CREATE.as_slice(), 3, b"cre")?;
     assert!(rt; files.find("f").is_some());
     Ok(())
 }
 
 #[test]
 fn stops_where_a_check_cannot_be_written(rt: HostRuntime) -> Result<(), Fail> {
-    let mut files = MemFiles::new(rt.alloc());
-    let _made = ran(rt.alloc(), &mut files, CREATE.as_slice(), b"")?;
-    let mut words = Vec::new(rt.alloc());
-    for word in CHECK {
-        words.push(String::from_str(rt.alloc(), word)?)?;
-    }
-    let mut input = b"".as_slice();
-    let mut output = NarrowWriter {
-        taken: Vec::new(rt.alloc()),
-        room: 20,
-    };
-    let mut errors = Vec::new(rt.alloc());
-    let words = words.as_slice();
-    let status = run_words(
-        rt.alloc(),
-        words,
-        &mut files,
-        &mut input,
-        &mut output,
-        &mut errors,
-    );
-    assert_eq!(rt; status, 3);
-    assert_eq!(rt;
-        output.taken.as_slice(),
-        b"alternatives 1\ncheck".as_slice()
-    );
-    assert_eq!(rt; errors.as_slice(), b"altctl: stopped\n".as_slice());
+    let mut files = new_files(&rt);
+    let output = b"alternatives 1\ncheck";
+    expect_stopped(&rt, &mut files, CHECK.as_slice(), 20, output)?;
     assert!(rt; files.find("f").is_some());
     Ok(())
 }
 
 #[test]
 fn stops_where_a_tree_cannot_be_written(rt: HostRuntime) -> Result<(), Fail> {
-    let mut files = MemFiles::new(rt.alloc());
-    let _made = ran(rt.alloc(), &mut files, CREATE.as_slice(), b"")?;
-    let mut words = Vec::new(rt.alloc());
-    for word in TREE {
-        words.push(String::from_str(rt.alloc(), word)?)?;
-    }
-    let mut input = b"".as_slice();
-    let mut output = NarrowWriter {
-        taken: Vec::new(rt.alloc()),
-        room: 40,
-    };
-    let mut errors = Vec::new(rt.alloc());
-    let words = words.as_slice();
-    let status = run_words(
-        rt.alloc(),
-        words,
-        &mut files,
-        &mut input,
-        &mut output,
-        &mut errors,
-    );
-    assert_eq!(rt; status, 3);
-    assert_eq!(rt;
-        output.taken.as_slice(),
-        b"changed unmerged conflicts post\n      - ".as_slice()
-    );
-    assert_eq!(rt; errors.as_slice(), b"altctl: stopped\n".as_slice());
+    let mut files = new_files(&rt);
+    let output = b"changed unmerged conflicts post\n      - ";
+    expect_stopped(&rt, &mut files, TREE.as_slice(), 40, output)?;
     assert!(rt; files.find("f").is_some());
     Ok(())
 }
@@ -224,7 +184,7 @@ fn store_that_will_fail<R: AllocGlobal + Abort>(rt: &R) -> Result<Store<FuseDisk
 fn served(alloc: Global, store: &mut Store<FuseDisk<MemDisk>>, lines: &[u8]) -> (Vec<u8>, bool) {
     let mut input = lines;
     let mut output = Vec::new(alloc);
-    let ended = serve(alloc, &mut input, &mut output, store, OnRefusal::Ignore);
+    let ended = talk(alloc, &mut input, &mut output, store, OnRefusal::Ignore);
     (output, matches!(&ended, Err(ServeFault::Store)))
 }
 
@@ -292,7 +252,7 @@ fn goes_on_over_lines_that_ask_a_failed_store_nothing(rt: HostRuntime) -> Result
     assert!(rt; ended);
     let mut input = lines.as_slice();
     let mut output = Vec::new(rt.alloc());
-    let served = serve(
+    let served = talk(
         rt.alloc(),
         &mut input,
         &mut output,

@@ -1,16 +1,25 @@
 //! Files that are made and opened, and what stays in them.
-use super::{CREATE, RUN, ran};
+use super::{CREATE, RUN, done, expect_run, new_files, ran, refused};
 use std::test::Fail;
 use vm_cli::{MemFiles, Place};
 
 #[test]
-fn makes_a_file_once(rt: HostRuntime) -> Result<(), Fail> {
+fn makes_a_file_once(rt: HostRuntime) {
     let mut files = MemFiles::new(rt.alloc());
-    let made = ran(rt.alloc(), &mut files, CREATE.as_slice(), b"")?;
-    made.expect(&rt, 0, b"created 64\n", b"");
-    let again = ran(rt.alloc(), &mut files, CREATE.as_slice(), b"")?;
-    again.expect(&rt, 1, b"", b"altctl: cannot create f\n");
-    Ok(())
+    expect_run(
+        &rt,
+        &mut files,
+        CREATE.as_slice(),
+        b"",
+        done(b"created 64\n"),
+    );
+    expect_run(
+        &rt,
+        &mut files,
+        CREATE.as_slice(),
+        b"",
+        refused(b"altctl: cannot create f\n"),
+    );
 }
 
 #[test]
@@ -27,22 +36,31 @@ fn makes_no_file_out_of_range(rt: HostRuntime) -> Result<(), Fail> {
 }
 
 #[test]
-fn opens_only_stores(rt: HostRuntime) -> Result<(), Fail> {
+fn opens_only_stores(rt: HostRuntime) {
     let mut files = MemFiles::new(rt.alloc());
-    let absent = ran(rt.alloc(), &mut files, RUN.as_slice(), b"")?;
-    absent.expect(&rt, 1, b"", b"altctl: cannot open f\n");
+    expect_run(
+        &rt,
+        &mut files,
+        RUN.as_slice(),
+        b"",
+        refused(b"altctl: cannot open f\n"),
+    );
     let blank = files
         .create("f", 64)
         .expect(&rt, "there is no such file yet");
     files.give_back("f", blank);
-    let zeros = ran(rt.alloc(), &mut files, RUN.as_slice(), b"")?;
-    zeros.expect(&rt, 1, b"", b"altctl: 19 NotAStore\n");
+    expect_run(
+        &rt,
+        &mut files,
+        RUN.as_slice(),
+        b"",
+        refused(b"altctl: 19 NotAStore\n"),
+    );
     assert!(rt; files.find("f").is_some());
-    Ok(())
 }
 
 #[test]
-fn finds_a_file_that_came_back(rt: HostRuntime) -> Result<(), Fail> {
+fn finds_a_file_that_came_back(rt: HostRuntime) {
     let mut files = MemFiles::new(rt.alloc());
     let made = files
         .create("f", 64)
@@ -53,22 +71,24 @@ fn finds_a_file_that_came_back(rt: HostRuntime) -> Result<(), Fail> {
     assert!(rt; files.find("f").is_none() && files.is_honest());
     files.give_back("g", found);
     assert!(rt; files.find("g").is_none() && !files.is_honest());
-    Ok(())
 }
 
 #[test]
-fn keeps_what_was_committed(rt: HostRuntime) -> Result<(), Fail> {
-    let mut files = MemFiles::new(rt.alloc());
-    let _made = ran(rt.alloc(), &mut files, CREATE.as_slice(), b"")?;
+fn keeps_what_was_committed(rt: HostRuntime) {
+    let mut files = new_files(&rt);
     let lines = b"put top 7 1 duct\ncommit\nput top 7 1 pipe\nput top 7 2 x\nget top 7 1\n";
-    let first = ran(rt.alloc(), &mut files, RUN.as_slice(), lines)?;
-    first.expect(&rt, 0, b"ok\nok\nok\nok\nvalue pipe\n", b"");
-    let second = ran(
-        rt.alloc(),
+    expect_run(
+        &rt,
+        &mut files,
+        RUN.as_slice(),
+        lines,
+        done(b"ok\nok\nok\nok\nvalue pipe\n"),
+    );
+    expect_run(
+        &rt,
         &mut files,
         RUN.as_slice(),
         b"get top 7 1\nget top 7 2\n",
-    )?;
-    second.expect(&rt, 0, b"value duct\nnone\n", b"");
-    Ok(())
+        done(b"value duct\nnone\n"),
+    );
 }

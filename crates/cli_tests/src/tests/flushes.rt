@@ -1,11 +1,11 @@
 //! A writer that is flushed, and whose flush fails.
 use super::faults::new_store;
-use super::{CREATE, Outcome};
+use super::{CREATE, Due, Outcome, RUN, refused, run, talk};
 use std::alloc::Global;
 use std::io::{self, ErrorKind, Write};
 use std::process::Abort;
 use std::test::Fail;
-use vm_cli::{MemFiles, OnRefusal, ServeFault, refuse_words, run_words, serve, stop};
+use vm_cli::{MemFiles, OnRefusal, ServeFault, refuse_words, stop};
 
 /// A writer that keeps what it takes, with a bar for each flush. From some flush on they fail.
 #[derive(Drop)]
@@ -45,7 +45,7 @@ fn flushes_after_each_answer(rt: HostRuntime) -> Result<(), Fail> {
     let mut store = new_store(&rt)?;
     let mut input = b"put top 1 1 a\nget top 1 1\nlist top\nnonsense\nget top 1 2".as_slice();
     let mut output = FlushedWriter::new(rt.alloc(), 5);
-    let served = serve(
+    let served = talk(
         rt.alloc(),
         &mut input,
         &mut output,
@@ -65,7 +65,7 @@ fn kept<R: AllocGlobal + Abort>(rt: &R, flushes: usize) -> Result<Vec<u8>, Fail>
     let mut store = new_store(rt)?;
     let mut input = b"put top 1 1 a\nput top 1 2 b\nput top 1 3 c\n".as_slice();
     let mut output = FlushedWriter::new(rt.alloc(), flushes);
-    let served = serve(
+    let served = talk(
         rt.alloc(),
         &mut input,
         &mut output,
@@ -75,7 +75,7 @@ fn kept<R: AllocGlobal + Abort>(rt: &R, flushes: usize) -> Result<Vec<u8>, Fail>
     assert!(rt; matches!(&served, Err(ServeFault::Write)));
     let mut rest = b"list top\n".as_slice();
     let mut answers = Vec::new(rt.alloc());
-    let served = serve(
+    let served = talk(
         rt.alloc(),
         &mut rest,
         &mut answers,
@@ -102,20 +102,16 @@ fn stops_where_a_flush_fails(rt: HostRuntime) -> Result<(), Fail> {
 
 /// Runs the program with an output and errors that can be flushed this often.
 fn flushed(alloc: Global, words: &[&str], output: usize, errors: usize) -> Result<Outcome, Fail> {
-    let mut owned = Vec::new(alloc);
-    for word in words {
-        owned.push(String::from_str(alloc, word)?)?;
-    }
     let mut output = FlushedWriter::new(alloc, output);
     let mut errors = FlushedWriter::new(alloc, errors);
-    let status = run_words(
+    let status = run(
         alloc,
-        owned.as_slice(),
         &mut MemFiles::new(alloc),
+        words,
         &mut b"".as_slice(),
         &mut output,
         &mut errors,
-    );
+    )?;
     Ok(Outcome {
         status,
         output: output.taken,
@@ -125,14 +121,30 @@ fn flushed(alloc: Global, words: &[&str], output: usize, errors: usize) -> Resul
 
 #[test]
 fn ends_by_what_could_be_flushed(rt: HostRuntime) -> Result<(), Fail> {
-    let absent = ["altctl", "run", "f"];
-    flushed(rt.alloc(), CREATE.as_slice(), 1, 0)?.expect(&rt, 0, b"created 64\n|", b"");
-    let created = flushed(rt.alloc(), CREATE.as_slice(), 0, 1)?;
-    created.expect(&rt, 3, b"created 64\n", b"altctl: stopped\n|");
-    let refused = flushed(rt.alloc(), absent.as_slice(), 0, 1)?;
-    refused.expect(&rt, 1, b"", b"altctl: cannot open f\n|");
-    let unheard = flushed(rt.alloc(), absent.as_slice(), 0, 0)?;
-    unheard.expect(&rt, 3, b"", b"altctl: cannot open f\naltctl: stopped\n");
+    let created = Due {
+        status: 0,
+        output: b"created 64\n|",
+        errors: b"",
+    };
+    let silent = Due {
+        status: 3,
+        output: b"created 64\n",
+        errors: b"altctl: stopped\n|",
+    };
+    let absent = refused(b"altctl: cannot open f\n|");
+    let unheard = Due {
+        status: 3,
+        output: b"",
+        errors: b"altctl: cannot open f\naltctl: stopped\n",
+    };
+    for (words, output, errors, due) in [
+        (CREATE.as_slice(), 1, 0, created),
+        (CREATE.as_slice(), 0, 1, silent),
+        (RUN.as_slice(), 0, 1, absent),
+        (RUN.as_slice(), 0, 0, unheard),
+    ] {
+        flushed(rt.alloc(), words, output, errors)?.expect(&rt, words, due);
+    }
     Ok(())
 }
 

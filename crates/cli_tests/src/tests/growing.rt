@@ -1,16 +1,16 @@
 //! Stores that lines make larger.
 use super::lines::push_checkpoint;
-use super::{CHECK, CREATE, RUN, ran};
+use super::{CHECK, CREATE, RUN, done, expect_run, new_files, stopped, told};
 use std::process::Abort;
 use std::test::Fail;
 use vm_cli::MemFiles;
 
 /// File `f` with a new store of 64 blocks, on a disk with room for so many.
-fn new_files<R: AllocGlobal + Abort>(rt: &R, room: u32) -> Result<MemFiles, Fail> {
+fn files_with_room<R: AllocGlobal + Abort>(rt: &R, room: u32) -> MemFiles {
     let mut files = MemFiles::with_room(rt.alloc(), room);
-    let made = ran(rt.alloc(), &mut files, CREATE.as_slice(), b"")?;
-    made.expect(rt, 0, b"created 64\n", b"");
-    Ok(files)
+    let created = b"created 64\n";
+    expect_run(rt, &mut files, CREATE.as_slice(), b"", done(created));
+    files
 }
 
 /// A run over the file answers the lines so.
@@ -19,19 +19,13 @@ fn expect_answers<R: AllocGlobal + Abort>(
     files: &mut MemFiles,
     lines: &[u8],
     answers: &[u8],
-) -> Result<(), Fail> {
-    ran(rt.alloc(), files, RUN.as_slice(), lines)?.expect(rt, 0, answers, b"");
-    Ok(())
+) {
+    expect_run(rt, files, RUN.as_slice(), lines, done(answers));
 }
 
 /// A check of the file prints this.
-fn expect_check<R: AllocGlobal + Abort>(
-    rt: &R,
-    files: &mut MemFiles,
-    counts: &[u8],
-) -> Result<(), Fail> {
-    ran(rt.alloc(), files, CHECK.as_slice(), b"")?.expect(rt, 0, counts, b"");
-    Ok(())
+fn expect_check<R: AllocGlobal + Abort>(rt: &R, files: &mut MemFiles, counts: &[u8]) {
+    expect_run(rt, files, CHECK.as_slice(), b"", done(counts));
 }
 
 /// Lines of a store that has 64 blocks, and then 128.
@@ -66,46 +60,44 @@ ok\n\
 free 93\n";
 
 #[test]
-fn grows_and_keeps_the_size_that_is_committed(rt: HostRuntime) -> Result<(), Fail> {
+fn grows_and_keeps_the_size_that_is_committed(rt: HostRuntime) {
     for words in [
         RUN.as_slice(),
         ["altctl", "run", "--cache", "0", "f"].as_slice(),
         ["altctl", "run", "--cache", "1", "f"].as_slice(),
     ] {
-        let mut files = new_files(&rt, 128)?;
-        let grown = ran(rt.alloc(), &mut files, words, GROWING)?;
-        grown.expect(&rt, 0, GROWING_ANSWERS, b"");
-        expect_check(&rt, &mut files, b"alternatives 1\ncheckpoints 0\nfree 93\n")?;
+        let mut files = files_with_room(&rt, 128);
+        expect_run(&rt, &mut files, words, GROWING, done(GROWING_ANSWERS));
+        expect_check(&rt, &mut files, b"alternatives 1\ncheckpoints 0\nfree 93\n");
         let lines = b"free\nget top 1 1\ngrow 128\n";
         let answers = b"free 93\nvalue x\nerror 21 BadSize\n";
-        expect_answers(&rt, &mut files, lines, answers)?;
+        expect_answers(&rt, &mut files, lines, answers);
     }
-    Ok(())
 }
 
 // The disk stays longer, so that the second grow asks it for no block.
 #[test]
-fn has_its_old_size_where_a_grow_was_not_committed(rt: HostRuntime) -> Result<(), Fail> {
-    let mut files = new_files(&rt, 128)?;
+fn has_its_old_size_where_a_grow_was_not_committed(rt: HostRuntime) {
+    let mut files = files_with_room(&rt, 128);
     let lines = b"commit\ngrow 128\nput top 1 1 x\nfree\n";
-    expect_answers(&rt, &mut files, lines, b"ok\nok\nok\nfree 93\n")?;
-    expect_check(&rt, &mut files, b"alternatives 1\ncheckpoints 0\nfree 30\n")?;
+    expect_answers(&rt, &mut files, lines, b"ok\nok\nok\nfree 93\n");
+    expect_check(&rt, &mut files, b"alternatives 1\ncheckpoints 0\nfree 30\n");
     let lines = b"get top 1 1\ngrow 100\nfree\ncommit\n";
-    expect_answers(&rt, &mut files, lines, b"none\nok\nfree 66\nok\n")?;
-    expect_answers(&rt, &mut files, b"free\n", b"free 66\n")
+    expect_answers(&rt, &mut files, lines, b"none\nok\nfree 66\nok\n");
+    expect_answers(&rt, &mut files, b"free\n", b"free 66\n");
 }
 
 #[test]
-fn takes_numbers_with_leading_zeros(rt: HostRuntime) -> Result<(), Fail> {
-    let mut files = new_files(&rt, 130)?;
+fn takes_numbers_with_leading_zeros(rt: HostRuntime) {
+    let mut files = files_with_room(&rt, 130);
     let lines = b"grow 0000000128\nfree\ngrow 00000000000000000129\nfree\n  grow   130 \r\nfree\n";
     let answers = b"ok\nfree 94\nok\nfree 95\nok\nfree 96\n";
-    expect_answers(&rt, &mut files, lines, answers)
+    expect_answers(&rt, &mut files, lines, answers);
 }
 
 #[test]
-fn refuses_what_is_no_number_of_32_bits(rt: HostRuntime) -> Result<(), Fail> {
-    let mut files = new_files(&rt, 128)?;
+fn refuses_what_is_no_number_of_32_bits(rt: HostRuntime) {
+    let mut files = files_with_room(&rt, 128);
     for line in [
         b"grow\n".as_slice(),
         b"grow a\n",
@@ -127,16 +119,16 @@ fn refuses_what_is_no_number_of_32_bits(rt: HostRuntime) -> Result<(), Fail> {
         b"Grow 128\n",
         b"grows 128\n",
     ] {
-        expect_answers(&rt, &mut files, line, b"error 22 BadLine\n")?;
+        expect_answers(&rt, &mut files, line, b"error 22 BadLine\n");
     }
-    expect_answers(&rt, &mut files, b"free\n", b"free 30\n")
+    expect_answers(&rt, &mut files, b"free\n", b"free 30\n");
 }
 
 // Each of 15 checkpoints keeps one of the 30 blocks for data, so 15 are spare for the next Put, which
 // wants 16.
 #[test]
 fn finds_blocks_for_a_put_by_a_grow(rt: HostRuntime) -> Result<(), Fail> {
-    let mut files = new_files(&rt, 65)?;
+    let mut files = files_with_room(&rt, 65);
     let mut lines = Vec::new(rt.alloc());
     let mut answers = Vec::new(rt.alloc());
     for number in 1..16 {
@@ -147,7 +139,8 @@ fn finds_blocks_for_a_put_by_a_grow(rt: HostRuntime) -> Result<(), Fail> {
     lines.extend_from_slice(b"put top 1 1 v\ngrow 65\nfree\n")?;
     lines.extend_from_slice(b"put top 1 1 v\ncommit\nput top 1 1 v\n")?;
     answers.extend_from_slice(b"error 13 Full\nok\nfree 16\nok\nok\nerror 13 Full\n")?;
-    expect_answers(&rt, &mut files, lines.as_slice(), answers.as_slice())
+    expect_answers(&rt, &mut files, lines.as_slice(), answers.as_slice());
+    Ok(())
 }
 
 /// Lines of a merge of 9 changes, which wants 144 spare blocks. Two are in use for data, and 34 are the
@@ -193,51 +186,59 @@ ok\n";
 
 // Then all alternatives have the one tree of 17 records: an inner block and two leaves.
 #[test]
-fn finds_blocks_for_a_merge_by_a_grow(rt: HostRuntime) -> Result<(), Fail> {
-    let mut files = new_files(&rt, 180)?;
-    expect_answers(&rt, &mut files, MERGING, MERGING_ANSWERS)?;
+fn finds_blocks_for_a_merge_by_a_grow(rt: HostRuntime) {
+    let mut files = files_with_room(&rt, 180);
+    expect_answers(&rt, &mut files, MERGING, MERGING_ANSWERS);
     expect_check(
         &rt,
         &mut files,
         b"alternatives 2\ncheckpoints 0\nfree 143\n",
-    )
+    );
 }
 
 #[test]
-fn ends_where_the_disk_has_no_room(rt: HostRuntime) -> Result<(), Fail> {
-    let mut files = new_files(&rt, 100)?;
+fn ends_where_the_disk_has_no_room(rt: HostRuntime) {
+    let mut files = files_with_room(&rt, 100);
     let lines = b"put top 1 1 x\ncommit\nput top 1 2 x\ngrow 101\nfree\n";
-    let stopped = ran(rt.alloc(), &mut files, RUN.as_slice(), lines)?;
-    stopped.expect(
+    expect_run(
         &rt,
-        3,
-        b"ok\nok\nok\nerror 15 Device\n",
-        b"altctl: stopped\n",
+        &mut files,
+        RUN.as_slice(),
+        lines,
+        stopped(b"ok\nok\nok\nerror 15 Device\n"),
     );
     let lines = b"list top\nfree\ngrow 100\nfree\n";
     let answers = b"record 1 1 x\nend 1\nfree 29\nok\nfree 65\n";
-    expect_answers(&rt, &mut files, lines, answers)
+    expect_answers(&rt, &mut files, lines, answers);
 }
 
 #[test]
-fn ends_where_a_disk_cannot_get_longer(rt: HostRuntime) -> Result<(), Fail> {
-    let mut files = MemFiles::new(rt.alloc());
-    let _made = ran(rt.alloc(), &mut files, CREATE.as_slice(), b"")?;
-    let stopped = ran(rt.alloc(), &mut files, RUN.as_slice(), b"grow 65\nfree\n")?;
-    stopped.expect(&rt, 3, b"error 15 Device\n", b"altctl: stopped\n");
-    expect_answers(&rt, &mut files, b"free\n", b"free 30\n")
+fn ends_where_a_disk_cannot_get_longer(rt: HostRuntime) {
+    let mut files = new_files(&rt);
+    expect_run(
+        &rt,
+        &mut files,
+        RUN.as_slice(),
+        b"grow 65\nfree\n",
+        stopped(b"error 15 Device\n"),
+    );
+    expect_answers(&rt, &mut files, b"free\n", b"free 30\n");
 }
 
 #[test]
-fn grows_by_a_word_of_do(rt: HostRuntime) -> Result<(), Fail> {
-    let mut files = new_files(&rt, 128)?;
+fn grows_by_a_word_of_do(rt: HostRuntime) {
+    let mut files = files_with_room(&rt, 128);
     let words = [
         "altctl", "do", "--strict", "f", "grow 64", "grow 128", "commit",
     ];
-    let refused = ran(rt.alloc(), &mut files, words.as_slice(), b"")?;
-    refused.expect(&rt, 4, b"error 21 BadSize\n", b"");
+    expect_run(
+        &rt,
+        &mut files,
+        words.as_slice(),
+        b"",
+        told(b"error 21 BadSize\n"),
+    );
     let words = ["altctl", "do", "--strict", "f", "grow 128", "commit"];
-    let grown = ran(rt.alloc(), &mut files, words.as_slice(), b"")?;
-    grown.expect(&rt, 0, b"ok\nok\n", b"");
-    expect_check(&rt, &mut files, b"alternatives 1\ncheckpoints 0\nfree 94\n")
+    expect_run(&rt, &mut files, words.as_slice(), b"", done(b"ok\nok\n"));
+    expect_check(&rt, &mut files, b"alternatives 1\ncheckpoints 0\nfree 94\n");
 }

@@ -1,5 +1,5 @@
 //! Help, the sessions that it shows, and words that are wrong.
-use super::ran;
+use super::{done, expect_run, ran};
 use std::process::Abort;
 use std::test::Fail;
 use vm_cli::MemFiles;
@@ -53,8 +53,13 @@ fn session_text<R: AllocGlobal>(rt: &R, session: &[(&str, &str)]) -> Result<Stri
 fn answered<R: AllocGlobal + Abort>(rt: &R, session: &[(&str, &str)]) -> Result<String, Fail> {
     let mut files = MemFiles::new(rt.alloc());
     let create = ["altctl", "create", "map.alt", "1024"];
-    let made = ran(rt.alloc(), &mut files, create.as_slice(), b"")?;
-    made.expect(rt, 0, b"created 1024\n", b"");
+    expect_run(
+        rt,
+        &mut files,
+        create.as_slice(),
+        b"",
+        done(b"created 1024\n"),
+    );
     let mut text = String::new(rt.alloc());
     for (line, _) in session {
         text.push_str(line)?;

@@ -1,14 +1,13 @@
 //! What lines are answered.
-use super::{CREATE, Outcome, RUN, ran};
+use super::{RUN, done, expect_run, new_files};
 use std::alloc::Global;
+use std::process::Abort;
 use std::test::Fail;
-use vm_cli::MemFiles;
 
-/// Runs the lines on a new store.
-fn answered(alloc: Global, lines: &[u8]) -> Result<Outcome, Fail> {
-    let mut files = MemFiles::new(alloc);
-    let _made = ran(alloc, &mut files, CREATE.as_slice(), b"")?;
-    ran(alloc, &mut files, RUN.as_slice(), lines)
+/// Runs the lines on a new store, which are to be answered so.
+fn expect_answers<R: AllocGlobal + Abort>(rt: &R, lines: &[u8], answers: &[u8]) {
+    let mut files = new_files(rt);
+    expect_run(rt, &mut files, RUN.as_slice(), lines, done(answers));
 }
 
 /// Lines, and below them what each is answered.
@@ -55,9 +54,8 @@ ok\n\
 ok\n";
 
 #[test]
-fn answers_lines(rt: HostRuntime) -> Result<(), Fail> {
-    answered(rt.alloc(), LINES)?.expect(&rt, 0, ANSWERS, b"");
-    Ok(())
+fn answers_lines(rt: HostRuntime) {
+    expect_answers(&rt, LINES, ANSWERS);
 }
 
 /// Lines of two designs, one below the other.
@@ -155,9 +153,8 @@ value -\n\
 error 5 NoSuchRecord\n";
 
 #[test]
-fn answers_lines_of_designs(rt: HostRuntime) -> Result<(), Fail> {
-    answered(rt.alloc(), DESIGNS)?.expect(&rt, 0, DESIGN_ANSWERS, b"");
-    Ok(())
+fn answers_lines_of_designs(rt: HostRuntime) {
+    expect_answers(&rt, DESIGNS, DESIGN_ANSWERS);
 }
 
 /// Lines of a conflict, which is settled by one's own value.
@@ -191,9 +188,8 @@ end 2\n\
 ok\n";
 
 #[test]
-fn settles_a_conflict(rt: HostRuntime) -> Result<(), Fail> {
-    answered(rt.alloc(), CONFLICT)?.expect(&rt, 0, CONFLICT_ANSWERS, b"");
-    Ok(())
+fn settles_a_conflict(rt: HostRuntime) {
+    expect_answers(&rt, CONFLICT, CONFLICT_ANSWERS);
 }
 
 /// Lines of changes since a base, and of a merge that takes the parent's value.
@@ -254,9 +250,8 @@ record 7 3 wire\n\
 end 3\n";
 
 #[test]
-fn lists_changes_and_merges(rt: HostRuntime) -> Result<(), Fail> {
-    answered(rt.alloc(), CHANGES)?.expect(&rt, 0, CHANGE_ANSWERS, b"");
-    Ok(())
+fn lists_changes_and_merges(rt: HostRuntime) {
+    expect_answers(&rt, CHANGES, CHANGE_ANSWERS);
 }
 
 /// Lines of an alternative that begins at a checkpoint of its parent.
@@ -311,9 +306,8 @@ alternative a top\n\
 end 2\n";
 
 #[test]
-fn alternative_begins_at_a_checkpoint_of_its_parent(rt: HostRuntime) -> Result<(), Fail> {
-    answered(rt.alloc(), CHECKPOINTED)?.expect(&rt, 0, CHECKPOINTED_ANSWERS, b"");
-    Ok(())
+fn alternative_begins_at_a_checkpoint_of_its_parent(rt: HostRuntime) {
+    expect_answers(&rt, CHECKPOINTED, CHECKPOINTED_ANSWERS);
 }
 
 /// Lines of merges and posts that are refused.
@@ -376,13 +370,12 @@ ok 0\n\
 ok\n";
 
 #[test]
-fn refuses_merges_and_posts(rt: HostRuntime) -> Result<(), Fail> {
-    answered(rt.alloc(), REFUSED)?.expect(&rt, 0, REFUSED_ANSWERS, b"");
-    Ok(())
+fn refuses_merges_and_posts(rt: HostRuntime) {
+    expect_answers(&rt, REFUSED, REFUSED_ANSWERS);
 }
 
 #[test]
-fn refuses_lines_with_too_few_or_too_many_words(rt: HostRuntime) -> Result<(), Fail> {
+fn refuses_lines_with_too_few_or_too_many_words(rt: HostRuntime) {
     for line in [
         b"new a\n".as_slice(),
         b"new a top x y\n",
@@ -401,9 +394,8 @@ fn refuses_lines_with_too_few_or_too_many_words(rt: HostRuntime) -> Result<(), F
         b"checks\n",
         b"New a top\n",
     ] {
-        answered(rt.alloc(), line)?.expect(&rt, 0, b"error 22 BadLine\n", b"");
+        expect_answers(&rt, line, b"error 22 BadLine\n");
     }
-    Ok(())
 }
 
 /// Appends the line of a checkpoint of `top`, whose name is a number.
@@ -430,7 +422,7 @@ fn answers_full_where_checkpoints_keep_the_blocks(rt: HostRuntime) -> Result<(),
     push_checkpoint(&mut lines, b"uncheck", 1)?;
     lines.extend_from_slice(b"put top 1 1 v\ncommit\nput top 1 1 v\nfree\n")?;
     answers.extend_from_slice(b"ok\nerror 13 Full\nok\nerror 13 Full\nok\nok\nfree 15\n")?;
-    answered(rt.alloc(), lines.as_slice())?.expect(&rt, 0, answers.as_slice(), b"");
+    expect_answers(&rt, lines.as_slice(), answers.as_slice());
     Ok(())
 }
 
@@ -445,7 +437,7 @@ fn answers_too_many_after_511_entries(rt: HostRuntime) -> Result<(), Fail> {
     push_checkpoint(&mut lines, b"checkpoint", 511)?;
     lines.extend_from_slice(b"new a top\ncommit\n")?;
     answers.extend_from_slice(b"error 12 TooMany\nerror 12 TooMany\nok\n")?;
-    answered(rt.alloc(), lines.as_slice())?.expect(&rt, 0, answers.as_slice(), b"");
+    expect_answers(&rt, lines.as_slice(), answers.as_slice());
     Ok(())
 }
 
@@ -474,7 +466,7 @@ fn lists_more_than_one_text_takes(rt: HostRuntime) -> Result<(), Fail> {
         push_zeros(&mut answers, b"record 65535 184467440737095516", number)?;
     }
     answers.extend_from_slice(b"end 10\n")?;
-    answered(rt.alloc(), lines.as_slice())?.expect(&rt, 0, answers.as_slice(), b"");
+    expect_answers(&rt, lines.as_slice(), answers.as_slice());
     Ok(())
 }
 
@@ -491,9 +483,9 @@ fn comment(alloc: Global, len: usize) -> Result<Vec<u8>, Fail> {
 #[test]
 fn skips_long_lines(rt: HostRuntime) -> Result<(), Fail> {
     let longest = comment(rt.alloc(), 1_048_576)?;
-    answered(rt.alloc(), longest.as_slice())?.expect(&rt, 0, b"none\n", b"");
+    expect_answers(&rt, longest.as_slice(), b"none\n");
     let longer = comment(rt.alloc(), 1_048_577)?;
     let answers = b"error 23 LongLine\nnone\n";
-    answered(rt.alloc(), longer.as_slice())?.expect(&rt, 0, answers, b"");
+    expect_answers(&rt, longer.as_slice(), answers);
     Ok(())
 }

@@ -1,20 +1,30 @@
 //! A tree of alternatives, drawn: what is changed, not merged, in conflict and to be posted.
-use super::{CREATE, RUN, TREE, ran};
+use super::{RUN, TREE, done, expect_run, just_run, new_files, ran, refused};
+use std::process::Abort;
 use std::test::Fail;
 use vm_cli::{MemFiles, Place};
 use vm_disk::Disk;
 
+/// The tree of the file is drawn so.
+fn expect_tree<R: AllocGlobal + Abort>(rt: &R, files: &mut MemFiles, text: &[u8]) {
+    expect_run(rt, files, TREE.as_slice(), b"", done(text));
+}
+
 #[test]
-fn draws_a_new_store(rt: HostRuntime) -> Result<(), Fail> {
-    let mut files = MemFiles::new(rt.alloc());
-    let _made = ran(rt.alloc(), &mut files, CREATE.as_slice(), b"")?;
-    let drawn = ran(rt.alloc(), &mut files, TREE.as_slice(), b"commit\n")?;
+fn draws_a_new_store(rt: HostRuntime) {
+    let mut files = new_files(&rt);
     let text = b"\
 changed unmerged conflicts post
       -        -         -    -  top
 ";
-    drawn.expect(&rt, 0, text.as_slice(), b"");
-    Ok(())
+    let input = b"commit\n";
+    expect_run(
+        &rt,
+        &mut files,
+        TREE.as_slice(),
+        input,
+        done(text.as_slice()),
+    );
 }
 
 /// A tree of four levels. What `same` gets after the commit is not to be seen.
@@ -44,10 +54,9 @@ put same 7 9 q
 ";
 
 #[test]
-fn draws_what_was_committed(rt: HostRuntime) -> Result<(), Fail> {
-    let mut files = MemFiles::new(rt.alloc());
-    let _made = ran(rt.alloc(), &mut files, CREATE.as_slice(), b"")?;
-    let _run = ran(rt.alloc(), &mut files, RUN.as_slice(), LEVELS)?;
+fn draws_what_was_committed(rt: HostRuntime) {
+    let mut files = new_files(&rt);
+    just_run(&rt, &mut files, RUN.as_slice(), LEVELS);
     let text = b"\
 changed unmerged conflicts post
       -        -         -    -  top
@@ -62,22 +71,18 @@ changed unmerged conflicts post
       0        0         0  yes  `- same
 ";
     for _ in 0..2 {
-        let drawn = ran(rt.alloc(), &mut files, TREE.as_slice(), b"")?;
-        drawn.expect(&rt, 0, text.as_slice(), b"");
+        expect_tree(&rt, &mut files, text.as_slice());
     }
-    let again = ran(rt.alloc(), &mut files, RUN.as_slice(), b"get north 7 1\n")?;
-    again.expect(&rt, 0, b"value cable\n", b"");
-    Ok(())
+    let (line, answer) = (b"get north 7 1\n", b"value cable\n");
+    expect_run(&rt, &mut files, RUN.as_slice(), line, done(answer));
 }
 
 #[test]
-fn draws_in_order_of_creation(rt: HostRuntime) -> Result<(), Fail> {
-    let mut files = MemFiles::new(rt.alloc());
-    let _made = ran(rt.alloc(), &mut files, CREATE.as_slice(), b"")?;
+fn draws_in_order_of_creation(rt: HostRuntime) {
+    let mut files = new_files(&rt);
     let lines =
         b"new b top\nnew a top\nnew c b\nnew d a\ndrop c\nnew e b\ndrop d\ndrop a\nnew a top\ncommit\n";
-    let _run = ran(rt.alloc(), &mut files, RUN.as_slice(), lines)?;
-    let drawn = ran(rt.alloc(), &mut files, TREE.as_slice(), b"")?;
+    just_run(&rt, &mut files, RUN.as_slice(), lines);
     let text = b"\
 changed unmerged conflicts post
       -        -         -    -  top
@@ -85,8 +90,7 @@ changed unmerged conflicts post
       0        0         0  yes  |  `- e
       0        0         0  yes  `- a
 ";
-    drawn.expect(&rt, 0, text.as_slice(), b"");
-    Ok(())
+    expect_tree(&rt, &mut files, text.as_slice());
 }
 
 /// Five names of 32 bytes, each under the one before.
@@ -100,11 +104,9 @@ commit
 ";
 
 #[test]
-fn cuts_no_name(rt: HostRuntime) -> Result<(), Fail> {
-    let mut files = MemFiles::new(rt.alloc());
-    let _made = ran(rt.alloc(), &mut files, CREATE.as_slice(), b"")?;
-    let _run = ran(rt.alloc(), &mut files, RUN.as_slice(), LONG)?;
-    let drawn = ran(rt.alloc(), &mut files, TREE.as_slice(), b"")?;
+fn cuts_no_name(rt: HostRuntime) {
+    let mut files = new_files(&rt);
+    just_run(&rt, &mut files, RUN.as_slice(), LONG);
     let text = b"\
 changed unmerged conflicts post
       -        -         -    -  top
@@ -114,46 +116,43 @@ changed unmerged conflicts post
       0        0         0  yes           `- d1234567890123456789012345678901
       0        0         0  yes              `- e1234567890123456789012345678901
 ";
-    drawn.expect(&rt, 0, text.as_slice(), b"");
-    let text = String::from_utf8(drawn.output)?;
-    assert!(rt; text.lines().all(|line| line.len() <= 80));
-    Ok(())
+    expect_tree(&rt, &mut files, text.as_slice());
+    for line in text.split(|byte| *byte == b'\n') {
+        assert!(rt; line.len() <= 80);
+    }
 }
 
 #[test]
-fn draws_only_stores(rt: HostRuntime) -> Result<(), Fail> {
+fn draws_only_stores(rt: HostRuntime) {
     let mut files = MemFiles::new(rt.alloc());
-    let absent = ran(rt.alloc(), &mut files, TREE.as_slice(), b"")?;
-    absent.expect(&rt, 1, b"", b"altctl: cannot open f\n");
+    let absent = b"altctl: cannot open f\n";
+    expect_run(&rt, &mut files, TREE.as_slice(), b"", refused(absent));
     let blank = files
         .create("f", 64)
         .expect(&rt, "there is no such file yet");
     files.give_back("f", blank);
-    let zeros = ran(rt.alloc(), &mut files, TREE.as_slice(), b"")?;
-    zeros.expect(&rt, 1, b"", b"altctl: 19 NotAStore\n");
+    let zeros = b"altctl: 19 NotAStore\n";
+    expect_run(&rt, &mut files, TREE.as_slice(), b"", refused(zeros));
     assert!(rt; files.look("f").is_some());
-    Ok(())
 }
 
 #[test]
-fn draws_no_damaged_store(rt: HostRuntime) -> Result<(), Fail> {
-    let mut files = MemFiles::new(rt.alloc());
-    let _made = ran(rt.alloc(), &mut files, CREATE.as_slice(), b"")?;
-    let _run = ran(rt.alloc(), &mut files, RUN.as_slice(), LEVELS)?;
+fn draws_no_damaged_store(rt: HostRuntime) {
+    let mut files = new_files(&rt);
+    just_run(&rt, &mut files, RUN.as_slice(), LEVELS);
     let mut disk = files.find("f").expect(&rt, "it came back");
     assert_eq!(rt; disk.blocks(), 64);
     assert!(rt; disk.write(18, &[0; 4096]).is_ok());
     files.give_back("f", disk);
-    let drawn = ran(rt.alloc(), &mut files, TREE.as_slice(), b"")?;
-    drawn.expect(&rt, 1, b"", b"altctl: 18 Damaged 18\n");
-    Ok(())
+    let damaged = b"altctl: 18 Damaged 18\n";
+    expect_run(&rt, &mut files, TREE.as_slice(), b"", refused(damaged));
 }
 
 #[test]
 fn draws_as_help_shows(rt: HostRuntime) -> Result<(), Fail> {
     let mut files = MemFiles::new(rt.alloc());
     let create = ["altctl", "create", "map.alt", "1024"];
-    let _made = ran(rt.alloc(), &mut files, create.as_slice(), b"")?;
+    just_run(&rt, &mut files, create.as_slice(), b"");
     let lines = b"\
 new north top
 new south top
@@ -167,10 +166,9 @@ new pipes north
 commit
 ";
     let run = ["altctl", "run", "map.alt"];
-    let _run = ran(rt.alloc(), &mut files, run.as_slice(), lines.as_slice())?;
+    just_run(&rt, &mut files, run.as_slice(), lines.as_slice());
     let tree = ["altctl", "tree", "map.alt"];
-    let drawn = ran(rt.alloc(), &mut files, tree.as_slice(), b"")?;
-    let text = b"\
+    let text = "\
 changed unmerged conflicts post
       -        -         -    -  top
       1        0         0  yes  |- north
@@ -178,15 +176,12 @@ changed unmerged conflicts post
       0        0         0  yes  |  `- pipes
       2        1         1   no  `- south
 ";
-    drawn.expect(&rt, 0, text.as_slice(), b"");
-    let help = ran(
-        rt.alloc(),
-        &mut files,
-        ["altctl", "help", "tree"].as_slice(),
-        b"",
-    )?;
+    let drawn = done(text.as_bytes());
+    expect_run(&rt, &mut files, tree.as_slice(), b"", drawn);
+    let words = ["altctl", "help", "tree"];
+    let help = ran(rt.alloc(), &mut files, words.as_slice(), b"")?;
     let help = String::from_utf8(help.output)?;
-    for line in String::from_utf8(drawn.output)?.lines() {
+    for line in text.lines() {
         assert!(rt;
             help.lines()
                 .any(|shown| shown.strip_prefix("  ") == Some(line))
