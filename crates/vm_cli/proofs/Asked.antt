@@ -1,5 +1,5 @@
 -- A parse without fault of the program's words asks for a job.
-use Rattle.std.proofs.Common.{◌≡◌, ◌==◌, unwrap_or, ◌⊎◌, ◌<◌, ◌≤◌, ◌^◌, ◌&&◌, ◌||◌, ℕ, Bool, true, false, not, List, [], ◌∷◌, Some, None, cond, codes, find, drop, fold, refl, sym, subst, ◌∙◌, inl, inr, arith, pos, option_and_then, lit<}
+use Rattle.std.proofs.Common.{◌≡◌, ◌==◌, unwrap_or, ◌⊎◌, ◌<◌, ◌≤◌, ◌^◌, ◌&&◌, ◌||◌, ℕ, Bool, true, false, not, List, [], ◌∷◌, Some, None, cond, codes, find, drop, refl, sym, subst, ◌∙◌, inl, inr, arith, pos, option_and_then, lit<}
 use Rattle.std.specs.Prelude.{slice_get}
 use Rattle.std.specs.Str.{bytes_eq}
 use Rattle.std.specs.Char.{digit_value}

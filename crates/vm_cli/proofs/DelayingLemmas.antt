@@ -1,15 +1,14 @@
 -- What holds of a late disk over a disk holds of the disk.
-use Rattle.std.proofs.Common.{◌≡◌, ◌⊎◌, ◌<◌, ◌≤◌, ◌+◌, ◌-◌, ◌++◌, ◌∙◌, ℕ, zero, suc, true, List, [], ◌∷◌, length, Result, inl, inr, refl, sym, ap, subst, arith}
+use Rattle.std.proofs.Common.{◌≡◌, ◌<◌, ◌≤◌, ◌+◌, ◌-◌, ◌++◌, ◌∙◌, ℕ, zero, suc, true, List, [], ◌∷◌, length, Result, inl, inr, refl, sym, ap, subst, arith}
 use Rattle.std.proofs.lemmas.Bool.{cases_lt}
 use Rattle.vm_types.specs.declared.answer.Answer.{Answer}
 use Rattle.vm_types.specs.declared.command.Command.{Command}
 use Rattle.vm_types.specs.declared.refusal.Refusal.{Refusal}
-use Rattle.vm_types.specs.declared.refusal.Refusal.TheVariants.{Device}
 use Rattle.vm_types.specs.Kept.{Kept}
 use Rattle.vm_types.specs.Moments.{KeptBetween}
 use Rattle.vm_types.specs.State.{State}
 use Rattle.vm_disk.specs.Delayed.{FollowsBelow, IsIdleOver, delayed_state, inner_of}
-use Rattle.vm_disk.specs.Disk.{Contents, DiskState, Goes, IsClean, LeftAt, MayLeave, Medium, moment}
+use Rattle.vm_disk.specs.Disk.{Contents, DiskState, IsClean, LeftAt, Medium, moment}
 use Rattle.vm_disk.specs.Following.{Follows, HeldAt, HeldPast, IsMeanwhile}
 use Rattle.vm_disk.specs.Moments.{AtEach, Throughout}
 use Rattle.vm_disk.specs.declared.delayed.DelayedDisk.{DelayedDisk}
@@ -19,7 +18,6 @@ use Rattle.vm_disk.proofs.LaidLemmas.{clean_same}
 use Rattle.vm_disk.proofs.MomentLemmas.{weaken}
 use Rattle.vm_store.specs.Refused.{IsAtMostSynced, IsRefused}
 use Rattle.vm_store.specs.Shown.{Shows}
-use Rattle.vm_cli.specs.Delaying.{IsDoneLate, IsRefusedLate}
 use Rattle.vm_cli.specs.Keeps.{Keeps}
 use Rattle.vm_cli.specs.Sessions.{HasRefused}
 

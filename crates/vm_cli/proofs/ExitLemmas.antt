@@ -5,7 +5,7 @@ use Rattle.clap.specs.Words.{IsAmong, Text, fault_of}
 use Rattle.clap.specs.declared.error.kind.ErrorKind.{ErrorKind}
 use Rattle.clap.specs.declared.error.kind.ErrorKind.TheVariants.{DisplayHelp, DisplayVersion}
 use Rattle.vm_cli.specs.Carried.{WritesStart}
-use Rattle.vm_cli.specs.Drawing.{Branch, drawing}
+use Rattle.vm_cli.specs.Drawing.{drawing}
 use Rattle.vm_cli.specs.Exits.{AskTalk, Ends, IsHelp, IsJob, JobEnds, MayEnd, Tells, TellsRefused, check_text, created_text, file_text, status_of}
 use Rattle.vm_cli.specs.Words.{Wanted, altctl}
 use Rattle.vm_cli.specs.Words.Wanted.{check, create, draw}

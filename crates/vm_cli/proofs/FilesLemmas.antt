@@ -10,7 +10,7 @@ use Rattle.vm_types.specs.declared.refusal.Refusal.{Refusal}
 use Rattle.vm_disk.specs.Cached.{cached_state, inner_of}
 use Rattle.vm_disk.specs.Delayed.{IsIdleOver, delayed_state, inner_of as below}
 use Rattle.vm_disk.specs.Disk.{IsClean, DiskState, Medium}
-use Rattle.vm_disk.specs.Moments.{Leaves, Throughout}
+use Rattle.vm_disk.specs.Moments.{Throughout}
 use Rattle.vm_disk.specs.declared.cached.CachedDisk.{CachedDisk}
 use Rattle.vm_disk.specs.declared.delayed.DelayedDisk.{DelayedDisk}
 use Rattle.vm_disk.specs.declared.disk.Disk.{Ghosts}

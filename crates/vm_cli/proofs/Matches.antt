@@ -1,5 +1,5 @@
 -- The subcommand of a parse, from its name and its rows.
-use Rattle.std.proofs.Common.{◌≡◌, ℕ, List, Option, Some, None, option_map, codes, refl}
+use Rattle.std.proofs.Common.{◌≡◌, List, Option, Some, None, option_map, codes, refl}
 use Rattle.std.specs.Prelude.{Box}
 use Rattle.std.specs.Box.{box_value}
 use Rattle.clap.specs.Words.{Row, Text, all_of, first_of, subcommand_rows}

@@ -4,18 +4,15 @@ use Rattle.vm_types.specs.State.{Seen}
 use Rattle.vm_types.specs.declared.refusal.Refusal.{Refusal}
 use Rattle.vm_disk.specs.Disk.{DiskState}
 use Rattle.vm_disk.specs.Moments.{Throughout}
-use Rattle.vm_disk.specs.declared.cached.CachedDisk.{CachedDisk}
 use Rattle.vm_disk.specs.declared.delayed.DelayedDisk.{DelayedDisk}
 use Rattle.vm_disk.specs.declared.disk.Disk.{Ghosts}
 use Rattle.vm_store.specs.Formatting.{IsFormatting}
-use Rattle.vm_cli.specs.Caching.{IsNotServed, IsServed}
 use Rattle.vm_cli.specs.Delaying.{IsRefusedLate, IsServedLate}
 use Rattle.vm_cli.specs.Drawing.{tree_text}
 use Rattle.vm_cli.specs.Exits.{MayRefuse, TellsOn, check_text, created_text, refused_text}
 use Rattle.vm_cli.specs.Sessions.{HasCounted, HasMade, HasMadeNone, HasRefused, HasServed, HasShown}
 use Rattle.vm_cli.specs.declared.program.Exit.{Exit}
 use Rattle.vm_cli.specs.declared.program.Exit.TheVariants.{Done, Refused}
-use Rattle.vm_cli.specs.declared.program.task.InMemory.{InMemory}
 use Rattle.vm_cli.specs.declared.talk.OnRefusal.{OnRefusal}
 
 -- at each moment nothing has changed, or all is synced; or there was no store, and a crash shows at most the new one
