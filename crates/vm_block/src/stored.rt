@@ -68,6 +68,7 @@ pub(crate) fn write_row(key: Key, stored: Stored<'_>, out: &mut [u8])
 }
 
 /// The short value of so many bytes in a row, where zero bytes stand behind it.
+#[inline(always)]
 fn read_short(row: &[u8], len: usize) -> Option<Stored<'_>>
     requires whole { length row.now ≡ 252 }
     requires counted { IsLength row.now len }
@@ -101,6 +102,7 @@ fn read_link<'a>(row: &[u8], len: u16) -> Option<Stored<'a>>
 }
 
 /// What a row has of its value. None just where the bytes are no row.
+#[inline(always)]
 pub(crate) fn read_stored(row: &[u8]) -> Option<Stored<'_>>
     requires { length row.now ≡ 252 }
     ensures found { IfSome result (IsInRow row.now) }

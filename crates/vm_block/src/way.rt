@@ -10,6 +10,7 @@ ghost use Rattle.vm_block.specs.Way.{ChoosesAmong, IsWay, IsWayTo, Lowest, Tells
 
 use crate::head::{MAX_RECORDS, leaf_count, node_numbers, rows_head};
 use crate::keys::read_key;
+use crate::leaf::read_record;
 use crate::node::{Child, read_child};
 use crate::stored::{Stored, read_stored};
 use vm_types::{Key, Value};
@@ -28,6 +29,7 @@ pub struct Way {
 
 /// Which of so many rows of one size, that rise by the keys which they begin with, a descent to a
 /// place takes: the last whose key is not above it, or else the first.
+#[inline(always)]
 pub(crate) fn choose(bytes: &[u8; 4096], size: usize, count: usize, place: u128) -> usize
     requires some { 0 < count }
     requires keyed { 10 ≤ size }
@@ -132,16 +134,16 @@ pub fn find_record(bytes: &[u8; 4096], key: Key) -> Option<Option<Value>>
 
     ensures only { IfLeaf bytes.now (λ rs. IsSomeAnd result (λ v. v ≡ value_at (place key) rs)) }
 {
-    let Some(_) = leaf_count(bytes, MAX_RECORDS) else {
+    let Some(count) = leaf_count(bytes, MAX_RECORDS) else {
         return None;
     };
-    match find_row(bytes, key) {
-        Some(Some(Stored::Short(value))) => match Value::new(value) {
-            Some(value) => Some(Some(value)),
-            None => None,
-        },
-        Some(Some(Stored::Long(_))) => None,
-        Some(None) => Some(None),
+    let place = key.place();
+    let from = 16 + 252 * choose(bytes, 252, count, place);
+    if read_key(&bytes[from..]).place() != place {
+        return Some(None);
+    }
+    match read_record(&bytes[from..from + 252]) {
+        Some(record) => Some(Some(record.1)),
         None => None,
     }
 }

@@ -1,49 +1,54 @@
-use Rattle.std.proofs.Common.{false, [], get_or, length, Some, refl, ap, sym, subst, ◌∙◌}
-use Rattle.std.specs.Prelude.{IfSome}
-use Rattle.vm_block.specs.Leaf.{Record, RecordFits, stored_bytes}
-use Rattle.vm_block.specs.Row.{leaf_row}
-use Rattle.vm_block.specs.Told.{StandsAmong, found_bytes}
+use Rattle.std.proofs.Common.{◌≡◌, ◌+◌, ◌-◌, ◌*◌, ◌<◌, length, take, drop, get_or, Some, [], ap, sym, subst, ◌∙◌, arith}
+use Rattle.std.specs.Prelude.{slice_index}
+use Rattle.std.proofs.lemmas.List.{length-map, take-take}
+use Rattle.vm_types.specs.Places.{place, places}
+use Rattle.vm_block.specs.Leaf.{Record, RecordFits}
+use Rattle.vm_block.specs.Way.{IsChosen}
+use Rattle.vm_block.proofs.HeadLemmas.{leaf_headed, some_same}
 use Rattle.vm_block.proofs.EachLemmas.{each_at}
-use Rattle.vm_block.proofs.HeadLemmas.{leaf_headed}
 use Rattle.vm_block.proofs.LeafLemmas.{rows_of}
-use Rattle.vm_block.proofs.RecordLemmas.{no_record, record_fits}
-use Rattle.vm_block.proofs.WayLemmas.{leaf_piece}
+use Rattle.vm_block.proofs.RecordLemmas.{record_fits, row_one}
+use Rattle.vm_block.proofs.WayLemmas.{leaf_keys, leaf_piece, chosen_value, chosen_none}
 use Rattle.vm_block.proofs.way.find_record.Goals as goal
 
 pub returns-in_default-clause-only : goal.returns-in_default-clause-only
-returns-in_default-clause-only c rs leaf = cc (c.in_default.ensures.only (length rs) (leaf_headed c.args.bytes.now rs 16 leaf leaf.few))
+returns-in_default-clause-only c rs leaf =
+    cc (c.in_default.ensures.only (length rs) (leaf_headed c.args.bytes.now rs 16 leaf leaf.few))
 
-pub returns-in-Some-new-clause-only : goal.returns-in-Some-new-clause-only
-returns-in-Some-new-clause-only c rs leaf =
-    ap Some c.in-Some-new.ensures.value
-    ∙ ap (λ stored. Some (stored_bytes stored)) (sym c.in-Some-Some-Short.field-0-0-is)
-    ∙ ap found_bytes (sym c.in-Some-Some-Short.field-0-is)
-    ∙ c.in-Some-Some-Short.ensures.only rs (rows_of c.args.bytes.now rs leaf)
-
-pub returns-in-Some-None-clause-only : goal.returns-in-Some-None-clause-only
-returns-in-Some-None-clause-only c rs leaf =
-    ap found_bytes (sym c.in-Some-None.field-0-is) ∙ c.in-Some-None.ensures.only rs (rows_of c.args.bytes.now rs leaf)
-
-pub returns-in-Some-Some-Long-clause-headed : goal.returns-in-Some-Some-Long-clause-headed
-returns-in-Some-Some-Long-clause-headed c n head none =
+pub returns-then-place-clause-only : goal.returns-then-place-clause-only
+returns-then-place-clause-only c rs leaf =
     let bytes = c.args.bytes.now in
-    let found = subst (λ found. IfSome found (StandsAmong bytes)) c.in-Some-Some-Long.field-0-is c.in-Some-Some-Long.ensures.stands in
-    let there = subst (StandsAmong bytes) c.in-Some-Some-Long.field-0-0-is found false n head in
-    (there.0, there.1, λ r fits e. no_record r (leaf_row bytes there.0) _ fits e there.2.0 there.2.1)
+    let i = c.choose.result in
+    let count = some_same (length rs) c.in-Some.count (c.in-Some.ensures.only (length rs) (leaf_headed bytes rs 16 leaf leaf.few)) in
+    let keys = leaf_keys bytes rs (rows_of bytes rs leaf) in
+    let many : length (places rs) ≡ c.in-Some.count = length-map rs (λ (r : Record). place r.0) ∙ sym count in
+    let chosen = subst (λ p. IsChosen (places rs) p i) c.place-place.ensures.place (c.choose.ensures.chosen (places rs) many keys) in
+    let here : slice_index (places rs) i ≡ place c.read_key.result = keys i c.read_key.result chosen.within c.read_key.ensures.fits (sym (take-take 10 _ (drop (16 + 252 * i) bytes) (omega arith)) ∙ c.read_key.ensures.spelled) in
+    sym (chosen_none rs (place c.args.key) i leaf.rising chosen (λ e. c.if-place.true (c.place.ensures.place ∙ sym here ∙ e ∙ sym c.place-place.ensures.place)))
 
-pub returns-in-Some-Some-Long-clause-only : goal.returns-in-Some-Some-Long-clause-only
-returns-in-Some-Some-Long-clause-only c rs leaf =
+pub returns-in-Some-read_record-clause-only : goal.returns-in-Some-read_record-clause-only
+returns-in-Some-read_record-clause-only c rs leaf =
     let bytes = c.args.bytes.now in
-    let d : Record = (c.args.key, []) in
-    let found = subst (λ found. IfSome found (StandsAmong bytes)) c.in-Some-Some-Long.field-0-is c.in-Some-Some-Long.ensures.stands in
-    let there = subst (StandsAmong bytes) c.in-Some-Some-Long.field-0-0-is found false (length rs) (leaf_headed bytes rs 16 leaf leaf.few) in
-    let r = get_or rs there.0 d in
-    absurd (no_record r (leaf_row bytes there.0) _ (each_at RecordFits rs there.0 d leaf.fit there.1) (leaf_piece bytes rs there.0 d (rows_of bytes rs leaf) there.1).0 there.2.0 there.2.1)
-
-pub returns-in-None-clause-headed : goal.returns-in-None-clause-headed
-returns-in-None-clause-headed c n head none =
-    let there = c.in-None.ensures.headed false n head refl in
-    (there.0, there.1, λ r fits e. there.2 r (record_fits r fits) e)
+    let i = c.choose.result in
+    let r = c.in-Some-read_record.record in
+    let count = some_same (length rs) c.in-Some.count (c.in-Some.ensures.only (length rs) (leaf_headed bytes rs 16 leaf leaf.few)) in
+    let keys = leaf_keys bytes rs (rows_of bytes rs leaf) in
+    let many : length (places rs) ≡ c.in-Some.count = length-map rs (λ (r : Record). place r.0) ∙ sym count in
+    let chosen = subst (λ p. IsChosen (places rs) p i) c.place-place.ensures.place (c.choose.ensures.chosen (places rs) many keys) in
+    let here : slice_index (places rs) i ≡ place c.read_key.result = keys i c.read_key.result chosen.within c.read_key.ensures.fits (sym (take-take 10 _ (drop (16 + 252 * i) bytes) (omega arith)) ∙ c.read_key.ensures.spelled) in
+    let lt : i < length rs = omega (arith, c.choose.ensures.within, count) in
+    let piece = leaf_piece bytes rs i r (rows_of bytes rs leaf) lt in
+    let far : 16 + 252 * i + 252 - (16 + 252 * i) ≡ 252 = omega arith in
+    let same : get_or rs i r ≡ r = row_one (get_or rs i r) r piece.1 (record_fits r c.in-Some-read_record.ensures.found.0) (sym piece.0 ∙ ap (λ n. take n (drop (16 + 252 * i) bytes)) (sym far) ∙ c.in-Some-read_record.ensures.found.1) in
+    sym (chosen_value rs (place c.args.key) i leaf.rising chosen r (here ∙ sym c.place.ensures.place ∙ c.if-place.false ∙ c.place-place.ensures.place) ∙ ap (λ (q : Record). Some q.1) same)
 
 pub returns-in-None-clause-only : goal.returns-in-None-clause-only
-returns-in-None-clause-only c rs leaf = c.in-None.ensures.only rs (rows_of c.args.bytes.now rs leaf)
+returns-in-None-clause-only c rs leaf =
+    let bytes = c.args.bytes.now in
+    let i = c.choose.result in
+    let d : Record = (c.args.key, []) in
+    let count = some_same (length rs) c.in-Some.count (c.in-Some.ensures.only (length rs) (leaf_headed bytes rs 16 leaf leaf.few)) in
+    let piece = leaf_piece bytes rs i d (rows_of bytes rs leaf) (omega (arith, c.choose.ensures.within, count)) in
+    let far : 16 + 252 * i + 252 - (16 + 252 * i) ≡ 252 = omega arith in
+    let none = c.in-None.ensures.only (get_or rs i d) (each_at RecordFits rs i d leaf.fit (omega (arith, c.choose.ensures.within, count))) (ap (λ n. take n (drop (16 + 252 * i) bytes)) far ∙ piece.0) in
+    cc none
