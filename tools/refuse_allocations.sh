@@ -9,8 +9,9 @@
 #
 # The program `altctl` answers two sessions of lines over a file. Each line is answered as in a run without refusal,
 # or with `error 16 Memory`. After that the store is as before the line, the file is as long, and the same line gets
-# its usual answer. In the end the file is the usual one, byte by byte. A run that ends before its first line leaves
-# the file as it was, and the file opens again.
+# its usual answer. In the end the file shows the usual, with the usual slots byte by byte: a block that no version
+# needs may have other bytes, since it is written where there is no memory for it to wait. A run that ends before its
+# first line leaves the file as it was, and the file opens again.
 #
 # It needs a C compiler, and programs that are linked against glibc. Its verdict is its exit status.
 set -eu
@@ -119,6 +120,11 @@ ask() {
     return 1
 }
 
+# All that a store in a file shows.
+shown() {
+    printf '%s\n' alts 'list top' "list $alt" "changes $alt" "conflicts $alt" "checks $alt" free | "$program" run "$1"
+}
+
 # All that can be seen of the store.
 state() {
     for query in alts 'list top' "list $alt" "changes $alt" "conflicts $alt" "checks $alt" free; do
@@ -141,6 +147,7 @@ run_usual() {
     finish
     [ "$status" = 0 ] || fail "the status is $status without a refusal"
     cp "$room/store" "$room/usual"
+    shown "$room/usual" >"$room/usual_shown"
 }
 
 # Runs the session with one allocation refused, and keeps in `answered` how many lines got their usual answer.
@@ -170,7 +177,10 @@ run_refused() {
 # it was, which opens again.
 check_end() {
     case "$answered: $status $(cat "$room/faults")" in
-        "$count: 0 ") cmp -s "$room/store" "$room/usual" || fail "allocation $1: the file is another one" ;;
+        "$count: 0 ")
+            cmp -s -n $((34 * 4096)) "$room/store" "$room/usual" && shown "$room/store" | cmp -s - "$room/usual_shown" ||
+                fail "allocation $1: the file shows something else"
+            ;;
         '0: 1 altctl: 16 Memory' | '0: 3 altctl: stopped')
             cmp -s "$room/store" "$room/empty" || fail "allocation $1: the file was changed without a line"
             [ "$(echo free | "$program" run "$room/store")" = "$free" ] ||
