@@ -7,7 +7,7 @@ use vm_types::{Key, Value};
 
 const TIMES: u64 = 100_000;
 
-// The sixteen records of a leaf, where nothing is looked at but their own bytes.
+/// The sixteen records of a leaf, where nothing is looked at but their own bytes.
 #[inline(never)]
 fn decode(block: &[u8; 4096]) -> [(Key, Value); 16] {
     let mut records = [(Key::default(), Value::default()); 16];
@@ -24,7 +24,7 @@ fn decode(block: &[u8; 4096]) -> [(Key, Value); 16] {
     records
 }
 
-// Looks at each record, so that it has to be made.
+/// Looks at each record, so that it has to be made.
 fn sum_of(records: &[(Key, Value)]) -> u64 {
     let mut sum: u64 = 0;
     for (key, value) in records {

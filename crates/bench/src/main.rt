@@ -14,7 +14,7 @@ const USES: &str = "bench take     takes of free blocks, in a row and scattered
 bench blocks   a leaf written and read
 bench trees    a million records put and got, with rising keys and with scattered ones";
 
-// The measurement that is asked for, if there is one.
+/// The measurement that is asked for, if there is one.
 fn first_word<R: Env + AllocGlobal>(rt: &R) -> io::Result<Option<String>> {
     let words: Vec<String> = env::args(rt)?.collect(rt.alloc())?;
     Ok(words.into_iter().nth(1))

@@ -33,7 +33,7 @@ pub(super) fn measure<R: Print + Clock>(rt: &R, alloc: Global) -> io::Result<()>
     )
 }
 
-// Takes each free block, and adds their numbers up.
+/// Takes each free block, and adds their numbers up.
 fn take_all(held: &mut Held) -> u64 {
     let mut sum: u64 = 0;
     for _ in 0..held.free_count() {

@@ -27,7 +27,7 @@ impl Order {
         }
     }
 
-    // The nth key.
+    /// The nth key.
     fn key(self, n: u64) -> Key {
         let number = match self {
             Order::Rising => n,
@@ -37,7 +37,7 @@ impl Order {
     }
 }
 
-// A number that looks random. Each step can be undone, so different numbers stay different.
+/// A number that looks random. Each step can be undone, so different numbers stay different.
 fn mixed(n: u64) -> u64 {
     let mut mixed = n.wrapping_mul(0x9E37_79B9_7F4A_7C15);
     mixed = (mixed ^ (mixed >> 30)).wrapping_mul(0xBF58_476D_1CE4_E5B9);
@@ -66,7 +66,7 @@ impl Plot {
         })
     }
 
-    // Holds the blocks of the tree, and no other block for data.
+    /// Holds the blocks of the tree, and no other block for data.
     fn let_go(&mut self) -> Result<(), TreeFault> {
         self.marks.clear();
         if self.marks.blocks() <= self.disk.blocks() {
@@ -103,7 +103,7 @@ impl Plot {
     }
 }
 
-// Puts records into an empty tree, and gets each of them.
+/// Puts records into an empty tree, and gets each of them.
 fn measure_order<R: Print + Clock>(rt: &R, alloc: Global, order: Order) -> io::Result<()> {
     let mut plot = Plot::new(alloc)?;
     let value = Value::new(&[7; 16]).unwrap_or_default();

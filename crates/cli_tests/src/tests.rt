@@ -34,7 +34,7 @@ struct Due<'a> {
     errors: &'a [u8],
 }
 
-// Its output alone, with status 0.
+/// Its output alone, with status 0.
 fn done(output: &[u8]) -> Due<'_> {
     Due {
         status: 0,
@@ -43,7 +43,7 @@ fn done(output: &[u8]) -> Due<'_> {
     }
 }
 
-// Its errors alone, with status 1.
+/// Its errors alone, with status 1.
 fn refused(errors: &[u8]) -> Due<'_> {
     Due {
         status: 1,
@@ -52,7 +52,7 @@ fn refused(errors: &[u8]) -> Due<'_> {
     }
 }
 
-// Its output, in which an answer was an error, which is told.
+/// Its output, in which an answer was an error, which is told.
 fn told(output: &[u8]) -> Due<'_> {
     Due {
         status: 4,
@@ -61,7 +61,7 @@ fn told(output: &[u8]) -> Due<'_> {
     }
 }
 
-// Its output up to where it stopped.
+/// Its output up to where it stopped.
 fn stopped(output: &[u8]) -> Due<'_> {
     Due {
         status: 3,
@@ -71,7 +71,7 @@ fn stopped(output: &[u8]) -> Due<'_> {
 }
 
 impl Outcome {
-    // Where something else came, the words of the run are told.
+    /// Where something else came, the words of the run are told.
     fn expect<R: Abort>(&self, rt: &R, words: &[&str], due: Due<'_>) {
         assert_eq!(rt; self.output.as_slice(), due.output, "{words:?}");
         assert_eq!(rt; self.errors.as_slice(), due.errors, "{words:?}");

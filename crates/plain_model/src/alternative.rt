@@ -65,7 +65,7 @@ impl Saved {
     }
 }
 
-// Where the checkpoint of this name stands.
+/// Where the checkpoint of this name stands.
 fn position_of(saved: &[Saved], name: &Name) -> Option<usize>
     ensures found { IfSome result (IsFirst (λ c. bytes_eq c.name name.now) saved.now) }
     ensures none { IfNone result (find (λ c. bytes_eq c.name name.now) saved.now ≡ None) }
@@ -128,7 +128,7 @@ impl Alternative {
         }
     }
 
-    // A new alternative under this one, which shows these records.
+    /// A new alternative under this one, which shows these records.
     fn child_with(
         &self,
         alloc: Global,

@@ -14,7 +14,7 @@ pub(super) fn same(m: &[(Key, Value)], n: &[(Key, Value)]) -> bool
     m == n
 }
 
-// The second map with the records of the first put into it.
+/// The second map with the records of the first put into it.
 fn over(
     alloc: Global,
     m: &[(Key, Value)],
@@ -55,7 +55,7 @@ pub fn changes(
         .collect(alloc)
 }
 
-// What the three-way rule gives. None is a conflict.
+/// What the three-way rule gives. None is a conflict.
 fn three_way(
     base: &Option<Value>,
     parent: &Option<Value>,
@@ -126,7 +126,7 @@ pub(super) fn side_of(settled: &[(Key, Side)], key: Key) -> Option<Side>
     None
 }
 
-// The value of the merge at a key, if it has one.
+/// The value of the merge at a key, if it has one.
 fn merged_at(
     base: &[(Key, Value)],
     parent: &[(Key, Value)],

@@ -34,7 +34,7 @@ impl Model for Plain {
     ghost view = { λ p. record { committed = p.committed.items; kept = p.kept; working = p.working.items; blocks = p.blocks } };
 }
 
-// The tree of a new store.
+/// The tree of a new store.
 fn fresh_tree(alloc: Global) -> Result<Vec<Alternative>, AllocError>
     ensures { IfOk result (λ tree. tree.items ≡ fresh) }
 {

@@ -17,7 +17,7 @@ fn is_settled(settled: &[(Key, Side)], key: Key) -> bool
         .any(|other| key.cmp(&other) == Ordering::Equal)
 }
 
-// The first key that is settled a second time.
+/// The first key that is settled a second time.
 fn settled_twice(settled: &[(Key, Side)]) -> Option<Key>
     ensures { result ≡ first_repeated [] (map (λ e. e.0) settled.now) }
 {
@@ -38,7 +38,7 @@ fn is_in_conflict(conflicts: &[Conflict], key: Key) -> bool
         .any(|other| key.cmp(&other) == Ordering::Equal)
 }
 
-// The first key that is settled, and in no conflict.
+/// The first key that is settled, and in no conflict.
 fn not_in_conflict(settled: &[(Key, Side)], conflicts: &[Conflict]) -> Option<Key>
     ensures { result ≡ find (λ key. not (list_any (same_key key) (map (λ c. c.key) conflicts.now))) (map (λ e. e.0) settled.now) }
 {
@@ -48,7 +48,7 @@ fn not_in_conflict(settled: &[(Key, Side)], conflicts: &[Conflict]) -> Option<Ke
         .find(|key| !is_in_conflict(conflicts, *key))
 }
 
-// How many conflicts have no settlement.
+/// How many conflicts have no settlement.
 fn unsettled_count(settled: &[(Key, Side)], conflicts: &[Conflict]) -> usize
     ensures { result ≡ length (filter (λ key. is_none (side_of settled.now key)) (map (λ c. c.key) conflicts.now)) }
 {

@@ -8,8 +8,8 @@ use vm_disk::MemDisk;
 use vm_store::Store;
 use vm_types::Refusal;
 
-// Carries out a command. Only a merge and a grow may want memory: then nothing has changed, and it
-// is carried out once more.
+/// Carries out a command. Only a merge and a grow may want memory: then nothing has changed, and it
+/// is carried out once more.
 fn apply(
     alloc: Global,
     store: &mut Store<MemDisk>,

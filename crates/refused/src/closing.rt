@@ -6,7 +6,8 @@ use std::alloc::Global;
 use vm_disk::{Disk, MemDisk};
 use vm_types::{Answer, Refusal};
 
-// Carries out the commands before the merge, and perhaps that too. Gives the last answer and the disk.
+/// Carries out the commands before the merge, and perhaps that too. Gives the last answer and the
+/// disk.
 fn go_to_merge(
     alloc: Global,
     merges: bool,
@@ -21,7 +22,7 @@ fn go_to_merge(
     Ok((last, store.close()))
 }
 
-// Whether two disks hold the same, and the same blocks are dirty.
+/// Whether two disks hold the same, and the same blocks are dirty.
 fn are_same(first: &mut MemDisk, second: &mut MemDisk) -> bool {
     for n in 0..BLOCKS {
         if n >= first.blocks() || n >= second.blocks() {

@@ -46,7 +46,7 @@ fn top() -> Name {
     name
 }
 
-// A name, or `top` where the bytes are none.
+/// A name, or `top` where the bytes are none.
 fn name(bytes: &[u8]) -> Name {
     Name::new(bytes).unwrap_or(top())
 }

@@ -27,8 +27,8 @@ fn serve_lines(
     }
 }
 
-// Says a line, and `free` in the same talk. Where the first one wants memory, the second is answered, nothing
-// has changed, and both are said once more.
+/// Says a line, and `free` in the same talk. Where the first one wants memory, the second is
+/// answered, nothing has changed, and both are said once more.
 fn say(
     alloc: Global,
     store: &mut Store<MemDisk>,

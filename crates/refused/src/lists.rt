@@ -8,7 +8,8 @@ use vm_disk::MemDisk;
 use vm_store::{Stop, Store};
 use vm_types::{Command, Refusal};
 
-// Runs a list. Where there is no memory for the answers, nothing has changed, and it is run once more.
+/// Runs a list. Where there is no memory for the answers, nothing has changed, and it is run once
+/// more.
 fn run(
     alloc: Global,
     store: &mut Store<MemDisk>,
@@ -36,7 +37,7 @@ fn run(
     }
 }
 
-// Runs a list on a new store, and gives the answers and all that is shown then, opened again too.
+/// Runs a list on a new store, and gives the answers and all that is shown then, opened again too.
 fn run_whole(
     alloc: Global,
     list: &[Command],
@@ -49,8 +50,8 @@ fn run_whole(
     Ok((answers?, reopen(alloc, disk, shown?, wanting)?))
 }
 
-// Whether a list of which a command was refused was answered, and has left, what the list without it
-// does.
+/// Whether a list of which a command was refused was answered, and has left, what the list without
+/// it does.
 fn is_without(
     alloc: Global,
     refused: usize,

@@ -39,7 +39,7 @@ fn try_way(alloc: Global, way: Way, wanting: &mut Wanting) -> Result<String, Wro
     }
 }
 
-// Begins anew where that is asked for, as where the memory that was refused is this program's own.
+/// Begins anew where that is asked for, as where the memory that was refused is this program's own.
 fn carry_out(alloc: Global, way: Way, wanting: &mut Wanting) -> Result<String, Wrong> {
     match try_way(alloc, way, wanting) {
         Err(Wrong::Again) => {

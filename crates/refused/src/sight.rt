@@ -21,7 +21,7 @@ impl From<AllocError> for Blind {
     }
 }
 
-// What a query gives. It may only want memory.
+/// What a query gives. It may only want memory.
 fn given<T>(query: &'static str, answer: Result<T, Refusal>) -> Result<T, Blind> {
     match answer {
         Ok(value) => Ok(value),
@@ -30,12 +30,12 @@ fn given<T>(query: &'static str, answer: Result<T, Refusal>) -> Result<T, Blind>
     }
 }
 
-// The bytes of a value as a text.
+/// The bytes of a value as a text.
 fn shown(value: &[u8]) -> &str {
     str::from_utf8(value).unwrap_or("?")
 }
 
-// A value as a text, `~` for none.
+/// A value as a text, `~` for none.
 fn text_of(value: Option<&[u8]>) -> &str {
     match value {
         Some(value) => shown(value),
@@ -43,7 +43,7 @@ fn text_of(value: Option<&[u8]>) -> &str {
     }
 }
 
-// Writes the records of an alternative, its changes, and its checkpoints.
+/// Writes the records of an alternative, its changes, and its checkpoints.
 fn write_maps(
     alloc: Global,
     store: &mut Store<MemDisk>,
@@ -63,7 +63,7 @@ fn write_maps(
     Ok(())
 }
 
-// Writes what an alternative has in conflict with its parent.
+/// Writes what an alternative has in conflict with its parent.
 fn write_conflicts(
     alloc: Global,
     store: &mut Store<MemDisk>,

@@ -33,7 +33,7 @@ impl Flags {
         })
     }
 
-    // A copy with so many flags in all, of which those behind its own are clear.
+    /// A copy with so many flags in all, of which those behind its own are clear.
     pub(crate) fn extended(&self, alloc: Global, count: usize) -> Result<Flags, AllocError>
         requires longer { length self.now ≤ count }
         requires few { count ≤ 2 ^ 20 }
@@ -66,7 +66,7 @@ impl Flags {
         set_bit(self.words.as_mut_slice(), n);
     }
 
-    // Sets the first `count` flags.
+    /// Sets the first `count` flags.
     pub(crate) fn set_first(&mut self, count: u32)
         requires within { count < length self.old }
         requires one_word { count < 64 }
@@ -88,7 +88,7 @@ impl Flags {
         self.words.copy_from_slice(other.words.as_slice());
     }
 
-    // Clears each flag that is clear among the others.
+    /// Clears each flag that is clear among the others.
     pub(crate) fn clear_but(&mut self, others: &Flags)
         requires { length others.now ≡ length self.old }
         ensures count { length self.new ≡ length self.old }
@@ -98,7 +98,7 @@ impl Flags {
         clear_bits_but(self.words.as_mut_slice(), others.words.as_slice());
     }
 
-    // The lowest clear flag, or their number where all are set. The search starts at flag `from`.
+    /// The lowest clear flag, or their number where all are set. The search starts at flag `from`.
     pub(crate) fn first_clear(&self, from: usize) -> usize
         requires { (k : ℕ) → k < from → slice_index_or self.now k false ≡ true }
         ensures before { (k : ℕ) → k < result → slice_index_or self.now k false ≡ true }

@@ -2,16 +2,16 @@
 //!
 //! It stands on the standard library alone, and knows neither a disk nor what lies in a block. Its
 //! one promise: `take` gives the lowest block that was not held, and None exactly where all are
-//! held. A contract sees `Held`, and `Marks` and `Snapshot` beside it, as one
+//! held. A contract sees `Held`, and `Marks` and `Baseline` beside it, as one
 //! flag a block.
 #![tactic(auto)]
 
+mod baseline;
 mod flags;
 mod held;
 mod marks;
-mod snapshot;
 mod words;
 
+pub use baseline::Baseline;
 pub use held::{FIRST_DATA, Held};
 pub use marks::Marks;
-pub use snapshot::Snapshot;

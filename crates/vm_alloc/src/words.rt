@@ -17,7 +17,7 @@ pub(crate) fn set_bit(words: &mut [u64], n: usize)
     words[n / 64] |= 1 << (n % 64);
 }
 
-// Sets bits 0 to `count` - 1.
+/// Sets bits 0 to `count` - 1.
 pub(crate) fn set_first_bits(words: &mut [u64], count: u32)
     requires some { 0 < length words.old }
     requires one_word { count < 64 }
@@ -27,7 +27,7 @@ pub(crate) fn set_first_bits(words: &mut [u64], count: u32)
     words[0] |= (1 << count) - 1;
 }
 
-// Clears each bit that is clear in the other words.
+/// Clears each bit that is clear in the other words.
 pub(crate) fn clear_bits_but(words: &mut [u64], others: &[u64])
     requires { length others.now ≡ length words.old }
     ensures { (k : ℕ) → is_bit_set words.new k ≡ (is_bit_set words.old k && is_bit_set others.now k) }
@@ -37,7 +37,7 @@ pub(crate) fn clear_bits_but(words: &mut [u64], others: &[u64])
     }
 }
 
-// The lowest clear bit, or the number of bits where all are set.
+/// The lowest clear bit, or the number of bits where all are set.
 pub(crate) fn first_clear_bit(words: &[u64], from: usize) -> usize
     requires few { length words.now < 2 ^ 50 }
     requires set { (k : ℕ) → k < from → is_bit_set words.now k ≡ true }

@@ -22,7 +22,7 @@ impl SlotName {
         }
     }
 
-    // The first byte of its selector.
+    /// The first byte of its selector.
     fn byte(self) -> u8
         ensures { result ≡ selector_byte self }
     {

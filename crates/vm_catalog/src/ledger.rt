@@ -9,14 +9,14 @@ use vm_types::Name;
 /// The name of the alternative that has no parent.
 const TOP: &[u8] = b"top";
 
-// Whether the entry is the alternative of this name.
+/// Whether the entry is the alternative of this name.
 fn is_alternative_of(name: &Name, entry: &Entry) -> bool
     ensures { result ≡ is_alternative_of name.now entry.now }
 {
     entry.kind == Kind::Alternative && entry.name == *name
 }
 
-// Whether two entries are called the same: two alternatives, or two checkpoints of one owner.
+/// Whether two entries are called the same: two alternatives, or two checkpoints of one owner.
 fn is_called_as(entry: &Entry, other: &Entry) -> bool
     ensures { result ≡ is_called_as entry.now other.now }
 {
@@ -25,7 +25,7 @@ fn is_called_as(entry: &Entry, other: &Entry) -> bool
         && (entry.kind == Kind::Alternative || entry.owner == other.owner)
 }
 
-// Whether the entry is `top`: an alternative without parent, with the empty base.
+/// Whether the entry is `top`: an alternative without parent, with the empty base.
 fn is_top(entry: &Entry) -> bool
     ensures { IsTrue result ↔ IsTopEntry entry.now }
 {
@@ -35,21 +35,21 @@ fn is_top(entry: &Entry) -> bool
         && entry.base == 0
 }
 
-// Whether the alternative of this name is among them.
+/// Whether the alternative of this name is among them.
 fn has_alternative(entries: &[Entry], name: &Name) -> bool
     ensures { result ≡ list_any (is_alternative_of name.now) entries.now }
 {
     entries.iter().any(|e| is_alternative_of(name, e))
 }
 
-// Whether one among them is called the same as the entry.
+/// Whether one among them is called the same as the entry.
 fn has_called_as(entries: &[Entry], entry: &Entry) -> bool
     ensures { result ≡ list_any (is_called_as entry.now) entries.now }
 {
     entries.iter().any(|e| is_called_as(entry, e))
 }
 
-// Whether a checkpoint of `top` has the empty base.
+/// Whether a checkpoint of `top` has the empty base.
 fn has_base_of_top(entry: &Entry, owner: &Name) -> bool
     ensures { IsTrue result
         ↔ (is_alternative entry.now.kind ≡ false → owner.now ≡ codes "top" → entry.now.base ≡ 0) }
@@ -57,7 +57,7 @@ fn has_base_of_top(entry: &Entry, owner: &Name) -> bool
     entry.kind == Kind::Alternative || owner.as_bytes() != TOP || entry.base == 0
 }
 
-// Whether the entry may follow these.
+/// Whether the entry may follow these.
 fn may_follow(earlier: &[Entry], entry: &Entry) -> bool
     ensures { IsTrue result ↔ MayFollow earlier.now entry.now }
 {
@@ -71,7 +71,7 @@ fn may_follow(earlier: &[Entry], entry: &Entry) -> bool
     }
 }
 
-// Whether each entry but the first may follow those before it.
+/// Whether each entry but the first may follow those before it.
 fn all_follow(entries: &[Entry]) -> bool
     requires { 0 < length entries.now }
     ensures { IsTrue result ↔ Follows (take 1 entries.now) (drop 1 entries.now) }

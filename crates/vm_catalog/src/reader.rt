@@ -33,7 +33,7 @@ pub struct Slot {
     pub entries: Vec<Entry>,
 }
 
-// The entry in a cell of the block, where it is one.
+/// The entry in a cell of the block, where it is one.
 fn entry_at(block: &[u8], cell: usize) -> Option<Entry>
     requires { 128 * (cell + 1) ≤ length block.now }
     ensures found { IfSome result (λ e. IsEntry (cell_of block.now cell) e) }
@@ -42,8 +42,8 @@ fn entry_at(block: &[u8], cell: usize) -> Option<Entry>
     read_entry(&block[128 * cell..128 * cell + 128])
 }
 
-// Reads so many entries, from a cell of the block on, behind those that were read before.
-// Where one is no entry, it answers false.
+/// Reads so many entries, from a cell of the block on, behind those that were read before.
+/// Where one is no entry, it answers false.
 fn read_entries<A: Allocator>(
     block: &[u8],
     first: usize,
@@ -65,7 +65,7 @@ fn read_entries<A: Allocator>(
     true
 }
 
-// Reads the head of a slot from its first block, and the entries behind it.
+/// Reads the head of a slot from its first block, and the entries behind it.
 fn read_front(block: &[u8], entries: &mut Vec<Entry>) -> Option<SlotHead>
     requires whole { length block.now ≡ 4096 }
     requires none { entries.old.items ≡ [] }
@@ -81,7 +81,7 @@ fn read_front(block: &[u8], entries: &mut Vec<Entry>) -> Option<SlotHead>
     read_entries(block, 1, count, entries).then_some(head)
 }
 
-// Reads the first block of a slot: its head, and the entries behind it.
+/// Reads the first block of a slot: its head, and the entries behind it.
 fn read_first<D: Disk>(
     disk: &mut D,
     slot_name: SlotName,
@@ -109,7 +109,7 @@ fn read_first<D: Disk>(
     }
 }
 
-// Reads the other used blocks of a slot whose first block has this head.
+/// Reads the other used blocks of a slot whose first block has this head.
 fn read_others<D: Disk>(
     disk: &mut D,
     slot_name: SlotName,

@@ -11,7 +11,7 @@ use crate::selection::select_slot;
 use vm_block::{Entry, SlotHead, SlotName, write_entry, write_slot_head};
 use vm_disk::{DeviceFault, Disk};
 
-// The head of a slot is its cell 0, and its entries are those from 1 on.
+/// The head of a slot is its cell 0, and its entries are those from 1 on.
 fn write_cell(blocks: u32, entries: &[Entry], cell: usize, out: &mut [u8])
     requires few { length entries.now ≤ MAX_ENTRIES }
     requires inside { cell ≤ length entries.now }
@@ -29,7 +29,7 @@ fn write_cell(blocks: u32, entries: &[Entry], cell: usize, out: &mut [u8])
     }
 }
 
-// So many cells, with zero bytes behind them.
+/// So many cells, with zero bytes behind them.
 fn write_cells(blocks: u32, entries: &[Entry], first: usize, count: usize, out: &mut [u8])
     requires few { length entries.now ≤ MAX_ENTRIES }
     requires inside { first + count ≤ length entries.now + 1 }
@@ -43,7 +43,7 @@ fn write_cells(blocks: u32, entries: &[Entry], first: usize, count: usize, out: 
     out[128 * count..].fill(0);
 }
 
-// Block `index` of the slot with these entries.
+/// Block `index` of the slot with these entries.
 fn write_block(blocks: u32, entries: &[Entry], index: u32, out: &mut [u8; 4096])
     requires few { length entries.now ≤ MAX_ENTRIES }
     requires used { index < used_blocks (length entries.now) }

@@ -123,7 +123,7 @@ pub fn stop<F: Write>(errors: &mut F) -> u8
     3
 }
 
-// Does what the words say. That the program stopped is still to be said.
+/// Does what the words say. That the program stopped is still to be said.
 fn do_job<P: Place, R: Read, W: Write, F: Write>(
     alloc: Global,
     words: &[String],
@@ -168,7 +168,7 @@ fn do_job<P: Place, R: Read, W: Write, F: Write>(
     }
 }
 
-// Makes a file with an empty store.
+/// Makes a file with an empty store.
 fn create<P: Place, W: Write, F: Write>(
     file: &str,
     blocks: u32,
@@ -189,7 +189,7 @@ fn create<P: Place, W: Write, F: Write>(
     exit
 }
 
-// Makes an empty store on a disk, and says so.
+/// Makes an empty store on a disk, and says so.
 fn make_store<D: Disk, W: Write, F: Write>(
     disk: D,
     blocks: u32,
@@ -208,7 +208,7 @@ fn make_store<D: Disk, W: Write, F: Write>(
     }
 }
 
-// Opens the store in a file, and answers the lines of the input.
+/// Opens the store in a file, and answers the lines of the input.
 fn run<P: Place, R: Read, W: Write, F: Write>(
     alloc: Global,
     file: &str,
@@ -259,7 +259,7 @@ pub(crate) fn answer_lines<D: Disk, R: Read, W: Write, F: Write>(
     }
 }
 
-// How the program ends after a talk.
+/// How the program ends after a talk.
 fn end_of(on_refusal: OnRefusal, served: &Result<bool, ServeFault>) -> Exit
     ensures { result ≡ end_of_talk on_refusal served.now }
 {
@@ -275,7 +275,7 @@ fn end_of(on_refusal: OnRefusal, served: &Result<bool, ServeFault>) -> Exit
     }
 }
 
-// Opens the store in a file for reading alone, and says what it holds.
+/// Opens the store in a file for reading alone, and says what it holds.
 fn check<P: Place, W: Write, F: Write>(
     alloc: Global,
     file: &str,
@@ -297,7 +297,7 @@ fn check<P: Place, W: Write, F: Write>(
     exit
 }
 
-// Opens the store on a disk, and says what it holds.
+/// Opens the store on a disk, and says what it holds.
 fn check_disk<D: Disk, W: Write, F: Write>(
     alloc: Global,
     disk: D,
@@ -323,7 +323,7 @@ fn check_disk<D: Disk, W: Write, F: Write>(
     }
 }
 
-// Says what a store holds.
+/// Says what a store holds.
 fn counted<W: Write>(counts: &Counts, output: &mut W) -> Exit
     ensures { TellsOn W.contents Exit.Done result output.old output.new (counts_text counts.now) }
 {
@@ -332,7 +332,7 @@ fn counted<W: Write>(counts: &Counts, output: &mut W) -> Exit
     unless_fault(say(output, text.as_bytes()), Exit::Done)
 }
 
-// Says that a store was made.
+/// Says that a store was made.
 fn created<W: Write>(blocks: u32, output: &mut W) -> Exit
     ensures { TellsOn W.contents Exit.Done result output.old output.new (created_text blocks) }
 {
@@ -350,7 +350,7 @@ pub(crate) fn no_file<F: Write>(what: &[u8], file: &str, errors: &mut F) -> Exit
     unless_fault(say_with_file(what, file, errors), Exit::Refused)
 }
 
-// Writes a text and the name of a file as one line, and hands it on.
+/// Writes a text and the name of a file as one line, and hands it on.
 fn say_with_file<W: Write>(what: &[u8], file: &str, writer: &mut W) -> Result<(), WriteFault>
     ensures ok { OnOk result (Gains W.contents (file_text what.now file.now) writer.old writer.new) }
     ensures err { OnErr result (Begins W.contents (file_text what.now file.now) writer.old writer.new) }
@@ -371,7 +371,7 @@ pub(crate) fn refused<F: Write>(refusal: &Refusal, errors: &mut F) -> Exit
     unless_fault(say(errors, text.as_bytes()), Exit::Refused)
 }
 
-// Says what is wrong with the words, or gives the help that they ask for.
+/// Says what is wrong with the words, or gives the help that they ask for.
 fn explain<W: Write, F: Write>(alloc: Global, error: &Error, output: &mut W, errors: &mut F) -> Exit
     ensures memory { StopsUnsaid error.now result output.old output.new errors.old errors.new }
     ensures help { Helps W.contents error.now result output.old output.new errors.old errors.new }

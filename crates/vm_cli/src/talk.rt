@@ -108,8 +108,8 @@ pub fn serve<R: Read, W: Write, D: Disk>(
     Err(ServeFault::Read)
 }
 
-// Takes more bytes of the input, and answers each line that ends in them. An `Ok` says whether one was
-// refused.
+/// Takes more bytes of the input, and answers each line that ends in them. An `Ok` says whether one
+/// was refused.
 fn feed<W: Write, D: Disk>(
     alloc: Global,
     bytes: &[u8],
@@ -141,8 +141,8 @@ fn feed<W: Write, D: Disk>(
     Ok(refused)
 }
 
-// Takes the last bytes of a line, without its line feed, and answers it. An `Ok` says whether it was
-// refused.
+/// Takes the last bytes of a line, without its line feed, and answers it. An `Ok` says whether it
+/// was refused.
 fn feed_line<W: Write, D: Disk>(
     alloc: Global,
     bytes: &[u8],
@@ -172,8 +172,8 @@ fn feed_line<W: Write, D: Disk>(
     }
 }
 
-// Carries out a line and writes its answer, composed in the text, of which nothing is kept. An `Ok` says
-// whether the line was refused.
+/// Carries out a line and writes its answer, composed in the text, of which nothing is kept. An
+/// `Ok` says whether the line was refused.
 fn answer<W: Write, D: Disk>(
     alloc: Global,
     line: &Line,
@@ -209,7 +209,7 @@ fn answer<W: Write, D: Disk>(
     Ok(false)
 }
 
-// Writes what is left of an answer, with its last line.
+/// Writes what is left of an answer, with its last line.
 fn send<W: Write>(reply: Reply, text: &mut Text, writer: &mut W) -> Result<(), WriteFault>
     requires { length text.old + 1024 ≤ 65536 }
     ensures ok { OnOk result (Gains W.contents (text.old ++ reply_text reply) writer.old writer.new) }
@@ -220,8 +220,8 @@ fn send<W: Write>(reply: Reply, text: &mut Text, writer: &mut W) -> Result<(), W
     flush(writer)
 }
 
-// Carries out a line. The text takes the lines of a list but for the last, and what doesn't fit
-// is written; the last line of the answer is given back.
+/// Carries out a line. The text takes the lines of a list but for the last, and what doesn't fit
+/// is written; the last line of the answer is given back.
 fn reply_to<W: Write, D: Disk>(
     alloc: Global,
     line: &Line,
@@ -248,7 +248,7 @@ fn reply_to<W: Write, D: Disk>(
     }
 }
 
-// Does what a line asks for. The text takes the lines of a list as above.
+/// Does what a line asks for. The text takes the lines of a list as above.
 fn reply_to_request<W: Write, D: Disk>(
     alloc: Global,
     request: Request,
@@ -281,7 +281,7 @@ fn reply_to_request<W: Write, D: Disk>(
     }
 }
 
-// Carries out a command. Where the device failed in it, the store carries out nothing more.
+/// Carries out a command. Where the device failed in it, the store carries out nothing more.
 fn reply_to_command<D: Disk>(command: &Command, store: &mut Store<D>) -> Reply
     ensures goes { GrowsOn ⊥ store.old store.new }
     ensures last { has_failed store.old ≡ false → ends_talk result ≡ has_failed store.new }
@@ -292,7 +292,7 @@ fn reply_to_command<D: Disk>(command: &Command, store: &mut Store<D>) -> Reply
     answered(store.apply(command))
 }
 
-// What is answered to a command.
+/// What is answered to a command.
 fn answered(answer: Result<Answer, Refusal>) -> Reply
     ensures text { reply_text result ≡ answer_text answer }
     ensures last { TalkGoesOn answer result }
@@ -307,7 +307,7 @@ fn answered(answer: Result<Answer, Refusal>) -> Reply
     }
 }
 
-// Answers a query for the value of a record.
+/// Answers a query for the value of a record.
 fn get<D: Disk>(alt: &Name, key: Key, store: &mut Store<D>) -> Reply
     ensures goes { GoesOn ⊥ store.old store.new }
     ensures failed { has_failed store.new ≡ has_failed store.old }
@@ -321,7 +321,7 @@ fn get<D: Disk>(alt: &Name, key: Key, store: &mut Store<D>) -> Reply
     }
 }
 
-// Answers a query for the number of free blocks.
+/// Answers a query for the number of free blocks.
 fn free<D: Disk>(store: &Store<D>) -> Reply
     ensures last { has_failed store.now ≡ false → ends_talk result ≡ false }
     ensures answer { AnswersBy Request.Free result store.now store.now }

@@ -49,7 +49,7 @@ pub struct FileDisk<F> {
     ghost known: { sure ≤ blocks },
 }
 
-// Where a block begins.
+/// Where a block begins.
 fn offset_of(n: u32) -> u64
     ensures { result ≡ 4096 * n }
 {
@@ -94,7 +94,7 @@ impl<F: Positional> FileDisk<F> {
         FileDisk::part(file, blocks, blocks)
     }
 
-    // The first blocks of a file, of which so many are sure.
+    /// The first blocks of a file, of which so many are sure.
     fn part(file: F, blocks: u32, sure: u32) -> FileDisk<F>
         requires { sure ≤ blocks }
         ensures file { file_of result ≡ file }
@@ -110,7 +110,7 @@ impl<F: Positional> FileDisk<F> {
         }
     }
 
-    // What it is now, to be noted.
+    /// What it is now, to be noted.
     fn earlier(&self) -> Earlier<F>
         ensures { part_then F.state result ≡ part_of F.state self.now }
     {
@@ -122,8 +122,8 @@ impl<F: Positional> FileDisk<F> {
         }
     }
 
-    // Writes zero blocks to a file, several at once, from where so many are done up to so many. It counts
-    // those that were written.
+    /// Writes zero blocks to a file, several at once, from where so many are done up to so many. It
+    /// counts those that were written.
     fn write_zeros(file: &mut F, done: &mut u32, blocks: u32) -> Result<(), DeviceFault>
         requires { done.old ≤ blocks }
         ensures any { CountsFailures result (F.state file.old) (F.state file.new) }

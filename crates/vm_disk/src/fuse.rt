@@ -88,7 +88,7 @@ impl<D: Disk> FuseDisk<D> {
         self.inner
     }
 
-    // Counts a call, and tells whether the fuse fails it.
+    /// Counts a call, and tells whether the fuse fails it.
     fn fails(&mut self) -> bool
         ensures fails { result ≡ fails_next self.old }
         ensures inner { inner_of self.new ≡ inner_of self.old }

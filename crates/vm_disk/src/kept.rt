@@ -78,7 +78,7 @@ impl Kept {
         }
     }
 
-    // Room with these bytes. In a full cache it is the spare one.
+    /// Room with these bytes. In a full cache it is the spare one.
     fn room(&mut self, bytes: &[u8; 4096]) -> Option<Room>
         ensures bytes { IfSome result (λ room. room.value ≡ bytes.now) }
         ensures rooms { self.new.rooms ≡ self.old.rooms }

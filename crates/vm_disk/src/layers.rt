@@ -40,7 +40,7 @@ impl<D: Disk> Layers<D> {
         }
     }
 
-    // Writes block n out, if it waits.
+    /// Writes block n out, if it waits.
     fn send_alone(&mut self, n: u32) -> Result<(), DeviceFault>
         ensures any { Between (layers_state D.state) (Counts 0 result) self.old self.new }
         ensures honest { (D.state (lower_of self.new)).honest ≡ true → Sends D.state self.old self.new }
@@ -54,7 +54,7 @@ impl<D: Disk> Layers<D> {
         Ok(())
     }
 
-    // Writes block n out, if it waits, together with those that wait around it.
+    /// Writes block n out, if it waits, together with those that wait around it.
     fn send(&mut self, n: u32) -> Result<(), DeviceFault>
         ensures any { Between (layers_state D.state) (Counts 0 result) self.old self.new }
         ensures honest { (D.state (lower_of self.new)).honest ≡ true → Sends D.state self.old self.new }
@@ -72,8 +72,8 @@ impl<D: Disk> Layers<D> {
         Ok(())
     }
 
-    // Writes the block out whose last write is the longest ago, with its neighbours, unless one more may
-    // wait without that.
+    /// Writes the block out whose last write is the longest ago, with its neighbours, unless one
+    /// more may wait without that.
     fn make_place(&mut self) -> Result<(), DeviceFault>
         ensures any { Between (layers_state D.state) (Counts 0 result) self.old self.new }
         ensures honest { (D.state (lower_of self.new)).honest ≡ true → Sends D.state self.old self.new }
@@ -88,7 +88,7 @@ impl<D: Disk> Layers<D> {
         }
     }
 
-    // Writes out each block that waits.
+    /// Writes out each block that waits.
     fn send_all(&mut self) -> Result<(), DeviceFault>
         ensures any { Between (layers_state D.state) (Counts 0 result) self.old self.new }
         ensures honest { (D.state (lower_of self.new)).honest ≡ true → Sends D.state self.old self.new }

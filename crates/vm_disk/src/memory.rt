@@ -40,7 +40,7 @@ pub struct MemDisk {
     failed: History<()>,
 }
 
-// Adds an element until there are so many, in room that is there.
+/// Adds an element until there are so many, in room that is there.
 fn fill_up<T: Copy>(items: &mut Vec<T>, item: T, count: usize)
     requires { count ≤ vec_capacity items.old }
     ensures items { items.new.items ≡ filled_up count item items.old.items }
@@ -54,7 +54,7 @@ fn fill_up<T: Copy>(items: &mut Vec<T>, item: T, count: usize)
 impl Platter {
     ghost use Rattle.vm_disk.specs.Memory.{medium_of, IsRefilled, IsRefilledAt};
 
-    // Room for so many blocks, and none of them.
+    /// Room for so many blocks, and none of them.
     fn with_room(alloc: Global, room: u32) -> Result<Platter, AllocError>
         ensures blocks { IfOk result (λ platter. platter.blocks.items ≡ []) }
         ensures room { IfOk result (λ platter. platter.room ≡ room) }
@@ -67,7 +67,7 @@ impl Platter {
         })
     }
 
-    // Adds zero blocks, which are dirty, until there are so many.
+    /// Adds zero blocks, which are dirty, until there are so many.
     fn lengthen(&mut self, blocks: u32)
         requires { blocks ≤ self.old.room }
         ensures blocks { self.new.blocks.items
@@ -82,7 +82,7 @@ impl Platter {
         fill_up(&mut self.dirty, true, count);
     }
 
-    // Takes the last blocks away, down to so many.
+    /// Takes the last blocks away, down to so many.
     fn shorten(&mut self, blocks: u32)
         requires sure { self.old.sure ≤ blocks }
         requires fewer { blocks ≤ length self.old.blocks.items }
@@ -114,7 +114,7 @@ impl Platter {
         }
     }
 
-    // All blocks are synced.
+    /// All blocks are synced.
     fn settle(&mut self)
         ensures blocks { self.new.blocks ≡ self.old.blocks }
         ensures clean { IsClean (medium_of self.new) }
@@ -125,7 +125,7 @@ impl Platter {
         self.dirty.fill(false);
     }
 
-    // Each dirty block takes the bytes of its last entry.
+    /// Each dirty block takes the bytes of its last entry.
     fn refill(&mut self, fill: &[(u32, [u8; 4096])])
         ensures dirty { self.new.dirty ≡ self.old.dirty }
         ensures sure { self.new.sure ≡ self.old.sure }

@@ -41,8 +41,9 @@ impl World for Brand {
     ghost torn = { λ opened name calls. [] };
 }
 
-// A call that was made of a file. Torn is a write that failed, Withheld one that was not made, Synced a
-// sync with what the system answered to it, and Failed any other call that failed, which did nothing.
+/// A call that was made of a file. Torn is a write that failed, Withheld one that was not made,
+/// Synced a sync with what the system answered to it, and Failed any other call that failed, which
+/// did nothing.
 #[derive(Drop)]
 enum Call {
     Created,
@@ -57,8 +58,8 @@ enum Call {
     Failed,
 }
 
-// Whether a plain file or a block device has this name: no folder, and no pipe or other device, whose
-// opening alone may wait for others, or do something.
+/// Whether a plain file or a block device has this name: no folder, and no pipe or other device,
+/// whose opening alone may wait for others, or do something.
 fn has_blocks(rt: &impl Files, path: &str) -> bool {
     match fs::metadata(rt, path) {
         Ok(metadata) => is_plain_or_device(&metadata),
@@ -66,12 +67,12 @@ fn has_blocks(rt: &impl Files, path: &str) -> bool {
     }
 }
 
-// Whether this is a plain file or a block device.
+/// Whether this is a plain file or a block device.
 fn is_plain_or_device(metadata: &Metadata) -> bool {
     metadata.is_file() || metadata.file_type().is_block_device()
 }
 
-// How many bytes a file has. Of a block device the system tells it by the place of its end alone.
+/// How many bytes a file has. Of a block device the system tells it by the place of its end alone.
 fn length_of(mut file: &File) -> io::Result<u64> {
     let metadata = file.metadata()?;
     if metadata.is_file() {
@@ -80,8 +81,9 @@ fn length_of(mut file: &File) -> io::Result<u64> {
     file.seek(SeekFrom::End(0))
 }
 
-// Whether all writes last after a sync that was answered so. Some file systems that cannot be written
-// answer that there is nothing to sync; that counts for a file that was opened to be read alone.
+/// Whether all writes last after a sync that was answered so. Some file systems that cannot be
+/// written answer that there is nothing to sync; that counts for a file that was opened to be read
+/// alone.
 fn is_synced(reads_alone: bool, answer: &io::Result<()>) -> bool
     ensures { result ≡ counts_as_synced reads_alone answer.now }
 {
@@ -174,9 +176,9 @@ impl<W: World> SystemFile<W> {
         SystemFile::opened(rt, &how, path, opened, calls)
     }
 
-    // Opens a file in this way, after so many others, of which these calls are known. It is to be read
-    // alone where the way asks for no writes. None where it cannot be opened, is neither a plain file
-    // nor a block device after all, or has a standard descriptor.
+    /// Opens a file in this way, after so many others, of which these calls are known. It is to be
+    /// read alone where the way asks for no writes. None where it cannot be opened, is neither a
+    /// plain file nor a block device after all, or has a standard descriptor.
     fn opened(
         rt: &impl Files<File = File>,
         how: &OpenOptions,

@@ -73,7 +73,7 @@ impl Waiting {
         self.rooms.len() < self.rooms.cap().get()
     }
 
-    // Room with these bytes, unless memory for it is refused.
+    /// Room with these bytes, unless memory for it is refused.
     fn room(&mut self, bytes: &[u8; 4096]) -> Option<Room>
         ensures bytes { IfSome result (λ room. room.value ≡ bytes.now) }
         ensures rooms { self.new.rooms ≡ self.old.rooms }

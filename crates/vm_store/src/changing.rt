@@ -10,7 +10,7 @@ ghost use Rattle.vm_store.specs.Changing.{Makes, MeetsFullPath};
 ghost use Rattle.vm_store.specs.Sizes.{sizes};
 
 use crate::series::{put_forgetting, remove_forgetting};
-use vm_alloc::{Held, Snapshot};
+use vm_alloc::{Baseline, Held};
 use vm_disk::Disk;
 use vm_tree::{Root, TreeFault};
 use vm_types::{Change, Changes};
@@ -20,7 +20,7 @@ use vm_types::{Change, Changes};
 fn make_change<D: Disk>(
     disk: &mut D,
     held: &mut Held,
-    before: &Snapshot,
+    before: &Baseline,
     root: Root,
     change: &Change,
 ) -> Result<Root, TreeFault>
@@ -55,7 +55,7 @@ fn make_change<D: Disk>(
 pub fn make_changes<D: Disk>(
     disk: &mut D,
     held: &mut Held,
-    before: &Snapshot,
+    before: &Baseline,
     mut root: Root,
     changes: &Changes,
 ) -> Result<Root, TreeFault>

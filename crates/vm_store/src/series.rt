@@ -16,7 +16,7 @@ ghost use Rattle.vm_store.specs.Resting.{before_of, before_series};
 ghost use Rattle.vm_store.specs.Sizes.{sizes};
 
 use crate::{FAN, LEAF, LEVELS};
-use vm_alloc::{Held, Snapshot};
+use vm_alloc::{Baseline, Held};
 use vm_disk::Disk;
 use vm_tree::{Root, TreeFault, put, remove};
 use vm_types::{Key, Name, Value};
@@ -40,7 +40,7 @@ const BLOCKS_COPIED_A_CHANGE: u32 = 16_384;
 pub fn go_on(
     series: &mut Option<Name>,
     changes: &mut u32,
-    before: &mut Snapshot,
+    before: &mut Baseline,
     held: &Held,
     alt: &Name,
 )
@@ -64,7 +64,7 @@ pub fn go_on(
 }
 
 /// The blocks that were held before the series, where one goes on.
-pub fn before_series<'a>(series: &Option<Name>, before: &'a Snapshot) -> Option<&'a Snapshot>
+pub fn before_series<'a>(series: &Option<Name>, before: &'a Baseline) -> Option<&'a Baseline>
     ensures { option_copied result ≡ before_series series.now before.now }
 {
     match series {
@@ -73,8 +73,8 @@ pub fn before_series<'a>(series: &Option<Name>, before: &'a Snapshot) -> Option<
     }
 }
 
-// Forgets the blocks that were not held before.
-fn forget_taken<D: Disk>(disk: &mut D, before: &Snapshot, blocks: &[u32])
+/// Forgets the blocks that were not held before.
+fn forget_taken<D: Disk>(disk: &mut D, before: &Baseline, blocks: &[u32])
     requires { length before.now ≤ (D.state disk.old).blocks }
     ensures any { Idles (D.state disk.old) (D.state disk.new) }
     ensures moments { (D.state disk.new).honest ≡ true
@@ -90,9 +90,9 @@ fn forget_taken<D: Disk>(disk: &mut D, before: &Snapshot, blocks: &[u32])
     }
 }
 
-// Tells the disk that the blocks of a path which a change replaced are not needed, but for those that
-// were held before. The root is the one that the path led from.
-fn forget_path<D: Disk>(disk: &mut D, before: &Snapshot, root: Root, path: &[u32; 8])
+/// Tells the disk that the blocks of a path which a change replaced are not needed, but for those
+/// that were held before. The root is the one that the path led from.
+fn forget_path<D: Disk>(disk: &mut D, before: &Baseline, root: Root, path: &[u32; 8])
     requires { length before.now ≤ (D.state disk.old).blocks }
     ensures any { Idles (D.state disk.old) (D.state disk.new) }
     ensures moments { (D.state disk.new).honest ≡ true
@@ -115,7 +115,7 @@ fn forget_path<D: Disk>(disk: &mut D, before: &Snapshot, root: Root, path: &[u32
 pub fn put_forgetting<D: Disk>(
     disk: &mut D,
     held: &mut Held,
-    before: Option<&Snapshot>,
+    before: Option<&Baseline>,
     root: Root,
     key: Key,
     value: &Value,
@@ -161,7 +161,7 @@ pub fn put_forgetting<D: Disk>(
 pub fn remove_forgetting<D: Disk>(
     disk: &mut D,
     held: &mut Held,
-    before: Option<&Snapshot>,
+    before: Option<&Baseline>,
     root: Root,
     key: Key,
 ) -> Result<Option<Root>, TreeFault>

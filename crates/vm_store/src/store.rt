@@ -17,12 +17,12 @@ pub use formatting::format;
 pub use opening::open;
 pub use running::Stop;
 use std::alloc::Global;
-use vm_alloc::{Held, Marks, Snapshot};
+use vm_alloc::{Baseline, Held, Marks};
 use vm_block::{Entry, SlotName};
 use vm_disk::Disk;
 use vm_types::{Answer, Command, Name, Refusal};
 
-// Whether the device failed in a command.
+/// Whether the device failed in a command.
 fn is_device(answer: &Result<Answer, Refusal>) -> bool
     ensures { IsTrue result ↔ (answer.now ≡ Err Refusal.Device) }
 {
@@ -42,7 +42,7 @@ pub struct Store<D: Disk> {
     // What a marking has marked: no more than room for one, from call to call.
     marks: Marks,
     // While a series of changes goes on, the blocks that were held before it and are held still.
-    before: Snapshot,
+    before: Baseline,
     // The alternative of which the commands since then changed records, and no other command came.
     series: Option<Name>,
     // How many changes were made outside a series since the held blocks were copied last.

@@ -19,7 +19,7 @@ pub struct Version {
 }
 
 impl Version {
-    // What a slot says of it.
+    /// What a slot says of it.
     pub fn entry(&self) -> Entry
         ensures { result ≡ entry_of self.now }
     {
@@ -33,35 +33,35 @@ impl Version {
     }
 }
 
-// Whether the version is the alternative of this name.
+/// Whether the version is the alternative of this name.
 pub fn is_alternative_of(name: &Name, version: &Version) -> bool
     ensures { result ≡ is_alternative_of name.now version.now }
 {
     version.kind == Kind::Alternative && version.name == *name
 }
 
-// Whether the version is a checkpoint of the alternative.
+/// Whether the version is a checkpoint of the alternative.
 pub fn is_checkpoint_under(alt: &Name, version: &Version) -> bool
     ensures { result ≡ is_checkpoint_under alt.now version.now }
 {
     version.kind == Kind::Checkpoint && version.owner == Some(*alt)
 }
 
-// Whether the version is the checkpoint of this name of the alternative.
+/// Whether the version is the checkpoint of this name of the alternative.
 pub fn is_checkpoint_of(alt: &Name, name: &Name, version: &Version) -> bool
     ensures { result ≡ is_checkpoint_of alt.now name.now version.now }
 {
     is_checkpoint_under(alt, version) && version.name == *name
 }
 
-// Whether the version is an alternative whose parent is this one.
+/// Whether the version is an alternative whose parent is this one.
 pub fn is_child_of(alt: &Name, version: &Version) -> bool
     ensures { result ≡ is_child_of alt.now version.now }
 {
     version.kind == Kind::Alternative && version.owner == Some(*alt)
 }
 
-// Whether the version is neither the alternative nor one of its checkpoints.
+/// Whether the version is neither the alternative nor one of its checkpoints.
 pub fn is_apart(alt: &Name, version: &Version) -> bool
     ensures { result ≡ is_apart alt.now version.now }
 {

@@ -39,7 +39,7 @@ impl Model for Versions {
     ghost invariant = { λ a. (length a.list.items ≤ 511) × (511 ≤ vec_capacity a.list) };
 }
 
-// Where the alternative of this name stands.
+/// Where the alternative of this name stands.
 fn position_of(versions: &[Version], alt: &Name) -> Option<usize>
     ensures found { IfSome result (IsFirst (is_alternative_of alt.now) versions.now) }
     ensures none { IfNone result (find (is_alternative_of alt.now) versions.now ≡ None) }
@@ -52,7 +52,7 @@ fn position_of(versions: &[Version], alt: &Name) -> Option<usize>
     None
 }
 
-// Where the checkpoint of this name of the alternative stands.
+/// Where the checkpoint of this name of the alternative stands.
 fn checkpoint_position(versions: &[Version], alt: &Name, name: &Name) -> Option<usize>
     ensures found { IfSome result (IsFirst (is_checkpoint_of alt.now name.now) versions.now) }
     ensures none { IfNone result (find (is_checkpoint_of alt.now name.now) versions.now ≡ None) }
@@ -65,8 +65,8 @@ fn checkpoint_position(versions: &[Version], alt: &Name, name: &Name) -> Option<
     None
 }
 
-// Adds the versions of entries whose roots these are, current before base. There has to be room, so it
-// takes no memory.
+/// Adds the versions of entries whose roots these are, current before base. There has to be room,
+/// so it takes no memory.
 fn add_versions(into: &mut Vec<Version>, entries: &[Entry], roots: &[Root])
     requires space { length into.old.items + length entries.now ≤ vec_capacity into.old }
     requires roots { length roots.now ≡ 2 * length entries.now }
@@ -179,7 +179,7 @@ impl Versions {
         }
     }
 
-    // Gives the alternative of this name two other roots, where it is there.
+    /// Gives the alternative of this name two other roots, where it is there.
     fn set_roots(&mut self, alt: &Name, current: Root, base: Root)
         ensures { self.new ≡ change_first (is_alternative_of alt.now) (with_tops current base) self.old }
     {
@@ -192,21 +192,21 @@ impl Versions {
         }
     }
 
-    // Whether there are as many as a slot may have.
+    /// Whether there are as many as a slot may have.
     fn are_full(&self) -> bool
         ensures { IsTrue result ↔ (511 ≤ length self.now) }
     {
         self.list.len() >= MAX_ENTRIES
     }
 
-    // Whether some alternative has this one as its parent.
+    /// Whether some alternative has this one as its parent.
     fn has_children(&self, alt: &Name) -> bool
         ensures { result ≡ list_any (is_child_of alt.now) self.now }
     {
         self.list.iter().any(|v| is_child_of(alt, v))
     }
 
-    // Adds one at the end.
+    /// Adds one at the end.
     fn add(&mut self, version: Version)
         requires { length self.old < 511 }
         ensures items { self.new ≡ self.old ++ version ∷ [] }
@@ -219,14 +219,14 @@ impl Versions {
         };
     }
 
-    // Takes out the alternative of this name and its checkpoints.
+    /// Takes out the alternative of this name and its checkpoints.
     fn take_out(&mut self, alt: &Name)
         ensures { self.new ≡ filter (is_apart alt.now) self.old }
     {
         self.list.retain(|v| is_apart(alt, v));
     }
 
-    // Takes out the checkpoint of this name of the alternative, where it is there.
+    /// Takes out the checkpoint of this name of the alternative, where it is there.
     fn take_checkpoint_out(&mut self, alt: &Name, name: &Name)
         ensures { self.new ≡ without_first (is_checkpoint_of alt.now name.now) self.old }
     {

@@ -9,7 +9,7 @@ use vm_catalog::{
 use vm_disk::{DeviceFault, Disk, FuseDisk, MemDisk};
 use vm_types::Name;
 
-// The name `n` and four digits.
+/// The name `n` and four digits.
 fn numbered(n: usize) -> Option<Name> {
     let digit = |place: usize| b'0' + (n / place % 10) as u8;
     Name::new(&[b'n', digit(1000), digit(100), digit(10), digit(1)])
@@ -25,7 +25,7 @@ fn top() -> Option<Entry> {
     })
 }
 
-// `top`, and so many entries in all, the others children of `top`.
+/// `top`, and so many entries in all, the others children of `top`.
 fn family(alloc: Global, count: usize) -> Option<Vec<Entry>> {
     let top = top()?;
     let mut entries = Vec::new(alloc);
@@ -42,7 +42,7 @@ fn family(alloc: Global, count: usize) -> Option<Vec<Entry>> {
     Some(entries)
 }
 
-// The calls under test, on a disk that is large enough.
+/// The calls under test, on a disk that is large enough.
 fn put<D: Disk>(disk: &mut D, in_use: SlotName, entries: &[Entry]) -> Result<(), DeviceFault> {
     if disk.blocks() < 34 || entries.len() > MAX_ENTRIES {
         return Err(DeviceFault);
@@ -83,7 +83,7 @@ fn bytes_of<D: Disk>(disk: &mut D, n: u32) -> Result<[u8; 4096], DeviceFault> {
     Ok(bytes)
 }
 
-// Sets one byte of a block.
+/// Sets one byte of a block.
 fn set<D: Disk>(disk: &mut D, n: u32, at: usize, byte: u8) -> Result<(), DeviceFault> {
     let mut bytes = bytes_of(disk, n)?;
     if at < 4096 {
@@ -95,7 +95,7 @@ fn set<D: Disk>(disk: &mut D, n: u32, at: usize, byte: u8) -> Result<(), DeviceF
     Ok(())
 }
 
-// Whether slot A, written with these entries and then changed at one byte, is still a slot.
+/// Whether slot A, written with these entries and then changed at one byte, is still a slot.
 fn stands_after(
     alloc: Global,
     entries: &[Entry],
@@ -113,7 +113,7 @@ fn stands_after(
     }
 }
 
-// These entries are those of slot B.
+/// These entries are those of slot B.
 fn expect_loaded<R: AllocGlobal + Abort>(rt: &R, disk: &mut FuseDisk<MemDisk>, entries: &[Entry]) {
     match get(rt.alloc(), disk, SlotName::B) {
         Ok(slot) => {
@@ -125,7 +125,7 @@ fn expect_loaded<R: AllocGlobal + Abort>(rt: &R, disk: &mut FuseDisk<MemDisk>, e
     }
 }
 
-// Entries are published over slot A in use, and loaded: so many blocks are written, and read.
+/// Entries are published over slot A in use, and loaded: so many blocks are written, and read.
 fn expect_published<R: AllocGlobal + Abort>(
     rt: &R,
     disk: &mut FuseDisk<MemDisk>,
@@ -164,7 +164,7 @@ fn slot_b_has_the_bytes_of_one_entry(rt: HostRuntime) -> Result<(), Fail> {
     Ok(())
 }
 
-// This is the slot in use.
+/// This is the slot in use.
 fn expect_found(rt: &impl Abort, disk: &mut MemDisk, due: Option<SlotName>) {
     match found(disk) {
         Ok(slot) => assert_eq!(rt; slot, due),

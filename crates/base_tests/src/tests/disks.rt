@@ -117,7 +117,7 @@ fn memory_gets_no_longer_than_its_room(rt: HostRuntime) -> Result<(), Fail> {
     Ok(())
 }
 
-// The disk after a crash that leaves so many blocks, if it may.
+/// The disk after a crash that leaves so many blocks, if it may.
 fn left_with(disk: MemDisk, entries: &[(u32, [u8; 4096])], blocks: u32) -> Result<MemDisk, Fail> {
     if disk.sure() <= blocks && blocks <= disk.blocks() {
         return Ok(disk.crash_short(entries, blocks));

@@ -7,8 +7,8 @@ use std::process::Abort;
 use std::test::Fail;
 use vm_disk::{DeviceFault, FileDisk, History, Positional, SystemFile};
 
-// A file in memory, of which contracts know how many calls failed, and no more. Where it is to fail,
-// each call of it does, and zeros past its room are not written.
+/// A file in memory, of which contracts know how many calls failed, and no more. Where it is to
+/// fail, each call of it does, and zeros past its room are not written.
 #[derive(Drop)]
 struct Bytes {
     bytes: Vec<u8>,
@@ -17,7 +17,7 @@ struct Bytes {
     failed: History<()>,
 }
 
-// Copies bytes from an offset on, unless they end before.
+/// Copies bytes from an offset on, unless they end before.
 fn copy_from(bytes: &[u8], offset: u64, into: &mut [u8; 4096]) -> Result<(), DeviceFault> {
     for (k, to) in into.iter_mut().enumerate() {
         *to = *bytes
@@ -27,7 +27,7 @@ fn copy_from(bytes: &[u8], offset: u64, into: &mut [u8; 4096]) -> Result<(), Dev
     Ok(())
 }
 
-// Sets a byte, or adds it at the end.
+/// Sets a byte, or adds it at the end.
 fn set(bytes: &mut Vec<u8>, at: usize, byte: u8) -> Result<(), DeviceFault> {
     if at < bytes.len() {
         bytes[at] = byte;
@@ -36,7 +36,7 @@ fn set(bytes: &mut Vec<u8>, at: usize, byte: u8) -> Result<(), DeviceFault> {
     bytes.push(byte).map_err(|_| DeviceFault)
 }
 
-// Sets bytes from an offset on, or adds them at the end.
+/// Sets bytes from an offset on, or adds them at the end.
 fn set_all(bytes: &mut Vec<u8>, from: &[u8], offset: u64) -> Result<(), DeviceFault> {
     for (k, byte) in from.iter().enumerate() {
         set(bytes, (offset as usize).saturating_add(k), *byte)?;
@@ -48,7 +48,7 @@ impl Bytes {
     ghost use Rattle.std.specs.Prelude.{◌≡◌, ◌<◌, length, OnErr, OnOk};
     ghost use Rattle.vm_disk.specs.Past.{noted};
 
-    // Hands an answer on, or a fault where each call is to fail. A fault is noted.
+    /// Hands an answer on, or a fault where each call is to fail. A fault is noted.
     fn told(&mut self, answer: Result<(), DeviceFault>) -> Result<(), DeviceFault>
         ensures fault { OnErr result (length (noted self.old.failed) < length (noted self.new.failed)) }
         ensures fine { OnOk result (noted self.new.failed ≡ noted self.old.failed) }
@@ -104,7 +104,7 @@ impl Positional for Bytes {
     }
 }
 
-// A file of so many bytes: 1 in each byte of block 0, 2 in those of block 1, and so on.
+/// A file of so many bytes: 1 in each byte of block 0, 2 in those of block 1, and so on.
 fn numbered(alloc: Global, count: usize) -> Result<Bytes, AllocError> {
     let mut bytes = Vec::new(alloc);
     for k in 0..count {
@@ -118,12 +118,12 @@ fn numbered(alloc: Global, count: usize) -> Result<Bytes, AllocError> {
     })
 }
 
-// The disk over such a file.
+/// The disk over such a file.
 fn over_numbered(alloc: Global, count: usize) -> Result<FileDisk<Bytes>, Fail> {
     FileDisk::open(numbered(alloc, count)?).map_err(|_| Fail::new("no disk"))
 }
 
-// Plays a text on the disk over such a file, and gives what the file holds then.
+/// Plays a text on the disk over such a file, and gives what the file holds then.
 fn on_numbered<R: AllocGlobal + Abort>(rt: &R, count: usize, text: &str) -> Vec<u8> {
     match over_numbered(rt.alloc(), count) {
         Ok(mut disk) => {
@@ -220,7 +220,7 @@ fn file_that_fails(rt: HostRuntime) -> Result<(), Fail> {
 /// A file of the system.
 type OnSystem = SystemFile<Brand>;
 
-// A disk of 17 blocks over a file that is made.
+/// A disk of 17 blocks over a file that is made.
 fn made(rt: &HostRuntime, path: &str) -> Result<FileDisk<OnSystem>, Fail> {
     match OnSystem::create(rt, path, &History::new()) {
         Some(file) => FileDisk::create(file, 17).map_err(|_| Fail::new("not written")),
@@ -228,7 +228,7 @@ fn made(rt: &HostRuntime, path: &str) -> Result<FileDisk<OnSystem>, Fail> {
     }
 }
 
-// A disk over a file that is there.
+/// A disk over a file that is there.
 fn opened(rt: &HostRuntime, path: &str) -> Result<FileDisk<OnSystem>, Fail> {
     let mut opened = History::new();
     opened.note(&());
@@ -238,7 +238,7 @@ fn opened(rt: &HostRuntime, path: &str) -> Result<FileDisk<OnSystem>, Fail> {
     }
 }
 
-// The same to be read alone.
+/// The same to be read alone.
 fn opened_to_read(rt: &HostRuntime, path: &str) -> Result<FileDisk<OnSystem>, Fail> {
     match OnSystem::open_to_read(rt, path, &History::new()) {
         Some(file) => FileDisk::open(file).map_err(|_| Fail::new("not measured")),
@@ -246,7 +246,7 @@ fn opened_to_read(rt: &HostRuntime, path: &str) -> Result<FileDisk<OnSystem>, Fa
     }
 }
 
-// Whether a file is there that can be opened so.
+/// Whether a file is there that can be opened so.
 fn is_opened(rt: &HostRuntime, path: &str) -> bool {
     OnSystem::open(rt, path, &History::new()).is_some()
 }

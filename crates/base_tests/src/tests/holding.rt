@@ -2,14 +2,14 @@
 use std::alloc::{AllocError, Global};
 use std::process::Abort;
 use std::test::Fail;
-use vm_alloc::{Held, Marks, Snapshot};
+use vm_alloc::{Baseline, Held, Marks};
 
-// Takes all blocks for data, of so many in all.
+/// Takes all blocks for data, of so many in all.
 fn take_all(rt: &impl Abort, held: &mut Held, blocks: u32) {
     take_all_from(rt, held, 34, blocks);
 }
 
-// Takes all free blocks, which are those from `first` on, of so many in all.
+/// Takes all free blocks, which are those from `first` on, of so many in all.
 fn take_all_from(rt: &impl Abort, held: &mut Held, first: u32, blocks: u32) {
     for n in first..blocks {
         assert_eq!(rt; held.take(), Some(n));
@@ -35,12 +35,12 @@ fn takes_a_block_past_one_word(rt: HostRuntime) -> Result<(), Fail> {
     Ok(())
 }
 
-// Takes the lowest free block, which is to be this one.
+/// Takes the lowest free block, which is to be this one.
 fn take(rt: &impl Abort, held: &mut Held, due: u32) {
     assert_eq!(rt; held.take(), Some(due));
 }
 
-// Marks these blocks.
+/// Marks these blocks.
 fn mark_all(rt: &impl Abort, marks: &mut Marks, blocks: &[u32]) {
     for n in blocks {
         assert!(rt; *n < marks.blocks());
@@ -48,7 +48,7 @@ fn mark_all(rt: &impl Abort, marks: &mut Marks, blocks: &[u32]) {
     }
 }
 
-// Holds what is marked.
+/// Holds what is marked.
 fn hold(rt: &impl Abort, held: &mut Held, marks: &Marks) {
     assert_eq!(rt; marks.blocks(), held.blocks());
     held.replace(marks);
@@ -90,14 +90,14 @@ fn holds_the_most_blocks(rt: HostRuntime) -> Result<(), Fail> {
     Ok(())
 }
 
-// A copy with so many blocks.
+/// A copy with so many blocks.
 fn extended(rt: &impl Abort, held: &Held, alloc: Global, blocks: u32) -> Result<Held, AllocError> {
     assert!(rt; held.blocks() <= blocks);
     assert!(rt; blocks <= 1_048_576);
     held.extended(alloc, blocks)
 }
 
-// Of so many blocks those from 36 on are free.
+/// Of so many blocks those from 36 on are free.
 fn expect_free_from_36(rt: &impl Abort, held: &mut Held, blocks: u32) {
     assert_eq!(rt; held.blocks(), blocks, "of {blocks}");
     assert_eq!(rt; held.free_count(), blocks.saturating_sub(36), "of {blocks}");
@@ -147,19 +147,19 @@ fn marks_and_clears(rt: HostRuntime) -> Result<(), Fail> {
     Ok(())
 }
 
-// A store of 130 blocks in which block 34 is held, and 129, and what was held of it before.
+/// A store of 130 blocks in which block 34 is held, and 129, and what was held of it before.
 #[test]
-fn keeps_of_a_snapshot_what_is_held(rt: HostRuntime) -> Result<(), Fail> {
+fn keeps_of_a_baseline_what_is_held(rt: HostRuntime) -> Result<(), Fail> {
     let mut held = Held::new(rt.alloc(), 130)?;
     let mut marks = Marks::new(rt.alloc(), 130)?;
     mark_all(&rt, &mut marks, &[34, 40, 129]);
     hold(&rt, &mut held, &marks);
-    let mut before = Snapshot::new(rt.alloc(), 130)?;
+    let mut before = Baseline::new(rt.alloc(), 130)?;
     assert_eq!(rt; before.blocks(), 130);
     assert!(rt; !before.has(0));
     keep(&rt, &mut before, &held);
     assert!(rt; !has(&rt, &before, 40));
-    snap(&rt, &mut before, &held);
+    baseline_of(&rt, &mut before, &held);
     assert!(rt; has(&rt, &before, 33));
     assert!(rt; has(&rt, &before, 129));
     assert!(rt; !has(&rt, &before, 35));
@@ -176,19 +176,19 @@ fn keeps_of_a_snapshot_what_is_held(rt: HostRuntime) -> Result<(), Fail> {
     Ok(())
 }
 
-// Takes a snapshot of what is held.
-fn snap(rt: &impl Abort, snapshot: &mut Snapshot, held: &Held) {
-    assert_eq!(rt; snapshot.blocks(), held.blocks());
-    snapshot.take(held);
+/// Takes a baseline of what is held.
+fn baseline_of(rt: &impl Abort, baseline: &mut Baseline, held: &Held) {
+    assert_eq!(rt; baseline.blocks(), held.blocks());
+    baseline.take(held);
 }
 
-// Keeps of it what is held still.
-fn keep(rt: &impl Abort, snapshot: &mut Snapshot, held: &Held) {
-    assert_eq!(rt; snapshot.blocks(), held.blocks());
-    snapshot.keep_held(held);
+/// Keeps of it what is held still.
+fn keep(rt: &impl Abort, baseline: &mut Baseline, held: &Held) {
+    assert_eq!(rt; baseline.blocks(), held.blocks());
+    baseline.keep_held(held);
 }
 
-fn has(rt: &impl Abort, snapshot: &Snapshot, n: u32) -> bool {
-    assert!(rt; n < snapshot.blocks());
-    snapshot.has(n)
+fn has(rt: &impl Abort, baseline: &Baseline, n: u32) -> bool {
+    assert!(rt; n < baseline.blocks());
+    baseline.has(n)
 }

@@ -13,7 +13,7 @@ fn child(table: u16, number: u64, block: u32) -> Child {
     }
 }
 
-// Whether a block is an inner block of this level and these children.
+/// Whether a block is an inner block of this level and these children.
 fn has(block: &[u8; 4096], level: u8, children: &[Child]) -> bool {
     match read_node(block) {
         Some(node) => node.level == level && node.children.as_slice() == children,
@@ -45,7 +45,7 @@ fn inner_block_with_one_child_is_read(rt: HostRuntime) {
     assert!(rt; read_node(&block).is_some());
 }
 
-// Whether the inner block of two children is none once this byte is put at this place.
+/// Whether the inner block of two children is none once this byte is put at this place.
 fn is_refused_with(rt: &impl Abort, at: usize, byte: u8) -> bool {
     let mut block = [0; 4096];
     write_node(7, &[child(1, 1, 35), child(1, 10, 36)], &mut block);

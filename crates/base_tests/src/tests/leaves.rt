@@ -7,7 +7,7 @@ use vm_block::{
 };
 use vm_types::{Key, Value};
 
-// Whether a block is a leaf of just these records.
+/// Whether a block is a leaf of just these records.
 fn has(block: &[u8; 4096], records: &[(Key, Value)]) -> bool {
     match read_leaf(block) {
         Some(read) => read.as_slice() == records,
@@ -29,7 +29,7 @@ fn leaf_is_spelled_and_read(rt: HostRuntime) {
     assert!(rt; record_key(&block, 0) == key(7, 1));
 }
 
-// A leaf of two records.
+/// A leaf of two records.
 fn two_records(rt: &impl Abort) -> [u8; 4096] {
     let mut block = [0; 4096];
     let records = [(key(7, 1), value(rt, b"duct")), (key(7, 2), value(rt, b""))];
@@ -37,7 +37,7 @@ fn two_records(rt: &impl Abort) -> [u8; 4096] {
     block
 }
 
-// Whether the leaf of two records is none once this byte is put at this place.
+/// Whether the leaf of two records is none once this byte is put at this place.
 fn is_refused_with(rt: &impl Abort, at: usize, byte: u8) -> bool {
     let mut block = two_records(rt);
     assert!(rt; at < 4096);
@@ -68,7 +68,7 @@ fn bytes_that_are_no_leaf_are_refused(rt: HostRuntime) {
     }
 }
 
-// What comes of a record of table 7 in a leaf of three at most.
+/// What comes of a record of table 7 in a leaf of three at most.
 fn put(rt: &impl Abort, block: &mut [u8; 4096], number: u64, bytes: &[u8]) -> Placed {
     put_record(block, 3, key(7, number), &value(rt, bytes))
 }

@@ -15,7 +15,7 @@ fn value(byte: u8) -> Value {
     Value::new(&[byte]).unwrap_or_default()
 }
 
-// A change of a key of table 1, of values of one byte.
+/// A change of a key of table 1, of values of one byte.
 fn change(number: u64, before: Option<u8>, after: Option<u8>) -> Change {
     Change {
         key: key(number),
@@ -32,7 +32,7 @@ fn theirs(number: u64) -> (Key, Side) {
     (key(number), Side::Theirs)
 }
 
-// A record that both sides added.
+/// A record that both sides added.
 fn conflict(number: u64) -> Conflict {
     Conflict {
         key: key(number),
@@ -42,17 +42,17 @@ fn conflict(number: u64) -> Conflict {
     }
 }
 
-// The keys 2, 4 and 6, by rising keys.
+/// The keys 2, 4 and 6, by rising keys.
 fn rising() -> [Key; 3] {
     [key(2), key(4), key(6)]
 }
 
-// The same ones in another order.
+/// The same ones in another order.
 fn mixed() -> [Key; 3] {
     [key(6), key(2), key(4)]
 }
 
-// A packed list of these changes.
+/// A packed list of these changes.
 fn packed(alloc: Global, changes: &[Change]) -> Result<Changes, AllocError> {
     let mut list = Changes::new(alloc);
     for change in changes {
@@ -128,7 +128,7 @@ fn names_the_first_key_that_is_settled_twice(rt: HostRuntime) {
     assert!(rt; settled_refusal(rt.alloc(), &[mine(3), mine(4), mine(4)], &mixed()) == refused);
 }
 
-// What the parent changed of a base, and what the alternative did.
+/// What the parent changed of a base, and what the alternative did.
 fn both_sides(alloc: Global) -> Result<(Changes, Changes), AllocError> {
     let parent: [Change; 5] = [
         change(1, None, Some(b'p')),

@@ -7,7 +7,7 @@ use vm_types::{Change, Changes, Conflict, Conflicts, Key, Value};
 
 const LONG: [u8; 240] = [7; 240];
 
-// A record put in, one changed, one taken out, and one that is empty before.
+/// A record put in, one changed, one taken out, and one that is empty before.
 fn some_changes(alloc: Global) -> Result<Changes, AllocError> {
     let mut changes = Changes::new(alloc);
     changes.push(key(1, 9), None, Some(b"duct"))?;
@@ -17,7 +17,7 @@ fn some_changes(alloc: Global) -> Result<Changes, AllocError> {
     Ok(changes)
 }
 
-// A record that the alternative took out, and one that both put in.
+/// A record that the alternative took out, and one that both put in.
 fn some_conflicts(alloc: Global) -> Result<Conflicts, AllocError> {
     let mut conflicts = Conflicts::new(alloc);
     conflicts.push(key(1, 9), Some(b"a"), Some(&LONG), None)?;
@@ -25,7 +25,7 @@ fn some_conflicts(alloc: Global) -> Result<Conflicts, AllocError> {
     Ok(conflicts)
 }
 
-// The change of these values.
+/// The change of these values.
 fn change(key: Key, before: Option<&[u8]>, after: Option<&[u8]>) -> Change {
     Change {
         key,
@@ -34,7 +34,7 @@ fn change(key: Key, before: Option<&[u8]>, after: Option<&[u8]>) -> Change {
     }
 }
 
-// What the list of changes is to have.
+/// What the list of changes is to have.
 fn due_changes() -> [Change; 4] {
     [
         change(key(1, 9), None, Some(b"duct")),
@@ -44,7 +44,7 @@ fn due_changes() -> [Change; 4] {
     ]
 }
 
-// The conflict of these values.
+/// The conflict of these values.
 fn conflict(key: Key, base: Option<&[u8]>, parent: Option<&[u8]>, mine: Option<&[u8]>) -> Conflict {
     Conflict {
         key,
@@ -54,7 +54,7 @@ fn conflict(key: Key, base: Option<&[u8]>, parent: Option<&[u8]>, mine: Option<&
     }
 }
 
-// What the list of conflicts is to have.
+/// What the list of conflicts is to have.
 fn due_conflicts() -> [Conflict; 2] {
     [
         conflict(key(1, 9), Some(b"a"), Some(&LONG), None),
@@ -82,7 +82,7 @@ fn new_lists_are_empty(rt: HostRuntime) -> Result<(), Fail> {
     Ok(())
 }
 
-// The change at i is this one, by its parts and whole.
+/// The change at i is this one, by its parts and whole.
 fn expect_change(rt: &impl Abort, changes: &Changes, i: usize, due: Change) {
     assert!(rt; i < changes.len(), "no change {i}");
     let given = change(changes.key(i), changes.before(i), changes.after(i));
@@ -101,7 +101,7 @@ fn changes_are_given_in_the_order_of_the_pushes(rt: HostRuntime) -> Result<(), F
     Ok(())
 }
 
-// How many changes are walked until one is another than is due.
+/// How many changes are walked until one is another than is due.
 fn walked_changes(changes: &Changes, due: &[Change]) -> usize {
     let mut walked = 0;
     for (key, before, after) in changes {
@@ -128,7 +128,7 @@ fn changes_are_the_same_in_a_vec(rt: HostRuntime) -> Result<(), Fail> {
     Ok(())
 }
 
-// The conflict at i is this one, by its parts and whole.
+/// The conflict at i is this one, by its parts and whole.
 fn expect_conflict(rt: &impl Abort, conflicts: &Conflicts, i: usize, due: Conflict) {
     assert!(rt; i < conflicts.len(), "no conflict {i}");
     let (base, parent) = (conflicts.base(i), conflicts.parent(i));
@@ -148,7 +148,7 @@ fn conflicts_are_given_in_the_order_of_the_pushes(rt: HostRuntime) -> Result<(),
     Ok(())
 }
 
-// How many conflicts are walked until one is another than is due.
+/// How many conflicts are walked until one is another than is due.
 fn walked_conflicts(conflicts: &Conflicts, due: &[Conflict]) -> usize {
     let mut walked = 0;
     for (key, base, parent, mine) in conflicts {

@@ -5,7 +5,7 @@ use std::process::Abort;
 use std::test::Fail;
 use vm_types::{Key, Records, Value};
 
-// Values of 0, 240 and 4 bytes, with an empty one behind them.
+/// Values of 0, 240 and 4 bytes, with an empty one behind them.
 fn some_records(alloc: Global) -> Result<Records, AllocError> {
     let mut records = Records::new(alloc);
     records.push(key(1, 9), b"")?;
@@ -15,12 +15,12 @@ fn some_records(alloc: Global) -> Result<Records, AllocError> {
     Ok(records)
 }
 
-// The record of these bytes.
+/// The record of these bytes.
 fn record(key: Key, bytes: &[u8]) -> (Key, Value) {
     (key, Value::new(bytes).unwrap_or_default())
 }
 
-// What the list is to have.
+/// What the list is to have.
 fn due_records() -> [(Key, Value); 4] {
     [
         record(key(1, 9), b""),
@@ -43,7 +43,7 @@ fn new_list_is_empty(rt: HostRuntime) -> Result<(), Fail> {
     Ok(())
 }
 
-// The record at i is this one, by its parts and whole.
+/// The record at i is this one, by its parts and whole.
 fn expect_record(rt: &impl Abort, records: &Records, i: usize, due: (Key, Value)) {
     assert!(rt; i < records.len(), "no record {i}");
     assert_eq!(rt; records.key(i), due.0, "record {i}");
@@ -72,7 +72,7 @@ fn records_are_given_in_the_order_of_the_pushes(rt: HostRuntime) -> Result<(), F
     Ok(())
 }
 
-// How many records are walked until one is another than is due.
+/// How many records are walked until one is another than is due.
 fn walked(records: &Records, due: &[(Key, Value)]) -> usize {
     let mut walked = 0;
     for (key, value) in records {

@@ -7,7 +7,7 @@ use vm_block::{
     read_node, record_key, remove_row, rows_size, split_rows, stored_at, write_long, write_rows,
 };
 
-// Where a value of 300 bytes stands.
+/// Where a value of 300 bytes stands.
 fn link() -> Stored<'static>
     ensures { StoredFits result }
 {
@@ -30,7 +30,7 @@ fn long_value_is_spelled_and_read(rt: HostRuntime) {
     assert!(rt; read_node(&block).is_none());
 }
 
-// Whether a block of zero bytes behind the head of a long value of so many is read.
+/// Whether a block of zero bytes behind the head of a long value of so many is read.
 fn is_long(len: u16) -> bool {
     let mut block = [0; 4096];
     write_long(key(7, 1), &[0; 300], &mut block);
@@ -38,7 +38,7 @@ fn is_long(len: u16) -> bool {
     read_long(&block).is_some()
 }
 
-// Whether the block of a long value is read once this byte is put at this place.
+/// Whether the block of a long value is read once this byte is put at this place.
 fn is_read_with(at: usize, byte: u8) -> bool {
     let mut block = [0; 4096];
     write_long(key(7, 1), &[0; 300], &mut block);
@@ -84,7 +84,7 @@ fn long_row_is_spelled_and_read(rt: HostRuntime) {
     assert!(rt; find_record(&block, key(7, 1)).is_none());
 }
 
-// How many rows a leaf with a link has once these bytes are put at this place.
+/// How many rows a leaf with a link has once these bytes are put at this place.
 fn rows_with(at: usize, bytes: &[u8]) -> Option<usize> {
     let mut block = [0; 4096];
     write_rows(&[(key(7, 1), link())], &mut block);

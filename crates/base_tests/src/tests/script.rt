@@ -60,7 +60,7 @@ fn byte(word: &str) -> Result<u8, Wrong> {
     word.parse::<u8>().map_err(|_| Wrong::Unreadable)
 }
 
-// The bytes of a block that this one fills.
+/// The bytes of a block that this one fills.
 fn block(word: &str) -> Result<[u8; 4096], Wrong> {
     Ok([byte(word)?; 4096])
 }
@@ -73,7 +73,7 @@ fn fill<D: Disk>(disk: &mut D, n: u32, bytes: &[u8; 4096]) -> Result<(), Wrong> 
     Ok(())
 }
 
-// Fills three blocks in a row, from block n on, in one call.
+/// Fills three blocks in a row, from block n on, in one call.
 fn fill_run<D: Disk>(disk: &mut D, n: u32, bytes: &[[u8; 4096]; 3]) -> Result<(), Wrong> {
     if n >= disk.blocks() || 3 > disk.blocks() - n {
         return Err(Wrong::Unreadable);
@@ -98,7 +98,7 @@ fn grow<D: Disk>(disk: &mut D, blocks: u32) -> Result<(), Wrong> {
     Ok(())
 }
 
-// Carries out a step that changes the disk. Whether these words are one.
+/// Carries out a step that changes the disk. Whether these words are one.
 fn change<D: Disk>(disk: &mut D, words: &[&str]) -> Result<bool, Wrong> {
     match words {
         ["fill", n, byte] => fill(disk, number(n)?, &block(byte)?)?,
@@ -114,7 +114,7 @@ fn change<D: Disk>(disk: &mut D, words: &[&str]) -> Result<bool, Wrong> {
     Ok(true)
 }
 
-// The byte that fills a block, if it is one byte.
+/// The byte that fills a block, if it is one byte.
 fn filling<D: Disk>(disk: &mut D, n: u32) -> Result<Option<u8>, Wrong> {
     let mut bytes = [0; 4096];
     if n >= disk.blocks() {
@@ -147,7 +147,7 @@ fn dirty<D: Seen>(disk: &D, blocks: &[&str], text: &mut String) -> Result<(), Wr
     Ok(())
 }
 
-// A number that the disk, or one below it, has.
+/// A number that the disk, or one below it, has.
 fn count<D: Seen>(disk: &D, of: &str) -> Option<u32> {
     match of {
         "blocks" => Some(disk.blocks()),
@@ -157,7 +157,7 @@ fn count<D: Seen>(disk: &D, of: &str) -> Option<u32> {
     }
 }
 
-// Adds what the disk holds to a text.
+/// Adds what the disk holds to a text.
 fn look<D: Seen>(disk: &mut D, words: &[&str], text: &mut String) -> Result<(), Wrong> {
     match words {
         ["holds", blocks @ ..] => fillings(disk, blocks, text),
@@ -181,7 +181,7 @@ fn look<D: Seen>(disk: &mut D, words: &[&str], text: &mut String) -> Result<(), 
     }
 }
 
-// Adds what a step is answered to a text.
+/// Adds what a step is answered to a text.
 fn answer<D: Seen>(disk: &mut D, words: &[&str], text: &mut String) -> Result<(), Wrong> {
     if change(disk, words)? {
         text.push_str("ok")?;
@@ -190,7 +190,7 @@ fn answer<D: Seen>(disk: &mut D, words: &[&str], text: &mut String) -> Result<()
     look(disk, words, text)
 }
 
-// Plays a step. Its answer comes into the text.
+/// Plays a step. Its answer comes into the text.
 fn play<D: Seen>(alloc: Global, disk: &mut D, step: &str, text: &mut String) -> Result<(), Wrong> {
     let words: Vec<&str> = step.split_whitespace().collect(alloc)?;
     match answer(disk, &words, text) {

@@ -19,7 +19,7 @@ fn head_of_a_slot_is_spelled_and_read(rt: HostRuntime) {
     assert_eq!(rt; read_slot_head(&bytes), Some(HEAD));
 }
 
-// Whether the head of a slot is none once this byte is put at this place.
+/// Whether the head of a slot is none once this byte is put at this place.
 fn head_is_refused_with(at: usize, byte: u8) -> bool {
     let mut bytes = [0; 128];
     write_slot_head(HEAD, &mut bytes);
@@ -65,7 +65,7 @@ fn entry_is_spelled_and_read(rt: HostRuntime) {
     assert_eq!(rt; read_entry(&bytes), Some(entry));
 }
 
-// Whether the entry of the checkpoint `now` of `top` is none once this byte is put at this place.
+/// Whether the entry of the checkpoint `now` of `top` is none once this byte is put at this place.
 fn entry_is_refused_with(rt: &impl Abort, at: usize, byte: u8) -> bool {
     let entry = Entry {
         kind: Kind::Checkpoint,

@@ -75,7 +75,7 @@ fn grows_and_keeps_the_size_that_is_committed(rt: HostRuntime) {
     }
 }
 
-// The disk stays longer, so that the second grow asks it for no block.
+/// The disk stays longer, so that the second grow asks it for no block.
 #[test]
 fn has_its_old_size_where_a_grow_was_not_committed(rt: HostRuntime) {
     let mut files = files_with_room(&rt, 128);
@@ -124,8 +124,8 @@ fn refuses_what_is_no_number_of_32_bits(rt: HostRuntime) {
     expect_answers(&rt, &mut files, b"free\n", b"free 30\n");
 }
 
-// Each of 15 checkpoints keeps one of the 30 blocks for data, so 15 are spare for the next Put, which
-// wants 16.
+/// Each of 15 checkpoints keeps one of the 30 blocks for data, so 15 are spare for the next Put,
+/// which wants 16.
 #[test]
 fn finds_blocks_for_a_put_by_a_grow(rt: HostRuntime) -> Result<(), Fail> {
     let mut files = files_with_room(&rt, 65);
@@ -184,7 +184,7 @@ ok 9\n\
 ok\n\
 ok\n";
 
-// Then all alternatives have the one tree of 17 records: an inner block and two leaves.
+/// Then all alternatives have the one tree of 17 records: an inner block and two leaves.
 #[test]
 fn finds_blocks_for_a_merge_by_a_grow(rt: HostRuntime) {
     let mut files = files_with_room(&rt, 180);

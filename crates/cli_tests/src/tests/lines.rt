@@ -408,7 +408,7 @@ pub(super) fn push_checkpoint(into: &mut Vec<u8>, verb: &[u8], number: u32) -> R
     Ok(())
 }
 
-// 30 blocks are for data. Each of the 15 checkpoints keeps one, so 15 are spare for the next Put.
+/// 30 blocks are for data. Each of the 15 checkpoints keeps one, so 15 are spare for the next Put.
 #[test]
 fn answers_full_where_checkpoints_keep_the_blocks(rt: HostRuntime) -> Result<(), Fail> {
     let mut lines = Vec::new(rt.alloc());
@@ -441,7 +441,7 @@ fn answers_too_many_after_511_entries(rt: HostRuntime) -> Result<(), Fail> {
     Ok(())
 }
 
-// Appends what begins the line of a record, and its value of 240 zero bytes.
+/// Appends what begins the line of a record, and its value of 240 zero bytes.
 fn push_zeros(into: &mut Vec<u8>, verb: &[u8], number: u8) -> Result<(), Fail> {
     into.extend_from_slice(verb)?;
     into.push(number)?;

@@ -22,7 +22,7 @@ struct Bench {
     stores: u32,
 }
 
-// Whether each alternative has a list, and the first one has these records.
+/// Whether each alternative has a list, and the first one has these records.
 fn has_lists(
     alloc: Global,
     store: &mut Store<CountingDisk>,
@@ -39,7 +39,7 @@ fn has_lists(
     )
 }
 
-// Whether a store that was just opened is what the second reader has found.
+/// Whether a store that was just opened is what the second reader has found.
 fn is_same(
     alloc: Global,
     store: &mut Store<CountingDisk>,
@@ -53,7 +53,7 @@ fn is_same(
     Ok(free.saturating_add(used) == 30 && has_lists(alloc, store, content)?)
 }
 
-// Whether the opening was answered as it should be, and has read no block twice.
+/// Whether the opening was answered as it should be, and has read no block twice.
 fn is_due(
     alloc: Global,
     disk: CountingDisk,
@@ -72,7 +72,7 @@ fn is_due(
     Ok((disk, once && opened && all))
 }
 
-// Opens a disk that is a store, and compares what it shows.
+/// Opens a disk that is a store, and compares what it shows.
 fn shows(
     alloc: Global,
     disk: CountingDisk,
@@ -107,7 +107,7 @@ impl Bench {
         Ok(())
     }
 
-    // Opens the disk, with this block changed so.
+    /// Opens the disk, with this block changed so.
     fn try_block(self, n: u32, bytes: &[u8; 4096]) -> Result<Bench, Wrong> {
         let mut bench = self;
         let before = bench.image.block(n);
@@ -139,7 +139,7 @@ impl Bench {
     }
 }
 
-// A disk on which these commands are committed.
+/// A disk on which these commands are committed.
 fn disk_of(alloc: Global, commands: &[Command]) -> Result<MemDisk, Wrong> {
     let disk = MemDisk::new(alloc, BLOCKS)?;
     let disk = format(disk, BLOCKS).map_err(|refused| refused.1)?;
@@ -153,7 +153,7 @@ fn disk_of(alloc: Global, commands: &[Command]) -> Result<MemDisk, Wrong> {
     Ok(disk)
 }
 
-// A disk of one record, in block 34.
+/// A disk of one record, in block 34.
 fn one_record(alloc: Global) -> Result<MemDisk, Wrong> {
     let duct = Command::Put {
         alt: top(),
@@ -166,7 +166,7 @@ fn one_record(alloc: Global) -> Result<MemDisk, Wrong> {
     disk_of(alloc, &[duct, Command::Commit])
 }
 
-// Sets each byte of a block to this, one at a time.
+/// Sets each byte of a block to this, one at a time.
 fn try_bytes(alloc: Global, n: u32, byte: u8) -> Tally {
     let disk = one_record(alloc).map_err(|wrong| (wrong, 0, 0))?;
     let mut bench = Bench::new(alloc, disk).map_err(|wrong| (wrong, 0, 0))?;
@@ -181,9 +181,9 @@ fn try_bytes(alloc: Global, n: u32, byte: u8) -> Tally {
     Ok(bench.stores)
 }
 
-// A byte that is zero stays so: all but 10 of the header, 13 of the slot and 12 of the leaf. Of those the
-// root may be none, and the table, the number and the letters of the value may be others. Each selector
-// names a slot, and what follows the entry in its slot is ignored.
+/// A byte that is zero stays so: all but 10 of the header, 13 of the slot and 12 of the leaf. Of
+/// those the root may be none, and the table, the number and the letters of the value may be
+/// others. Each selector names a slot, and what follows the entry in its slot is ignored.
 #[test]
 fn each_byte_is_read_or_ignored(rt: HostRuntime) {
     let due = [
@@ -202,9 +202,9 @@ fn each_byte_is_read_or_ignored(rt: HostRuntime) {
     }
 }
 
-// A disk of seventeen records, with the root in block 37 over leaves in 35 and 36. Blocks 38 to 48 and
-// 34 hold the leaf as it was with 5 to 16 records: a Checkpoint and an Uncheck after each Put end its series, so
-// that none is forgotten.
+/// A disk of seventeen records, with the root in block 37 over leaves in 35 and 36. Blocks 38 to 48
+/// and 34 hold the leaf as it was with 5 to 16 records: a Checkpoint and an Uncheck after each Put
+/// end its series, so that none is forgotten.
 fn two_levels(alloc: Global) -> Result<MemDisk, Wrong> {
     let mut commands = Vec::new(alloc);
     let (alt, saved) = (top(), name(b"saved"));
@@ -221,7 +221,7 @@ fn two_levels(alloc: Global) -> Result<MemDisk, Wrong> {
     disk_of(alloc, &commands)
 }
 
-// Sets four bytes of a block to each number from 0 to 64, from each of these places on.
+/// Sets four bytes of a block to each number from 0 to 64, from each of these places on.
 fn try_words(alloc: Global, n: u32, from: usize, to: usize) -> Tally {
     let disk = two_levels(alloc).map_err(|wrong| (wrong, 0, 0))?;
     let mut bench = Bench::new(alloc, disk).map_err(|wrong| (wrong, 0, 0))?;
@@ -240,8 +240,9 @@ fn try_words(alloc: Global, n: u32, from: usize, to: usize) -> Tally {
     Ok(bench.stores)
 }
 
-// The root of `top` may be none or each block from 34 to 48. The first child may be each leaf that begins
-// with the first record and has at most nine, and the second one is the only one to begin with the tenth.
+/// The root of `top` may be none or each block from 34 to 48. The first child may be each leaf that
+/// begins with the first record and has at most nine, and the second one is the only one to begin
+/// with the tenth.
 #[test]
 fn root_and_children_may_be_other_blocks(rt: HostRuntime) {
     for (n, at, stores) in [(18, 128 + 67, 16), (37, 16 + 10, 6), (37, 30 + 10, 1)] {

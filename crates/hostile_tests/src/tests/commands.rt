@@ -13,11 +13,11 @@ pub enum Script {
     Grown,
 }
 
-// How many device calls `format`, `open` and the commands make where the store doesn't grow. The Remove goes on with
-// the series of the Put before it, and reads its leaf once.
+/// How many device calls `format`, `open` and the commands make where the store doesn't grow. The
+/// Remove goes on with the series of the Put before it, and reads its leaf once.
 const CALLS: u32 = 7 + 4 + 1 + 2 + 4 + 2 + 6 + 4 + 2 + 2 + 4;
 
-// How many of these are writes or syncs.
+/// How many of these are writes or syncs.
 const WRITES_AND_SYNCS: u32 = 6 + 1 + 1 + 1 + 4 + 1 + 1 + 4 + 1 + 1 + 4;
 
 /// The key of this number in table 1.
@@ -42,7 +42,7 @@ pub(super) fn merge(alloc: Global) -> Command {
     }
 }
 
-// The command of this number, from 0, without those that make `y` and let the store grow.
+/// The command of this number, from 0, without those that make `y` and let the store grow.
 fn posted(alloc: Global, n: u32) -> Command {
     let (x, c) = (name(b"x"), name(b"c"));
     match n {
@@ -66,7 +66,7 @@ fn posted(alloc: Global, n: u32) -> Command {
     }
 }
 
-// The command of this number, from 0, with those.
+/// The command of this number, from 0, with those.
 fn grown(alloc: Global, n: u32) -> Command {
     let k = name(b"k");
     match n {

@@ -100,7 +100,7 @@ fn set_block(disk: &mut MemDisk, n: u32, bytes: &[u8; 4096]) -> Result<(), Wrong
     Ok(())
 }
 
-// Sets bytes of a block.
+/// Sets bytes of a block.
 fn set_bytes(disk: &mut MemDisk, n: u32, at: usize, bytes: &[u8]) -> Result<(), Wrong> {
     let mut block = [0; 4096];
     if n < disk.blocks() {
@@ -166,7 +166,7 @@ fn entry(line: Line) -> Entry {
     }
 }
 
-// Writes slot A with `top`, and these entries behind it.
+/// Writes slot A with `top`, and these entries behind it.
 fn put_slot(alloc: Global, disk: &mut MemDisk, lines: &[Line]) -> Result<(), Wrong> {
     let mut entries = Vec::new(alloc);
     entries
@@ -181,7 +181,7 @@ fn put_slot(alloc: Global, disk: &mut MemDisk, lines: &[Line]) -> Result<(), Wro
     Ok(())
 }
 
-// Writes slot A with `top`, and so many children of it.
+/// Writes slot A with `top`, and so many children of it.
 fn put_children(alloc: Global, disk: &mut MemDisk, count: usize) -> Result<(), Wrong> {
     let mut entries = Vec::new(alloc);
     let top = entry((b"top", b"", 34, 0));
@@ -211,7 +211,7 @@ fn put_piece(alloc: Global, disk: &mut MemDisk, piece: Piece) -> Result<(), Wron
     }
 }
 
-// A store whose first alternative has one record in block 34, with these pieces written over it.
+/// A store whose first alternative has one record in block 34, with these pieces written over it.
 fn disk_of(alloc: Global, pieces: &[Piece]) -> Result<MemDisk, Wrong> {
     let mut disk = MemDisk::new(alloc, BLOCKS)?;
     let mut header = [0; 4096];
@@ -225,7 +225,7 @@ fn disk_of(alloc: Global, pieces: &[Piece]) -> Result<MemDisk, Wrong> {
     Ok(disk)
 }
 
-// How many blocks are free in the store of a disk.
+/// How many blocks are free in the store of a disk.
 fn free_on(alloc: Global, disk: MemDisk) -> Result<u32, Refusal> {
     match open(alloc, disk) {
         Ok(store) => {
@@ -246,7 +246,7 @@ fn each_damage_is_named(rt: HostRuntime) -> Result<(), Fail> {
     Ok(())
 }
 
-// A disk of so many blocks: the first ones of an image, and behind those zero bytes.
+/// A disk of so many blocks: the first ones of an image, and behind those zero bytes.
 fn cut(alloc: Global, image: &Image, blocks: u32) -> Result<MemDisk, Wrong> {
     let mut disk = MemDisk::new(alloc, blocks)?;
     for n in 0..blocks {
@@ -255,7 +255,7 @@ fn cut(alloc: Global, image: &Image, blocks: u32) -> Result<MemDisk, Wrong> {
     Ok(disk)
 }
 
-// What formatting a disk is answered, and whether each block is as it was.
+/// What formatting a disk is answered, and whether each block is as it was.
 fn format_on(
     alloc: Global,
     disk: MemDisk,

@@ -76,7 +76,7 @@ impl Halt {
         self.here.due
     }
 
-    // Whether the call that is stopped is a sync that makes blocks last.
+    /// Whether the call that is stopped is a sync that makes blocks last.
     fn is_sync(&self) -> bool {
         let (here, later) = (&self.here.disk, &self.later.disk);
         (0..here.blocks()).any(|n| here.is_dirty(n) && !later.is_dirty(n))
@@ -105,8 +105,8 @@ impl Halt {
         })
     }
 
-    // What is left in this block, if it held anything then: a block that is new held nothing at the last
-    // sync.
+    /// What is left in this block, if it held anything then: a block that is new held nothing at
+    /// the last sync.
     fn bytes(&self, n: u32, fill: Fill) -> Option<[u8; 4096]> {
         match fill {
             Fill::Synced => self.synced.get(n).copied(),

@@ -10,7 +10,7 @@ pub struct Image {
 }
 
 impl Image {
-    // Zero bytes in each of so many blocks.
+    /// Zero bytes in each of so many blocks.
     fn zeros(alloc: Global, blocks: u32) -> Result<Image, Wrong> {
         Ok(Image {
             blocks: Vec::from_elem(alloc, [0; 4096], blocks as usize)?,

@@ -40,7 +40,7 @@ fn byte(bytes: &[u8; 4096], at: usize) -> u8 {
     bytes.get(at).copied().unwrap_or(0xFF)
 }
 
-// The number in so many bytes.
+/// The number in so many bytes.
 fn number(bytes: &[u8; 4096], at: usize, width: usize) -> u64 {
     let mut number: u64 = 0;
     for i in 0..width {
@@ -74,8 +74,8 @@ fn key_at(bytes: &[u8; 4096], at: usize) -> Key {
     }
 }
 
-// Whether the keys rise that stand at each so many bytes from byte 16 on, lie below the bound, and
-// begin with the lowest.
+/// Whether the keys rise that stand at each so many bytes from byte 16 on, lie below the bound, and
+/// begin with the lowest.
 fn have_keys(bytes: &[u8; 4096], count: usize, width: usize, part: Part) -> bool {
     let mut before: Option<Key> = None;
     for i in 0..count {
@@ -90,7 +90,7 @@ fn have_keys(bytes: &[u8; 4096], count: usize, width: usize, part: Part) -> bool
     true
 }
 
-// Whether the bytes are a block of a tree of this level, with this many records or children.
+/// Whether the bytes are a block of a tree of this level, with this many records or children.
 fn is_framed(bytes: &[u8; 4096], level: u32, count: usize, part: Part) -> bool {
     let (letters, most, width): (&[u8], usize, usize) = if level == 0 {
         (b"LEAF", 16, 252)
@@ -106,7 +106,7 @@ fn is_framed(bytes: &[u8; 4096], level: u32, count: usize, part: Part) -> bool {
         && have_keys(bytes, count, width, part)
 }
 
-// The record that stands at a byte.
+/// The record that stands at a byte.
 fn record_at(bytes: &[u8; 4096], at: usize) -> Option<(Key, Value)> {
     let length = number(bytes, at.wrapping_add(10), 2) as usize;
     let start = at.wrapping_add(12);
@@ -118,7 +118,7 @@ fn record_at(bytes: &[u8; 4096], at: usize) -> Option<(Key, Value)> {
     Some((key_at(bytes, at), value))
 }
 
-// Adds the records of a leaf.
+/// Adds the records of a leaf.
 fn read_records(bytes: &[u8; 4096], count: usize, records: &mut Vec<(Key, Value)>) -> Option<()> {
     for i in 0..count {
         let record = record_at(bytes, i.wrapping_mul(252).wrapping_add(16))?;
@@ -127,7 +127,7 @@ fn read_records(bytes: &[u8; 4096], count: usize, records: &mut Vec<(Key, Value)
     Some(())
 }
 
-// Adds the children of an inner block. Each one's keys lie below the lowest one of the next.
+/// Adds the children of an inner block. Each one's keys lie below the lowest one of the next.
 fn read_children(
     bytes: &[u8; 4096],
     count: usize,
@@ -158,7 +158,7 @@ fn add_block(blocks: &mut Vec<u32>, block: u32) -> Option<()> {
     Some(())
 }
 
-// Reads the blocks of one level. Gives those of the level below.
+/// Reads the blocks of one level. Gives those of the level below.
 fn read_level(
     alloc: Global,
     image: &Image,
@@ -186,7 +186,7 @@ fn read_level(
     Some(below)
 }
 
-// Reads the tree under a root. Its records are those of the content then.
+/// Reads the tree under a root. Its records are those of the content then.
 fn read_tree(alloc: Global, image: &Image, root: u32, content: &mut Content) -> Option<()> {
     content.records.clear();
     if root == 0 {
@@ -206,7 +206,7 @@ fn read_tree(alloc: Global, image: &Image, root: u32, content: &mut Content) -> 
     Some(())
 }
 
-// The name that stands at a byte, where it is none but the empty one.
+/// The name that stands at a byte, where it is none but the empty one.
 fn label_at(bytes: &[u8; 4096], at: usize) -> Option<Label> {
     let length = byte(bytes, at);
     let mut label = [0; 33];
@@ -227,7 +227,7 @@ fn label_at(bytes: &[u8; 4096], at: usize) -> Option<Label> {
     (length <= 32).then_some(label)
 }
 
-// The entry that stands at a byte.
+/// The entry that stands at a byte.
 fn entry_at(bytes: &[u8; 4096], at: usize) -> Option<Found> {
     let found = Found {
         tag: byte(bytes, at),
@@ -249,7 +249,7 @@ fn label(name: &[u8]) -> Label {
     label
 }
 
-// Whether an entry may follow these.
+/// Whether an entry may follow these.
 fn fits(found: Found, before: &[Found]) -> bool {
     let top = label(b"top");
     if before.is_empty() {
@@ -270,7 +270,7 @@ fn fits(found: Found, before: &[Found]) -> bool {
     }
 }
 
-// The entries of the slot that is in use.
+/// The entries of the slot that is in use.
 fn read_entries(alloc: Global, image: &Image) -> Option<Vec<Found>> {
     let odd = byte(&image.block(1), 0) % 2 == 1;
     let first: u32 = if odd { 18 } else { 2 };

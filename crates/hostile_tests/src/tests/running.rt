@@ -60,7 +60,7 @@ pub struct Left {
     pub due: Option<Due>,
 }
 
-// Carries out the commands from this number on, up to one in which the device fails.
+/// Carries out the commands from this number on, up to one in which the device fails.
 fn apply_from<D: Disk>(
     alloc: Global,
     store: &mut Store<D>,
@@ -91,7 +91,7 @@ fn apply_from<D: Disk>(
     Ok(None)
 }
 
-// Looks whether the store shows what so many commands have committed, and carries out the others.
+/// Looks whether the store shows what so many commands have committed, and carries out the others.
 fn look_and_apply<D: Disk>(
     alloc: Global,
     store: &mut Store<D>,
@@ -106,7 +106,7 @@ fn look_and_apply<D: Disk>(
     }
 }
 
-// Opens a disk that shows this state, and carries out the commands from there.
+/// Opens a disk that shows this state, and carries out the commands from there.
 fn open_and_apply<D: Disk + Drop>(
     alloc: Global,
     disk: D,
@@ -124,7 +124,7 @@ fn open_and_apply<D: Disk + Drop>(
     }
 }
 
-// Carries out the commands on a disk that shows this, and formats it where it is no store.
+/// Carries out the commands on a disk that shows this, and formats it where it is no store.
 fn go_on<D: Disk + Drop>(
     alloc: Global,
     disk: D,
@@ -146,7 +146,7 @@ fn go_on<D: Disk + Drop>(
     }
 }
 
-// Opens a disk anew after a call failed, and goes on.
+/// Opens a disk anew after a call failed, and goes on.
 fn resume<D: Disk + Drop>(
     alloc: Global,
     disk: D,

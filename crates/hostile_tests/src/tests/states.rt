@@ -57,7 +57,7 @@ const SAME: Own = Own {
     saved: false,
 };
 
-// What this number of commands has committed.
+/// What this number of commands has committed.
 fn committed_by(script: Script, commands: u32) -> State {
     let [_, first, second, last] = script.kept();
     let (top, own, free): (Map, Option<Own>, u32) = match commands {
@@ -89,14 +89,14 @@ fn value_at(map: Map, number: u64) -> Option<Value> {
     Value::new(record.1)
 }
 
-// Whether these are just the records of the map.
+/// Whether these are just the records of the map.
 fn are_records(records: &Records, map: Map) -> bool {
     records.len() == map.len()
         && records.iter().zip(map).all(|((found, value), due)| found == key(due.0)
             && value == due.1)
 }
 
-// Whether these are just the changes from one map to another, all of whose keys are below 10.
+/// Whether these are just the changes from one map to another, all of whose keys are below 10.
 fn are_changes(changes: &[Change], before: Map, after: Map) -> bool {
     let mut due = changes.iter();
     for number in 0..10 {
@@ -112,7 +112,7 @@ fn are_changes(changes: &[Change], before: Map, after: Map) -> bool {
     due.next().is_none()
 }
 
-// The changes of an alternative, in the places of whole ones.
+/// The changes of an alternative, in the places of whole ones.
 fn changes_of<D: Disk>(
     alloc: Global,
     store: &mut Store<D>,
@@ -124,7 +124,7 @@ fn changes_of<D: Disk>(
         .map_err(|_| Refusal::Memory)
 }
 
-// Whether an alternative has these two maps, and is in no conflict with its parent.
+/// Whether an alternative has these two maps, and is in no conflict with its parent.
 fn has_maps<D: Disk>(
     alloc: Global,
     store: &mut Store<D>,
@@ -139,7 +139,7 @@ fn has_maps<D: Disk>(
     )
 }
 
-// Whether an alternative has just this checkpoint, or none.
+/// Whether an alternative has just this checkpoint, or none.
 fn has_checkpoint<D: Disk>(
     alloc: Global,
     store: &Store<D>,
@@ -153,7 +153,7 @@ fn has_checkpoint<D: Disk>(
     })
 }
 
-// Whether the store lists just these alternatives and checkpoints.
+/// Whether the store lists just these alternatives and checkpoints.
 fn has_names<D: Disk>(alloc: Global, store: &Store<D>, state: State) -> Result<bool, Refusal> {
     let all = [
         (top(), None),
@@ -213,7 +213,7 @@ pub(super) fn shows<D: Disk>(
     }
 }
 
-// Whether `x` has the same two maps once it was given others and went back to its checkpoint.
+/// Whether `x` has the same two maps once it was given others and went back to its checkpoint.
 fn goes_back<D: Disk>(alloc: Global, store: &mut Store<D>, own: Own) -> Result<bool, Refusal> {
     let back = Command::Back {
         alt: name(b"x"),
@@ -232,7 +232,7 @@ fn goes_back<D: Disk>(alloc: Global, store: &mut Store<D>, own: Own) -> Result<b
     )
 }
 
-// What a store shows that was just opened.
+/// What a store shows that was just opened.
 fn find_state<D: Disk>(
     alloc: Global,
     store: &mut Store<D>,

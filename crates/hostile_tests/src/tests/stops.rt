@@ -19,7 +19,7 @@ enum Trial {
     FailThenStop,
 }
 
-// Whether this is shown after a crash.
+/// Whether this is shown after a crash.
 fn expect(due: Due, shown: Shown) -> Result<(), Wrong> {
     if due.has(shown) {
         return Ok(());
@@ -30,7 +30,7 @@ fn expect(due: Due, shown: Shown) -> Result<(), Wrong> {
     })
 }
 
-// A run from a new disk on.
+/// A run from a new disk on.
 fn whole(alloc: Global, script: Script, fault: Option<Fault>, blocks: u32) -> Result<Scene, Wrong> {
     Ok(Scene {
         script,
@@ -41,7 +41,7 @@ fn whole(alloc: Global, script: Script, fault: Option<Fault>, blocks: u32) -> Re
     })
 }
 
-// Stops a scene at each call from this one on. In that one it may be this that is shown.
+/// Stops a scene at each call from this one on. In that one it may be this that is shown.
 fn stop_each<D: Layer>(
     alloc: Global,
     scene: &Scene,
@@ -64,7 +64,8 @@ fn stop_each<D: Layer>(
     Ok(())
 }
 
-// Looks at what a crash left. The rest of the commands, from what is shown on, may be stopped again.
+/// Looks at what a crash left. The rest of the commands, from what is shown on, may be stopped
+/// again.
 fn go_on_from<D: Layer>(
     alloc: Global,
     scene: &Scene,
@@ -90,7 +91,7 @@ fn go_on_from<D: Layer>(
     Ok(())
 }
 
-// Crashes at a call.
+/// Crashes at a call.
 fn stop_at<D: Layer>(
     alloc: Global,
     scene: &Scene,
@@ -103,8 +104,8 @@ fn stop_at<D: Layer>(
     go_on_from::<D>(alloc, scene, disk, due, again)
 }
 
-// Crashes at a call where not all blocks are sure, and leaves each number of blocks that may be left. What
-// is left of the commands is stopped again once, with all but one of the blocks.
+/// Crashes at a call where not all blocks are sure, and leaves each number of blocks that may be
+/// left. What is left of the commands is stopped again once, with all but one of the blocks.
 fn stop_short<D: Layer>(
     alloc: Global,
     scene: &Scene,
@@ -122,7 +123,7 @@ fn stop_short<D: Layer>(
     Ok(())
 }
 
-// Fails a call. The rest of the commands, from what is shown on, ends as usual, or may be stopped.
+/// Fails a call. The rest of the commands, from what is shown on, ends as usual, or may be stopped.
 fn fail_at<D: Layer>(
     alloc: Global,
     scene: &Scene,
@@ -180,7 +181,8 @@ fn try_at<D: Layer>(
     Ok(())
 }
 
-// Does this at each device call. Gives the number of calls, or the one at which something is wrong.
+/// Does this at each device call. Gives the number of calls, or the one at which something is
+/// wrong.
 fn try_script<D: Layer>(
     alloc: Global,
     script: Script,
@@ -202,7 +204,7 @@ fn try_script<D: Layer>(
     Ok(NEVER)
 }
 
-// Through a cache each write, each sync and each growth reaches the device, but not each read.
+/// Through a cache each write, each sync and each growth reaches the device, but not each read.
 fn are_cached_calls(script: Script, found: Result<u32, (Wrong, u32)>) -> bool {
     found.is_ok_and(|calls| calls < script.calls() && calls >= script.changing_calls())
 }
@@ -217,8 +219,8 @@ fn try_cached<R: AllocGlobal + Abort>(rt: &R, script: Script, trial: Trial) {
     assert!(rt; are_cached_calls(script, found), "{found:?}");
 }
 
-// Written blocks that wait, one, two or all of them: a block that is written again before it goes out is
-// no call of its own.
+/// Written blocks that wait, one, two or all of them: a block that is written again before it goes
+/// out is no call of its own.
 fn try_late<R: AllocGlobal + Abort>(rt: &R, script: Script, trial: Trial) {
     for blocks in [1, 2, 64] {
         let found = try_script::<DelayedDisk<Device>>(rt.alloc(), script, trial, blocks);

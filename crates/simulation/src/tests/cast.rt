@@ -64,12 +64,12 @@ pub(super) fn alternatives() -> [Name; 4] {
     ]
 }
 
-// The records that a store lists, in a Vec as the model's.
+/// The records that a store lists, in a Vec as the model's.
 fn whole(alloc: Global, list: Result<Records, Refusal>) -> Result<Vec<(Key, Value)>, Refusal> {
     list?.to_vec(alloc).map_err(|_| Refusal::Memory)
 }
 
-// And its changes and conflicts so, too.
+/// And its changes and conflicts so, too.
 fn whole_changes(alloc: Global, list: Result<Changes, Refusal>) -> Result<Vec<Change>, Refusal> {
     list?.to_vec(alloc).map_err(|_| Refusal::Memory)
 }
@@ -81,7 +81,7 @@ fn whole_conflicts(
     list?.to_vec(alloc).map_err(|_| Refusal::Memory)
 }
 
-// Whether the store lists what the model does, or both refuse for the same reason.
+/// Whether the store lists what the model does, or both refuse for the same reason.
 fn is_same<T: PartialEq + Drop>(
     found: Result<Vec<T>, Refusal>,
     expected: Result<Vec<T>, Refusal>,
@@ -94,7 +94,7 @@ fn is_same<T: PartialEq + Drop>(
     }
 }
 
-// Whether the store finds the value of the model at this key.
+/// Whether the store finds the value of the model at this key.
 fn gets<D: Disk>(store: &mut Store<D>, plain: &Plain, alt: &Name, key: Key) -> Result<bool, Wrong> {
     match store.get(alt, key) {
         Err(Refusal::Device) => Err(Wrong::Refused(Refusal::Device)),
@@ -102,7 +102,7 @@ fn gets<D: Disk>(store: &mut Store<D>, plain: &Plain, alt: &Name, key: Key) -> R
     }
 }
 
-// Whether the store lists the alternatives of the model.
+/// Whether the store lists the alternatives of the model.
 fn has_alternatives<D: Disk>(alloc: Global, store: &Store<D>, plain: &Plain) -> bool {
     match (store.alternatives(alloc), plain.alternatives()) {
         (Ok(found), Ok(expected)) => found.as_slice() == expected.as_slice(),
@@ -110,8 +110,8 @@ fn has_alternatives<D: Disk>(alloc: Global, store: &Store<D>, plain: &Plain) -> 
     }
 }
 
-// Whether the store lists the checkpoints, records, changes and conflicts of the model in this
-// alternative, or both have none of that name.
+/// Whether the store lists the checkpoints, records, changes and conflicts of the model in this
+/// alternative, or both have none of that name.
 fn has_lists<D: Disk>(
     alloc: Global,
     store: &mut Store<D>,
@@ -152,7 +152,7 @@ pub(super) fn agrees<D: Disk>(
     Ok(true)
 }
 
-// Whether a store goes back to a checkpoint as the model does, or both have none of that name.
+/// Whether a store goes back to a checkpoint as the model does, or both have none of that name.
 fn goes_back<D: Disk>(
     alloc: Global,
     store: &mut Store<D>,
@@ -171,8 +171,9 @@ fn goes_back<D: Disk>(
     }
 }
 
-// Whether a store that was just opened shows what the model does in each alternative and each
-// checkpoint, and has as many blocks, and as many of them free. It goes back to each checkpoint in turn.
+/// Whether a store that was just opened shows what the model does in each alternative and each
+/// checkpoint, and has as many blocks, and as many of them free. It goes back to each checkpoint in
+/// turn.
 fn agrees_anew<D: Disk>(
     alloc: Global,
     store: &mut Store<D>,

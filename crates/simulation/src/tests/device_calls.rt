@@ -44,7 +44,7 @@ pub enum Failure {
     Stages(u32),
 }
 
-// What the definitions make of a script up to a command.
+/// What the definitions make of a script up to a command.
 fn model_before(alloc: Global, script: Script, number: u32) -> Result<Model, Wrong> {
     let mut model = Model::new(alloc, BLOCKS)?;
     for n in 0..number {
@@ -77,8 +77,8 @@ pub(super) fn run<D: Disk>(
     Ok(Stage::End)
 }
 
-// Runs a script on a device that stops after so many calls. Gives the disk that is left, and the call
-// in which the device stopped.
+/// Runs a script on a device that stops after so many calls. Gives the disk that is left, and the
+/// call in which the device stopped.
 fn run_until_stop(
     alloc: Global,
     script: Script,
@@ -154,7 +154,8 @@ pub(super) fn look(
     }
 }
 
-// Whether the disk may be left by a stop in this call. It may be no store as long as `format` runs.
+/// Whether the disk may be left by a stop in this call. It may be no store as long as `format`
+/// runs.
 fn is_due(alloc: Global, script: Script, disk: RecordingDisk, stage: Stage) -> Result<bool, Wrong> {
     match look(alloc, script, disk, stage) {
         Ok((_disk, shown)) => Ok(shown.is_some()),
@@ -195,7 +196,7 @@ impl Met {
     }
 }
 
-// Stops a script after so many calls, and crashes. Gives the call in which the device stopped.
+/// Stops a script after so many calls, and crashes. Gives the call in which the device stopped.
 fn stop_at(
     alloc: Global,
     script: Script,
@@ -213,7 +214,7 @@ fn stop_at(
     Ok(stage)
 }
 
-// Stops a script at each of its calls in turn.
+/// Stops a script at each of its calls in turn.
 fn stop_everywhere(alloc: Global, script: Script) -> Result<(), Failure> {
     for (torn, fill) in LEFT {
         let mut met = Met::none();

@@ -19,7 +19,7 @@ const TORN: [Fill; 5] = [
     Fill::Byte(0xFF),
 ];
 
-// Formats a disk on which `format` failed. It may be a store already.
+/// Formats a disk on which `format` failed. It may be a store already.
 fn format_again<D: Disk + Drop>(disk: D) -> Result<D, Wrong> {
     match format(disk, BLOCKS) {
         Ok(disk) => Ok(disk),
@@ -28,7 +28,7 @@ fn format_again<D: Disk + Drop>(disk: D) -> Result<D, Wrong> {
     }
 }
 
-// Runs the commands of a script, of which one may fail. The next one is refused then.
+/// Runs the commands of a script, of which one may fail. The next one is refused then.
 fn run_to_fault<D: Disk>(
     alloc: Global,
     store: &mut Store<D>,
@@ -44,7 +44,7 @@ fn run_to_fault<D: Disk>(
     Ok(stage)
 }
 
-// Runs a script on a device that fails one call. Gives the disk, and the call in which it failed.
+/// Runs a script on a device that fails one call. Gives the disk, and the call in which it failed.
 fn run_past_fault(
     alloc: Global,
     script: Script,
@@ -77,7 +77,7 @@ fn run_past_fault(
     Ok((disk.into_inner(), failed))
 }
 
-// Runs the commands of a script from a number on, on a disk that does not fail.
+/// Runs the commands of a script from a number on, on a disk that does not fail.
 fn finish(
     alloc: Global,
     script: Script,
@@ -93,7 +93,7 @@ fn finish(
     }
 }
 
-// Runs a script to its end on a device that fails one call. Gives the call in which it failed.
+/// Runs a script to its end on a device that fails one call. Gives the call in which it failed.
 fn fail_at(alloc: Global, script: Script, passes: u32, torn: Fill) -> Result<Stage, Wrong>
     requires { passes < 1000 }
 {
@@ -115,7 +115,7 @@ fn fail_at(alloc: Global, script: Script, passes: u32, torn: Fill) -> Result<Sta
     Ok(failed)
 }
 
-// Fails each call of a script in turn.
+/// Fails each call of a script in turn.
 fn fail_everywhere(alloc: Global, script: Script) -> Result<(), Failure> {
     for torn in TORN {
         let mut met = Met::none();

@@ -80,7 +80,7 @@ impl Dice {
         }
     }
 
-    // Mostly another alternative than `top`.
+    /// Mostly another alternative than `top`.
     fn child(&mut self) -> Name {
         if self.once_in(12) {
             top()
@@ -102,7 +102,7 @@ impl Dice {
         }
     }
 
-    // The key after the one that was drawn last in this way. The first follows the last.
+    /// The key after the one that was drawn last in this way. The first follows the last.
     fn next_key(&mut self) -> Key {
         self.next = self.next.saturating_add(1) % KEYS;
         key(self.next)
@@ -129,8 +129,9 @@ impl Dice {
         }
     }
 
-    // Settlements of these conflicts, in any order; or none, or such as do not fit: a key is settled
-    // twice, another key is settled too, or a conflict is left, also with another key in its place.
+    /// Settlements of these conflicts, in any order; or none, or such as do not fit: a key is
+    /// settled twice, another key is settled too, or a conflict is left, also with another key in
+    /// its place.
     fn settled(&mut self, alloc: Global, conflicts: &[Conflict]) -> Result<Settled, AllocError> {
         let mut sides = Vec::new(alloc);
         for conflict in conflicts {
@@ -154,7 +155,7 @@ impl Dice {
         Ok(Settled::from_vec(sides))
     }
 
-    // A Merge, mostly with settlements that fit.
+    /// A Merge, mostly with settlements that fit.
     fn merge(&mut self, alloc: Global, plain: &Plain) -> Result<Command, AllocError> {
         let alt = self.child();
         self.merged = Some(alt);
@@ -165,7 +166,7 @@ impl Dice {
         Ok(Command::Merge { alt, settled })
     }
 
-    // A Drop, Uncheck or Remove. From 11 on, one key of `top` after another is taken out.
+    /// A Drop, Uncheck or Remove. From 11 on, one key of `top` after another is taken out.
     fn removal(&mut self, n: u32) -> Command {
         match n {
             0..=2 => Command::Drop { alt: self.child() },
@@ -184,7 +185,7 @@ impl Dice {
         }
     }
 
-    // A few more blocks than there are, as far as the disk has room, or else a bad size.
+    /// A few more blocks than there are, as far as the disk has room, or else a bad size.
     fn grow(&mut self, blocks: u32) -> Command {
         let more = 1 + self.below(4);
         Command::Grow {
@@ -197,7 +198,7 @@ impl Dice {
         }
     }
 
-    // Any other command but a Merge, to a store of so many blocks. From 17 on it is a Put.
+    /// Any other command but a Merge, to a store of so many blocks. From 17 on it is a Put.
     fn addition(&mut self, n: u32, blocks: u32) -> Command {
         match n {
             0..=2 => Command::Commit,

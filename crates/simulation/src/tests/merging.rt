@@ -21,7 +21,7 @@ fn put(plain: &mut Plain, alt: Name, n: u32, bytes: &[u8]) -> Reply {
     })
 }
 
-// `ring` grew from `top`. Since then both gave the first key another value, and each put a record.
+/// `ring` grew from `top`. Since then both gave the first key another value, and each put a record.
 fn forked(alloc: Global) -> Result<Plain, Wrong> {
     let mut plain = Plain::new(alloc, BLOCKS)?;
     put(&mut plain, top(), 0, b"duct")?;
@@ -44,17 +44,17 @@ fn merge(alloc: Global, plain: &mut Plain, sides: &[(Key, Side)]) -> Result<Repl
     }))
 }
 
-// Whether these are all changes of `ring`.
+/// Whether these are all changes of `ring`.
 fn has_changes(plain: &Plain, expected: &[Change]) -> Result<bool, Wrong> {
     Ok(plain.changes(&ring())?.as_slice() == expected)
 }
 
-// Whether these are all conflicts of `ring`.
+/// Whether these are all conflicts of `ring`.
 fn has_conflicts(plain: &Plain, expected: &[Conflict]) -> Result<bool, Wrong> {
     Ok(plain.conflicts(&ring())?.as_slice() == expected)
 }
 
-// Whether `ring` shows what it put, and that both changed the first key.
+/// Whether `ring` shows what it put, and that both changed the first key.
 fn shows_both_sides(plain: &Plain) -> Result<bool, Wrong> {
     let changed = Change {
         key: key(0),
@@ -75,7 +75,7 @@ fn shows_both_sides(plain: &Plain) -> Result<bool, Wrong> {
     Ok(has_changes(plain, &[changed, added])? && has_conflicts(plain, &[conflict])?)
 }
 
-// Whether `ring` shows what both put, with the value of `top` at the first key.
+/// Whether `ring` shows what both put, with the value of `top` at the first key.
 fn shows_the_merge(plain: &Plain) -> Result<bool, Wrong> {
     let added = Change {
         key: key(2),
@@ -94,7 +94,7 @@ fn shows_the_merge(plain: &Plain) -> Result<bool, Wrong> {
     )
 }
 
-// Whether settlements that do not fit the conflict are refused, and a Post before the Merge.
+/// Whether settlements that do not fit the conflict are refused, and a Post before the Merge.
 fn refuses(alloc: Global, plain: &mut Plain) -> Result<bool, Wrong> {
     let unsettled = merge(alloc, plain, &[])?;
     let aside = merge(alloc, plain, &[(key(2), Side::Mine)])?;

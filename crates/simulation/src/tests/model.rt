@@ -112,7 +112,7 @@ impl Model {
         }
     }
 
-    // How many blocks for data neither the committed maps nor the working ones lie in.
+    /// How many blocks for data neither the committed maps nor the working ones lie in.
     fn spare(&self) -> Result<u32, Wrong> {
         let mut roots = Vec::new(self.alloc);
         for entries in [&self.committed, &self.working] {
@@ -124,8 +124,8 @@ impl Model {
         Ok(data.saturating_sub(self.trees.count(&roots)?))
     }
 
-    // Whether as many blocks are spare as so many record changes may take. Where fewer are free, the
-    // blocks that maps lie in are marked.
+    /// Whether as many blocks are spare as so many record changes may take. Where fewer are free,
+    /// the blocks that maps lie in are marked.
     fn has_room(&mut self, changes: usize) -> Result<bool, Wrong> {
         if !self.has_free(changes) {
             self.free = self.spare()?;
@@ -137,7 +137,7 @@ impl Model {
         changes <= (self.free / BLOCKS_A_CHANGE) as usize
     }
 
-    // Whether this is a Put or a Remove that the plain model accepts.
+    /// Whether this is a Put or a Remove that the plain model accepts.
     fn changes_a_record(&self, command: &Command) -> bool {
         match command {
             Command::Put { alt, key, .. } => self.plain.get(alt, *key).is_ok(),
@@ -146,8 +146,8 @@ impl Model {
         }
     }
 
-    // The answer to a Merge. Its record changes are made one after another, by rising keys, where there
-    // is room for all.
+    /// The answer to a Merge. Its record changes are made one after another, by rising keys, where
+    /// there is room for all.
     fn merge(&mut self, alt: &Name, command: &Command) -> Result<Reply, Wrong> {
         let mut merged = self.plain.copy()?;
         let reply = merged.apply(command);
@@ -164,7 +164,7 @@ impl Model {
         Ok(reply)
     }
 
-    // The answer to a Grow. The new blocks are free.
+    /// The answer to a Grow. The new blocks are free.
     fn grow(&mut self, command: &Command) -> Reply {
         let before = self.plain.blocks();
         let reply = self.plain.apply(command);
@@ -173,7 +173,7 @@ impl Model {
         reply
     }
 
-    // What an accepted command but a Merge or a Grow does to the blocks that maps lie in.
+    /// What an accepted command but a Merge or a Grow does to the blocks that maps lie in.
     fn follow(&mut self, command: &Command) -> Result<(), Wrong> {
         match command {
             Command::New { name, parent } => self.follow_new(name, parent, None)?,
@@ -203,7 +203,8 @@ impl Model {
         Ok(())
     }
 
-    // The new alternative shares the blocks of what its parent shows, or of what a checkpoint of it does.
+    /// The new alternative shares the blocks of what its parent shows, or of what a checkpoint of
+    /// it does.
     fn follow_new(
         &mut self,
         name: &Name,
@@ -241,13 +242,13 @@ impl Model {
         Ok(())
     }
 
-    // The blocks that were written since there were so many are not free any more.
+    /// The blocks that were written since there were so many are not free any more.
     fn take_new(&mut self, blocks: u32) {
         let written = self.trees.blocks().saturating_sub(blocks);
         self.free = self.free.saturating_sub(written);
     }
 
-    // After the changes the base lies in the blocks of what the parent shows.
+    /// After the changes the base lies in the blocks of what the parent shows.
     fn follow_merge(&mut self, alt: &Name, changes: &[Change]) -> Result<(), Wrong> {
         for change in changes {
             match change.after {
@@ -264,7 +265,7 @@ impl Model {
         Ok(())
     }
 
-    // The parent and the base lie in the blocks of what the alternative shows.
+    /// The parent and the base lie in the blocks of what the alternative shows.
     fn follow_post(&mut self, alt: &Name) -> Result<(), Wrong> {
         let parent = self.parent_of(alt)?.unwrap_or(*alt);
         let own = position(&self.working, alt, None);

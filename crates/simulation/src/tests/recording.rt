@@ -94,7 +94,7 @@ impl RecordingDisk {
     }
 }
 
-// The disk after a crash that takes so many of the last blocks, or none where it may not.
+/// The disk after a crash that takes so many of the last blocks, or none where it may not.
 fn crash_without(inner: MemDisk, left: &[(u32, [u8; 4096])], lost: u32) -> MemDisk {
     let blocks = inner.blocks().saturating_sub(lost);
     if inner.sure() <= blocks && blocks <= inner.blocks() {
@@ -104,7 +104,7 @@ fn crash_without(inner: MemDisk, left: &[(u32, [u8; 4096])], lost: u32) -> MemDi
     }
 }
 
-// A disk whose blocks are all synced, recorded anew.
+/// A disk whose blocks are all synced, recorded anew.
 fn after(alloc: Global, mut inner: MemDisk) -> Result<RecordingDisk, Wrong> {
     let mut written = Vec::new(alloc);
     for n in 0..inner.blocks() {

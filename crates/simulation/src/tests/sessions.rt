@@ -25,7 +25,7 @@ enum End {
     StoppedInCommit,
 }
 
-// What a command may change beside records.
+/// What a command may change beside records.
 fn sight(model: &Model, command: &Command) -> Sight {
     let level = match command {
         Command::Put { alt, .. } | Command::Remove { alt, .. } | Command::Merge { alt, .. } => {
@@ -39,7 +39,7 @@ fn sight(model: &Model, command: &Command) -> Sight {
     }
 }
 
-// The alternatives that a command names, or that it changes.
+/// The alternatives that a command names, or that it changes.
 fn near(alloc: Global, model: &Model, command: &Command) -> Result<Vec<Name>, Wrong> {
     let mut names = Vec::new(alloc);
     match command {
@@ -64,7 +64,7 @@ fn near(alloc: Global, model: &Model, command: &Command) -> Result<Vec<Name>, Wr
     Ok(names)
 }
 
-// Compares the counts of blocks and of free ones with the model's.
+/// Compares the counts of blocks and of free ones with the model's.
 fn count<D: Disk>(store: &Store<D>, model: &Model) -> Result<(), Wrong> {
     if store.blocks() != Ok(model.plain.blocks()) {
         return Err(Wrong::Blocks);
@@ -256,7 +256,8 @@ fn resolve(
     }
 }
 
-// How many blocks a store has at first: the least, or room for a change more than one, or for many.
+/// How many blocks a store has at first: the least, or room for a change more than one, or for
+/// many.
 fn size(seed: u64) -> u32 {
     match seed % 6 {
         0 | 1 => BLOCKS,
@@ -265,7 +266,7 @@ fn size(seed: u64) -> u32 {
     }
 }
 
-// A crash, every second time.
+/// A crash, every second time.
 fn crash_or_not(
     alloc: Global,
     disk: RecordingDisk,

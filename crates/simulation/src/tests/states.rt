@@ -47,7 +47,7 @@ fn shows_nothing(alloc: Global, store: &mut Store<RecordingDisk>) -> Result<bool
     )
 }
 
-// `ring` changed the one record, and has a checkpoint of that.
+/// `ring` changed the one record, and has a checkpoint of that.
 fn shows_the_change(alloc: Global, store: &mut Store<RecordingDisk>) -> Result<bool, Wrong> {
     let (old, new) = (record(1, b"a"), record(1, b"b"));
     let state = State {
@@ -69,7 +69,7 @@ fn shows_the_change(alloc: Global, store: &mut Store<RecordingDisk>) -> Result<b
     Ok(before && shows(alloc, store, state)?)
 }
 
-// What the store shows after so many commands of the script, the last of which was a Commit.
+/// What the store shows after so many commands of the script, the last of which was a Commit.
 fn shows_what_is_due(
     alloc: Global,
     store: &mut Store<RecordingDisk>,
@@ -96,7 +96,7 @@ fn shows_what_is_due(
     )
 }
 
-// Carries out so many commands of the script on a new store, and opens what is left once more.
+/// Carries out so many commands of the script on a new store, and opens what is left once more.
 fn is_committed(alloc: Global, number: u32) -> Result<bool, Wrong> {
     let disk = RecordingDisk::new(alloc, BLOCKS)?;
     let disk = format(disk, BLOCKS).map_err(|refused| refused.1)?;

@@ -42,7 +42,7 @@ enum Change {
     Remove,
 }
 
-// At which child a key is: the last one whose lowest key isn't above it, or else the first one.
+/// At which child a key is: the last one whose lowest key isn't above it, or else the first one.
 fn place_of(rows: &[Row], key: Key) -> usize {
     rows.iter()
         .filter(|row| row.low <= key)
@@ -50,7 +50,7 @@ fn place_of(rows: &[Row], key: Key) -> usize {
         .saturating_sub(1)
 }
 
-// The rows of a leaf without a key.
+/// The rows of a leaf without a key.
 fn without(alloc: Global, rows: &[Row], key: Key) -> Result<Vec<Row>, AllocError> {
     rows.iter()
         .copied()
@@ -58,7 +58,7 @@ fn without(alloc: Global, rows: &[Row], key: Key) -> Result<Vec<Row>, AllocError
         .collect(alloc)
 }
 
-// The rows of a leaf with a key.
+/// The rows of a leaf with a key.
 fn with(alloc: Global, rows: &[Row], key: Key) -> Result<Vec<Row>, AllocError> {
     let record = Row {
         low: key,
@@ -72,7 +72,7 @@ fn with(alloc: Global, rows: &[Row], key: Key) -> Result<Vec<Row>, AllocError> {
     Ok(rows)
 }
 
-// The rows of an inner node with others in place of one.
+/// The rows of an inner node with others in place of one.
 fn with_others(
     alloc: Global,
     rows: &[Row],
@@ -134,7 +134,7 @@ impl Trees {
         self.nodes.get(root).map_or(0, |node| node.level)
     }
 
-    // The nodes from the root down to the leaf where a key is.
+    /// The nodes from the root down to the leaf where a key is.
     fn path(&self, root: usize, key: Key) -> Result<Vec<usize>, AllocError> {
         let mut path = Vec::new(self.alloc);
         let mut node = root;
@@ -150,7 +150,7 @@ impl Trees {
         Ok(path)
     }
 
-    // A new node with these rows. Gives the row that names it.
+    /// A new node with these rows. Gives the row that names it.
     fn add(&mut self, level: u32, rows: &[Row]) -> Result<Option<Row>, AllocError> {
         let Some(first) = rows.first() else {
             return Ok(None);
@@ -164,8 +164,9 @@ impl Trees {
         Ok(Some(row))
     }
 
-    // New nodes with these rows, and the rows that name them: no node for no rows, and two nodes for
-    // more rows than one has room for. The left one has one row more than the right one, or as many.
+    /// New nodes with these rows, and the rows that name them: no node for no rows, and two nodes
+    /// for more rows than one has room for. The left one has one row more than the right one, or as
+    /// many.
     fn add_all(&mut self, level: u32, rows: &[Row]) -> Result<Vec<Row>, AllocError> {
         let room = if level == 0 { RECORDS } else { CHILDREN };
         let half = if rows.len() > room {
@@ -182,8 +183,8 @@ impl Trees {
         Ok(names)
     }
 
-    // Copies the nodes of a path with a change of the leaf. Gives the rows that name the copies of the
-    // root: none, one or two.
+    /// Copies the nodes of a path with a change of the leaf. Gives the rows that name the copies of
+    /// the root: none, one or two.
     fn copy_path(&mut self, root: usize, key: Key, change: Change) -> Result<Vec<Row>, AllocError> {
         let path = self.path(root, key)?;
         let mut names = Vec::new(self.alloc);
@@ -227,7 +228,7 @@ impl Trees {
         Ok(root)
     }
 
-    // The child of an inner node that has one, or else the node.
+    /// The child of an inner node that has one, or else the node.
     fn only_child(&self, node: usize) -> usize {
         match self.rows(node) {
             [only] if self.level(node) > 0 => only.child,

@@ -25,7 +25,7 @@ impl fmt::Display for Shown {
     }
 }
 
-// The value of these bytes, or none, to be shown.
+/// The value of these bytes, or none, to be shown.
 fn value_of(bytes: Option<&[u8]>) -> Shown {
     Shown(bytes.and_then(Value::new))
 }
@@ -159,7 +159,7 @@ fn query<D: Disk>(alloc: Global, store: &mut Store<D>, words: &[&str]) -> Given 
     }
 }
 
-// Puts a value into so many records, from this one on, and gives the first answer that is no `ok`.
+/// Puts a value into so many records, from this one on, and gives the first answer that is no `ok`.
 fn put_all<D: Disk>(
     store: &mut Store<D>,
     alt: &str,
@@ -181,8 +181,8 @@ fn put_all<D: Disk>(
     Ok(Ok(Answer::Done))
 }
 
-// Names the state of an alternative so many times, from `k001` on, and puts a value into a record before each
-// of these, where one is given.
+/// Names the state of an alternative so many times, from `k001` on, and puts a value into a record
+/// before each of these, where one is given.
 fn check_all<D: Disk>(
     alloc: Global,
     store: &mut Store<D>,
@@ -207,7 +207,8 @@ fn check_all<D: Disk>(
     Ok(Ok(Answer::Done))
 }
 
-// Carries out a list of commands, with `;` between two. Behind the answers stands how the list ended.
+/// Carries out a list of commands, with `;` between two. Behind the answers stands how the list
+/// ended.
 fn run<D: Disk>(alloc: Global, store: &mut Store<D>, words: &[&str]) -> Result<String, Wrong> {
     let mut commands = Vec::new(alloc);
     for part in words.split(|word| *word == ";") {

@@ -23,7 +23,7 @@ pub(super) fn set_block(disk: &mut MemDisk, n: u32, bytes: &[u8; 4096]) -> Resul
     Ok(())
 }
 
-// Sets bytes from a place on, as `0:534C` says.
+/// Sets bytes from a place on, as `0:534C` says.
 fn set_run(bytes: &mut [u8; 4096], run: &str) -> Result<(), Wrong> {
     let (from, digits) = run.split_once(':').ok_or(Wrong::Unreadable)?;
     let from = number(from)? as usize;
@@ -56,7 +56,7 @@ pub(super) fn cut(alloc: Global, mut disk: MemDisk, blocks: u32) -> Result<MemDi
     Ok(shorter)
 }
 
-// The bytes that are not zero, behind the place of the first of each run.
+/// The bytes that are not zero, behind the place of the first of each run.
 fn bytes_text(alloc: Global, bytes: &[u8; 4096]) -> Result<String, Wrong> {
     let mut text = String::new(alloc);
     if bytes[0] != 0 && *bytes == [bytes[0]; 4096] {
@@ -76,7 +76,7 @@ fn bytes_text(alloc: Global, bytes: &[u8; 4096]) -> Result<String, Wrong> {
     Ok(text)
 }
 
-// The blocks that have other bytes than zeros.
+/// The blocks that have other bytes than zeros.
 fn written(alloc: Global, disk: &mut MemDisk) -> Result<String, Wrong> {
     let mut text = String::new(alloc);
     for n in 0..disk.blocks() {
@@ -87,7 +87,7 @@ fn written(alloc: Global, disk: &mut MemDisk) -> Result<String, Wrong> {
     Ok(text)
 }
 
-// The blocks that were forgotten since the last sync, and not written again.
+/// The blocks that were forgotten since the last sync, and not written again.
 fn forgotten(alloc: Global, disk: &mut MemDisk) -> Result<String, Wrong> {
     let mut text = String::new(alloc);
     for n in 0..disk.blocks() {

@@ -34,7 +34,7 @@ fn calls_of_get_and_put_at_a_leaf(rt: HostRuntime) {
     in_memory(&rt, &[DUCT, row]);
 }
 
-// Opening the store makes five device calls: a sync, and four reads.
+/// Opening the store makes five device calls: a sync, and four reads.
 #[test]
 fn calls_of_remove_at_a_leaf(rt: HostRuntime) {
     let one_of_two = "
@@ -58,8 +58,8 @@ fn calls_of_remove_at_a_leaf(rt: HostRuntime) {
     in_memory(&rt, &[DUCT, last]);
 }
 
-// Opening the store makes five device calls. A Put reads and writes a leaf. So does a Remove, which reads its leaf
-// once more, to look for the record, where it begins a series.
+/// Opening the store makes five device calls. A Put reads and writes a leaf. So does a Remove,
+/// which reads its leaf once more, to look for the record, where it begins a series.
 #[test]
 fn remove_in_a_series_reads_its_leaf_once(rt: HostRuntime) {
     let [put, other, remove, absent] = [
@@ -94,8 +94,8 @@ fn remove_in_a_series_reads_its_leaf_once(rt: HostRuntime) {
     }
 }
 
-// Opening makes four device calls, and the fourteen Puts 27. The second Remove looks first, since it may have to
-// mark blocks. It does, which ends the series, and goes on with one of its own.
+/// Opening makes four device calls, and the fourteen Puts 27. The second Remove looks first, since
+/// it may have to mark blocks. It does, which ends the series, and goes on with one of its own.
 #[test]
 fn remove_with_fewer_than_16_free_blocks_looks_first(rt: HostRuntime) {
     let row = "
@@ -113,7 +113,7 @@ fn remove_with_fewer_than_16_free_blocks_looks_first(rt: HostRuntime) {
     in_memory(&rt, &[NEW, row]);
 }
 
-// Each Remove and each Put reads two blocks of the path, and writes two.
+/// Each Remove and each Put reads two blocks of the path, and writes two.
 #[test]
 fn remove_in_a_series_reads_a_path_of_two_levels_once(rt: HostRuntime) {
     for (first, calls) in [
@@ -127,8 +127,9 @@ fn remove_in_a_series_reads_a_path_of_two_levels_once(rt: HostRuntime) {
     }
 }
 
-// The leaves have nine records each, but for the last one, which has eight: with 257 leaves there are two blocks
-// above them, and the root. An opening reads these 260 blocks, and makes four calls beside.
+/// The leaves have nine records each, but for the last one, which has eight: with 257 leaves there
+/// are two blocks above them, and the root. An opening reads these 260 blocks, and makes four calls
+/// beside.
 #[test]
 fn remove_in_a_series_reads_a_path_of_three_levels_once(rt: HostRuntime) -> Result<(), Fail> {
     let made = "
@@ -151,10 +152,11 @@ fn remove_in_a_series_reads_a_path_of_three_levels_once(rt: HostRuntime) -> Resu
     Ok(())
 }
 
-// On a map of two levels. An opening syncs, reads the header, the selector and one block of the slot, and each
-// block of the tree that both alternatives have: seven calls. A get reads two blocks, a list three, and a Put writes
-// the two that it has read. A Remove that begins a series reads its path a second time, and a Reclaim the root alone.
-// What both alternatives have is not read to compare them.
+/// On a map of two levels. An opening syncs, reads the header, the selector and one block of the
+/// slot, and each block of the tree that both alternatives have: seven calls. A get reads two
+/// blocks, a list three, and a Put writes the two that it has read. A Remove that begins a series
+/// reads its path a second time, and a Reclaim the root alone. What both alternatives have is not
+/// read to compare them.
 #[test]
 fn each_block_is_read_and_written_once(rt: HostRuntime) {
     let list = "list top -> 1:1=v 1:2=v 1:3=v 1:4=v 1:5=v 1:6=v 1:7=v 1:8=v 1:9=v 1:10=v 1:11=v \
@@ -177,8 +179,8 @@ fn each_block_is_read_and_written_once(rt: HostRuntime) {
     }
 }
 
-// The Put reads and writes a root and a leaf. The Merge reads these two and the two before them, and then
-// reads and writes a root and a leaf. Its base is the parent's map from then on.
+/// The Put reads and writes a root and a leaf. The Merge reads these two and the two before them,
+/// and then reads and writes a root and a leaf. Its base is the parent's map from then on.
 #[test]
 fn merge_reads_only_what_differs(rt: HostRuntime) {
     let row = "
@@ -192,8 +194,8 @@ fn merge_reads_only_what_differs(rt: HostRuntime) {
     in_memory(&rt, &[SEVENTEEN, row]);
 }
 
-// Opening makes seven device calls. Each Merge reads two blocks for what either side changed. One that is
-// refused, or that keeps all values, writes no block.
+/// Opening makes seven device calls. Each Merge reads two blocks for what either side changed. One
+/// that is refused, or that keeps all values, writes no block.
 #[test]
 fn merge_that_changes_nothing_writes_nothing(rt: HostRuntime) {
     let after = "
@@ -210,7 +212,7 @@ fn merge_that_changes_nothing_writes_nothing(rt: HostRuntime) {
     }
 }
 
-// It reads its own block once more, and writes the lowest one that is free.
+/// It reads its own block once more, and writes the lowest one that is free.
 #[test]
 fn merge_of_one_record_writes_one_leaf(rt: HostRuntime) {
     let row = "

@@ -1,8 +1,9 @@
 //! A crash in a command or after one, and what is shown afterwards.
 use super::script::{DUCT, in_memory, on_both};
 
-// A Commit of `duct` that is stopped inside the write of the selector, which is device call 15: formatting and
-// opening take eleven, the Put writes block 34, and the Commit writes block 18, syncs, and writes block 1.
+/// A Commit of `duct` that is stopped inside the write of the selector, which is device call 15:
+/// formatting and opening take eleven, the Put writes block 34, and the Commit writes block 18,
+/// syncs, and writes block 1.
 const STOPPED_IN_THE_SELECTOR: &str = "
     format 64
     open
@@ -33,8 +34,8 @@ fn torn_selector_that_is_odd_shows_the_new_entries(rt: HostRuntime) {
     on_both(&rt, &["stop 14 A5 00", STOPPED_IN_THE_SELECTOR, row]);
 }
 
-// Opening a new store makes four device calls, the Put one, and the Commit writes the slot, syncs,
-// and then writes the selector.
+/// Opening a new store makes four device calls, the Put one, and the Commit writes the slot, syncs,
+/// and then writes the selector.
 #[test]
 fn selector_that_was_torn_to_an_even_byte_names_slot_a(rt: HostRuntime) {
     let row = "
@@ -50,7 +51,7 @@ fn selector_that_was_torn_to_an_even_byte_names_slot_a(rt: HostRuntime) {
     in_memory(&rt, &[row]);
 }
 
-// The second Commit writes block 2, syncs, writes block 1, and its last sync is device call 22.
+/// The second Commit writes block 2, syncs, writes block 1, and its last sync is device call 22.
 #[test]
 fn commit_whose_last_sync_fails_may_be_shown(rt: HostRuntime) {
     let row = "
@@ -94,7 +95,7 @@ fn put_that_is_not_committed_is_gone_after_a_crash(rt: HostRuntime) {
     }
 }
 
-// The Puts write the blocks 35 and 36. The crash takes other bytes into both.
+/// The Puts write the blocks 35 and 36. The crash takes other bytes into both.
 #[test]
 fn crash_after_a_closing_shows_what_was_committed(rt: HostRuntime) {
     let row = "
@@ -114,7 +115,7 @@ fn crash_after_a_closing_shows_what_was_committed(rt: HostRuntime) {
     }
 }
 
-// The second Commit is stopped inside its first write, which is device call 19.
+/// The second Commit is stopped inside its first write, which is device call 19.
 #[test]
 fn slot_that_is_not_in_use_may_be_torn(rt: HostRuntime) {
     let row = "
@@ -138,8 +139,8 @@ fn slot_that_is_not_in_use_may_be_torn(rt: HostRuntime) {
     }
 }
 
-// Opening the store of `duct` makes five device calls, the Put two, and the Commit four. `pipe` is in block 35
-// then: the second Put takes block 34, and the Remove block 36.
+/// Opening the store of `duct` makes five device calls, the Put two, and the Commit four. `pipe` is
+/// in block 35 then: the second Put takes block 34, and the Remove block 36.
 #[test]
 fn what_was_removed_and_not_committed_leaves_no_trace_after_a_stop(rt: HostRuntime) {
     let row = "

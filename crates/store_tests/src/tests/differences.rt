@@ -12,7 +12,7 @@ fn value_that_is_written_again_is_no_change(rt: HostRuntime) {
     on_both(&rt, &[NEW, row]);
 }
 
-// The base of `top` has no records.
+/// The base of `top` has no records.
 #[test]
 fn changes_are_listed_by_rising_keys(rt: HostRuntime) {
     let row = "

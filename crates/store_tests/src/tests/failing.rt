@@ -3,7 +3,7 @@ use super::records::TWO_RECORDS;
 use super::script::{DUCT, in_memory, on_both};
 use super::settling::CONFLICT;
 
-// Opening the store of `duct` makes five device calls: a sync, and four reads.
+/// Opening the store of `duct` makes five device calls: a sync, and four reads.
 #[test]
 fn get_goes_on_after_a_failed_read(rt: HostRuntime) {
     let row = "
@@ -26,7 +26,7 @@ fn list_goes_on_after_a_failed_read(rt: HostRuntime) {
     in_memory(&rt, &[DUCT, row]);
 }
 
-// `changes` reads two blocks, and `conflicts` four.
+/// `changes` reads two blocks, and `conflicts` four.
 #[test]
 fn differences_go_on_after_a_failed_read(rt: HostRuntime) {
     let conflicts = "
@@ -69,7 +69,7 @@ fn store_fails_after_a_failed_write(rt: HostRuntime) {
     on_both(&rt, &[DUCT, row]);
 }
 
-// The write of the first Put fails.
+/// The write of the first Put fails.
 #[test]
 fn failed_store_lists_nothing(rt: HostRuntime) {
     let row = "
@@ -120,8 +120,9 @@ fn store_fails_after_a_failed_remove(rt: HostRuntime) {
     }
 }
 
-// Opening the store of the conflict makes seven device calls. The Merge reads the blocks of the base and the
-// parent, those of the base and the alternative, and the alternative's once more, and writes one.
+/// Opening the store of the conflict makes seven device calls. The Merge reads the blocks of the
+/// base and the parent, those of the base and the alternative, and the alternative's once more, and
+/// writes one.
 #[test]
 fn store_fails_after_a_failed_merge(rt: HostRuntime) {
     let row = "
@@ -149,8 +150,8 @@ fn store_fails_after_a_failed_merge(rt: HostRuntime) {
     }
 }
 
-// The parent has the records of the base in another block. Opening makes six device calls, and the Post
-// reads both blocks.
+/// The parent has the records of the base in another block. Opening makes six device calls, and the
+/// Post reads both blocks.
 #[test]
 fn store_fails_after_a_failed_post(rt: HostRuntime) {
     let made = "

@@ -1,7 +1,7 @@
 //! A store that gets more blocks, on a disk with room for them, on one without, and on one that has them.
 use super::script::{DUCT, NEW, in_memory, on_both, with_room};
 
-// The device calls are those of the opening.
+/// The device calls are those of the opening.
 #[test]
 fn bad_size_changes_nothing(rt: HostRuntime) {
     let row = "
@@ -18,7 +18,8 @@ fn bad_size_changes_nothing(rt: HostRuntime) {
     with_room(&rt, 128, &[NEW, row]);
 }
 
-// Of 128 blocks 34 are the store's own. The Put takes block 34, and the crash takes the new blocks away.
+/// Of 128 blocks 34 are the store's own. The Put takes block 34, and the crash takes the new blocks
+/// away.
 #[test]
 fn growth_that_is_not_committed_is_gone_after_a_crash(rt: HostRuntime) {
     let row = "
@@ -46,7 +47,7 @@ fn growth_that_is_not_committed_is_gone_after_a_crash(rt: HostRuntime) {
     with_room(&rt, 128, &[NEW, row]);
 }
 
-// The disk keeps the blocks that it got, so the second Grow makes no device call.
+/// The disk keeps the blocks that it got, so the second Grow makes no device call.
 #[test]
 fn growth_that_is_not_committed_is_gone_after_closing(rt: HostRuntime) {
     let row = "
@@ -65,8 +66,8 @@ fn growth_that_is_not_committed_is_gone_after_closing(rt: HostRuntime) {
     with_room(&rt, 128, &[NEW, row]);
 }
 
-// Block 0 has no number of blocks. Slot A, which the Commit writes, has 80, which is 50 in hexadecimal digits,
-// and slot B has 64 as before.
+/// Block 0 has no number of blocks. Slot A, which the Commit writes, has 80, which is 50 in
+/// hexadecimal digits, and slot B has 64 as before.
 #[test]
 fn commit_writes_the_new_number_of_blocks(rt: HostRuntime) {
     let row = "
@@ -81,7 +82,7 @@ fn commit_writes_the_new_number_of_blocks(rt: HostRuntime) {
     with_room(&rt, 80, &[DUCT, row]);
 }
 
-// The checkpoints keep the blocks 34 to 73, and the last two Puts take 74 and 75.
+/// The checkpoints keep the blocks 34 to 73, and the last two Puts take 74 and 75.
 #[test]
 fn new_blocks_are_taken_kept_and_found_again(rt: HostRuntime) {
     let row = "
@@ -105,7 +106,8 @@ fn new_blocks_are_taken_kept_and_found_again(rt: HostRuntime) {
     with_room(&rt, 96, &[NEW, row]);
 }
 
-// 30 blocks are for data. Each of the 15 checkpoints keeps one, so 15 are spare, and one more with the new one.
+/// 30 blocks are for data. Each of the 15 checkpoints keeps one, so 15 are spare, and one more with
+/// the new one.
 #[test]
 fn growth_makes_room_for_a_put(rt: HostRuntime) {
     let row = "
@@ -121,7 +123,7 @@ fn growth_makes_room_for_a_put(rt: HostRuntime) {
     with_room(&rt, 65, &[NEW, row]);
 }
 
-// Opening makes four device calls.
+/// Opening makes four device calls.
 #[test]
 fn store_fails_where_the_disk_has_no_room(rt: HostRuntime) {
     let row = "
@@ -139,14 +141,14 @@ fn store_fails_where_the_disk_has_no_room(rt: HostRuntime) {
     on_both(&rt, &[NEW, row]);
 }
 
-// It is no bad size.
+/// It is no bad size.
 #[test]
 fn store_may_ask_for_as_many_blocks_as_one_may_have(rt: HostRuntime) {
     in_memory(&rt, &[NEW, "grow 1048576 -> error 15 Device"]);
 }
 
-// The store is on the first 64 of 130 blocks. There is room for 140, and only for more than 130 the disk is
-// asked.
+/// The store is on the first 64 of 130 blocks. There is room for 140, and only for more than 130
+/// the disk is asked.
 #[test]
 fn growth_within_the_disk_makes_no_device_call(rt: HostRuntime) {
     let row = "
@@ -190,7 +192,7 @@ fn growth_within_the_disk_makes_no_device_call(rt: HostRuntime) {
     with_room(&rt, 140, &[row, committed]);
 }
 
-// A crash has left 6 of 16 new blocks. Opening makes five device calls.
+/// A crash has left 6 of 16 new blocks. Opening makes five device calls.
 #[test]
 fn blocks_that_a_crash_has_left_are_used(rt: HostRuntime) {
     let row = "
@@ -215,7 +217,7 @@ fn blocks_that_a_crash_has_left_are_used(rt: HostRuntime) {
     with_room(&rt, 80, &[DUCT, row]);
 }
 
-// Two Puts write the blocks 34 and 35.
+/// Two Puts write the blocks 34 and 35.
 #[test]
 fn growth_stands_among_other_commands(rt: HostRuntime) {
     let row = "
@@ -239,7 +241,8 @@ fn list_ends_where_the_disk_has_no_room(rt: HostRuntime) {
     in_memory(&rt, &[NEW, row]);
 }
 
-// Puts and the Merge write the blocks 34 to 38. The checkpoint keeps block 34, and all else is in block 38.
+/// Puts and the Merge write the blocks 34 to 38. The checkpoint keeps block 34, and all else is in
+/// block 38.
 #[test]
 fn growth_is_no_part_of_an_alternative_or_a_checkpoint(rt: HostRuntime) {
     let row = "
@@ -271,7 +274,8 @@ fn growth_is_no_part_of_an_alternative_or_a_checkpoint(rt: HostRuntime) {
     with_room(&rt, 130, &[NEW, row]);
 }
 
-// What is shown after a crash before the Commit of a growth, and the same once more without a crash.
+/// What is shown after a crash before the Commit of a growth, and the same once more without a
+/// crash.
 const AS_BEFORE: &str = "
     open
     blocks -> 64
@@ -289,8 +293,8 @@ const AS_BEFORE: &str = "
     free -> 45
     list top -> 7:1=duct 7:2=pipe";
 
-// Opening makes five device calls, the Grow one, the Put two, and the Commit four: it writes the slot, syncs,
-// writes the selector, and syncs.
+/// Opening makes five device calls, the Grow one, the Put two, and the Commit four: it writes the
+/// slot, syncs, writes the selector, and syncs.
 #[test]
 fn crash_before_the_first_sync_shows_the_old_number_of_blocks(rt: HostRuntime) {
     let closed = "
@@ -330,7 +334,8 @@ fn crash_before_the_first_sync_shows_the_old_number_of_blocks(rt: HostRuntime) {
     }
 }
 
-// All blocks are sure then. An odd selector names slot B, which says 64 blocks, and an even one slot A.
+/// All blocks are sure then. An odd selector names slot B, which says 64 blocks, and an even one
+/// slot A.
 #[test]
 fn crash_after_the_first_sync_shows_either_number_of_blocks(rt: HostRuntime) {
     let row = "
@@ -355,7 +360,7 @@ fn crash_after_the_first_sync_shows_either_number_of_blocks(rt: HostRuntime) {
     }
 }
 
-// The Grow makes the sixth device call.
+/// The Grow makes the sixth device call.
 #[test]
 fn growth_that_the_device_fails_changes_nothing(rt: HostRuntime) {
     let row = "

@@ -62,7 +62,7 @@ impl Disk for KeepingDisk {
         self.inner.write(n, from)
     }
 
-    // To write the same bytes once more is one way to forget them.
+    /// To write the same bytes once more is one way to forget them.
     fn forget(&mut self, n: u32) {
         let at = n as usize;
         if at < self.written.len() {

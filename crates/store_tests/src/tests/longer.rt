@@ -1,7 +1,7 @@
 //! A store on a disk that has more blocks than the store, and that a crash may leave shorter.
 use super::script::{DUCT, with_room};
 
-// The disk was made longer behind the store's back: its blocks from 64 on are none of the store's.
+/// The disk was made longer behind the store's back: its blocks from 64 on are none of the store's.
 #[test]
 fn a_longer_disk_shows_the_same_store(rt: HostRuntime) {
     let row = "
@@ -23,7 +23,7 @@ fn a_longer_disk_shows_the_same_store(rt: HostRuntime) {
     with_room(&rt, 80, &[DUCT, row]);
 }
 
-// The rest of a row, after a crash that left some of the new blocks.
+/// The rest of a row, after a crash that left some of the new blocks.
 const ONLY_DUCT: &str = "
     open
     list top -> 7:1=duct

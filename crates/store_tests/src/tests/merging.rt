@@ -64,7 +64,7 @@ fn back_restores_the_base_too(rt: HostRuntime) {
     on_both(&rt, &[NEW, row]);
 }
 
-// Two settlements of one key come after the tests of the alternative.
+/// Two settlements of one key come after the tests of the alternative.
 #[test]
 fn merge_and_post_want_an_alternative_with_a_parent(rt: HostRuntime) {
     let row = "
@@ -96,7 +96,7 @@ fn record_that_only_the_parent_took_out_goes_in_a_merge(rt: HostRuntime) {
     in_memory(&rt, &[NEW, row]);
 }
 
-// What was settled stays so: the parent's value is the base's from the Merge on.
+/// What was settled stays so: the parent's value is the base's from the Merge on.
 #[test]
 fn merge_makes_the_parents_records_the_base(rt: HostRuntime) {
     let row = "

@@ -23,7 +23,7 @@ fn alternative_begins_at_a_checkpoint(rt: HostRuntime) {
     on_both(&rt, &[NEW, row]);
 }
 
-// The checkpoint has changed records, so its base is not what it shows.
+/// The checkpoint has changed records, so its base is not what it shows.
 #[test]
 fn base_is_what_the_checkpoint_shows(rt: HostRuntime) {
     let row = "
@@ -58,7 +58,7 @@ fn what_is_missing_comes_before_too_many(rt: HostRuntime) {
     on_both(&rt, &[NEW, row]);
 }
 
-// An opening of an empty store makes four device calls.
+/// An opening of an empty store makes four device calls.
 #[test]
 fn beginning_at_a_checkpoint_makes_no_device_call(rt: HostRuntime) {
     let row = "

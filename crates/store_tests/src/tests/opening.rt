@@ -8,7 +8,7 @@ use vm_disk::{Disk, MemDisk};
 use vm_store::{format, open};
 use vm_types::{Command, Key, Name, Value};
 
-// Block 34 is a node of level one, whose child is itself.
+/// Block 34 is a node of level one, whose child is itself.
 #[test]
 fn root_that_is_no_leaf_is_damage(rt: HostRuntime) {
     let row = "
@@ -39,7 +39,7 @@ fn store_larger_than_its_disk_is_refused(rt: HostRuntime) {
     in_memory(&rt, &[DUCT, "set 18 8:41", "open -> error 21 BadSize"]);
 }
 
-// A disk on which `duct` is committed, in block 34.
+/// A disk on which `duct` is committed, in block 34.
 fn duct_disk(alloc: Global) -> Result<MemDisk, Fail> {
     let (table, number) = (7, 1);
     let put = Command::Put {
@@ -56,8 +56,8 @@ fn duct_disk(alloc: Global) -> Result<MemDisk, Fail> {
     Ok(disk)
 }
 
-// `top` with `duct` in block 34, an alternative `a` under it and a checkpoint `c` of `a`, whose roots
-// are these.
+/// `top` with `duct` in block 34, an alternative `a` under it and a checkpoint `c` of `a`, whose
+/// roots are these.
 fn entries(alternative: (u32, u32), checkpoint: (u32, u32)) -> Option<[Entry; 3]> {
     let (top, a, c) = (Name::new(b"top")?, Name::new(b"a")?, Name::new(b"c")?);
     let entry = |kind: Kind, name: Name, owner: Option<Name>, roots: (u32, u32)| Entry {
@@ -74,7 +74,7 @@ fn entries(alternative: (u32, u32), checkpoint: (u32, u32)) -> Option<[Entry; 3]
     ])
 }
 
-// The disk of `duct` with these entries in slot B, which is in use.
+/// The disk of `duct` with these entries in slot B, which is in use.
 fn disk_of(
     alloc: Global,
     alternative: (u32, u32),
@@ -100,7 +100,7 @@ fn slot_of_several_entries_is_opened(rt: HostRuntime) -> Result<(), Fail> {
     Ok(())
 }
 
-// Blocks 35 to 38 are no leaves. Roots are tested entry by entry, the current one before the base.
+/// Blocks 35 to 38 are no leaves. Roots are tested entry by entry, the current one before the base.
 #[test]
 fn first_root_without_a_map_is_named(rt: HostRuntime) -> Result<(), Fail> {
     for (alternative, checkpoint, row) in [

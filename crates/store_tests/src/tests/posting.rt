@@ -1,7 +1,7 @@
 //! What a Post answers, and what it leaves in both alternatives.
 use super::script::{NEW, in_memory, on_both};
 
-// The parent has the records of the base again, in another block.
+/// The parent has the records of the base again, in another block.
 #[test]
 fn parent_that_went_back_to_the_base_is_merged(rt: HostRuntime) {
     let row = "

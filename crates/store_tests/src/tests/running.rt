@@ -18,8 +18,8 @@ fn empty_list_has_no_answers(rt: HostRuntime) {
     in_memory(&rt, &[NEW, "run -> end"]);
 }
 
-// Formatting and opening make eleven device calls, the Put one, and the Commit's first sync is the
-// third after these.
+/// Formatting and opening make eleven device calls, the Put one, and the Commit's first sync is the
+/// third after these.
 #[test]
 fn list_ends_where_the_device_fails(rt: HostRuntime) {
     let row = "
@@ -37,8 +37,8 @@ fn list_ends_where_the_device_fails(rt: HostRuntime) {
     in_memory(&rt, &[row]);
 }
 
-// Of 64 blocks 34 are the store's own. The first Put takes a leaf, the second a copy of it, and then
-// no version reaches the first leaf any longer.
+/// Of 64 blocks 34 are the store's own. The first Put takes a leaf, the second a copy of it, and
+/// then no version reaches the first leaf any longer.
 #[test]
 fn reclaim_in_a_list_leaves_the_spare_blocks_free(rt: HostRuntime) {
     let row = "

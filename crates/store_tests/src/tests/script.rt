@@ -90,7 +90,7 @@ enum Bench<D: Disk> {
 /// What a step leaves, and its answer.
 type Played<M> = Result<(Bench<FuseDisk<M>>, String), Wrong>;
 
-// A device that fails after so many calls: once, or each call from there on.
+/// A device that fails after so many calls: once, or each call from there on.
 fn device<M: OverMemory>(
     alloc: Global,
     disk: MemDisk,
@@ -107,7 +107,7 @@ fn device<M: OverMemory>(
     })
 }
 
-// What a crash may leave: `all=41` fills each block with this byte, and `35=FF` one of them.
+/// What a crash may leave: `all=41` fills each block with this byte, and `35=FF` one of them.
 fn filling(alloc: Global, blocks: u32, words: &[&str]) -> Result<Vec<(u32, [u8; 4096])>, Wrong> {
     let mut filling = Vec::new(alloc);
     for word in words {
@@ -125,7 +125,7 @@ fn filling(alloc: Global, blocks: u32, words: &[&str]) -> Result<Vec<(u32, [u8; 
     Ok(filling)
 }
 
-// The disk after a crash that leaves so many blocks.
+/// The disk after a crash that leaves so many blocks.
 fn short(alloc: Global, disk: MemDisk, blocks: u32, fills: &[&str]) -> Result<MemDisk, Wrong> {
     if blocks < disk.sure() || blocks > disk.blocks() {
         return Err(Wrong::Unreadable);
@@ -134,7 +134,7 @@ fn short(alloc: Global, disk: MemDisk, blocks: u32, fills: &[&str]) -> Result<Me
     Ok(disk.crash_short(&filling, blocks))
 }
 
-// The disk with other bytes.
+/// The disk with other bytes.
 fn changed(alloc: Global, mut disk: MemDisk, words: &[&str]) -> Result<MemDisk, Wrong> {
     match words {
         ["anew"] => {}
@@ -151,7 +151,7 @@ fn changed(alloc: Global, mut disk: MemDisk, words: &[&str]) -> Result<MemDisk, 
     Ok(disk)
 }
 
-// The device anew.
+/// The device anew.
 fn renewed<M: OverMemory>(
     alloc: Global,
     disk: MemDisk,
@@ -168,7 +168,7 @@ fn renewed<M: OverMemory>(
     }
 }
 
-// Asks for so many blocks, and tells whether they are there.
+/// Asks for so many blocks, and tells whether they are there.
 fn lengthen<D: Disk>(disk: &mut D, blocks: u32) -> Result<&'static str, Wrong> {
     if blocks < disk.blocks() {
         return Err(Wrong::Unreadable);
@@ -189,7 +189,7 @@ fn dirty_blocks(alloc: Global, disk: &MemDisk) -> Result<String, Wrong> {
     Ok(text)
 }
 
-// Plays a step while no store is open.
+/// Plays a step while no store is open.
 fn play_shut<M: OverMemory>(alloc: Global, mut disk: FuseDisk<M>, words: &[&str]) -> Played<M> {
     let ok = String::from_str(alloc, "ok")?;
     match words {
@@ -235,7 +235,7 @@ fn play_shut<M: OverMemory>(alloc: Global, mut disk: FuseDisk<M>, words: &[&str]
     }
 }
 
-// Plays a step while a store is open.
+/// Plays a step while a store is open.
 fn play_open<M: OverMemory>(
     alloc: Global,
     mut store: Store<FuseDisk<M>>,
@@ -255,7 +255,7 @@ fn play_open<M: OverMemory>(
     }
 }
 
-// Plays a step.
+/// Plays a step.
 fn play<M: OverMemory>(alloc: Global, bench: Bench<FuseDisk<M>>, step: &str) -> Played<M> {
     match bench {
         Bench::Shut(disk) => {
@@ -272,7 +272,7 @@ fn play<M: OverMemory>(alloc: Global, bench: Bench<FuseDisk<M>>, step: &str) -> 
     }
 }
 
-// Plays the lines of a text, and compares each answer.
+/// Plays the lines of a text, and compares each answer.
 fn plays<M: OverMemory, R: AllocGlobal + Abort>(
     rt: &R,
     on: &str,
@@ -298,7 +298,7 @@ fn plays<M: OverMemory, R: AllocGlobal + Abort>(
     bench
 }
 
-// Plays texts one after another on a disk.
+/// Plays texts one after another on a disk.
 fn plays_all<M: OverMemory, R: AllocGlobal + Abort>(
     rt: &R,
     on: &str,

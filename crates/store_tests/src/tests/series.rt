@@ -3,7 +3,7 @@
 use super::records::TWO_RECORDS;
 use super::script::{NEW, SEVENTEEN, and_late, in_256_blocks, on_both, on_each};
 
-// Each Put takes a block, from 34 on.
+/// Each Put takes a block, from 34 on.
 #[test]
 fn each_put_but_the_first_forgets_the_leaf_before(rt: HostRuntime) {
     for (puts, forgotten) in [
@@ -15,8 +15,8 @@ fn each_put_but_the_first_forgets_the_leaf_before(rt: HostRuntime) {
     }
 }
 
-// The sixteenth Put takes block 49, and the next two leaves and a root. The other three take a leaf and a root
-// each. The first leaf, the last one and the last root are left.
+/// The sixteenth Put takes block 49, and the next two leaves and a root. The other three take a
+/// leaf and a root each. The first leaf, the last one and the last root are left.
 #[test]
 fn load_leaves_nothing_but_its_tree(rt: HostRuntime) {
     let row = "
@@ -31,8 +31,8 @@ fn load_leaves_nothing_but_its_tree(rt: HostRuntime) {
     in_256_blocks(&rt, &[row]);
 }
 
-// The sixteenth Put finds 15 free blocks and marks, which leaves block 48 alone. It takes block 34 again, and the
-// next one three blocks.
+/// The sixteenth Put finds 15 free blocks and marks, which leaves block 48 alone. It takes block 34
+/// again, and the next one three blocks.
 #[test]
 fn a_series_goes_on_over_a_marking(rt: HostRuntime) {
     let row = "
@@ -45,7 +45,8 @@ fn a_series_goes_on_over_a_marking(rt: HostRuntime) {
     on_both(&rt, &[row]);
 }
 
-// Block 34 is committed. The fifteenth Put behind it finds 15 free blocks and marks, which leaves 34 and 48.
+/// Block 34 is committed. The fifteenth Put behind it finds 15 free blocks and marks, which leaves
+/// 34 and 48.
 #[test]
 fn what_is_committed_is_not_forgotten_after_a_marking(rt: HostRuntime) {
     let row = "
@@ -62,8 +63,9 @@ fn what_is_committed_is_not_forgotten_after_a_marking(rt: HostRuntime) {
     on_both(&rt, &[row]);
 }
 
-// The root is in block 37, over the leaves 35 and 36, which are committed. The second Put replaces the leaf and the
-// root of the first, the third one the leaf 36 and the root of the second, and the Remove both of the third.
+/// The root is in block 37, over the leaves 35 and 36, which are committed. The second Put replaces
+/// the leaf and the root of the first, the third one the leaf 36 and the root of the second, and
+/// the Remove both of the third.
 #[test]
 fn blocks_from_before_the_series_are_not_forgotten(rt: HostRuntime) {
     let [one, two, three, four] = [
@@ -105,7 +107,7 @@ fn removes_forget_what_the_series_took(rt: HostRuntime) {
     and_late(&rt, &[TWO_RECORDS, row]);
 }
 
-// Alternatives `a` under `top` and `b` under `a`, with a record each, in the blocks 34 and 35.
+/// Alternatives `a` under `top` and `b` under `a`, with a record each, in the blocks 34 and 35.
 const BRANCHES: &str = "
     format 64
     open
@@ -119,7 +121,7 @@ const BRANCHES: &str = "
     anew
     open";
 
-// The first Put takes block 36.
+/// The first Put takes block 36.
 #[test]
 fn each_other_command_that_is_served_ends_the_series(rt: HostRuntime) {
     for between in [
@@ -182,7 +184,7 @@ fn queries_and_refused_commands_do_not_end_it(rt: HostRuntime) {
     }
 }
 
-// The Puts take the blocks 36 to 38.
+/// The Puts take the blocks 36 to 38.
 #[test]
 fn a_series_begins_after_one_that_ended(rt: HostRuntime) {
     let row = "
@@ -195,7 +197,7 @@ fn a_series_begins_after_one_that_ended(rt: HostRuntime) {
     and_late(&rt, &[BRANCHES, row]);
 }
 
-// The Puts take the blocks 34 to 36, and the changes of the Merge the next three.
+/// The Puts take the blocks 34 to 36, and the changes of the Merge the next three.
 #[test]
 fn merge_forgets_what_its_own_changes_replace(rt: HostRuntime) {
     let row = "
@@ -210,20 +212,20 @@ fn merge_forgets_what_its_own_changes_replace(rt: HostRuntime) {
     in_256_blocks(&rt, &[row]);
 }
 
-// The store closed, and opened again on what is committed.
+/// The store closed, and opened again on what is committed.
 const ANEW: &str = "
     commit
     close
     anew
     open";
 
-// The same after a crash that leaves nothing of what is not synced.
+/// The same after a crash that leaves nothing of what is not synced.
 const CRASH: &str = "
     close
     crash all=41
     open";
 
-// All commands, with series of each kind among them, and after each Commit an opening.
+/// All commands, with series of each kind among them, and after each Commit an opening.
 #[test]
 fn a_session_shows_the_same_on_each_disk(rt: HostRuntime) {
     let made = "

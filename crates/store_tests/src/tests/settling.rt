@@ -15,7 +15,7 @@ pub(super) const CONFLICT: &str = "
     close
     anew";
 
-// A key that is settled twice comes first, then one that is in no conflict, and then what is left.
+/// A key that is settled twice comes first, then one that is in no conflict, and then what is left.
 #[test]
 fn settlements_are_tested_in_their_order(rt: HostRuntime) {
     let made = "
@@ -48,9 +48,9 @@ fn settlements_are_tested_in_their_order(rt: HostRuntime) {
     );
 }
 
-// Records 1 to 4 are in conflict: both sides changed the first, one took out the second or the third, and
-// both added the fourth. The parent alone changed the fifth, the alternative alone added the sixth, and both
-// added the same as the seventh.
+/// Records 1 to 4 are in conflict: both sides changed the first, one took out the second or the
+/// third, and both added the fourth. The parent alone changed the fifth, the alternative alone
+/// added the sixth, and both added the same as the seventh.
 #[test]
 fn absence_counts_as_a_value_in_conflicts(rt: HostRuntime) {
     let row = "

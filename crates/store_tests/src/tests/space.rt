@@ -24,7 +24,8 @@ fn reclaim_frees_what_no_version_needs(rt: HostRuntime) {
     in_memory(&rt, &[DUCT, row]);
 }
 
-// The Put takes one of thirty blocks. A new alternative shares its parent's, and what is refused takes none.
+/// The Put takes one of thirty blocks. A new alternative shares its parent's, and what is refused
+/// takes none.
 #[test]
 fn what_is_refused_takes_no_block(rt: HostRuntime) {
     let row = "
@@ -41,8 +42,8 @@ fn what_is_refused_takes_no_block(rt: HostRuntime) {
     in_memory(&rt, &[NEW, row]);
 }
 
-// Fifteen Puts take the blocks 34 to 48. The sixteenth finds fifteen free and marks: block 48 alone
-// stays held, and the Put takes block 34.
+/// Fifteen Puts take the blocks 34 to 48. The sixteenth finds fifteen free and marks: block 48
+/// alone stays held, and the Put takes block 34.
 #[test]
 fn put_marks_where_fewer_than_16_blocks_are_free(rt: HostRuntime) {
     let row = "
@@ -83,8 +84,9 @@ fn put_marks_where_fewer_than_16_blocks_are_free(rt: HostRuntime) {
     in_memory(&rt, &[NEW, row]);
 }
 
-// The seventeenth record splits the leaf: two leaves and a root are written. The Remove of the eleventh
-// record marks, and that of the tenth leaves nine records, which are the first leaf: it writes no block.
+/// The seventeenth record splits the leaf: two leaves and a root are written. The Remove of the
+/// eleventh record marks, and that of the tenth leaves nine records, which are the first leaf: it
+/// writes no block.
 #[test]
 fn leaf_is_split_and_takes_the_place_of_the_root_again(rt: HostRuntime) {
     let row = "
@@ -123,8 +125,8 @@ fn leaf_is_split_and_takes_the_place_of_the_root_again(rt: HostRuntime) {
     on_both(&rt, &[NEW, row]);
 }
 
-// A root over two leaves is the current map of both alternatives, and the base of one: each of the
-// three blocks is held once. A record changed in one of them takes a leaf and a root more.
+/// A root over two leaves is the current map of both alternatives, and the base of one: each of the
+/// three blocks is held once. A record changed in one of them takes a leaf and a root more.
 #[test]
 fn shared_blocks_are_held_once(rt: HostRuntime) {
     let row = "
@@ -135,7 +137,7 @@ fn shared_blocks_are_held_once(rt: HostRuntime) {
     in_memory(&rt, &[SEVENTEEN, row]);
 }
 
-// 30 blocks are for data. Each of the 15 checkpoints keeps one, so 15 are spare for the next Put.
+/// 30 blocks are for data. Each of the 15 checkpoints keeps one, so 15 are spare for the next Put.
 #[test]
 fn checkpoints_keep_their_blocks(rt: HostRuntime) {
     let row = "
@@ -150,7 +152,7 @@ fn checkpoints_keep_their_blocks(rt: HostRuntime) {
     on_both(&rt, &[NEW, row]);
 }
 
-// Nine changes ask for 144 spare blocks. 28 are spare beside the two leaves.
+/// Nine changes ask for 144 spare blocks. 28 are spare beside the two leaves.
 #[test]
 fn merge_is_refused_where_too_few_blocks_are_spare(rt: HostRuntime) {
     let row = "
@@ -167,8 +169,8 @@ fn merge_is_refused_where_too_few_blocks_are_spare(rt: HostRuntime) {
     in_memory(&rt, &[NEW, row]);
 }
 
-// 205 of 222 blocks are free before it. The first eight changes write a leaf each, and the ninth two leaves
-// and a root.
+/// 205 of 222 blocks are free before it. The first eight changes write a leaf each, and the ninth
+/// two leaves and a root.
 #[test]
 fn merge_makes_one_change_after_another(rt: HostRuntime) {
     let row = "
@@ -188,8 +190,8 @@ fn merge_makes_one_change_after_another(rt: HostRuntime) {
     in_256_blocks(&rt, &[row]);
 }
 
-// 30 blocks are for data. Each of the 15 checkpoints keeps one, so 15 are spare, and one more after an
-// Uncheck. A Merge without changes asks for none.
+/// 30 blocks are for data. Each of the 15 checkpoints keeps one, so 15 are spare, and one more
+/// after an Uncheck. A Merge without changes asks for none.
 #[test]
 fn merge_of_one_record_asks_for_sixteen_spare_blocks(rt: HostRuntime) {
     let row = "
@@ -207,7 +209,7 @@ fn merge_of_one_record_asks_for_sixteen_spare_blocks(rt: HostRuntime) {
     in_memory(&rt, &[NEW, row]);
 }
 
-// The map has two leaves under a root, so each change writes two blocks.
+/// The map has two leaves under a root, so each change writes two blocks.
 #[test]
 fn merge_brings_changes_into_a_map_of_two_levels(rt: HostRuntime) {
     let row = "

@@ -1,8 +1,8 @@
 //! How far an alternative has gone from its base and from its parent.
 use super::script::{NEW, in_256_blocks, on_both};
 
-// Both sides changed the first record, the parent alone the second and the fourth, the alternative alone the
-// third. A merge takes the parent's three, and a post leaves nothing.
+/// Both sides changed the first record, the parent alone the second and the fourth, the alternative
+/// alone the third. A merge takes the parent's three, and a post leaves nothing.
 #[test]
 fn tallies_follow_merges_and_posts(rt: HostRuntime) {
     let row = "
@@ -26,7 +26,7 @@ fn tallies_follow_merges_and_posts(rt: HostRuntime) {
     in_256_blocks(&rt, &[row]);
 }
 
-// What a parent took in of its own parent is a change of it. A record that it put back is none.
+/// What a parent took in of its own parent is a change of it. A record that it put back is none.
 #[test]
 fn tallies_are_between_an_alternative_and_its_own_parent(rt: HostRuntime) {
     let row = "

@@ -77,7 +77,7 @@ fn checkpoints_go_with_their_alternative(rt: HostRuntime) {
     in_memory(&rt, &[NEW, row]);
 }
 
-// The name has the greatest length.
+/// The name has the greatest length.
 #[test]
 fn versions_are_there_after_opening(rt: HostRuntime) {
     let row = "
@@ -96,7 +96,7 @@ fn versions_are_there_after_opening(rt: HostRuntime) {
     in_memory(&rt, &[NEW, row]);
 }
 
-// Opening makes 4 device calls, and the Commit 19.
+/// Opening makes 4 device calls, and the Commit 19.
 #[test]
 fn five_hundred_and_eleven_entries_are_the_most(rt: HostRuntime) {
     let row = "
@@ -117,7 +117,7 @@ fn five_hundred_and_eleven_entries_are_the_most(rt: HostRuntime) {
     on_both(&rt, &[row]);
 }
 
-// The device calls are those of the opening.
+/// The device calls are those of the opening.
 #[test]
 fn calls_that_change_entries_alone_make_no_device_call(rt: HostRuntime) {
     let row = "

@@ -60,7 +60,7 @@ pub(super) fn value(word: &str) -> Result<Value, Wrong> {
     Value::new(text.as_bytes()).ok_or(Wrong::Unreadable)
 }
 
-// A key and a side, as in `7:1=mine`.
+/// A key and a side, as in `7:1=mine`.
 fn settlement(word: &str) -> Result<(Key, Side), Wrong> {
     let (at, side) = word.split_once('=').ok_or(Wrong::Unreadable)?;
     let side = match side {

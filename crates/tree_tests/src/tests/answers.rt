@@ -9,14 +9,14 @@ use vm_disk::Disk;
 use vm_tree::{TreeFault, data_at, get, is_data, leaf_at, node_at, scan};
 use vm_types::Key;
 
-// Adds a record to a text.
+/// Adds a record to a text.
 fn add_record(text: &mut String, key: Key, value: &[u8]) -> Result<(), Wrong> {
     let value = str::from_utf8(value).map_err(|_| Wrong::Unreadable)?;
     write!(text, " {}={value}", key.number)?;
     Ok(())
 }
 
-// The value of a key, or `~`.
+/// The value of a key, or `~`.
 fn got(alloc: Global, bench: &mut Bench, number: u64) -> Result<String, Wrong> {
     let blocks = bench.disk.blocks();
     match get(&mut bench.disk, blocks, bench.root, key(number))? {
@@ -38,7 +38,7 @@ fn listed(alloc: Global, bench: &mut Bench) -> Result<String, Wrong> {
     Ok(text)
 }
 
-// The records of a leaf.
+/// The records of a leaf.
 fn leaf_text(alloc: Global, bench: &mut Bench, block: u32) -> Result<String, Wrong> {
     let blocks = bench.disk.blocks();
     let records = leaf_at(&mut bench.disk, blocks, block)?;
@@ -49,7 +49,7 @@ fn leaf_text(alloc: Global, bench: &mut Bench, block: u32) -> Result<String, Wro
     Ok(text)
 }
 
-// Lowest key and block of each child of an inner block of this level.
+/// Lowest key and block of each child of an inner block of this level.
 fn node_text(alloc: Global, bench: &mut Bench, above: u8, block: u32) -> Result<String, Wrong> {
     let blocks = bench.disk.blocks();
     let children = node_at(&mut bench.disk, blocks, above, block)?;
@@ -60,7 +60,7 @@ fn node_text(alloc: Global, bench: &mut Bench, above: u8, block: u32) -> Result<
     Ok(text)
 }
 
-// The bytes of a block for data.
+/// The bytes of a block for data.
 fn data_text(alloc: Global, bench: &mut Bench, block: u32) -> Result<String, Wrong> {
     let mut bytes = [1; 4096];
     let blocks = bench.disk.blocks();
@@ -72,7 +72,7 @@ fn data_text(alloc: Global, bench: &mut Bench, block: u32) -> Result<String, Wro
     bytes_text(alloc, &bytes)
 }
 
-// How many records each leaf has under a root of level 1.
+/// How many records each leaf has under a root of level 1.
 fn leaf_counts(alloc: Global, bench: &mut Bench) -> Result<String, Wrong> {
     let mut text = String::new(alloc);
     for at in 0..256 {
@@ -97,7 +97,7 @@ fn dirty_blocks(alloc: Global, bench: &Bench) -> Result<String, Wrong> {
     Ok(text)
 }
 
-// Lowest key and block of a child.
+/// Lowest key and block of a child.
 fn child_text(alloc: Global, bench: &mut Bench, block: u32, at: u32) -> Result<String, Wrong> {
     match child_at(&mut bench.disk, block, at)? {
         Some(child) => Ok(format!(in alloc; "{}:{}", child.low.number, child.block)?),
@@ -111,7 +111,7 @@ fn root_text(alloc: Global, bench: &Bench) -> Result<String, Wrong> {
     Ok(text)
 }
 
-// The blocks that the last put or remove replaced, from the leaf up.
+/// The blocks that the last put or remove replaced, from the leaf up.
 fn path_text(alloc: Global, bench: &Bench) -> Result<String, Wrong> {
     let mut text = String::new(alloc);
     for block in &bench.path {
@@ -122,13 +122,13 @@ fn path_text(alloc: Global, bench: &Bench) -> Result<String, Wrong> {
     Ok(text)
 }
 
-// Holds the lowest free block.
+/// Holds the lowest free block.
 fn taken(alloc: Global, bench: &mut Bench) -> Result<String, Wrong> {
     let block = bench.held.take().ok_or(Wrong::Unreadable)?;
     Ok(format!(in alloc; "{block}")?)
 }
 
-// The answer to a step that looks at blocks.
+/// The answer to a step that looks at blocks.
 fn look(alloc: Global, bench: &mut Bench, words: &[&str]) -> Result<String, Wrong> {
     match words {
         ["bytes", n] => bytes_text(alloc, &bytes_of(&mut bench.disk, number(n)?)?),
@@ -146,7 +146,7 @@ fn look(alloc: Global, bench: &mut Bench, words: &[&str]) -> Result<String, Wron
     }
 }
 
-// The answer to a step that asks for what the map has, or walks it.
+/// The answer to a step that asks for what the map has, or walks it.
 fn ask(alloc: Global, bench: &mut Bench, words: &[&str]) -> Result<String, Wrong> {
     match words {
         ["get", number] => got(alloc, bench, long(number)?),
@@ -165,7 +165,7 @@ fn ask(alloc: Global, bench: &mut Bench, words: &[&str]) -> Result<String, Wrong
     }
 }
 
-// The answer to a step that gives one.
+/// The answer to a step that gives one.
 fn given(alloc: Global, bench: &mut Bench, words: &[&str]) -> Result<String, Wrong> {
     if let Some(text) = change(bench, words)? {
         return Ok(String::from_str(alloc, text)?);
@@ -176,7 +176,7 @@ fn given(alloc: Global, bench: &mut Bench, words: &[&str]) -> Result<String, Wro
     ask(alloc, bench, words)
 }
 
-// How a fault is written.
+/// How a fault is written.
 fn fault_text(alloc: Global, fault: TreeFault) -> Result<String, Wrong> {
     Ok(match fault {
         TreeFault::Device => String::from_str(alloc, "error Device")?,

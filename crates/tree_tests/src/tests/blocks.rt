@@ -24,7 +24,7 @@ fn write_block<D: Disk>(disk: &mut D, n: u32, bytes: &[u8; 4096]) -> Result<(), 
     Ok(())
 }
 
-// A leaf of these keys, each with this value.
+/// A leaf of these keys, each with this value.
 fn leaf(given: &str, numbers: &[&str]) -> Result<[u8; 4096], Wrong> {
     let given = value(given)?;
     let mut records: ArrayVec<(Key, Value), 16> = ArrayVec::new();
@@ -39,7 +39,7 @@ fn leaf(given: &str, numbers: &[&str]) -> Result<[u8; 4096], Wrong> {
     Ok(bytes)
 }
 
-// An inner block of these children.
+/// An inner block of these children.
 fn node(above: &str, words: &[&str]) -> Result<[u8; 4096], Wrong> {
     let mut children: ArrayVec<Child, 256> = ArrayVec::new();
     for word in words {
@@ -53,8 +53,8 @@ fn node(above: &str, words: &[&str]) -> Result<[u8; 4096], Wrong> {
     Ok(bytes)
 }
 
-// An inner block of level 1 with so many children: their lowest keys are 0, 32, 64 and so on, and the block of
-// each is said to be 34.
+/// An inner block of level 1 with so many children: their lowest keys are 0, 32, 64 and so on, and
+/// the block of each is said to be 34.
 fn fan(count: u32) -> Result<[u8; 4096], Wrong> {
     let mut children: ArrayVec<Child, 256> = ArrayVec::new();
     for n in 0..count {
@@ -71,7 +71,7 @@ fn fan(count: u32) -> Result<[u8; 4096], Wrong> {
     Ok(bytes)
 }
 
-// Sets bytes from a place on, as `0:534C` says.
+/// Sets bytes from a place on, as `0:534C` says.
 fn set_run(bytes: &mut [u8; 4096], run: &str) -> Result<(), Wrong> {
     let (from, digits) = run.split_once(':').ok_or(Wrong::Unreadable)?;
     let from = number(from)? as usize;

@@ -39,7 +39,7 @@ fn put_sized(bench: &mut Bench, number: u64, value: &Value) -> Result<(), Wrong>
     }
 }
 
-// Puts so many records, from a key on.
+/// Puts so many records, from a key on.
 fn put_all(bench: &mut Bench, first: u64, count: u8, given: &str) -> Result<(), Wrong> {
     for n in 0..count {
         put_sized(bench, first.saturating_add(u64::from(n)), &value(given)?)?;
@@ -47,7 +47,7 @@ fn put_all(bench: &mut Bench, first: u64, count: u8, given: &str) -> Result<(), 
     Ok(())
 }
 
-// The root without the record, where it was there.
+/// The root without the record, where it was there.
 fn removed<const LEAF: usize, const FAN: usize, const LEVELS: usize>(
     bench: &mut Bench,
     number: u64,
@@ -83,7 +83,7 @@ fn remove_sized(bench: &mut Bench, number: u64) -> Result<bool, Wrong> {
     }
 }
 
-// Holds just the blocks that the map lies in, where a marking finds them.
+/// Holds just the blocks that the map lies in, where a marking finds them.
 fn let_go(bench: &mut Bench) -> Result<(), Wrong> {
     bench.marks.clear();
     if bench.marks.blocks() > bench.disk.blocks() {

@@ -11,7 +11,7 @@ use vm_disk::{Disk, FuseDisk, MemDisk};
 use vm_tree::{Root, TreeFault, put, remove};
 use vm_types::{Change, Key, Value};
 
-// A disk that counts its calls, and the blocks that are held on it.
+/// A disk that counts its calls, and the blocks that are held on it.
 #[derive(Drop)]
 struct Bench {
     disk: FuseDisk<MemDisk>,
@@ -26,7 +26,7 @@ fn value(byte: u8) -> Value {
     Value::new(&[byte]).unwrap_or_default()
 }
 
-// What cannot be made is answered `Memory`, here and below.
+/// What cannot be made is answered `Memory`, here and below.
 fn new_bench(alloc: Global, blocks: u32) -> Result<Bench, TreeFault> {
     if blocks < 64 || blocks > 1_048_576 {
         return Err(TreeFault::Memory);
@@ -40,7 +40,7 @@ fn new_bench(alloc: Global, blocks: u32) -> Result<Bench, TreeFault> {
     }
 }
 
-// The map with one more record, in a tree of these sizes.
+/// The map with one more record, in a tree of these sizes.
 fn with<const LEAF: usize, const FAN: usize, const LEVELS: usize>(
     bench: &mut Bench,
     root: Root,
@@ -62,7 +62,7 @@ fn with<const LEAF: usize, const FAN: usize, const LEVELS: usize>(
     )
 }
 
-// The map without a record that it has, in a tree of these sizes.
+/// The map without a record that it has, in a tree of these sizes.
 fn without<const LEAF: usize, const FAN: usize, const LEVELS: usize>(
     bench: &mut Bench,
     root: Root,
@@ -83,7 +83,7 @@ fn without<const LEAF: usize, const FAN: usize, const LEVELS: usize>(
     removed.ok_or(TreeFault::Memory)
 }
 
-// The records (1, 1) to (1, 17), each of value v, put in rising order.
+/// The records (1, 1) to (1, 17), each of value v, put in rising order.
 fn seventeen(bench: &mut Bench) -> Result<Root, TreeFault> {
     let mut root = Root::default();
     for number in 1..18 {
@@ -109,7 +109,7 @@ fn are_same(bench: &mut Bench, first: Root, second: Root) -> Result<bool, TreeFa
     same(&mut bench.disk, blocks, first, second)
 }
 
-// A change of a key of table 1, of values of one byte.
+/// A change of a key of table 1, of values of one byte.
 fn change(number: u64, before: Option<u8>, after: Option<u8>) -> Change {
     Change {
         key: key(number),

@@ -80,7 +80,7 @@ fn key(number: u64) -> Key {
     Key { table: 1, number }
 }
 
-// The children of an inner block.
+/// The children of an inner block.
 fn children_at(disk: &mut MemDisk, block: u32) -> Result<ArrayVec<Child, 256>, Wrong> {
     let mut bytes = [0; 4096];
     if block >= disk.blocks() {
@@ -94,7 +94,7 @@ fn children_at(disk: &mut MemDisk, block: u32) -> Result<ArrayVec<Child, 256>, W
     }
 }
 
-// How many blocks there are from this one of this level down. Each is held.
+/// How many blocks there are from this one of this level down. Each is held.
 fn count_under(disk: &mut MemDisk, held: &Held, level: u8, block: u32) -> Result<u32, Wrong> {
     if block >= held.blocks() || !held.is_held(block) {
         return Err(Wrong::Free(block));
@@ -125,7 +125,7 @@ impl Pair {
         })
     }
 
-    // Where too few blocks are free, holds just those of the tree.
+    /// Where too few blocks are free, holds just those of the tree.
     fn let_go(&mut self) -> Result<(), Wrong> {
         if self.held.free_count() >= NEEDED {
             return Ok(());
@@ -143,7 +143,7 @@ impl Pair {
         self.check_count()
     }
 
-    // Whether just the blocks of the tree are held, and those before the first for data.
+    /// Whether just the blocks of the tree are held, and those before the first for data.
     fn check_count(&mut self) -> Result<(), Wrong> {
         let mut due = BLOCKS.saturating_sub(FIRST_DATA);
         if self.root.block != 0 {
@@ -232,7 +232,7 @@ impl Pair {
         get(&mut self.disk, blocks, self.root, key(number))
     }
 
-    // Compares all records, and what a hundred keys have.
+    /// Compares all records, and what a hundred keys have.
     fn compare(&mut self, alloc: Global, changes: u32) -> Result<(), Wrong> {
         let blocks = self.disk.blocks();
         let records = scan(alloc, &mut self.disk, blocks, self.root)?;
@@ -253,7 +253,7 @@ impl Pair {
         Ok(())
     }
 
-    // Makes the changes, and compares after each thousand.
+    /// Makes the changes, and compares after each thousand.
     fn run<const LEAF: usize, const FAN: usize, const LEVELS: usize>(
         &mut self,
         alloc: Global,

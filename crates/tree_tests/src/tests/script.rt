@@ -63,13 +63,13 @@ pub(super) const FOREIGN: &str = "
     top 35.1.0
     free -> 28";
 
-// Plays a step. Its answer.
+/// Plays a step. Its answer.
 fn play(alloc: Global, bench: &mut Bench, step: &str) -> Result<String, Wrong> {
     let words: Vec<&str> = step.split_whitespace().collect(alloc)?;
     answer(alloc, bench, &words)
 }
 
-// Plays the lines of a text, and compares each answer.
+/// Plays the lines of a text, and compares each answer.
 fn plays_lines<R: AllocGlobal + Abort>(rt: &R, bench: &mut Bench, text: &str) {
     for (n, line) in text.lines().enumerate() {
         let line = line.trim();

@@ -19,7 +19,7 @@ pub(super) fn add_root(text: &mut String, root: Root) -> Result<(), Wrong> {
     Ok(())
 }
 
-// Adds what is marked, and by how many device calls.
+/// Adds what is marked, and by how many device calls.
 fn add_marks(text: &mut String, marks: &Marks, calls: u32) -> Result<(), Wrong> {
     write!(text, " marks")?;
     for n in 0..marks.blocks() {

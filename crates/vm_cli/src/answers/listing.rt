@@ -110,7 +110,7 @@ impl Listed for Name {
     }
 }
 
-// Writes the line of a record.
+/// Writes the line of a record.
 fn push_record(text: &mut Text, key: Key, value: &[u8])
     requires room { length text.old + 1024 ≤ 65536 }
     requires short { length value.now ≤ 240 }
@@ -122,7 +122,7 @@ fn push_record(text: &mut Text, key: Key, value: &[u8])
     text.push(b'\n');
 }
 
-// Writes the line of an alternative, with its parent.
+/// Writes the line of an alternative, with its parent.
 fn push_alternative(text: &mut Text, name: &Name, parent: Option<Name>)
     requires { length text.old + 1024 ≤ 65536 }
     ensures { text.new ≡ text.old ++ alternative_text name.now parent }
@@ -137,7 +137,7 @@ fn push_alternative(text: &mut Text, name: &Name, parent: Option<Name>)
     text.push(b'\n');
 }
 
-// Writes the line of a checkpoint.
+/// Writes the line of a checkpoint.
 fn push_checkpoint(text: &mut Text, name: &Name)
     requires { length text.old + 1024 ≤ 65536 }
     ensures { text.new ≡ text.old ++ checkpoint_text name.now }
@@ -147,7 +147,7 @@ fn push_checkpoint(text: &mut Text, name: &Name)
     text.push(b'\n');
 }
 
-// Writes the line of a change.
+/// Writes the line of a change.
 fn push_change(text: &mut Text, key: Key, before: Option<&[u8]>, after: Option<&[u8]>)
     requires room { length text.old + 2304 ≤ 65536 }
     requires before { IfSome before (λ value. length value.now ≤ 240) }
@@ -166,7 +166,7 @@ fn push_change(text: &mut Text, key: Key, before: Option<&[u8]>, after: Option<&
     text.push(b'\n');
 }
 
-// Writes the line of a conflict.
+/// Writes the line of a conflict.
 fn push_conflict(
     text: &mut Text,
     key: Key,
@@ -195,7 +195,7 @@ fn push_conflict(
     text.push(b'\n');
 }
 
-// Writes a key, with a space behind it.
+/// Writes a key, with a space behind it.
 fn push_key(text: &mut Text, key: Key)
     requires room { length text.old + 42 ≤ 65536 }
     ensures written { text.new ≡ text.old ++ key_words key }
@@ -207,7 +207,7 @@ fn push_key(text: &mut Text, key: Key)
     text.push(b' ');
 }
 
-// Writes a value, or `~` for absence.
+/// Writes a value, or `~` for absence.
 fn push_optional(text: &mut Text, value: Option<&[u8]>)
     requires room { length text.old + 720 ≤ 65536 }
     requires short { IfSome value (λ bytes. length bytes.now ≤ 240) }

@@ -30,7 +30,7 @@ pub fn reply_with_list<L: Listing + Drop, W: Write>(
     }
 }
 
-// Writes the lines of a list, but for what the text still has room for, and gives its end back.
+/// Writes the lines of a list, but for what the text still has room for, and gives its end back.
 fn write_list<L: Listing, W: Write>(
     list: &L,
     text: &mut Text,
@@ -51,7 +51,7 @@ fn write_list<L: Listing, W: Write>(
     Ok(Reply::End(count))
 }
 
-// Makes room for one more line, and writes what there is where that is too much.
+/// Makes room for one more line, and writes what there is where that is too much.
 fn make_room<W: Write>(text: &mut Text, writer: &mut W) -> Result<(), WriteFault>
     ensures room { OnOk result (length text.new + 2304 ≤ 65536) }
     ensures ok { OnOk result (GainsBut W.contents text.new text.old writer.old writer.new) }

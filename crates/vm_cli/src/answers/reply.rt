@@ -110,7 +110,7 @@ impl Reply {
 ghost use Rattle.std.specs.Prelude.{◌∷◌, [], codes};
 ghost use Rattle.vm_types.specs.Texts.{detail_text, key_text, refusal_text};
 
-// Writes the line of a refusal.
+/// Writes the line of a refusal.
 fn push_error(text: &mut Text, refusal: &Refusal)
     requires { length text.old + 200 ≤ 65536 }
     ensures { text.new ≡ text.old ++ (codes "error " ++ (refusal_text refusal.now ++ 10 ∷ [])) }
@@ -132,7 +132,7 @@ pub fn push_refusal(text: &mut Text, refusal: &Refusal)
     push_detail(text, refusal);
 }
 
-// Writes what a refusal has beside its number and name.
+/// Writes what a refusal has beside its number and name.
 fn push_detail(text: &mut Text, refusal: &Refusal)
     requires room { length text.old + 50 ≤ 65536 }
     ensures written { text.new ≡ text.old ++ detail_text refusal.now }
@@ -159,7 +159,7 @@ fn push_detail(text: &mut Text, refusal: &Refusal)
     }
 }
 
-// Writes a key.
+/// Writes a key.
 fn push_key(text: &mut Text, key: Key)
     requires room { length text.old + 41 ≤ 65536 }
     ensures written { text.new ≡ text.old ++ key_text key }

@@ -32,7 +32,7 @@ pub fn value(word: &[u8]) -> Option<Value>
     Value::new(&bytes[..len])
 }
 
-// The first byte that a word spells, and what stands after it.
+/// The first byte that a word spells, and what stands after it.
 fn first_byte(word: &[u8]) -> Option<(u8, &[u8])>
     requires { 0 < length word.now }
     ensures { MatchOption result (unescaped word.now ≡ None)
@@ -49,7 +49,7 @@ fn first_byte(word: &[u8]) -> Option<(u8, &[u8])>
     Some((high * 16 + low, &word[3..]))
 }
 
-// What a hexadecimal digit of either case stands for.
+/// What a hexadecimal digit of either case stands for.
 fn hex(digit: u8) -> Option<u8>
     ensures digit { result ≡ hex_digit digit }
     ensures small { MatchOption result (Unit {0}) (λ n. n < 16) }
@@ -98,7 +98,7 @@ pub fn push_spelled(text: &mut Text, bytes: &[u8])
     }
 }
 
-// Whether each byte is written as itself. No byte ends the loop, so many are tested at once.
+/// Whether each byte is written as itself. No byte ends the loop, so many are tested at once.
 fn are_plain(bytes: &[u8]) -> bool
     ensures { result ≡ true → ArePlain bytes.now }
 {
@@ -109,14 +109,14 @@ fn are_plain(bytes: &[u8]) -> bool
     plain
 }
 
-// Whether a byte is written as itself.
+/// Whether a byte is written as itself.
 fn is_plain(byte: u8) -> bool
     ensures { result ≡ is_plain_byte byte }
 {
     byte >= 0x21 && byte <= 0x7d && byte != b'%'
 }
 
-// Writes one byte of a value.
+/// Writes one byte of a value.
 fn push_escaped(text: &mut Text, byte: u8)
     requires { length text.old + 3 ≤ 65536 }
     ensures { text.new ≡ text.old ++ byte_text byte }
@@ -130,7 +130,7 @@ fn push_escaped(text: &mut Text, byte: u8)
     text.push(hex_of(byte % 16));
 }
 
-// The upper case hexadecimal digit of a number.
+/// The upper case hexadecimal digit of a number.
 fn hex_of(number: u8) -> u8
     requires { number < 16 }
     ensures { result ≡ hex_text number }

@@ -49,7 +49,7 @@ pub fn read_request(alloc: Global, line: &[u8]) -> Result<Request, AllocError>
     Ok(asked.unwrap_or(Request::Bad))
 }
 
-// What the words after the first ask for.
+/// What the words after the first ask for.
 fn asked(alloc: Global, verb: &[u8], rest: &[u8]) -> Result<Option<Request>, AllocError>
     ensures request { IfOk result (λ request. request ≡ asked_by verb.now (words_of rest.now)) }
     ensures memory { OnErr result (IsLongMerge (verb.now ∷ words_of rest.now)) }
@@ -64,7 +64,7 @@ fn asked(alloc: Global, verb: &[u8], rest: &[u8]) -> Result<Option<Request>, All
     }
 }
 
-// `merge ALT` and settlements
+/// `merge ALT` and settlements
 fn merge(alloc: Global, rest: &[u8]) -> Result<Option<Command>, AllocError>
     ensures command { IfOk result (λ command. command ≡ merge_of (words_of rest.now)) }
     ensures memory { OnErr result (IsLongMerge (codes "merge" ∷ words_of rest.now)) }
@@ -79,7 +79,7 @@ fn merge(alloc: Global, rest: &[u8]) -> Result<Option<Command>, AllocError>
     Ok(settled.map(|settled| Command::Merge { alt, settled }))
 }
 
-// The command that the words after the first complete, but for a merge.
+/// The command that the words after the first complete, but for a merge.
 fn command(verb: &[u8], rest: &[u8]) -> Option<Command>
     ensures { result ≡ command_of verb.now (words_of rest.now) }
 {
@@ -127,7 +127,7 @@ fn command(verb: &[u8], rest: &[u8]) -> Option<Command>
     None
 }
 
-// The query that the words after the first complete.
+/// The query that the words after the first complete.
 fn query(verb: &[u8], rest: &[u8]) -> Option<Request>
     ensures { result ≡ query_of verb.now (words_of rest.now) }
 {
@@ -162,7 +162,7 @@ fn query(verb: &[u8], rest: &[u8]) -> Option<Request>
     None
 }
 
-// `put ALT TABLE NUMBER VALUE`
+/// `put ALT TABLE NUMBER VALUE`
 fn put(rest: &[u8]) -> Option<Command>
     ensures { result ≡ put_of (words_of rest.now) }
 {
@@ -177,7 +177,7 @@ fn put(rest: &[u8]) -> Option<Command>
     Some(Command::Put { alt, key, value })
 }
 
-// `new NAME PARENT`, or `new NAME PARENT CHECKPOINT`
+/// `new NAME PARENT`, or `new NAME PARENT CHECKPOINT`
 fn new_alternative(rest: &[u8]) -> Option<Command>
     ensures { result ≡ new_of (words_of rest.now) }
 {
@@ -200,7 +200,7 @@ fn new_alternative(rest: &[u8]) -> Option<Command>
     })
 }
 
-// `grow BLOCKS`
+/// `grow BLOCKS`
 fn grow(rest: &[u8]) -> Option<Command>
     ensures { result ≡ grow_of (words_of rest.now) }
 {
@@ -212,7 +212,7 @@ fn grow(rest: &[u8]) -> Option<Command>
     })
 }
 
-// `ALT TABLE NUMBER`
+/// `ALT TABLE NUMBER`
 fn record(rest: &[u8]) -> Option<(Name, Key)>
     ensures { result ≡ record_of (words_of rest.now) }
 {
@@ -225,7 +225,7 @@ fn record(rest: &[u8]) -> Option<(Name, Key)>
     Some((alt, key))
 }
 
-// `NAME`
+/// `NAME`
 fn one_name(rest: &[u8]) -> Option<Name>
     ensures { result ≡ named_of (words_of rest.now) }
 {
@@ -234,7 +234,7 @@ fn one_name(rest: &[u8]) -> Option<Name>
     name(word)
 }
 
-// `NAME NAME`
+/// `NAME NAME`
 fn two_names(rest: &[u8]) -> Option<(Name, Name)>
     ensures { result ≡ names_of (words_of rest.now) }
 {
@@ -246,14 +246,14 @@ fn two_names(rest: &[u8]) -> Option<(Name, Name)>
     Some((first, second))
 }
 
-// The name that a word is.
+/// The name that a word is.
 fn name(word: &[u8]) -> Option<Name>
     ensures { result ≡ name_of word.now }
 {
     Name::new(word)
 }
 
-// No word is left.
+/// No word is left.
 fn ends(rest: &[u8]) -> Option<()>
     ensures { MatchOption result (HasWord rest.now) (λ _. words_of rest.now ≡ []) }
 {

@@ -25,7 +25,7 @@ pub fn settled(alloc: Global, line: &[u8]) -> Result<Option<Settled>, AllocError
     Ok(Some(Settled::from_vec(sides)))
 }
 
-// The settlement that a word says: `TABLE:NUMBER=SIDE`.
+/// The settlement that a word says: `TABLE:NUMBER=SIDE`.
 fn settlement(word: &[u8]) -> Option<(Key, Side)>
     ensures { result ≡ settlement_of word.now }
 {
@@ -36,7 +36,7 @@ fn settlement(word: &[u8]) -> Option<(Key, Side)>
     Some((key, side))
 }
 
-// The side that a word names.
+/// The side that a word names.
 fn side(word: &[u8]) -> Option<Side>
     ensures { result ≡ side_of word.now }
 {

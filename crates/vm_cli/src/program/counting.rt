@@ -59,7 +59,7 @@ pub fn count<D: Disk>(alloc: Global, store: &Store<D>) -> Result<Counts, Refusal
     }
 }
 
-// Counts the checkpoints of all alternatives, which are listed.
+/// Counts the checkpoints of all alternatives, which are listed.
 fn count_checkpoints<D: Disk>(
     alloc: Global,
     store: &Store<D>,

@@ -52,7 +52,8 @@ pub fn draw(alloc: Global, branches: &[Branch]) -> Result<Vec<u8>, AllocError>
     Ok(text)
 }
 
-// Draws those of these that are right under the alternative of this name, each with what stands below it.
+/// Draws those of these that are right under the alternative of this name, each with what stands
+/// below it.
 fn push_under(
     text: &mut Vec<u8>,
     stems: &mut Vec<u8>,
@@ -77,28 +78,28 @@ fn push_under(
     push_under(text, stems, parent, later)
 }
 
-// Whether one of these is right under the alternative of this name.
+/// Whether one of these is right under the alternative of this name.
 fn any_under(parent: &Name, branches: &[Branch]) -> bool
     ensures { result ≡ have_under parent.now branches.now }
 {
     branches.iter().any(|branch| branch.is_under(parent))
 }
 
-// The stem of an alternative that is the last under its parent, or of another one.
+/// The stem of an alternative that is the last under its parent, or of another one.
 fn own(last: bool) -> &'static [u8]
     ensures { result.now ≡ own_stem last }
 {
     if last { b"`- " } else { b"|- " }
 }
 
-// The stem that stands in its place in the lines below it.
+/// The stem that stands in its place in the lines below it.
 fn below(last: bool) -> &'static [u8]
     ensures { result.now ≡ stem_below last }
 {
     if last { b"   " } else { b"|  " }
 }
 
-// Writes the line of an alternative.
+/// Writes the line of an alternative.
 fn push_line(
     text: &mut Vec<u8>,
     stems: &[u8],
@@ -115,7 +116,7 @@ fn push_line(
     Ok(())
 }
 
-// Writes the lines of checkpoints.
+/// Writes the lines of checkpoints.
 fn push_checkpoints(text: &mut Vec<u8>, stems: &[u8], names: &[Name]) -> Result<(), AllocError>
     ensures { OnOk result (Adds text.old text.new (checkpoint_lines stems.now names.now)) }
 {
@@ -125,7 +126,7 @@ fn push_checkpoints(text: &mut Vec<u8>, stems: &[u8], names: &[Name]) -> Result<
     Ok(())
 }
 
-// Writes the line of a checkpoint.
+/// Writes the line of a checkpoint.
 fn push_checkpoint(text: &mut Vec<u8>, stems: &[u8], name: &Name) -> Result<(), AllocError>
     ensures { OnOk result (Adds text.old text.new (checkpoint_line stems.now name.now)) }
 {
@@ -137,7 +138,7 @@ fn push_checkpoint(text: &mut Vec<u8>, stems: &[u8], name: &Name) -> Result<(), 
     Ok(())
 }
 
-// Writes the columns of an alternative.
+/// Writes the columns of an alternative.
 fn push_columns(text: &mut Vec<u8>, tally: &Option<Tally>) -> Result<(), AllocError>
     ensures { OnOk result (Adds text.old text.new (columns_of tally.now)) }
 {
@@ -147,7 +148,7 @@ fn push_columns(text: &mut Vec<u8>, tally: &Option<Tally>) -> Result<(), AllocEr
     }
 }
 
-// Writes the columns of an alternative that has numbers.
+/// Writes the columns of an alternative that has numbers.
 fn push_numbers(text: &mut Vec<u8>, tally: &Tally) -> Result<(), AllocError>
     ensures { OnOk result (Adds text.old text.new (columns_of (Some tally.now))) }
 {
@@ -158,7 +159,7 @@ fn push_numbers(text: &mut Vec<u8>, tally: &Tally) -> Result<(), AllocError>
     text.extend_from_slice(b"  ")
 }
 
-// Writes a number at the right of a column of this width.
+/// Writes a number at the right of a column of this width.
 fn push_number(text: &mut Vec<u8>, width: usize, number: usize) -> Result<(), AllocError>
     ensures { OnOk result (Adds text.old text.new (at_right width (decimal number))) }
 {
@@ -166,7 +167,7 @@ fn push_number(text: &mut Vec<u8>, width: usize, number: usize) -> Result<(), Al
     push_right(text, width, buffer.format(number as u64).as_bytes())
 }
 
-// Writes a text at the right of a column of this width.
+/// Writes a text at the right of a column of this width.
 fn push_right(text: &mut Vec<u8>, width: usize, word: &[u8]) -> Result<(), AllocError>
     ensures { OnOk result (Adds text.old text.new (at_right width word.now)) }
 {

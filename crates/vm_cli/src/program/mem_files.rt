@@ -66,7 +66,7 @@ impl MemFiles {
         self.honest
     }
 
-    // Makes a disk under a name that is not there yet.
+    /// Makes a disk under a name that is not there yet.
     fn made(&mut self, file: &str, blocks: u32) -> Option<MemDisk>
         ensures denied { noted self.new.denied ≡ noted self.old.denied }
         ensures to_write { noted self.new.to_write ≡ noted self.old.to_write }
@@ -88,7 +88,7 @@ impl MemFiles {
         Some(disk)
     }
 
-    // Takes out a disk that is in.
+    /// Takes out a disk that is in.
     fn found(&mut self, file: &str) -> Option<MemDisk>
         ensures denied { noted self.new.denied ≡ noted self.old.denied }
         ensures to_write { noted self.new.to_write ≡ noted self.old.to_write }

@@ -58,8 +58,8 @@ pub trait Place {
         ensures honest { TakesBackIn state Self.D.state file.now disk self.old self.new };
 }
 
-// What was done with a file of the system. Missed is that one was to be had which may be written, and
-// was not.
+/// What was done with a file of the system. Missed is that one was to be had which may be written,
+/// and was not.
 #[derive(Drop)]
 enum Event<'a, W> {
     Found(Snapshot<SystemFile<W>>),
@@ -89,8 +89,8 @@ pub struct RealFiles<'a, R, W> {
     world: PhantomData<W>,
 }
 
-// Folders in the place of what is closed of the standard input, output and error, as far as they can be
-// opened.
+/// Folders in the place of what is closed of the standard input, output and error, as far as they
+/// can be opened.
 fn take_standard(rt: &impl Files<File = File>) -> [Option<File>; 3] {
     let mut folders = [None, None, None];
     for folder in &mut folders {
@@ -128,7 +128,7 @@ impl<'a, R: Files<File = File>, W: World> RealFiles<'a, R, W> {
 impl<'a, R: Files<File = File>, W: World> RealFiles<'a, R, W> {
     ghost use Rattle.vm_cli.specs.RealFiles.{asked_to_write, real_state, times_denied, CreatesReal, FindsReal};
 
-    // Makes a file that is not there yet, and a disk of it.
+    /// Makes a file that is not there yet, and a disk of it.
     fn made(&mut self, file: &str, blocks: u32) -> Option<FileDisk<Watched<'a, SystemFile<W>>>>
         ensures denied { times_denied self.new ≡ times_denied self.old }
         ensures to_write { asked_to_write self.new ≡ asked_to_write self.old + 1 }
@@ -145,7 +145,7 @@ impl<'a, R: Files<File = File>, W: World> RealFiles<'a, R, W> {
         FileDisk::create(Watched::new(made, self.progress), blocks).ok()
     }
 
-    // Opens a file that is there, as a disk.
+    /// Opens a file that is there, as a disk.
     fn found(&mut self, file: &str) -> Option<FileDisk<Watched<'a, SystemFile<W>>>>
         ensures denied { times_denied self.new ≡ times_denied self.old }
         ensures to_write { asked_to_write self.new ≡ asked_to_write self.old + 1 }
@@ -161,7 +161,7 @@ impl<'a, R: Files<File = File>, W: World> RealFiles<'a, R, W> {
         FileDisk::open(Watched::new(found, self.progress)).ok()
     }
 
-    // Opens a file that is there for reading alone, as a disk.
+    /// Opens a file that is there for reading alone, as a disk.
     fn looked(&mut self, file: &str) -> Option<FileDisk<Watched<'a, SystemFile<W>>>>
         ensures denied { times_denied self.new ≡ times_denied self.old }
         ensures to_write { asked_to_write self.new ≡ asked_to_write self.old }

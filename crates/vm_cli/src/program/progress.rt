@@ -57,7 +57,7 @@ impl Progress {
         self.total.set(blocks);
     }
 
-    // Counts blocks that are read or written.
+    /// Counts blocks that are read or written.
     fn count(&self, blocks: u64) {
         let Some(rt) = &self.terminal else {
             return;
@@ -70,8 +70,8 @@ impl Progress {
         }
     }
 
-    // Counts new blocks, from this one on. Behind the total they make the file longer, and how long it is
-    // to be is not known here.
+    /// Counts new blocks, from this one on. Behind the total they make the file longer, and how
+    /// long it is to be is not known here.
     fn count_new(&self, first: u64, blocks: u64) {
         if first >= self.total.get() {
             self.total.set(0);
@@ -79,7 +79,7 @@ impl Progress {
         self.count(blocks);
     }
 
-    // Writes the line anew where it is time to.
+    /// Writes the line anew where it is time to.
     fn look(&self, rt: &HostRuntime) {
         let Ok(now) = Instant::now(rt) else {
             return;
@@ -94,7 +94,7 @@ impl Progress {
         }
     }
 
-    // Writes the line.
+    /// Writes the line.
     fn show(&self, rt: &HostRuntime) {
         let blocks = self.blocks.get();
         let total = self.total.get();
@@ -110,7 +110,7 @@ impl Progress {
         self.is_shown.set(true);
     }
 
-    // Ends a job, and takes its line away.
+    /// Ends a job, and takes its line away.
     fn clear(&self) {
         self.blocks.set(0);
         self.due.set(None);
@@ -123,7 +123,7 @@ impl Progress {
     }
 }
 
-// So many milliseconds later, where the clock can tell that.
+/// So many milliseconds later, where the clock can tell that.
 fn later(now: Instant, millis: u64) -> Option<Instant> {
     now.checked_add(Duration::from_millis(millis))
 }

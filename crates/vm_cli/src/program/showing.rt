@@ -41,7 +41,7 @@ pub fn tree<P: Place, W: Write, F: Write>(
     exit
 }
 
-// Opens the store on a disk, and draws the tree of its alternatives.
+/// Opens the store on a disk, and draws the tree of its alternatives.
 fn show_disk<D: Disk, W: Write, F: Write>(
     alloc: Global,
     disk: D,
@@ -68,7 +68,7 @@ fn show_disk<D: Disk, W: Write, F: Write>(
     }
 }
 
-// The text of a store's tree.
+/// The text of a store's tree.
 fn draw_store<D: Disk>(alloc: Global, store: &mut Store<D>) -> Result<Vec<u8>, Refusal>
     ensures any { GoesOn (result ≡ Err Refusal.Device) store.old store.new }
     ensures passes { Passes store.old store.new None }
@@ -84,7 +84,7 @@ fn draw_store<D: Disk>(alloc: Global, store: &mut Store<D>) -> Result<Vec<u8>, R
     Ok(text)
 }
 
-// Writes a text to the output.
+/// Writes a text to the output.
 fn show<W: Write>(text: &[u8], output: &mut W) -> Exit
     ensures { TellsOn W.contents Exit.Done result output.old output.new text.now }
 {

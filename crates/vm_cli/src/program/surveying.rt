@@ -23,7 +23,7 @@ pub fn survey<D: Disk>(alloc: Global, store: &mut Store<D>) -> Result<Vec<Branch
     survey_listed(alloc, store, &listed)
 }
 
-// What is drawn of all alternatives, which are listed.
+/// What is drawn of all alternatives, which are listed.
 fn survey_listed<D: Disk>(
     alloc: Global,
     store: &mut Store<D>,
@@ -44,7 +44,7 @@ fn survey_listed<D: Disk>(
     Ok(branches)
 }
 
-// What is drawn of the alternative of this name, whose parent is this one.
+/// What is drawn of the alternative of this name, whose parent is this one.
 fn branch_of<D: Disk>(
     alloc: Global,
     store: &mut Store<D>,
@@ -66,7 +66,7 @@ fn branch_of<D: Disk>(
     })
 }
 
-// The numbers, where there are any: an alternative without a parent has none.
+/// The numbers, where there are any: an alternative without a parent has none.
 fn numbers(tallied: Result<Tally, Refusal>) -> Result<Option<Tally>, Refusal>
     ensures ok { IfOk result (HasNumbers tallied) }
     ensures err { IfErr result (HasNoNumbers tallied) }

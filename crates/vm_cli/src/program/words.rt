@@ -37,7 +37,7 @@ pub fn job<'a>(alloc: Global, words: &'a [String]) -> Result<Job<'a>, Error>
     }
 }
 
-// The job that the matches ask for.
+/// The job that the matches ask for.
 fn asked<'a>(alloc: Global, matches: &ArgMatches<'a>) -> Result<Option<Job<'a>>, AllocError>
     ensures { IfOk result (IsAskedOf (subcommand_rows_of matches.now)) }
 {
@@ -57,7 +57,7 @@ fn asked<'a>(alloc: Global, matches: &ArgMatches<'a>) -> Result<Option<Job<'a>>,
     }
 }
 
-// The job of `create` with these matches.
+/// The job of `create` with these matches.
 fn asked_create<'a>(matches: &ArgMatches<'a>, file: &'a str) -> Option<Job<'a>>
     ensures { IsAsked (codes "create") (rows_of (found_of matches.now)) file.now result }
 {
@@ -65,7 +65,7 @@ fn asked_create<'a>(matches: &ArgMatches<'a>, file: &'a str) -> Option<Job<'a>>
     Some(Job::Create { file, blocks })
 }
 
-// The job of `run` with these matches.
+/// The job of `run` with these matches.
 fn asked_run<'a>(matches: &ArgMatches<'a>, file: &'a str) -> Option<Job<'a>>
     ensures { IsAsked (codes "run") (rows_of (found_of matches.now)) file.now result }
 {
@@ -78,7 +78,7 @@ fn asked_run<'a>(matches: &ArgMatches<'a>, file: &'a str) -> Option<Job<'a>>
     })
 }
 
-// The job of `do` with these matches.
+/// The job of `do` with these matches.
 fn asked_do<'a>(
     alloc: Global,
     matches: &ArgMatches<'a>,
@@ -102,7 +102,7 @@ fn asked_do<'a>(
     }))
 }
 
-// How many blocks are to stay and to wait in memory.
+/// How many blocks are to stay and to wait in memory.
 fn in_memory(matches: &ArgMatches<'_>) -> Option<InMemory>
     ensures { result ≡ memory_by (rows_of (found_of matches.now)) }
 {
@@ -111,7 +111,7 @@ fn in_memory(matches: &ArgMatches<'_>) -> Option<InMemory>
     Some(InMemory { cache, buffer })
 }
 
-// Whether `--strict` was given.
+/// Whether `--strict` was given.
 fn is_strict(matches: &ArgMatches<'_>) -> bool
     ensures { result ≡ is_set (first_of (codes "strict") (rows_of (found_of matches.now))) }
 {
@@ -121,7 +121,7 @@ fn is_strict(matches: &ArgMatches<'_>) -> bool
     }
 }
 
-// What a line that is refused means, which with `--strict` ends the talk.
+/// What a line that is refused means, which with `--strict` ends the talk.
 fn on_refusal(strict: bool, otherwise: OnRefusal) -> OnRefusal
     ensures { result ≡ (if strict then OnRefusal.Stop else otherwise) }
 {
@@ -131,7 +131,7 @@ fn on_refusal(strict: bool, otherwise: OnRefusal) -> OnRefusal
     otherwise
 }
 
-// The number that an argument has, where it lies in the range.
+/// The number that an argument has, where it lies in the range.
 fn number_of(matches: &ArgMatches<'_>, name: &str, least: u32, most: u32) -> Option<u32>
     ensures { result ≡ number_by least most name.now (rows_of (found_of matches.now)) }
 {
@@ -145,7 +145,7 @@ fn number_of(matches: &ArgMatches<'_>, name: &str, least: u32, most: u32) -> Opt
     Some(number)
 }
 
-// The program's command line.
+/// The program's command line.
 fn command<'a>(alloc: Global) -> Result<Command<'a>, AllocError>
     ensures { IfOk result (λ c. app_of c ≡ altctl) }
 {
@@ -155,7 +155,7 @@ fn command<'a>(alloc: Global) -> Result<Command<'a>, AllocError>
         .subcommand(tree(alloc)?)
 }
 
-// The program's command line up to `run`.
+/// The program's command line up to `run`.
 fn first_commands<'a>(alloc: Global) -> Result<Command<'a>, AllocError>
     ensures { IfOk result (λ c. app_of c ≡ first_app) }
 {
@@ -215,7 +215,7 @@ fn do_lines<'a>(alloc: Global) -> Result<Command<'a>, AllocError>
     Ok(with_options(alloc, command)?)
 }
 
-// A command with the options of a talk.
+/// A command with the options of a talk.
 fn with_options<'a>(alloc: Global, command: Command<'a>) -> Result<Command<'a>, AllocError>
     ensures app { IfOk result (λ c. app_of c ≡ with_options (app_of command.entry)) }
     ensures local { IsLocal command.entry → IfOk result (λ c. IsLocal c) }

@@ -15,7 +15,7 @@ const LEAST_BLOCKS: u32 = 64;
 /// How many blocks a store has at most.
 pub(super) const MOST_BLOCKS: u32 = 1_048_576;
 
-// The one entry of a new store.
+/// The one entry of a new store.
 fn fresh_entry() -> Entry
     ensures { result ≡ fresh_entry }
 {
@@ -31,7 +31,7 @@ fn fresh_entry() -> Entry
     }
 }
 
-// Syncs, and tells whether block 0 is a header.
+/// Syncs, and tells whether block 0 is a header.
 fn has_header<D: Disk>(disk: &mut D) -> Result<bool, DeviceFault>
     requires { 64 ≤ (D.state disk.old).blocks }
     ensures any { Goes (IsErr result) (D.state disk.old) (D.state disk.new) }
@@ -49,7 +49,7 @@ fn has_header<D: Disk>(disk: &mut D) -> Result<bool, DeviceFault>
     Ok(is_header(&block))
 }
 
-// Writes slot A with `top` alone, and the selector that names it, and syncs.
+/// Writes slot A with `top` alone, and the selector that names it, and syncs.
 fn lay_out<D: Disk>(disk: &mut D, blocks: u32) -> Result<(), DeviceFault>
     requires room { 64 ≤ (D.state disk.old).blocks }
     requires least { 64 ≤ blocks }
@@ -68,7 +68,7 @@ fn lay_out<D: Disk>(disk: &mut D, blocks: u32) -> Result<(), DeviceFault>
     disk.sync()
 }
 
-// Writes the header, and syncs.
+/// Writes the header, and syncs.
 fn put_header<D: Disk>(disk: &mut D) -> Result<(), DeviceFault>
     requires { 64 ≤ (D.state disk.old).blocks }
     ensures any { Goes (IsErr result) (D.state disk.old) (D.state disk.new) }
@@ -83,7 +83,7 @@ fn put_header<D: Disk>(disk: &mut D) -> Result<(), DeviceFault>
     disk.sync()
 }
 
-// Makes a new store on a disk, where there is none.
+/// Makes a new store on a disk, where there is none.
 fn make_store<D: Disk>(disk: &mut D, blocks: u32) -> Result<(), Refusal>
     requires room { blocks ≤ (D.state disk.old).blocks }
     requires least { 64 ≤ blocks }

@@ -15,7 +15,7 @@ use crate::faults::refusal_of;
 use crate::versions::Versions;
 use crate::{FAN, LEAF, LEVELS};
 use std::alloc::Global;
-use vm_alloc::{Held, Snapshot};
+use vm_alloc::{Baseline, Held};
 use vm_block::{Entry, SlotName};
 use vm_catalog::{LoadFault, Slot, first_block, load, slot_in_use};
 use vm_check::verify;
@@ -26,7 +26,7 @@ use vm_types::Refusal;
 /// How many blocks a store has at least.
 const LEAST_BLOCKS: u32 = 64;
 
-// Syncs, and tells whether there is a store, and which slot its selector names.
+/// Syncs, and tells whether there is a store, and which slot its selector names.
 fn find_slot<D: Disk>(disk: &mut D) -> Result<SlotName, Refusal>
     ensures any { Goes (result ≡ Err Refusal.Device) (D.state disk.old) (D.state disk.new) }
     ensures room { OnOk result (64 ≤ (D.state disk.old).blocks) }
@@ -49,7 +49,7 @@ fn find_slot<D: Disk>(disk: &mut D) -> Result<SlotName, Refusal>
     }
 }
 
-// The entries of that slot, where the store lies within the disk.
+/// The entries of that slot, where the store lies within the disk.
 fn load_slot<D: Disk>(alloc: Global, disk: &mut D, slot_name: SlotName) -> Result<Slot, Refusal>
     requires { 64 ≤ (D.state disk.old).blocks }
     ensures any { Goes (result ≡ Err Refusal.Device) (D.state disk.old) (D.state disk.new) }
@@ -74,8 +74,8 @@ fn load_slot<D: Disk>(alloc: Global, disk: &mut D, slot_name: SlotName) -> Resul
     }
 }
 
-// The blocks of the roots of entries, in their order, current before base: none where no memory was
-// found for them.
+/// The blocks of the roots of entries, in their order, current before base: none where no memory
+/// was found for them.
 fn root_numbers(alloc: Global, entries: &[Entry]) -> Option<Vec<u32>>
     ensures { IfSome result (λ numbers. numbers.items ≡ numbers_of entries.now) }
 {
@@ -88,7 +88,8 @@ fn root_numbers(alloc: Global, entries: &[Entry]) -> Option<Vec<u32>>
     Some(numbers)
 }
 
-// The versions of entries whose roots these are, and the same again: none where no memory was found for them.
+/// The versions of entries whose roots these are, and the same again: none where no memory was
+/// found for them.
 fn versions_twice(alloc: Global, entries: &[Entry], roots: &[Root]) -> Option<(Versions, Versions)>
     requires few { length entries.now ≤ 511 }
     requires roots { length roots.now ≡ 2 * length entries.now }
@@ -103,7 +104,7 @@ fn versions_twice(alloc: Global, entries: &[Entry], roots: &[Root]) -> Option<(V
     Some((committed, working))
 }
 
-// Reads the maps of a slot, reserves what a store needs, and holds the blocks that are reached.
+/// Reads the maps of a slot, reserves what a store needs, and holds the blocks that are reached.
 fn read_maps<D: Disk>(
     alloc: Global,
     disk: &mut D,
@@ -124,7 +125,7 @@ fn read_maps<D: Disk>(
     let (Some(numbers), Ok(mut held), Ok(before)) = (
         root_numbers(alloc, &entries),
         Held::new(alloc, blocks),
-        Snapshot::new(alloc, blocks),
+        Baseline::new(alloc, blocks),
     ) else {
         return Err(Refusal::Memory);
     };
@@ -149,7 +150,7 @@ fn read_maps<D: Disk>(
     }
 }
 
-// All that is known of the store on a disk.
+/// All that is known of the store on a disk.
 fn find_store<D: Disk>(alloc: Global, disk: &mut D) -> Result<Parts, Refusal>
     ensures any { Goes (result ≡ Err Refusal.Device) (D.state disk.old) (D.state disk.new) }
     ensures inside { IfOk result (λ parts. parts.blocks ≤ (D.state disk.old).blocks) }

@@ -2,7 +2,7 @@
 ghost use Rattle.std.specs.Prelude.{◌≡◌, ◌<◌, ◌≤◌, ◌^◌, length, vec_capacity};
 
 use crate::versions::Versions;
-use vm_alloc::{Held, Marks, Snapshot};
+use vm_alloc::{Baseline, Held, Marks};
 use vm_block::{Entry, SlotName};
 
 /// What is known of a store beside its disk.
@@ -15,7 +15,7 @@ pub struct Parts {
     pub working: Versions,
     pub held: Held,
     pub marks: Marks,
-    pub before: Snapshot,
+    pub before: Baseline,
     ghost least: { 64 ≤ blocks },
     ghost most: { blocks ≤ 2 ^ 20 },
     ghost bits: { length held ≡ blocks },

@@ -21,7 +21,7 @@ use vm_types::Refusal;
 /// How many blocks one record change may take.
 const BLOCKS_A_CHANGE: u32 = 16;
 
-// Marks all blocks under the trees of the versions, without memory.
+/// Marks all blocks under the trees of the versions, without memory.
 fn mark_versions<D: Disk>(
     disk: &mut D,
     versions: &[Version],

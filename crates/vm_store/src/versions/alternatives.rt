@@ -11,7 +11,7 @@ use vm_block::Kind;
 use vm_tree::Root;
 use vm_types::{Answer, Name, Refusal};
 
-// A new alternative under a parent, with this root for both of its trees.
+/// A new alternative under a parent, with this root for both of its trees.
 fn alternative_under(parent: &Name, name: &Name, root: Root) -> Version
     ensures { result ≡ alternative_under parent.now name.now root }
 {

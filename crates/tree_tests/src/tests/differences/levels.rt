@@ -5,7 +5,7 @@ use std::test::Fail;
 use vm_disk::Disk;
 use vm_tree::{Root, TreeFault};
 
-// The records (1, 0) to (1, 4999), each of value v, put in rising order.
+/// The records (1, 0) to (1, 4999), each of value v, put in rising order.
 fn five_thousand(bench: &mut Bench) -> Result<Root, TreeFault> {
     let mut root = Root::default();
     for number in 0..5_000 {
@@ -14,8 +14,8 @@ fn five_thousand(bench: &mut Bench) -> Result<Root, TreeFault> {
     Ok(root)
 }
 
-// Whether the change of this one record takes three blocks of its own, and is found for just these
-// and the three in whose place they stand: all that the trees do not share.
+/// Whether the change of this one record takes three blocks of its own, and is found for just these
+/// and the three in whose place they stand: all that the trees do not share.
 fn costs_two_paths(
     alloc: Global,
     bench: &mut Bench,
@@ -35,8 +35,8 @@ fn costs_two_paths(
     Ok(own_blocks == 3 && found && reads == 6 && !equal && fewer <= 6)
 }
 
-// 5,000 records need more than 256 leaves of 16, so an inner block above inner blocks; and where each
-// leaf has 8 or more, and each inner block 128 or more, one inner block on top is enough.
+/// 5,000 records need more than 256 leaves of 16, so an inner block above inner blocks; and where
+/// each leaf has 8 or more, and each inner block 128 or more, one inner block on top is enough.
 #[test]
 fn reads_two_paths_of_three_blocks_for_one_of_5_000_records(rt: HostRuntime) -> Result<(), Fail> {
     let mut bench = new_bench(rt.alloc(), 16_384)?;

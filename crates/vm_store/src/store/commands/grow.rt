@@ -6,7 +6,7 @@ ghost use Rattle.vm_types.specs.declared.command.Command.TheVariants.{Grow};
 
 use crate::store::Store;
 use crate::store::formatting::MOST_BLOCKS;
-use vm_alloc::{Marks, Snapshot};
+use vm_alloc::{Baseline, Marks};
 use vm_disk::Disk;
 use vm_types::{Answer, Refusal};
 
@@ -47,7 +47,7 @@ impl<D: Disk> Store<D> {
         let Ok(marks) = Marks::new(self.alloc, blocks) else {
             return Err(Refusal::Memory);
         };
-        let Ok(before) = Snapshot::new(self.alloc, blocks) else {
+        let Ok(before) = Baseline::new(self.alloc, blocks) else {
             return Err(Refusal::Memory);
         };
         self.lengthen(blocks)?;
@@ -59,7 +59,7 @@ impl<D: Disk> Store<D> {
         Ok(Answer::Done)
     }
 
-    // Gives the disk blocks where it has fewer than so many.
+    /// Gives the disk blocks where it has fewer than so many.
     fn lengthen(&mut self, blocks: u32) -> Result<(), Refusal>
         ensures same { IsSameButDisk self.old self.new }
         ensures any { GrowsOn (result ≡ Err Refusal.Device) self.old self.new }

@@ -37,7 +37,8 @@ impl<D: Disk> Store<D> {
         self.remove_after_look(alt, version, key)
     }
 
-    // Looks for the record first, so that no blocks are marked, and no series begins, for one that is absent.
+    /// Looks for the record first, so that no blocks are marked, and no series begins, for one that
+    /// is absent.
     fn remove_after_look(
         &mut self,
         alt: &Name,
@@ -74,8 +75,9 @@ impl<D: Disk> Store<D> {
         self.remove_in_series(alt, version, key, Refusal::Damaged(root.block))
     }
 
-    // Takes a record out of the alternative whose series goes on, or of one where none does, or answers
-    // that it is missing. The blocks that the series took for the path as it was are forgotten.
+    /// Takes a record out of the alternative whose series goes on, or of one where none does, or
+    /// answers that it is missing. The blocks that the series took for the path as it was are
+    /// forgotten.
     fn remove_in_series(
         &mut self,
         alt: &Name,

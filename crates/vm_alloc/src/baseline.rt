@@ -8,11 +8,11 @@ use std::marker::Model;
 
 /// The blocks that were held at one time, but for those that were let go since.
 #[derive(Drop)]
-pub struct Snapshot {
+pub struct Baseline {
     flags: Flags,
 }
 
-impl Model for Snapshot {
+impl Model for Baseline {
     ghost use Rattle.std.specs.Prelude.{List, Bool};
 
     ghost Value = { List Bool };
@@ -20,13 +20,13 @@ impl Model for Snapshot {
     ghost view = { λ a. a.flags };
 }
 
-impl Snapshot {
+impl Baseline {
     /// It has no block. The only call that takes memory.
-    pub fn new(alloc: Global, blocks: u32) -> Result<Snapshot, AllocError>
+    pub fn new(alloc: Global, blocks: u32) -> Result<Baseline, AllocError>
         requires few { blocks ≤ 1048576 }
-        ensures { IfOk result (λ snapshot. snapshot ≡ replicate blocks false) }
+        ensures { IfOk result (λ baseline. baseline ≡ replicate blocks false) }
     {
-        Ok(Snapshot {
+        Ok(Baseline {
             flags: Flags::new(alloc, blocks as usize)?,
         })
     }
