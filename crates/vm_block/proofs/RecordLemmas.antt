@@ -201,6 +201,12 @@ link_numbered w row link n fits is e small numbered =
     number_one 4 n link.block (drop 4 (drop 12 row)) (zeros 236) small fits.block
     (ap (λ x. x ++ drop 4 (drop 12 row)) (sym numbered) ∙ take-append-drop 4 (drop 12 row) ∙ ap (drop 12) e ∙ row_value w ∙ ap (λ z. take 240 (padded 240 z)) is ∙ link_stored link fits)
 
+-- links of the same bytes are to one block
+pub link_one : (a b : Link) → LinkFits a → LinkFits b → link_bytes a ≡ link_bytes b → a.block ≡ b.block
+link_one a b fits other is =
+    number_one 4 a.block b.block (zeros 236) (zeros 236) fits.block other.block
+    (sym (link_stored a fits) ∙ ap (λ z. take 240 (padded 240 z)) is ∙ link_stored b other)
+
 -- # Records
 
 -- a record is a row

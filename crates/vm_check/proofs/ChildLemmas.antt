@@ -15,8 +15,9 @@ use Rattle.vm_block.proofs.EachLemmas.{each_so, each_join}
 use Rattle.vm_block.proofs.FormLemmas.{leaf_or_node}
 use Rattle.vm_block.proofs.LeafLemmas.{leaf_one}
 use Rattle.vm_block.proofs.NodeLemmas.{node_one}
-use Rattle.vm_tree.specs.Tree.{Sizes, Children, Subtree}
-use Rattle.vm_tree.proofs.TreeLemmas.{holds_or_node, subtree_one}
+use Rattle.vm_tree.specs.Tree.{Sizes, Children, Subtree, longest}
+use Rattle.vm_tree.proofs.TreeLemmas.{subtree_one}
+use Rattle.vm_tree.proofs.HoldingLemmas.{holds_or_node, short_leaf}
 use Rattle.vm_tree.proofs.Rising.{rises_front, rises_back}
 use Rattle.vm_tree.proofs.Splitting.{split_at, children_join, child_alone}
 use Rattle.vm_tree.specs.Reading.{IsLeafAt, IsNodeAt}
@@ -130,7 +131,7 @@ module _ (sizes : Sizes) (x : Contents) (limit : ℕ) where
 
   pub leaf_top : (l b : ℕ) (qs rs : List Record) (bs : List ℕ) → IsLeaf (block x b) qs → Subtree sizes x limit l b rs bs → LeafTop l qs
   unfolding Subtree
-  leaf_top zero b qs rs bs leaf t = record { level = refl; few = subst (λ (zs : List Record). length zs ≤ sizes.leaf) (leaf_one (block x b) rs qs t.2.leaf leaf) t.3 }
+  leaf_top zero b qs rs bs leaf t = record { level = refl; few = subst (λ (zs : List Record). length zs ≤ sizes.leaf) (leaf_one (block x b) rs qs (short_leaf x limit (block x b) rs t.1 t.2).0 leaf) t.3 }
   leaf_top (suc l) b qs rs bs leaf t = absurd (leaf_or_node (block x b) qs (suc l) t.1 leaf t.3)
 
   pub record NodeTop (l level : ℕ) (cs : List Child) (rs : List Record) : Type 0 where
@@ -141,7 +142,7 @@ module _ (sizes : Sizes) (x : Contents) (limit : ℕ) where
 
   pub node_top : (l level b : ℕ) (cs : List Child) (rs : List Record) (bs : List ℕ) → IsNode (block x b) level cs → Subtree sizes x limit l b rs bs → NodeTop l level cs rs
   unfolding Subtree
-  node_top zero level b cs rs bs node t = absurd (holds_or_node x limit (block x b) rs t.1 level cs t.2 node)
+  node_top zero level b cs rs bs node t = absurd (holds_or_node x limit longest (block x b) rs t.1 level cs t.2 node)
   node_top (suc l) level b cs rs bs node t =
       let one = node_one (block x b) (suc l) level t.1 cs t.3 node in
       let down : l ≡ level - 1 = omega (arith, one.0) in
@@ -155,5 +156,5 @@ module _ (sizes : Sizes) (x : Contents) (limit : ℕ) where
   -- what follows from either form of the block on top
   pub top_form : (l b : ℕ) (rs : List Record) (bs : List ℕ) (F : Type 0) → Subtree sizes x limit l b rs bs → ((qs : List Record) → IsLeafAt x limit b qs → F) → ((level : ℕ) (cs : List Child) → IsNodeAt x limit level b cs → F) → F
   unfolding Subtree
-  top_form zero b rs bs F t leaf node = leaf rs (record { inside = t.0; leaf = t.2.leaf })
+  top_form zero b rs bs F t leaf node = leaf rs (record { inside = t.0; leaf = (short_leaf x limit (block x b) rs t.1 t.2).0 })
   top_form (suc l) b rs bs F t leaf node = node (suc l) t.1 (record { inside = t.0; node = t.3 })

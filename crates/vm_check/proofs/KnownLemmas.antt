@@ -10,10 +10,11 @@ use Rattle.vm_alloc.proofs.HeldLemmas.{holds_more_then, taken_holds_more, taken_
 use Rattle.vm_block.specs.Leaf.{Record, BeginsWith, IsLeaf}
 use Rattle.vm_block.specs.Node.{IsNode}
 use Rattle.vm_block.specs.declared.node.Child.{Child}
-use Rattle.vm_tree.specs.Tree.{Sizes, IsData, Children, Subtree}
+use Rattle.vm_tree.specs.Tree.{Sizes, IsData, Children, Subtree, longest}
 use Rattle.vm_block.proofs.EachLemmas.{each_so}
 use Rattle.vm_block.proofs.FormLemmas.{leaf_or_node}
 use Rattle.vm_block.proofs.NodeLemmas.{node_one}
+use Rattle.vm_tree.proofs.HoldingLemmas.{leaf_holds, short_leaf}
 use Rattle.vm_tree.proofs.TreeLemmas.{leaf_closes, node_closes}
 use Rattle.vm_check.specs.Visiting.{IsHighest, HasLevel, span_of, met_of, no_met, span_at, Whole, Known, Adds, Visited, VisitedAll}
 use Rattle.vm_check.specs.declared.verifying.Span.{Span}
@@ -31,7 +32,7 @@ level_one bytes (suc l) (suc k) a b = (node_one bytes (suc l) (suc k) a.0 b.0 a.
 
 pub subtree_level : (sizes : Sizes) (x : Contents) (limit l b : ℕ) (rs : List Record) (bs : List ℕ) → Subtree sizes x limit l b rs bs → HasLevel (block x b) l
 unfolding Subtree
-subtree_level sizes x limit zero b rs bs t = (rs, t.2.leaf)
+subtree_level sizes x limit zero b rs bs t = (rs, (short_leaf x limit (block x b) rs t.1 t.2).0)
 subtree_level sizes x limit (suc l) b rs bs t = (t.1, t.3)
 
 node_level : (bytes : List ℕ) (level : ℕ) (cs : List Child) → IsNode bytes level cs → HasLevel bytes level
@@ -84,7 +85,7 @@ module _ (sizes : Sizes) (x : Contents) (limit : ℕ) where
   leaf_whole b rs span marks is at = record {
     records = rs;
     blocks = b ∷ [];
-    subtree = subst (λ l. Subtree sizes x limit l b rs (b ∷ [])) (sym at.level) (leaf_closes sizes x limit b rs (b ∷ []) (record { place = at.inside; under = []; holds = record { leaf = at.leaf; none = refl }; few = at.few; first = refl }));
+    subtree = subst (λ l. Subtree sizes x limit l b rs (b ∷ [])) (sym at.level) (leaf_closes sizes x limit b rs (b ∷ []) (record { place = at.inside; under = []; holds = leaf_holds x limit longest (omega arith) (block x b) rs at.leaf; few = at.few; first = refl }));
     rising = at.leaf.rising;
     lowest = at.lowest;
     highest = at.highest;

@@ -13,8 +13,9 @@ use Rattle.vm_block.specs.Node.{IsNode}
 use Rattle.vm_block.specs.declared.node.Child.{Child}
 use Rattle.vm_block.proofs.EachLemmas.{each_so, each_join}
 use Rattle.vm_block.proofs.NodeLemmas.{node_one}
-use Rattle.vm_tree.specs.Tree.{Sizes, IsData, Children, Subtree}
-use Rattle.vm_tree.proofs.TreeLemmas.{holds_or_node, leaf_opens, node_opens}
+use Rattle.vm_tree.specs.Tree.{Sizes, IsData, Children, Subtree, longest}
+use Rattle.vm_tree.proofs.TreeLemmas.{leaf_opens, node_opens}
+use Rattle.vm_tree.proofs.HoldingLemmas.{holds_or_node, short_leaf}
 use Rattle.vm_tree.specs.Reading.{IsNodeAt}
 use Rattle.vm_check.specs.Marking.{Joined, MarksMore, ClosedTo, unmarked}
 use Rattle.vm_check.proofs.JoinLemmas.{LastOf, last_of, joined_front}
@@ -113,11 +114,11 @@ top_within sizes x limit (suc l) b rs bs t = subst (λ (ds : List ℕ). Contains
 pub subtree_sealed : (sizes : Sizes) (x : Contents) (limit l b : ℕ) (rs : List Record) (bs : List ℕ) → Subtree sizes x limit l b rs bs → Sealed x bs
 unfolding Subtree
 subtree_sealed sizes x limit zero b rs bs t =
-    let only : b ∷ t.1 ≡ b ∷ [] = ap (λ (ds : List ℕ). b ∷ ds) t.2.none in
+    let only : b ∷ t.1 ≡ b ∷ [] = ap (λ (ds : List ℕ). b ∷ ds) (short_leaf x limit (block x b) rs t.1 t.2).1 in
     subst (Sealed x) (sym (t.4 ∙ only)) record { sealed = λ n level cs at node. leaf_alone n level cs node (first_or_other b [] n at) }
   where
     leaf_alone : (n level : ℕ) (cs : List Child) → IsNode (block x n) level cs → (b ≡ n) ⊎ Contains [] n → AllByRecursion (λ c. Contains (b ∷ []) c.block) cs
-    leaf_alone n level cs node (inl same) = absurd (holds_or_node x limit (block x b) rs t.1 level cs t.2 (subst (λ k. IsNode (block x k) level cs) (sym same) node))
+    leaf_alone n level cs node (inl same) = absurd (holds_or_node x limit longest (block x b) rs t.1 level cs t.2 (subst (λ k. IsNode (block x k) level cs) (sym same) node))
     leaf_alone n level cs node (inr at) = absurd (none_of [] n refl at)
 subtree_sealed sizes x limit (suc l) b rs bs t =
     let below = children_sealed x (Subtree sizes x limit l) (subtree_sealed sizes x limit l) t.1 rs t.2 t.5 in
@@ -168,7 +169,7 @@ pub under_marked : (sizes : Sizes) (x : Contents) (limit most : ℕ) (marks : Li
     → Subtree sizes x limit l b rs bs → IsMarked marks b → AllByRecursion (IsMarked marks) bs
 unfolding Subtree
 under_marked sizes x limit most marks closed zero b rs bs le t is =
-    subst (AllByRecursion (IsMarked marks)) (sym t.4) (is, subst (AllByRecursion (IsMarked marks)) (sym t.2.none) tt)
+    subst (AllByRecursion (IsMarked marks)) (sym t.4) (is, subst (AllByRecursion (IsMarked marks)) (sym (short_leaf x limit (block x b) rs t.1 t.2).1) tt)
 under_marked sizes x limit most marks closed (suc l) b rs bs le t is =
     subst (AllByRecursion (IsMarked marks)) (sym t.6) (
       is,
@@ -282,7 +283,7 @@ pub leaf_marked : (sizes : Sizes) (x : Contents) (limit level b : ℕ) (rs : Lis
     → Subtree sizes x limit level b rs bs → MarksMore bs marks new
 leaf_marked sizes x limit level b rs bs marks new none inside is tree =
     let at = leaf_opens sizes x limit level b rs bs none tree in
-    subst (λ (ds : List ℕ). MarksMore ds marks new) (sym (at.first ∙ ap (λ (ds : List ℕ). b ∷ ds) at.holds.none)) (subst (λ (z : List Bool). MarksMore (b ∷ []) marks z) (sym is) (first_more b marks inside))
+    subst (λ (ds : List ℕ). MarksMore ds marks new) (sym (at.first ∙ ap (λ (ds : List ℕ). b ∷ ds) (short_leaf x limit (block x b) rs at.under at.holds).1)) (subst (λ (z : List Bool). MarksMore (b ∷ []) marks z) (sym is) (first_more b marks inside))
 
 -- a fault under an inner block
 pub node_fault : (sizes : Sizes) (old mid : Medium) (limit level b i : ℕ) (bs : List ℕ) (cs : List Child) (d : Child) (marks first now : List Bool) (F : Type 0) → mid ≡ old → b < length marks → first ≡ slice_set marks b true

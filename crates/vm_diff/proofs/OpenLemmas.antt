@@ -12,6 +12,7 @@ use Rattle.vm_tree.specs.Answers.{OkOrDevice}
 use Rattle.vm_tree.specs.declared.root.Root.{Root}
 use Rattle.vm_tree.specs.declared.root.TreeFault.{TreeFault}
 use Rattle.vm_tree.proofs.TreeLemmas.{leaf_opens, node_opens}
+use Rattle.vm_tree.proofs.HoldingLemmas.{short_leaf}
 use Rattle.vm_tree.proofs.Descent.{leaf_read}
 use Rattle.vm_diff.specs.Walk.{Walk, IsAhead, Under, size, tops_of, weight, weight_of}
 use Rattle.vm_diff.specs.Front.{first_of, front_of}
@@ -146,7 +147,7 @@ module _ (sizes : Sizes) (x : Contents) (limit : ℕ) where
         rest_blocks = t.others;
         ahead = subst (λ (w : Walk). IsAhead sizes x limit w rs t.others) (sym (only t.sub leaf.0)) next;
         records = refl;
-        blocks = t.blocks ∙ ap (λ (ds : List ℕ). ds ++ t.others) (here.first ∙ ap (λ (ds : List ℕ). top.block ∷ ds) here.holds.none);
+        blocks = t.blocks ∙ ap (λ (ds : List ℕ). ds ++ t.others) (here.first ∙ ap (λ (ds : List ℕ). top.block ∷ ds) (short_leaf x limit (block x top.block) t.sub here.under here.holds).1);
       }
 
   -- what lies under children lies under their tops

@@ -11,7 +11,7 @@ use Rattle.vm_types.proofs.ChangeLemmas.{with_changes-more}
 use Rattle.vm_types.proofs.Keys.{without_absent}
 use Rattle.vm_disk.specs.Disk.{Contents, Medium, block}
 use Rattle.vm_alloc.specs.Held.{IsHeld}
-use Rattle.vm_block.specs.Leaf.{Record, IsLeaf}
+use Rattle.vm_block.specs.Leaf.{Record, HasRows}
 use Rattle.vm_block.specs.Node.{IsNode}
 use Rattle.vm_block.specs.declared.node.Child.{Child}
 use Rattle.vm_block.proofs.EachLemmas.{each_front, each_back}
@@ -51,7 +51,7 @@ full_in : (P : ℕ → Type 0) (x y : Contents) (limit p : ℕ) → ((n : ℕ) �
 unfolding Subtree FullBelow
 full_in P x y limit p same zero b rs bs tree all full =
     let here = (subst (AllByRecursion P) tree.4 all).0 in
-    (full.0, subst (λ (bytes : List ℕ). IsLeaf bytes full.0) (sym (same b here)) full.1, full.2)
+    (full.0, subst (λ (bytes : List ℕ). HasRows bytes full.0) (sym (same b here)) full.1, full.2)
 full_in P x y limit p same (suc l) b rs bs tree all full =
     let whole = subst (AllByRecursion P) tree.6 all in
     let children = (node_one (block x b) (suc l) (suc l) tree.1 full.0 tree.3 full.2).1 in

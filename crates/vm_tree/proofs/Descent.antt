@@ -15,6 +15,7 @@ use Rattle.vm_tree.specs.Answers.{OkOrDevice}
 use Rattle.vm_tree.specs.Reading.{IsLeafAt, IsNodeAt}
 use Rattle.vm_tree.specs.declared.root.TreeFault.{TreeFault}
 use Rattle.vm_tree.proofs.TreeLemmas.{leaf_opens, node_opens}
+use Rattle.vm_tree.proofs.HoldingLemmas.{short_leaf}
 use Rattle.vm_tree.proofs.Rising.{Below, Above, rises_front, rises_back, rises_before, rises_above, below_more, value_between}
 use Rattle.vm_tree.proofs.Splitting.{SplitAt, split_at}
 
@@ -134,7 +135,7 @@ way_value sizes old mid limit level b p rs bs cs i c result still above tree ris
 -- what is read of a leaf of a tree
 pub leaf_read : (sizes : Sizes) (x : Contents) (limit level b : ℕ) (rs : List Record) (bs : List ℕ) → level ≡ 0 → Subtree sizes x limit level b rs bs → IsLeafAt x limit b rs × (length rs ≤ sizes.leaf)
 leaf_read sizes x limit level b rs bs zero_is tree =
-    let at = leaf_opens sizes x limit level b rs bs zero_is tree in (record { inside = at.place; leaf = at.holds.leaf }, at.few)
+    let at = leaf_opens sizes x limit level b rs bs zero_is tree in (record { inside = at.place; leaf = (short_leaf x limit (block x b) rs at.under at.holds).0 }, at.few)
 
 -- the same, where the count of blocks is named otherwise
 pub leaf_there : (sizes : Sizes) (x : Contents) (limit other level b : ℕ) (rs : List Record) (bs : List ℕ) → level ≡ 0 → other ≡ limit → Subtree sizes x limit level b rs bs → IsLeafAt x other b rs

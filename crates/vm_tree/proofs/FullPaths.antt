@@ -9,12 +9,13 @@ use Rattle.vm_block.specs.Leaf.{Record}
 use Rattle.vm_block.specs.Node.{IsNode, lows}
 use Rattle.vm_block.specs.Way.{IsChosen}
 use Rattle.vm_block.specs.declared.node.Child.{Child}
-use Rattle.vm_block.proofs.LeafLemmas.{leaf_one}
+use Rattle.vm_block.proofs.LeafLemmas.{leaf_rows_one}
 use Rattle.vm_block.proofs.NodeLemmas.{node_one}
 use Rattle.vm_tree.specs.FullPath.{FullBelow, blocks_of}
-use Rattle.vm_tree.specs.Tree.{Sizes}
+use Rattle.vm_tree.specs.Tree.{Sizes, longest}
 use Rattle.vm_tree.specs.Making.{Splits}
 use Rattle.vm_tree.proofs.TreeLemmas.{LeafAt}
+use Rattle.vm_tree.proofs.HoldingLemmas.{holds_many}
 use Rattle.vm_tree.proofs.Descent.{Opened}
 use Rattle.vm_tree.proofs.Placing.{with_longest, with_longer, absent_before}
 use Rattle.vm_tree.proofs.Rising.{value_between}
@@ -25,7 +26,7 @@ pub leaf_splits : (sizes : Sizes) (x : Contents) (limit b : ℕ) (r : Record) (r
 unfolding FullBelow
 leaf_splits sizes x limit b r rs bs at rises over = record {
   absent = absent_before r 0 rs rises (omega (arith, at.few));
-  full = (rs, at.holds.leaf, omega (arith, with_longest r rs));
+  full = (at.holds.rows, at.holds.leaf, omega (arith, with_longest r rs, holds_many x limit longest (block x b) rs at.under at.holds));
 }
 
 pub splits_leaf : (sizes : Sizes) (x : Contents) (limit b : ℕ) (r : Record) (rs : List Record) (bs : List ℕ) → LeafAt sizes x limit b rs bs → Splits sizes x (place r.0) 0 b rs
@@ -33,7 +34,7 @@ pub splits_leaf : (sizes : Sizes) (x : Contents) (limit b : ℕ) (r : Record) (r
 unfolding FullBelow
 splits_leaf sizes x limit b r rs bs at splits =
     let full = splits.full in
-    omega (arith, with_longer r rs splits.absent, ap length (leaf_one (block x b) full.0 rs full.1 at.holds.leaf), full.2)
+    omega (arith, with_longer r rs splits.absent, holds_many x limit longest (block x b) rs at.under at.holds, ap length (leaf_rows_one (block x b) full.0 at.holds.rows full.1 at.holds.leaf), full.2)
 
 -- numbers that rise stand in their order
 pub rises_at : (low : ℕ) (ps : List ℕ) (j k : ℕ) → j ≤ k → k < length ps → RisesFrom low ps → slice_index ps j ≤ slice_index ps k

@@ -10,9 +10,10 @@ use Rattle.vm_block.specs.Node.{ChildFits, IsNode, lows, node_bytes}
 use Rattle.vm_block.specs.Way.{Lowest}
 use Rattle.vm_block.specs.declared.node.Child.{Child}
 use Rattle.vm_block.proofs.EachLemmas.{each_front, each_back, each_join, each_so}
-use Rattle.vm_tree.specs.Tree.{Sizes, IsData, Children, Subtree}
+use Rattle.vm_tree.specs.Tree.{Sizes, IsData, Children, Subtree, longest}
 use Rattle.vm_tree.specs.Making.{Made}
 use Rattle.vm_tree.proofs.TreeLemmas.{subtree_in, leaf_closes, node_closes}
+use Rattle.vm_tree.proofs.HoldingLemmas.{leaf_holds}
 use Rattle.vm_tree.proofs.Rising.{rises_back}
 use Rattle.vm_tree.proofs.Splitting.{children_in, children_join, child_alone, cut_at}
 
@@ -122,7 +123,7 @@ module _ (P : ℕ → Type 0) (sizes : Sizes) (x : Contents) (limit : ℕ) where
         under = child_alone (Subtree sizes x limit 0) child rs (n ∷ []) (leaf_closes sizes x limit n rs (n ∷ []) (record {
           place = inside;
           under = [];
-          holds = record { leaf = record { spelled = spelled; some = some; few = few; fit = fit; rising = rises }; none = refl };
+          holds = leaf_holds x limit longest (omega arith) (block x n) rs (record { spelled = spelled; some = some; few = few; fit = fit; rising = rises });
           few = leaf;
           first = refl;
         })) (begins_first rs some);

@@ -3,6 +3,7 @@ pub mod Beside
 pub mod Descent
 pub mod FullPaths
 pub mod Growing
+pub mod HoldingLemmas
 pub mod Leading
 pub mod Looking
 pub mod Placing

@@ -6,13 +6,13 @@ use Rattle.vm_types.specs.Map.{Map, get, with_value}
 use Rattle.vm_types.specs.Places.{place, KeyFits, FitKeys, RisesFrom, places, value_at, with_record}
 use Rattle.vm_types.proofs.Bridge.{value_at-get, with_record-value}
 use Rattle.vm_disk.specs.Disk.{Contents, block}
-use Rattle.vm_block.specs.Leaf.{Record, BeginsWith, RecordFits}
+use Rattle.vm_block.specs.Leaf.{Record, BeginsWith}
 use Rattle.vm_block.specs.declared.node.Child.{Child}
 use Rattle.vm_block.proofs.EachLemmas.{each_so}
-use Rattle.vm_block.proofs.FormLemmas.{leaf_or_node}
+use Rattle.vm_block.proofs.FormLemmas.{rows_or_node}
 use Rattle.vm_block.proofs.NodeLemmas.{node_one}
 use Rattle.vm_tree.specs.FullPath.{FullBelow}
-use Rattle.vm_tree.specs.Tree.{Sizes, Subtree}
+use Rattle.vm_tree.specs.Tree.{Sizes, IsWithin, Subtree, longest}
 use Rattle.vm_tree.specs.Answers.{LacksRoom, OkOrDevice, Puts}
 use Rattle.vm_tree.specs.Making.{Made, PutsBelow, Splits, children_of, is_split}
 use Rattle.vm_tree.specs.declared.writing.Copied.{Copied}
@@ -21,7 +21,8 @@ use Rattle.vm_tree.specs.Root.{IsTop, IsRootedIn}
 use Rattle.vm_tree.specs.declared.root.Root.{Root}
 use Rattle.vm_tree.specs.declared.root.TreeFault.{TreeFault}
 use Rattle.vm_tree.specs.declared.root.TreeFault.TheVariants.{Device, Damaged, Deep, Memory}
-use Rattle.vm_tree.proofs.TreeLemmas.{holds_or_node, subtree_fit}
+use Rattle.vm_tree.proofs.TreeLemmas.{subtree_fit}
+use Rattle.vm_tree.proofs.HoldingLemmas.{holds_or_node}
 use Rattle.vm_tree.proofs.Descent.{subtree_top}
 use Rattle.vm_tree.proofs.Placing.{with_rises}
 
@@ -40,14 +41,14 @@ made_root P sizes x limit l c rs low rises made =
 pub full_level : (sizes : Sizes) (x : Contents) (limit p l k b : ℕ) (rs : List Record) (bs : List ℕ) → FullBelow sizes x p l b → Subtree sizes x limit k b rs bs → l ≡ k
 unfolding FullBelow Subtree
 full_level sizes x limit p zero zero b rs bs full tree = refl
-full_level sizes x limit p zero (suc k) b rs bs full tree = absurd (leaf_or_node (block x b) full.0 (suc k) tree.1 full.1 tree.3)
-full_level sizes x limit p (suc l) zero b rs bs full tree = absurd (holds_or_node x limit (block x b) rs tree.1 (suc l) full.0 tree.2 full.2)
+full_level sizes x limit p zero (suc k) b rs bs full tree = absurd (rows_or_node (block x b) full.0 (suc k) tree.1 full.1 tree.3)
+full_level sizes x limit p (suc l) zero b rs bs full tree = absurd (holds_or_node x limit longest (block x b) rs tree.1 (suc l) full.0 tree.2 full.2)
 full_level sizes x limit p (suc l) (suc k) b rs bs full tree =
     (node_one (block x b) (suc l) (suc k) full.0 tree.1 full.2 tree.3).0
 
 -- the keys of a subtree have their sizes
 pub subtree_keys : (sizes : Sizes) (x : Contents) (limit l b : ℕ) (rs : List Record) (bs : List ℕ) → Subtree sizes x limit l b rs bs → FitKeys rs
-subtree_keys sizes x limit l b rs bs tree = each_so RecordFits (λ r. KeyFits r.0) (λ r fits. fits.0) rs (subtree_fit sizes x limit l b rs bs tree)
+subtree_keys sizes x limit l b rs bs tree = each_so (IsWithin longest) (λ r. KeyFits r.0) (λ r fits. fits.0) rs (subtree_fit sizes x limit l b rs bs tree)
 
 module _ (sizes : Sizes) (x : Contents) (limit : ℕ) (root : Root) (m : Map) (bs : List ℕ) (key : Key) (fits : KeyFits key) (top : IsTop sizes x limit root m bs) where
   value_same : value_at (place key) m ≡ get m key

@@ -5,40 +5,12 @@ use Rattle.std.specs.List.{AllByRecursion}
 use Rattle.vm_disk.specs.Disk.{Contents, block}
 use Rattle.vm_block.specs.declared.node.Child.{Child}
 use Rattle.vm_types.specs.Places.{KeyFits, FitKeys, RisesFrom, places}
-use Rattle.vm_block.specs.Leaf.{Record, RecordFits}
+use Rattle.vm_block.specs.Leaf.{Record}
 use Rattle.vm_block.specs.Node.{IsNode}
-use Rattle.vm_block.proofs.LeafLemmas.{leaf_one}
 use Rattle.vm_block.proofs.NodeLemmas.{node_one}
-use Rattle.vm_block.proofs.FormLemmas.{leaf_or_node}
 use Rattle.vm_block.proofs.EachLemmas.{each_front, each_back, each_join, each_so}
-use Rattle.vm_tree.specs.Tree.{Sizes, IsData, LeafHolds, Children, Subtree, IsTree, Stands}
-
--- # What a leaf holds
-
-module _ (x : Contents) (limit : ℕ) where
-  -- contents that agree on the blocks beside a leaf have the same records in it
-  holds_in : (P : ℕ → Type 0) (y : Contents) → ((n : ℕ) → P n → block y n ≡ block x n)
-      → (bytes : List ℕ) (rs : List Record) (under : List ℕ) → LeafHolds x limit bytes rs under → AllByRecursion P under → LeafHolds y limit bytes rs under
-  holds_in P y same bytes rs under holds all = record { leaf = holds.leaf; none = holds.none }
-
-  -- the blocks beside a leaf are for data
-  pub holds_data : (bytes : List ℕ) (rs : List Record) (under : List ℕ) → LeafHolds x limit bytes rs under → AllByRecursion (IsData limit) under
-  holds_data bytes rs under holds = subst (AllByRecursion (IsData limit)) (sym holds.none) tt
-
-  -- a leaf holds one list of records, beside one list of blocks
-  pub holds_one : (bytes : List ℕ) (rs qs : List Record) (bs ds : List ℕ) → LeafHolds x limit bytes rs bs → LeafHolds x limit bytes qs ds → (rs ≡ qs) × (bs ≡ ds)
-  holds_one bytes rs qs bs ds one other = (leaf_one bytes rs qs one.leaf other.leaf, one.none ∙ sym other.none)
-
-  -- a leaf is no inner block
-  pub holds_or_node : (bytes : List ℕ) (rs : List Record) (under : List ℕ) (level : ℕ) (cs : List Child) → LeafHolds x limit bytes rs under → IsNode bytes level cs → ⊥
-  holds_or_node bytes rs under level cs holds node = leaf_or_node bytes rs level cs holds.leaf node
-
-  -- the records of a leaf are some, and within their limits
-  pub holds_some : (bytes : List ℕ) (rs : List Record) (under : List ℕ) → LeafHolds x limit bytes rs under → 0 < length rs
-  holds_some bytes rs under holds = holds.leaf.some
-
-  holds_fit : (bytes : List ℕ) (rs : List Record) (under : List ℕ) → LeafHolds x limit bytes rs under → AllByRecursion RecordFits rs
-  holds_fit bytes rs under holds = holds.leaf.fit
+use Rattle.vm_tree.specs.Tree.{Sizes, IsData, IsWithin, LeafHolds, Children, Subtree, IsTree, Stands, longest}
+use Rattle.vm_tree.proofs.HoldingLemmas.{holds_data, holds_in, holds_one, holds_or_node}
 
 -- # Other contents
 
@@ -58,8 +30,8 @@ pub subtree_in : (P : ℕ → Type 0) (sizes : Sizes) (x y : Contents) (limit : 
 unfolding Subtree
 subtree_in P sizes x y limit same zero b rs bs t all =
     let whole = subst (AllByRecursion P) t.4 all in
-    let holds = holds_in x limit P y same (block x b) rs t.1 t.2 whole.1 in
-    (t.0, t.1, subst (λ (bytes : List ℕ). LeafHolds y limit bytes rs t.1) (sym (same b whole.0)) holds, t.3, t.4)
+    let holds = holds_in x limit longest P y same (block x b) rs t.1 t.2 whole.1 in
+    (t.0, t.1, subst (λ (bytes : List ℕ). LeafHolds y limit longest bytes rs t.1) (sym (same b whole.0)) holds, t.3, t.4)
 subtree_in P sizes x y limit same (suc l) b rs bs t all =
     let whole = subst (AllByRecursion P) t.6 all in (
       t.0,
@@ -98,7 +70,7 @@ children_data limit T so (c ∷ cs) rs bs t =
 
 subtree_data : (sizes : Sizes) (x : Contents) (limit l b : ℕ) (rs : List Record) (bs : List ℕ) → Subtree sizes x limit l b rs bs → AllByRecursion (IsData limit) bs
 unfolding Subtree
-subtree_data sizes x limit zero b rs bs t = subst (AllByRecursion (IsData limit)) (sym t.4) (t.0, holds_data x limit (block x b) rs t.1 t.2)
+subtree_data sizes x limit zero b rs bs t = subst (AllByRecursion (IsData limit)) (sym t.4) (t.0, holds_data x limit longest (block x b) rs t.1 t.2)
 subtree_data sizes x limit (suc l) b rs bs t =
     subst (AllByRecursion (IsData limit)) (sym t.6) (t.0, children_data limit (Subtree sizes x limit l) (subtree_data sizes x limit l) t.1 rs t.2 t.5)
 
@@ -124,9 +96,9 @@ children_one T U so (c ∷ cs) rs qs bs ds t u =
 pub subtree_one : (sizes : Sizes) (x : Contents) (limit l k b : ℕ) (rs qs : List Record) (bs ds : List ℕ) → Subtree sizes x limit l b rs bs → Subtree sizes x limit k b qs ds → (rs ≡ qs) × (bs ≡ ds)
 unfolding Subtree
 subtree_one sizes x limit zero zero b rs qs bs ds t u =
-    let both = holds_one x limit (block x b) rs qs t.1 u.1 t.2 u.2 in (both.0, t.4 ∙ ap (λ z. b ∷ z) both.1 ∙ sym u.4)
-subtree_one sizes x limit zero (suc k) b rs qs bs ds t u = absurd (holds_or_node x limit (block x b) rs t.1 (suc k) u.1 t.2 u.3)
-subtree_one sizes x limit (suc l) zero b rs qs bs ds t u = absurd (holds_or_node x limit (block x b) qs u.1 (suc l) t.1 u.2 t.3)
+    let both = holds_one x limit longest (block x b) rs qs t.1 u.1 t.2 u.2 in (both.0, t.4 ∙ ap (λ z. b ∷ z) both.1 ∙ sym u.4)
+subtree_one sizes x limit zero (suc k) b rs qs bs ds t u = absurd (holds_or_node x limit longest (block x b) rs t.1 (suc k) u.1 t.2 u.3)
+subtree_one sizes x limit (suc l) zero b rs qs bs ds t u = absurd (holds_or_node x limit longest (block x b) qs u.1 (suc l) t.1 u.2 t.3)
 subtree_one sizes x limit (suc l) (suc k) b rs qs bs ds t u =
     let node = node_one (block x b) (suc l) (suc k) t.1 u.1 t.3 u.3 in
     let below = subst (λ (cs : List Child). Children (Subtree sizes x limit l) cs rs t.2) node.1 t.5 in
@@ -141,30 +113,30 @@ tree_one sizes x limit (suc b) m n bs ds t u = subtree_one sizes x limit t.0 u.0
 
 -- # The keys of a tree
 
-children_fit : (T : ℕ → List Record → List ℕ → Type 0) → ((b : ℕ) (rs : List Record) (bs : List ℕ) → T b rs bs → AllByRecursion RecordFits rs)
-    → (cs : List Child) (rs : List Record) (bs : List ℕ) → Children T cs rs bs → AllByRecursion RecordFits rs
-children_fit T so [] rs bs t = subst (AllByRecursion RecordFits) (sym t.0) tt
-children_fit T so (c ∷ cs) rs bs t =
-    subst (AllByRecursion RecordFits) (sym t.7)
-    (each_join RecordFits t.0 t.1 (so c.block t.0 t.2 t.4) (children_fit T so cs t.1 t.3 t.6))
+children_fit : (most : ℕ) (T : ℕ → List Record → List ℕ → Type 0) → ((b : ℕ) (rs : List Record) (bs : List ℕ) → T b rs bs → AllByRecursion (IsWithin most) rs)
+    → (cs : List Child) (rs : List Record) (bs : List ℕ) → Children T cs rs bs → AllByRecursion (IsWithin most) rs
+children_fit most T so [] rs bs t = subst (AllByRecursion (IsWithin most)) (sym t.0) tt
+children_fit most T so (c ∷ cs) rs bs t =
+    subst (AllByRecursion (IsWithin most)) (sym t.7)
+    (each_join (IsWithin most) t.0 t.1 (so c.block t.0 t.2 t.4) (children_fit most T so cs t.1 t.3 t.6))
 
 -- the records of a subtree are within their limits
-pub subtree_fit : (sizes : Sizes) (x : Contents) (limit l b : ℕ) (rs : List Record) (bs : List ℕ) → Subtree sizes x limit l b rs bs → AllByRecursion RecordFits rs
+pub subtree_fit : (sizes : Sizes) (x : Contents) (limit l b : ℕ) (rs : List Record) (bs : List ℕ) → Subtree sizes x limit l b rs bs → AllByRecursion (IsWithin longest) rs
 unfolding Subtree
-subtree_fit sizes x limit zero b rs bs t = holds_fit x limit (block x b) rs t.1 t.2
-subtree_fit sizes x limit (suc l) b rs bs t = children_fit (Subtree sizes x limit l) (subtree_fit sizes x limit l) t.1 rs t.2 t.5
+subtree_fit sizes x limit zero b rs bs t = t.2.within
+subtree_fit sizes x limit (suc l) b rs bs t = children_fit longest (Subtree sizes x limit l) (subtree_fit sizes x limit l) t.1 rs t.2 t.5
 
 -- the records of a tree are within their limits
-pub tree_fit : (sizes : Sizes) (x : Contents) (limit b : ℕ) (m : List Record) (bs : List ℕ) → IsTree sizes x limit b m bs → AllByRecursion RecordFits m
+pub tree_fit : (sizes : Sizes) (x : Contents) (limit b : ℕ) (m : List Record) (bs : List ℕ) → IsTree sizes x limit b m bs → AllByRecursion (IsWithin longest) m
 unfolding IsTree
-tree_fit sizes x limit zero m bs t = subst (AllByRecursion RecordFits) (sym t.0) tt
+tree_fit sizes x limit zero m bs t = subst (AllByRecursion (IsWithin longest)) (sym t.0) tt
 tree_fit sizes x limit (suc b) m bs t = subtree_fit sizes x limit t.0 (suc b) m bs t.2
 
 -- the keys of a tree rise strictly, and have their sizes
 pub tree_rises : (sizes : Sizes) (x : Contents) (limit b : ℕ) (m : List Record) (bs : List ℕ) → IsTree sizes x limit b m bs → RisesFrom 0 (places m) × FitKeys m
 unfolding IsTree
 tree_rises sizes x limit zero m bs t = (subst (λ (rs : List Record). RisesFrom 0 (places rs)) (sym t.0) tt, subst FitKeys (sym t.0) tt)
-tree_rises sizes x limit (suc b) m bs t = (t.3, each_so RecordFits (λ r. KeyFits r.0) (λ r fits. fits.0) m (subtree_fit sizes x limit t.0 (suc b) m bs t.2))
+tree_rises sizes x limit (suc b) m bs t = (t.3, each_so (IsWithin longest) (λ r. KeyFits r.0) (λ r fits. fits.0) m (subtree_fit sizes x limit t.0 (suc b) m bs t.2))
 
 -- # Opening and closing a block of a tree
 
@@ -172,7 +144,7 @@ tree_rises sizes x limit (suc b) m bs t = (t.3, each_so RecordFits (λ r. KeyFit
 pub record LeafAt (sizes : Sizes) (x : Contents) (limit b : ℕ) (rs : List Record) (bs : List ℕ) : Type 0 where
   pub place : IsData limit b
   pub under : List ℕ
-  pub holds : LeafHolds x limit (block x b) rs under
+  pub holds : LeafHolds x limit longest (block x b) rs under
   pub few : length rs ≤ sizes.leaf
   pub first : bs ≡ b ∷ under
 
