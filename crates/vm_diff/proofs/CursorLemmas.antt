@@ -96,6 +96,14 @@ top_opened ls top m cs d ds ts s below some is =
     let rest : cs ≡ s.rest = is ∙ ap (λ k. drop 1 (get_or ls k d)) same ∙ ap (λ (es : List Child). drop 1 es) (s.here d) in
     ap₂ (λ k es. tops_in 0 (set (set ls k es) m ds)) same rest ∙ s.under m s.rest ds (omega (arith, same, below, some)) ∙ ap (λ us. tops_of (top.level - 1) ds ++ us) (sym s.left)
 
+-- where no level had a child, one child is the only top
+pub only_top : (ls : List (List Child)) (j index level : ℕ) (c : Child) (cs : List Child) → tops_in j ls ≡ [] → index < length ls → level ≡ j + index → cs ≡ c ∷ [] → tops_in j (set ls index cs) ≡ top_of level c ∷ []
+only_top [] j index level c cs none within at is = absurd (omega (arith, within))
+only_top ([] ∷ css) j zero level c cs none within at is =
+    ap (λ (ds : List Child). tops_of j ds ++ tops_in (suc j) css) is ∙ ap₂ (λ l ts. top_of l c ∷ ts) (omega (arith, at)) none
+only_top ([] ∷ css) j (suc index) level c cs none within at is = only_top css (suc j) index level c cs none (omega (arith, within)) (omega (arith, at)) is
+only_top ((d ∷ ds) ∷ css) j index level c cs none within at is = cc
+
 -- # What two walks share at one level
 
 tops_front : (level : ℕ) (front cs : List Child) (after : List Root) → tops_of level (front ++ cs) ++ after ≡ tops_of level front ++ (tops_of level cs ++ after)

@@ -1,6 +1,7 @@
 -- How what is ahead of two walks differs.
 use Rattle.std.specs.Prelude.{◌≡◌, ◌↔◌, ℕ, ◌+◌, ◌≤◌, Bool, true, List, [], ◌∷◌, ◌++◌, Option, None, option_to_list, Result, IsTrue}
 use Rattle.vm_types.specs.declared.change.Change.{Change}
+use Rattle.vm_types.specs.declared.key.Key.{Key}
 use Rattle.vm_types.specs.Map.{Map, delta}
 use Rattle.vm_types.specs.Places.{FitKeys, RisesFrom, places}
 use Rattle.vm_disk.specs.Disk.{Contents, DiskState}
@@ -12,6 +13,7 @@ use Rattle.vm_tree.specs.declared.root.Root.{Root}
 use Rattle.vm_tree.specs.declared.root.TreeFault.{TreeFault}
 use Rattle.vm_diff.specs.Front.{Front, opened_at}
 use Rattle.vm_diff.specs.Front.Front.{Top}
+use Rattle.vm_diff.specs.Opened.{HasNoValue, HasValue}
 use Rattle.vm_diff.specs.Shared.{unshared}
 use Rattle.vm_diff.specs.Steps.{StepsBy}
 use Rattle.vm_diff.specs.Walk.{Walk, IsAhead}
@@ -94,6 +96,16 @@ abbrev pub TakesChange : Change → Walk → Walk → Walk → Walk → Type 0
 TakesChange change one other one_now other_now =
     (sizes : Sizes) (x : Contents) (limit reads most : ℕ) (changes : List Change) → Differ sizes x limit one other reads most changes
     → (rest : List Change) × (changes ≡ change ∷ rest) × Differ sizes x limit one_now other_now reads most rest
+
+-- this is the value that a walk has at the key, or there is none
+abbrev pub IsValueAt : Option (List ℕ) → Key → Walk → Type 0
+IsValueAt value key walk = HasValue value key walk × HasNoValue value key walk
+
+-- the first difference is the one at this key, with the values that the walks had there
+abbrev pub PassesChange : Key → Walk → Walk → Walk → Walk → Type 0
+PassesChange key one other one_now other_now =
+    (before after : Option (List ℕ)) → IsValueAt before key one → IsValueAt after key other
+    → TakesChange (record { key = key; before = before; after = after }) one other one_now other_now
 
 -- what lies under this top, on a disk that is honest after the call, takes its place, unless the device fails
 abbrev pub Opens : {T : Type 0} → Result T TreeFault → DiskState → DiskState → ℕ → Root → Walk → Walk → Type 0

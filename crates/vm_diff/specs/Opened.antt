@@ -44,15 +44,21 @@ IsIntoRecords walk later = (length later.pending ≤ 16) × (later.tops ≡ drop
 abbrev pub IsIntoTops : ℕ → Walk → Walk → Type 0
 IsIntoTops level walk later = (cs : List Child) × (length cs ≤ 256) × (later ≡ into_tops (tops_of (level - 1) cs) walk)
 
--- a record at the place of this key, before which the walk stands, is taken
-abbrev pub TakesPair : Option (List ℕ) → Key → Walk → Walk → Type 0
-TakesPair result key walk later =
-    (low : Key) (value : List ℕ) → front_of walk ≡ Pair low value → place low ≡ place key → (result ≡ Some value) × (later ≡ past_record walk)
+-- a record at the place of this key, before which the walk stands, has this value
+abbrev pub HasValue : Option (List ℕ) → Key → Walk → Type 0
+HasValue value key walk = (low : Key) (bytes : List ℕ) → front_of walk ≡ Pair low bytes → place low ≡ place key → value ≡ Some bytes
 
--- where it stands before none, none is
-abbrev pub TakesNone : Option (List ℕ) → Key → Walk → Walk → Type 0
-TakesNone result key walk later =
-    ((low : Key) (value : List ℕ) → front_of walk ≡ Pair low value → place low ≢ place key) → (result ≡ None) × (later ≡ walk)
+-- where it stands before none, there is no value
+abbrev pub HasNoValue : Option (List ℕ) → Key → Walk → Type 0
+HasNoValue value key walk = ((low : Key) (bytes : List ℕ) → front_of walk ≡ Pair low bytes → place low ≢ place key) → value ≡ None
+
+-- the walk goes past a record at the place of this key, before which it stands
+abbrev pub GoesPast : Key → Walk → Walk → Type 0
+GoesPast key walk later = (low : Key) (bytes : List ℕ) → front_of walk ≡ Pair low bytes → place low ≡ place key → later ≡ past_record walk
+
+-- where it stands before none, it stays
+abbrev pub Stays : Key → Walk → Walk → Type 0
+Stays key walk later = ((low : Key) (bytes : List ℕ) → front_of walk ≡ Pair low bytes → place low ≢ place key) → later ≡ walk
 
 -- where the walk stands before a record, this is its value
 abbrev pub IsNextValue : List ℕ → Walk → Type 0

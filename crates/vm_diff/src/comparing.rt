@@ -1,15 +1,15 @@
 //! Where two maps differ.
-ghost use Rattle.std.specs.Prelude.{◌≡◌, ◌≢◌, ◌≤◌, length, option_copied, IfSome};
+ghost use Rattle.std.specs.Prelude.{◌≡◌, ◌≢◌, ◌≤◌};
 ghost use Rattle.vm_tree.specs.Calls.{OnlyLooks};
 ghost use Rattle.vm_diff.specs.Differ.{GivesChanges, ReadsUnshared, TellsEqual};
 
 use crate::cursor::Cursor;
 use crate::front::Step;
-use crate::stepping::{step, take_change};
+use crate::stepping::{pass_change, step};
 use std::alloc::Global;
 use vm_disk::Disk;
 use vm_tree::{Root, TreeFault};
-use vm_types::{Changes, Value};
+use vm_types::Changes;
 
 /// Where the map under the second root differs from the one under the first: each such key once, in
 /// order, with both values. It takes memory for them alone.
@@ -38,7 +38,9 @@ pub fn changed<D: Disk>(
     changed_between(alloc, disk, blocks, first, second)
 }
 
-/// What `changed` answers, by two walks. They are set up as the function begins, so it is one of its own.
+/// What `changed` answers, by two walks. It stands alone, and is not put into its caller, so that only
+/// here both walks are on the stack.
+#[inline(never)]
 fn changed_between<D: Disk>(
     alloc: Global,
     disk: &mut D,
@@ -53,12 +55,14 @@ fn changed_between<D: Disk>(
         blocks first second }
     ensures bound { ReadsUnshared (D.state disk.old) (D.state disk.new) blocks first second }
 {
-    let Some(mut one) = Cursor::new(first) else {
+    let mut one = Cursor::empty();
+    if !one.begin(first) {
         return Err(TreeFault::Damaged(first.block));
-    };
-    let Some(mut other) = Cursor::new(second) else {
+    }
+    let mut other = Cursor::empty();
+    if !other.begin(second) {
         return Err(TreeFault::Damaged(second.block));
-    };
+    }
     let mut changes = Changes::new(alloc);
     'steps: loop {
         let next = step(disk, blocks, &mut one, &mut other)?;
@@ -66,28 +70,13 @@ fn changed_between<D: Disk>(
             Step::Done => return Ok(changes),
             Step::Moved => {}
             Step::Found(key) => {
-                let change = take_change(&mut one, &mut other, key);
-                match changes.push(
-                    change.key,
-                    bytes_of(&change.before),
-                    bytes_of(&change.after),
-                ) {
+                match changes.push(key, one.value_at(key), other.value_at(key)) {
                     Ok(()) => {}
                     Err(_) => return Err(TreeFault::Memory),
                 }
+                pass_change(&mut one, &mut other, key);
             }
         }
-    }
-}
-
-/// The bytes of a value, if there is one.
-fn bytes_of(value: &Option<Value>) -> Option<&[u8]>
-    ensures bytes { option_copied result ≡ value.now }
-    ensures short { IfSome result (λ bytes. length bytes.now ≤ 240) }
-{
-    match value {
-        Some(value) => Some(value.as_bytes()),
-        None => None,
     }
 }
 
@@ -116,7 +105,8 @@ pub fn same<D: Disk>(
     same_between(disk, blocks, first, second)
 }
 
-/// What `same` answers, by two walks.
+/// What `same` answers, by two walks. It stands alone as `changed_between` does.
+#[inline(never)]
 fn same_between<D: Disk>(
     disk: &mut D,
     blocks: u32,
@@ -130,12 +120,14 @@ fn same_between<D: Disk>(
     ensures equal { TellsEqual result (D.state disk.old) (D.state disk.new) blocks first second }
     ensures bound { ReadsUnshared (D.state disk.old) (D.state disk.new) blocks first second }
 {
-    let Some(mut one) = Cursor::new(first) else {
+    let mut one = Cursor::empty();
+    if !one.begin(first) {
         return Err(TreeFault::Damaged(first.block));
-    };
-    let Some(mut other) = Cursor::new(second) else {
+    }
+    let mut other = Cursor::empty();
+    if !other.begin(second) {
         return Err(TreeFault::Damaged(second.block));
-    };
+    }
     'steps: loop {
         let next = step(disk, blocks, &mut one, &mut other)?;
         match next {

@@ -1,11 +1,11 @@
 //! A walk through a tree, by rising keys.
-ghost use Rattle.std.specs.Prelude.{◌≡◌, ◌≢◌, ◌+◌, ◌^◌, ◌<◌, ◌≤◌, [], ◌∷◌, length, drop, IsTrue, IfSome, IfNone, OnOk};
+ghost use Rattle.std.specs.Prelude.{◌≡◌, ◌≢◌, ◌+◌, ◌^◌, ◌<◌, ◌≤◌, [], ◌∷◌, length, drop, option_copied, IsFalse, IsTrue, IfSome, OnOk};
 ghost use Rattle.vm_tree.specs.Calls.{OnlyLooks};
 ghost use Rattle.vm_diff.specs.Walk.{Walk, past_record, walk_of};
 ghost use Rattle.vm_diff.specs.Ahead.{PassedBoth, first_top, tops_in};
 ghost use Rattle.vm_diff.specs.Front.{front_of, next_of, place_of};
 ghost use Rattle.vm_diff.specs.Front.Front.{Top};
-ghost use Rattle.vm_diff.specs.Opened.{IsIntoRecords, IsIntoTops, IsNextValue, OpensLeaf, OpensNode, TakesNone, TakesPair};
+ghost use Rattle.vm_diff.specs.Opened.{GoesPast, HasNoValue, HasValue, IsIntoRecords, IsIntoTops, IsNextValue, OpensLeaf, OpensNode, Stays};
 
 use crate::children::Children;
 use crate::front::Next;
@@ -13,7 +13,7 @@ use crate::records::Records;
 use std::marker::Model;
 use vm_disk::Disk;
 use vm_tree::{Root, TreeFault};
-use vm_types::{Key, Value};
+use vm_types::Key;
 
 /// A walk through a tree: the records of the leaf that is open, and then the subtrees that are not
 /// open yet, those of each level in the inner block one level above. The root is the one child at its own level.
@@ -53,32 +53,42 @@ fn next_top(levels: &[Children; 8]) -> Option<Root>
 }
 
 impl Cursor {
-    /// A walk through the tree under a root. None where its level is none that a tree has.
-    pub(crate) fn new(root: Root) -> Option<Cursor>
-        ensures none { IfNone result ((root.block ≢ 0) × (7 < root.level)) }
-        ensures empty { root.block ≡ 0 → IfSome result (λ walk. walk ≡ walk_of []) }
-        ensures some { root.block ≢ 0 → IfSome result (λ walk. walk ≡ walk_of (root ∷ [])) }
+    /// A walk at its end. It has room for nine blocks, so it is made where it stays, and begun there.
+    pub(crate) fn empty() -> Cursor
+        ensures { result ≡ walk_of [] }
     {
-        let mut levels = [
-            Children::new(),
-            Children::new(),
-            Children::new(),
-            Children::new(),
-            Children::new(),
-            Children::new(),
-            Children::new(),
-            Children::new(),
-        ];
-        if root.block != 0 {
-            if root.level > 7 {
-                return None;
-            }
-            levels[root.level as usize].hold(root.low, root.block);
-        }
-        Some(Cursor {
+        Cursor {
             records: Records::new(),
-            levels,
-        })
+            levels: [
+                Children::new(),
+                Children::new(),
+                Children::new(),
+                Children::new(),
+                Children::new(),
+                Children::new(),
+                Children::new(),
+                Children::new(),
+            ],
+        }
+    }
+
+    /// Has a walk that is at its end go through the tree under a root, and tells whether it does: it
+    /// stays at its end where the root's level is none that a tree has.
+    pub(crate) fn begin(&mut self, root: Root) -> bool
+        requires { self.old ≡ walk_of [] }
+        ensures none { IsFalse result → (root.block ≢ 0) × (7 < root.level) }
+        ensures end { IsFalse result → self.new ≡ walk_of [] }
+        ensures empty { root.block ≡ 0 → IsTrue result → self.new ≡ walk_of [] }
+        ensures some { root.block ≢ 0 → IsTrue result → self.new ≡ walk_of (root ∷ []) }
+    {
+        if root.block == 0 {
+            return true;
+        }
+        if root.level > 7 {
+            return false;
+        }
+        self.levels[root.level as usize].hold(root.low, root.block);
+        true
     }
 
     /// What the walk stands before.
@@ -121,18 +131,26 @@ impl Cursor {
         self.records.pass();
     }
 
-    /// The value of the key, where the walk stands before its record, past which it goes then.
-    pub(crate) fn take_at(&mut self, key: Key) -> Option<Value>
-        ensures there { TakesPair result key self.old self.new }
-        ensures none { TakesNone result key self.old self.new }
+    /// The bytes of the value of the key, where the walk stands before its record.
+    pub(crate) fn value_at(&self, key: Key) -> Option<&[u8]>
+        ensures there { HasValue (option_copied result) key self.now }
+        ensures none { HasNoValue (option_copied result) key self.now }
+        ensures short { IfSome result (λ bytes. length bytes.now ≤ 240) }
     {
         match self.records.key() {
-            Some(low) if low.place() == key.place() => {
-                let value = Value::new(self.records.value());
-                self.records.pass();
-                value
-            }
+            Some(low) if low.place() == key.place() => Some(self.records.value()),
             _ => None,
+        }
+    }
+
+    /// Goes past the record of the key, where the walk stands before it.
+    pub(crate) fn pass_at(&mut self, key: Key)
+        ensures there { GoesPast key self.old self.new }
+        ensures none { Stays key self.old self.new }
+    {
+        match self.records.key() {
+            Some(low) if low.place() == key.place() => self.records.pass(),
+            _ => {}
         }
     }
 

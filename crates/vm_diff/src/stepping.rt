@@ -5,7 +5,7 @@ ghost use Rattle.vm_tree.specs.Calls.{OnlyLooks};
 ghost use Rattle.vm_diff.specs.Walk.{size};
 ghost use Rattle.vm_diff.specs.Front.{front_of, next_of, place_of};
 ghost use Rattle.vm_diff.specs.Front.Front.{Top};
-ghost use Rattle.vm_diff.specs.Differ.{ReadsWithin, Steps, StepsUnread, TakesChange};
+ghost use Rattle.vm_diff.specs.Differ.{PassesChange, ReadsWithin, Steps, StepsUnread};
 ghost use Rattle.vm_diff.specs.Opened.{StandsAt};
 ghost use Rattle.vm_diff.specs.Steps.{Falls, FoundBy, Meet, moved_by};
 
@@ -15,7 +15,7 @@ use crate::opening::open;
 use crate::skipping::skip_shared;
 use vm_disk::Disk;
 use vm_tree::{Root, TreeFault};
-use vm_types::{Change, Key};
+use vm_types::Key;
 
 /// The step of opening a subtree.
 fn moved(opened: Result<(), TreeFault>) -> Result<Step, TreeFault>
@@ -151,13 +151,12 @@ pub(crate) fn step<D: Disk>(
     meet(disk, blocks, one, other)
 }
 
-/// The difference that both walks stand before, past which they go.
-pub(crate) fn take_change(one: &mut Cursor, other: &mut Cursor, key: Key) -> Change
+/// Goes past the difference at this key, which both walks stand before.
+pub(crate) fn pass_change(one: &mut Cursor, other: &mut Cursor, key: Key)
     requires { Meet key (front_of one.old) (front_of other.old) }
     ensures falls { size one.new + size other.new < size one.old + size other.old }
-    ensures change { TakesChange result one.old other.old one.new other.new }
+    ensures change { PassesChange key one.old other.old one.new other.new }
 {
-    let before = one.take_at(key);
-    let after = other.take_at(key);
-    Change { key, before, after }
+    one.pass_at(key);
+    other.pass_at(key);
 }

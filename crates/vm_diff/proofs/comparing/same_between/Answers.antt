@@ -5,54 +5,54 @@ use Rattle.vm_tree.proofs.Looking.{looks_on, passed_on}
 use Rattle.vm_diff.proofs.CompareLemmas.{root_low, roots_differ, compares_more, compares_bound, all_found, some_found, step_failed}
 use Rattle.vm_diff.proofs.comparing.same_between.Goals as goal
 
-pub returns-in_default-clause-equal : goal.returns-in_default-clause-equal
-returns-in_default-clause-equal g c honest sizes m n bs cs first second =
-    absurd (root_low sizes (g.D.Disk.state c.args.disk.now).now.contents c.args.blocks c.args.first m bs first c.in_default.ensures.none)
+pub returns-then-not-begin-clause-equal : goal.returns-then-not-begin-clause-equal
+returns-then-not-begin-clause-equal g c honest sizes m n bs cs first second =
+    absurd (root_low sizes (g.D.Disk.state c.args.disk.now).now.contents c.args.blocks c.args.first m bs first (c.if-not-begin.ensures.none refl))
 
-pub returns-in_default-new-clause-equal : goal.returns-in_default-new-clause-equal
-returns-in_default-new-clause-equal g c honest sizes m n bs cs first second =
-    absurd (root_low sizes (g.D.Disk.state c.args.disk.now).now.contents c.args.blocks c.args.second n cs second c.in_default-new.ensures.none)
+pub returns-then-not-begin-2-clause-equal : goal.returns-then-not-begin-2-clause-equal
+returns-then-not-begin-2-clause-equal g c honest sizes m n bs cs first second =
+    absurd (root_low sizes (g.D.Disk.state c.args.disk.now).now.contents c.args.blocks c.args.second n cs second (c.if-not-begin-2.ensures.none refl))
 
 pub returns-in-Done-clause-equal : goal.returns-in-Done-clause-equal
 returns-in-Done-clause-equal g c honest sizes m n bs cs first second =
-    let differ = roots_differ sizes (g.D.Disk.state c.args.disk.now).now.contents c.args.blocks (g.D.Disk.state c.args.disk.now).reads c.args.first c.args.second c.in-Some.one c.in-Some-new.other m n bs cs
-    c.in-Some.ensures.empty c.in-Some.ensures.some c.in-Some-new.ensures.empty c.in-Some-new.ensures.some first second in
-    let none = all_found (g.D.Disk.state c.args.disk.now) (g.D.Disk.state c.steps.disk) (g.D.Disk.state c.step.new.disk) c.step.ensures.looks.goes.earlier c.args.blocks c.in-Some.one c.in-Some-new.other c.steps.one c.steps.other [] c.steps.invariant c.step.new.one c.step.new.other (g.D.Disk.state c.step.new.disk).reads c.in_ok-next.next c.in-Done.is c.in_ok-next.ensures.steps honest sizes _ (delta m n) differ in
+    let differ = roots_differ sizes (g.D.Disk.state c.args.disk.now).now.contents c.args.blocks (g.D.Disk.state c.args.disk.now).reads c.args.first c.args.second c.begin.new.self c.begin-2.new.self m n bs cs
+    (λ none. c.if-not-begin.ensures.empty none refl) (λ some. c.if-not-begin.ensures.some some refl) (λ none. c.if-not-begin-2.ensures.empty none refl) (λ some. c.if-not-begin-2.ensures.some some refl) first second in
+    let none = all_found (g.D.Disk.state c.args.disk.now) (g.D.Disk.state c.steps.disk) (g.D.Disk.state c.step.new.disk) c.step.ensures.looks.goes.earlier c.args.blocks c.begin.new.self c.begin-2.new.self c.steps.one c.steps.other [] c.steps.invariant c.step.new.one c.step.new.other (g.D.Disk.state c.step.new.disk).reads c.in_ok-next.next c.in-Done.is c.in_ok-next.ensures.steps honest sizes _ (delta m n) differ in
     (λ _. sym none, λ _. refl)
 
 pub steps-preserved : goal.steps-preserved
 steps-preserved g c =
-    compares_more (g.D.Disk.state c.args.disk.now) (g.D.Disk.state c.steps.disk) (g.D.Disk.state c.step.new.disk) c.step.ensures.looks.goes.earlier c.args.blocks c.in-Some.one c.in-Some-new.other c.steps.one c.steps.other [] c.steps.invariant c.step.new.one c.step.new.other c.in_ok-next.next c.in-Moved.is c.in_ok-next.ensures.looks c.in_ok-next.ensures.steps
+    compares_more (g.D.Disk.state c.args.disk.now) (g.D.Disk.state c.steps.disk) (g.D.Disk.state c.step.new.disk) c.step.ensures.looks.goes.earlier c.args.blocks c.begin.new.self c.begin-2.new.self c.steps.one c.steps.other [] c.steps.invariant c.step.new.one c.step.new.other c.in_ok-next.next c.in-Moved.is c.in_ok-next.ensures.looks c.in_ok-next.ensures.steps
 
 pub returns-in-Found-clause-equal : goal.returns-in-Found-clause-equal
 returns-in-Found-clause-equal g c honest sizes m n bs cs first second =
-    let differ = roots_differ sizes (g.D.Disk.state c.args.disk.now).now.contents c.args.blocks (g.D.Disk.state c.args.disk.now).reads c.args.first c.args.second c.in-Some.one c.in-Some-new.other m n bs cs
-    c.in-Some.ensures.empty c.in-Some.ensures.some c.in-Some-new.ensures.empty c.in-Some-new.ensures.some first second in
-    (λ equal. absurd (false≢true equal), λ none. absurd (some_found (g.D.Disk.state c.args.disk.now) (g.D.Disk.state c.steps.disk) (g.D.Disk.state c.step.new.disk) c.step.ensures.looks.goes.earlier c.args.blocks c.in-Some.one c.in-Some-new.other c.steps.one c.steps.other [] c.steps.invariant c.step.new.one c.step.new.other (g.D.Disk.state c.step.new.disk).reads c.in_ok-next.next _ c.in-Found.is c.in_ok-next.ensures.found c.in_ok-next.ensures.steps honest sizes _ (delta m n) differ none))
+    let differ = roots_differ sizes (g.D.Disk.state c.args.disk.now).now.contents c.args.blocks (g.D.Disk.state c.args.disk.now).reads c.args.first c.args.second c.begin.new.self c.begin-2.new.self m n bs cs
+    (λ none. c.if-not-begin.ensures.empty none refl) (λ some. c.if-not-begin.ensures.some some refl) (λ none. c.if-not-begin-2.ensures.empty none refl) (λ some. c.if-not-begin-2.ensures.some some refl) first second in
+    (λ equal. absurd (false≢true equal), λ none. absurd (some_found (g.D.Disk.state c.args.disk.now) (g.D.Disk.state c.steps.disk) (g.D.Disk.state c.step.new.disk) c.step.ensures.looks.goes.earlier c.args.blocks c.begin.new.self c.begin-2.new.self c.steps.one c.steps.other [] c.steps.invariant c.step.new.one c.step.new.other (g.D.Disk.state c.step.new.disk).reads c.in_ok-next.next _ c.in-Found.is c.in_ok-next.ensures.found c.in_ok-next.ensures.steps honest sizes _ (delta m n) differ none))
 
 pub returns-in_err-next-clause-equal : goal.returns-in_err-next-clause-equal
 returns-in_err-next-clause-equal g c honest sizes m n bs cs first second =
-    let differ = roots_differ sizes (g.D.Disk.state c.args.disk.now).now.contents c.args.blocks (g.D.Disk.state c.args.disk.now).reads c.args.first c.args.second c.in-Some.one c.in-Some-new.other m n bs cs
-    c.in-Some.ensures.empty c.in-Some.ensures.some c.in-Some-new.ensures.empty c.in-Some-new.ensures.some first second in
-    rw (passed_on _ c.from_residual.ensures.1) (step_failed (g.D.Disk.state c.args.disk.now) (g.D.Disk.state c.steps.disk) (g.D.Disk.state c.step.new.disk) c.step.ensures.looks.goes.earlier c.args.blocks c.in-Some.one c.in-Some-new.other c.steps.one c.steps.other [] c.steps.invariant c.step.new.one c.step.new.other (g.D.Disk.state c.step.new.disk).reads c.in_err-next.field-0.0 c.in_err-next.ensures.steps honest sizes _ (delta m n) differ)
+    let differ = roots_differ sizes (g.D.Disk.state c.args.disk.now).now.contents c.args.blocks (g.D.Disk.state c.args.disk.now).reads c.args.first c.args.second c.begin.new.self c.begin-2.new.self m n bs cs
+    (λ none. c.if-not-begin.ensures.empty none refl) (λ some. c.if-not-begin.ensures.some some refl) (λ none. c.if-not-begin-2.ensures.empty none refl) (λ some. c.if-not-begin-2.ensures.some some refl) first second in
+    rw (passed_on _ c.from_residual.ensures.1) (step_failed (g.D.Disk.state c.args.disk.now) (g.D.Disk.state c.steps.disk) (g.D.Disk.state c.step.new.disk) c.step.ensures.looks.goes.earlier c.args.blocks c.begin.new.self c.begin-2.new.self c.steps.one c.steps.other [] c.steps.invariant c.step.new.one c.step.new.other (g.D.Disk.state c.step.new.disk).reads c.in_err-next.field-0.0 c.in_err-next.ensures.steps honest sizes _ (delta m n) differ)
 
 pub returns-in-Done-clause-bound : goal.returns-in-Done-clause-bound
 returns-in-Done-clause-bound g c honest sizes m n bs cs first second =
-    let differ = roots_differ sizes (g.D.Disk.state c.args.disk.now).now.contents c.args.blocks (g.D.Disk.state c.args.disk.now).reads c.args.first c.args.second c.in-Some.one c.in-Some-new.other m n bs cs
-    c.in-Some.ensures.empty c.in-Some.ensures.some c.in-Some-new.ensures.empty c.in-Some-new.ensures.some first second in
-    compares_bound (g.D.Disk.state c.args.disk.now) (g.D.Disk.state c.steps.disk) (g.D.Disk.state c.step.new.disk) c.step.ensures.looks.goes.earlier c.args.blocks c.in-Some.one c.in-Some-new.other c.steps.one c.steps.other [] c.steps.invariant (g.D.Disk.state c.step.new.disk).reads c.in_ok-next.ensures.bound honest sizes _ (delta m n) differ
+    let differ = roots_differ sizes (g.D.Disk.state c.args.disk.now).now.contents c.args.blocks (g.D.Disk.state c.args.disk.now).reads c.args.first c.args.second c.begin.new.self c.begin-2.new.self m n bs cs
+    (λ none. c.if-not-begin.ensures.empty none refl) (λ some. c.if-not-begin.ensures.some some refl) (λ none. c.if-not-begin-2.ensures.empty none refl) (λ some. c.if-not-begin-2.ensures.some some refl) first second in
+    compares_bound (g.D.Disk.state c.args.disk.now) (g.D.Disk.state c.steps.disk) (g.D.Disk.state c.step.new.disk) c.step.ensures.looks.goes.earlier c.args.blocks c.begin.new.self c.begin-2.new.self c.steps.one c.steps.other [] c.steps.invariant (g.D.Disk.state c.step.new.disk).reads c.in_ok-next.ensures.bound honest sizes _ (delta m n) differ
 
 pub returns-in_err-next-clause-bound : goal.returns-in_err-next-clause-bound
 returns-in_err-next-clause-bound g c honest sizes m n bs cs first second =
-    let differ = roots_differ sizes (g.D.Disk.state c.args.disk.now).now.contents c.args.blocks (g.D.Disk.state c.args.disk.now).reads c.args.first c.args.second c.in-Some.one c.in-Some-new.other m n bs cs
-    c.in-Some.ensures.empty c.in-Some.ensures.some c.in-Some-new.ensures.empty c.in-Some-new.ensures.some first second in
-    compares_bound (g.D.Disk.state c.args.disk.now) (g.D.Disk.state c.steps.disk) (g.D.Disk.state c.step.new.disk) c.step.ensures.looks.goes.earlier c.args.blocks c.in-Some.one c.in-Some-new.other c.steps.one c.steps.other [] c.steps.invariant (g.D.Disk.state c.step.new.disk).reads c.in_err-next.ensures.bound honest sizes _ (delta m n) differ
+    let differ = roots_differ sizes (g.D.Disk.state c.args.disk.now).now.contents c.args.blocks (g.D.Disk.state c.args.disk.now).reads c.args.first c.args.second c.begin.new.self c.begin-2.new.self m n bs cs
+    (λ none. c.if-not-begin.ensures.empty none refl) (λ some. c.if-not-begin.ensures.some some refl) (λ none. c.if-not-begin-2.ensures.empty none refl) (λ some. c.if-not-begin-2.ensures.some some refl) first second in
+    compares_bound (g.D.Disk.state c.args.disk.now) (g.D.Disk.state c.steps.disk) (g.D.Disk.state c.step.new.disk) c.step.ensures.looks.goes.earlier c.args.blocks c.begin.new.self c.begin-2.new.self c.steps.one c.steps.other [] c.steps.invariant (g.D.Disk.state c.step.new.disk).reads c.in_err-next.ensures.bound honest sizes _ (delta m n) differ
 
 pub returns-in-Found-clause-bound : goal.returns-in-Found-clause-bound
 returns-in-Found-clause-bound g c honest sizes m n bs cs first second =
-    let differ = roots_differ sizes (g.D.Disk.state c.args.disk.now).now.contents c.args.blocks (g.D.Disk.state c.args.disk.now).reads c.args.first c.args.second c.in-Some.one c.in-Some-new.other m n bs cs
-    c.in-Some.ensures.empty c.in-Some.ensures.some c.in-Some-new.ensures.empty c.in-Some-new.ensures.some first second in
-    compares_bound (g.D.Disk.state c.args.disk.now) (g.D.Disk.state c.steps.disk) (g.D.Disk.state c.step.new.disk) c.step.ensures.looks.goes.earlier c.args.blocks c.in-Some.one c.in-Some-new.other c.steps.one c.steps.other [] c.steps.invariant (g.D.Disk.state c.step.new.disk).reads c.in_ok-next.ensures.bound honest sizes _ (delta m n) differ
+    let differ = roots_differ sizes (g.D.Disk.state c.args.disk.now).now.contents c.args.blocks (g.D.Disk.state c.args.disk.now).reads c.args.first c.args.second c.begin.new.self c.begin-2.new.self m n bs cs
+    (λ none. c.if-not-begin.ensures.empty none refl) (λ some. c.if-not-begin.ensures.some some refl) (λ none. c.if-not-begin-2.ensures.empty none refl) (λ some. c.if-not-begin-2.ensures.some some refl) first second in
+    compares_bound (g.D.Disk.state c.args.disk.now) (g.D.Disk.state c.steps.disk) (g.D.Disk.state c.step.new.disk) c.step.ensures.looks.goes.earlier c.args.blocks c.begin.new.self c.begin-2.new.self c.steps.one c.steps.other [] c.steps.invariant (g.D.Disk.state c.step.new.disk).reads c.in_ok-next.ensures.bound honest sizes _ (delta m n) differ
 
 pub returns-in-Done-clause-looks : goal.returns-in-Done-clause-looks
 returns-in-Done-clause-looks g c = looks_on c.steps.invariant.looks c.in_ok-next.ensures.looks (λ is. cc)

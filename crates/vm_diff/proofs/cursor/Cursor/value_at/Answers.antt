@@ -2,7 +2,7 @@ use Rattle.std.proofs.Common.{sym, ap, ◌∙◌, arith}
 use Rattle.vm_diff.specs.Ahead.{tops_in}
 use Rattle.vm_diff.specs.Front.{front_of}
 use Rattle.vm_diff.proofs.CursorLemmas.{front_key}
-use Rattle.vm_diff.proofs.cursor.Cursor.take_at.Goals as goal
+use Rattle.vm_diff.proofs.cursor.Cursor.value_at.Goals as goal
 
 pub returns-in-Some-clause-none : goal.returns-in-Some-clause-none
 returns-in-Some-clause-none c apart =
