@@ -1,8 +1,8 @@
 //! Conflicts, and how they are settled.
 use super::script::{NEW, in_256_blocks, in_memory};
 
-// A record has one value in the base, another in `top`, and a third in `a` under it. The three leaves are the
-// blocks 34 to 36.
+/// A record has one value in the base, another in `top`, and a third in `a` under it. The three
+/// leaves are the blocks 34 to 36.
 pub(super) const CONFLICT: &str = "
     format 64
     anew

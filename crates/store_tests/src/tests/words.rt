@@ -37,7 +37,7 @@ pub(super) fn number(word: &str) -> Result<u32, Wrong> {
     word.parse::<u32>().map_err(|_| Wrong::Unreadable)
 }
 
-// A byte of two hexadecimal digits.
+/// A byte of two hexadecimal digits.
 pub(super) fn byte(word: &str) -> Result<u8, Wrong> {
     u8::from_str_radix(word, 16).map_err(|_| Wrong::Unreadable)
 }
@@ -46,7 +46,7 @@ pub(super) fn name(word: &str) -> Result<Name, Wrong> {
     Name::new(word.as_bytes()).ok_or(Wrong::Unreadable)
 }
 
-// Table and number, as in `7:1`.
+/// Table and number, as in `7:1`.
 pub(super) fn key(word: &str) -> Result<Key, Wrong> {
     let (table, number) = word.split_once(':').ok_or(Wrong::Unreadable)?;
     let table = table.parse::<u16>().map_err(|_| Wrong::Unreadable)?;
@@ -54,7 +54,7 @@ pub(super) fn key(word: &str) -> Result<Key, Wrong> {
     Ok(Key { table, number })
 }
 
-// A value, where `''` is the one without bytes.
+/// A value, where `''` is the one without bytes.
 pub(super) fn value(word: &str) -> Result<Value, Wrong> {
     let text = if word == "''" { "" } else { word };
     Value::new(text.as_bytes()).ok_or(Wrong::Unreadable)

@@ -53,7 +53,7 @@ pub(super) fn level(word: &str) -> Result<u8, Wrong> {
     Ok(word.parse::<u8>()?)
 }
 
-// A byte of two hexadecimal digits.
+/// A byte of two hexadecimal digits.
 pub(super) fn byte(word: &str) -> Result<u8, Wrong> {
     Ok(u8::from_str_radix(word, 16)?)
 }

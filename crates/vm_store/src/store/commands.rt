@@ -19,7 +19,7 @@ use vm_types::{Answer, Command, Refusal};
 impl<D: Disk> Store<D> {
     ghost use Rattle.vm_store.specs.Store.{entries_of, IsHonest, GrowsOn, IsAsLong, EarlyKeeps, EarlySpares, LeavesBlocks, IsCarriedOut, ReclaimsAll, GrowsFree};
 
-    // Carries out one command, and leaves it to `apply` to note that the device failed.
+    /// Carries out one command, and leaves it to `apply` to note that the device failed.
     pub(super) fn dispatch(&mut self, command: &Command) -> Result<Answer, Refusal>
         ensures any { GrowsOn (result ≡ Err Refusal.Device) self.old self.new }
         ensures as_long { (IsGrow command.now → ⊥) → IsAsLong self.old self.new }

@@ -71,8 +71,9 @@ impl<D: Disk> Store<D> {
         Ok(self.held.free_count())
     }
 
-    // Holds just the blocks that the committed or the working entries reach, beside the store's own. A series
-    // goes on over it: what its alternative's records alone need was not held before it, and is not now.
+    /// Holds just the blocks that the committed or the working entries reach, beside the store's
+    /// own. A series goes on over it: what its alternative's records alone need was not held before
+    /// it, and is not now.
     pub(super) fn mark_all(&mut self) -> Result<(), Refusal>
         ensures any { GoesOn (result ≡ Err Refusal.Device) self.old self.new }
         ensures failed { has_failed self.new ≡ has_failed self.old }
@@ -101,15 +102,15 @@ impl<D: Disk> Store<D> {
         Ok(())
     }
 
-    // Whether as many blocks are free as so many record changes may take.
+    /// Whether as many blocks are free as so many record changes may take.
     pub(super) fn has_free(&self, changes: usize) -> bool
         ensures { IsTrue result ↔ (16 * changes ≤ free_of self.now) }
     {
         changes <= (self.held.free_count() / BLOCKS_A_CHANGE) as usize
     }
 
-    // Whether as many blocks are spare as so many record changes may take. Where fewer are free, it marks
-    // what the entries reach.
+    /// Whether as many blocks are spare as so many record changes may take. Where fewer are free,
+    /// it marks what the entries reach.
     pub(super) fn has_spare(&mut self, changes: usize) -> Result<bool, Refusal>
         ensures any { GoesOn (result ≡ Err Refusal.Device) self.old self.new }
         ensures failed { has_failed self.new ≡ has_failed self.old }

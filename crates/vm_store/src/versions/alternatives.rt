@@ -25,7 +25,7 @@ fn alternative_under(parent: &Name, name: &Name, root: Root) -> Version
 }
 
 impl Versions {
-    // Makes a new alternative, whose current and base records are the parent's current ones.
+    /// Makes a new alternative, whose current and base records are the parent's current ones.
     pub(super) fn make_alternative(&mut self, name: &Name, parent: &Name) -> Result<Answer, Refusal>
         ensures { Turns self.old self.new (New name.now parent.now) result }
     {
@@ -42,8 +42,8 @@ impl Versions {
         Ok(Answer::Done)
     }
 
-    // Makes a new alternative, whose current and base records are the current ones of a checkpoint of the
-    // parent.
+    /// Makes a new alternative, whose current and base records are the current ones of a checkpoint
+    /// of the parent.
     pub(super) fn make_alternative_at(
         &mut self,
         name: &Name,
@@ -68,7 +68,7 @@ impl Versions {
         Ok(Answer::Done)
     }
 
-    // Takes out an alternative that has a parent and no children, and its checkpoints.
+    /// Takes out an alternative that has a parent and no children, and its checkpoints.
     pub(super) fn drop_alternative(&mut self, alt: &Name) -> Result<Answer, Refusal>
         ensures { Turns self.old self.new (Drop alt.now) result }
     {

@@ -11,7 +11,7 @@ use vm_block::Kind;
 use vm_types::{Answer, Name, Refusal};
 
 impl Versions {
-    // Names the present records of the alternative, current and base.
+    /// Names the present records of the alternative, current and base.
     pub(super) fn make_checkpoint(&mut self, alt: &Name, name: &Name) -> Result<Answer, Refusal>
         ensures { Turns self.old self.new (Checkpoint alt.now name.now) result }
     {
@@ -33,7 +33,7 @@ impl Versions {
         Ok(Answer::Done)
     }
 
-    // Takes a checkpoint out.
+    /// Takes a checkpoint out.
     pub(super) fn uncheck(&mut self, alt: &Name, name: &Name) -> Result<Answer, Refusal>
         ensures { Turns self.old self.new (Uncheck alt.now name.now) result }
     {
@@ -47,7 +47,7 @@ impl Versions {
         Ok(Answer::Done)
     }
 
-    // Gives the alternative the records of a checkpoint, current and base.
+    /// Gives the alternative the records of a checkpoint, current and base.
     pub(super) fn go_back(&mut self, alt: &Name, name: &Name) -> Result<Answer, Refusal>
         ensures { Turns self.old self.new (Back alt.now name.now) result }
     {

@@ -9,7 +9,7 @@ use vm_types::{Answer, Command, Refusal};
 impl<D: Disk> Store<D> {
     ghost use Rattle.vm_store.specs.Store.{disk_of, has_failed, entries_of, IsCarriedOut, held_of, GoesOn, EarlyKeeps};
 
-    // Carries one of them out. It makes no device call.
+    /// Carries one of them out. It makes no device call.
     pub(super) fn change_entries(&mut self, command: &Command) -> Result<Answer, Refusal>
         requires { ChangesEntriesAlone command.now }
         ensures any { GoesOn (result ≡ Err Refusal.Device) self.old self.new }

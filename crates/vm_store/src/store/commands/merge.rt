@@ -13,8 +13,8 @@ use vm_types::{Answer, Key, Name, Refusal, Side};
 impl<D: Disk> Store<D> {
     ghost use Rattle.vm_store.specs.Store.{has_failed, entries_of, Carries, Holds, IsHonest, GoesOn, EarlyKeeps};
 
-    // Changes the alternative's records to those of the merge, and makes the parent's records its base. All
-    // that takes memory comes before a marking and before the first write.
+    /// Changes the alternative's records to those of the merge, and makes the parent's records its
+    /// base. All that takes memory comes before a marking and before the first write.
     #[inline(never)]
     pub(super) fn merge(&mut self, alt: &Name, settled: &[(Key, Side)]) -> Result<Answer, Refusal>
         ensures any { GoesOn (result ≡ Err Refusal.Device) self.old self.new }

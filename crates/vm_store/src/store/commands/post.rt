@@ -10,8 +10,8 @@ use vm_types::{Answer, Command, Name, Refusal};
 impl<D: Disk> Store<D> {
     ghost use Rattle.vm_store.specs.Store.{has_failed, entries_of, IsCarriedOut, IsHonest, GoesOn, ReadsAlone, EarlyKeeps};
 
-    // Gives the parent the alternative's records, which become the alternative's base, too. The parent must
-    // have no other records than that base.
+    /// Gives the parent the alternative's records, which become the alternative's base, too. The
+    /// parent must have no other records than that base.
     pub(super) fn post(&mut self, alt: &Name) -> Result<Answer, Refusal>
         ensures any { GoesOn (result ≡ Err Refusal.Device) self.old self.new }
         ensures failed { has_failed self.new ≡ has_failed self.old }

@@ -11,8 +11,8 @@ use vm_types::{Answer, Command, Key, Name, Refusal, Value};
 impl<D: Disk> Store<D> {
     ghost use Rattle.vm_store.specs.Store.{has_failed, entries_of, Carries, Holds, IsHonest, GoesOn, EarlyKeeps};
 
-    // Gives a record of the alternative a value. The blocks that the series took for the path as it was are
-    // forgotten.
+    /// Gives a record of the alternative a value. The blocks that the series took for the path as
+    /// it was are forgotten.
     pub(super) fn put(&mut self, alt: &Name, key: Key, value: &Value) -> Result<Answer, Refusal>
         ensures any { GoesOn (result ≡ Err Refusal.Device) self.old self.new }
         ensures failed { has_failed self.new ≡ has_failed self.old }

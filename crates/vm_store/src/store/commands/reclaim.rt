@@ -9,7 +9,7 @@ use vm_types::{Answer, Command, Refusal};
 impl<D: Disk> Store<D> {
     ghost use Rattle.vm_store.specs.Store.{has_failed, entries_of, IsCarriedOut, SpareIsFree, IsHonest, GoesOn};
 
-    // Frees each block that neither the committed nor the working entries reach.
+    /// Frees each block that neither the committed nor the working entries reach.
     #[inline(never)]
     pub(super) fn reclaim(&mut self) -> Result<Answer, Refusal>
         ensures any { GoesOn (result ≡ Err Refusal.Device) self.old self.new }

@@ -17,8 +17,8 @@ use vm_types::{Answer, Key, Name, Refusal};
 impl<D: Disk> Store<D> {
     ghost use Rattle.vm_store.specs.Store.{has_failed, entries_of, free_of, series_of, Carries, Holds, IsHonest, GoesOn, EarlyKeeps};
 
-    // Takes a record out of the alternative. Where its series goes on and enough blocks are free, its path
-    // is gone down once.
+    /// Takes a record out of the alternative. Where its series goes on and enough blocks are free,
+    /// its path is gone down once.
     #[inline(never)]
     pub(super) fn remove(&mut self, alt: &Name, key: Key) -> Result<Answer, Refusal>
         ensures any { GoesOn (result ≡ Err Refusal.Device) self.old self.new }
