@@ -38,8 +38,8 @@ pub fn changed<D: Disk>(
     changed_between(alloc, disk, blocks, first, second)
 }
 
-/// What `changed` answers, by two walks. It stands alone, and is not put into its caller, so that only
-/// here both walks are on the stack.
+/// What `changed` answers, by two walks. It stands alone, and is not put into its caller, so that
+/// only here both walks are on the stack.
 #[inline(never)]
 fn changed_between<D: Disk>(
     alloc: Global,

@@ -53,7 +53,8 @@ fn next_top(levels: &[Children; 8]) -> Option<Root>
 }
 
 impl Cursor {
-    /// A walk at its end. It has room for nine blocks, so it is made where it stays, and begun there.
+    /// A walk at its end. It has room for nine blocks, so it is made where it stays, and begun
+    /// there.
     pub(crate) fn empty() -> Cursor
         ensures { result ≡ walk_of [] }
     {
