@@ -133,7 +133,8 @@ impl Versions {
 
     /// The current root of the alternative of this name, if it is there.
     pub fn current_of(&self, alt: &Name) -> Option<Root>
-        ensures { result ≡ option_map (λ version. version.current) (find (is_alternative_of alt.now) self.now) }
+        ensures { result ≡ option_map (λ version. version.current)
+            (find (is_alternative_of alt.now) self.now) }
     {
         match position_of(&self.list, alt) {
             Some(i) => Some(self.list[i].current),
