@@ -1,5 +1,5 @@
 -- What a store has done when a line is answered.
-use Rattle.std.proofs.Common.{◌≡◌, ◌≢◌, ◌⊎◌, inl, inr, ℕ, Bool, true, false, List, [], Option, Some, None, Result, Err, Ok, refl, ap, sym, subst, ◌∙◌}
+use Rattle.std.proofs.Common.{◌≡◌, ◌≢◌, ◌⊎◌, inl, inr, ℕ, Bool, true, false, List, [], ◌++◌, Option, Some, None, Result, Err, Ok, refl, ap, sym, subst, ◌∙◌}
 use Rattle.vm_types.specs.declared.answer.Answer.{Answer}
 use Rattle.vm_types.specs.declared.command.Command.{Command}
 use Rattle.vm_types.specs.declared.refusal.Refusal.{Refusal}
@@ -10,7 +10,7 @@ use Rattle.vm_store.specs.Store.{GrowsOn, Holds, has_failed}
 use Rattle.vm_store.specs.declared.store.Store.{Store}
 use Rattle.vm_cli.specs.Feeding.{HandlesRequest, Replied, Replies}
 use Rattle.vm_cli.specs.Reading.{HoldsLine, KindHolds, without_return}
-use Rattle.vm_cli.specs.Replies.{ends_talk, reply_text}
+use Rattle.vm_cli.specs.Replies.{ends_talk, is_error, reply_text}
 use Rattle.vm_cli.specs.Requests.{request_of}
 use Rattle.vm_cli.specs.Spaces.{words_of}
 use Rattle.vm_cli.specs.Talk.{Answered, AnsweredRequest, Done, Handled, HandlesLine, Meets, Passes, SaysFailed, Stood, Stops, answer_text, error_text}
@@ -27,6 +27,14 @@ use Rattle.vm_cli.proofs.PassLemmas.{failed_or, grows_any, never_both, passes_co
 -- a reply that is the whole answer
 pub replied_whole : (P : List ℕ → Bool → Type 0) (reply : Reply) (a : Option (List ℕ)) (rest : List ℕ) → rest ≡ [] → P (reply_text reply) (ends_talk reply) → Replied P reply a a rest
 replied_whole P reply a rest none p = record { whole = []; says = p; tells = refl; carries = rw none (carries-nothing a []) }
+
+-- a reply behind what stands in the text
+pub replied_with : (P : List ℕ → Bool → Type 0) (reply : Reply) (a : Option (List ℕ)) (text : List ℕ) → P (text ++ reply_text reply) (ends_talk reply) × (is_error (text ++ reply_text reply) ≡ is_error (reply_text reply)) → Replied P reply a a text
+replied_with P reply a text p = record { whole = text; says = p.0; tells = p.1; carries = carries-nothing a text }
+
+-- a reply behind no text
+pub with_nothing : (P : List ℕ → Bool → Type 0) (reply : Reply) (text : List ℕ) → text ≡ [] → P (reply_text reply) (ends_talk reply) → P (text ++ reply_text reply) (ends_talk reply) × (is_error (text ++ reply_text reply) ≡ is_error (reply_text reply))
+with_nothing P reply text none p = rw none (p, refl)
 
 -- what is said of each answer
 pub replies_as : (P Q : List ℕ → Bool → Type 0) → ((text : List ℕ) (ends : Bool) → P text ends → Q text ends) → (r : Result Reply WriteFault) (a b : Option (List ℕ)) (rest : List ℕ) → Replies P r a b rest

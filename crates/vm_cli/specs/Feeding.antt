@@ -88,6 +88,11 @@ module _ {D : Type 0} {members : _} where
   abbrev pub AnswersBy : Request → Reply → Store D members → Store D members → Type 0
   AnswersBy request reply old new = (s : State) → HandlesRequest old new s request (reply_text reply) (ends_talk reply)
 
+  -- for each state, the request is answered by what the text has and this reply, and is refused where the reply says so
+  abbrev pub AnswersWith : Request → Reply → List ℕ → Store D members → Store D members → Type 0
+  AnswersWith request reply text old new =
+      (s : State) → HandlesRequest old new s request (text ++ reply_text reply) (ends_talk reply) × (is_error (text ++ reply_text reply) ≡ is_error (reply_text reply))
+
   -- a reply ends the talk just where the store, which had not failed, failed in it
   abbrev pub EndsIfFailed : Result Reply WriteFault → Store D members → Store D members → Type 0
   EndsIfFailed result old new = has_failed old ≡ false → IfOk result (λ reply. ends_talk reply ≡ has_failed new)

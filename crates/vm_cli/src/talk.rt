@@ -2,7 +2,7 @@
 ghost use Rattle.std.specs.Prelude.{◌≡◌, ◌≢◌, ◌⊎◌, ◌+◌, ◌≤◌, ◌++◌, ◌∷◌, ℕ, List, [], length, true, false, Err, flat_map, IfErr, IfOk, OnErr, OnOk};
 ghost use Rattle.std.specs.Io.KnownBytes.{Appends, IsAtEnd};
 ghost use Rattle.vm_cli.specs.Carried.{Begins, Gains};
-ghost use Rattle.vm_cli.specs.Feeding.{AnswersBy, AnswersLine, EndsAmong, EndsIfFailed, FeedsLine, RepliesToLine, RepliesToRequest, ServesEach, TalkGoesOn};
+ghost use Rattle.vm_cli.specs.Feeding.{AnswersBy, AnswersLine, AnswersWith, EndsAmong, EndsIfFailed, FeedsLine, RepliesToLine, RepliesToRequest, ServesEach, TalkGoesOn};
 ghost use Rattle.vm_cli.specs.Lines.{IsPart, lines_of};
 ghost use Rattle.vm_cli.specs.Reading.{HoldsLine};
 ghost use Rattle.vm_cli.specs.Replies.{ends_talk, reply_text};
@@ -11,7 +11,7 @@ ghost use Rattle.vm_store.specs.Store.{Holds, has_failed, GoesOn, GrowsOn};
 ghost use Rattle.vm_types.specs.State.{State};
 
 use crate::answers::lists::reply_with_list;
-use crate::answers::reply::Reply;
+use crate::answers::reply::{Reply, push_found};
 use crate::answers::text::Text;
 use crate::answers::writing::{WriteFault, flush, put_all};
 use crate::lines::line::{Line, LineKind};
@@ -269,7 +269,7 @@ fn reply_to_request<W: Write, D: Disk>(
         Request::Nothing => Ok(Reply::Nothing),
         Request::Bad => Ok(Reply::BadLine),
         Request::Command(command) => Ok(reply_to_command(&command, store)),
-        Request::Get { alt, key } => Ok(get(&alt, key, store)),
+        Request::Get { alt, key } => Ok(get(&alt, key, text, store)),
         Request::Free => Ok(free(store)),
         Request::List { alt } => reply_with_list(store.list(alloc, &alt), text, writer),
         Request::Alternatives => reply_with_list(store.alternatives(alloc), text, writer),
@@ -307,16 +307,21 @@ fn answered(answer: Result<Answer, Refusal>) -> Reply
     }
 }
 
-/// Answers a query for the value of a record.
-fn get<D: Disk>(alt: &Name, key: Key, store: &mut Store<D>) -> Reply
+/// Answers a query for the value of a record. The text takes the answer, unless it is a refusal.
+fn get<D: Disk>(alt: &Name, key: Key, text: &mut Text, store: &mut Store<D>) -> Reply
+    requires { text.old ≡ [] }
+    ensures room { length text.new + 1024 ≤ 65536 }
     ensures goes { GoesOn ⊥ store.old store.new }
     ensures failed { has_failed store.new ≡ has_failed store.old }
     ensures last { has_failed store.old ≡ false → ends_talk result ≡ false }
     ensures left { has_failed store.old ≡ true → store.new ≡ store.old }
-    ensures answer { AnswersBy (Request.Get alt.now key) result store.old store.new }
+    ensures answer { AnswersWith (Request.Get alt.now key) result text.new store.old store.new }
 {
     match store.get(alt, key) {
-        Ok(value) => Reply::Found(value),
+        Ok(found) => {
+            push_found(text, &found);
+            Reply::Nothing
+        }
         Err(refusal) => Reply::from_refusal(refusal),
     }
 }
