@@ -1,11 +1,11 @@
 -- Which answers are given.
-use Rattle.std.proofs.Common.{◌≡◌, ◌≢◌, ◌↔◌, ◌⊎◌, inl, inr, ◌++◌, ℕ, Bool, true, false, List, [], ◌∷◌, Option, Result, Ok, Err, IfOk, OnErr, OnOk, append_assoc, flat_map, length, refl, ap, sym, ◌∙◌}
+use Rattle.std.proofs.Common.{◌≡◌, ◌≢◌, ◌↔◌, ◌⊎◌, inl, inr, ◌++◌, ℕ, Bool, true, false, List, [], ◌∷◌, Option, Some, None, Result, Ok, Err, IfOk, OnErr, OnOk, append-nil, append_assoc, flat_map, length, refl, ap, sym, ◌∙◌}
 use Rattle.vm_types.specs.declared.answer.Answer.{Answer}
 use Rattle.vm_types.specs.declared.refusal.Refusal.{Refusal}
 use Rattle.vm_types.specs.declared.refusal.Refusal.TheVariants.{Device, Failed, Memory}
 use Rattle.vm_cli.specs.Carried.{WritesStart, Carries}
 use Rattle.vm_cli.specs.Feeding.{Replies}
-use Rattle.vm_cli.specs.Replies.{is_error, reply_text}
+use Rattle.vm_cli.specs.Replies.{found_text, is_error, reply_text}
 use Rattle.vm_cli.specs.Talk.{SaysList, error_text, list_text, value_line}
 use Rattle.vm_cli.specs.declared.answers.reply.Reply.{Reply}
 use Rattle.vm_cli.specs.declared.answers.reply.Reply.TheVariants.{End}
@@ -31,6 +31,14 @@ pub says_value : (Fails : Type 0) (due r : Result (Option (List ℕ)) Refusal) (
     → (text ≡ value_line due) ⊎ ((text ≡ error_text Device) × Fails)
 says_value Fails due r text fails is (inl device) = inr (is ∙ ap value_line device, fails device)
 says_value Fails due r text fails is (inr same) = inl (is ∙ ap value_line same)
+
+-- the text has its line alone, which is no refusal
+pub found_alone : (old text : List ℕ) (found : Option (List ℕ)) → old ≡ [] → text ≡ old ++ found_text found → text ++ [] ≡ found_text found
+found_alone old text found none is = rw (is, none) (append-nil (found_text found))
+
+pub found_plain : (text : List ℕ) (found : Option (List ℕ)) → text ≡ found_text found → is_error text ≡ false
+found_plain text None is = rw is refl
+found_plain text (Some value) is = rw is refl
 
 -- the lines of a list and its end are no refusal
 plain_list : {X : Type 0} (line : X → List ℕ) → ((x : X) (rest : List ℕ) → is_error (line x ++ rest) ≡ false) → (items : List X) (count : ℕ)

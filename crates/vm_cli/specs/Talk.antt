@@ -20,7 +20,7 @@ use Rattle.vm_cli.specs.Carried.{WritesStart}
 use Rattle.vm_cli.specs.Lines.{lines_of}
 use Rattle.vm_cli.specs.Listings.{alternative_text, change_text, checkpoint_text, conflict_text, record_text}
 use Rattle.vm_cli.specs.Reading.{without_return}
-use Rattle.vm_cli.specs.Replies.{is_error, reply_text}
+use Rattle.vm_cli.specs.Replies.{found_text, is_error, reply_text}
 use Rattle.vm_cli.specs.Requests.{request_of}
 use Rattle.vm_cli.specs.Spaces.{words_of}
 use Rattle.vm_cli.specs.declared.answers.reply.Reply.TheVariants as reply
@@ -43,7 +43,7 @@ answer_text (Err refusal) = error_text refusal
 
 -- the line of a record's value, or of the refusal
 abbrev pub value_line : Result (Option (List ℕ)) Refusal → List ℕ
-value_line (Ok value) = reply_text (reply.Found value)
+value_line (Ok value) = found_text value
 value_line (Err refusal) = error_text refusal
 
 -- the lines of a list, and its end with their number

@@ -8,13 +8,11 @@ use vm_types::{Key, Refusal, Value};
 /// What a line is answered.
 #[derive(Clone, Copy)]
 pub enum Reply {
-    /// No line at all.
+    /// No line at all, or none behind those that the text has.
     Nothing,
     Done,
     /// A merge, with the number of its record changes.
     Merged(u32),
-    /// The value of a record, if it is there.
-    Found(Option<Value>),
     /// The number of free blocks.
     Free(u32),
     /// The end of a list, with the number of its lines before this one.
@@ -41,12 +39,6 @@ impl Reply {
             Reply::Merged(changes) => {
                 text.push_bytes(b"ok ");
                 text.push_number(u64::from(*changes));
-                text.push(b'\n');
-            }
-            Reply::Found(None) => text.push_bytes(b"none\n"),
-            Reply::Found(Some(value)) => {
-                text.push_bytes(b"value ");
-                escape::push_value(text, value);
                 text.push(b'\n');
             }
             Reply::Free(count) => {
@@ -96,7 +88,6 @@ impl Reply {
             Reply::Nothing => false,
             Reply::Done => false,
             Reply::Merged(_) => false,
-            Reply::Found(_) => false,
             Reply::Free(_) => false,
             Reply::End(_) => false,
             Reply::Refused(_) => true,
@@ -109,6 +100,23 @@ impl Reply {
 
 ghost use Rattle.std.specs.Prelude.{◌∷◌, [], codes};
 ghost use Rattle.vm_types.specs.Texts.{detail_text, key_text, refusal_text};
+ghost use Rattle.vm_cli.specs.Replies.{found_text};
+
+/// Writes the line of a record's value, or that there is none.
+pub fn push_found(text: &mut Text, found: &Option<Value>)
+    requires room { length text.old + 727 ≤ 65536 }
+    ensures written { text.new ≡ text.old ++ found_text found.now }
+    ensures short { length text.new ≤ length text.old + 727 }
+{
+    match found {
+        None => text.push_bytes(b"none\n"),
+        Some(value) => {
+            text.push_bytes(b"value ");
+            escape::push_value(text, value);
+            text.push(b'\n');
+        }
+    }
+}
 
 /// Writes the line of a refusal.
 fn push_error(text: &mut Text, refusal: &Refusal)

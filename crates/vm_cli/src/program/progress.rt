@@ -79,7 +79,9 @@ impl Progress {
         self.count(blocks);
     }
 
-    /// Writes the line anew where it is time to.
+    /// Writes the line anew where it is time to. The frame is large, and not that of each call of a
+    /// file.
+    #[inline(never)]
     fn look(&self, rt: &HostRuntime) {
         let Ok(now) = Instant::now(rt) else {
             return;

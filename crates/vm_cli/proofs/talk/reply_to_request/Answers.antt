@@ -9,7 +9,7 @@ use Rattle.vm_cli.specs.Talk.{Failing}
 use Rattle.vm_cli.specs.declared.answers.reply.Reply.TheVariants as reply
 use Rattle.vm_cli.specs.declared.lines.request.Request.TheVariants as request
 use Rattle.vm_store.proofs.LongerLemmas.{goes_grow}
-use Rattle.vm_cli.proofs.HandledLemmas.{asked_as, bad_handled, nothing_handled, replied_whole}
+use Rattle.vm_cli.proofs.HandledLemmas.{asked_as, bad_handled, nothing_handled, replied_whole, replied_with}
 use Rattle.vm_cli.proofs.ListedLemmas.{is_memory, is_none, list_goes_on, list_handled, names_listed, shape_listed}
 use Rattle.vm_cli.proofs.PassLemmas.{goes_any, passes_none, passes_reads}
 use Rattle.vm_cli.proofs.talk.reply_to_request.Goals as goal
@@ -43,7 +43,7 @@ returns-in-Get-clause-answer g c s =
     let old = c.args.store.now in
     let new = c.get.new.store in
     let query = request.Get c.in-Get.alt c.in-Get.key in
-    asked_as old new s c.args.request query c.in-Get.is (Ok c.get.result) _ _ c.args.text.now (replied_whole (HandlesRequest old new s query) c.get.result _ c.args.text.now c.requires (c.get.ensures.answer s))
+    asked_as old new s c.args.request query c.in-Get.is (Ok c.get.result) _ _ c.get.new.text (replied_with (HandlesRequest old new s query) c.get.result _ c.get.new.text (c.get.ensures.answer s))
 
 pub returns-in-Free-clause-answer : goal.returns-in-Free-clause-answer
 returns-in-Free-clause-answer g c s =
