@@ -14,7 +14,7 @@ use Rattle.vm_tree.specs.Tree.{Sizes, IsData, Children, Subtree, longest}
 use Rattle.vm_block.proofs.EachLemmas.{each_so}
 use Rattle.vm_block.proofs.FormLemmas.{leaf_or_node}
 use Rattle.vm_block.proofs.NodeLemmas.{node_one}
-use Rattle.vm_tree.proofs.HoldingLemmas.{leaf_holds, short_leaf}
+use Rattle.vm_tree.proofs.HoldingLemmas.{leaf_holds, short_enough, short_leaf}
 use Rattle.vm_tree.proofs.TreeLemmas.{leaf_closes, node_closes}
 use Rattle.vm_check.specs.Visiting.{IsHighest, HasLevel, span_of, met_of, no_met, span_at, Whole, Known, Adds, Visited, VisitedAll}
 use Rattle.vm_check.specs.declared.verifying.Span.{Span}
@@ -85,7 +85,7 @@ module _ (sizes : Sizes) (x : Contents) (limit : ℕ) where
   leaf_whole b rs span marks is at = record {
     records = rs;
     blocks = b ∷ [];
-    subtree = subst (λ l. Subtree sizes x limit l b rs (b ∷ [])) (sym at.level) (leaf_closes sizes x limit b rs (b ∷ []) (record { place = at.inside; under = []; holds = leaf_holds x limit longest (omega arith) (block x b) rs at.leaf; few = at.few; first = refl }));
+    subtree = subst (λ l. Subtree sizes x limit l b rs (b ∷ [])) (sym at.level) (leaf_closes sizes x limit b rs (b ∷ []) (record { place = at.inside; under = []; holds = leaf_holds x limit longest short_enough (block x b) rs at.leaf; few = at.few; first = refl }));
     rising = at.leaf.rising;
     lowest = at.lowest;
     highest = at.highest;

@@ -13,7 +13,7 @@ use Rattle.vm_block.proofs.EachLemmas.{each_front, each_back, each_join, each_so
 use Rattle.vm_tree.specs.Tree.{Sizes, IsData, Children, Subtree, longest}
 use Rattle.vm_tree.specs.Making.{Made}
 use Rattle.vm_tree.proofs.TreeLemmas.{subtree_in, leaf_closes, node_closes}
-use Rattle.vm_tree.proofs.HoldingLemmas.{leaf_holds}
+use Rattle.vm_tree.proofs.HoldingLemmas.{leaf_holds, short_enough}
 use Rattle.vm_tree.proofs.Rising.{rises_back}
 use Rattle.vm_tree.proofs.Splitting.{children_in, children_join, child_alone, cut_at}
 
@@ -123,7 +123,7 @@ module _ (P : ℕ → Type 0) (sizes : Sizes) (x : Contents) (limit : ℕ) where
         under = child_alone (Subtree sizes x limit 0) child rs (n ∷ []) (leaf_closes sizes x limit n rs (n ∷ []) (record {
           place = inside;
           under = [];
-          holds = leaf_holds x limit longest (omega arith) (block x n) rs (record { spelled = spelled; some = some; few = few; fit = fit; rising = rises });
+          holds = leaf_holds x limit longest short_enough (block x n) rs (record { spelled = spelled; some = some; few = few; fit = fit; rising = rises });
           few = leaf;
           first = refl;
         })) (begins_first rs some);

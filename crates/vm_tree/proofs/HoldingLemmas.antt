@@ -221,6 +221,12 @@ module _ (x : Contents) (limit most : ℕ) where
       records_within [] all = tt
       records_within (q ∷ qs) all = ((all.0.0, omega (arith, all.0.1)), records_within qs all.1)
 
+-- each short value may be in a tree
+pub short_enough : 240 ≤ longest
+unfolding longest
+short_enough = omega arith
+
 -- while no value is long, a leaf of a tree is one of records, beside no block
 pub short_leaf : (x : Contents) (limit : ℕ) (bytes : List ℕ) (rs : List Record) (under : List ℕ) → LeafHolds x limit longest bytes rs under → IsLeaf bytes rs × (under ≡ [])
+unfolding longest
 short_leaf x limit = holds_short x limit longest (omega arith)

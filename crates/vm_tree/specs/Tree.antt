@@ -16,7 +16,7 @@ pub record Sizes : Type 0 where
   pub levels : ℕ
 
 -- the greatest number of bytes of a value in a tree: none is long
-abbrev pub longest : ℕ
+unfoldable pub longest : ℕ
 longest = 240
 
 -- a block for data, in a store of so many blocks

@@ -9,7 +9,6 @@ use Rattle.vm_tree.specs.Removing.{child_of}
 use Rattle.vm_tree.specs.Replacing.{IsRenewed}
 use Rattle.vm_tree.specs.Root.{sizes_of}
 use Rattle.vm_tree.specs.declared.root.Root.{Root}
-use Rattle.vm_tree.proofs.TreeLemmas.{subtree_fit}
 use Rattle.vm_tree.proofs.Looking.{looks_free, looks_write, passed_on}
 use Rattle.vm_tree.proofs.Descent.{leaf_read, leaf_there}
 use Rattle.vm_tree.proofs.Leading.{leads_end}
@@ -47,7 +46,7 @@ returns-in_ok-leaf-in-Out-clause-remove g c fan levels honest rs bs tree begins 
     let p = place c.args.key in
     let size = without_size p rs in
     let made = λ (keep : ℕ → Bool). c.in_ok-leaf-in-Out.ensures.leaf honest c.args.held.now keep (holds_same c.args.held.now) sizes (without_place p rs) out.2 (omega (arith, out.1, size.1)) (omega (arith, size.0, leaf.few)) (omega (arith, size.0, few))
-    (without_rises p 0 rs rises) (without_each RecordFits p rs (subtree_fit sizes _ _ _ _ rs bs tree)) in
+    (without_rises p 0 rs rises) (without_each RecordFits p rs leaf.fit) in
     let y = (g.D.Disk.state c.write_bytes.new.disk).now.contents in
     let M : (ℕ → Bool) → Root → Type 0 = λ keep r. Made (IsRenewed c.args.held.now c.write_bytes.new.held keep) sizes y (length c.args.held.now) r.level (child_of r ∷ []) (without_place p rs) in
     (out.0, λ keep. subst (M keep) (sym c.root_at.ensures) (made keep))
