@@ -1,5 +1,5 @@
 -- What a store has done when a line is answered.
-use Rattle.std.proofs.Common.{◌≡◌, ◌≢◌, ◌⊎◌, inl, inr, ℕ, Bool, true, false, List, [], ◌++◌, Option, Some, None, Result, Err, Ok, refl, ap, sym, subst, ◌∙◌}
+use Rattle.std.proofs.Common.{◌≡◌, ◌≢◌, ◌⊎◌, inl, inr, ℕ, Bool, true, false, List, [], ◌++◌, ◌≤◌, length, Option, Some, None, Result, Err, Ok, refl, ap, sym, subst, ◌∙◌}
 use Rattle.vm_types.specs.declared.answer.Answer.{Answer}
 use Rattle.vm_types.specs.declared.command.Command.{Command}
 use Rattle.vm_types.specs.declared.refusal.Refusal.{Refusal}
@@ -8,7 +8,7 @@ use Rattle.vm_types.specs.State.{State}
 use Rattle.vm_store.specs.Running.{CarriesOut}
 use Rattle.vm_store.specs.Store.{GrowsOn, Holds, has_failed}
 use Rattle.vm_store.specs.declared.store.Store.{Store}
-use Rattle.vm_cli.specs.Feeding.{HandlesRequest, Replied, Replies}
+use Rattle.vm_cli.specs.Feeding.{AnsweredWords, HandlesRequest, HandlesWords, Replied, Replies}
 use Rattle.vm_cli.specs.Reading.{HoldsLine, KindHolds, without_return}
 use Rattle.vm_cli.specs.Replies.{ends_talk, is_error, reply_text}
 use Rattle.vm_cli.specs.Requests.{request_of}
@@ -69,6 +69,10 @@ module _ {D : Type 0} {members : _} (store : Store D members) (s : State) where
       either (inl sound) = inl (sound, sym sound, (refl, sound, λ stood. refl))
       either (inr failed) = inr (failed, refl, refl, (refl, refl))
 
+  -- words for which there was no memory
+  pub memory_told : (words : List (List ℕ)) → HandlesWords store store s words (reply_text (reply.Refused Memory)) false
+  memory_told words = unmoved false _ (inl (refl, refl, refl, refl))
+
   -- a line for which there was no memory
   pub memory_handled : (part : List ℕ) → HandlesLine store store s part (reply_text (reply.Refused Memory)) false
   memory_handled part = unmoved false _ (inl (refl, refl, refl, refl))
@@ -80,21 +84,48 @@ module _ {D : Type 0} {members : _} (store : Store D members) (s : State) where
       unmoved false _ (inr (inl (long, refl, refl, refl, refl)))
 
 module _ {D : Type 0} {members : _} (old new : Store D members) (s : State) where
-  -- a line that asks for something
-  pub kept_handled : (line : Line) (part : List ℕ) → HoldsLine line part → line.kind ≡ Kept → (asked : Request) (bytes : List ℕ) → bytes ≡ without_return line.bytes.items → asked ≡ request_of (words_of bytes)
-      → (r : Result Reply WriteFault) (a b : Option (List ℕ)) (rest : List ℕ) → Replies (HandlesRequest old new s asked) r a b rest → Replies (HandlesLine old new s part) r a b rest
-  kept_handled line part h is asked bytes whose asks r a b rest p =
+  -- words that ask for this
+  pub asked_handled : (words : List (List ℕ)) (asked : Request) → asked ≡ request_of words → (text : List ℕ) (ends : Bool) → HandlesRequest old new s asked text ends → HandlesWords old new s words text ends
+  asked_handled words asked asks text ends handled = record {
+    done = handled.done;
+    answers = inr (subst (λ q. AnsweredRequest old new s q text ends handled.done) asks handled.answers);
+    passes = handled.passes;
+    still = handled.still;
+    holds = handled.holds;
+  }
+
+  pub asked_replied : (words : List (List ℕ)) (asked : Request) → asked ≡ request_of words → (r : Result Reply WriteFault) (a b : Option (List ℕ)) (rest : List ℕ) → Replies (HandlesRequest old new s asked) r a b rest
+      → Replies (HandlesWords old new s words) r a b rest
+  asked_replied words asked asks = replies_as (HandlesRequest old new s asked) (HandlesWords old new s words) (asked_handled words asked asks)
+
+  -- words that are these
+  pub words_as : (words those : List (List ℕ)) → words ≡ those → (r : Result Reply WriteFault) (a b : Option (List ℕ)) (rest : List ℕ) → Replies (HandlesWords old new s those) r a b rest
+      → Replies (HandlesWords old new s words) r a b rest
+  words_as words those is r a b rest p = subst (λ ws. Replies (HandlesWords old new s ws) r a b rest) (sym is) p
+
+  -- a line of words
+  line_answered : (words : List (List ℕ)) (part text : List ℕ) (ends : Bool) (was : Done) → length part ≤ 1048576 → words ≡ words_of (without_return part) → AnsweredWords old new s words text ends was
+      → Answered old new s part text ends was
+  line_answered words part text ends was short same (inl memory) = inl memory
+  line_answered words part text ends was short same (inr answered) = inr (inr (short, subst (λ ws. AnsweredRequest old new s (request_of ws) text ends was) same answered))
+
+  pub kept_handled : (line : Line) (part : List ℕ) → HoldsLine line part → line.kind ≡ Kept → (bytes : List ℕ) → bytes ≡ without_return line.bytes.items
+      → (r : Result Reply WriteFault) (a b : Option (List ℕ)) (rest : List ℕ) → Replies (HandlesWords old new s (words_of bytes)) r a b rest → Replies (HandlesLine old new s part) r a b rest
+  kept_handled line part h is bytes whose =
       let kept : KindHolds Kept line.bytes.items part = rw is at h.kind in
-      let same : asked ≡ request_of (words_of (without_return part)) = asks ∙ ap (λ bs. request_of (words_of bs)) (whose ∙ ap without_return kept.0) in
-      replies_as (HandlesRequest old new s asked) (HandlesLine old new s part)
+      let same : words_of bytes ≡ words_of (without_return part) = ap words_of (whose ∙ ap without_return kept.0) in
+      replies_as (HandlesWords old new s (words_of bytes)) (HandlesLine old new s part)
       (λ text ends handled. record {
         done = handled.done;
-        answers = inr (inr (kept.1, subst (λ q. AnsweredRequest old new s q text ends handled.done) same handled.answers));
+        answers = line_answered (words_of bytes) part text ends handled.done kept.1 same handled.answers;
         passes = handled.passes;
         still = handled.still;
         holds = handled.holds;
       })
-      r a b rest p
+
+  -- what is asked for is this
+  pub request_as : (asked query : Request) → asked ≡ query → (text : List ℕ) (ends : Bool) → HandlesRequest old new s query text ends → HandlesRequest old new s asked text ends
+  request_as asked query is text ends p = subst (λ q. HandlesRequest old new s q text ends) (sym is) p
 
   -- what was asked for is this
   pub asked_as : (asked query : Request) → asked ≡ query → (r : Result Reply WriteFault) (a b : Option (List ℕ)) (rest : List ℕ) → Replies (HandlesRequest old new s query) r a b rest

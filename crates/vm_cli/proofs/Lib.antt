@@ -18,6 +18,7 @@ pub mod PassLemmas
 mod SurveyLemmas
 pub mod TalkLemmas
 pub mod HandledLemmas
+pub mod RequestLemmas
 pub mod ListedLemmas
 pub mod WritesLemmas
 pub mod FeedLemmas

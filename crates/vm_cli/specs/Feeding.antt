@@ -1,17 +1,18 @@
 -- How a talk goes on inside: answers that are written in part, and bytes that are fed to it.
-use Rattle.std.specs.Prelude.{◌≡◌, ◌≢◌, ℕ, Bool, true, false, List, [], ◌++◌, Option, Result, Ok, Err, IfOk, OnErr, flat_map, length}
+use Rattle.std.specs.Prelude.{◌≡◌, ◌≢◌, ◌⊎◌, ℕ, Bool, true, false, List, [], ◌++◌, Option, None, Result, Ok, Err, IfOk, OnErr, flat_map, length}
 use Rattle.std.specs.Io.KnownBytes.{Appends}
 use Rattle.vm_types.specs.State.{State}
 use Rattle.vm_types.specs.declared.answer.Answer.{Answer}
 use Rattle.vm_types.specs.declared.refusal.Refusal.{Refusal}
-use Rattle.vm_types.specs.declared.refusal.Refusal.TheVariants.{Device, Failed}
+use Rattle.vm_types.specs.declared.refusal.Refusal.TheVariants.{Device, Failed, Memory}
 use Rattle.vm_store.specs.declared.store.Store.{Store}
 use Rattle.vm_cli.specs.Carried.{WritesStart, Carries}
 use Rattle.vm_cli.specs.Lines.{lines_of}
 use Rattle.vm_cli.specs.Replies.{ends_talk, is_error, reply_text}
 use Rattle.vm_store.specs.Store.{has_failed}
 use Rattle.vm_cli.specs.Reading.{HoldsLine}
-use Rattle.vm_cli.specs.Talk.{AnsweredRequest, Handled, HandlesLine, HasTalked, Serves, ServesLines, error_text}
+use Rattle.vm_cli.specs.Requests.{request_of}
+use Rattle.vm_cli.specs.Talk.{AnsweredRequest, Done, Handled, HandlesLine, HasTalked, Serves, ServesLines, error_text}
 use Rattle.vm_cli.specs.declared.lines.line.Line.{Line}
 use Rattle.vm_cli.specs.declared.answers.reply.Reply.{Reply}
 use Rattle.vm_cli.specs.declared.answers.reply.Reply.TheVariants.{End}
@@ -75,6 +76,16 @@ module _ {D : Type 0} {members : _} where
   abbrev pub HandlesRequest : Store D members → Store D members → State → Request → List ℕ → Bool → Type 0
   HandlesRequest old new s request text ends = Handled old new s ends (AnsweredRequest old new s request text ends)
 
+  -- words are answered as they ask, or that memory was wanting, which leaves the store as it was and ends no talk
+  abbrev pub AnsweredWords : Store D members → Store D members → State → List (List ℕ) → List ℕ → Bool → Done → Type 0
+  AnsweredWords old new s words text ends done =
+      ((new ≡ old) × (done ≡ None) × (ends ≡ false) × (text ≡ error_text Memory))
+      ⊎ AnsweredRequest old new s (request_of words) text ends done
+
+  -- words were answered so
+  abbrev pub HandlesWords : Store D members → Store D members → State → List (List ℕ) → List ℕ → Bool → Type 0
+  HandlesWords old new s words text ends = Handled old new s ends (AnsweredWords old new s words text ends)
+
   -- these bytes, after `from` of a line, were answered up to `to` of a line, and a line was refused or none
   pub record Fed (old new : Store D members) (s : State) (on : OnRefusal) (refused : Bool) (bytes from to : List ℕ) (before after : Option (List ℕ)) : Type 0 where
     pub lines : List (List ℕ)
@@ -112,6 +123,11 @@ module _ {D W : Type 0} {members : _} (contents : W → Option (List ℕ)) where
   abbrev pub RepliesToLine : Line → Result Reply WriteFault → Store D members → Store D members → W → W → List ℕ → Type 0
   RepliesToLine line result old new writer writer' rest =
       (s : State) → (part : List ℕ) → HoldsLine line part → Replies (HandlesLine old new s part) result (contents writer) (contents writer') rest
+
+  -- so are the words of one
+  abbrev pub RepliesToWords : List (List ℕ) → Result Reply WriteFault → Store D members → Store D members → W → W → List ℕ → Type 0
+  RepliesToWords words result old new writer writer' rest =
+      (s : State) → Replies (HandlesWords old new s words) result (contents writer) (contents writer') rest
 
   -- so is a request
   abbrev pub RepliesToRequest : Request → Result Reply WriteFault → Store D members → Store D members → W → W → List ℕ → Type 0

@@ -1,11 +1,13 @@
 //! The talk: lines in, answers out.
-ghost use Rattle.std.specs.Prelude.{◌≡◌, ◌≢◌, ◌⊎◌, ◌+◌, ◌≤◌, ◌++◌, ◌∷◌, ℕ, List, [], length, true, false, Err, flat_map, IfErr, IfOk, OnErr, OnOk};
+ghost use Rattle.std.specs.Prelude.{◌≡◌, ◌≢◌, ◌⊎◌, ◌+◌, ◌≤◌, ◌++◌, ◌∷◌, ℕ, List, [], codes, length, true, false, Err, flat_map, IfErr, IfOk, OnErr, OnOk};
 ghost use Rattle.std.specs.Io.KnownBytes.{Appends, IsAtEnd};
 ghost use Rattle.vm_cli.specs.Carried.{Begins, Gains};
-ghost use Rattle.vm_cli.specs.Feeding.{AnswersBy, AnswersLine, AnswersWith, EndsAmong, EndsIfFailed, FeedsLine, RepliesToLine, RepliesToRequest, ServesEach, TalkGoesOn};
+ghost use Rattle.vm_cli.specs.Feeding.{AnswersBy, AnswersLine, AnswersWith, EndsAmong, EndsIfFailed, FeedsLine, RepliesToLine, RepliesToRequest, RepliesToWords, ServesEach, TalkGoesOn};
 ghost use Rattle.vm_cli.specs.Lines.{IsPart, lines_of};
 ghost use Rattle.vm_cli.specs.Reading.{HoldsLine};
 ghost use Rattle.vm_cli.specs.Replies.{ends_talk, reply_text};
+ghost use Rattle.vm_cli.specs.Requests.{request_of};
+ghost use Rattle.vm_cli.specs.Spaces.{words_of};
 ghost use Rattle.vm_cli.specs.Talk.{EndsBy, FailsByDevice, StoreFails, answer_text};
 ghost use Rattle.vm_store.specs.Store.{Holds, has_failed, GoesOn, GrowsOn};
 ghost use Rattle.vm_types.specs.State.{State};
@@ -15,7 +17,8 @@ use crate::answers::reply::{Reply, push_found};
 use crate::answers::text::Text;
 use crate::answers::writing::{WriteFault, flush, put_all};
 use crate::lines::line::{Line, LineKind};
-use crate::lines::request::{Request, read_request};
+use crate::lines::pieces::first_word;
+use crate::lines::request::{Request, put, read_request, record};
 use memchr::memchr;
 use std::alloc::{AllocError, Global};
 use std::io::{Read, Write};
@@ -241,10 +244,95 @@ fn reply_to<W: Write, D: Disk>(
     match line.kind {
         LineKind::Long => Ok(Reply::LongLine),
         LineKind::NoMemory => Ok(Reply::Refused(Refusal::Memory)),
-        LineKind::Kept => match read_request(alloc, line.text()) {
-            Ok(request) => reply_to_request(alloc, request, text, writer, store),
-            Err(AllocError) => Ok(Reply::Refused(Refusal::Memory)),
-        },
+        LineKind::Kept => reply_to_words(alloc, line.text(), text, writer, store),
+    }
+}
+
+/// Carries out a line whose bytes are held. A get and a put are told by their first word alone, and
+/// have frames of their own, so that the talk has a small one.
+fn reply_to_words<W: Write, D: Disk>(
+    alloc: Global,
+    line: &[u8],
+    text: &mut Text,
+    writer: &mut W,
+    store: &mut Store<D>,
+) -> Result<Reply, WriteFault>
+    requires { text.old ≡ [] }
+    ensures room { OnOk result (length text.new + 1024 ≤ 65536) }
+    ensures goes { GrowsOn ⊥ store.old store.new }
+    ensures last { EndsIfFailed result store.old store.new }
+    ensures failing { FailsByDevice store.old store.new }
+    ensures left { has_failed store.old ≡ true → store.new ≡ store.old }
+    ensures answer { RepliesToWords W.contents (words_of line.now) result
+        store.old store.new writer.old writer.new text.new }
+{
+    let Some((verb, rest)) = first_word(line) else {
+        return Ok(Reply::Nothing);
+    };
+    match verb {
+        b"get" => Ok(reply_to_get(rest, text, store)),
+        b"put" => Ok(reply_to_put(rest, store)),
+        _ => reply_to_rest(alloc, verb, rest, text, writer, store),
+    }
+}
+
+/// Answers a query for the value of a record, of which the words behind the first are given. The
+/// text takes the answer, unless it is a refusal.
+#[inline(never)]
+fn reply_to_get<D: Disk>(rest: &[u8], text: &mut Text, store: &mut Store<D>) -> Reply
+    requires { text.old ≡ [] }
+    ensures room { length text.new + 1024 ≤ 65536 }
+    ensures goes { GoesOn ⊥ store.old store.new }
+    ensures failed { has_failed store.new ≡ has_failed store.old }
+    ensures last { has_failed store.old ≡ false → ends_talk result ≡ false }
+    ensures left { has_failed store.old ≡ true → store.new ≡ store.old }
+    ensures answer { AnswersWith (request_of (codes "get" ∷ words_of rest.now)) result text.new
+        store.old store.new }
+{
+    match record(rest) {
+        Some((alt, key)) => get(&alt, key, text, store),
+        None => Reply::BadLine,
+    }
+}
+
+/// Carries out a put, of which the words behind the first are given.
+#[inline(never)]
+fn reply_to_put<D: Disk>(rest: &[u8], store: &mut Store<D>) -> Reply
+    ensures goes { GrowsOn ⊥ store.old store.new }
+    ensures last { has_failed store.old ≡ false → ends_talk result ≡ has_failed store.new }
+    ensures failing { FailsByDevice store.old store.new }
+    ensures left { has_failed store.old ≡ true → store.new ≡ store.old }
+    ensures answer { AnswersBy (request_of (codes "put" ∷ words_of rest.now)) result
+        store.old store.new }
+{
+    match put(rest) {
+        Some(command) => reply_to_command(&command, store),
+        None => Reply::BadLine,
+    }
+}
+
+/// Carries out any other line, of which the first word and those behind it are given.
+#[inline(never)]
+fn reply_to_rest<W: Write, D: Disk>(
+    alloc: Global,
+    verb: &[u8],
+    rest: &[u8],
+    text: &mut Text,
+    writer: &mut W,
+    store: &mut Store<D>,
+) -> Result<Reply, WriteFault>
+    requires { text.old ≡ [] }
+    ensures room { OnOk result (length text.new + 1024 ≤ 65536) }
+    ensures goes { GrowsOn ⊥ store.old store.new }
+    ensures last { EndsIfFailed result store.old store.new }
+    ensures failing { FailsByDevice store.old store.new }
+    ensures left { has_failed store.old ≡ true → store.new ≡ store.old }
+    ensures answer { RepliesToWords W.contents (verb.now ∷ words_of rest.now) result
+        store.old store.new writer.old writer.new text.new }
+{
+    match read_request(alloc, verb, rest) {
+        Ok(request) => reply_to_request(alloc, request, text, writer, store),
+        Err(AllocError) => Ok(Reply::Refused(Refusal::Memory)),
     }
 }
 

@@ -34,14 +34,11 @@ ghost use Rattle.std.specs.Prelude.{◌≡◌, ◌∷◌, [], ℕ, List, codes, 
 ghost use Rattle.vm_cli.specs.Requests.{IsLongMerge, asked_by, command_of, grow_of, merge_of, name_of, named_of, names_of, new_of, put_of, query_of, record_of, request_of};
 ghost use Rattle.vm_cli.specs.Spaces.{HasWord, words_of};
 
-/// Reads a line, given without the bytes that end it.
-pub fn read_request(alloc: Global, line: &[u8]) -> Result<Request, AllocError>
-    ensures request { IfOk result (λ request. request ≡ request_of (words_of line.now)) }
-    ensures memory { OnErr result (IsLongMerge (words_of line.now)) }
+/// Reads what the first word of a line asks for, with the words after it.
+pub fn read_request(alloc: Global, verb: &[u8], rest: &[u8]) -> Result<Request, AllocError>
+    ensures request { IfOk result (λ request. request ≡ request_of (verb.now ∷ words_of rest.now)) }
+    ensures memory { OnErr result (IsLongMerge (verb.now ∷ words_of rest.now)) }
 {
-    let Some((verb, rest)) = first_word(line) else {
-        return Ok(Request::Nothing);
-    };
     if verb.first() == Some(&b'#') {
         return Ok(Request::Nothing);
     }
@@ -163,7 +160,7 @@ fn query(verb: &[u8], rest: &[u8]) -> Option<Request>
 }
 
 /// `put ALT TABLE NUMBER VALUE`
-fn put(rest: &[u8]) -> Option<Command>
+pub fn put(rest: &[u8]) -> Option<Command>
     ensures { result ≡ put_of (words_of rest.now) }
 {
     let (alt, rest) = first_word(rest)?;
@@ -213,7 +210,7 @@ fn grow(rest: &[u8]) -> Option<Command>
 }
 
 /// `ALT TABLE NUMBER`
-fn record(rest: &[u8]) -> Option<(Name, Key)>
+pub fn record(rest: &[u8]) -> Option<(Name, Key)>
     ensures { result ≡ record_of (words_of rest.now) }
 {
     let (alt, rest) = first_word(rest)?;

@@ -14,12 +14,7 @@ returns-in-NoMemory-clause-answer g c s part h =
     let store = c.args.store.now in
     replied_whole (HandlesLine store store s part) (reply.Refused Memory) _ c.args.text.now c.requires (memory_handled store s part)
 
-pub returns-in-Ok-clause-answer : goal.returns-in-Ok-clause-answer
-returns-in-Ok-clause-answer g c s part h =
-    kept_handled c.args.store.now c.reply_to_request.new.store s c.args.line.now part h c.in-Kept.is c.in-Ok.request c.text.result.now c.text.ensures c.in-Ok.ensures.request
-    c.reply_to_request.result _ _ c.reply_to_request.new.text (c.reply_to_request.ensures.answer s)
-
-pub returns-in-Err-clause-answer : goal.returns-in-Err-clause-answer
-returns-in-Err-clause-answer g c s part h =
-    let store = c.args.store.now in
-    replied_whole (HandlesLine store store s part) (reply.Refused Memory) _ c.args.text.now c.requires (memory_handled store s part)
+pub returns-in-Kept-clause-answer : goal.returns-in-Kept-clause-answer
+returns-in-Kept-clause-answer g c s part h =
+    kept_handled c.args.store.now c.reply_to_words.new.store s c.args.line.now part h c.in-Kept.is c.text.result.now c.text.ensures
+    c.reply_to_words.result _ _ c.reply_to_words.new.text (c.reply_to_words.ensures.answer s)
