@@ -72,7 +72,7 @@ pub fn write_leaf(records: &[(Key, Value)], out: &mut [u8; 4096])
     write_leaf_into(records, out);
 }
 
-pub(crate) fn read_record(bytes: &[u8]) -> Option<(Key, Value)>
+fn read_record(bytes: &[u8]) -> Option<(Key, Value)>
     requires { length bytes.now ≡ 252 }
     ensures found { IfSome result (λ r. RecordFits r × (bytes.now ≡ record_bytes r)) }
     ensures only { (r : Record) → RecordFits r → bytes.now ≡ record_bytes r → result ≡ Some r }

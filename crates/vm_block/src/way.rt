@@ -1,5 +1,5 @@
 //! The way down to a key in the bytes of blocks, which are not read whole for it.
-ghost use Rattle.std.specs.Prelude.{◌≡◌, ℕ, Bool, ◌+◌, ◌*◌, ◌<◌, ◌≤◌, None, length, take, drop, IfSome, IsSomeAnd, slice_index_or};
+ghost use Rattle.std.specs.Prelude.{◌≡◌, ℕ, Bool, ◌+◌, ◌*◌, ◌<◌, ◌≤◌, None, length, take, drop, IfSome, IsSomeAnd, option_copied, slice_index_or};
 ghost use Rattle.vm_types.specs.Places.{KeyFits, place, value_at};
 ghost use Rattle.vm_block.specs.Head.{IsLeafHead, IsNodeHead, IsRowsHead};
 ghost use Rattle.vm_block.specs.Leaf.{BeginsWith, key_bytes};
@@ -10,10 +10,9 @@ ghost use Rattle.vm_block.specs.Way.{ChoosesAmong, IsWay, IsWayTo, Lowest, Tells
 
 use crate::head::{MAX_RECORDS, leaf_count, node_numbers, rows_head};
 use crate::keys::read_key;
-use crate::leaf::read_record;
 use crate::node::{Child, read_child};
 use crate::stored::{Stored, read_stored};
-use vm_types::{Key, Value};
+use vm_types::Key;
 
 /// Where a descent to a key goes in an inner block.
 #[derive(Clone, Copy, Debug, PartialEq, Eq)]
@@ -125,14 +124,16 @@ pub fn find_row(bytes: &[u8; 4096], key: Key) -> Option<Option<Stored<'_>>>
     }
 }
 
-/// The value of the key in a leaf of records. None just where the bytes begin with the head of
-/// none, or the record that was found is none.
-pub fn find_record(bytes: &[u8; 4096], key: Key) -> Option<Option<Value>>
+/// The bytes of the key's value, where they stand in a leaf of records. None just where the bytes
+/// begin with the head of none, or the record that was found is none.
+pub fn find_record(bytes: &[u8; 4096], key: Key) -> Option<Option<&[u8]>>
     // On any bytes: None where they begin with the head of no leaf, and else only where a record is none.
     ensures head { IfSome result (λ value. (n : ℕ) × IsLeafHead bytes.now 16 n) }
     ensures headed { (n : ℕ) → IsLeafHead bytes.now 16 n → result ≡ None → LacksRecord bytes.now n }
+    ensures short { IfSome result (λ value. IfSome value (λ found. length found.now ≤ 240)) }
 
-    ensures only { IfLeaf bytes.now (λ rs. IsSomeAnd result (λ v. v ≡ value_at (place key) rs)) }
+    ensures only { IfLeaf bytes.now
+        (λ rs. IsSomeAnd result (λ value. option_copied value ≡ value_at (place key) rs)) }
 {
     let Some(count) = leaf_count(bytes, MAX_RECORDS) else {
         return None;
@@ -142,8 +143,9 @@ pub fn find_record(bytes: &[u8; 4096], key: Key) -> Option<Option<Value>>
     if read_key(&bytes[from..]).place() != place {
         return Some(None);
     }
-    match read_record(&bytes[from..from + 252]) {
-        Some(record) => Some(Some(record.1)),
+    match read_stored(&bytes[from..from + 252]) {
+        Some(Stored::Short(value)) => Some(Some(value)),
+        Some(Stored::Long(_)) => None,
         None => None,
     }
 }

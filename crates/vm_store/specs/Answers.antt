@@ -1,5 +1,6 @@
 -- What a store answers.
-use Rattle.std.specs.Prelude.{◌≡◌, ◌⊎◌, ℕ, ◌*◌, ◌<◌, nat_lt, Bool, true, false, List, None, Result, Ok, Err}
+use Rattle.std.specs.Prelude.{◌≡◌, ◌⊎◌, ℕ, ◌*◌, ◌<◌, nat_lt, Bool, true, false, List, Option, None, option_copied, Result, Ok, Err}
+use Rattle.std.specs.Borrow.{Bor}
 use Rattle.vm_types.specs.declared.answer.Answer.{Answer}
 use Rattle.vm_types.specs.declared.change.Change.{Change}
 use Rattle.vm_types.specs.declared.command.Command.{Command}
@@ -85,6 +86,11 @@ TakesMemory command = ⊥
 abbrev pub IsGrow : Command → Type 0
 IsGrow (Grow blocks) = Unit {0}
 IsGrow command = ⊥
+
+-- an answer that lends a value, as one that has a copy of it
+abbrev pub copied_answer : Result (Option (Bor (List ℕ))) Refusal → Result (Option (List ℕ)) Refusal
+copied_answer (Ok value) = Ok (option_copied value)
+copied_answer (Err refusal) = Err refusal
 
 -- what a query answers: what is due, or that the device failed
 abbrev pub IsDueOrDevice : {T : Type 0} → Result T Refusal → Result T Refusal → Type 0

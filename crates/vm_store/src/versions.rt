@@ -1,5 +1,5 @@
 //! The alternatives and checkpoints of a store in memory: found by name, added, changed and taken out.
-ghost use Rattle.std.specs.Prelude.{◌≡◌, ◌↔◌, ◌≤◌, ◌<◌, ◌*◌, ◌++◌, ◌∷◌, ◌+◌, [], find, filter, length, None, vec_capacity, IfSome, IfNone, IfOk, IfErr, IsTrue};
+ghost use Rattle.std.specs.Prelude.{◌≡◌, ◌↔◌, ◌≤◌, ◌<◌, ◌*◌, ◌++◌, ◌∷◌, ◌+◌, [], find, filter, length, None, option_map, vec_capacity, IfSome, IfNone, IfOk, IfErr, IsTrue};
 ghost use Rattle.std.specs.List.{list_any};
 ghost use Rattle.vm_types.specs.Firsts.{IsFirst, change_first, without_first};
 ghost use Rattle.vm_types.specs.Name.{IsName};
@@ -127,6 +127,17 @@ impl Versions {
     {
         match position_of(&self.list, alt) {
             Some(i) => Some(self.list[i]),
+            None => None,
+        }
+    }
+
+    /// The current root of the alternative of this name, if it is there.
+    pub fn current_of(&self, alt: &Name) -> Option<Root>
+        ensures { result ≡ option_map (λ version. version.current)
+            (find (is_alternative_of alt.now) self.now) }
+    {
+        match position_of(&self.list, alt) {
+            Some(i) => Some(self.list[i].current),
             None => None,
         }
     }

@@ -1,6 +1,7 @@
 -- The way down to a place: the child that is chosen holds all records that could stand there.
-use Rattle.std.proofs.Common.{◌≡◌, ℕ, zero, suc, ◌+◌, ◌-◌, ◌<◌, ◌≤◌, List, [], ◌∷◌, ◌++◌, length, get_or, take, drop, Option, Result, Ok, Err, sym, ap, ◌∙◌, subst, arith, length-drop, get_or-drop}
+use Rattle.std.proofs.Common.{◌≡◌, ℕ, zero, suc, ◌+◌, ◌-◌, ◌<◌, ◌≤◌, List, [], ◌∷◌, ◌++◌, length, get_or, take, drop, Option, option_copied, Result, Ok, Err, sym, ap, ◌∙◌, subst, arith, length-drop, get_or-drop}
 use Rattle.std.specs.Prelude.{slice_index}
+use Rattle.std.specs.Borrow.{Bor}
 use Rattle.std.proofs.lemmas.List.{length-map, get_or-map, drop-map}
 use Rattle.vm_types.specs.declared.key.Key.{Key}
 use Rattle.vm_types.specs.Places.{place, RisesFrom, places, value_at}
@@ -109,23 +110,23 @@ ok_map (Ok x) P Q h so = so x h
 ok_map (Err e) P Q h so = h
 
 -- the value under a chosen child is the value under its parent
-pub node_value : (sizes : Sizes) (old mid : Medium) (limit level b p : ℕ) (rs : List Record) (bs : List ℕ) (cs : List Child) (i : ℕ) (d : Child) (result : Result (Option (List ℕ)) TreeFault)
+pub node_value : (sizes : Sizes) (old mid : Medium) (limit level b p : ℕ) (rs : List Record) (bs : List ℕ) (cs : List Child) (i : ℕ) (d : Child) (result : Result (Option (Bor (List ℕ))) TreeFault)
     → mid ≡ old → 0 < level → Subtree sizes old.contents limit level b rs bs → RisesFrom 0 (places rs)
     → ((ds : List Child) → IsNodeAt old.contents limit level b ds → length ds ≤ sizes.fan → cs ≡ ds) → IsChosen (lows cs) p i
-    → ((sub : List Record) (own : List ℕ) → Subtree sizes mid.contents limit (level - 1) (get_or cs i d).block sub own → BeginsWith (get_or cs i d).low sub → RisesFrom 0 (places sub) → OkOrDevice result (λ value. value ≡ value_at p sub))
-    → OkOrDevice result (λ value. value ≡ value_at p rs)
+    → ((sub : List Record) (own : List ℕ) → Subtree sizes mid.contents limit (level - 1) (get_or cs i d).block sub own → BeginsWith (get_or cs i d).low sub → RisesFrom 0 (places sub) → OkOrDevice result (λ value. option_copied value ≡ value_at p sub))
+    → OkOrDevice result (λ value. option_copied value ≡ value_at p rs)
 node_value sizes old mid limit level b p rs bs cs i d result still above tree rises only chosen below =
     let at = opens sizes old.contents limit level b p rs bs cs i d above tree rises only chosen in
     let s = at.way.split in
     let child = subst (λ (m : Medium). Subtree sizes m.contents limit (level - 1) (get_or cs i d).block s.sub s.own) (sym still) s.child in
-    ok_map result (λ value. value ≡ value_at p s.sub) (λ value. value ≡ value_at p rs) (below s.sub s.own child s.begins at.way.rising)
+    ok_map result (λ value. option_copied value ≡ value_at p s.sub) (λ value. option_copied value ≡ value_at p rs) (below s.sub s.own child s.begins at.way.rising)
     (λ value is. is ∙ sym (ap (value_at p) s.records ∙ value_between p s.before s.sub s.after at.way.below at.way.above))
 
 -- the same of a child that was found in the bytes of its parent
-pub way_value : (sizes : Sizes) (old mid : Medium) (limit level b p : ℕ) (rs : List Record) (bs : List ℕ) (cs : List Child) (i : ℕ) (c : Child) (result : Result (Option (List ℕ)) TreeFault)
+pub way_value : (sizes : Sizes) (old mid : Medium) (limit level b p : ℕ) (rs : List Record) (bs : List ℕ) (cs : List Child) (i : ℕ) (c : Child) (result : Result (Option (Bor (List ℕ))) TreeFault)
     → mid ≡ old → 0 < level → Subtree sizes old.contents limit level b rs bs → RisesFrom 0 (places rs) → IsNodeAt old.contents limit level b cs → Takes cs p i c
-    → ((sub : List Record) (own : List ℕ) → Subtree sizes mid.contents limit (level - 1) c.block sub own → BeginsWith c.low sub → RisesFrom 0 (places sub) → OkOrDevice result (λ value. value ≡ value_at p sub))
-    → OkOrDevice result (λ value. value ≡ value_at p rs)
+    → ((sub : List Record) (own : List ℕ) → Subtree sizes mid.contents limit (level - 1) c.block sub own → BeginsWith c.low sub → RisesFrom 0 (places sub) → OkOrDevice result (λ value. option_copied value ≡ value_at p sub))
+    → OkOrDevice result (λ value. option_copied value ≡ value_at p rs)
 way_value sizes old mid limit level b p rs bs cs i c result still above tree rises at takes below =
     node_value sizes old mid limit level b p rs bs cs i c result still above tree rises
     (λ ds other few. (node_one (block old.contents b) level level cs ds at.node other.node).1) takes.chosen

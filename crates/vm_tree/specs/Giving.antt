@@ -1,5 +1,6 @@
 -- What is given of the map under a root, where the disk is honest after the call.
-use Rattle.std.specs.Prelude.{◌≡◌, ℕ, true, List, ◌++◌, length, Option, Result, OnOk}
+use Rattle.std.specs.Prelude.{◌≡◌, ℕ, true, List, ◌++◌, length, Option, option_copied, Result, OnOk}
+use Rattle.std.specs.Borrow.{Bor}
 use Rattle.vm_types.specs.declared.key.Key.{Key}
 use Rattle.vm_types.specs.Map.{Map, get}
 use Rattle.vm_types.specs.Places.{place, value_at}
@@ -12,15 +13,15 @@ use Rattle.vm_tree.specs.Root.{IfUnder, IfWhole}
 use Rattle.vm_tree.specs.declared.root.Root.{Root}
 use Rattle.vm_tree.specs.declared.root.TreeFault.{TreeFault}
 
--- the value of the key in the map, whatever the sizes of the tree's blocks, unless the device fails
-abbrev pub GivesValue : Result (Option (List ℕ)) TreeFault → DiskState → DiskState → ℕ → Root → Key → Type 0
+-- the value of the key in the map, which is lent, whatever the sizes of the tree's blocks, unless the device fails
+abbrev pub GivesValue : Result (Option (Bor (List ℕ))) TreeFault → DiskState → DiskState → ℕ → Root → Key → Type 0
 GivesValue result old new limit root key =
-    (sizes : Sizes) → IfWhole old new sizes limit root (λ m bs. OkOrDevice result (λ value. value ≡ get m key))
+    (sizes : Sizes) → IfWhole old new sizes limit root (λ m bs. OkOrDevice result (λ value. option_copied value ≡ get m key))
 
 -- the same of the records under a child
-abbrev pub GivesValueUnder : Result (Option (List ℕ)) TreeFault → DiskState → DiskState → ℕ → ℕ → Child → Key → Type 0
+abbrev pub GivesValueUnder : Result (Option (Bor (List ℕ))) TreeFault → DiskState → DiskState → ℕ → ℕ → Child → Key → Type 0
 GivesValueUnder result old new limit level top key =
-    (sizes : Sizes) → IfUnder old new sizes limit level top (λ rs bs. OkOrDevice result (λ value. value ≡ value_at (place key) rs))
+    (sizes : Sizes) → IfUnder old new sizes limit level top (λ rs bs. OkOrDevice result (λ value. option_copied value ≡ value_at (place key) rs))
 
 -- the whole map, whatever the sizes of the tree's blocks, unless the device fails or no memory is found
 abbrev pub GivesMap : Result Map TreeFault → DiskState → DiskState → ℕ → Root → Type 0

@@ -1,5 +1,5 @@
 //! The value of a key.
-ghost use Rattle.std.specs.Prelude.{◌≡◌, ◌≢◌, ◌≤◌};
+ghost use Rattle.std.specs.Prelude.{◌≡◌, ◌≢◌, ◌≤◌, length, IfOk, IfSome};
 ghost use Rattle.vm_types.specs.Places.{KeyFits};
 ghost use Rattle.vm_tree.specs.Calls.{OnlyLooks};
 ghost use Rattle.vm_tree.specs.Giving.{GivesValue, GivesValueUnder};
@@ -9,22 +9,24 @@ use crate::reading::{block_at, way_at};
 use crate::root::{Root, TreeFault};
 use vm_block::{Child, find_record};
 use vm_disk::Disk;
-use vm_types::{Key, Value};
+use vm_types::Key;
 
-/// The value of the key under a block of this level. Each block is read into these bytes.
-fn get_below<D: Disk>(
+/// The value of the key under a block of this level. Each block is read into these bytes, and the
+/// value is lent from those of its leaf.
+fn get_below<'a, D: Disk>(
     disk: &mut D,
     blocks: u32,
     level: u8,
     top: Child,
     key: Key,
-    bytes: &mut [u8; 4096],
-) -> Result<Option<Value>, TreeFault>
+    bytes: &'a mut [u8; 4096],
+) -> Result<Option<&'a [u8]>, TreeFault>
     requires { blocks ≤ (D.state disk.old).blocks }
     ensures looks { OnlyLooks result (D.state disk.old) (D.state disk.new) }
     ensures deep { result ≢ Err TreeFault.Deep }
     ensures memory { result ≢ Err TreeFault.Memory }
     ensures fits { KeyFits key }
+    ensures short { IfOk result (λ value. IfSome value (λ found. length found.now ≤ 240)) }
     ensures path { FindsPath result (D.state disk.old) (D.state disk.new) blocks level top }
     ensures value { GivesValueUnder result (D.state disk.old) (D.state disk.new) blocks level top key }
 {
@@ -39,17 +41,20 @@ fn get_below<D: Disk>(
     get_below(disk, blocks, level - 1, way.child, key, bytes)
 }
 
-/// The value of a key in the map under a root.
-pub fn get<D: Disk>(
+/// The value of a key in the map under a root. Each block is read into these bytes, and the value is
+/// lent from those of its leaf.
+pub fn get<'a, D: Disk>(
     disk: &mut D,
     blocks: u32,
     root: Root,
     key: Key,
-) -> Result<Option<Value>, TreeFault>
+    bytes: &'a mut [u8; 4096],
+) -> Result<Option<&'a [u8]>, TreeFault>
     requires { blocks ≤ (D.state disk.old).blocks }
     ensures looks { OnlyLooks result (D.state disk.old) (D.state disk.new) }
     ensures deep { result ≢ Err TreeFault.Deep }
     ensures memory { result ≢ Err TreeFault.Memory }
+    ensures short { IfOk result (λ value. IfSome value (λ found. length found.now ≤ 240)) }
 
     // A value, or that there is none, is told only where each block on the path has the head of its level and begins
     // with the key that its parent says, the first with the lowest key of the root.
@@ -65,6 +70,5 @@ pub fn get<D: Disk>(
         low: root.low,
         block: root.block,
     };
-    let mut bytes = [0; 4096];
-    get_below(disk, blocks, root.level, top, key, &mut bytes)
+    get_below(disk, blocks, root.level, top, key, bytes)
 }

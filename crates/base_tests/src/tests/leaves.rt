@@ -94,7 +94,7 @@ fn record_is_put_where_it_belongs(rt: HostRuntime) {
     write_leaf(&records, &mut written);
     assert!(rt; block == written);
     assert!(rt; lowest_key(&block) == key(7, 1));
-    assert!(rt; find_record(&block, key(7, 9)) == Some(Some(value(&rt, b"pipe"))));
+    assert!(rt; find_record(&block, key(7, 9)) == Some(Some(b"pipe".as_slice())));
     assert!(rt; find_record(&block, key(7, 8)) == Some(None));
     assert!(rt; put_record(&mut block, 2, key(7, 5), &value(&rt, b"")) == Placed::NoLeaf);
 }

@@ -55,6 +55,18 @@ fn value_at<D: Disk>(alloc: Global, store: &mut Store<D>, alt: &str, at: &str) -
     Ok(Ok(text))
 }
 
+/// The same, of the bytes in the block in which the value stands.
+fn lent_at<D: Disk>(alloc: Global, store: &mut Store<D>, alt: &str, at: &str) -> Given {
+    let mut room = [0; 4096];
+    let found = match store.look(&name(alt)?, key(at)?, &mut room) {
+        Ok(found) => found,
+        Err(refusal) => return Ok(Err(refusal)),
+    };
+    let mut text = String::new(alloc);
+    write!(text, "{}", value_of(found))?;
+    Ok(Ok(text))
+}
+
 fn records<D: Disk>(alloc: Global, store: &mut Store<D>, alt: &str) -> Given {
     let list = match store.list(alloc, &name(alt)?) {
         Ok(list) => list,
@@ -147,6 +159,7 @@ fn blocks<D: Disk>(alloc: Global, store: &Store<D>) -> Given {
 fn query<D: Disk>(alloc: Global, store: &mut Store<D>, words: &[&str]) -> Given {
     match words {
         ["get", alt, at] => value_at(alloc, store, alt, at),
+        ["look", alt, at] => lent_at(alloc, store, alt, at),
         ["list", alt] => records(alloc, store, alt),
         ["changes", alt] => changes(alloc, store, alt),
         ["conflicts", alt] => conflicts(alloc, store, alt),

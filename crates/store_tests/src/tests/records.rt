@@ -20,6 +20,23 @@ fn what_is_committed_is_there_after_opening(rt: HostRuntime) {
 }
 
 #[test]
+fn value_is_lent_from_its_block(rt: HostRuntime) {
+    let row = "
+        open
+        look top 7:1 -> duct
+        look top 7:2 -> ~
+        look nope 7:1 -> error 1 NoSuchAlternative
+        new a top
+        put a 7:1 pipe
+        put a 7:2 ''
+        look a 7:1 -> pipe
+        look a 7:2 -> ''
+        look top 7:1 -> duct
+        look top 7:2 -> ~";
+    on_both(&rt, &[DUCT, row]);
+}
+
+#[test]
 fn greatest_key_takes_the_empty_value(rt: HostRuntime) {
     let row = "
         get top 65535:18446744073709551615 -> ~

@@ -11,7 +11,7 @@
 //! | `checkpoints top 15` | the same of the checkpoints `k001` to `k015` |
 //! | `kept top 1:1 v 15` | the same, with a put before each |
 //! | `run put a 1:1 y ; commit` | `ok ; ok ; end`: how the list ended stands last |
-//! | `get a 1:1` | `y` |
+//! | `get a 1:1`, `look a 1:1` | `y` |
 //! | `list a` | `1:1=y 1:2=z` |
 //! | `changes a` | `1:1=x/y`: the value before and after |
 //! | `conflicts a` | `1:1=x/z/y`: the value of the base, the parent's and one's own |

@@ -19,9 +19,10 @@ fn add_record(text: &mut String, key: Key, value: &[u8]) -> Result<(), Wrong> {
 /// The value of a key, or `~`.
 fn got(alloc: Global, bench: &mut Bench, number: u64) -> Result<String, Wrong> {
     let blocks = bench.disk.blocks();
-    match get(&mut bench.disk, blocks, bench.root, key(number))? {
+    let mut room = [0; 4096];
+    match get(&mut bench.disk, blocks, bench.root, key(number), &mut room)? {
         Some(value) => {
-            let value = str::from_utf8(value.as_bytes()).map_err(|_| Wrong::Unreadable)?;
+            let value = str::from_utf8(value).map_err(|_| Wrong::Unreadable)?;
             Ok(String::from_str(alloc, value)?)
         }
         None => Ok(String::from_str(alloc, "~")?),

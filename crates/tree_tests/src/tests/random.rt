@@ -227,9 +227,13 @@ impl Pair {
         Ok(())
     }
 
-    fn get(&mut self, number: u64) -> Result<Option<Value>, TreeFault> {
+    fn get<'a>(
+        &mut self,
+        number: u64,
+        room: &'a mut [u8; 4096],
+    ) -> Result<Option<&'a [u8]>, TreeFault> {
         let blocks = self.disk.blocks();
-        get(&mut self.disk, blocks, self.root, key(number))
+        get(&mut self.disk, blocks, self.root, key(number), room)
     }
 
     /// Compares all records, and what a hundred keys have.
@@ -244,9 +248,11 @@ impl Pair {
                 return Err(Wrong::Records(changes));
             }
         }
+        let mut room = [0; 4096];
         for _ in 0..100 {
             let number = self.number();
-            if self.get(number)? != self.plain.get(&number).copied() {
+            let found = self.get(number, &mut room)?;
+            if found != self.plain.get(&number).map(|value| value.as_bytes()) {
                 return Err(Wrong::Got(number));
             }
         }

@@ -11,6 +11,7 @@ impl<D: Disk> Store<D> {
     ghost use Rattle.vm_store.specs.Store.{has_failed, entries_of, IsCarriedOut, GoesOn};
 
     // Makes the working entries the committed ones.
+    #[inline(never)]
     pub(super) fn commit(&mut self) -> Result<Answer, Refusal>
         ensures any { GoesOn (result ≡ Err Refusal.Device) self.old self.new }
         ensures failed { has_failed self.new ≡ has_failed self.old }

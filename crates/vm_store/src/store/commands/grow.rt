@@ -28,6 +28,7 @@ impl<D: Disk> Store<D> {
 
     // Gives the store so many blocks in all. Room for what is held and marked is found before the disk is
     // asked for blocks, so that nothing is to be undone.
+    #[inline(never)]
     pub(super) fn grow(&mut self, blocks: u32) -> Result<Answer, Refusal>
         ensures any { GrowsOn (result ≡ Err Refusal.Device) self.old self.new }
         ensures failed { has_failed self.new ≡ has_failed self.old }

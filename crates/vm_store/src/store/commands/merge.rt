@@ -15,6 +15,7 @@ impl<D: Disk> Store<D> {
 
     // Changes the alternative's records to those of the merge, and makes the parent's records its base. All
     // that takes memory comes before a marking and before the first write.
+    #[inline(never)]
     pub(super) fn merge(&mut self, alt: &Name, settled: &[(Key, Side)]) -> Result<Answer, Refusal>
         ensures any { GoesOn (result ≡ Err Refusal.Device) self.old self.new }
         ensures failed { has_failed self.new ≡ has_failed self.old }

@@ -10,6 +10,7 @@ impl<D: Disk> Store<D> {
     ghost use Rattle.vm_store.specs.Store.{has_failed, entries_of, IsCarriedOut, SpareIsFree, IsHonest, GoesOn};
 
     // Frees each block that neither the committed nor the working entries reach.
+    #[inline(never)]
     pub(super) fn reclaim(&mut self) -> Result<Answer, Refusal>
         ensures any { GoesOn (result ≡ Err Refusal.Device) self.old self.new }
         ensures failed { has_failed self.new ≡ has_failed self.old }

@@ -19,6 +19,7 @@ impl<D: Disk> Store<D> {
 
     // Takes a record out of the alternative. Where its series goes on and enough blocks are free, its path
     // is gone down once.
+    #[inline(never)]
     pub(super) fn remove(&mut self, alt: &Name, key: Key) -> Result<Answer, Refusal>
         ensures any { GoesOn (result ≡ Err Refusal.Device) self.old self.new }
         ensures failed { has_failed self.new ≡ has_failed self.old }
@@ -55,7 +56,8 @@ impl<D: Disk> Store<D> {
             → Carries self.old self.new s holds (Remove alt.now key) result }
     {
         let root = version.current;
-        match get(&mut self.disk, self.blocks, root, key) {
+        let mut room = [0; 4096];
+        match get(&mut self.disk, self.blocks, root, key, &mut room) {
             Ok(Some(_)) => {}
             Ok(None) => return Err(Refusal::NoSuchRecord),
             Err(fault) => return Err(refusal_of(fault)),

@@ -1,4 +1,4 @@
-use Rattle.std.proofs.Common.{◌≡◌, ap, sym, ◌∙◌, inl, inr, arith}
+use Rattle.std.proofs.Common.{◌≡◌, option_copied, ap, sym, ◌∙◌, inl, inr, arith}
 use Rattle.vm_types.specs.Map.{Map, get}
 use Rattle.vm_types.specs.Places.{KeyFits, FitKeys, place, value_at}
 use Rattle.vm_types.proofs.Bridge.{value_at-get}
@@ -18,7 +18,7 @@ pub returns-clause-value : goal.returns-clause-value
 returns-clause-value g c sizes honest m bs (inl bare) = absurd (c.if-root-eq0.false bare.none)
 returns-clause-value g c sizes honest m bs (inr top) =
     let fit : FitKeys m = each_so RecordFits (λ r. KeyFits r.0) (λ r fits. fits.0) m (subtree_fit sizes _ _ _ _ m bs top.subtree) in
-    ok_map _ (λ value. value ≡ value_at (place c.args.key) m) (λ value. value ≡ get m c.args.key) (c.get_below.ensures.value sizes honest m bs top.subtree top.lowest top.rising)
+    ok_map _ (λ value. option_copied value ≡ value_at (place c.args.key) m) (λ value. option_copied value ≡ get m c.args.key) (c.get_below.ensures.value sizes honest m bs top.subtree top.lowest top.rising)
     (λ value is. is ∙ value_at-get c.args.key m c.get_below.ensures.fits fit)
 
 pub returns-clause-path : goal.returns-clause-path

@@ -1,4 +1,4 @@
-use Rattle.std.proofs.Common.{Some, None, Err, inl, inr, sym, ap, ◌∙◌, arith}
+use Rattle.std.proofs.Common.{Some, None, Err, option_copied, inl, inr, sym, ap, ◌∙◌, arith}
 use Rattle.vm_types.specs.declared.command.Command.TheVariants.{Remove}
 use Rattle.vm_disk.proofs.MomentLemmas.{reads_then}
 use Rattle.vm_store.proofs.CarryLemmas.{looked, read_carried}
@@ -18,7 +18,7 @@ returns-in-Ok-None-clause-carried g c honest s holds =
     let found = found_entry _ _ _ _ _ _ s rests c.args.alt.now e is in
     let holds' = read_holds _ _ _ _ _ _ _ _ _ s (c.in-Ok-None.ensures.looks.reads honest) holds in
     looked _ _ s holds (Remove c.args.alt.now c.args.key) _ (removes_missing s c.args.alt.now c.args.key _ _
-    (value_found _ _ _ _ _ _ s rests c.args.alt.now e is c.args.key None (sym c.in-Ok-None.field-0-is ∙ c.in-Ok-None.ensures.value sizes honest found.filed.current found.stands.current.stands_in found.stands.current.rooted)))
+    (value_found _ _ _ _ _ _ s rests c.args.alt.now e is c.args.key None (sym (ap option_copied c.in-Ok-None.field-0-is) ∙ c.in-Ok-None.ensures.value sizes honest found.filed.current found.stands.current.stands_in found.stands.current.rooted)))
     (c.in-Ok-None.ensures.looks.reads honest) holds'.rests (λ _. holds')
 
 pub returns-in-Err-clause-carried : goal.returns-in-Err-clause-carried
@@ -37,7 +37,7 @@ returns-in-Ok-false-clause-carried g c honest s holds =
     let e = c.args.version in
     let is = c.requires in
     let found = found_entry _ _ _ _ _ _ s rests c.args.alt.now e is in
-    let there = value_found _ _ _ _ _ _ s rests c.args.alt.now e is c.args.key (Some c.in-Ok-Some.field-0-0) (sym c.in-Ok-Some.field-0-is ∙ c.in-Ok-Some.ensures.value sizes (c.in-Ok-false.ensures.any.earlier honest) found.filed.current found.stands.current.stands_in found.stands.current.rooted) in
+    let there = value_found _ _ _ _ _ _ s rests c.args.alt.now e is c.args.key (Some c.in-Ok-Some.field-0-0.now) (sym (ap option_copied c.in-Ok-Some.field-0-is) ∙ c.in-Ok-Some.ensures.value sizes (c.in-Ok-false.ensures.any.earlier honest) found.filed.current found.stands.current.stands_in found.stands.current.rooted) in
     let read = c.in-Ok-Some.ensures.looks.reads (c.has_spare.ensures.any.earlier honest) in
     let holds' = c.has_spare.ensures.state honest s (read_holds _ _ _ _ _ _ _ _ _ s read holds) in
     looked _ _ s holds (Remove c.args.alt.now c.args.key) _ (removes_full s c.args.alt.now c.args.key _ _ _ there (full_for _ _ _ (spare_after _ _ _ _ _ _ _ _ _ s _ _ (c.in-Ok-Some.ensures.looks.reads (c.in-Ok-false.ensures.any.earlier honest)) (c.in-Ok-false.ensures.spare honest) holds) c.in-Ok-false.field-0-test))
@@ -56,7 +56,7 @@ returns-clause-carried g c honest s holds =
     let e = c.args.version in
     let marked = c.remove_in_series.ensures.any.earlier honest in
     let found = found_entry _ _ _ _ _ _ s rests c.args.alt.now e c.requires in
-    let there = value_found _ _ _ _ _ _ s rests c.args.alt.now e c.requires c.args.key (Some c.in-Ok-Some.field-0-0) (sym c.in-Ok-Some.field-0-is ∙ c.in-Ok-Some.ensures.value sizes (c.in-Ok-true.ensures.any.earlier marked) found.filed.current found.stands.current.stands_in found.stands.current.rooted) in
+    let there = value_found _ _ _ _ _ _ s rests c.args.alt.now e c.requires c.args.key (Some c.in-Ok-Some.field-0-0.now) (sym (ap option_copied c.in-Ok-Some.field-0-is) ∙ c.in-Ok-Some.ensures.value sizes (c.in-Ok-true.ensures.any.earlier marked) found.filed.current found.stands.current.stands_in found.stands.current.rooted) in
     let read = c.in-Ok-Some.ensures.looks.reads (c.has_spare.ensures.any.earlier marked) in
     let mid = c.has_spare.new.self in
     let holds' = c.has_spare.ensures.state marked s (read_holds _ _ _ _ _ _ _ _ _ s read holds) in
