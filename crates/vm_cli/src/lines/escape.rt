@@ -62,8 +62,8 @@ fn hex(digit: u8) -> Option<u8>
     }
 }
 
-/// Writes the bytes of a value: none as `-`, each byte from 0x21 to 0x7D but `%` as itself, each other
-/// byte as `%` and two upper case hexadecimal digits, and so the value `-`.
+/// Writes the bytes of a value: none as `-`, each byte from 0x21 to 0x7D but `%` as itself, each
+/// other byte as `%` and two upper case hexadecimal digits, and so the value `-`.
 pub fn push_spelled(text: &mut Text, bytes: &[u8])
     requires room { length text.old + 720 ≤ 65536 }
     requires short { length bytes.now ≤ 240 }
