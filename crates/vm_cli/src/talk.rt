@@ -405,9 +405,10 @@ fn get<D: Disk>(alt: &Name, key: Key, text: &mut Text, store: &mut Store<D>) -> 
     ensures left { has_failed store.old ≡ true → store.new ≡ store.old }
     ensures answer { AnswersWith (Request.Get alt.now key) result text.new store.old store.new }
 {
-    match store.get(alt, key) {
+    let mut room = [0; 4096];
+    match store.look(alt, key, &mut room) {
         Ok(found) => {
-            push_found(text, &found);
+            push_found(text, found);
             Reply::Nothing
         }
         Err(refusal) => Reply::from_refusal(refusal),

@@ -3,7 +3,7 @@ ghost use Rattle.std.specs.Prelude.{◌≡◌, ◌≢◌, ◌+◌, ◌≤◌, �
 
 use crate::answers::text::Text;
 use crate::lines::escape;
-use vm_types::{Key, Refusal, Value};
+use vm_types::{Key, Refusal};
 
 /// What a line is answered.
 #[derive(Clone, Copy)]
@@ -98,21 +98,22 @@ impl Reply {
     }
 }
 
-ghost use Rattle.std.specs.Prelude.{◌∷◌, [], codes};
+ghost use Rattle.std.specs.Prelude.{◌∷◌, [], codes, option_copied, IfSome};
 ghost use Rattle.vm_types.specs.Texts.{detail_text, key_text, refusal_text};
 ghost use Rattle.vm_cli.specs.Replies.{found_text};
 
 /// Writes the line of a record's value, or that there is none.
-pub fn push_found(text: &mut Text, found: &Option<Value>)
+pub fn push_found(text: &mut Text, found: Option<&[u8]>)
     requires room { length text.old + 727 ≤ 65536 }
-    ensures written { text.new ≡ text.old ++ found_text found.now }
+    requires small { IfSome found (λ value. length value.now ≤ 240) }
+    ensures written { text.new ≡ text.old ++ found_text (option_copied found.entry) }
     ensures short { length text.new ≤ length text.old + 727 }
 {
     match found {
         None => text.push_bytes(b"none\n"),
         Some(value) => {
             text.push_bytes(b"value ");
-            escape::push_value(text, value);
+            escape::push_spelled(text, value);
             text.push(b'\n');
         }
     }

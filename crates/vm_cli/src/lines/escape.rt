@@ -62,18 +62,8 @@ fn hex(digit: u8) -> Option<u8>
     }
 }
 
-/// Writes a value: the empty one as `-`, each byte from 0x21 to 0x7D but `%` as itself, each other
-/// byte as `%` and two upper case hexadecimal digits, and so the value `-`.
-pub fn push_value(text: &mut Text, value: &Value)
-    requires { length text.old + 720 ≤ 65536 }
-    ensures written { text.new ≡ text.old ++ value_text value.now }
-    ensures short { length text.new ≤ length text.old + 720 }
-    ensures read_again { value_of (value_text value.now) ≡ Some value.now }
-{
-    push_spelled(text, value.as_bytes());
-}
-
-/// Writes the bytes of a value in the same way.
+/// Writes the bytes of a value: none as `-`, each byte from 0x21 to 0x7D but `%` as itself, each
+/// other byte as `%` and two upper case hexadecimal digits, and so the value `-`.
 pub fn push_spelled(text: &mut Text, bytes: &[u8])
     requires room { length text.old + 720 ≤ 65536 }
     requires short { length bytes.now ≤ 240 }

@@ -1,7 +1,4 @@
-use Rattle.std.proofs.Common.{◌≡◌, ◌∷◌, codes, refl, sym}
-use Rattle.vm_cli.specs.Requests.{request_of}
 use Rattle.vm_cli.specs.Spaces.{words_of}
-use Rattle.vm_cli.specs.declared.lines.request.Request.TheVariants as request
 use Rattle.vm_cli.proofs.HandledLemmas.{bad_handled, request_as}
 use Rattle.vm_cli.proofs.RequestLemmas.{put_asks, put_is_bad}
 use Rattle.vm_cli.proofs.talk.reply_to_put.Goals as goal
