@@ -43,7 +43,7 @@ module _ (sizes : Sizes) (x : Contents) (limit : ℕ) where
   -- the blocks of a subtree are none of those under tops whose records come after
   pub subtree_apart : (ts : List Root) (rest : List Record) (others : List ℕ) → Under sizes x limit ts rest others → (l c : ℕ) (rs : List Record) (bs : List ℕ) → Subtree sizes x limit l c rs bs
       → AllByRecursion (λ r. Above (place r.0) rest) rs → Apart bs others
-  subtree_apart ts rest others after = 
+  subtree_apart ts rest others after =
       subtree_before sizes x limit rest others
       (λ j c p top later. under_far j c p top ts rest others after later)
       (λ c key value long later. under_above c (place key) (long_far sizes x limit c key value long) ts rest others after later)

@@ -215,7 +215,7 @@ module _ (sizes : Sizes) (x : Contents) (limit : ℕ) where
         subst (λ (ds : List ℕ). Apart ds others) (sym t.4) (
           top_apart zero c rs bs t above,
           each_so (IsLongOf x rs) (λ n. Lacks n others)
-          (λ n of. long_after n of.whose.0 of.whose.1 of.long (each_whose (λ (r : Record). Above (place r.0) rest) x rs n of above)) t.1 (leaf_longs c rs t.1 t.2),
+              (λ n of. long_after n of.whose.0 of.whose.1 of.long (each_whose (λ (r : Record). Above (place r.0) rest) x rs n of above)) t.1 (leaf_longs c rs t.1 t.2),
         )
     subtree_before (suc l) c rs bs t above =
         subst (λ (ds : List ℕ). Apart ds others) (sym t.6) (top_apart (suc l) c rs bs t above, children_apart (Subtree sizes x limit l) rest others (subtree_before l) t.1 rs t.2 t.5 above)

@@ -27,9 +27,9 @@ returns-in-Ok g c =
       last = λ sound. refl;
       left = said.no_calls;
       answer = λ s. (
-          told old new s (request.Get c.args.alt.now c.args.key) (passes_reads old new (goes_any _ _ _ said.any) said.reads said.unchanged) said.failed said.no_calls (λ stood. said.state stood.honest s stood.holds)
-          (text ++ []) sound (refl, said.failed ∙ sound, λ stood. says_value (Failing old new) (value_in s.working c.args.alt.now c.args.key) (Ok found) (text ++ []) (λ is. absurd cc) alone (said.value stood.honest sound s stood.holds)),
-          found_plain (text ++ []) found alone,
+        told old new s (request.Get c.args.alt.now c.args.key) (passes_reads old new (goes_any _ _ _ said.any) said.reads said.unchanged) said.failed said.no_calls (λ stood. said.state stood.honest s stood.holds)
+            (text ++ []) sound (refl, said.failed ∙ sound, λ stood. says_value (Failing old new) (value_in s.working c.args.alt.now c.args.key) (Ok found) (text ++ []) (λ is. absurd cc) alone (said.value stood.honest sound s stood.holds)),
+        found_plain (text ++ []) found alone,
       );
     }
 
