@@ -1,4 +1,7 @@
 //! Commands: one file for each that has a body of its own.
+//!
+//! All but a put have frames of their own: theirs are large, and a command that is put into its
+//! caller has it set up at each line.
 ghost use Rattle.std.specs.Prelude.{◌≡◌, ◌≢◌, OnErr};
 ghost use Rattle.vm_types.specs.declared.command.Command.TheVariants.{Grow};
 ghost use Rattle.vm_store.specs.Answers.{ChangesEntriesAlone, IsGrow, TakesMemory};

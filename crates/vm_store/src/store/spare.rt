@@ -74,6 +74,7 @@ impl<D: Disk> Store<D> {
     /// Holds just the blocks that the committed or the working entries reach, beside the store's
     /// own. A series goes on over it: what its alternative's records alone need was not held before
     /// it, and is not now.
+    #[inline(never)]
     pub(super) fn mark_all(&mut self) -> Result<(), Refusal>
         ensures any { GoesOn (result ≡ Err Refusal.Device) self.old self.new }
         ensures failed { has_failed self.new ≡ has_failed self.old }

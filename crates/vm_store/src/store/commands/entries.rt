@@ -10,6 +10,7 @@ impl<D: Disk> Store<D> {
     ghost use Rattle.vm_store.specs.Store.{disk_of, has_failed, entries_of, IsCarriedOut, held_of, GoesOn, EarlyKeeps};
 
     /// Carries one of them out. It makes no device call.
+    #[inline(never)]
     pub(super) fn change_entries(&mut self, command: &Command) -> Result<Answer, Refusal>
         requires { ChangesEntriesAlone command.now }
         ensures any { GoesOn (result ≡ Err Refusal.Device) self.old self.new }

@@ -12,6 +12,7 @@ impl<D: Disk> Store<D> {
 
     /// Gives the parent the alternative's records, which become the alternative's base, too. The
     /// parent must have no other records than that base.
+    #[inline(never)]
     pub(super) fn post(&mut self, alt: &Name) -> Result<Answer, Refusal>
         ensures any { GoesOn (result ≡ Err Refusal.Device) self.old self.new }
         ensures failed { has_failed self.new ≡ has_failed self.old }

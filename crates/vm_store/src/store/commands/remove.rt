@@ -40,6 +40,7 @@ impl<D: Disk> Store<D> {
 
     /// Looks for the record first, so that no blocks are marked, and no series begins, for one that
     /// is absent.
+    #[inline(never)]
     fn remove_after_look(
         &mut self,
         alt: &Name,
