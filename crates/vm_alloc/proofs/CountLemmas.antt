@@ -1,14 +1,15 @@
 -- How the counts that `Held` and `Marks` keep follow the flags.
-use Rattle.std.proofs.Common.{◌≡◌, ℕ, ◌-◌, ◌<◌, ◌≤◌, Bool, true, false, List, ◌++◌, length, drop, replicate, sym, ◌∙◌, ap, inl, inr, arith}
+use Rattle.std.proofs.Common.{◌≡◌, ℕ, ◌+◌, ◌-◌, ◌<◌, ◌≤◌, Bool, true, false, not, List, ◌++◌, length, drop, replicate, sym, ◌∙◌, ap, inl, inr, arith, length-append, length-drop}
 use Rattle.std.specs.Prelude.{slice_set, ◌↔◌}
 use Rattle.std.proofs.Math.ListN.{length-set}
 use Rattle.std.proofs.lemmas.Bool.{cases_lt, false≢true}
 use Rattle.std.proofs.lemmas.List.{length-replicate}
+use Rattle.std.proofs.lemmas.List.Sums.{count_by-le-length}
 use Rattle.vm_alloc.specs.Counts.{IsCounted, IsTallied}
 use Rattle.vm_alloc.specs.Held.{IsHeld, free_count}
 use Rattle.vm_alloc.specs.Marks.{is_marked}
 use Rattle.vm_alloc.proofs.FlagLemmas.{first_flags_length, first_flags_low, first_flags_high}
-use Rattle.vm_alloc.proofs.HeldLemmas.{free_first, free_new, no_mark, unmarked_less, unmarked_same_low, mark_same}
+use Rattle.vm_alloc.proofs.HeldLemmas.{free_first, free_longer, free_new, no_mark, unmarked_less, unmarked_more, unmarked_same_low, mark_same, unmark_same}
 
 pub counted_none : (blocks : ℕ) (marks : List Bool) → 64 ≤ blocks → blocks ≤ 1048576 → marks ≡ replicate blocks false → IsCounted marks (blocks - 34)
 counted_none blocks marks enough few none =
@@ -29,15 +30,43 @@ counted_less marks unmarked n counted above inside free = record {
   count = omega (arith, counted.count, unmarked_less 34 marks n above inside free);
 }
 
-pub counted_low : (marks : List Bool) (unmarked n : ℕ) → IsCounted marks unmarked → n < 34 → IsCounted (slice_set marks n true) unmarked
-counted_low marks unmarked n counted low = record {
-  enough = omega (arith, counted.enough, length-set marks n true);
-  few = omega (arith, counted.few, length-set marks n true);
-  count = counted.count ∙ unmarked_same_low 34 marks n low;
+pub counted_low : (marks : List Bool) (unmarked n : ℕ) (value : Bool) → IsCounted marks unmarked → n < 34 → IsCounted (slice_set marks n value) unmarked
+counted_low marks unmarked n value counted low = record {
+  enough = omega (arith, counted.enough, length-set marks n value);
+  few = omega (arith, counted.few, length-set marks n value);
+  count = counted.count ∙ unmarked_same_low 34 marks n value low;
 }
 
 pub counted_again : (marks : List Bool) (unmarked n : ℕ) → IsCounted marks unmarked → is_marked marks n ≡ true → IsCounted (slice_set marks n true) unmarked
 counted_again marks unmarked n counted marked = rw (mark_same marks n marked) counted
+
+-- no more data blocks are unmarked than there are blocks
+pub counted_few : (marks : List Bool) (unmarked : ℕ) → IsCounted marks unmarked → unmarked ≤ 1048576
+counted_few marks unmarked counted = omega (arith, counted.count, counted.few, count_by-le-length not (drop 34 marks), length-drop 34 marks)
+
+pub counted_more : (marks : List Bool) (unmarked n : ℕ) → IsCounted marks unmarked → 34 ≤ n → n < length marks → is_marked marks n ≡ true → IsCounted (slice_set marks n false) (unmarked + 1)
+counted_more marks unmarked n counted above inside marked = record {
+  enough = omega (arith, counted.enough, length-set marks n false);
+  few = omega (arith, counted.few, length-set marks n false);
+  count = omega (arith, counted.count, unmarked_more 34 marks n above inside marked);
+}
+
+-- more blocks, none of which is marked
+pub counted_longer : (marks longer : List Bool) (unmarked blocks more : ℕ) → IsCounted marks unmarked → longer ≡ marks ++ replicate (blocks - length marks) false → length marks ≤ blocks → blocks ≤ 1048576 → more ≡ blocks - length marks
+    → IsCounted longer (unmarked + more)
+counted_longer marks longer unmarked blocks more counted is enough few many =
+    let added : List Bool = replicate (blocks - length marks) false in
+    let count : length longer ≡ length marks + (blocks - length marks) = ap length is ∙ length-append marks added ∙ ap (λ n. length marks + n) (length-replicate (blocks - length marks) false) in
+    let free : free_count (drop 34 longer) ≡ free_count (drop 34 marks) + (blocks - length marks) =
+    ap (λ (m : List Bool). free_count (drop 34 m)) is ∙ free_longer 34 marks (blocks - length marks) (omega (arith, counted.enough)) in
+    record {
+      enough = omega (arith, count, counted.enough);
+      few = omega (arith, count);
+      count = omega (arith, free, counted.count, many);
+    }
+
+pub counted_still : (marks : List Bool) (unmarked n : ℕ) → IsCounted marks unmarked → is_marked marks n ≡ false → IsCounted (slice_set marks n false) unmarked
+counted_still marks unmarked n counted none = rw (unmark_same marks n none) counted
 
 -- the store's own blocks, and then the marked ones
 pub tallied_first : (held marks : List Bool) (free : ℕ) → held ≡ replicate 34 true ++ drop 34 marks → 64 ≤ length marks → length marks ≤ 1048576 → free ≡ free_count (drop 34 marks) → IsTallied held free 0

@@ -23,17 +23,17 @@ same_flags words count flags many each =
     ext_get_or false (flags_of words count) flags (length-flags_of words count ∙ sym many)
     (λ k inside. let within : k < count = omega (arith, length-flags_of words count) in flag_at words count k within ∙ sym (each k within))
 
--- one flag more
-pub flag_set : (words new : List ℕ) (count n : ℕ) → n < count → is_bit_set new n ≡ true → ((k : ℕ) → k ≢ n → is_bit_set new k ≡ is_bit_set words k)
-    → flags_of new count ≡ set (flags_of words count) n true
-flag_set words new count n inside here others =
-    same_flags new count (set (flags_of words count) n true) (length-set (flags_of words count) n true ∙ length-flags_of words count)
+-- one flag written
+pub flag_set : (words new : List ℕ) (count n : ℕ) (value : Bool) → n < count → is_bit_set new n ≡ value → ((k : ℕ) → k ≢ n → is_bit_set new k ≡ is_bit_set words k)
+    → flags_of new count ≡ set (flags_of words count) n value
+flag_set words new count n value inside here others =
+    same_flags new count (set (flags_of words count) n value) (length-set (flags_of words count) n value ∙ length-flags_of words count)
     (λ k within. elim (cases_eq k n) [
-      | inl same ↦ ap (λ (j : ℕ). get_or (set (flags_of words count) n true) j false) same
-          ∙ get_or-set_same (flags_of words count) n true false (omega (arith, length-flags_of words count))
+      | inl same ↦ ap (λ (j : ℕ). get_or (set (flags_of words count) n value) j false) same
+          ∙ get_or-set_same (flags_of words count) n value false (omega (arith, length-flags_of words count))
           ∙ sym here
           ∙ ap (λ (j : ℕ). is_bit_set new j) (sym same)
-      | inr other ↦ get_or-set_other (flags_of words count) n k true false other ∙ flag_at words count k within ∙ sym (others k other)
+      | inr other ↦ get_or-set_other (flags_of words count) n k value false other ∙ flag_at words count k within ∙ sym (others k other)
     ])
 
 -- the first flags and then as before
@@ -82,12 +82,12 @@ flag_read words read count flags n view same inside =
     ∙ sym (flag_at words count n (omega (arith, many_flags words count flags view)))
     ∙ ap (λ (fs : List Bool). get_or fs n false) view
 
-pub flag_written : (words read new : List ℕ) (count : ℕ) (flags : List Bool) (n : ℕ) → flags_of words count ≡ flags → read ≡ words → n < length flags
-    → is_bit_set new n ≡ true → ((k : ℕ) → k ≢ n → is_bit_set new k ≡ is_bit_set read k)
-    → flags_of new count ≡ set flags n true
-flag_written words read new count flags n view same inside here others =
-    flag_set words new count n (omega (arith, many_flags words count flags view)) here (λ k other. others k other ∙ ap (λ (ws : List ℕ). is_bit_set ws k) same)
-    ∙ ap (λ (fs : List Bool). set fs n true) view
+pub flag_written : (words read new : List ℕ) (count : ℕ) (flags : List Bool) (n : ℕ) (value : Bool) → flags_of words count ≡ flags → read ≡ words → n < length flags
+    → is_bit_set new n ≡ value → ((k : ℕ) → k ≢ n → is_bit_set new k ≡ is_bit_set read k)
+    → flags_of new count ≡ set flags n value
+flag_written words read new count flags n value view same inside here others =
+    flag_set words new count n value (omega (arith, many_flags words count flags view)) here (λ k other. others k other ∙ ap (λ (ws : List ℕ). is_bit_set ws k) same)
+    ∙ ap (λ (fs : List Bool). set fs n value) view
 
 pub first_written : (words read new : List ℕ) (count first : ℕ) (flags : List Bool) → flags_of words count ≡ flags → read ≡ words → first < length flags
     → ((k : ℕ) → k < first → is_bit_set new k ≡ true) → ((k : ℕ) → first ≤ k → is_bit_set new k ≡ is_bit_set read k)

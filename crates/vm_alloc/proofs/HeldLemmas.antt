@@ -3,7 +3,7 @@ use Rattle.std.proofs.Common.{◌≡◌, ◌≢◌, ℕ, ◌+◌, ◌-◌, ◌<�
 use Rattle.std.specs.Prelude.{slice_get, slice_set}
 use Rattle.std.proofs.Math.ListN.{set, length-set}
 use Rattle.std.proofs.lemmas.Bool.{cases_eq, cases_lt, false≢true}
-use Rattle.std.proofs.lemmas.List.{get_or-set_same, get_or-set_other, get_or-replicate, get_or_past, length-replicate, set-get_or, get_or-drop, drop-set-add, drop-set-lt, drop-replicate}
+use Rattle.std.proofs.lemmas.List.{get_or-set_same, get_or-set_other, get_or-replicate, get_or_past, length-replicate, set-get_or, get_or-drop, drop-set-add, drop-set-lt, drop-append-le, drop-replicate, set-set}
 use Rattle.std.proofs.lemmas.List.Folds.{sum_by-replicate}
 use Rattle.std.proofs.lemmas.List.Sums.{sum_by-cons, sum_by-append, sum_by-set}
 use Rattle.std.proofs.lemmas.Option.{slice_get_within, get_or_from_slice_get, slice_get-get_or}
@@ -98,6 +98,13 @@ free_first n marks = omega (arith, free_append (replicate n true) (drop n marks)
 pub free_new : (first blocks : ℕ) → first ≤ blocks → free_count (drop first (replicate blocks false)) ≡ blocks - first
 free_new first blocks enough = ap (λ (held : List Bool). free_count held) (drop-replicate first blocks false) ∙ free_replicate (blocks - first)
 
+-- free blocks behind those that are counted from one on
+pub free_longer : (first : ℕ) (held : List Bool) (more : ℕ) → first ≤ length held → free_count (drop first (held ++ replicate more false)) ≡ free_count (drop first held) + more
+free_longer first held more enough =
+    ap (λ (z : List Bool). free_count z) (drop-append-le first held (replicate more false) enough)
+    ∙ free_append (drop first held) (replicate more false)
+    ∙ ap (λ (n : ℕ). free_count (drop first held) + n) (free_replicate more)
+
 -- no block is marked
 pub no_mark : (blocks n : ℕ) → is_marked (replicate blocks false) n ≡ false
 no_mark blocks n = elim (cases_lt n blocks) [
@@ -114,12 +121,23 @@ unmarked_less first marks n data_block inside unmarked =
     free_less (drop first marks) (n - first) (free_from (drop first marks) (n - first) within here)
     ∙ ap (λ (held : List Bool). free_count held + 1) (sym (drop-set-add first marks (n - first) true) ∙ ap (λ (k : ℕ). drop first (slice_set marks k true)) split)
 
--- a mark more, of one of the store's own blocks
-pub unmarked_same_low : (first : ℕ) (marks : List Bool) (n : ℕ) → n < first → free_count (drop first marks) ≡ free_count (drop first (slice_set marks n true))
-unmarked_same_low first marks n low = ap (λ (held : List Bool). free_count held) (sym (drop-set-lt first marks n true low))
+-- a mark written, of one of the store's own blocks
+pub unmarked_same_low : (first : ℕ) (marks : List Bool) (n : ℕ) (value : Bool) → n < first → free_count (drop first marks) ≡ free_count (drop first (slice_set marks n value))
+unmarked_same_low first marks n value low = ap (λ (held : List Bool). free_count held) (sym (drop-set-lt first marks n value low))
 
 -- a mark that was there
 pub mark_same : (marks : List Bool) (n : ℕ) → is_marked marks n ≡ true → slice_set marks n true ≡ marks
 mark_same marks n marked = ap (λ (b : Bool). slice_set marks n b) (sym marked) ∙ set-get_or marks n false
+
+-- no mark where there was none
+pub unmark_same : (marks : List Bool) (n : ℕ) → is_marked marks n ≡ false → slice_set marks n false ≡ marks
+unmark_same marks n none = ap (λ (b : Bool). slice_set marks n b) (sym none) ∙ set-get_or marks n false
+
+-- a mark less, of a data block that was marked
+pub unmarked_more : (first : ℕ) (marks : List Bool) (n : ℕ) → first ≤ n → n < length marks → is_marked marks n ≡ true → free_count (drop first (slice_set marks n false)) ≡ free_count (drop first marks) + 1
+unmarked_more first marks n data_block inside marked =
+    let without = slice_set marks n false in
+    unmarked_less first without n data_block (omega (arith, length-set marks n false)) (get_or-set_same marks n false false inside)
+    ∙ ap (λ (held : List Bool). free_count (drop first held) + 1) (set-set marks n false true ∙ mark_same marks n marked)
 
 -- ---- held blocks that are told one by one

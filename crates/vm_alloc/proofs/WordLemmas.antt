@@ -1,13 +1,13 @@
 -- Bits that lie 64 in a word, and what a write of one word does to them.
 use Rattle.std.proofs.Common.{◌≡◌, ◌≢◌, ℕ, zero, suc, ◌+◌, ◌*◌, ◌-◌, ◌/◌, ◌%◌, ◌^◌, ◌<◌, ◌≤◌, ◌&&◌, max, min, true, false, eqb, List, ◌++◌, length, get_or, replicate, refl, sym, ◌∙◌, ap, inl, inr, arith}
-use Rattle.std.specs.Int.{bit_at, w64, trailing_ones}
+use Rattle.std.specs.Int.{bit_at, bit_not, w64, trailing_ones}
 use Rattle.std.specs.Prelude.{bit_and, bit_or}
 use Rattle.std.proofs.Math.ListN.{set}
 use Rattle.std.proofs.Math.Nat.{max-eq_right, max-zero}
 use Rattle.std.proofs.lemmas.Bool.{cases_eq, cases_lt}
 use Rattle.std.proofs.lemmas.List.{get_or-set_same, get_or-set_other, get_or-replicate, get_or_past, get_or_append_left, get_or-append_right, length-replicate}
 use Rattle.std.proofs.lemmas.Nat.{one_shl}
-use Rattle.std.proofs.lemmas.Nat.Bits.{bit_at-lt, bit_at_and, bit_at_or, bit_at_ones, bit_at_ones_above, bit_at_set_same, bit_at_set_other, bit_at-trailing_ones, bit_at-zero}
+use Rattle.std.proofs.lemmas.Nat.Bits.{bit_at-lt, bit_at_and, bit_at_or, bit_at_ones, bit_at_ones_above, bit_at_set_same, bit_at_set_other, bit_at_clear_same, bit_at_clear_other, bit_at-trailing_ones, bit_at-zero}
 use Rattle.vm_alloc.specs.Words.{is_bit_set}
 
 -- a bit of the word that was written
@@ -36,6 +36,16 @@ set_here words n inside =
 pub set_others : (words : List ℕ) (n : ℕ) → n / 64 < length words → (k : ℕ) → k ≢ n → is_bit_set (set words (n / 64) (bit_or (get_or words (n / 64) 0) (1 * 2 ^ (n % 64) % 18446744073709551616))) k ≡ is_bit_set words k
 set_others words n inside k other =
     bit_kept words (n / 64) _ k inside (λ at. bit_at_set_other w64 (get_or words (n / 64) 0) (n % 64) (omega arith) (k % 64) (omega arith))
+
+-- `words[n / 64] &= !(1 << (n % 64))` clears bit n
+pub unset_here : (words : List ℕ) (n : ℕ) → n / 64 < length words → is_bit_set (set words (n / 64) (bit_and (get_or words (n / 64) 0) (bit_not w64 (1 * 2 ^ (n % 64) % 18446744073709551616)))) n ≡ false
+unset_here words n inside =
+    bit_there words (n / 64) _ n inside refl ∙ ap (λ (b : ℕ). eqb b 1) (bit_at_clear_same w64 (get_or words (n / 64) 0) (n % 64) (omega arith))
+
+-- and no other bit
+pub unset_others : (words : List ℕ) (n : ℕ) → n / 64 < length words → (k : ℕ) → k ≢ n → is_bit_set (set words (n / 64) (bit_and (get_or words (n / 64) 0) (bit_not w64 (1 * 2 ^ (n % 64) % 18446744073709551616)))) k ≡ is_bit_set words k
+unset_others words n inside k other =
+    bit_kept words (n / 64) _ k inside (λ at. bit_at_clear_other w64 (get_or words (n / 64) 0) (n % 64) (omega arith) (k % 64) (omega arith) (omega arith))
 
 -- the bit k of `word | (1 << count) - 1`
 pub low_bit : (word count k : ℕ) → count < 64 → k < count → bit_at (bit_or word (1 * 2 ^ count % 18446744073709551616 - 1)) k ≡ 1

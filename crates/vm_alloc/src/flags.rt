@@ -1,7 +1,7 @@
 //! A fixed number of flags, of which a contract sees the list.
 ghost use Rattle.std.specs.Prelude.{◌≡◌, ℕ, ◌-◌, ◌^◌, ◌<◌, ◌≤◌, ◌++◌, ◌&&◌, true, false, length, replicate, drop, slice_index_or, slice_set, IfOk};
 
-use crate::words::{bit, clear_bits_but, first_clear_bit, set_bit, set_first_bits};
+use crate::words::{bit, clear_bits_but, first_clear_bit, set_bit, set_first_bits, unset_bit};
 use std::alloc::{AllocError, Global};
 use std::marker::Model;
 
@@ -64,6 +64,14 @@ impl Flags {
         ensures { self.new ≡ slice_set self.old n true }
     {
         set_bit(self.words.as_mut_slice(), n);
+    }
+
+    /// Clears one flag.
+    pub(crate) fn unset(&mut self, n: usize)
+        requires { n < length self.old }
+        ensures { self.new ≡ slice_set self.old n false }
+    {
+        unset_bit(self.words.as_mut_slice(), n);
     }
 
     /// Sets the first `count` flags.

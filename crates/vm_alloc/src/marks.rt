@@ -1,4 +1,4 @@
-ghost use Rattle.std.specs.Prelude.{◌≡◌, ◌↔◌, ◌<◌, ◌≤◌, true, false, length, drop, replicate, slice_set, IsTrue, IfOk};
+ghost use Rattle.std.specs.Prelude.{◌≡◌, ◌↔◌, ◌-◌, ◌<◌, ◌≤◌, ◌++◌, true, false, length, drop, replicate, slice_set, IsTrue, IfOk};
 ghost use Rattle.vm_alloc.specs.Held.{free_count};
 ghost use Rattle.vm_alloc.specs.Marks.{IsMarked};
 
@@ -27,7 +27,7 @@ impl Model for Marks {
 }
 
 impl Marks {
-    /// No block is marked. The only call that takes memory.
+    /// No block is marked. No call but this one and `extended` takes memory.
     pub fn new(alloc: Global, blocks: u32) -> Result<Marks, AllocError>
         requires enough { 64 ≤ blocks }
         requires few { blocks ≤ 1048576 }
@@ -36,6 +36,19 @@ impl Marks {
         Ok(Marks {
             flags: Flags::new(alloc, blocks as usize)?,
             unmarked: blocks - FIRST_DATA,
+        })
+    }
+
+    /// A copy with so many blocks in all, of which the new ones are not marked.
+    pub fn extended(&self, alloc: Global, blocks: u32) -> Result<Marks, AllocError>
+        requires longer { length self.now ≤ blocks }
+        requires few { blocks ≤ 1048576 }
+        ensures { IfOk result (λ marks. marks ≡ self.now ++ replicate (blocks - length self.now) false) }
+    {
+        let new_blocks = blocks - self.blocks();
+        Ok(Marks {
+            flags: self.flags.extended(alloc, blocks as usize)?,
+            unmarked: self.unmarked + new_blocks,
         })
     }
 
@@ -64,6 +77,18 @@ impl Marks {
             self.unmarked -= 1;
         }
         self.flags.set(at);
+    }
+
+    /// Takes the mark of one block away, if it has one.
+    pub fn unset(&mut self, n: u32)
+        requires { n < length self.old }
+        ensures { self.new ≡ slice_set self.old n false }
+    {
+        let at = n as usize;
+        if n >= FIRST_DATA && self.flags.get(at) {
+            self.unmarked += 1;
+        }
+        self.flags.unset(at);
     }
 
     pub fn clear(&mut self)

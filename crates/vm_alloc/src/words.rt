@@ -17,6 +17,15 @@ pub(crate) fn set_bit(words: &mut [u64], n: usize)
     words[n / 64] |= 1 << (n % 64);
 }
 
+/// Clears one bit.
+pub(crate) fn unset_bit(words: &mut [u64], n: usize)
+    requires { n / 64 < length words.old }
+    ensures same { is_bit_set words.new n ≡ false }
+    ensures others { (k : ℕ) → k ≢ n → is_bit_set words.new k ≡ is_bit_set words.old k }
+{
+    words[n / 64] &= !(1 << (n % 64));
+}
+
 /// Sets bits 0 to `count` - 1.
 pub(crate) fn set_first_bits(words: &mut [u64], count: u32)
     requires some { 0 < length words.old }

@@ -3,10 +3,9 @@ use Rattle.std.proofs.Common.{◌≡◌, ℕ, Bool, true, false, List, ◌++◌,
 use Rattle.std.specs.List.{list_any}
 use Rattle.vm_types.specs.declared.key.Key.{Key}
 use Rattle.vm_block.specs.declared.node.Child.{Child}
-use Rattle.vm_block.specs.Leaf.{Record, Row, IsLeaf, HasRows, is_long, leaf_head, leaf_bytes}
+use Rattle.vm_block.specs.Leaf.{Row, HasRows, is_long, leaf_head, leaf_bytes}
 use Rattle.vm_block.specs.Long.{IsLong, long_head, long_bytes}
 use Rattle.vm_block.specs.Node.{IsNode, node_head, node_bytes}
-use Rattle.vm_block.proofs.LeafLemmas.{rows_of}
 
 head_letter : (long : Bool) (n : ℕ) (rows rest : List ℕ) → get_or ((leaf_head long n ++ rows) ++ rest) 1 0 ≡ 69
 unfolding leaf_head
@@ -40,6 +39,3 @@ pub node_or_long : (bytes : List ℕ) (level : ℕ) (cs : List Child) (key : Key
 node_or_long bytes level cs key value node long =
     let letters : 78 ≡ 76 = sym (node_letter level cs).0 ∙ ap (λ z. get_or z 0 0) (sym node.spelled ∙ long.spelled) ∙ (long_letter key value).0 in
     omega (arith, letters)
-
-pub leaf_or_node : (bytes : List ℕ) (rs : List Record) (level : ℕ) (cs : List Child) → IsLeaf bytes rs → IsNode bytes level cs → ⊥
-leaf_or_node bytes rs level cs leaf node = rows_or_node bytes rs level cs (rows_of bytes rs leaf) node

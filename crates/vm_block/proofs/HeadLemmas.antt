@@ -1,14 +1,15 @@
 -- The head of a block of a tree, and the numbers in it.
-use Rattle.std.proofs.Common.{◌≡◌, ℕ, ◌^◌, ◌<◌, ◌≤◌, Bool, true, false, List, [], ◌++◌, Option, None, Some, length, take, drop, get_or, refl, sym, ap, subst, ◌∙◌, arith}
+use Rattle.std.proofs.Common.{◌≡◌, ℕ, ◌^◌, ◌<◌, ◌≤◌, Bool, true, false, List, [], ◌++◌, Option, None, Some, length, take, drop, get_or, refl, sym, ap, ◌∙◌, arith}
 use Rattle.std.proofs.Math.Seq.{take-add}
-use Rattle.std.proofs.lemmas.List.{drop-drop}
+use Rattle.std.specs.Prelude.{nat_eq}
+use Rattle.std.proofs.lemmas.List.{drop-drop, take-take}
 use Rattle.byteorder.specs.Endian.{little_bytes, little_number}
 use Rattle.std.specs.List.{list_any}
-use Rattle.vm_block.specs.Leaf.{IsLeaf, HasRows, Record, Row, is_long, leaf_head}
+use Rattle.vm_block.specs.Leaf.{HasRows, Row, is_long, leaf_head}
 use Rattle.vm_block.specs.Node.{IsNode, node_head}
-use Rattle.vm_block.specs.Head.{IsLeafHead, IsRowsHead, IsNodeHead}
+use Rattle.vm_block.specs.Head.{IsRowsHead, IsNodeHead}
 use Rattle.vm_block.specs.declared.node.Child.{Child}
-use Rattle.vm_block.proofs.LeafLemmas.{all_short, leaf_of, leaf_parts, none_long, records_short, rows_of, short_fit}
+use Rattle.vm_block.proofs.LeafLemmas.{leaf_parts}
 use Rattle.vm_block.proofs.NodeLemmas.{node_parts}
 use Rattle.vm_block.proofs.Pieces.{number_one, spelled_at, spelled_number}
 
@@ -74,10 +75,6 @@ node_words level n = refl
 pub rows_headed : (bytes : List ℕ) (ws : List Row) (most : ℕ) → HasRows bytes ws → length ws ≤ most → IsRowsHead bytes most (list_any is_long ws) (length ws)
 rows_headed bytes ws most leaf few = record { begins = (leaf_parts bytes ws leaf).front; some = leaf.some; few = few }
 
-pub leaf_headed : (bytes : List ℕ) (rs : List Record) (most : ℕ) → IsLeaf bytes rs → length rs ≤ most → IsLeafHead bytes most (length rs)
-leaf_headed bytes rs most leaf few =
-    subst (λ b. IsRowsHead bytes most b (length rs)) (none_long rs (records_short rs leaf.fit)) (rows_headed bytes rs most (rows_of bytes rs leaf) few)
-
 -- an inner block begins with the head of its level and count
 pub node_headed : (bytes : List ℕ) (level : ℕ) (cs : List Child) → IsNode bytes level cs → IsNodeHead bytes level (length cs)
 node_headed bytes level cs node =
@@ -98,11 +95,19 @@ leaf_head_only bytes most long a b c d n ha hb hc hd room is head =
     let one = words_one a b c d (leaf_number long) 0 n 0 ha hb hc hd (leaf_number_small long) (omega arith) (omega (arith, head.few)) (omega arith) (sym is ∙ head.begins ∙ sym (leaf_words long n)) in
     ((one.0, one.1, omega (arith, head.some, one.2), omega (arith, head.few, one.2), one.3), one.2)
 
--- the letters of a head are those of one
-pub heads_one : (bytes : List ℕ) (most : ℕ) (a b : Bool) (n m : ℕ) → most ≤ 16 → IsRowsHead bytes most a n → IsRowsHead bytes most b m → (leaf_number a ≡ leaf_number b) × (n ≡ m)
-heads_one bytes most a b n m room x y =
-    let one = words_one (leaf_number a) 0 n 0 (leaf_number b) 0 m 0 (leaf_number_small a) (omega arith) (omega (arith, x.few)) (omega arith) (leaf_number_small b) (omega arith) (omega (arith, y.few)) (omega arith) (leaf_words a n ∙ sym x.begins ∙ y.begins ∙ sym (leaf_words b m)) in
-    (one.0, one.2)
+-- the first letters of a leaf, as a number, tell whether it has a long row
+pub letters_tell : (bytes : List ℕ) (ws : List Row) (a : ℕ) → ((j : ℕ) → get_or bytes j 0 < 256) → 4 ≤ length bytes → a < 2 ^ 32 → a ≡ little_number 4 bytes → HasRows bytes ws → nat_eq a 843466060 ≡ list_any is_long ws
+letters_tell bytes ws a small room ha is leaf =
+    let long = list_any is_long ws in
+    let spelled : take 4 bytes ≡ little_bytes 4 a = spelled_number 4 bytes small room ∙ ap (little_bytes 4) (sym is) in
+    let head : take 4 bytes ≡ little_bytes 4 (leaf_number long) =
+    sym (take-take 4 16 bytes (omega arith)) ∙ ap (take 4) ((rows_headed bytes ws 16 leaf leaf.few).begins ∙ sym (leaf_words long (length ws))) in
+    let same = number_one 4 a (leaf_number long) [] [] ha (leaf_number_small long) (ap (λ x. x ++ []) (sym spelled ∙ head)) in
+    ap (λ n. nat_eq n 843466060) same ∙ by_letters long
+  where
+    by_letters : (long : Bool) → nat_eq (leaf_number long) 843466060 ≡ long
+    by_letters false = refl
+    by_letters true = refl
 
 -- the head of an inner block that was read
 pub node_head_found : (bytes : List ℕ) (a b c d : ℕ) → take 16 bytes ≡ words a b c d → (a ≡ 1162104654) × (0 < b) × (b ≤ 7) × (0 < c) × (c ≤ 256) × (d ≡ 0) → IsNodeHead bytes b c
@@ -149,13 +154,3 @@ rows_same_head long told n m a b is_a is_b e =
     held : Option (Bool × ℕ) → Bool × ℕ
     held None = a
     held (Some k) = k
-
--- a leaf whose letters say that no row is long has only short rows
-pub plain_leaf : (bytes : List ℕ) (ws : List Row) (n : ℕ) → HasRows bytes ws → IsLeafHead bytes 16 n → IsLeaf bytes ws
-plain_leaf bytes ws n leaf head =
-    let letters = (heads_one bytes 16 (list_any is_long ws) false (length ws) n (omega arith) (rows_headed bytes ws 16 leaf leaf.few) head).0 in
-    leaf_of bytes ws leaf (short_fit ws leaf.fit (all_short ws (plain (list_any is_long ws) letters)))
-  where
-    plain : (long : Bool) → leaf_number long ≡ leaf_number false → long ≡ false
-    plain false e = refl
-    plain true e = absurd (omega (arith, e))

@@ -9,11 +9,10 @@ use Rattle.vm_types.specs.Places.{RisesFrom, places}
 use Rattle.vm_block.specs.Head.{IsRowsHead}
 use Rattle.vm_block.specs.Padding.{zeros}
 use Rattle.vm_block.specs.Changed.{HasBody}
-use Rattle.vm_block.specs.Leaf.{Record, Row, RecordFits, RowFits, IsLeaf, IsShort, HasRows, is_long, leaf_letters, leaf_head, leaf_bytes, record_bytes}
-use Rattle.vm_block.proofs.EachLemmas.{each_both, each_so}
+use Rattle.vm_block.specs.Leaf.{Row, RowFits, IsShort, HasRows, is_long, leaf_letters, leaf_head, leaf_bytes, record_bytes}
 use Rattle.vm_block.proofs.Pieces.{Laid, block_written, parts_laid, laid, length-padded}
 use Rattle.vm_block.proofs.Rows.{length-rows, rows_one}
-use Rattle.vm_block.proofs.RecordLemmas.{length-row, row_one, record_fits}
+use Rattle.vm_block.proofs.RecordLemmas.{length-row, row_one}
 use borrow.Rule.Slice.PartMut.{put_mid, mid_of}
 
 -- # Its head
@@ -142,13 +141,7 @@ body_at old w1 w2 ws n k1 k2 whole fit few many far wrote same far2 cleared =
     ∙ drop_at head (body ++ zeros (length old - length (head ++ body))) 16 lh
     ∙ ap (λ m. body ++ zeros m) (omega (arith, whole, length-append head body, lh, length-wide ws fit))
 
--- # A leaf of records
-
--- no short row is long, and where none is long all are short
-pub none_long : (rs : List Row) → AllByRecursion IsShort rs → list_any is_long rs ≡ false
-none_long [] fit = refl
-none_long (r ∷ rs) fit = ap (λ b. b || list_any is_long rs) (le-ltb 240 (length r.1) fit.0) ∙ none_long rs fit.1
-
+-- where no row is long, all are short
 pub all_short : (ws : List Row) → list_any is_long ws ≡ false → AllByRecursion IsShort ws
 all_short [] none = tt
 all_short (w ∷ ws) none =
@@ -156,23 +149,3 @@ all_short (w ∷ ws) none =
       | inl more ↦ absurd (false≢true (sym none ∙ ap (λ b. b || list_any is_long ws) (lt-ltb 240 (length w.1) more)))
       | inr few ↦ (few, all_short ws (ap (λ b. b || list_any is_long ws) (sym (le-ltb 240 (length w.1) few)) ∙ none))
     ]
-
-pub records_short : (rs : List Record) → AllByRecursion RecordFits rs → AllByRecursion IsShort rs
-records_short rs fit = each_so RecordFits IsShort (λ r fits. fits.1) rs fit
-
-pub short_fit : (ws : List Row) → AllByRecursion RowFits ws → AllByRecursion IsShort ws → AllByRecursion RecordFits ws
-short_fit ws fit short = each_so (λ (w : Row). RowFits w × IsShort w) RecordFits (λ w both. (both.0.0, both.1)) ws (each_both RowFits IsShort ws fit short)
-
-pub records_fit : (rs : List Record) → AllByRecursion RecordFits rs → AllByRecursion RowFits rs
-records_fit rs fit = each_so RecordFits RowFits record_fits rs fit
-
--- a leaf of records is one of rows
-pub rows_of : (bytes : List ℕ) (rs : List Record) → IsLeaf bytes rs → HasRows bytes rs
-rows_of bytes rs leaf = record { spelled = leaf.spelled; some = leaf.some; few = leaf.few; fit = records_fit rs leaf.fit; rising = leaf.rising }
-
--- and the other way round
-pub leaf_of : (bytes : List ℕ) (ws : List Row) → HasRows bytes ws → AllByRecursion RecordFits ws → IsLeaf bytes ws
-leaf_of bytes ws leaf fit = record { spelled = leaf.spelled; some = leaf.some; few = leaf.few; fit = fit; rising = leaf.rising }
-
-pub leaf_one : (bytes : List ℕ) (rs qs : List Record) → IsLeaf bytes rs → IsLeaf bytes qs → rs ≡ qs
-leaf_one bytes rs qs a b = leaf_rows_one bytes rs qs (rows_of bytes rs a) (rows_of bytes qs b)

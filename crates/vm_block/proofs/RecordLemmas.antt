@@ -6,7 +6,7 @@ use Rattle.byteorder.specs.Numbers.{little_number-reads_back}
 use Rattle.vm_types.specs.declared.key.Key.{Key}
 use Rattle.vm_types.specs.Places.{KeyFits}
 use Rattle.vm_block.specs.Padding.{zeros, padded}
-use Rattle.vm_block.specs.Leaf.{Record, Row, RecordFits, RowFits, IsStored, StoredFits, LinkFits, key_bytes, value_bytes, link_bytes, stored_bytes, record_bytes}
+use Rattle.vm_block.specs.Leaf.{Record, Row, RowFits, IsStored, StoredFits, LinkFits, key_bytes, value_bytes, link_bytes, stored_bytes, record_bytes}
 use Rattle.vm_block.specs.declared.stored.Link.{Link}
 use Rattle.vm_block.specs.declared.stored.Stored.{Stored}
 use Rattle.vm_block.specs.declared.stored.Stored.TheVariants.{Short, Long}
@@ -207,25 +207,6 @@ link_one a b fits other is =
     number_one 4 a.block b.block (zeros 236) (zeros 236) fits.block other.block
     (sym (link_stored a fits) ∙ ap (λ z. take 240 (padded 240 z)) is ∙ link_stored b other)
 
--- # Records
-
--- a record is a row
-pub record_fits : (r : Record) → RecordFits r → RowFits r
-record_fits r fits = (fits.0, inl fits.1)
-
-pub length-record : (r : Record) → RecordFits r → length (record_bytes r) ≡ 252
-length-record r fits = length-row r (record_fits r fits)
-
-pub record_value : (r : Record) → RecordFits r → drop 12 (record_bytes r) ≡ padded 240 r.1
-record_value r fits = short_there r (record_fits r fits) fits.1
-
-pub record_length : (r : Record) → RecordFits r → little_number 2 (drop 10 (record_bytes r)) ≡ length r.1
-record_length r fits = row_length r (record_fits r fits)
-
--- records of one spelling are one
-pub record_one : (r q : Record) → RecordFits r → RecordFits q → record_bytes r ≡ record_bytes q → r ≡ q
-record_one r q hr hq e = row_one r q (record_fits r hr) (record_fits q hq) e
-
 -- links of one length and block are one
 pub link_same : (a b : Link) → a.len ≡ b.len → a.block ≡ b.block → link_bytes a ≡ link_bytes b
 link_same a b len block = ap (λ n. padded n (little_bytes 4 a.block)) len ∙ ap (λ n. padded b.len (little_bytes 4 n)) block
@@ -235,11 +216,3 @@ link_same a b len block = ap (λ n. padded n (little_bytes 4 a.block)) len ∙ a
 pub stored_is : (stored : Stored) → StoredFits stored → IsStored (stored_bytes stored)
 stored_is (Short value) fits = inl fits
 stored_is (Long link) fits = inr (link, fits, refl)
-
--- a row in which a link stands is no record
-pub no_record : (r : Record) (row : List ℕ) (link : Link) → RecordFits r → row ≡ record_bytes r → LinkFits link → ((key : Key) → take 10 row ≡ key_bytes key → row ≡ record_bytes (key, link_bytes link)) → ⊥
-no_record r row link fits is small spelled =
-    let w : Row = (r.0, link_bytes link) in
-    let there = spelled r.0 (ap (take 10) is ∙ record_key r) in
-    let same : r ≡ w = row_one r w (record_fits r fits) (fits.0, inr (link, small, refl)) (sym is ∙ there) in
-    omega (arith, ap (λ (q : Row). length q.1) same, length-link link small, small.long, fits.1)

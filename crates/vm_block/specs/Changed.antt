@@ -4,7 +4,7 @@ use Rattle.std.specs.List.{AllByRecursion, flat_map}
 use Rattle.vm_types.specs.declared.key.Key.{Key}
 use Rattle.vm_types.specs.Places.{KeyFits, place, value_at, with_record}
 use Rattle.vm_block.specs.Padding.{zeros}
-use Rattle.vm_block.specs.Leaf.{Record, Row, RowFits, IsLeaf, HasRows, StoredFits, leaf_bytes, record_bytes, stored_bytes}
+use Rattle.vm_block.specs.Leaf.{Record, Row, RowFits, HasRows, StoredFits, leaf_bytes, record_bytes, stored_bytes}
 use Rattle.vm_block.specs.declared.stored.Stored.{Stored}
 use Rattle.vm_block.specs.Node.{IsNode, node_bytes}
 use Rattle.vm_block.specs.declared.node.Child.{Child}
@@ -54,10 +54,6 @@ abbrev pub IsAfterPut : Placed → ℕ → Record → List Record → List ℕ �
 IsAfterPut Put most r rs old new = (new ≡ leaf_bytes (with_record r rs)) × (length (with_record r rs) ≤ most)
 IsAfterPut Full most r rs old new = (new ≡ old) × (most < length (with_record r rs))
 IsAfterPut NoLeaf most r rs old new = ⊥
-
--- what it leaves of a leaf of so many records at most
-abbrev pub PutsRecord : Placed → ℕ → Record → List ℕ → List ℕ → Type 0
-PutsRecord placed most r old new = (rs : List Record) → IsLeaf old rs → length rs ≤ most → IsAfterPut placed most r rs old new
 
 -- what it leaves of a leaf of so many rows at most
 abbrev pub PutsRow : Placed → ℕ → Row → List ℕ → List ℕ → Type 0

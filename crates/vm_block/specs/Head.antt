@@ -1,5 +1,5 @@
 -- The head of a block of a tree: its first sixteen bytes.
-use Rattle.std.specs.Prelude.{◌≡◌, ℕ, ◌<◌, ◌≤◌, Bool, false, List, ◌++◌, take, codes}
+use Rattle.std.specs.Prelude.{◌≡◌, ℕ, ◌<◌, ◌≤◌, Bool, List, ◌++◌, take, codes}
 use Rattle.byteorder.specs.Endian.{little_bytes}
 use Rattle.vm_block.specs.Leaf.{leaf_head}
 use Rattle.vm_block.specs.Node.{node_head}
@@ -22,10 +22,6 @@ pub record IsRowsHead (bytes : List ℕ) (most : ℕ) (long : Bool) (n : ℕ) : 
   pub begins : take 16 bytes ≡ leaf_head long n
   pub some : 0 < n
   pub few : n ≤ most
-
--- the bytes begin with the head of a leaf of so many records, none of them long
-abbrev pub IsLeafHead : List ℕ → ℕ → ℕ → Type 0
-IsLeafHead bytes most n = IsRowsHead bytes most false n
 
 -- the bytes begin with the head of an inner block of this level, from one to seven, with so many children, from one to 256
 pub record IsNodeHead (bytes : List ℕ) (level n : ℕ) : Type 0 where

@@ -1,26 +1,19 @@
 -- Laws of the forms, each a sentence about all bytes.
-use Rattle.std.specs.Prelude.{◌≡◌, ◌↔◌, ℕ, ◌<◌, ◌≤◌, List, length}
+use Rattle.std.specs.Prelude.{◌≡◌, ℕ, ◌<◌, ◌≤◌, List, length}
 use Rattle.std.specs.List.{AllByRecursion}
 use Rattle.vm_types.specs.Places.{KeyFits, RisesFrom, places}
 use Rattle.vm_types.specs.declared.key.Key.{Key}
-use Rattle.vm_block.specs.Leaf.{Record, Row, RecordFits, RowFits, IsLeaf, HasRows, leaf_bytes}
+use Rattle.vm_block.specs.Leaf.{Row, RowFits, HasRows, leaf_bytes}
 use Rattle.vm_block.specs.Long.{IsLong, long_bytes}
 use Rattle.vm_block.specs.Node.{ChildFits, IsNode, lows, node_bytes}
 use Rattle.vm_block.specs.Slot.{EntryFits, HeadFits, IsEntry, IsHead, IsSlot, entry_bytes, head_bytes}
 use Rattle.vm_block.specs.declared.node.Child.{Child}
 use Rattle.vm_block.specs.declared.slot.Entry.{Entry}
-
--- the same bytes are one leaf
-abbrev pub LeavesAreOne : Type 0
-LeavesAreOne = (c : List ℕ) (rs qs : List Record) → IsLeaf c rs → IsLeaf c qs → rs ≡ qs
+use Rattle.vm_block.specs.declared.slot.SlotFormat.{SlotFormat}
 
 -- the same bytes are one leaf of rows
 abbrev pub RowsAreOne : Type 0
 RowsAreOne = (c : List ℕ) (ws vs : List Row) → HasRows c ws → HasRows c vs → ws ≡ vs
-
--- a leaf of records is a leaf of rows that are these, and a leaf of short rows is one of records
-abbrev pub LeavesHaveRows : Type 0
-LeavesHaveRows = (c : List ℕ) (rs : List Record) → IsLeaf c rs ↔ (HasRows c rs × AllByRecursion RecordFits rs)
 
 -- the same bytes are one block of a long value
 abbrev pub LongsAreOne : Type 0
@@ -29,10 +22,6 @@ LongsAreOne = (c : List ℕ) (k l : Key) (v u : List ℕ) → IsLong c k v → I
 -- the same bytes are one inner block
 abbrev pub NodesAreOne : Type 0
 NodesAreOne = (c : List ℕ) (l m : ℕ) (cs ds : List Child) → IsNode c l cs → IsNode c m ds → (l ≡ m) × (cs ≡ ds)
-
--- no bytes are a leaf and an inner block
-abbrev pub NoLeafIsANode : Type 0
-NoLeafIsANode = (c : List ℕ) (rs : List Record) (l : ℕ) (cs : List Child) → IsLeaf c rs → IsNode c l cs → ⊥
 
 -- no bytes are a leaf of rows and an inner block
 abbrev pub NoRowsAreANode : Type 0
@@ -46,22 +35,21 @@ NoRowsAreLong = (c : List ℕ) (ws : List Row) (key : Key) (value : List ℕ) �
 abbrev pub NoNodeIsLong : Type 0
 NoNodeIsLong = (c : List ℕ) (l : ℕ) (cs : List Child) (key : Key) (value : List ℕ) → IsNode c l cs → IsLong c key value → ⊥
 
--- the same bytes are one head of a slot
+-- the same bytes are one head of a slot, of one format
 abbrev pub HeadsAreOne : Type 0
-HeadsAreOne = (c : List ℕ) (limit n most m : ℕ) → IsHead c limit n → IsHead c most m → (limit ≡ most) × (n ≡ m)
+HeadsAreOne =
+    (c : List ℕ) (format other : SlotFormat) (limit n most m : ℕ) → IsHead c format limit n → IsHead c other most m
+    → (format ≡ other) × (limit ≡ most) × (n ≡ m)
 
 -- the same bytes are one entry
 abbrev pub EntriesAreOne : Type 0
 EntriesAreOne = (c : List ℕ) (e f : Entry) → IsEntry c e → IsEntry c f → e ≡ f
 
--- the same blocks are one slot
+-- the same blocks are one slot, of one format
 abbrev pub SlotsAreOne : Type 0
-SlotsAreOne = (blocks : List (List ℕ)) (limit most : ℕ) (es fs : List Entry) → IsSlot blocks limit es → IsSlot blocks most fs → (limit ≡ most) × (es ≡ fs)
-
--- the leaf of records that rise, each within its limits and 16 at most, is a leaf of these
-abbrev pub WrittenLeavesAreLeaves : Type 0
-WrittenLeavesAreLeaves =
-    (rs : List Record) → 0 < length rs → length rs ≤ 16 → AllByRecursion RecordFits rs → RisesFrom 0 (places rs) → IsLeaf (leaf_bytes rs) rs
+SlotsAreOne =
+    (blocks : List (List ℕ)) (format other : SlotFormat) (limit most : ℕ) (es fs : List Entry) → IsSlot blocks format limit es → IsSlot blocks other most fs
+    → (format ≡ other) × (limit ≡ most) × (es ≡ fs)
 
 -- the leaf of rows that rise, each within its limits and 16 at most, is a leaf of these
 abbrev pub WrittenRowsAreRows : Type 0
@@ -80,7 +68,7 @@ WrittenNodesAreNodes =
 
 -- the head of a slot with counts that it may have is one with these
 abbrev pub WrittenHeadsAreHeads : Type 0
-WrittenHeadsAreHeads = (limit n : ℕ) → HeadFits limit n → IsHead (head_bytes limit n) limit n
+WrittenHeadsAreHeads = (format : SlotFormat) (limit n : ℕ) → HeadFits limit n → IsHead (head_bytes format limit n) format limit n
 
 -- an entry that is written is that entry, where its names are names
 abbrev pub WrittenEntriesAreEntries : Type 0

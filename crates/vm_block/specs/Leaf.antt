@@ -83,18 +83,6 @@ IsShort w = length w.1 ≤ 240
 abbrev pub RowFits : Row → Type 0
 RowFits w = KeyFits w.0 × IsStored w.1
 
--- a record within the limits of keys and values
-abbrev pub RecordFits : Record → Type 0
-RecordFits r = KeyFits r.0 × (length r.1 ≤ 240)
-
--- these bytes are the leaf of these records, none of them long
-pub record IsLeaf (bytes : List ℕ) (rs : List Record) : Type 0 where
-  pub spelled : bytes ≡ leaf_bytes rs
-  pub some : 0 < length rs
-  pub few : length rs ≤ 16
-  pub fit : AllByRecursion RecordFits rs
-  pub rising : RisesFrom 0 (places rs)
-
 -- these bytes are the leaf of these rows: with the letters LEF2 just where one is long
 pub record HasRows (bytes : List ℕ) (ws : List Row) : Type 0 where
   pub spelled : bytes ≡ leaf_bytes ws

@@ -1,25 +1,25 @@
 //! One child or one row put in the bytes of a block, which is not written anew for it.
 ghost use Rattle.std.specs.Prelude.{◌≡◌, ◌≢◌, ◌↔◌, ℕ, Bool, ◌<◌, ◌≤◌};
-ghost use Rattle.vm_block.specs.Changed.{InsertsRow, PutsRecord, PutsRow, SetsChild, SetsRow};
-ghost use Rattle.vm_block.specs.Head.{IsLeafHead, IsRowsHead};
-ghost use Rattle.vm_block.specs.Leaf.{RecordFits, RowFits, StoredFits, stored_bytes};
+ghost use Rattle.vm_block.specs.Changed.{InsertsRow, PutsRow, SetsChild, SetsRow};
+ghost use Rattle.vm_block.specs.Head.{IsRowsHead};
+ghost use Rattle.vm_block.specs.Leaf.{RowFits, StoredFits, stored_bytes};
 
-use crate::head::{leaf_count, rows_head};
+use crate::head::rows_head;
 use crate::keys::read_key;
 use crate::leaf_rows::seal;
 use crate::node::{Child, write_child};
 use crate::stored::{Stored, write_row};
 use crate::way::choose;
-use vm_types::{Key, Value};
+use vm_types::Key;
 
-/// What came of a record that was to be put in a leaf.
+/// What came of a row that was to be put in a leaf.
 #[derive(Clone, Copy, Debug, PartialEq, Eq)]
 pub enum Placed {
     /// The leaf has it now.
     Put,
     /// The leaf has no room for it, and is as it was.
     Full,
-    /// The bytes begin with the head of no leaf of so many records, and are as they were.
+    /// The bytes begin with the head of no leaf of so many rows, and are as they were.
     NoLeaf,
 }
 
@@ -80,20 +80,4 @@ pub fn put_row(bytes: &mut [u8; 4096], most: usize, key: Key, stored: Stored<'_>
     let at = if there < place { index + 1 } else { index };
     insert_row(bytes, count, at, key, stored);
     Placed::Put
-}
-
-/// Gives the key this value in a leaf of MOST records at most, where it does not get more by that.
-pub fn put_record(bytes: &mut [u8; 4096], most: usize, key: Key, value: &Value) -> Placed
-    requires { most ≤ 16 }
-    ensures fits { RecordFits (key, value.now) }
-    ensures head { (result ≢ Placed.NoLeaf) ↔ ((n : ℕ) × IsLeafHead bytes.old most n) }
-    ensures kept { result ≢ Placed.Put → bytes.new ≡ bytes.old }
-    ensures only { PutsRecord result most (key, value.now) bytes.old bytes.new }
-{
-    let stored = Stored::Short(value.as_bytes());
-    let _place = key.place();
-    match leaf_count(bytes, most) {
-        Some(_) => put_row(bytes, most, key, stored),
-        None => Placed::NoLeaf,
-    }
 }

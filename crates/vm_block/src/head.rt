@@ -1,6 +1,9 @@
 //! The head of a block of a tree, compared as four numbers.
-ghost use Rattle.std.specs.Prelude.{◌≡◌, ℕ, ◌≤◌, ◌↔◌, Bool, Some, length, take, IsTrue, IfSome};
-ghost use Rattle.vm_block.specs.Head.{IsHeadOfLeaf, IsHeadOfNode, IsLeafHead, IsLongHead, IsNodeHead, IsRowsHead, head_numbers};
+ghost use Rattle.std.specs.Prelude.{◌≡◌, ℕ, ◌≤◌, ◌↔◌, Bool, Some, length, take, codes, IsTrue, IfSome};
+ghost use Rattle.std.specs.List.{list_any};
+ghost use Rattle.vm_block.specs.Head.{IsHeadOfLeaf, IsHeadOfNode, IsLongHead, IsNodeHead, IsRowsHead, head_numbers};
+ghost use Rattle.vm_block.specs.Leaf.{is_long};
+ghost use Rattle.vm_block.specs.Told.{IfHasRows};
 
 use crate::node::is_in_range;
 use byteorder::{ByteOrder, LittleEndian};
@@ -75,19 +78,12 @@ pub(crate) fn rows_head(bytes: &[u8; 4096], most: usize) -> Option<(bool, usize)
     }
 }
 
-/// How many records a leaf has by its head. None where the bytes begin with the head of no leaf of
-/// so many records at most, none of them long.
-pub(crate) fn leaf_count(bytes: &[u8; 4096], most: usize) -> Option<usize>
-    requires { most ≤ 16 }
-    ensures found { IfSome result (IsLeafHead bytes.now most) }
-    ensures only { (n : ℕ) → IsLeafHead bytes.now most n → result ≡ Some n }
+/// Whether the first four letters of a block are LEF2, as those of a leaf with a long row.
+pub fn is_long_leaf(bytes: &[u8; 4096]) -> bool
+    ensures letters { IsTrue result ↔ (take 4 bytes.now ≡ codes "LEF2") }
+    ensures rows { IfHasRows bytes.now (λ ws. result ≡ list_any is_long ws) }
 {
-    let head = read_head(bytes);
-    if is_leaf(head, LEAF, most) {
-        Some(head.count as usize)
-    } else {
-        None
-    }
+    LittleEndian::read_u32(bytes) == LEF2
 }
 
 /// The level of an inner block by its head, and how many children it has. None where the bytes

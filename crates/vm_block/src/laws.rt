@@ -1,16 +1,12 @@
 //! Laws of the forms: what the bytes of blocks say is one thing, and what is written is a form.
-ghost use Rattle.vm_block.specs.Laws.{EntriesAreOne, HeadsAreOne, LeavesAreOne, LeavesHaveRows, LongsAreOne, NoLeafIsANode, NoNodeIsLong, NoRowsAreANode, NoRowsAreLong, NodesAreOne, RowsAreOne, SlotsAreOne, WrittenEntriesAreEntries, WrittenHeadsAreHeads, WrittenLeavesAreLeaves, WrittenLongsAreLong, WrittenNodesAreNodes, WrittenRowsAreRows};
+ghost use Rattle.vm_block.specs.Laws.{EntriesAreOne, HeadsAreOne, LongsAreOne, NoNodeIsLong, NoRowsAreANode, NoRowsAreLong, NodesAreOne, RowsAreOne, SlotsAreOne, WrittenEntriesAreEntries, WrittenHeadsAreHeads, WrittenLongsAreLong, WrittenNodesAreNodes, WrittenRowsAreRows};
 
 /// The same bytes are one leaf, one inner block or one block of a long value, and never two of
-/// these; one head, one entry, and the same blocks are one slot's entries. A leaf of records is a
-/// leaf of rows that are short.
+/// these; one head, one entry, and the same blocks are one slot's entries.
 pub fn one_form()
-    ensures leaf { LeavesAreOne }
     ensures rows { RowsAreOne }
-    ensures records { LeavesHaveRows }
     ensures node { NodesAreOne }
     ensures long { LongsAreOne }
-    ensures apart { NoLeafIsANode }
     ensures rows_apart { NoRowsAreANode }
     ensures long_leaf { NoRowsAreLong }
     ensures long_node { NoNodeIsLong }
@@ -21,7 +17,6 @@ pub fn one_form()
 
 /// What is written is a form, where what it spells is within its limits.
 pub fn written_is_a_form()
-    ensures leaf { WrittenLeavesAreLeaves }
     ensures rows { WrittenRowsAreRows }
     ensures node { WrittenNodesAreNodes }
     ensures long { WrittenLongsAreLong }

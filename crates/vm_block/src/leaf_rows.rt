@@ -1,17 +1,15 @@
 //! The rows of a leaf, and the letters that say whether one is long.
-ghost use Rattle.std.specs.Prelude.{◌≡◌, ◌≤◌, ◌<◌, ◌+◌, ◌*◌, ◌++◌, ◌↔◌, length, drop, map, IfSome, IsTrue};
-ghost use Rattle.std.specs.List.{flat_map, list_any};
-ghost use Rattle.vm_block.specs.Changed.{AreStored, Seals, row_of};
-ghost use Rattle.vm_block.specs.Leaf.{is_long, leaf_bytes, record_bytes};
+ghost use Rattle.std.specs.Prelude.{◌≡◌, ◌≤◌, ◌<◌, ◌+◌, ◌*◌, ◌↔◌, length, IfSome, IsTrue};
+ghost use Rattle.std.specs.List.{list_any};
+ghost use Rattle.vm_block.specs.Changed.{Seals};
+ghost use Rattle.vm_block.specs.Leaf.{is_long};
 ghost use Rattle.vm_block.specs.Row.{leaf_row};
 ghost use Rattle.vm_block.specs.Told.{IfLeafRowAt, IfRowAt, IfRows, IsInRow, IsRowOf, IsSomeOf};
 
 use crate::leaf::write_leaf_head;
 use crate::row::record_row;
-use crate::spelling::put_zeros;
-use crate::stored::{MAX_SHORT, Stored, read_stored, write_row};
+use crate::stored::{MAX_SHORT, Stored, read_stored};
 use byteorder::{ByteOrder, LittleEndian};
-use vm_types::Key;
 
 /// Whether the row at i is long, of the rows with which the bytes begin.
 fn is_long_row(bytes: &[u8], i: usize) -> bool
@@ -63,25 +61,4 @@ pub fn stored_at(bytes: &[u8; 4096], i: usize) -> Option<Stored<'_>>
     ensures row { IfLeafRowAt bytes.now i (IsSomeOf result) }
 {
     read_stored(record_row(bytes, i))
-}
-
-fn write_each(rows: &[(Key, Stored<'_>)], out: &mut [u8])
-    requires fit { AreStored rows.now }
-    requires room { 252 * length rows.now ≤ length out.old }
-    ensures { out.new ≡ flat_map record_bytes (map row_of rows.now) ++ drop (252 * length rows.now) out.old }
-{
-    for (i, (key, stored)) in rows.iter().enumerate() {
-        write_row(*key, *stored, &mut out[252 * i..]);
-    }
-}
-
-/// Writes the leaf of these rows.
-pub fn write_rows(rows: &[(Key, Stored<'_>)], out: &mut [u8; 4096])
-    requires few { length rows.now ≤ 16 }
-    requires fit { AreStored rows.now }
-    ensures { out.new ≡ leaf_bytes (map row_of rows.now) }
-{
-    write_each(rows, &mut out[16..]);
-    put_zeros(&mut out[16 + 252 * rows.len()..]);
-    seal(out, rows.len());
 }

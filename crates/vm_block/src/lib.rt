@@ -31,21 +31,22 @@ mod taking;
 mod telling;
 mod way;
 
-pub use changing::{Placed, put_record, put_row, set_child};
+pub use changing::{Placed, put_row, set_child};
+pub use head::is_long_leaf;
 pub use header::{is_header, write_header};
 pub use laws::{one_form, written_is_a_form};
 pub use leaf::{read_leaf, write_leaf};
-pub use leaf_rows::{stored_at, write_rows};
+pub use leaf_rows::stored_at;
 pub use long::{read_long, write_long};
 pub use node::{Child, Node, read_node, spelled_children, write_node};
 pub use row::{child_row, record_row, record_value};
 pub use selector::{SlotName, read_selector, write_selector};
 pub use slot::{
-    Entry, Kind, MAX_BLOCKS, MAX_ENTRIES, MIN_BLOCKS, SlotHead, read_entry, read_slot_head,
-    write_entry, write_slot_head,
+    Entry, Kind, MAX_BLOCKS, MAX_ENTRIES, MIN_BLOCKS, SlotFormat, SlotHead, read_entry,
+    read_slot_head, write_entry, write_slot_head,
 };
 pub use splitting::split_rows;
 pub use stored::{Link, Stored};
 pub use taking::{Taken, remove_row};
-pub use telling::{leaf_size, node_size, record_key, rows_size};
-pub use way::{Way, child_at, find_child, find_record, find_row, lowest_key};
+pub use telling::{node_size, record_key, rows_size};
+pub use way::{Way, child_at, find_child, find_row, lowest_key};

@@ -1,27 +1,28 @@
 //! The rows of a block as they stand in its bytes, of which nothing is copied out.
 ghost use Rattle.std.specs.Prelude.{◌≡◌, ◌<◌, ◌≤◌, length};
+ghost use Rattle.vm_block.specs.Leaf.{IsShort};
 ghost use Rattle.vm_block.specs.Row.{leaf_row, node_row, record_of};
-ghost use Rattle.vm_block.specs.Told.{IfRecordAt};
+ghost use Rattle.vm_block.specs.Told.{IfLeafRowAt};
 
+use crate::stored::MAX_SHORT;
 use byteorder::{ByteOrder, LittleEndian};
-use vm_types::Value;
 
-/// The bytes of the value of the record at i, where a leaf has it.
+/// The bytes of the value of the row at i, where a leaf has it, and it is short.
 pub fn record_value(bytes: &[u8; 4096], i: usize) -> &[u8]
     requires { i < 16 }
     ensures short { length result.now ≤ 240 }
     ensures stands { result.now ≡ (record_of (leaf_row bytes.now i)).1 }
-    ensures value { IfRecordAt bytes.now i (λ r. r.1 ≡ result.now) }
+    ensures value { IfLeafRowAt bytes.now i (λ w. IsShort w → w.1 ≡ result.now) }
 {
     let row = record_row(bytes, i);
-    let len = usize::from(LittleEndian::read_u16(&row[10..]));
-    if len > Value::MAX_LEN {
+    let len = LittleEndian::read_u16(&row[10..]);
+    if len > MAX_SHORT {
         return &row[12..];
     }
-    &row[12..12 + len]
+    &row[12..12 + usize::from(len)]
 }
 
-/// The bytes in which the record at i stands, where a leaf has it.
+/// The bytes in which the row at i stands, where a leaf has it.
 pub fn record_row(bytes: &[u8; 4096], i: usize) -> &[u8]
     requires { i < 16 }
     ensures whole { length result.now ≡ 252 }

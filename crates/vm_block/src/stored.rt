@@ -32,6 +32,13 @@ pub enum Stored<'a> {
     Long(Link),
 }
 
+/// The empty value.
+impl Default for Stored<'_> {
+    fn default() -> Self {
+        Stored::Short(&[])
+    }
+}
+
 /// Writes a short value behind its key, and zero bytes behind it.
 fn write_short(value: &[u8], out: &mut [u8])
     requires short { length value.now ≤ 240 }

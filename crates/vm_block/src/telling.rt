@@ -3,9 +3,9 @@ ghost use Rattle.std.specs.Prelude.{◌≡◌, ◌<◌, ◌≤◌, ◌+◌, ◌*
 ghost use Rattle.vm_types.specs.Places.{KeyFits, RisesFrom, places};
 ghost use Rattle.vm_block.specs.Leaf.{Row, RowFits, key_bytes, record_bytes};
 ghost use Rattle.vm_block.specs.Node.{lows};
-ghost use Rattle.vm_block.specs.Told.{HaveChildren, HaveRows, IfChildren, IfHasRows, IfLeaf, IfLeafRowAt, IfNode, IfRecordAt, IfRows, IsLeafSize, IsNodeSize, IsRowOfItsKey, IsRowsSize};
+ghost use Rattle.vm_block.specs.Told.{HaveChildren, HaveRows, IfChildren, IfHasRows, IfLeafRowAt, IfNode, IfRows, IsNodeSize, IsRowOfItsKey, IsRowsSize};
 
-use crate::head::{MAX_RECORDS, leaf_count, node_numbers, rows_head};
+use crate::head::{MAX_RECORDS, node_numbers, rows_head};
 use crate::keys::read_key;
 use crate::leaf_rows::is_sealed;
 use crate::node::read_child;
@@ -58,24 +58,12 @@ pub fn rows_size(bytes: &[u8; 4096]) -> Option<usize>
     Some(count)
 }
 
-/// How many records a leaf has. None exactly where the bytes are none, or a record is long.
-pub fn leaf_size(bytes: &[u8; 4096]) -> Option<usize>
-    ensures found { IfSome result (IsLeafSize bytes.now) }
-    ensures only { IfLeaf bytes.now (λ rs. result ≡ Some (length rs)) }
-{
-    match leaf_count(bytes, MAX_RECORDS) {
-        Some(_) => rows_size(bytes),
-        None => None,
-    }
-}
-
-/// The key of the record at i, where a leaf has it.
+/// The key of the row at i, where a leaf has it.
 pub fn record_key(bytes: &[u8; 4096], i: usize) -> Key
     requires { i < 16 }
     ensures fits { KeyFits result }
     ensures spelled { take 10 (drop (16 + 252 * i) bytes.now) ≡ key_bytes result }
     ensures row { IfLeafRowAt bytes.now i (λ w. w.0 ≡ result) }
-    ensures key { IfRecordAt bytes.now i (λ r. r.0 ≡ result) }
 {
     read_key(&bytes[16 + 252 * i..])
 }

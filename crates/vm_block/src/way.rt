@@ -1,14 +1,14 @@
 //! The way down to a key in the bytes of blocks, which are not read whole for it.
-ghost use Rattle.std.specs.Prelude.{◌≡◌, ℕ, Bool, ◌+◌, ◌*◌, ◌<◌, ◌≤◌, None, length, take, drop, IfSome, IsSomeAnd, option_copied, slice_index_or};
+ghost use Rattle.std.specs.Prelude.{◌≡◌, ℕ, Bool, ◌+◌, ◌*◌, ◌<◌, ◌≤◌, None, length, take, drop, IfSome, IsSomeAnd, slice_index_or};
 ghost use Rattle.vm_types.specs.Places.{KeyFits, place, value_at};
-ghost use Rattle.vm_block.specs.Head.{IsLeafHead, IsNodeHead, IsRowsHead};
+ghost use Rattle.vm_block.specs.Head.{IsNodeHead, IsRowsHead};
 ghost use Rattle.vm_block.specs.Leaf.{BeginsWith, key_bytes};
 ghost use Rattle.vm_block.specs.Node.{ChildFits, child_bytes};
 ghost use Rattle.vm_block.specs.Row.{node_row};
-ghost use Rattle.vm_block.specs.Told.{IfHasRows, IfLeaf, IfNode, LacksRecord, LacksRow, StandsAmong, found_bytes};
+ghost use Rattle.vm_block.specs.Told.{IfHasRows, IfNode, LacksRow, StandsAmong, found_bytes};
 ghost use Rattle.vm_block.specs.Way.{ChoosesAmong, IsWay, IsWayTo, Lowest, TellsHead};
 
-use crate::head::{MAX_RECORDS, leaf_count, node_numbers, rows_head};
+use crate::head::{MAX_RECORDS, node_numbers, rows_head};
 use crate::keys::read_key;
 use crate::node::{Child, read_child};
 use crate::stored::{Stored, read_stored};
@@ -94,7 +94,6 @@ pub fn lowest_key(bytes: &[u8; 4096]) -> Key
     ensures spelled { take 10 (drop 16 bytes.now) ≡ key_bytes result }
     ensures node { IfNode bytes.now (λ level cs. Lowest result cs) }
     ensures rows { IfHasRows bytes.now (BeginsWith result) }
-    ensures leaf { IfLeaf bytes.now (BeginsWith result) }
 {
     read_key(&bytes[16..])
 }
@@ -120,32 +119,6 @@ pub fn find_row(bytes: &[u8; 4096], key: Key) -> Option<Option<Stored<'_>>>
     }
     match read_stored(&bytes[at..at + 252]) {
         Some(stored) => Some(Some(stored)),
-        None => None,
-    }
-}
-
-/// The bytes of the key's value, where they stand in a leaf of records. None just where the bytes
-/// begin with the head of none, or the record that was found is none.
-pub fn find_record(bytes: &[u8; 4096], key: Key) -> Option<Option<&[u8]>>
-    // On any bytes: None where they begin with the head of no leaf, and else only where a record is none.
-    ensures head { IfSome result (λ value. (n : ℕ) × IsLeafHead bytes.now 16 n) }
-    ensures headed { (n : ℕ) → IsLeafHead bytes.now 16 n → result ≡ None → LacksRecord bytes.now n }
-    ensures short { IfSome result (λ value. IfSome value (λ found. length found.now ≤ 240)) }
-
-    ensures only { IfLeaf bytes.now
-        (λ rs. IsSomeAnd result (λ value. option_copied value ≡ value_at (place key) rs)) }
-{
-    let Some(count) = leaf_count(bytes, MAX_RECORDS) else {
-        return None;
-    };
-    let place = key.place();
-    let from = 16 + 252 * choose(bytes, 252, count, place);
-    if read_key(&bytes[from..]).place() != place {
-        return Some(None);
-    }
-    match read_stored(&bytes[from..from + 252]) {
-        Some(Stored::Short(value)) => Some(Some(value)),
-        Some(Stored::Long(_)) => None,
         None => None,
     }
 }

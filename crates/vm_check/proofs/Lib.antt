@@ -1,9 +1,13 @@
+pub mod BesideLemmas
 pub mod ChildLemmas
 pub mod FoundLemmas
 pub mod JoinLemmas
 pub mod KnownLemmas
+pub mod LinkLemmas
 pub mod MarkLemmas
+pub mod NotedLemmas
 pub mod OnlyLemmas
 pub mod RootLemmas
+pub mod RowLemmas
 pub mod SpanLemmas
 pub mod WalkLemmas

@@ -5,14 +5,14 @@ ghost use Rattle.vm_tree.specs.Calls.{OnlyLooks};
 ghost use Rattle.vm_tree.specs.Reading.{ReadsOne};
 ghost use Rattle.vm_check.specs.Form.{AcceptsLeaf, AcceptsNode, AcceptsNodeAt, HasRead, IsFilled, IsForm};
 
-use vm_block::{leaf_size, node_size};
+use vm_block::{node_size, rows_size};
 use vm_disk::Disk;
 use vm_tree::{TreeFault, data_at};
 
 /// What a block of a tree is.
 #[derive(Clone, Copy, Debug)]
 pub(crate) enum Form {
-    /// A leaf with so many records.
+    /// A leaf with so many rows.
     Leaf(usize),
     /// An inner block of this level with so many children.
     Node(u8, usize),
@@ -37,7 +37,7 @@ pub(crate) fn form_at<D: Disk>(
     ensures node { AcceptsNode result (D.state disk.old) (D.state disk.new) blocks block }
 {
     data_at(disk, blocks, block, bytes)?;
-    match leaf_size(bytes) {
+    match rows_size(bytes) {
         Some(count) => Ok(Form::Leaf(count)),
         None => match node_size(bytes) {
             Some((level, count)) => Ok(Form::Node(level, count)),

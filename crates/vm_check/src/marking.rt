@@ -1,34 +1,139 @@
 //! Marking what lies under roots.
-ghost use Rattle.std.specs.Prelude.{◌≡◌, ◌≢◌, ◌≤◌, length};
+ghost use Rattle.std.specs.Prelude.{◌≡◌, ◌≢◌, ◌+◌, ◌<◌, ◌≤◌, true, length};
 ghost use Rattle.vm_alloc.specs.Held.{HoldsMore};
+ghost use Rattle.vm_block.specs.Told.{IfHasRows, IfLeafRowAt};
 ghost use Rattle.vm_tree.specs.Calls.{OnlyLooks};
-ghost use Rattle.vm_check.specs.Marking.{Closes, Covers, CoversBelow, CoversUnder, PaysReads, SoundBelow, SoundOn, SoundUnder, Spares, SparesOn, SparesUnder};
+ghost use Rattle.vm_tree.specs.Tree.{IsData};
+ghost use Rattle.vm_check.specs.Marking.{Closes, Covers, CoversBelow, CoversUnder, MarksLink, MarksLinks, OnLeaf, PaysReads, SoundBelow, SoundLeaf, SoundLink, SoundLinks, SoundOn, SoundUnder, Spares, SparesLink, SparesLinks, SparesOn, SparesUnder, TellsLink, unmarked};
+ghost use Rattle.vm_check.specs.Noted.{inner_of, notes_of};
+ghost use Rattle.vm_check.specs.Notes.{is_noted};
 
 use crate::form::node_at;
+use crate::noted::NotedDisk;
 use vm_alloc::Marks;
-use vm_block::child_at;
+use vm_block::{Stored, child_at, is_long_leaf, rows_size, stored_at};
 use vm_disk::Disk;
-use vm_tree::{Root, TreeFault, is_data};
+use vm_tree::{Root, TreeFault, data_at, is_data};
 
-/// Marks a block of this level and all blocks under it, unless it is marked. A leaf is not read.
+/// The block to which the row at i of a leaf links.
+fn link_at(bytes: &[u8; 4096], i: usize) -> Option<u32>
+    requires { i < 16 }
+    ensures { IfLeafRowAt bytes.now i (TellsLink result) }
+{
+    match stored_at(bytes, i) {
+        Some(Stored::Long(link)) => Some(link.block),
+        Some(Stored::Short(_)) => None,
+        None => None,
+    }
+}
+
+/// Marks the block to which the row at i of a leaf links, if it does.
+fn mark_link(bytes: &[u8; 4096], blocks: u32, i: usize, marks: &mut Marks) -> Result<(), TreeFault>
+    requires row { i < 16 }
+    requires bits { length marks.old ≡ blocks }
+    ensures device { result ≢ Err TreeFault.Device }
+    ensures deep { result ≢ Err TreeFault.Deep }
+    ensures memory { result ≢ Err TreeFault.Memory }
+    ensures growing { HoldsMore marks.old marks.new }
+    ensures fewer { unmarked marks.new ≤ unmarked marks.old }
+    ensures marked { IfLeafRowAt bytes.now i (MarksLink result marks.new) }
+    ensures only { IfLeafRowAt bytes.now i (SparesLink marks.old marks.new) }
+    ensures sound { IfLeafRowAt bytes.now i (SoundLink result blocks) }
+{
+    let Some(block) = link_at(bytes, i) else {
+        return Ok(());
+    };
+    if !is_data(blocks, block) {
+        return Err(TreeFault::Damaged(block));
+    }
+    marks.set(block);
+    Ok(())
+}
+
+/// Marks the blocks to which the rows of a leaf link. Where the bytes are no leaf, this block is
+/// damaged.
+fn mark_links(
+    bytes: &[u8; 4096],
+    blocks: u32,
+    block: u32,
+    marks: &mut Marks,
+) -> Result<(), TreeFault>
+    requires bits { length marks.old ≡ blocks }
+    ensures device { result ≢ Err TreeFault.Device }
+    ensures deep { result ≢ Err TreeFault.Deep }
+    ensures memory { result ≢ Err TreeFault.Memory }
+    ensures growing { HoldsMore marks.old marks.new }
+    ensures fewer { unmarked marks.new ≤ unmarked marks.old }
+    ensures marked { IfHasRows bytes.now (MarksLinks result marks.new) }
+    ensures only { IfHasRows bytes.now (SparesLinks marks.old marks.new) }
+    ensures sound { IfHasRows bytes.now (SoundLinks result blocks) }
+{
+    let Some(rows) = rows_size(bytes) else {
+        return Err(TreeFault::Damaged(block));
+    };
+    for row in 0..rows {
+        mark_link(bytes, blocks, row, marks)?;
+    }
+    Ok(())
+}
+
+/// Marks the blocks of the long values of a leaf. A leaf that is noted plain has none, and is not
+/// read.
+fn mark_beside<D: Disk>(
+    disk: &mut NotedDisk<D>,
+    blocks: u32,
+    block: u32,
+    marks: &mut Marks,
+) -> Result<(), TreeFault>
+    requires inside { blocks ≤ (D.state (inner_of disk.old)).blocks }
+    requires bits { length marks.old ≡ blocks }
+    ensures looks { OnlyLooks result (D.state (inner_of disk.old)) (D.state (inner_of disk.new)) }
+    ensures deep { result ≢ Err TreeFault.Deep }
+    ensures memory { result ≢ Err TreeFault.Memory }
+    ensures once { (D.state (inner_of disk.new)).reads ≤ (D.state (inner_of disk.old)).reads + 1 }
+    ensures unread { is_noted (notes_of disk.old) block ≡ true → disk.new ≡ disk.old }
+    ensures growing { HoldsMore marks.old marks.new }
+    ensures fewer { unmarked marks.new ≤ unmarked marks.old }
+    ensures marked { OnLeaf (D.state (inner_of disk.old)) (D.state (inner_of disk.new))
+        block (MarksLinks result marks.new) }
+    ensures only { OnLeaf (D.state (inner_of disk.old)) (D.state (inner_of disk.new))
+        block (SparesLinks marks.old marks.new) }
+    ensures sound { IsData blocks block
+        → OnLeaf (D.state (inner_of disk.old)) (D.state (inner_of disk.new))
+        block (SoundLeaf result blocks) }
+{
+    if disk.is_plain(block) {
+        return Ok(());
+    }
+    let mut bytes = [0; 4096];
+    data_at(disk, blocks, block, &mut bytes)?;
+    if !is_long_leaf(&bytes) {
+        return Ok(());
+    }
+    mark_links(&bytes, blocks, block, marks)
+}
+
+/// Marks a block of this level and all blocks under it, unless it is marked.
 fn mark_below<D: Disk>(
-    disk: &mut D,
+    disk: &mut NotedDisk<D>,
     blocks: u32,
     level: u8,
     block: u32,
     marks: &mut Marks,
 ) -> Result<(), TreeFault>
-    requires inside { blocks ≤ (D.state disk.old).blocks }
+    requires inside { blocks ≤ (D.state (inner_of disk.old)).blocks }
     requires bits { length marks.old ≡ blocks }
-    ensures looks { OnlyLooks result (D.state disk.old) (D.state disk.new) }
+    ensures looks { OnlyLooks result (D.state (inner_of disk.old)) (D.state (inner_of disk.new)) }
     ensures deep { result ≢ Err TreeFault.Deep }
     ensures memory { result ≢ Err TreeFault.Memory }
-    ensures once { PaysReads (D.state disk.old) (D.state disk.new) marks.old marks.new }
+    ensures once { PaysReads (D.state (inner_of disk.old))
+        (D.state (inner_of disk.new)) marks.old marks.new }
     ensures growing { HoldsMore marks.old marks.new }
-    ensures marked { CoversBelow result (D.state disk.old) (D.state disk.new)
+    ensures marked { CoversBelow result (D.state (inner_of disk.old)) (D.state (inner_of disk.new))
         blocks level block marks.old marks.new }
-    ensures sound { SoundBelow result (D.state disk.old) (D.state disk.new) blocks level block }
-    ensures only { Spares (D.state disk.old) (D.state disk.new)
+    ensures sound { SoundBelow result (D.state (inner_of disk.old))
+        (D.state (inner_of disk.new)) blocks level block }
+    ensures only { Spares (D.state (inner_of disk.old)) (D.state (inner_of disk.new))
         blocks level block marks.old marks.new }
 {
     if !is_data(blocks, block) {
@@ -39,7 +144,7 @@ fn mark_below<D: Disk>(
     }
     marks.set(block);
     if level == 0 {
-        return Ok(());
+        return mark_beside(disk, blocks, block, marks);
     }
     let mut bytes = [0; 4096];
     let count = node_at(disk, blocks, level, block, &mut bytes)?;
@@ -52,22 +157,24 @@ fn mark_below<D: Disk>(
 
 /// Marks all blocks under a root.
 fn mark_root<D: Disk>(
-    disk: &mut D,
+    disk: &mut NotedDisk<D>,
     blocks: u32,
     root: Root,
     marks: &mut Marks,
 ) -> Result<(), TreeFault>
-    requires inside { blocks ≤ (D.state disk.old).blocks }
+    requires inside { blocks ≤ (D.state (inner_of disk.old)).blocks }
     requires bits { length marks.old ≡ blocks }
-    ensures looks { OnlyLooks result (D.state disk.old) (D.state disk.new) }
+    ensures looks { OnlyLooks result (D.state (inner_of disk.old)) (D.state (inner_of disk.new)) }
     ensures deep { result ≢ Err TreeFault.Deep }
     ensures memory { result ≢ Err TreeFault.Memory }
-    ensures once { PaysReads (D.state disk.old) (D.state disk.new) marks.old marks.new }
+    ensures once { PaysReads (D.state (inner_of disk.old))
+        (D.state (inner_of disk.new)) marks.old marks.new }
     ensures growing { HoldsMore marks.old marks.new }
-    ensures marked { CoversUnder result (D.state disk.old) (D.state disk.new)
+    ensures marked { CoversUnder result (D.state (inner_of disk.old)) (D.state (inner_of disk.new))
         blocks root marks.old marks.new }
-    ensures sound { SoundUnder result (D.state disk.old) (D.state disk.new) blocks root }
-    ensures only { SparesUnder (D.state disk.old) (D.state disk.new)
+    ensures sound { SoundUnder result (D.state (inner_of disk.old))
+        (D.state (inner_of disk.new)) blocks root }
+    ensures only { SparesUnder (D.state (inner_of disk.old)) (D.state (inner_of disk.new))
         blocks root marks.old marks.new }
 {
     if root.block == 0 {
@@ -82,26 +189,32 @@ fn mark_root<D: Disk>(
 ///
 /// On trees it answers neither Damaged nor Deep nor Memory. Where the device fails, some of the
 /// blocks are marked.
-pub fn mark<D: Disk>(disk: &mut D, roots: &[Root], marks: &mut Marks) -> Result<(), TreeFault>
-    requires { length marks.old ≤ (D.state disk.old).blocks }
-    ensures looks { OnlyLooks result (D.state disk.old) (D.state disk.new) }
+pub fn mark<D: Disk>(
+    disk: &mut NotedDisk<D>,
+    roots: &[Root],
+    marks: &mut Marks,
+) -> Result<(), TreeFault>
+    requires { length marks.old ≤ (D.state (inner_of disk.old)).blocks }
+    ensures looks { OnlyLooks result (D.state (inner_of disk.old)) (D.state (inner_of disk.new)) }
     ensures deep { result ≢ Err TreeFault.Deep }
     ensures memory { result ≢ Err TreeFault.Memory }
     ensures growing { HoldsMore marks.old marks.new }
 
     // For each block that it reads it marks a data block that was not marked.
-    ensures once { PaysReads (D.state disk.old) (D.state disk.new) marks.old marks.new }
+    ensures once { PaysReads (D.state (inner_of disk.old))
+        (D.state (inner_of disk.new)) marks.old marks.new }
 
     // On trees, whatever the sizes of their blocks and whatever was marked before, it is Ok unless the
     // device fails; and whatever it answers, it marks no blocks but those under the roots.
-    ensures sound { SoundOn result (D.state disk.old) (D.state disk.new)
+    ensures sound { SoundOn result (D.state (inner_of disk.old)) (D.state (inner_of disk.new))
         (length marks.old) roots.now }
-    ensures only { SparesOn (D.state disk.old) (D.state disk.new) roots.now marks.old marks.new }
+    ensures only { SparesOn (D.state (inner_of disk.old))
+        (D.state (inner_of disk.new)) roots.now marks.old marks.new }
 
     // Where the marks were closed, they grow by exactly the blocks under the roots, and stay closed.
-    ensures marked { Covers result (D.state disk.old) (D.state disk.new)
+    ensures marked { Covers result (D.state (inner_of disk.old)) (D.state (inner_of disk.new))
         roots.now marks.old marks.new }
-    ensures closed { Closes result (D.state disk.old) (D.state disk.new)
+    ensures closed { Closes result (D.state (inner_of disk.old)) (D.state (inner_of disk.new))
         roots.now marks.old marks.new }
 {
     let blocks = marks.blocks();

@@ -1,39 +1,47 @@
 //! Telling whether trees lie under numbers that may name anything.
-ghost use Rattle.std.specs.Prelude.{◌≡◌, ◌≢◌, ◌+◌, ◌<◌, ◌≤◌, length, map, IsTrue, IfOk};
+ghost use Rattle.std.specs.Prelude.{◌≡◌, ◌≢◌, ◌↔◌, ◌+◌, ◌<◌, ◌≤◌, length, map, IsTrue, IfOk};
 ghost use Rattle.vm_alloc.specs.Held.{HoldsMore};
+ghost use Rattle.std.specs.List.{AllByRecursion};
 ghost use Rattle.vm_block.specs.Leaf.{BeginsWith};
-ghost use Rattle.vm_block.specs.Told.{IfLeaf};
+ghost use Rattle.vm_block.specs.Told.{IfHasRows, IfLeafRowAt};
 ghost use Rattle.vm_tree.specs.Calls.{OnlyLooks};
 ghost use Rattle.vm_tree.specs.Reading.{Finds};
 ghost use Rattle.vm_tree.specs.Root.{AreSizes, sizes_of};
 ghost use Rattle.vm_check.specs.Marking.{PaysJustReads};
+ghost use Rattle.vm_check.specs.Suits.{Suits};
 ghost use Rattle.vm_check.specs.Verifying.{AcceptsTrees, Found, PaidFor};
-ghost use Rattle.vm_check.specs.Visiting.{AcceptsChildren, AcceptsSubtree, AcceptsTree, EndsBelowNext, IsHighest, Visits, VisitsChildren, VisitsRoot, met_of, span_of};
+ghost use Rattle.vm_check.specs.Visiting.{AcceptsChildren, AcceptsLong, AcceptsRow, AcceptsRows, AcceptsSubtree, AcceptsTree, EndsBelowNext, IsHighest, IsLongMet, Visits, VisitsChildren, VisitsLong, VisitsRoot, VisitsRow, VisitsRows, met_of, span_of};
 
 use crate::form::{Form, form_at};
 use std::alloc::Global;
 use vm_alloc::Marks;
-use vm_block::{child_at, lowest_key, record_key};
+use vm_block::{Link, Stored, child_at, is_long_leaf, lowest_key, record_key, stored_at};
 use vm_disk::Disk;
-use vm_tree::{Root, TreeFault, is_data};
+use vm_tree::{Root, TreeFault, is_data, long_at};
 use vm_types::Key;
 
-/// What was found at a block: its level, and the lowest and the highest key under it.
+/// The level of the blocks of long values, above that of any inner block.
+const LONG: u8 = 8;
+
+/// What was found at a block: its level, and the lowest and the highest key under it. At a long
+/// value both are its key, and `len` tells how many bytes it has.
 #[derive(Clone, Copy, Debug)]
 pub(crate) struct Span {
     level: u8,
     low: Key,
     high: Key,
+    len: u16,
 }
 
-/// The span of a block that was met, kept in 24 bytes. While the blocks under it are visited only
-/// the level is known.
+/// The span of a block that was met, kept in 24 bytes. While the blocks under an inner block are
+/// visited only its level is known.
 #[derive(Clone, Copy, Debug, Default)]
 pub(crate) struct Met {
     low_number: u64,
     high_number: u64,
     low_table: u16,
     high_table: u16,
+    len: u16,
     level: u8,
 }
 
@@ -46,6 +54,7 @@ fn keep(span: Span) -> Met
         high_number: span.high.number,
         low_table: span.low.table,
         high_table: span.high.table,
+        len: span.len,
         level: span.level,
     }
 }
@@ -64,15 +73,17 @@ fn span_met(met: Met) -> Span
             table: met.high_table,
             number: met.high_number,
         },
+        len: met.len,
     }
 }
 
 /// Visits a block, whose level has to lie from `least` to `most`, and all blocks under it. A block
-/// that was met before is not read again.
+/// that was met before is not read again. There may be leaves with long values where `long` says so.
 #[cycle(walk)]
 fn visit<D: Disk, const LEAF: usize, const FAN: usize>(
     disk: &mut D,
     blocks: u32,
+    long: bool,
     least: u8,
     most: u8,
     block: u32,
@@ -82,14 +93,15 @@ fn visit<D: Disk, const LEAF: usize, const FAN: usize>(
     requires inside { blocks ≤ (D.state disk.old).blocks }
     requires bits { length marks.old ≡ blocks }
     requires room { length spans.old ≡ blocks }
+    requires low { most ≤ 7 }
     ensures looks { OnlyLooks result (D.state disk.old) (D.state disk.new) }
     ensures deep { result ≢ Err TreeFault.Deep }
     ensures memory { result ≢ Err TreeFault.Memory }
     ensures once { PaysJustReads (D.state disk.old) (D.state disk.new) marks.old marks.new }
     ensures growing { HoldsMore marks.old marks.new }
-    ensures found { Visits result LEAF FAN (D.state disk.old) (D.state disk.new)
+    ensures found { Visits result long LEAF FAN (D.state disk.old) (D.state disk.new)
         blocks least most block marks.old spans.old marks.new spans.new }
-    ensures only { AcceptsSubtree result LEAF FAN (D.state disk.old) (D.state disk.new)
+    ensures only { AcceptsSubtree result long LEAF FAN (D.state disk.old) (D.state disk.new)
         blocks least most block marks.old spans.old }
 {
     if !is_data(blocks, block) {
@@ -108,11 +120,12 @@ fn visit<D: Disk, const LEAF: usize, const FAN: usize>(
     let form = form_at(disk, blocks, block, &mut bytes)?;
     match form {
         Form::Leaf(count) => {
-            if least > 0 || count > LEAF {
+            if least > 0 || count > LEAF || !suits(long, &bytes) {
                 return Err(TreeFault::Damaged(block));
             }
             let span = leaf_span(&bytes, count);
             spans[at] = keep(span);
+            visit_beside(disk, blocks, &bytes, count, marks, spans)?;
             Ok(span)
         }
         Form::Node(level, count) => {
@@ -122,29 +135,192 @@ fn visit<D: Disk, const LEAF: usize, const FAN: usize>(
             spans[at].level = level;
             let below = level - 1;
             let high = visit_children::<D, LEAF, FAN>(
-                disk, blocks, below, &bytes, count, marks, spans,
+                disk, blocks, long, below, &bytes, count, marks, spans,
             )?;
             let low = lowest_key(&bytes);
-            let span = Span { level, low, high };
+            let span = node_span(level, low, high);
             spans[at] = keep(span);
             Ok(span)
         }
     }
 }
 
-/// What a leaf of so many records is.
+/// Whether a store may have this block: where no long value is allowed, no leaf with one.
+fn suits(long: bool, bytes: &[u8; 4096]) -> bool
+    ensures { IsTrue result ↔ Suits long bytes.now }
+{
+    long || !is_long_leaf(bytes)
+}
+
+/// What a leaf of so many rows is.
 fn leaf_span(bytes: &[u8; 4096], count: usize) -> Span
     requires some { 0 < count }
     requires few { count ≤ 16 }
     ensures level { result.level ≡ 0 }
-    ensures low { IfLeaf bytes.now (BeginsWith result.low) }
-    ensures high { IfLeaf bytes.now (λ rs. length rs ≡ count → IsHighest result.high rs) }
+    ensures low { IfHasRows bytes.now (BeginsWith result.low) }
+    ensures high { IfHasRows bytes.now (λ ws. length ws ≡ count → IsHighest result.high ws) }
 {
     Span {
         level: 0,
         low: lowest_key(bytes),
         high: record_key(bytes, count - 1),
+        len: 0,
     }
+}
+
+/// What an inner block of this level is, with these lowest and highest keys under it.
+fn node_span(level: u8, low: Key, high: Key) -> Span
+    ensures { result ≡ record { level = level; low = low; high = high; len = 0 } }
+{
+    Span {
+        level,
+        low,
+        high,
+        len: 0,
+    }
+}
+
+/// Whether what was met is the long value of this key, of so many bytes.
+fn is_long_met(met: Span, key: Key, len: u16) -> bool
+    ensures { IsTrue result ↔ IsLongMet met key len }
+{
+    met.level == LONG && met.low == key && met.len == len
+}
+
+/// Visits the block to which a row of this key links. A block that was met before is not read
+/// again, and has to be that of this key and of a value of so many bytes, too.
+fn visit_long<D: Disk>(
+    disk: &mut D,
+    blocks: u32,
+    key: Key,
+    link: Link,
+    marks: &mut Marks,
+    spans: &mut [Met],
+) -> Result<(), TreeFault>
+    requires inside { blocks ≤ (D.state disk.old).blocks }
+    requires bits { length marks.old ≡ blocks }
+    requires room { length spans.old ≡ blocks }
+    ensures looks { OnlyLooks result (D.state disk.old) (D.state disk.new) }
+    ensures deep { result ≢ Err TreeFault.Deep }
+    ensures memory { result ≢ Err TreeFault.Memory }
+    ensures once { PaysJustReads (D.state disk.old) (D.state disk.new) marks.old marks.new }
+    ensures growing { HoldsMore marks.old marks.new }
+    ensures found { VisitsLong result (D.state disk.old) (D.state disk.new)
+        blocks key link marks.old spans.old marks.new spans.new }
+    ensures only { AcceptsLong result (D.state disk.old) (D.state disk.new)
+        blocks key link marks.old spans.old }
+{
+    if !is_data(blocks, link.block) {
+        return Err(TreeFault::Damaged(link.block));
+    }
+    let at = link.block as usize;
+    if marks.is_set(link.block) {
+        if !is_long_met(span_met(spans[at]), key, link.len) {
+            return Err(TreeFault::Damaged(link.block));
+        }
+        return Ok(());
+    }
+    marks.set(link.block);
+    let mut bytes = [0; 4096];
+    long_at(disk, blocks, key, link, &mut bytes)?;
+    let span = Span {
+        level: LONG,
+        low: key,
+        high: key,
+        len: link.len,
+    };
+    spans[at] = keep(span);
+    Ok(())
+}
+
+/// Visits the block to which the row at i of a leaf links, if it does.
+fn visit_row<D: Disk>(
+    disk: &mut D,
+    blocks: u32,
+    bytes: &[u8; 4096],
+    i: usize,
+    marks: &mut Marks,
+    spans: &mut [Met],
+) -> Result<(), TreeFault>
+    requires row { i < 16 }
+    requires inside { blocks ≤ (D.state disk.old).blocks }
+    requires bits { length marks.old ≡ blocks }
+    requires room { length spans.old ≡ blocks }
+    ensures looks { OnlyLooks result (D.state disk.old) (D.state disk.new) }
+    ensures deep { result ≢ Err TreeFault.Deep }
+    ensures memory { result ≢ Err TreeFault.Memory }
+    ensures once { PaysJustReads (D.state disk.old) (D.state disk.new) marks.old marks.new }
+    ensures growing { HoldsMore marks.old marks.new }
+    ensures found { IfLeafRowAt bytes.now i (VisitsRow result (D.state disk.old) (D.state disk.new)
+        blocks marks.old spans.old marks.new spans.new) }
+    ensures only { IfLeafRowAt bytes.now i (AcceptsRow result (D.state disk.old) (D.state disk.new)
+        blocks marks.old spans.old) }
+{
+    match stored_at(bytes, i) {
+        Some(Stored::Long(link)) => {
+            visit_long(disk, blocks, record_key(bytes, i), link, marks, spans)
+        }
+        Some(Stored::Short(_)) => Ok(()),
+        None => Ok(()),
+    }
+}
+
+/// Visits the blocks to which so many rows of a leaf link, in the order of the rows.
+fn visit_rows<D: Disk>(
+    disk: &mut D,
+    blocks: u32,
+    bytes: &[u8; 4096],
+    count: usize,
+    marks: &mut Marks,
+    spans: &mut [Met],
+) -> Result<(), TreeFault>
+    requires few { count ≤ 16 }
+    requires inside { blocks ≤ (D.state disk.old).blocks }
+    requires bits { length marks.old ≡ blocks }
+    requires room { length spans.old ≡ blocks }
+    ensures looks { OnlyLooks result (D.state disk.old) (D.state disk.new) }
+    ensures deep { result ≢ Err TreeFault.Deep }
+    ensures memory { result ≢ Err TreeFault.Memory }
+    ensures once { PaysJustReads (D.state disk.old) (D.state disk.new) marks.old marks.new }
+    ensures growing { HoldsMore marks.old marks.new }
+    ensures found { VisitsRows result (D.state disk.old) (D.state disk.new)
+        blocks bytes.now count marks.old spans.old marks.new spans.new }
+    ensures only { AcceptsRows result (D.state disk.old) (D.state disk.new)
+        blocks bytes.now count marks.old spans.old }
+{
+    for i in 0..count {
+        visit_row(disk, blocks, bytes, i, marks, spans)?;
+    }
+    Ok(())
+}
+
+/// Visits the blocks of the long values of a leaf of so many rows.
+fn visit_beside<D: Disk>(
+    disk: &mut D,
+    blocks: u32,
+    bytes: &[u8; 4096],
+    count: usize,
+    marks: &mut Marks,
+    spans: &mut [Met],
+) -> Result<(), TreeFault>
+    requires few { count ≤ 16 }
+    requires inside { blocks ≤ (D.state disk.old).blocks }
+    requires bits { length marks.old ≡ blocks }
+    requires room { length spans.old ≡ blocks }
+    ensures looks { OnlyLooks result (D.state disk.old) (D.state disk.new) }
+    ensures deep { result ≢ Err TreeFault.Deep }
+    ensures memory { result ≢ Err TreeFault.Memory }
+    ensures once { PaysJustReads (D.state disk.old) (D.state disk.new) marks.old marks.new }
+    ensures growing { HoldsMore marks.old marks.new }
+    ensures found { VisitsRows result (D.state disk.old) (D.state disk.new)
+        blocks bytes.now count marks.old spans.old marks.new spans.new }
+    ensures only { AcceptsRows result (D.state disk.old) (D.state disk.new)
+        blocks bytes.now count marks.old spans.old }
+{
+    if !is_long_leaf(bytes) {
+        return Ok(());
+    }
+    visit_rows(disk, blocks, bytes, count, marks, spans)
 }
 
 /// Visits the children of an inner block, which are of this level, in their order, and gives the
@@ -154,6 +330,7 @@ fn leaf_span(bytes: &[u8; 4096], count: usize) -> Span
 fn visit_children<D: Disk, const LEAF: usize, const FAN: usize>(
     disk: &mut D,
     blocks: u32,
+    long: bool,
     level: u8,
     bytes: &[u8; 4096],
     count: usize,
@@ -164,20 +341,30 @@ fn visit_children<D: Disk, const LEAF: usize, const FAN: usize>(
     requires bits { length marks.old ≡ blocks }
     requires room { length spans.old ≡ blocks }
     requires few { count ≤ 256 }
+    requires low { level ≤ 7 }
     ensures looks { OnlyLooks result (D.state disk.old) (D.state disk.new) }
     ensures deep { result ≢ Err TreeFault.Deep }
     ensures memory { result ≢ Err TreeFault.Memory }
     ensures once { PaysJustReads (D.state disk.old) (D.state disk.new) marks.old marks.new }
     ensures growing { HoldsMore marks.old marks.new }
-    ensures found { VisitsChildren result LEAF FAN (D.state disk.old) (D.state disk.new)
+    ensures found { VisitsChildren result long LEAF FAN (D.state disk.old) (D.state disk.new)
         blocks level bytes.now count marks.old spans.old marks.new spans.new }
-    ensures only { AcceptsChildren result LEAF FAN (D.state disk.old) (D.state disk.new)
+    ensures only { AcceptsChildren result long LEAF FAN (D.state disk.old) (D.state disk.new)
         blocks level bytes.now count marks.old spans.old }
 {
     let mut high = Key::default();
     for i in 0..count {
         let child = child_at(bytes, i);
-        let span = visit::<D, LEAF, FAN>(disk, blocks, level, level, child.block, marks, spans)?;
+        let span = visit::<D, LEAF, FAN>(
+            disk,
+            blocks,
+            long,
+            level,
+            level,
+            child.block,
+            marks,
+            spans,
+        )?;
         if span.low != child.low || !is_below_next(span.high, bytes, count, i) {
             return Err(TreeFault::Damaged(child.block));
         }
@@ -200,15 +387,17 @@ fn is_below_next(high: Key, bytes: &[u8; 4096], count: usize, i: usize) -> bool
 
 /// Walks the trees under the numbers, in their order, and gives the root of each, and marks on just
 /// the blocks under them. Numbers and blocks may hold anything: it always ends, and reads no block
-/// twice. Number 0 is the empty map.
+/// twice. Number 0 is the empty map. `long` says whether leaves with long values are allowed.
 ///
-/// Where a number has no tree it answers Damaged, with the first block of the walk that is wrong;
-/// Device, where the device failed; and Memory, where none was found for the roots, the marks, and
-/// 24 bytes for each block of the store. It never answers Deep.
+/// Where a number has no tree, or a tree has a leaf that is not allowed, it answers Damaged, with
+/// the first block of the walk that is wrong: for such a leaf its own number, and not that of a
+/// long value. It answers Device, where the device failed; and Memory, where none was found for the
+/// roots, the marks, and 24 bytes for each block of the store. It never answers Deep.
 pub fn verify<D: Disk, const LEAF: usize, const FAN: usize, const LEVELS: usize>(
     alloc: Global,
     disk: &mut D,
     blocks: u32,
+    long: bool,
     numbers: &[u32],
 ) -> Result<(Vec<Root>, Marks), TreeFault>
     requires sizes { AreSizes LEAF FAN LEVELS }
@@ -229,10 +418,11 @@ pub fn verify<D: Disk, const LEAF: usize, const FAN: usize, const LEVELS: usize>
     ensures paid { IfOk result
         (λ found. PaidFor (D.state disk.old) (D.state disk.new) blocks found.1) }
 
-    // It is Ok exactly where each number has a tree, unless the device fails or no memory is found.
+    // It is Ok exactly where each number has a tree, in blocks that a store may have, unless the device
+    // fails or no memory is found.
     ensures found { Finds result (D.state disk.old) (D.state disk.new)
-        (λ x found. Found (sizes_of LEAF FAN LEVELS) x blocks numbers.now found.0.items found.1) }
-    ensures only { AcceptsTrees result (sizes_of LEAF FAN LEVELS)
+        (λ x found. Found long (sizes_of LEAF FAN LEVELS) x blocks numbers.now found.0.items found.1) }
+    ensures only { AcceptsTrees result long (sizes_of LEAF FAN LEVELS)
         (D.state disk.old) (D.state disk.new) blocks numbers.now }
 {
     let (Ok(mut marks), Ok(mut spans)) = (
@@ -244,7 +434,9 @@ pub fn verify<D: Disk, const LEAF: usize, const FAN: usize, const LEVELS: usize>
     let spans = spans.as_mut_slice();
     let mut roots = Vec::new(alloc);
     for number in numbers {
-        let root = visit_root::<D, LEAF, FAN, LEVELS>(disk, blocks, *number, &mut marks, spans)?;
+        let root = visit_root::<D, LEAF, FAN, LEVELS>(
+            disk, blocks, long, *number, &mut marks, spans,
+        )?;
         match roots.push(root) {
             Ok(()) => {}
             Err(_) => return Err(TreeFault::Memory),
@@ -257,6 +449,7 @@ pub fn verify<D: Disk, const LEAF: usize, const FAN: usize, const LEVELS: usize>
 fn visit_root<D: Disk, const LEAF: usize, const FAN: usize, const LEVELS: usize>(
     disk: &mut D,
     blocks: u32,
+    long: bool,
     number: u32,
     marks: &mut Marks,
     spans: &mut [Met],
@@ -271,17 +464,17 @@ fn visit_root<D: Disk, const LEAF: usize, const FAN: usize, const LEVELS: usize>
     ensures once { PaysJustReads (D.state disk.old) (D.state disk.new) marks.old marks.new }
     ensures count { length marks.new ≡ blocks }
     ensures named { IfOk result (λ root. root.block ≡ number) }
-    ensures found { VisitsRoot result (sizes_of LEAF FAN LEVELS)
+    ensures found { VisitsRoot result long (sizes_of LEAF FAN LEVELS)
         (D.state disk.old) (D.state disk.new)
         blocks number marks.old spans.old marks.new spans.new }
-    ensures only { AcceptsTree result (sizes_of LEAF FAN LEVELS)
+    ensures only { AcceptsTree result long (sizes_of LEAF FAN LEVELS)
         (D.state disk.old) (D.state disk.new) blocks number marks.old spans.old }
 {
     if number == 0 {
         return Ok(Root::default());
     }
     let most = (LEVELS - 1) as u8;
-    let span = visit::<D, LEAF, FAN>(disk, blocks, 0, most, number, marks, spans)?;
+    let span = visit::<D, LEAF, FAN>(disk, blocks, long, 0, most, number, marks, spans)?;
     Ok(Root {
         block: number,
         level: span.level,

@@ -31,11 +31,11 @@ module _ (sizes : Sizes) (x : Contents) (limit : ℕ) (root : Root) (m : Map) (b
   -- a walk from a root has the whole map ahead
   pub root_ahead : (walk : Walk) → (root.block ≡ 0 → walk ≡ record { pending = []; tops = [] }) → (root.block ≢ 0 → walk ≡ record { pending = []; tops = root ∷ [] }) → IsRooted sizes x limit root m bs → IsAhead sizes x limit walk m bs
   root_ahead walk empty some (inl bare) =
-      subst (λ (w : Walk). IsAhead sizes x limit w m bs) (sym (empty bare.none)) (record { later = m; under = (bare.empty, bare.blocks); records = refl })
+      subst (λ (w : Walk). IsAhead sizes x limit w m bs) (sym (empty bare.none)) (record { next = []; later = m; beside = []; below = bs; entries = (refl, refl); under = (bare.empty, bare.blocks); records = refl; blocks = refl })
   root_ahead walk empty some (inr top) =
       let inside = subtree_top sizes x limit root.level root.block m bs top.subtree in
       subst (λ (w : Walk). IsAhead sizes x limit w m bs) (sym (some (λ zero_is. omega (arith, zero_is, inside.0))))
-      (record { later = m; under = (m, [], bs, [], top.subtree, top.lowest, (refl, refl), sym (append-nil m), sym (append-nil bs)); records = refl })
+      (record { next = []; later = m; beside = []; below = bs; entries = (refl, refl); under = (m, [], bs, [], top.subtree, top.lowest, (refl, refl), sym (append-nil m), sym (append-nil bs)); records = refl; blocks = refl })
 
   pub root_rising : IsRooted sizes x limit root m bs → AreRising m
   root_rising (inl bare) = subst AreRising (sym bare.empty) (record { rising = tt; fit = tt })

@@ -1,11 +1,27 @@
 -- Rows of a block one after another, and what two blocks share of them.
-use Rattle.std.proofs.Common.{◌≡◌, ℕ, zero, suc, ◌+◌, ◌-◌, ◌<◌, List, [], ◌∷◌, ◌++◌, length, get_or, drop, refl, sym, ap, ap₂, ◌∙◌, arith}
-use Rattle.vm_block.specs.Leaf.{Record, IsLeaf}
+use Rattle.std.proofs.Common.{◌≡◌, inl, inr, Option, None, Some, ℕ, zero, suc, ◌+◌, ◌-◌, ◌<◌, ◌≤◌, cond, lt-ltb, le-ltb, subst, take, List, [], ◌∷◌, ◌++◌, length, get_or, drop, refl, sym, ap, ap₂, ◌∙◌, arith}
+use Rattle.std.specs.List.{AllByRecursion}
+use Rattle.std.proofs.lemmas.Bool.{cases_lt}
+use Rattle.vm_types.specs.declared.key.Key.{Key}
+use Rattle.vm_disk.specs.Disk.{Contents}
+use Rattle.byteorder.specs.Endian.{little_number}
+use Rattle.byteorder.specs.Numbers.{little_number-reads_back}
+use Rattle.vm_block.specs.Padding.{zeros, padded}
+use Rattle.vm_block.specs.Leaf.{Record, Row, RowFits, LinkFits, link_bytes, record_bytes}
+use Rattle.vm_block.specs.declared.stored.Link.{Link}
+use Rattle.vm_block.proofs.RecordLemmas.{length-link, link_stored, record_key, row_length, row_value}
+use Rattle.vm_block.proofs.WayLemmas.{leaf_piece}
+use Rattle.vm_tree.specs.Tree.{IsWithin, LeafHolds, StandForAll, StandsFor}
+use Rattle.vm_types.specs.Bytes.{longest}
+use Rattle.vm_diff.specs.Entry.{Entry, EntryFor, EntriesFor}
+use Rattle.vm_diff.specs.Entry.Entry.{Own, Linked}
 use Rattle.vm_block.specs.Node.{IsNode}
-use Rattle.vm_block.specs.Row.{record_of, child_of, leaf_row, node_row}
+use Rattle.vm_block.specs.Row.{key_of, record_of, child_of, leaf_row, node_row}
 use Rattle.vm_block.specs.declared.node.Child.{Child}
-use Rattle.vm_block.proofs.RowLemmas.{leaf_record, node_child}
-use Rattle.vm_diff.specs.Rows.{rows_from, records_from, children_from}
+use Rattle.vm_block.proofs.RowLemmas.{node_child, row_key, row_record}
+use Rattle.vm_diff.specs.Rows.{rows_from, entry_of, entry_of_length, entries_from, children_from, with_held}
+use Rattle.vm_diff.specs.Front.{first_of, next_of}
+use Rattle.vm_diff.specs.Front.Front.{End, Far, Pair}
 use Rattle.vm_diff.specs.Ahead.{PassedBoth}
 
 module _ {X : Type 0} where
@@ -60,36 +76,129 @@ module _ {X : Type 0} where
   rows_some f i zero some = absurd (omega arith)
   rows_some f i (suc n) some = let same : n ≡ suc n - 1 = omega arith in ap (λ k. f i ∷ rows_from f (suc i) k) same
 
--- # Records
+-- # Entries
 
-pub records_whole : (bytes : List ℕ) (rs : List Record) (n : ℕ) → IsLeaf bytes rs → n ≡ length rs → records_from bytes 0 n ≡ rs
-unfolding records_from
-records_whole bytes rs n leaf many =
-    rows_whole (λ k. record_of (leaf_row bytes k)) n 0 rs many
-    (λ k d lt. let a : 0 + k ≡ k = omega arith in ap (λ m. record_of (leaf_row bytes m)) a ∙ leaf_record bytes rs k d leaf lt)
+-- the entry in the bytes of a row
+pub entry_long : (row : List ℕ) (len : ℕ) → len ≡ little_number 2 (drop 10 row) → 240 < len → entry_of row ≡ Linked (key_of row) (record { len = len; block = little_number 4 (drop 12 row) })
+unfolding entry_of entry_of_length
+entry_long row len is lt =
+    ap (λ n. entry_of_length n row) (sym is)
+    ∙ ap (λ t. cond {A = Entry} t (Linked (key_of row) (record { len = len; block = little_number 4 (drop 12 row) })) (Own (record_of row).0 (record_of row).1)) (lt-ltb 240 len lt)
 
-pub records_none : (bytes : List ℕ) (i n : ℕ) → n ≡ 0 → records_from bytes i n ≡ []
-unfolding records_from
-records_none bytes i n none = rows_none (λ k. record_of (leaf_row bytes k)) i n none
+pub entry_short : (row : List ℕ) (len : ℕ) → len ≡ little_number 2 (drop 10 row) → len ≤ 240 → entry_of row ≡ Own (record_of row).0 (record_of row).1
+unfolding entry_of entry_of_length
+entry_short row len is few =
+    ap (λ n. entry_of_length n row) (sym is)
+    ∙ ap (λ t. cond {A = Entry} t (Linked (key_of row) (record { len = len; block = little_number 4 (drop 12 row) })) (Own (record_of row).0 (record_of row).1)) (le-ltb 240 len few)
 
-pub records_some : (bytes : List ℕ) (i n : ℕ) → 0 < n → records_from bytes i n ≡ record_of (leaf_row bytes i) ∷ records_from bytes (suc i) (n - 1)
-unfolding records_from
-records_some bytes i n some = rows_some (λ k. record_of (leaf_row bytes k)) i n some
+-- the key in a row of a leaf
+row_keyed : (w : Row) → RowFits w → key_of (record_bytes w) ≡ w.0
+row_keyed w fits = row_key (record_bytes w) w.0 fits.0 (record_key w)
 
-pub records_past : (bytes : List ℕ) (i n all : ℕ) → n + 1 ≡ all → records_from bytes (i + 1) n ≡ drop 1 (records_from bytes i all)
-unfolding records_from
-records_past bytes i n all many = rows_past (λ k. record_of (leaf_row bytes k)) i n all many
+-- what a row stands for, the entry in its bytes stands for
+entry_stands : (x : Contents) (limit : ℕ) (w : Row) (r : Record) (bs row : List ℕ) → RowFits w → row ≡ record_bytes w → IsWithin longest r → StandsFor x limit w r bs → EntryFor x limit (entry_of row) r bs
+entry_stands x limit w r bs row fits is within (inl itself) =
+    let of = row_record row w fits itself.short is in
+    let entry : entry_of row ≡ Own w.0 w.1 =
+    entry_short row (length w.1) (sym (ap (λ z. little_number 2 (drop 10 z)) is ∙ row_length w fits)) itself.short ∙ ap (λ (q : Record). Own q.0 q.1) of in
+    subst (λ (e : Entry). EntryFor x limit e r bs) (sym entry) (itself.same, itself.none)
+entry_stands x limit w r bs row fits is within (inr linked) =
+    let len : length w.1 ≡ linked.link.len = ap length linked.spelled ∙ length-link linked.link linked.fits in
+    let counted : linked.link.len ≡ little_number 2 (drop 10 row) = sym len ∙ sym (ap (λ z. little_number 2 (drop 10 z)) is ∙ row_length w fits) in
+    let block_is : little_number 4 (drop 12 row) ≡ linked.link.block = ap (λ z. little_number 4 (drop 12 z)) is ∙ link_number w linked.link linked.fits linked.spelled in
+    let key : key_of row ≡ w.0 = ap key_of is ∙ row_keyed w fits in
+    let entry : entry_of row ≡ Linked w.0 linked.link =
+    entry_long row linked.link.len counted linked.fits.long ∙ ap₂ (λ (k : Key) n. Linked k (record { len = linked.link.len; block = n })) key block_is in
+    subst (λ (e : Entry). EntryFor x limit e r bs) (sym entry)
+    (record { key_is = linked.key; many = linked.many; most = within.1; place = linked.place; value = linked.value; only = linked.only })
+  where
+    link_number : (v : Row) (link : Link) → LinkFits link → v.1 ≡ link_bytes link → little_number 4 (drop 12 (record_bytes v)) ≡ link.block
+    link_number v link small spelled =
+        ap (little_number 4) (row_value v ∙ ap (λ z. take 240 (padded 240 z)) spelled ∙ link_stored link small) ∙ little_number-reads_back 4 link.block (zeros 236) small.block
 
-pub records_count : (bytes : List ℕ) (n i : ℕ) → length (records_from bytes i n) ≡ n
-unfolding records_from
-records_count bytes zero i = refl
-records_count bytes (suc n) i = let more = records_count bytes n (suc i) in omega (arith, more)
+-- what rows stand for, the entries in their bytes stand for
+rows_stand : (x : Contents) (limit : ℕ) (ws : List Row) (rs : List Record) (bs : List ℕ) (f : ℕ → List ℕ) (i n : ℕ) → n ≡ length ws → ((k : ℕ) (d : Row) → k < length ws → (f (i + k) ≡ record_bytes (get_or ws k d)) × RowFits (get_or ws k d))
+    → AllByRecursion (IsWithin longest) rs → StandForAll x limit ws rs bs → EntriesFor x limit (rows_from (λ k. entry_of (f k)) i n) rs bs
+rows_stand x limit [] rs bs f i zero many at within t = t
+rows_stand x limit [] rs bs f i (suc n) many at within t = absurd (omega arith)
+rows_stand x limit (w ∷ ws) rs bs f i zero many at within t = absurd (omega arith)
+rows_stand x limit (w ∷ ws) rs bs f i (suc n) many at within t =
+    let whole = subst (AllByRecursion (IsWithin longest)) t.6 within in
+    let here : i ≡ i + 0 = omega arith in
+    let next : (k : ℕ) (d : Row) → k < length ws → (f (suc i + k) ≡ record_bytes (get_or ws k d)) × RowFits (get_or ws k d) = λ k d lt.
+    let a : suc i + k ≡ i + suc k = omega arith in let there = at (suc k) d (omega arith) in (ap f a ∙ there.0, there.1) in
+    let first = at 0 w (omega arith) in
+    (t.0, t.1, t.2, t.3, entry_stands x limit w t.0 t.2 (f i) first.1 (ap f here ∙ first.0) whole.0 t.4, rows_stand x limit ws t.1 t.3 f (suc i) n (omega arith) next whole.1 t.5, t.6, t.7)
 
-pub records_passed : (one other : List ℕ) (i j all rest many more n : ℕ) → all ≡ n + rest → many ≡ n + more → ((k : ℕ) → k < n → leaf_row one (i + k) ≡ leaf_row other (j + k))
-    → PassedBoth (records_from one i all) (records_from other j many) (records_from one (i + n) rest) (records_from other (j + n) more)
-unfolding records_from
-records_passed one other i j all rest many more n first second same =
-    rows_passed (λ k. record_of (leaf_row one k)) (λ k. record_of (leaf_row other k)) i j all rest many more n first second (λ k lt. ap record_of (same k lt))
+-- the entries of a leaf stand for what it holds
+pub entries_stand : (x : Contents) (limit : ℕ) (bytes : List ℕ) (rs : List Record) (under : List ℕ) → (holds : LeafHolds x limit longest bytes rs under) → EntriesFor x limit (entries_from bytes 0 (length holds.rows)) rs under
+unfolding entries_from
+entries_stand x limit bytes rs under holds =
+    rows_stand x limit holds.rows rs under (leaf_row bytes) 0 (length holds.rows) refl (λ k d lt. let a : 0 + k ≡ k = omega arith in let there = leaf_piece bytes holds.rows k d holds.leaf lt in (ap (leaf_row bytes) a ∙ there.0, there.1)) holds.within holds.stand
+
+pub entries_none : (bytes : List ℕ) (i n : ℕ) → n ≡ 0 → entries_from bytes i n ≡ []
+unfolding entries_from
+entries_none bytes i n none = rows_none (λ k. entry_of (leaf_row bytes k)) i n none
+
+pub entries_some : (bytes : List ℕ) (i n : ℕ) → 0 < n → entries_from bytes i n ≡ entry_of (leaf_row bytes i) ∷ entries_from bytes (suc i) (n - 1)
+unfolding entries_from
+entries_some bytes i n some = rows_some (λ k. entry_of (leaf_row bytes k)) i n some
+
+pub entries_past : (bytes : List ℕ) (i n all : ℕ) → n + 1 ≡ all → entries_from bytes (i + 1) n ≡ drop 1 (entries_from bytes i all)
+unfolding entries_from
+entries_past bytes i n all many = rows_past (λ k. entry_of (leaf_row bytes k)) i n all many
+
+pub entries_count : (bytes : List ℕ) (n i : ℕ) → length (entries_from bytes i n) ≡ n
+unfolding entries_from
+entries_count bytes zero i = refl
+entries_count bytes (suc n) i = let more = entries_count bytes n (suc i) in omega (arith, more)
+
+pub entries_passed : (one other : List ℕ) (i j all rest many more n : ℕ) → all ≡ n + rest → many ≡ n + more → ((k : ℕ) → k < n → leaf_row one (i + k) ≡ leaf_row other (j + k))
+    → PassedBoth (entries_from one i all) (entries_from other j many) (entries_from one (i + n) rest) (entries_from other (j + n) more)
+unfolding entries_from
+entries_passed one other i j all rest many more n first second same =
+    rows_passed (λ k. entry_of (leaf_row one k)) (λ k. entry_of (leaf_row other k)) i j all rest many more n first second (λ k lt. ap entry_of (same k lt))
+
+-- where no value is held, the entries are those of the leaf, and else its record comes before them
+pub leaf_alone : (h : Option Key) (long : List ℕ) (len : ℕ) (es : List Entry) → h ≡ None → with_held h long len es ≡ es
+leaf_alone h long len es none = ap (λ (k : Option Key). with_held k long len es) none
+
+pub unheld : (h : Option Key) (long : List ℕ) (len : ℕ) (es now : List Entry) → h ≡ None → with_held h long len es ≡ now → es ≡ now
+unheld h long len es now none view = subst (λ (k : Option Key). with_held k long len es ≡ now) none view
+
+pub held_first : (h : Option Key) (key : Key) (long : List ℕ) (len : ℕ) (es now : List Entry) → h ≡ Some key → with_held h long len es ≡ now → Own key (take len (drop 26 long)) ∷ es ≡ now
+held_first h key long len es now some view = subst (λ (k : Option Key). with_held k long len es ≡ now) some view
+
+-- where a link comes first, no value is held, and some entries are left
+pub far_inside : (h : Option Key) (long bytes : List ℕ) (len at n : ℕ) (key : Key) (link : Link) → first_of (with_held h long len (entries_from bytes at n)) [] ≡ Far key link → (h ≡ None) × (0 < n)
+unfolding entries_from
+far_inside (Some k) long bytes len at n key link is = absurd cc
+far_inside None long bytes len at zero key link is = absurd cc
+far_inside None long bytes len at (suc n) key link is = (refl, omega arith)
+
+-- what comes first is told by the first entry
+pub next_first : (e : Entry) (es : List Entry) → next_of (first_of (e ∷ es) []) ≡ next_of (first_of (e ∷ []) [])
+next_first (Own key value) es = refl
+next_first (Linked key link) es = refl
+
+-- where a record comes first, its value is that in the row
+first_own : (e : Entry) (es : List Entry) (key : Key) (value : List ℕ) → first_of (e ∷ es) [] ≡ Pair key value → e ≡ Own key value
+first_own (Own k v) es key value is = let keys : k ≡ key = cc in let values : v ≡ value = cc in ap₂ Own keys values
+first_own (Linked k link) es key value is = absurd cc
+
+own_value : (row : List ℕ) (key : Key) (value : List ℕ) → entry_of row ≡ Own key value → (record_of row).1 ≡ value
+own_value row key value is =
+    elim (cases_lt 240 (little_number 2 (drop 10 row))) [
+      | inl more ↦ let both = sym (entry_long row (little_number 2 (drop 10 row)) refl more) ∙ is in absurd cc
+      | inr few ↦ let both = sym (entry_short row (little_number 2 (drop 10 row)) refl few) ∙ is in cc
+    ]
+
+pub row_first : (row : List ℕ) (es now : List Entry) (key : Key) (value : List ℕ) → entry_of row ∷ es ≡ now → first_of now [] ≡ Pair key value → (record_of row).1 ≡ value
+row_first row es now key value is first =
+    own_value row key value (first_own (entry_of row) es key value (ap (λ (xs : List Entry). first_of xs []) is ∙ first))
+
+pub none_first : (now : List Entry) (key : Key) (value : List ℕ) → [] ≡ now → first_of now [] ≡ Pair key value → [] ≡ value
+none_first now key value is first = let both : End ≡ Pair key value = ap (λ (xs : List Entry). first_of xs []) is ∙ first in absurd cc
 
 -- # Children
 

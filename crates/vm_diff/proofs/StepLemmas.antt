@@ -8,25 +8,30 @@ use Rattle.vm_types.specs.Map.{delta}
 use Rattle.vm_types.specs.Places.{place}
 use Rattle.vm_types.proofs.Bridge.{exact_places}
 use Rattle.vm_types.proofs.ChangeLemmas.{change_of}
-use Rattle.vm_disk.specs.Disk.{Contents}
+use Rattle.vm_disk.specs.Disk.{Contents, block}
 use Rattle.vm_block.specs.Leaf.{Record}
+use Rattle.vm_block.specs.Long.{IsLong}
+use Rattle.vm_block.specs.declared.stored.Link.{Link}
+use Rattle.vm_block.proofs.LongLemmas.{long_one}
 use Rattle.vm_tree.specs.Tree.{Sizes, Subtree as LiesUnder}
 use Rattle.vm_tree.specs.Answers.{OkOrDevice}
 use Rattle.vm_tree.specs.declared.root.Root.{Root}
 use Rattle.vm_tree.specs.declared.root.TreeFault.{TreeFault}
+use Rattle.vm_tree.specs.Replacing.{Lacks}
 use Rattle.vm_tree.proofs.TreeLemmas.{subtree_one}
 use Rattle.vm_tree.proofs.ApartLemmas.{all_above}
+use Rattle.vm_diff.specs.Entry.{Entry, EntriesFor}
 use Rattle.vm_diff.specs.Walk.{Walk, IsAhead, Under}
 use Rattle.vm_diff.specs.Front.{Front, front_of, next_of, place_of, opened_at}
 use Rattle.vm_diff.specs.Shared.{unshared}
 use Rattle.vm_diff.specs.Differ.{AreRising, Differ, Passes}
 use Rattle.vm_diff.specs.Steps.{StepsBy, Meet, moved_by}
 use Rattle.vm_diff.specs.declared.front.Step.{Step}
-use Rattle.vm_diff.specs.Front.Front.{End, Pair, Top}
-use Rattle.vm_diff.specs.declared.front.Next.TheVariants.{Record as OneRecord, Subtree}
+use Rattle.vm_diff.specs.Front.Front.{End, Pair, Far, Top}
+use Rattle.vm_diff.specs.declared.front.Next.TheVariants.{Record as OneRecord, Long, Subtree}
 use Rattle.vm_diff.proofs.ApartLemmas.{subtree_apart}
-use Rattle.vm_diff.proofs.OpenLemmas.{front_top, top_ahead, pair_passed}
-use Rattle.vm_diff.proofs.PayLemmas.{GoesFirst, lower_first, left_paid, right_paid}
+use Rattle.vm_diff.proofs.OpenLemmas.{front_top, top_ahead, pair_passed, far_ahead, far_passed}
+use Rattle.vm_diff.proofs.PayLemmas.{GoesFirst, far_once, lower_first, left_paid, right_paid}
 use Rattle.vm_diff.proofs.SharedLemmas.{skip_free}
 use Rattle.vm_diff.proofs.StartLemmas.{StartsAt, starts, above_start}
 use Rattle.vm_diff.proofs.DeltaLemmas.{rising_rest, rising_back, first_removed, first_added, first_both, shared_front}
@@ -114,7 +119,7 @@ module _ (sizes : Sizes) (x : Contents) (limit reads most : ℕ) where
   past_top walk now top rs bs front is under =
       let at = front_top walk.pending walk.tops top front in
       let next : IsAhead sizes x limit (record { pending = walk.pending; tops = drop 1 walk.tops }) rs bs =
-      record { later = rs; under = under; records = sym (ap (λ (ps : List Record). ps ++ rs) at.0) } in
+      record { next = []; later = rs; beside = []; below = bs; entries = subst (λ (es : List Entry). EntriesFor x limit es [] []) (sym at.0) (refl, refl); under = under; records = refl; blocks = refl } in
       subst (λ (w : Walk). IsAhead sizes x limit w rs bs) (sym is) next
 
   -- both walks have skipped one subtree
@@ -173,27 +178,55 @@ module _ (sizes : Sizes) (x : Contents) (limit reads most : ℕ) where
         },
       )
 
-  -- a step that has opened a subtree ahead of the first walk
-  pub left_opened : (one other now : Walk) (later : ℕ) (top : Root) (changes : List Change) (opened : Result ⊤ TreeFault) (result : Result Step TreeFault) → result ≡ moved_by opened → front_of one ≡ Top top → GoesFirst (Top top) (front_of other) → later ≤ reads + 1
-      → (d : Differ sizes x limit one other reads most changes) → OkOrDevice opened (λ _. Passes sizes x limit (Top top) None now d.first d.first_blocks) → StepsBy result changes (Differ sizes x limit now other later most)
-  left_opened one other now later top changes (Ok y) result is front first few d p =
+  -- a step that has opened a subtree, or read a long value, ahead of the first walk
+  pub left_opened : (one other now : Walk) (later : ℕ) (here : Front) (changes : List Change) (opened : Result ⊤ TreeFault) (result : Result Step TreeFault) → result ≡ moved_by opened → front_of one ≡ here → GoesFirst here (front_of other) → later ≤ reads + length (opened_at here)
+      → (d : Differ sizes x limit one other reads most changes) → OkOrDevice opened (λ _. Passes sizes x limit here None now d.first d.first_blocks) → StepsBy result changes (Differ sizes x limit now other later most)
+  left_opened one other now later here changes (Ok y) result is front first few d p =
       subst (λ (r : Result Step TreeFault). StepsBy r changes (Differ sizes x limit now other later most)) (sym is)
       (left_moved one other now later changes d
       (subst (λ f. GoesFirst f (front_of other)) (sym front) first)
       (subst (λ f. later ≤ reads + length (opened_at f)) (sym front) few)
       (subst (λ f. Passes sizes x limit f None now d.first d.first_blocks) (sym front) p))
-  left_opened one other now later top changes (Err e) result is front first few d p = subst (λ (r : Result Step TreeFault). StepsBy r changes (Differ sizes x limit now other later most)) (sym is) p
+  left_opened one other now later here changes (Err e) result is front first few d p = subst (λ (r : Result Step TreeFault). StepsBy r changes (Differ sizes x limit now other later most)) (sym is) p
 
   -- and ahead of the second
-  pub right_opened : (one other now : Walk) (later : ℕ) (top : Root) (changes : List Change) (opened : Result ⊤ TreeFault) (result : Result Step TreeFault) → result ≡ moved_by opened → front_of other ≡ Top top → GoesFirst (Top top) (front_of one) → later ≤ reads + 1
-      → (d : Differ sizes x limit one other reads most changes) → OkOrDevice opened (λ _. Passes sizes x limit (Top top) None now d.second d.second_blocks) → StepsBy result changes (Differ sizes x limit one now later most)
-  right_opened one other now later top changes (Ok y) result is front first few d p =
+  pub right_opened : (one other now : Walk) (later : ℕ) (here : Front) (changes : List Change) (opened : Result ⊤ TreeFault) (result : Result Step TreeFault) → result ≡ moved_by opened → front_of other ≡ here → GoesFirst here (front_of one) → later ≤ reads + length (opened_at here)
+      → (d : Differ sizes x limit one other reads most changes) → OkOrDevice opened (λ _. Passes sizes x limit here None now d.second d.second_blocks) → StepsBy result changes (Differ sizes x limit one now later most)
+  right_opened one other now later here changes (Ok y) result is front first few d p =
       subst (λ (r : Result Step TreeFault). StepsBy r changes (Differ sizes x limit one now later most)) (sym is)
       (right_moved one other now later changes d
       (subst (λ f. GoesFirst f (front_of one)) (sym front) first)
       (subst (λ f. later ≤ reads + length (opened_at f)) (sym front) few)
       (subst (λ f. Passes sizes x limit f None now d.second d.second_blocks) (sym front) p))
-  right_opened one other now later top changes (Err e) result is front first few d p = subst (λ (r : Result Step TreeFault). StepsBy r changes (Differ sizes x limit one now later most)) (sym is) p
+  right_opened one other now later here changes (Err e) result is front first few d p = subst (λ (r : Result Step TreeFault). StepsBy r changes (Differ sizes x limit one now later most)) (sym is) p
+
+  -- both walks have gone past a long value of one key in one block
+  pub both_linked : (one other one_now other_now : Walk) (key low : Key) (link there : Link) (changes : List Change) → front_of one ≡ Far key link → front_of other ≡ Far low there → link.block ≡ there.block
+      → one_now ≡ record { pending = drop 1 one.pending; tops = one.tops } → other_now ≡ record { pending = drop 1 other.pending; tops = other.tops }
+      → Differ sizes x limit one other reads most changes → Differ sizes x limit one_now other_now reads most changes
+  both_linked one other one_now other_now key low link there changes front_one front_other shared one_is other_is d =
+      let f = far_ahead sizes x limit one key link d.first d.first_blocks front_one d.first_ahead in
+      let g = far_ahead sizes x limit other low there d.second d.second_blocks front_other d.second_ahead in
+      let whose = long_one (block x link.block) key low f.whose.1 g.whose.1 f.behind.value (subst (λ b. IsLong (block x b) low g.whose.1) (sym shared) g.behind.value) in
+      let same : g.whose ≡ f.whose = λ i. ((g.behind.key_is ∙ sym whose.0 ∙ sym f.behind.key_is) i, sym whose.1 i) in
+      let second : d.second ≡ f.whose ∷ (g.rest ++ g.later) = g.records ∙ ap (λ (r : Record). r ∷ (g.rest ++ g.later)) same in
+      let second_blocks : d.second_blocks ≡ link.block ∷ (g.others ++ g.below) = g.blocks ∙ ap (λ b. b ∷ (g.others ++ g.below)) (sym shared) in
+      let first_rising = subst AreRising f.records d.first_rising in
+      let second_rising = subst AreRising second d.second_rising in
+      let left = far_once sizes x limit one other d.first d.second d.first_blocks d.second_blocks d.first_ahead d.second_ahead d.first_rising d.second_rising key link front_one in
+      let right = subst (λ b. Lacks b (g.others ++ g.below)) (sym shared) (far_once sizes x limit other one d.second d.first d.second_blocks d.first_blocks d.second_ahead d.first_ahead d.second_rising d.first_rising low there front_other) in
+      record {
+        first = f.rest ++ f.later;
+        second = g.rest ++ g.later;
+        first_blocks = f.others ++ f.below;
+        second_blocks = g.others ++ g.below;
+        first_ahead = far_passed sizes x limit one one_now key link d.first d.first_blocks front_one one_is d.first_ahead;
+        second_ahead = far_passed sizes x limit other other_now low there d.second d.second_blocks front_other other_is d.second_ahead;
+        first_rising = rising_rest f.whose (f.rest ++ f.later) first_rising;
+        second_rising = rising_rest f.whose (g.rest ++ g.later) second_rising;
+        differences = d.differences ∙ ap₂ delta f.records second ∙ shared_front (f.whose ∷ []) (f.rest ++ f.later) (g.rest ++ g.later) first_rising second_rising;
+        paid = omega (arith, d.paid, ap₂ unshared f.blocks second_blocks, skip_free (link.block ∷ []) (f.others ++ f.below) (g.others ++ g.below) (left, tt) (right, tt));
+      }
 
   -- records of one key have no difference, where their values are equal
   pub both_same : (one other one_now other_now : Walk) (key : Key) (v w : List ℕ) (changes : List Change) → front_of one ≡ Pair key v → (low : Key) × (front_of other ≡ Pair low w) × (place key ≡ place low) → bytes_eq v w ≡ true
@@ -260,12 +293,23 @@ module _ (sizes : Sizes) (x : Contents) (limit reads most : ℕ) where
 pub next_top : (front : Front) (top : Root) → next_of front ≡ Subtree top → front ≡ Top top
 next_top End top e = cc
 next_top (Pair key value) top e = cc
+next_top (Far key link) top e = cc
 next_top (Top t) top e = cc
 
 pub next_pair : (front : Front) (key : Key) → next_of front ≡ OneRecord key → (value : List ℕ) × (front ≡ Pair key value)
 next_pair End key e = cc
 next_pair (Pair low value) key e = let same : low ≡ key = cc in (value, ap (λ k. Pair k value) same)
+next_pair (Far k l) key e = cc
 next_pair (Top t) key e = cc
+
+pub next_far : (front : Front) (key : Key) (link : Link) → next_of front ≡ Long key link → front ≡ Far key link
+next_far End key link e = cc
+next_far (Pair k v) key link e = cc
+next_far (Far k l) key link e =
+    let keys : k ≡ key = cc in
+    let links : l ≡ link = cc in
+    ap₂ Far keys links
+next_far (Top t) key link e = cc
 
 pub record_or_top : (front : Front) (key : Key) (top : Root) → OneRecord key ≡ next_of front → front ≡ Top top → ⊥
 record_or_top front key top is at = let both : OneRecord key ≡ Subtree top = is ∙ ap next_of at in cc

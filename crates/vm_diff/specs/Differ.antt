@@ -12,7 +12,6 @@ use Rattle.vm_tree.specs.Root.{IsRooted}
 use Rattle.vm_tree.specs.declared.root.Root.{Root}
 use Rattle.vm_tree.specs.declared.root.TreeFault.{TreeFault}
 use Rattle.vm_diff.specs.Front.{Front, opened_at}
-use Rattle.vm_diff.specs.Front.Front.{Top}
 use Rattle.vm_diff.specs.Opened.{HasNoValue, HasValue}
 use Rattle.vm_diff.specs.Shared.{unshared}
 use Rattle.vm_diff.specs.Steps.{StepsBy}
@@ -39,7 +38,7 @@ pub record Differ (sizes : Sizes) (x : Contents) (limit : ℕ) (one other : Walk
   pub paid : reads + unshared first_blocks second_blocks ≤ most
 
 -- what is left of records and blocks ahead of a walk that stood before this: a record may have been taken from the front, or a
--- subtree opened
+-- subtree or the block of a long value opened
 pub record Passes (sizes : Sizes) (x : Contents) (limit : ℕ) (front : Front) (taken : Option Record) (walk : Walk) (rs : List Record) (bs : List ℕ) : Type 0 where
   pub rest : List Record
   pub rest_blocks : List ℕ
@@ -107,8 +106,9 @@ PassesChange key one other one_now other_now =
     (before after : Option (List ℕ)) → IsValueAt before key one → IsValueAt after key other
     → TakesChange (record { key = key; before = before; after = after }) one other one_now other_now
 
--- what lies under this top, on a disk that is honest after the call, takes its place, unless the device fails
-abbrev pub Opens : {T : Type 0} → Result T TreeFault → DiskState → DiskState → ℕ → Root → Walk → Walk → Type 0
-Opens result old new limit top walk later =
+-- what lies in the block before which the walk stands, on a disk that is honest after the call, takes its place, unless the device
+-- fails
+abbrev pub Opens : {T : Type 0} → Result T TreeFault → DiskState → DiskState → ℕ → Front → Walk → Walk → Type 0
+Opens result old new limit front walk later =
     new.honest ≡ true → (sizes : Sizes) (rs : List Record) (bs : List ℕ) → IsAhead sizes old.now.contents limit walk rs bs
-    → OkOrDevice result (λ _. Passes sizes old.now.contents limit (Top top) None later rs bs)
+    → OkOrDevice result (λ _. Passes sizes old.now.contents limit front None later rs bs)

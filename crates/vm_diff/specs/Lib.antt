@@ -1,3 +1,4 @@
+pub mod Entry
 pub mod Walk
 pub mod Rows
 pub mod Ahead

@@ -1,15 +1,16 @@
 -- Walks through trees: what lies ahead of one, and how much that is.
-use Rattle.std.specs.Prelude.{◌≡◌, ℕ, zero, suc, ◌+◌, ◌*◌, List, [], ◌∷◌, ◌++◌, length, map, drop}
+use Rattle.std.specs.Prelude.{◌≡◌, ℕ, zero, suc, ◌+◌, ◌*◌, List, [], ◌∷◌, ◌++◌, map, drop}
 use Rattle.vm_disk.specs.Disk.{Contents}
 use Rattle.vm_block.specs.Leaf.{Record, BeginsWith}
 use Rattle.vm_block.specs.declared.node.Child.{Child}
 use Rattle.vm_tree.specs.Tree.{Sizes, Subtree}
 use Rattle.vm_tree.specs.declared.root.Root.{Root}
+use Rattle.vm_diff.specs.Entry.{Entry, EntriesFor, steps_past}
 
 -- a walk through a tree
 pub record Walk : Type 0 where
-  -- the records that come next, from a leaf that is open
-  pub pending : List Record
+  -- what comes next, from a leaf that is open
+  pub pending : List Entry
   -- the tops of the subtrees that come then
   pub tops : List Root
 
@@ -21,7 +22,7 @@ walk_of tops = record { pending = []; tops = tops }
 abbrev pub tops_of : ℕ → List Child → List Root
 tops_of level cs = map (λ c. record { block = c.block; level = level; low = c.low }) cs
 
--- the walk past its first record
+-- the walk past its first entry
 abbrev pub past_record : Walk → Walk
 past_record walk = record { pending = drop 1 walk.pending; tops = walk.tops }
 
@@ -31,7 +32,7 @@ into_tops tops walk = record { pending = walk.pending; tops = tops ++ drop 1 wal
 
 -- more than all that a top of this level is opened into, whatever the blocks hold
 unfoldable pub weight : ℕ → ℕ
-weight zero = 17
+weight zero = 33
 weight (suc level) = 257 * weight level
 
 abbrev pub weight_of : List Root → ℕ
@@ -40,7 +41,7 @@ weight_of (t ∷ ts) = weight t.level + weight_of ts
 
 -- how much is ahead of a walk at most
 abbrev pub size : Walk → ℕ
-size walk = length walk.pending + weight_of walk.tops
+size walk = steps_past walk.pending + weight_of walk.tops
 
 -- under these tops lie these records, joined, in these blocks
 abbrev pub Under : Sizes → Contents → ℕ → List Root → List Record → List ℕ → Type 0
@@ -50,8 +51,14 @@ Under sizes x limit (t ∷ ts) rs bs =
     × Subtree sizes x limit t.level t.block first own × BeginsWith t.low first × Under sizes x limit ts rest others
     × (rs ≡ first ++ rest) × (bs ≡ own ++ others)
 
--- these records are ahead of the walk, and the subtrees that it has not opened lie in these blocks
+-- these records are ahead of the walk, in these blocks: the long values of the leaf that is open, which it has not read, and the
+-- subtrees that it has not opened
 pub record IsAhead (sizes : Sizes) (x : Contents) (limit : ℕ) (walk : Walk) (rs : List Record) (bs : List ℕ) : Type 0 where
+  pub next : List Record
   pub later : List Record
-  pub under : Under sizes x limit walk.tops later bs
-  pub records : rs ≡ walk.pending ++ later
+  pub beside : List ℕ
+  pub below : List ℕ
+  pub entries : EntriesFor x limit walk.pending next beside
+  pub under : Under sizes x limit walk.tops later below
+  pub records : rs ≡ next ++ later
+  pub blocks : bs ≡ beside ++ below

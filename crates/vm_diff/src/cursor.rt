@@ -1,21 +1,24 @@
 //! A walk through a tree, by rising keys.
 ghost use Rattle.std.specs.Prelude.{◌≡◌, ◌≢◌, ◌+◌, ◌^◌, ◌<◌, ◌≤◌, [], ◌∷◌, length, drop, option_copied, IsFalse, IsTrue, IfSome, OnOk};
+ghost use Rattle.vm_types.specs.Bytes.{longest};
 ghost use Rattle.vm_tree.specs.Calls.{OnlyLooks};
 ghost use Rattle.vm_diff.specs.Walk.{Walk, past_record, walk_of};
 ghost use Rattle.vm_diff.specs.Ahead.{PassedBoth, first_top, tops_in};
 ghost use Rattle.vm_diff.specs.Front.{front_of, next_of, place_of};
-ghost use Rattle.vm_diff.specs.Front.Front.{Top};
-ghost use Rattle.vm_diff.specs.Opened.{GoesPast, HasNoValue, HasValue, IsIntoRecords, IsIntoTops, IsNextValue, OpensLeaf, OpensNode, Stays};
+ghost use Rattle.vm_diff.specs.Front.Front.{Far, Top};
+ghost use Rattle.vm_diff.specs.Opened.{GoesPast, HasNoValue, HasValue, IsIntoRecord, IsIntoRecords, IsIntoTops, IsNextValue, OpensLeaf, OpensLong, OpensNode, Stays};
 
 use crate::children::Children;
 use crate::front::Next;
 use crate::records::Records;
 use std::marker::Model;
+use vm_block::Link;
 use vm_disk::Disk;
 use vm_tree::{Root, TreeFault};
 use vm_types::Key;
 
-/// A walk through a tree: the records of the leaf that is open, and then the subtrees that are not
+/// A walk through a tree: the records of the leaf that is open (and the block of a long value, where
+/// one was read), and then the subtrees that are not
 /// open yet, those of each level in the inner block one level above. The root is the one child at its own level.
 #[derive(Drop)]
 pub(crate) struct Cursor {
@@ -53,7 +56,7 @@ fn next_top(levels: &[Children; 8]) -> Option<Root>
 }
 
 impl Cursor {
-    /// A walk at its end. It has room for nine blocks, so it is made where it stays, and begun
+    /// A walk at its end. It has room for ten blocks, so it is made where it stays, and begun
     /// there.
     pub(crate) fn empty() -> Cursor
         ensures { result ≡ walk_of [] }
@@ -96,12 +99,12 @@ impl Cursor {
     pub(crate) fn next(&self) -> Next
         ensures { result ≡ next_of (front_of self.now) }
     {
-        if let Some(key) = self.records.key() {
-            return Next::Record(key);
-        }
-        match next_top(&self.levels) {
-            Some(top) => Next::Subtree(top),
-            None => Next::End,
+        match self.records.next() {
+            Next::End => match next_top(&self.levels) {
+                Some(top) => Next::Subtree(top),
+                None => Next::End,
+            },
+            next => next,
         }
     }
 
@@ -112,7 +115,7 @@ impl Cursor {
     {
         match self.next() {
             Next::End => 1 << 80,
-            Next::Record(key) => key.place(),
+            Next::Record(key) | Next::Long(key, _) => key.place(),
             Next::Subtree(top) => top.low.place(),
         }
     }
@@ -120,7 +123,7 @@ impl Cursor {
     /// The bytes of the value of the record that the walk stands before.
     pub(crate) fn value(&self) -> &[u8]
         ensures value { IsNextValue result.now self.now }
-        ensures short { length result.now ≤ 240 }
+        ensures short { length result.now ≤ longest }
     {
         self.records.value()
     }
@@ -136,7 +139,7 @@ impl Cursor {
     pub(crate) fn value_at(&self, key: Key) -> Option<&[u8]>
         ensures there { HasValue (option_copied result) key self.now }
         ensures none { HasNoValue (option_copied result) key self.now }
-        ensures short { IfSome result (λ bytes. length bytes.now ≤ 240) }
+        ensures short { IfSome result (λ bytes. length bytes.now ≤ longest) }
     {
         match self.records.key() {
             Some(low) if low.place() == key.place() => Some(self.records.value()),
@@ -185,6 +188,27 @@ impl Cursor {
         self.records.read(disk, blocks, top.block)
     }
 
+    /// Reads the long value that the walk stands before: the record takes the place of the link to it.
+    pub(crate) fn open_long<D: Disk>(
+        &mut self,
+        disk: &mut D,
+        blocks: u32,
+        key: Key,
+        link: Link,
+    ) -> Result<(), TreeFault>
+        requires blocks { blocks ≤ (D.state disk.old).blocks }
+        requires front { front_of self.old ≡ Far key link }
+        ensures looks { OnlyLooks result (D.state disk.old) (D.state disk.new) }
+        ensures deep { result ≢ Err TreeFault.Deep }
+        ensures memory { result ≢ Err TreeFault.Memory }
+        ensures once { (D.state disk.new).reads ≤ (D.state disk.old).reads + 1 }
+        ensures record { OnOk result (IsIntoRecord self.old self.new) }
+        ensures only { OpensLong result (D.state disk.old) (D.state disk.new)
+            blocks key link self.old self.new }
+    {
+        self.records.read_next(disk, blocks, key, link)
+    }
+
     /// Opens the inner block that the walk stands before: the subtrees under it take its place.
     pub(crate) fn open_node<D: Disk>(
         &mut self,
@@ -217,7 +241,7 @@ pub(crate) fn pass_records(one: &mut Cursor, other: &mut Cursor) -> bool
     ensures none { IsTrue result → (one.new.pending ≡ []) × (other.new.pending ≡ []) }
 {
     one.records.pass_shared(&mut other.records);
-    one.records.key().is_none() && other.records.key().is_none()
+    one.records.is_empty() && other.records.is_empty()
 }
 
 /// Goes past the subtrees with which what is ahead of both walks begins, as far as they stand in one

@@ -1,12 +1,15 @@
 //! What a walk stands before, and what a step of two walks comes to.
+use vm_block::Link;
 use vm_tree::Root;
 use vm_types::Key;
 
-/// What a walk stands before: a record with this key, or a subtree.
+/// What a walk stands before: a record with this key, a key with the link to its long value, which
+/// is not read yet, or a subtree.
 #[derive(Clone, Copy, Debug)]
 pub(crate) enum Next {
     End,
     Record(Key),
+    Long(Key, Link),
     Subtree(Root),
 }
 

@@ -1,14 +1,16 @@
-//! Opening the subtree that a walk stands before.
+//! Opening the subtree, or reading the long value, that a walk stands before.
 ghost use Rattle.std.specs.Prelude.{◌≡◌, ◌≢◌, ◌+◌, ◌≤◌, ◌<◌, OnOk};
 ghost use Rattle.vm_tree.specs.Calls.{OnlyLooks};
 ghost use Rattle.vm_diff.specs.Walk.{size};
 ghost use Rattle.vm_diff.specs.Front.{front_of};
-ghost use Rattle.vm_diff.specs.Front.Front.{Top};
+ghost use Rattle.vm_diff.specs.Front.Front.{Far, Top};
 ghost use Rattle.vm_diff.specs.Differ.{Opens};
 
 use crate::cursor::Cursor;
+use vm_block::Link;
 use vm_disk::Disk;
 use vm_tree::{Root, TreeFault};
+use vm_types::Key;
 
 /// Opens the subtree that the walk stands before, by one read: what lies under it takes its place.
 pub(crate) fn open<D: Disk>(
@@ -25,11 +27,33 @@ pub(crate) fn open<D: Disk>(
     ensures once { (D.state disk.new).reads ≤ (D.state disk.old).reads + 1 }
     ensures falls { OnOk result (size walk.new < size walk.old) }
     ensures opens { Opens result (D.state disk.old) (D.state disk.new)
-        blocks top walk.old walk.new }
+        blocks (Top top) walk.old walk.new }
 {
     if top.level == 0 {
         walk.open_leaf(disk, blocks, top)
     } else {
         walk.open_node(disk, blocks, top)
     }
+}
+
+/// Reads the long value that the walk stands before, by one read: the record takes the place of the
+/// link to it.
+pub(crate) fn open_long<D: Disk>(
+    disk: &mut D,
+    blocks: u32,
+    walk: &mut Cursor,
+    key: Key,
+    link: Link,
+) -> Result<(), TreeFault>
+    requires blocks { blocks ≤ (D.state disk.old).blocks }
+    requires front { front_of walk.old ≡ Far key link }
+    ensures looks { OnlyLooks result (D.state disk.old) (D.state disk.new) }
+    ensures deep { result ≢ Err TreeFault.Deep }
+    ensures memory { result ≢ Err TreeFault.Memory }
+    ensures once { (D.state disk.new).reads ≤ (D.state disk.old).reads + 1 }
+    ensures falls { OnOk result (size walk.new < size walk.old) }
+    ensures opens { Opens result (D.state disk.old) (D.state disk.new)
+        blocks (Far key link) walk.old walk.new }
+{
+    walk.open_long(disk, blocks, key, link)
 }

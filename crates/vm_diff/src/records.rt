@@ -1,36 +1,46 @@
-//! The records of a leaf that come next, in the leaf's bytes.
-ghost use Rattle.std.specs.Prelude.{◌≡◌, ◌≢◌, ◌+◌, ◌≤◌, [], drop, length, OnOk};
+//! The records of a leaf that come next, in the leaf's bytes and in those of the block of a long value.
+ghost use Rattle.std.specs.Prelude.{◌≡◌, ◌≢◌, ◌+◌, ◌≤◌, ◌<◌, [], ◌∷◌, drop, length, IfSome, IsTrue, OnOk};
+ghost use Rattle.vm_types.specs.Bytes.{longest};
 ghost use Rattle.vm_block.specs.Row.{leaf_row};
 ghost use Rattle.vm_tree.specs.Calls.{OnlyLooks};
-ghost use Rattle.vm_diff.specs.Ahead.{PassedBoth, first_key, first_value};
-ghost use Rattle.vm_diff.specs.Opened.{HoldsLeaf};
-ghost use Rattle.vm_diff.specs.Rows.{AreSameRows};
+ghost use Rattle.vm_diff.specs.Ahead.{PassedBoth, first_key};
+ghost use Rattle.vm_diff.specs.Front.{first_of, next_of};
+ghost use Rattle.vm_diff.specs.Front.Front.{Far};
+ghost use Rattle.vm_diff.specs.Opened.{HasLen, HoldsLeaf, HoldsLong, IsFirstValue, IsRecordBefore};
+ghost use Rattle.vm_diff.specs.Rows.{AreSameRows, entry_of};
 
+use crate::front::Next;
+use byteorder::{ByteOrder, LittleEndian};
 use std::marker::Model;
-use vm_block::{record_key, record_row, record_value};
+use vm_block::{Link, read_long, record_key, record_row, record_value, rows_size};
 use vm_disk::Disk;
-use vm_tree::{TreeFault, leaf_into};
-use vm_types::Key;
+use vm_tree::{TreeFault, data_at};
+use vm_types::{Key, Value};
 
-/// The records of a leaf from one on, where they stand in its bytes.
+/// The records of a leaf from one on, where they stand in its bytes. One may come before them: the
+/// one whose long value was read, with the block that has the value.
 #[derive(Drop)]
 pub(crate) struct Records {
     bytes: [u8; 4096],
     at: usize,
     count: usize,
+    long: [u8; 4096],
+    len: usize,
+    held: Option<Key>,
 }
 
 impl Model for Records {
     ghost use Rattle.std.specs.Prelude.{List, ◌-◌, ◌≤◌};
-    ghost use Rattle.vm_block.specs.Leaf.{Record};
+    ghost use Rattle.vm_diff.specs.Entry.{Entry};
 
-    ghost Value = { List Record };
+    ghost Value = { List Entry };
 
-    ghost use Rattle.vm_diff.specs.Rows.{records_from};
+    ghost use Rattle.vm_diff.specs.Rows.{entries_from, with_held};
+    ghost use Rattle.vm_types.specs.Bytes.{longest};
 
-    ghost view = { λ r. records_from r.bytes r.at (r.count - r.at) };
+    ghost view = { λ r. with_held r.held r.long r.len (entries_from r.bytes r.at (r.count - r.at)) };
 
-    ghost invariant = { λ r. (r.at ≤ r.count) × (r.count ≤ 16) };
+    ghost invariant = { λ r. (r.at ≤ r.count) × (r.count ≤ 16) × (r.len ≤ longest) };
 }
 
 impl Records {
@@ -42,6 +52,20 @@ impl Records {
             bytes: [0; 4096],
             at: 0,
             count: 0,
+            long: [0; 4096],
+            len: 0,
+            held: None,
+        }
+    }
+
+    /// What comes next.
+    pub(crate) fn next(&self) -> Next
+        ensures { result ≡ next_of (first_of self.now []) }
+    {
+        match self.held {
+            Some(key) => Next::Record(key),
+            None if self.at == self.count => Next::End,
+            None => entry_at(&self.bytes, self.at),
         }
     }
 
@@ -49,22 +73,24 @@ impl Records {
     pub(crate) fn key(&self) -> Option<Key>
         ensures { result ≡ first_key self.now }
     {
-        if self.at < self.count {
-            Some(record_key(&self.bytes, self.at))
-        } else {
-            None
+        match self.next() {
+            Next::Record(key) => Some(key),
+            _ => None,
         }
     }
 
     /// The bytes of the value of the next record.
     pub(crate) fn value(&self) -> &[u8]
-        ensures value { result.now ≡ first_value self.now }
-        ensures short { length result.now ≤ 240 }
+        ensures value { IsFirstValue result.now self.now }
+        ensures short { length result.now ≤ longest }
     {
-        if self.at < self.count {
-            record_value(&self.bytes, self.at)
-        } else {
-            &[]
+        match self.held {
+            Some(_) => {
+                prove!(self.len <= Value::MAX_LEN);
+                &self.long[26..26 + self.len]
+            }
+            None if self.at < self.count => record_value(&self.bytes, self.at),
+            None => &[],
         }
     }
 
@@ -72,15 +98,33 @@ impl Records {
     pub(crate) fn pass(&mut self)
         ensures { self.new ≡ drop 1 self.old }
     {
-        if self.at < self.count {
-            self.at += 1;
+        match self.held {
+            Some(_) => self.held = None,
+            None => {
+                if self.at < self.count {
+                    self.at += 1;
+                }
+            }
         }
     }
 
-    /// Goes past the records with which both lists begin, as far as their bytes are equal.
+    /// Whether none comes.
+    pub(crate) fn is_empty(&self) -> bool
+        ensures { IsTrue result → self.now ≡ [] }
+    {
+        match self.held {
+            None if self.at == self.count => true,
+            _ => false,
+        }
+    }
+
+    /// Goes past the rows with which both lists begin, as far as their bytes are equal.
     pub(crate) fn pass_shared(&mut self, other: &mut Records)
         ensures { PassedBoth self.old other.old self.new other.new }
     {
+        let (None, None) = (self.held, other.held) else {
+            return;
+        };
         let (here, there) = (self.count - self.at, other.count - other.at);
         let most = if here < there { here } else { there };
         let shared = shared_records(&self.bytes, self.at, &other.bytes, other.at, most);
@@ -103,10 +147,72 @@ impl Records {
         ensures few { OnOk result (length self.new ≤ 16) }
         ensures only { HoldsLeaf result (D.state disk.old) (D.state disk.new) blocks block self.new }
     {
-        let count = leaf_into(disk, blocks, block, &mut self.bytes)?;
+        data_at(disk, blocks, block, &mut self.bytes)?;
+        let Some(count) = rows_size(&self.bytes) else {
+            return Err(TreeFault::Damaged(block));
+        };
         self.at = 0;
         self.count = count;
+        self.held = None;
         Ok(())
+    }
+
+    /// Reads the block of the long value that comes next, by one read: the record takes the place of
+    /// the link to it.
+    pub(crate) fn read_next<D: Disk>(
+        &mut self,
+        disk: &mut D,
+        blocks: u32,
+        key: Key,
+        link: Link,
+    ) -> Result<(), TreeFault>
+        requires blocks { blocks ≤ (D.state disk.old).blocks }
+        requires front { first_of self.old [] ≡ Far key link }
+        ensures looks { OnlyLooks result (D.state disk.old) (D.state disk.new) }
+        ensures deep { result ≢ Err TreeFault.Deep }
+        ensures memory { result ≢ Err TreeFault.Memory }
+        ensures once { (D.state disk.new).reads ≤ (D.state disk.old).reads + 1 }
+        ensures record { OnOk result (IsRecordBefore self.new (drop 1 self.old)) }
+        ensures only { HoldsLong result (D.state disk.old) (D.state disk.new)
+            blocks key link self.old self.new }
+    {
+        data_at(disk, blocks, link.block, &mut self.long)?;
+        let Some(len) = long_len(&self.long, key, link) else {
+            return Err(TreeFault::Damaged(link.block));
+        };
+        self.len = len;
+        self.held = Some(key);
+        self.at += 1;
+        Ok(())
+    }
+}
+
+/// What the row at i of a leaf has of its record.
+fn entry_at(bytes: &[u8; 4096], i: usize) -> Next
+    requires { i < 16 }
+    ensures { result ≡ next_of (first_of (entry_of (leaf_row bytes.now i) ∷ []) []) }
+{
+    let key = record_key(bytes, i);
+    let row = record_row(bytes, i);
+    let len = LittleEndian::read_u16(&row[10..]);
+    if len <= 240 {
+        return Next::Record(key);
+    }
+    let block = LittleEndian::read_u32(&row[12..]);
+    Next::Long(key, Link { len, block })
+}
+
+/// The number of bytes of the value of a key in its block. None, where the block isn't the key's, or
+/// the link says another number.
+fn long_len(bytes: &[u8; 4096], key: Key, link: Link) -> Option<usize>
+    ensures few { IfSome result (λ len. len ≤ longest) }
+    ensures only { HasLen bytes.now key link result }
+{
+    match read_long(bytes) {
+        Some((found, value)) if found == key && value.len() == usize::from(link.len) => {
+            Some(value.len())
+        }
+        _ => None,
     }
 }
 

@@ -4,15 +4,16 @@ ghost use Rattle.vm_types.specs.Places.{place};
 ghost use Rattle.vm_tree.specs.Calls.{OnlyLooks};
 ghost use Rattle.vm_diff.specs.Walk.{size};
 ghost use Rattle.vm_diff.specs.Front.{front_of, next_of, place_of};
-ghost use Rattle.vm_diff.specs.Front.Front.{Top};
+ghost use Rattle.vm_diff.specs.Front.Front.{Far, Top};
 ghost use Rattle.vm_diff.specs.Differ.{PassesChange, ReadsWithin, Steps, StepsUnread};
 ghost use Rattle.vm_diff.specs.Opened.{StandsAt};
 ghost use Rattle.vm_diff.specs.Steps.{Falls, FoundBy, Meet, moved_by};
 
 use crate::cursor::Cursor;
 use crate::front::{Next, Step};
-use crate::opening::open;
+use crate::opening::{open, open_long};
 use crate::skipping::skip_shared;
+use vm_block::Link;
 use vm_disk::Disk;
 use vm_tree::{Root, TreeFault};
 use vm_types::Key;
@@ -80,6 +81,29 @@ fn meet_pairs(one: &mut Cursor, other: &mut Cursor, key: Key) -> Step
     }
 }
 
+/// The step where both walks stand before a long value of one key in one block, which is not read.
+fn meet_links(
+    one: &mut Cursor,
+    other: &mut Cursor,
+    key: Key,
+    link: Link,
+    low: Key,
+    there: Link,
+) -> Step
+    requires first { front_of one.old ≡ Far key link }
+    requires second { front_of other.old ≡ Far low there }
+    requires block { link.block ≡ there.block }
+    ensures falls { Falls (Ok result) (size one.old + size other.old)
+        (size one.new + size other.new) }
+    ensures found { FoundBy (Ok result) (front_of one.new) (front_of other.new) }
+    ensures steps { StepsUnread (Ok result) one.old other.old one.new other.new }
+{
+    one.take();
+    other.take();
+    skip_shared(one, other);
+    Step::Moved
+}
+
 /// The step where both walks stand at the same key, or both at the end.
 fn meet<D: Disk>(
     disk: &mut D,
@@ -105,11 +129,20 @@ fn meet<D: Disk>(
         },
         Next::Record(key) => match other.next() {
             Next::Subtree(second) => moved(open(disk, blocks, other, second)),
+            Next::Long(low, link) => moved(open_long(disk, blocks, other, low, link)),
             Next::Record(_) => Ok(meet_pairs(one, other, key)),
             Next::End => Ok(Step::Done),
         },
+        Next::Long(key, link) => match other.next() {
+            Next::Subtree(second) => moved(open(disk, blocks, other, second)),
+            Next::Long(low, there) if link.block == there.block => {
+                Ok(meet_links(one, other, key, link, low, there))
+            }
+            _ => moved(open_long(disk, blocks, one, key, link)),
+        },
         Next::End => match other.next() {
             Next::Subtree(second) => moved(open(disk, blocks, other, second)),
+            Next::Long(low, link) => moved(open_long(disk, blocks, other, low, link)),
             _ => Ok(Step::Done),
         },
     }
@@ -137,6 +170,7 @@ pub(crate) fn step<D: Disk>(
     if here < there {
         return match one.next() {
             Next::Record(key) => Ok(Step::Found(key)),
+            Next::Long(key, link) => moved(open_long(disk, blocks, one, key, link)),
             Next::Subtree(top) => moved(open(disk, blocks, one, top)),
             Next::End => Ok(Step::Done),
         };
@@ -144,6 +178,7 @@ pub(crate) fn step<D: Disk>(
     if there < here {
         return match other.next() {
             Next::Record(key) => Ok(Step::Found(key)),
+            Next::Long(key, link) => moved(open_long(disk, blocks, other, key, link)),
             Next::Subtree(top) => moved(open(disk, blocks, other, top)),
             Next::End => Ok(Step::Done),
         };

@@ -11,7 +11,8 @@ use Rattle.vm_block.proofs.EachLemmas.{each_front, each_back, each_join, each_so
 use Rattle.vm_block.proofs.FormLemmas.{node_or_long, rows_or_long}
 use Rattle.vm_block.proofs.LongLemmas.{long_one}
 use Rattle.vm_block.proofs.NodeLemmas.{node_one}
-use Rattle.vm_tree.specs.Tree.{Sizes, Children, LeafHolds, Subtree, longest}
+use Rattle.vm_tree.specs.Tree.{Sizes, Children, LeafHolds, Subtree}
+use Rattle.vm_types.specs.Bytes.{longest}
 use Rattle.vm_tree.specs.Replacing.{Lacks, Apart}
 use Rattle.vm_tree.proofs.TreeLemmas.{subtree_one}
 use Rattle.vm_tree.proofs.HoldingLemmas.{IsLongOf, all_long, each_whose, holds_or_node, holds_some}

@@ -1,22 +1,25 @@
 -- The way down to a place: the child that is chosen holds all records that could stand there.
-use Rattle.std.proofs.Common.{◌≡◌, ℕ, zero, suc, ◌+◌, ◌-◌, ◌<◌, ◌≤◌, List, [], ◌∷◌, ◌++◌, length, get_or, take, drop, Option, option_copied, Result, Ok, Err, sym, ap, ◌∙◌, subst, arith, length-drop, get_or-drop}
+use Rattle.std.proofs.Common.{◌≡◌, ℕ, zero, suc, ◌+◌, ◌-◌, ◌<◌, ◌≤◌, List, [], ◌∷◌, ◌++◌, length, get_or, take, drop, Option, Result, Ok, Err, sym, ap, ◌∙◌, subst, arith, length-drop, get_or-drop}
 use Rattle.std.specs.Prelude.{slice_index}
-use Rattle.std.specs.Borrow.{Bor}
 use Rattle.std.proofs.lemmas.List.{length-map, get_or-map, drop-map}
 use Rattle.vm_types.specs.declared.key.Key.{Key}
-use Rattle.vm_types.specs.Places.{place, RisesFrom, places, value_at}
+use Rattle.vm_types.specs.Bytes.{longest}
+use Rattle.vm_types.specs.Map.{get}
+use Rattle.vm_types.specs.Places.{KeyFits, place, RisesFrom, places, value_at}
+use Rattle.vm_types.proofs.Bridge.{value_at-get}
 use Rattle.vm_disk.specs.Disk.{Contents, block, Medium}
 use Rattle.vm_block.specs.Leaf.{Record, BeginsWith}
 use Rattle.vm_block.specs.Node.{IsNode, lows}
 use Rattle.vm_block.specs.Way.{IsChosen, Lowest, Takes}
 use Rattle.vm_block.specs.declared.node.Child.{Child}
+use Rattle.vm_block.proofs.EachLemmas.{each_so}
 use Rattle.vm_block.proofs.NodeLemmas.{node_one}
-use Rattle.vm_tree.specs.Tree.{Sizes, IsData, Children, Subtree}
+use Rattle.vm_tree.specs.Tree.{Sizes, IsData, IsWithin, Children, Subtree}
 use Rattle.vm_tree.specs.Answers.{OkOrDevice}
-use Rattle.vm_tree.specs.Reading.{IsLeafAt, IsNodeAt}
+use Rattle.vm_tree.specs.Giving.{IsLeafWith}
+use Rattle.vm_tree.specs.Reading.{IsNodeAt}
 use Rattle.vm_tree.specs.declared.root.TreeFault.{TreeFault}
-use Rattle.vm_tree.proofs.TreeLemmas.{leaf_opens, node_opens}
-use Rattle.vm_tree.proofs.HoldingLemmas.{short_leaf}
+use Rattle.vm_tree.proofs.TreeLemmas.{node_opens, subtree_fit}
 use Rattle.vm_tree.proofs.Rising.{Below, Above, rises_front, rises_back, rises_before, rises_above, below_more, value_between}
 use Rattle.vm_tree.proofs.Splitting.{SplitAt, split_at}
 
@@ -110,38 +113,37 @@ pub ok_map : {T : Type 0} (result : Result T TreeFault) (P Q : T → Type 0) →
 ok_map (Ok x) P Q h so = so x h
 ok_map (Err e) P Q h so = h
 
--- the value under a chosen child is the value under its parent
-pub node_value : (sizes : Sizes) (old mid : Medium) (limit level b p : ℕ) (rs : List Record) (bs : List ℕ) (cs : List Child) (i : ℕ) (d : Child) (result : Result (Option (Bor (List ℕ))) TreeFault)
+-- what is answered of the value under a chosen child holds of the value under its parent
+pub node_value : {T : Type 0} (P : Option (List ℕ) → T → Type 0) (sizes : Sizes) (old mid : Medium) (limit level b p : ℕ) (rs : List Record) (bs : List ℕ) (cs : List Child) (i : ℕ) (d : Child) (result : Result T TreeFault)
     → mid ≡ old → 0 < level → Subtree sizes old.contents limit level b rs bs → RisesFrom 0 (places rs)
     → ((ds : List Child) → IsNodeAt old.contents limit level b ds → length ds ≤ sizes.fan → cs ≡ ds) → IsChosen (lows cs) p i
-    → ((sub : List Record) (own : List ℕ) → Subtree sizes mid.contents limit (level - 1) (get_or cs i d).block sub own → BeginsWith (get_or cs i d).low sub → RisesFrom 0 (places sub) → OkOrDevice result (λ value. option_copied value ≡ value_at p sub))
-    → OkOrDevice result (λ value. option_copied value ≡ value_at p rs)
-node_value sizes old mid limit level b p rs bs cs i d result still above tree rises only chosen below =
+    → ((sub : List Record) (own : List ℕ) → Subtree sizes mid.contents limit (level - 1) (get_or cs i d).block sub own → BeginsWith (get_or cs i d).low sub → RisesFrom 0 (places sub) → OkOrDevice result (P (value_at p sub)))
+    → OkOrDevice result (P (value_at p rs))
+node_value P sizes old mid limit level b p rs bs cs i d result still above tree rises only chosen below =
     let at = opens sizes old.contents limit level b p rs bs cs i d above tree rises only chosen in
     let s = at.way.split in
     let child = subst (λ (m : Medium). Subtree sizes m.contents limit (level - 1) (get_or cs i d).block s.sub s.own) (sym still) s.child in
-    ok_map result (λ value. option_copied value ≡ value_at p s.sub) (λ value. option_copied value ≡ value_at p rs) (below s.sub s.own child s.begins at.way.rising)
-    (λ value is. is ∙ sym (ap (value_at p) s.records ∙ value_between p s.before s.sub s.after at.way.below at.way.above))
+    subst (λ (value : Option (List ℕ)). OkOrDevice result (P value)) (sym (ap (value_at p) s.records ∙ value_between p s.before s.sub s.after at.way.below at.way.above))
+    (below s.sub s.own child s.begins at.way.rising)
 
 -- the same of a child that was found in the bytes of its parent
-pub way_value : (sizes : Sizes) (old mid : Medium) (limit level b p : ℕ) (rs : List Record) (bs : List ℕ) (cs : List Child) (i : ℕ) (c : Child) (result : Result (Option (Bor (List ℕ))) TreeFault)
+pub way_value : {T : Type 0} (P : Option (List ℕ) → T → Type 0) (sizes : Sizes) (old mid : Medium) (limit level b p : ℕ) (rs : List Record) (bs : List ℕ) (cs : List Child) (i : ℕ) (c : Child) (result : Result T TreeFault)
     → mid ≡ old → 0 < level → Subtree sizes old.contents limit level b rs bs → RisesFrom 0 (places rs) → IsNodeAt old.contents limit level b cs → Takes cs p i c
-    → ((sub : List Record) (own : List ℕ) → Subtree sizes mid.contents limit (level - 1) c.block sub own → BeginsWith c.low sub → RisesFrom 0 (places sub) → OkOrDevice result (λ value. option_copied value ≡ value_at p sub))
-    → OkOrDevice result (λ value. option_copied value ≡ value_at p rs)
-way_value sizes old mid limit level b p rs bs cs i c result still above tree rises at takes below =
-    node_value sizes old mid limit level b p rs bs cs i c result still above tree rises
+    → ((sub : List Record) (own : List ℕ) → Subtree sizes mid.contents limit (level - 1) c.block sub own → BeginsWith c.low sub → RisesFrom 0 (places sub) → OkOrDevice result (P (value_at p sub)))
+    → OkOrDevice result (P (value_at p rs))
+way_value P sizes old mid limit level b p rs bs cs i c result still above tree rises at takes below =
+    node_value P sizes old mid limit level b p rs bs cs i c result still above tree rises
     (λ ds other few. (node_one (block old.contents b) level level cs ds at.node other.node).1) takes.chosen
     (λ sub own under begins rising. below sub own (subst (λ (d : Child). Subtree sizes mid.contents limit (level - 1) d.block sub own) takes.child under) (subst (λ (d : Child). BeginsWith d.low sub) takes.child begins) rising)
 
--- what is read of a leaf of a tree
-pub leaf_read : (sizes : Sizes) (x : Contents) (limit level b : ℕ) (rs : List Record) (bs : List ℕ) → level ≡ 0 → Subtree sizes x limit level b rs bs → IsLeafAt x limit b rs × (length rs ≤ sizes.leaf)
-leaf_read sizes x limit level b rs bs zero_is tree =
-    let at = leaf_opens sizes x limit level b rs bs zero_is tree in (record { inside = at.place; leaf = (short_leaf x limit (block x b) rs at.under at.holds).0 }, at.few)
+-- the same leaf where the disk has not changed
+pub leaf_now : (sizes : Sizes) (old mid : Medium) (limit p : ℕ) (value : Option (List ℕ)) (leaf : Child) → mid ≡ old → IsLeafWith sizes old.contents limit p value leaf → IsLeafWith sizes mid.contents limit p value leaf
+leaf_now sizes old mid limit p value leaf still at = subst (λ (m : Medium). IsLeafWith sizes m.contents limit p value leaf) (sym still) at
 
--- the same, where the count of blocks is named otherwise
-pub leaf_there : (sizes : Sizes) (x : Contents) (limit other level b : ℕ) (rs : List Record) (bs : List ℕ) → level ≡ 0 → other ≡ limit → Subtree sizes x limit level b rs bs → IsLeafAt x other b rs
-leaf_there sizes x limit other level b rs bs none is tree =
-    subst (λ n. IsLeafAt x n b rs) (sym is) (leaf_read sizes x limit level b rs bs none tree).0
+-- the value where a key stands in a tree is the value at the key
+pub value_whole : (sizes : Sizes) (x : Contents) (limit l b : ℕ) (rs : List Record) (bs : List ℕ) (key : Key) → KeyFits key → Subtree sizes x limit l b rs bs → value_at (place key) rs ≡ get rs key
+value_whole sizes x limit l b rs bs key fits tree =
+    value_at-get key rs fits (each_so (IsWithin longest) (λ r. KeyFits r.0) (λ r within. within.0) rs (subtree_fit sizes x limit l b rs bs tree))
 
 -- children over records have the lowest key with which these begin
 pub lowest_of : (T : ℕ → List Record → List ℕ → Type 0) (cs : List Child) (low : Key) (rs : List Record) (bs : List ℕ) → 0 < length cs → Children T cs rs bs → BeginsWith low rs → Lowest low cs

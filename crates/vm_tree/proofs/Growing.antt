@@ -3,17 +3,20 @@ use Rattle.std.proofs.Common.{◌≡◌, ℕ, suc, ◌+◌, ◌-◌, ◌<◌, �
 use Rattle.std.specs.Prelude.{slice_index_or}
 use Rattle.std.specs.List.{AllByRecursion}
 use Rattle.vm_types.specs.declared.key.Key.{Key}
-use Rattle.vm_types.specs.Places.{place, RisesFrom, places}
+use Rattle.vm_types.specs.Places.{place, KeyFits, RisesFrom, places}
 use Rattle.vm_disk.specs.Disk.{Contents, block}
-use Rattle.vm_block.specs.Leaf.{Record, BeginsWith, RecordFits, leaf_bytes}
+use Rattle.vm_block.specs.Leaf.{Record, BeginsWith}
 use Rattle.vm_block.specs.Node.{ChildFits, IsNode, lows, node_bytes}
 use Rattle.vm_block.specs.Way.{Lowest}
 use Rattle.vm_block.specs.declared.node.Child.{Child}
 use Rattle.vm_block.proofs.EachLemmas.{each_front, each_back, each_join, each_so}
-use Rattle.vm_tree.specs.Tree.{Sizes, IsData, Children, Subtree, longest}
+use Rattle.vm_tree.specs.Tree.{Sizes, IsData, Children, LeafHolds, Subtree}
+use Rattle.vm_types.specs.Bytes.{longest}
 use Rattle.vm_tree.specs.Making.{Made}
 use Rattle.vm_tree.proofs.TreeLemmas.{subtree_in, leaf_closes, node_closes}
-use Rattle.vm_tree.proofs.HoldingLemmas.{leaf_holds, short_enough}
+use Rattle.vm_tree.proofs.HoldingLemmas.{holds_in}
+use Rattle.vm_tree.proofs.LeafRows.{all_begun}
+use Rattle.vm_tree.specs.Rows.{IsLeafIn}
 use Rattle.vm_tree.proofs.Rising.{rises_back}
 use Rattle.vm_tree.proofs.Splitting.{children_in, children_join, child_alone, cut_at}
 
@@ -45,11 +48,6 @@ first_of_each : {X : Type 0} (P : X → Type 0) (xs : List X) (d : X) → 0 < le
 first_of_each P [] d some all = absurd (omega arith)
 first_of_each P (x ∷ xs) d some all = all.0
 
--- the lowest key that was read is that of the first record
-pub begins_low : (rs : List Record) (d : Record) (key : Key) → BeginsWith key rs → (slice_index_or rs 0 d).0 ≡ key
-begins_low [] d key begins = absurd begins
-begins_low (r ∷ rs) d key begins = begins
-
 -- what was made can stand under an inner block
 pub node_is : (P : ℕ → Type 0) (sizes : Sizes) (x : Contents) (limit level : ℕ) (bytes : List ℕ) (cs : List Child) (rs : List Record) → bytes ≡ node_bytes level cs → 0 < level → level ≤ 7 → 0 < length cs → length cs ≤ 256
     → RisesFrom 0 (places rs) → Made P sizes x limit (level - 1) cs rs → IsNode bytes level cs
@@ -77,6 +75,26 @@ module _ (P Q : ℕ → Type 0) (sizes : Sizes) (x y : Contents) (limit : ℕ) w
     each = each_so P Q so made.blocks made.each;
     fit = made.fit;
   }
+
+  -- a leaf was written over what stands beside it
+  pub leaf_made : ((n : ℕ) → P n → block y n ≡ block x n) → ((n : ℕ) → P n → Q n) → (n : ℕ) (low : Key) (bytes : List ℕ) (rs : List Record) → (leaf : IsLeafIn P x limit bytes rs) → length rs ≤ sizes.leaf
+      → IsData limit n → n < 2 ^ 32 → Q n → block y n ≡ bytes → KeyFits low → BeginsWith low leaf.holds.rows → Made Q sizes y limit 0 (record { low = low; block = n } ∷ []) rs
+  leaf_made same so n low bytes rs leaf few inside small is spelled fits begins =
+      let under = leaf.beside in
+      let now = holds_in x limit longest P y same bytes rs under leaf.holds leaf.each in
+      let top : Subtree sizes y limit 0 n rs (n ∷ under) = leaf_closes sizes y limit n rs (n ∷ under) (record {
+        place = inside;
+        under = under;
+        holds = subst (λ (b : List ℕ). LeafHolds y limit longest b rs under) (sym spelled) now;
+        few = few;
+        first = refl;
+      }) in
+      record {
+        blocks = n ∷ under;
+        under = child_alone (Subtree sizes y limit 0) (record { low = low; block = n }) rs (n ∷ under) top (all_begun x limit low leaf.holds.rows rs under leaf.holds.stand begins);
+        each = (is, each_so P Q so under leaf.each);
+        fit = ((fits, small), tt);
+      }
 
   -- an inner block was written over what was made
   pub node_made : ((n : ℕ) → P n → block y n ≡ block x n) → ((n : ℕ) → P n → Q n) → (level n : ℕ) (cs : List Child) (d : Child) (rs : List Record) → 0 < level → level ≤ 7 → 0 < length cs → length cs ≤ 256 → length cs ≤ sizes.fan
@@ -113,28 +131,6 @@ module _ (P Q : ℕ → Type 0) (sizes : Sizes) (x y : Contents) (limit : ℕ) w
       }
 
 module _ (P : ℕ → Type 0) (sizes : Sizes) (x : Contents) (limit : ℕ) where
-  -- a leaf was written
-  pub leaf_made : (n : ℕ) (rs : List Record) (d : Record) → 0 < length rs → length rs ≤ 16 → length rs ≤ sizes.leaf → IsData limit n → n < 2 ^ 32 → P n → block x n ≡ leaf_bytes rs
-      → RisesFrom 0 (places rs) → AllByRecursion RecordFits rs → Made P sizes x limit 0 (record { low = (slice_index_or rs 0 d).0; block = n } ∷ []) rs
-  leaf_made n rs d some few leaf inside small is spelled rises fit =
-      let child : Child = record { low = (slice_index_or rs 0 d).0; block = n } in
-      record {
-        blocks = n ∷ [];
-        under = child_alone (Subtree sizes x limit 0) child rs (n ∷ []) (leaf_closes sizes x limit n rs (n ∷ []) (record {
-          place = inside;
-          under = [];
-          holds = leaf_holds x limit longest short_enough (block x n) rs (record { spelled = spelled; some = some; few = few; fit = fit; rising = rises });
-          few = leaf;
-          first = refl;
-        })) (begins_first rs some);
-        each = (is, tt);
-        fit = (((first_of_each RecordFits rs d some fit).0, small), tt);
-      }
-    where
-      begins_first : (qs : List Record) → 0 < length qs → BeginsWith (slice_index_or qs 0 d).0 qs
-      begins_first [] some = absurd (omega arith)
-      begins_first (q ∷ qs) some = refl
-
   -- what was made, side by side
   pub made_join : (l : ℕ) (cs ds : List Child) (rs qs : List Record) → Made P sizes x limit l cs rs → Made P sizes x limit l ds qs → Made P sizes x limit l (cs ++ ds) (rs ++ qs)
   made_join l cs ds rs qs a b = record {

@@ -4,16 +4,16 @@ use Rattle.std.specs.Prelude.{Contains}
 use Rattle.std.specs.List.{AllByRecursion}
 use Rattle.vm_types.specs.declared.key.Key.{Key}
 use Rattle.vm_disk.specs.Disk.{Contents, block}
-use Rattle.vm_block.specs.Leaf.{Record, Row, RecordFits, IsLeaf, HasRows}
+use Rattle.vm_block.specs.Leaf.{Record, Row, IsShort}
 use Rattle.vm_block.specs.Long.{IsLong}
 use Rattle.vm_block.specs.Node.{IsNode}
 use Rattle.vm_block.specs.declared.node.Child.{Child}
 use Rattle.vm_block.proofs.EachLemmas.{each_at, each_back, each_front, each_join}
 use Rattle.vm_block.proofs.FormLemmas.{rows_or_node}
-use Rattle.vm_block.proofs.LeafLemmas.{leaf_of, leaf_rows_one, rows_of}
+use Rattle.vm_block.proofs.LeafLemmas.{leaf_rows_one}
 use Rattle.vm_block.proofs.LongLemmas.{long_one}
 use Rattle.vm_block.proofs.RecordLemmas.{length-link, link_one}
-use Rattle.vm_tree.specs.Tree.{IsData, IsWithin, LeafHolds, StandForAll, StandsFor, longest}
+use Rattle.vm_tree.specs.Tree.{IsData, LeafHolds, StandForAll, StandsFor}
 
 -- this block has the key and the long value of one of these records
 pub record IsLongOf (x : Contents) (rs : List Record) (b : ℕ) : Type 0 where
@@ -58,10 +58,6 @@ module _ (x : Contents) (limit : ℕ) where
       let value : r.1 ≡ q.1 = (long_one (block x a.link.block) w.0 w.0 r.1 q.1 a.value other).1 in
       (ap (λ (k : Key). (k, r.1)) (a.key ∙ sym b.key) ∙ ap (λ (v : List ℕ). (q.0, v)) value, a.only ∙ ap (λ n. n ∷ []) (sym block_is) ∙ sym b.only)
 
-  row_short : (w : Row) (r : Record) (bs : List ℕ) → StandsFor x limit w r bs → length r.1 ≤ 240 → (r ≡ w) × (bs ≡ [])
-  row_short w r bs (inl itself) few = (itself.same, itself.none)
-  row_short w r bs (inr linked) few = absurd (omega (arith, few, linked.many, linked.fits.long))
-
   row_long : (w : Row) (r : Record) (bs : List ℕ) → StandsFor x limit w r bs → AllByRecursion (IsLongOf x (r ∷ [])) bs
   row_long w r bs (inl itself) = subst (AllByRecursion (IsLongOf x (r ∷ []))) (sym itself.none) tt
   row_long w r bs (inr linked) =
@@ -105,22 +101,11 @@ module _ (x : Contents) (limit : ℕ) where
   all_many [] rs bs t = ap length t.0
   all_many (w ∷ ws) rs bs t = ap length t.6 ∙ ap suc (all_many ws t.1 t.3 t.5)
 
-  -- where no value is long, the rows are the records
-  pub all_short : (most : ℕ) → most ≤ 240 → (ws : List Row) (rs : List Record) (bs : List ℕ) → StandForAll x limit ws rs bs → AllByRecursion (IsWithin most) rs → (rs ≡ ws) × (bs ≡ [])
-  all_short most few [] rs bs t all = t
-  all_short most few (w ∷ ws) rs bs t all =
-      let whole = subst (AllByRecursion (IsWithin most)) t.6 all in
-      let first = row_short x limit w t.0 t.2 t.4 (omega (arith, whole.0.1)) in
-      let rest = all_short most few ws t.1 t.3 t.5 whole.1 in (
-        t.6 ∙ ap (λ (r : Record). r ∷ t.1) first.0 ∙ ap (λ (z : List Record). w ∷ z) rest.0,
-        t.7 ∙ ap (λ (z : List ℕ). z ++ t.3) first.1 ∙ rest.1,
-      )
-
-  -- short records stand for themselves
-  pub all_themselves : (rs : List Record) → AllByRecursion RecordFits rs → StandForAll x limit rs rs []
-  all_themselves [] fit = (refl, refl)
-  all_themselves (r ∷ rs) fit =
-      (r, rs, [], [], inl (record { short = fit.0.1; same = refl; none = refl }), all_themselves rs fit.1, refl, refl)
+  -- short rows stand for themselves
+  pub all_themselves : (ws : List Row) → AllByRecursion IsShort ws → StandForAll x limit ws ws []
+  all_themselves [] short = (refl, refl)
+  all_themselves (w ∷ ws) short =
+      (w, ws, [], [], inl (record { short = short.0; same = refl; none = refl }), all_themselves ws short.1, refl, refl)
 
   -- each block beside a leaf has a long value of it
   pub all_long : (ws : List Row) (rs : List Record) (bs : List ℕ) → StandForAll x limit ws rs bs → AllByRecursion (IsLongOf x rs) bs
@@ -200,33 +185,3 @@ module _ (x : Contents) (limit most : ℕ) where
   -- the records of a leaf are some
   pub holds_some : (bytes : List ℕ) (rs : List Record) (under : List ℕ) → LeafHolds x limit most bytes rs under → 0 < length rs
   holds_some bytes rs under holds = omega (arith, holds_many bytes rs under holds, holds.leaf.some)
-
-  -- where no value may be long, a leaf is one of records, beside no block
-  holds_short : most ≤ 240 → (bytes : List ℕ) (rs : List Record) (under : List ℕ) → LeafHolds x limit most bytes rs under → IsLeaf bytes rs × (under ≡ [])
-  holds_short few bytes rs under holds =
-      let same = all_short x limit most few holds.rows rs under holds.stand holds.within in
-      let leaf = subst (λ (ws : List Row). HasRows bytes ws) (sym same.0) holds.leaf in
-      (leaf_of bytes rs leaf (short_records rs holds.within), same.1)
-    where
-      short_records : (qs : List Record) → AllByRecursion (IsWithin most) qs → AllByRecursion RecordFits qs
-      short_records [] all = tt
-      short_records (q ∷ qs) all = ((all.0.0, omega (arith, all.0.1)), short_records qs all.1)
-
-  -- and one of records is a leaf beside no block
-  pub leaf_holds : 240 ≤ most → (bytes : List ℕ) (rs : List Record) → IsLeaf bytes rs → LeafHolds x limit most bytes rs []
-  leaf_holds enough bytes rs leaf =
-      record { rows = rs; leaf = rows_of bytes rs leaf; stand = all_themselves x limit rs leaf.fit; within = records_within rs leaf.fit }
-    where
-      records_within : (qs : List Record) → AllByRecursion RecordFits qs → AllByRecursion (IsWithin most) qs
-      records_within [] all = tt
-      records_within (q ∷ qs) all = ((all.0.0, omega (arith, all.0.1)), records_within qs all.1)
-
--- each short value may be in a tree
-pub short_enough : 240 ≤ longest
-unfolding longest
-short_enough = omega arith
-
--- while no value is long, a leaf of a tree is one of records, beside no block
-pub short_leaf : (x : Contents) (limit : ℕ) (bytes : List ℕ) (rs : List Record) (under : List ℕ) → LeafHolds x limit longest bytes rs under → IsLeaf bytes rs × (under ≡ [])
-unfolding longest
-short_leaf x limit = holds_short x limit longest (omega arith)

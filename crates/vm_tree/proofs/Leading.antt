@@ -1,17 +1,19 @@
 -- A descent that leads down, from its steps.
-use Rattle.std.proofs.Common.{◌≡◌, ℕ, zero, suc, ◌+◌, ◌-◌, ◌*◌, ◌<◌, ◌≤◌, List, take, drop, Result, Ok, Err, IfOk, sym, ap, ◌∙◌, subst, arith}
+use Rattle.std.proofs.Common.{◌≡◌, ℕ, zero, suc, ◌+◌, ◌-◌, ◌*◌, ◌<◌, ◌≤◌, Bool, List, take, drop, Result, Ok, Err, IfOk, refl, sym, ap, ◌∙◌, subst, arith}
 use Rattle.vm_types.specs.declared.key.Key.{Key}
 use Rattle.vm_disk.specs.Disk.{Contents, block, Medium}
-use Rattle.vm_block.specs.Head.{IsLeafHead, IsNodeHead}
+use Rattle.vm_block.specs.Head.{IsNodeHead, IsRowsHead}
 use Rattle.vm_block.specs.Node.{child_bytes}
 use Rattle.vm_block.specs.declared.node.Child.{Child}
 use Rattle.vm_tree.specs.Reading.{EndsAt, IsBlockAt, LeadsDown, StepsTo}
+use Rattle.vm_tree.specs.declared.root.TreeFault.{TreeFault}
 
--- the block that was read has the head of a leaf
-pub ends_at : (x : Contents) (limit b : ℕ) (low : Key) (bytes : List ℕ) (most n : ℕ) → most ≤ 16 → IsBlockAt x limit b low bytes → IsLeafHead bytes most n → EndsAt x limit b low
-ends_at x limit b low bytes most n few at head =
-    let here = subst (λ (c : List ℕ). IsLeafHead c most n) at.bytes_are head in
+-- the block that was read has the head of a leaf of rows
+pub ends_at : (x : Contents) (limit b : ℕ) (low : Key) (bytes : List ℕ) (most : ℕ) (long : Bool) (n : ℕ) → most ≤ 16 → IsBlockAt x limit b low bytes → IsRowsHead bytes most long n → EndsAt x limit b low
+ends_at x limit b low bytes most long n few at head =
+    let here = subst (λ (c : List ℕ). IsRowsHead c most long n) at.bytes_are head in
     record {
+      long = long;
       count = n;
       inside = at.inside;
       head = record { begins = here.begins; some = here.some; few = omega (arith, here.few) };
@@ -45,6 +47,14 @@ leads_on x y most limit (suc l) b low c above is still step rest =
     let same : suc l - 1 ≡ l = omega arith in
     let there = subst (λ (m : Medium). LeadsDown m.contents limit (suc l - 1) c.block c.low) still rest in
     (c, subst (λ n. StepsTo x.contents n (suc l) b low c) is step, subst (λ n. LeadsDown x.contents limit n c.block c.low) same there)
+
+-- a leaf to which the descent leads after one step
+pub finds_leaf_on : (result : Result Child TreeFault) (x y : Medium) (limit l b : ℕ) (low : Key) (c : Child) → 0 < l → y ≡ x → StepsTo x.contents limit l b low c
+    → IfOk result (λ leaf. EndsAt y.contents limit leaf.block leaf.low → LeadsDown y.contents limit (l - 1) c.block c.low)
+    → IfOk result (λ leaf. EndsAt x.contents limit leaf.block leaf.low → LeadsDown x.contents limit l b low)
+finds_leaf_on (Ok leaf) x y limit l b low c above still step rest = λ ends.
+    leads_on x y limit limit l b low c above refl still step (rest (subst (λ (m : Medium). EndsAt m.contents limit leaf.block leaf.low) (sym still) ends))
+finds_leaf_on (Err e) x y limit l b low c above still step rest = tt
 
 -- what holds is told of each answer
 pub if_ok_is : {T E : Type 0} (result : Result T E) (A : Type 0) → A → IfOk result (λ x. A)

@@ -4,6 +4,8 @@ pub mod Descent
 pub mod FullPaths
 pub mod Growing
 pub mod HoldingLemmas
+pub mod LeafBeside
+pub mod LeafRows
 pub mod Leading
 pub mod Looking
 pub mod Placing
@@ -11,6 +13,7 @@ pub mod PutLemmas
 pub mod Removal
 pub mod RemoveLemmas
 pub mod Renewing
+pub mod RowsRead
 pub mod Rising
 pub mod RootLemmas
 pub mod RootRemoval

@@ -1,24 +1,10 @@
 -- Records by place: where a look-up finds one, and where one more is put.
-use Rattle.std.proofs.Common.{◌≡◌, ℕ, ◌+◌, ◌<◌, ◌≤◌, ◌==◌, nat_lt, cond, [], ◌∷◌, length, None, refl, sym, ap, ap₂, subst, Bool, true, false, ⊎_elim, arith}
-use Rattle.std.specs.List.{AllByRecursion}
+use Rattle.std.proofs.Common.{◌≡◌, ℕ, ◌+◌, ◌<◌, ◌≤◌, ◌==◌, nat_lt, cond, [], ◌∷◌, length, None, refl, sym, ap, ap₂, subst, Bool, ⊎_elim, arith}
 use Rattle.std.proofs.lemmas.Bool.{cases_order, eq-eqb, ne_eqb, lt-ltb, le-ltb}
 use Rattle.std.proofs.lemmas.Bool.Decides.{nat_tests}
 use Rattle.vm_types.specs.Map.{Map}
 use Rattle.vm_types.specs.Places.{place, RisesFrom, places, value_at, with_record}
-use Rattle.vm_block.specs.Leaf.{Record, RecordFits}
-
--- a record more fits where the others do
-pub with_fits : (r : Record) (m : Map) → RecordFits r → AllByRecursion RecordFits m → AllByRecursion RecordFits (with_record r m)
-with_fits r [] fits all = (fits, tt)
-with_fits r (x ∷ m) fits all =
-    let P : Map → Type 0 = λ (n : Map). AllByRecursion RecordFits n in
-    elim (nat_lt (place r.0) (place x.0)) as (λ s. P (cond s (r ∷ x ∷ m) (cond (place r.0 == place x.0) (r ∷ m) (x ∷ with_record r m)))) [
-      | true ↦ (fits, all)
-      | false ↦ elim (place r.0 == place x.0) as (λ t. P (cond t (r ∷ m) (x ∷ with_record r m))) [
-        | true ↦ (fits, all.1)
-        | false ↦ (all.0, with_fits r m fits all.1)
-      ]
-    ]
+use Rattle.vm_block.specs.Leaf.{Record}
 
 -- records rise with one more in its place
 pub with_rises : (r : Record) (low : ℕ) (m : Map) → low ≤ place r.0 → RisesFrom low (places m) → RisesFrom low (places (with_record r m))

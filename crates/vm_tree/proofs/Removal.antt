@@ -16,7 +16,7 @@ without_past p [] ys below = refl
 without_past p (x ∷ xs) ys below =
     ap (λ t. cond t (xs ++ ys) (x ∷ without_place p (xs ++ ys))) (ne_eqb (place x.0) p (λ e. omega (arith, below.0))) ∙ ap (λ (rest : List Record). x ∷ rest) (without_past p xs ys below.1)
 
-without_above : (p : ℕ) (ys : List Record) → Above p ys → without_place p ys ≡ ys
+pub without_above : (p : ℕ) (ys : List Record) → Above p ys → without_place p ys ≡ ys
 without_above p [] above = refl
 without_above p (y ∷ ys) above =
     ap (λ t. cond t ys (y ∷ without_place p ys)) (ne_eqb (place y.0) p (λ e. omega (arith, above.0))) ∙ ap (λ (rest : List Record). y ∷ rest) (without_above p ys above.1)

@@ -70,7 +70,7 @@ with_past r (x ∷ xs) ys below =
     (ne_eqb (place r.0) (place x.0) (λ e. omega (arith, below.0)))
     ∙ ap (λ (rest : List Record). x ∷ rest) (with_past r xs ys below.1)
 
-with_above : (r : Record) (ys : List Record) → Above (place r.0) ys → with_record r ys ≡ r ∷ ys
+pub with_above : (r : Record) (ys : List Record) → Above (place r.0) ys → with_record r ys ≡ r ∷ ys
 with_above r [] above = refl
 with_above r (y ∷ ys) above =
     ap (λ s. cond s (r ∷ y ∷ ys) (cond (place r.0 == place y.0) (r ∷ ys) (y ∷ with_record r ys))) (lt-ltb (place r.0) (place y.0) above.0)

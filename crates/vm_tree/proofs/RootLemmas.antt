@@ -12,7 +12,8 @@ use Rattle.vm_block.proofs.EachLemmas.{each_so}
 use Rattle.vm_block.proofs.FormLemmas.{rows_or_node}
 use Rattle.vm_block.proofs.NodeLemmas.{node_one}
 use Rattle.vm_tree.specs.FullPath.{FullBelow}
-use Rattle.vm_tree.specs.Tree.{Sizes, IsWithin, Subtree, longest}
+use Rattle.vm_tree.specs.Tree.{Sizes, IsWithin, Subtree}
+use Rattle.vm_types.specs.Bytes.{longest}
 use Rattle.vm_tree.specs.Answers.{LacksRoom, OkOrDevice, Puts}
 use Rattle.vm_tree.specs.Making.{Made, PutsBelow, Splits, children_of, is_split}
 use Rattle.vm_tree.specs.declared.writing.Copied.{Copied}

@@ -4,16 +4,56 @@ use Rattle.std.proofs.lemmas.List.{take_more, take_at, drop_at, take_all}
 use Rattle.vm_disk.specs.Disk.{DiskState, Contents, Medium}
 use Rattle.vm_disk.proofs.MomentLemmas.{same_medium}
 use Rattle.vm_block.specs.Leaf.{Record}
+use Rattle.vm_block.specs.Told.{IfLeafRowAt}
+use Rattle.vm_block.proofs.EachLemmas.{each_at}
 use Rattle.vm_block.specs.declared.node.Child.{Child}
-use Rattle.vm_tree.specs.Tree.{Sizes, Children, Subtree}
+use Rattle.vm_tree.specs.Tree.{Sizes, Children, IsWithin, LeafHolds, StandsFor, Subtree}
+use Rattle.vm_types.specs.Bytes.{longest}
 use Rattle.vm_tree.specs.Answers.{Lists}
 use Rattle.vm_tree.specs.Calls.{OnlyLooks}
+use Rattle.vm_tree.specs.Giving.{AddsRow}
 use Rattle.vm_tree.specs.Reading.{IsNodeAt}
 use Rattle.vm_tree.specs.declared.root.TreeFault.{TreeFault}
 use Rattle.vm_tree.specs.declared.root.TreeFault.TheVariants.{Device, Damaged, Deep, Memory}
 use Rattle.vm_tree.proofs.Descent.{node_under}
+use Rattle.vm_tree.proofs.HoldingLemmas.{holds_many}
 use Rattle.vm_tree.proofs.Looking.{looks_on}
+use Rattle.vm_tree.proofs.RowsRead.{row_stands}
 use Rattle.vm_tree.proofs.Splitting.{split_at, cut_at}
+
+-- the records of the first i rows of a leaf of so many were added, by reads alone
+pub record Pushes (old new : DiskState) (limit : ℕ) (bytes : List ℕ) (count i : ℕ) (before now : List Record) : Type 0 where
+  pub looks : OnlyLooks {T = Unit {0}} (Ok tt) old new
+  pub added : new.honest ≡ true → (rs : List Record) (under : List ℕ) → LeafHolds old.now.contents limit longest bytes rs under → count ≡ length rs → now ≡ before ++ take i rs
+
+-- what the row at i stands for, where the disk was only looked at
+module _ (old mid : DiskState) (limit : ℕ) (bytes : List ℕ) (count i : ℕ) (before now : List Record) (d : Record) where
+  row_there : Pushes old mid limit bytes count i before now → mid.honest ≡ true → (rs : List Record) (under : List ℕ) → (holds : LeafHolds old.now.contents limit longest bytes rs under) → i < length rs
+      → (own : List ℕ) × StandsFor mid.now.contents limit (get_or holds.rows i d) (get_or rs i d) own
+  row_there so_far honest rs under holds lt =
+      let still : mid.now.contents ≡ old.now.contents = ap (λ (m : Medium). m.contents) (same_medium old mid (so_far.looks.reads honest)) in
+      let row = row_stands old.now.contents limit holds.rows rs under i d d holds.stand (omega (arith, lt, holds_many old.now.contents limit longest bytes rs under holds)) in
+      (row.0, subst (λ (y : Contents). StandsFor y limit (get_or holds.rows i d) (get_or rs i d) row.0) (sym still) row.1)
+
+  -- what is said of the row at i is said of its record
+  pub row_added : {T : Type 0} (result : Result T TreeFault) (new : DiskState) (more : List Record) → Pushes old mid limit bytes count i before now → (new.honest ≡ true → mid.honest ≡ true)
+      → IfLeafRowAt bytes i (AddsRow result mid new limit now more) → new.honest ≡ true → (rs : List Record) (under : List ℕ) → (holds : LeafHolds old.now.contents limit longest bytes rs under) → i < length rs
+      → Lists result (λ _. more ≡ now ++ get_or rs i d ∷ [])
+  row_added result new more so_far earlier adds honest rs under holds lt =
+      let row = row_there so_far (earlier honest) rs under holds lt in
+      adds holds.rows d holds.leaf (omega (arith, lt, holds_many old.now.contents limit longest bytes rs under holds)) honest (get_or rs i d) row.0 row.1 (each_at (IsWithin longest) rs i d holds.within lt)
+
+  pub pushes_more : (new : DiskState) (more : List Record) → i < count → Pushes old mid limit bytes count i before now → OnlyLooks {T = Unit {0}} (Ok tt) mid new
+      → IfLeafRowAt bytes i (AddsRow {T = Unit {0}} (Ok tt) mid new limit now more) → Pushes old new limit bytes count (i + 1) before more
+  pushes_more new more lt so_far looks adds = record {
+    looks = looks_on so_far.looks looks (λ is. is);
+    added = λ honest rs under holds many.
+        let within : i < length rs = omega (arith, lt, many) in
+        row_added {T = Unit {0}} (Ok tt) new more so_far looks.goes.earlier adds honest rs under holds within
+        ∙ ap (λ (qs : List Record). qs ++ get_or rs i d ∷ []) (so_far.added (looks.goes.earlier honest) rs under holds many)
+        ∙ append_assoc before (take i rs) (get_or rs i d ∷ [])
+        ∙ ap (λ (qs : List Record). before ++ qs) (sym (take_more rs i d within));
+  }
 
 -- the records under the first i children were added, by reads alone
 pub record Scans (old new : DiskState) (limit level : ℕ) (cs : List Child) (i : ℕ) (before now : List Record) : Type 0 where

@@ -9,7 +9,8 @@ use Rattle.vm_block.specs.Leaf.{Record}
 use Rattle.vm_block.specs.Node.{IsNode}
 use Rattle.vm_block.proofs.NodeLemmas.{node_one}
 use Rattle.vm_block.proofs.EachLemmas.{each_front, each_back, each_join, each_so}
-use Rattle.vm_tree.specs.Tree.{Sizes, IsData, IsWithin, LeafHolds, Children, Subtree, IsTree, Stands, longest}
+use Rattle.vm_tree.specs.Tree.{Sizes, IsData, IsWithin, LeafHolds, Children, Subtree, IsTree, Stands}
+use Rattle.vm_types.specs.Bytes.{longest}
 use Rattle.vm_tree.proofs.HoldingLemmas.{holds_data, holds_in, holds_one, holds_or_node}
 
 -- # Other contents

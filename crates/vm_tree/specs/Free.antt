@@ -1,5 +1,5 @@
 -- Blocks that may be written.
-use Rattle.std.specs.Prelude.{ℕ, ◌+◌, ◌<◌, ◌≤◌, Bool, not, List, length}
+use Rattle.std.specs.Prelude.{ℕ, ◌+◌, ◌<◌, ◌≤◌, nat_lt, if◌then◌else◌, Bool, not, List, length}
 use Rattle.std.specs.List.{AllByRecursion}
 use Rattle.vm_alloc.specs.Held.{is_held, IsHeld, free_count}
 use Rattle.vm_block.specs.declared.node.Child.{Child}
@@ -17,6 +17,10 @@ pub record IsTaken (held : List Bool) (n : ℕ) : Type 0 where
 -- the blocks of these children are for data, and held now
 abbrev pub AreTaken : List Bool → List Child → Type 0
 AreTaken held cs = AllByRecursion (λ c. IsTaken held c.block) cs
+
+-- how many blocks a value has for itself alone: one, where it has more than 240 bytes
+abbrev pub long_blocks : List ℕ → ℕ
+long_blocks value = if nat_lt 240 (length value) then 1 else 0
 
 -- of the free blocks so many are taken at most
 abbrev pub TakesAtMost : ℕ → List Bool → List Bool → Type 0

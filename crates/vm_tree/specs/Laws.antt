@@ -4,7 +4,8 @@ use Rattle.std.specs.List.{AllByRecursion}
 use Rattle.vm_types.specs.Places.{RisesFrom, places}
 use Rattle.vm_disk.specs.Disk.{Contents, block}
 use Rattle.vm_block.specs.Leaf.{Record}
-use Rattle.vm_tree.specs.Tree.{Sizes, IsData, IsTree, IsWithin, longest}
+use Rattle.vm_tree.specs.Tree.{Sizes, IsData, IsTree, IsWithin}
+use Rattle.vm_types.specs.Bytes.{longest}
 
 -- under one root lies one map, in one list of blocks
 abbrev pub RootsHaveOneMap : Type 0

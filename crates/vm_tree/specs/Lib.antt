@@ -9,6 +9,7 @@ pub mod Paths
 pub mod Putting
 pub mod Removing
 pub mod Root
+pub mod Rows
 pub mod Answers
 pub mod Reading
 pub mod Replacing

@@ -1,15 +1,20 @@
 -- Blocks of a tree as they are written anew.
 use Rattle.std.specs.Prelude.{◌≡◌, ◌↔◌, ℕ, ◌+◌, ◌-◌, ◌<◌, ◌≤◌, Bool, true, false, List, [], ◌∷◌, ◌++◌, length, take, drop, None, Result, Ok, Err, IfOk}
 use Rattle.std.specs.List.{AllByRecursion}
-use Rattle.vm_types.specs.Places.{RisesFrom, places, value_at, with_record}
+use Rattle.vm_types.specs.Places.{place, RisesFrom, places, value_at, with_record}
 use Rattle.vm_disk.specs.Disk.{Contents, DiskState, block}
 use Rattle.vm_alloc.specs.Held.{HoldsMore}
-use Rattle.vm_block.specs.Leaf.{Record, RecordFits, IsLeaf, leaf_bytes}
+use Rattle.vm_block.specs.Leaf.{Record, Row, HasRows, link_bytes, stored_bytes}
+use Rattle.vm_block.specs.Changed.{without_place}
 use Rattle.vm_block.specs.Node.{ChildFits, IsNode, node_bytes}
 use Rattle.vm_block.specs.declared.way.Way.{Way}
 use Rattle.vm_block.specs.declared.node.Child.{Child}
+use Rattle.vm_block.specs.declared.stored.Link.{Link}
+use Rattle.vm_block.specs.declared.stored.Stored.{Stored}
 use Rattle.vm_tree.specs.FullPath.{FullBelow}
-use Rattle.vm_tree.specs.Tree.{Sizes, Children, Subtree}
+use Rattle.vm_tree.specs.Tree.{Sizes, Children, IsWithin, Subtree}
+use Rattle.vm_types.specs.Bytes.{longest}
+use Rattle.vm_tree.specs.Rows.{IsLeafIn, IsRowIn, StandIn}
 use Rattle.vm_tree.specs.Answers.{OkOrDevice}
 use Rattle.vm_tree.specs.Free.{AreTaken}
 use Rattle.vm_tree.specs.Replacing.{IsRenewed}
@@ -68,25 +73,50 @@ HasWritten result new bytes = new.honest ≡ true → IfOk result (λ n. block n
 -- Whatever was held before, the blocks are held now, and those to be kept that were held before.
 
 -- the records of these bytes, where they are two leaves, the first of lower keys
-abbrev pub MakesHalves : Result Copied TreeFault → List Bool → List Bool → DiskState → List ℕ → List ℕ → Type 0
-MakesHalves result held later new left right =
-    new.honest ≡ true → (before : List Bool) (keep : ℕ → Bool) → HoldsMore before held → (sizes : Sizes) (rs : List Record) (half : ℕ)
-    → left ≡ leaf_bytes (take half rs) → right ≡ leaf_bytes (drop half rs) → 0 < half → half < length rs → half ≤ sizes.leaf → length rs - half ≤ sizes.leaf
-    → half ≤ 16 → length rs - half ≤ 16 → RisesFrom 0 (places rs) → AllByRecursion RecordFits rs
-    → IfOk result (λ copied. Made (IsRenewed before later keep) sizes new.now.contents (length held) 0 (children_of copied) rs)
+abbrev pub MakesHalves : Result Copied TreeFault → List Bool → List Bool → DiskState → DiskState → List ℕ → List ℕ → Type 0
+MakesHalves result held later old new left right =
+    new.honest ≡ true → (before : List Bool) (keep : ℕ → Bool) → HoldsMore before held → (sizes : Sizes) (front back : List Record)
+    → IsLeafIn (IsRenewed before held keep) old.now.contents (length held) left front
+    → IsLeafIn (IsRenewed before held keep) old.now.contents (length held) right back
+    → length front ≤ sizes.leaf → length back ≤ sizes.leaf
+    → IfOk result (λ copied. Made (IsRenewed before later keep) sizes new.now.contents (length held) 0 (children_of copied) (front ++ back))
 
 -- the records of a leaf with this one, where they are more than so many, which a leaf may have
-abbrev pub PutsInLeaf : Result Copied TreeFault → ℕ → List Bool → List Bool → DiskState → List ℕ → Record → Type 0
-PutsInLeaf result most held later new bytes r =
-    new.honest ≡ true → (before : List Bool) (keep : ℕ → Bool) → HoldsMore before held → (sizes : Sizes) (rs : List Record)
-    → IsLeaf bytes rs → length rs ≤ most → most < length (with_record r rs) → most ≤ sizes.leaf
+abbrev pub PutsInLeaf : Result Copied TreeFault → ℕ → List Bool → List Bool → DiskState → DiskState → List ℕ → Record → Type 0
+PutsInLeaf result most held later old new bytes r =
+    new.honest ≡ true → (before : List Bool) (keep : ℕ → Bool) → HoldsMore before held → (sizes : Sizes) (ws : List Row) (rs : List Record)
+    → HasRows bytes ws → length ws ≤ most → most < length (with_record r ws) → most ≤ sizes.leaf → RisesFrom 0 (places rs)
+    → StandIn (IsRenewed before held keep) old.now.contents (length held) (without_place (place r.0) ws) (without_place (place r.0) rs)
+    → AllByRecursion (IsWithin longest) rs
     → IfOk result (λ copied. Made (IsRenewed before later keep) sizes new.now.contents (length held) 0 (children_of copied) (with_record r rs))
 
+-- the records of a leaf with this one, where the leaf's bytes have a row of its key already: the value, if that is short, or any
+abbrev pub WritesPut : Result Child TreeFault → ℕ → List Bool → List Bool → DiskState → DiskState → List ℕ → Record → Type 0
+WritesPut result most held later old new bytes r =
+    new.honest ≡ true → (before : List Bool) (keep : ℕ → Bool) → HoldsMore before held → (sizes : Sizes) (ws : List Row) (rs : List Record) (first : List ℕ)
+    → HasRows bytes (with_record (r.0, first) ws) → length (with_record (r.0, first) ws) ≤ most → most ≤ sizes.leaf
+    → (length r.1 ≤ 240 → first ≡ r.1) → RisesFrom 0 (places ws) → RisesFrom 0 (places rs)
+    → StandIn (IsRenewed before held keep) old.now.contents (length held) (without_place (place r.0) ws) (without_place (place r.0) rs)
+    → AllByRecursion (IsWithin longest) rs
+    → IfOk result (λ child. Made (IsRenewed before later keep) sizes new.now.contents (length held) 0 (child ∷ []) (with_record r rs))
+
+-- the block of a long value, to which there is a link now
+abbrev pub WritesLong : Result Link TreeFault → List Bool → List Bool → DiskState → Record → Type 0
+WritesLong result held later new r =
+    new.honest ≡ true → (before : List Bool) (keep : ℕ → Bool) → HoldsMore before held
+    → IfOk result (λ link. IsRowIn (IsRenewed before later keep) new.now.contents (length held) (r.0, link_bytes link) r)
+
+-- what a leaf has of a value stands for it
+abbrev pub StoresValue : Result Stored TreeFault → List Bool → List Bool → DiskState → Record → Type 0
+StoresValue result held later new r =
+    new.honest ≡ true → (before : List Bool) (keep : ℕ → Bool) → HoldsMore before held
+    → IfOk result (λ stored. IsRowIn (IsRenewed before later keep) new.now.contents (length held) (r.0, stored_bytes stored) r)
+
 -- the records of these bytes, where they are a leaf
-abbrev pub WritesLeaf : Result Child TreeFault → List Bool → List Bool → DiskState → List ℕ → Type 0
-WritesLeaf result held later new bytes =
+abbrev pub WritesLeaf : Result Child TreeFault → List Bool → List Bool → DiskState → DiskState → List ℕ → Type 0
+WritesLeaf result held later old new bytes =
     new.honest ≡ true → (before : List Bool) (keep : ℕ → Bool) → HoldsMore before held → (sizes : Sizes) (rs : List Record)
-    → bytes ≡ leaf_bytes rs → 0 < length rs → length rs ≤ 16 → length rs ≤ sizes.leaf → RisesFrom 0 (places rs) → AllByRecursion RecordFits rs
+    → IsLeafIn (IsRenewed before held keep) old.now.contents (length held) bytes rs → length rs ≤ sizes.leaf
     → IfOk result (λ child. Made (IsRenewed before later keep) sizes new.now.contents (length held) 0 (child ∷ []) rs)
 
 -- the records under the children of these bytes, where they are an inner block
@@ -130,8 +160,8 @@ SplitsNodeOver result most level way bytes copied =
     (cs : List Child) → IsNode bytes level cs → way.count ≡ length cs
     → OkOrDevice result (λ done. (is_split done ≡ true) ↔ (most < length (with_copied cs way.index copied)))
 
--- a leaf is, where it has more records than so many with this one, as it has here
-abbrev pub SplitsLeafOver : Result Copied TreeFault → ℕ → List ℕ → Record → Type 0
-SplitsLeafOver result most bytes r =
-    (rs : List Record) → IsLeaf bytes rs → length rs ≤ most → most < length (with_record r rs)
-    → OkOrDevice result (λ copied. (is_split copied ≡ true) ↔ (most < length (with_record r rs)))
+-- a leaf is, where it has more rows than so many with this one, as it has here
+abbrev pub SplitsLeafOver : Result Copied TreeFault → ℕ → List ℕ → Row → Type 0
+SplitsLeafOver result most bytes w =
+    (ws : List Row) → HasRows bytes ws → length ws ≤ most → most < length (with_record w ws)
+    → OkOrDevice result (λ copied. (is_split copied ≡ true) ↔ (most < length (with_record w ws)))

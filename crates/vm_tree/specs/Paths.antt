@@ -3,7 +3,7 @@ use Rattle.std.specs.Prelude.{ℕ, List, Result, IfOk}
 use Rattle.vm_disk.specs.Disk.{DiskState}
 use Rattle.vm_block.specs.declared.node.Child.{Child}
 use Rattle.vm_tree.specs.Tree.{Sizes}
-use Rattle.vm_tree.specs.Replacing.{IsPathIn, path_from, path_under}
+use Rattle.vm_tree.specs.Replacing.{IsPathIn, long_of, path_from, path_under}
 use Rattle.vm_tree.specs.Root.{IfUnder, IfWhole, sizes_of}
 use Rattle.vm_tree.specs.declared.root.Root.{Root}
 use Rattle.vm_tree.specs.declared.root.TreeFault.{TreeFault}
@@ -17,3 +17,8 @@ NamesPath result sizes old new limit root path =
 abbrev pub NamesPathUnder : {T : Type 0} → Result T TreeFault → ℕ → ℕ → DiskState → DiskState → ℕ → ℕ → Child → List ℕ → Type 0
 NamesPathUnder result leaf fan old new limit level top path =
     (levels : ℕ) → IfUnder old new (sizes_of leaf fan levels) limit level top (λ rs bs. IfOk result (λ answer. IsPathIn (path_from level path) bs))
+
+-- this block of a long value, if it is not 0, is one of the tree under this child, a leaf
+abbrev pub NamesLong : {T : Type 0} → Result T TreeFault → ℕ → DiskState → DiskState → ℕ → Child → ℕ → Type 0
+NamesLong result leaf old new limit top long =
+    (fan levels : ℕ) → IfUnder old new (sizes_of leaf fan levels) limit 0 top (λ rs bs. IfOk result (λ answer. IsPathIn (long_of long) bs))

@@ -10,7 +10,7 @@ use Rattle.vm_block.specs.Leaf.{Record}
 use Rattle.vm_block.specs.declared.node.Child.{Child}
 use Rattle.vm_tree.specs.Tree.{Sizes}
 use Rattle.vm_tree.specs.Answers.{LacksRoom, Puts}
-use Rattle.vm_tree.specs.Free.{TakesAtMost}
+use Rattle.vm_tree.specs.Free.{TakesAtMost, long_blocks}
 use Rattle.vm_tree.specs.Making.{Made, PutsBelow, Splits, is_split}
 use Rattle.vm_tree.specs.Replacing.{IsHeldBeside, IsRenewed, Replaces, path_from, path_under}
 use Rattle.vm_tree.specs.Root.{IsRootedIn, IfUnder, IfWhole, sizes_of}
@@ -22,29 +22,30 @@ use Rattle.vm_tree.specs.declared.writing.Copied.{Copied}
 abbrev pub SplitsOnly : {E : Type 0} → Result Copied E → Copied → ℕ → ℕ → Type 0
 SplitsOnly result copied most count = IfOk result (λ done. is_split done ≡ true → (is_split copied ≡ true) × (most ≤ count))
 
--- where the key is in the leaf under a child, so many blocks are taken at most
-abbrev pub ReplacesInLeaf : Result Copied TreeFault → ℕ → List Bool → List Bool → DiskState → DiskState → Child → Key → Type 0
-ReplacesInLeaf result leaf held later old new top key =
+-- where the key is in the leaf under a child, one block is taken at most, and that of the value
+abbrev pub ReplacesInLeaf : Result Copied TreeFault → ℕ → List Bool → List Bool → DiskState → DiskState → Child → Record → Type 0
+ReplacesInLeaf result leaf held later old new top r =
     (fan levels : ℕ) → IfUnder old new (sizes_of leaf fan levels) (length held) 0 top
-    (λ rs bs. value_at (place key) rs ≢ None → IfOk result (λ copied. TakesAtMost 1 held later))
+    (λ rs bs. value_at (place r.0) rs ≢ None → IfOk result (λ copied. TakesAtMost (1 + long_blocks r.1) held later))
 
--- where the key is under a child of this level, one block a level is taken at most
-abbrev pub ReplacesUnder : Result Copied TreeFault → ℕ → ℕ → List Bool → List Bool → DiskState → DiskState → ℕ → Child → Key → Type 0
-ReplacesUnder result leaf fan held later old new level top key =
+-- where the key is under a child of this level, one block a level is taken at most, and that of the value
+abbrev pub ReplacesUnder : Result Copied TreeFault → ℕ → ℕ → List Bool → List Bool → DiskState → DiskState → ℕ → Child → Record → Type 0
+ReplacesUnder result leaf fan held later old new level top r =
     (levels : ℕ) → IfUnder old new (sizes_of leaf fan levels) (length held) level top
-    (λ rs bs. value_at (place key) rs ≢ None → IfOk result (λ copied. TakesAtMost (level + 1) held later))
+    (λ rs bs. value_at (place r.0) rs ≢ None → IfOk result (λ copied. TakesAtMost (level + 1 + long_blocks r.1) held later))
 
--- where the key is under the root, one block a level is taken at most
-abbrev pub ReplacesFrom : Result Root TreeFault → Sizes → List Bool → List Bool → DiskState → DiskState → Root → Key → Type 0
-ReplacesFrom result sizes held later old new root key =
-    IfWhole old new sizes (length held) root (λ m bs. get m key ≢ None → IfOk result (λ r. TakesAtMost (root.level + 1) held later))
+-- where the key is under the root, one block a level is taken at most, and that of the value
+abbrev pub ReplacesFrom : Result Root TreeFault → Sizes → List Bool → List Bool → DiskState → DiskState → Root → Key → List ℕ → Type 0
+ReplacesFrom result sizes held later old new root key value =
+    IfWhole old new sizes (length held) root (λ m bs. get m key ≢ None → IfOk result (λ r. TakesAtMost (root.level + 1 + long_blocks value) held later))
 
--- the leaf under a child has the record, in one or two blocks that are held now, and to be kept if they were held before
-abbrev pub PutsUnderLeaf : Result Copied TreeFault → ℕ → List Bool → List Bool → DiskState → DiskState → Child → Record → Type 0
-PutsUnderLeaf result leaf held later old new top r =
+-- the leaf under a child has the record, in one or two blocks, and beside them blocks that replace those of the path
+abbrev pub PutsUnderLeaf : Result Copied TreeFault → ℕ → List Bool → List Bool → DiskState → DiskState → Child → Record → List ℕ → Type 0
+PutsUnderLeaf result leaf held later old new top r path =
     (fan levels : ℕ) → IfUnder old new (sizes_of leaf fan levels) (length held) 0 top
     (λ rs bs. PutsBelow result (Splits (sizes_of leaf fan levels) old.now.contents (place r.0) 0 top.block rs)
-    (λ cs. (keep : ℕ → Bool) → Made (IsRenewed held later keep) (sizes_of leaf fan levels) new.now.contents (length held) 0 cs (with_record r rs)))
+    (λ cs. Replaces held later path bs
+    (λ P. Made P (sizes_of leaf fan levels) new.now.contents (length held) 0 cs (with_record r rs))))
 
 -- the records under a child of this level have this one, in blocks that replace those of the path
 abbrev pub PutsUnder : Result Copied TreeFault → ℕ → ℕ → List Bool → List Bool → DiskState → DiskState → ℕ → Child → Record → List ℕ → Type 0

@@ -85,11 +85,12 @@ LeavesRest result fan level cs held later old new =
     → IsLeft result rs (λ root. (before : List Bool) (keep : ℕ → Bool) → HoldsMore before held → AllByRecursion (IsRenewed before held keep) bs
     → Made (IsRenewed before later keep) (sizes_of leaf fan levels) new.now.contents (length held) root.level (child_of root ∷ []) rs)
 
--- the records of a leaf are left without the one at place p, under a root in blocks that are held now, and to be kept if they were held before
-abbrev pub RemovesFromLeaf : Result Left TreeFault → ℕ → List Bool → List Bool → DiskState → DiskState → Child → ℕ → Type 0
-RemovesFromLeaf result leaf held later old new top p =
+-- the records of a leaf are left without the one at place p, under a root in blocks that replace those of this path
+abbrev pub RemovesFromLeaf : Result Left TreeFault → ℕ → List Bool → List Bool → DiskState → DiskState → Child → ℕ → List ℕ → Type 0
+RemovesFromLeaf result leaf held later old new top p path =
     (fan levels : ℕ) → IfUnder old new (sizes_of leaf fan levels) (length held) 0 top (λ rs bs. RemovesBelow result p rs
-    (λ root. (keep : ℕ → Bool) → Made (IsRenewed held later keep) (sizes_of leaf fan levels) new.now.contents (length held) root.level (child_of root ∷ []) (without_place p rs)))
+    (λ root. Replaces held later path bs
+    (λ P. Made P (sizes_of leaf fan levels) new.now.contents (length held) root.level (child_of root ∷ []) (without_place p rs))))
 
 -- the records under a child are left without the one at place p, under a root in blocks that replace those of this path
 abbrev pub RemovesUnder : Result Left TreeFault → ℕ → ℕ → List Bool → List Bool → DiskState → DiskState → ℕ → Child → ℕ → List ℕ → Type 0

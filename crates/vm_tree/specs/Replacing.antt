@@ -1,5 +1,5 @@
 -- Blocks that a change replaces, and blocks that it keeps.
-use Rattle.std.specs.Prelude.{◌≡◌, ◌≢◌, ℕ, ◌+◌, ◌≤◌, ◌==◌, Bool, true, List, [], take, slice_index, slice_set, if◌then◌else◌}
+use Rattle.std.specs.Prelude.{◌≡◌, ◌≢◌, ℕ, ◌+◌, ◌<◌, ◌≤◌, ◌==◌, Bool, true, List, [], ◌∷◌, ◌++◌, take, slice_index, slice_set, if◌then◌else◌}
 use Rattle.std.specs.List.{AllByRecursion}
 use Rattle.vm_alloc.specs.Held.{IsHeld}
 use Rattle.vm_tree.specs.declared.root.Root.{Root}
@@ -12,13 +12,17 @@ Lacks b cs = AllByRecursion (λ c. c ≢ b) cs
 abbrev pub Apart : List ℕ → List ℕ → Type 0
 Apart own others = AllByRecursion (λ b. Lacks b others) own
 
--- the blocks of a path from this level down to its leaf, which comes first
-abbrev pub path_from : ℕ → List ℕ → List ℕ
-path_from level path = take (level + 1) path
+-- the block of a long value, where the number is not 0
+abbrev pub long_of : ℕ → List ℕ
+long_of n = if n == 0 then [] else n ∷ []
 
--- the blocks of a path from this root down to its leaf, none under the empty map
+-- the block of the long value that the ninth place of a path tells, if there is one, and the path's blocks from the leaf up to this level
+abbrev pub path_from : ℕ → List ℕ → List ℕ
+path_from level path = long_of (slice_index path 8) ++ take (level + 1) path
+
+-- the same up to this root, under which no block of a path is where it is the empty map
 abbrev pub path_under : Root → List ℕ → List ℕ
-path_under root path = if root.block == 0 then [] else path_from root.level path
+path_under root path = if root.block == 0 then long_of (slice_index path 8) else path_from root.level path
 
 -- held now, and to be kept, if it was held before
 pub record IsRenewed (before held : List Bool) (keep : ℕ → Bool) (n : ℕ) : Type 0 where
@@ -44,6 +48,6 @@ abbrev pub Replaces : (before held : List Bool) (path bs : List ℕ) → ((ℕ �
 Replaces before held path bs M =
     (keep : ℕ → Bool) → AllByRecursion (IsHeld before) bs → KeepsBeside path keep bs → M (IsRenewed before held keep)
 
--- from this level up the path is as it was, but for this block at the level itself
+-- from this level up to the last the path is as it was, but for this block at the level itself
 abbrev pub KeepsAbove : ℕ → ℕ → List ℕ → List ℕ → Type 0
-KeepsAbove level b path later = (k : ℕ) → level ≤ k → slice_index later k ≡ slice_index (slice_set path level b) k
+KeepsAbove level b path later = (k : ℕ) → level ≤ k → k < 8 → slice_index later k ≡ slice_index (slice_set path level b) k

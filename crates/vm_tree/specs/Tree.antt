@@ -1,6 +1,7 @@
 -- Trees in blocks: what map lies under a root, and in which blocks.
 use Rattle.std.specs.Prelude.{◌≡◌, ◌⊎◌, ℕ, zero, suc, ◌<◌, ◌≤◌, List, [], ◌∷◌, ◌++◌, length}
 use Rattle.std.specs.List.{AllByRecursion}
+use Rattle.vm_types.specs.Bytes.{longest}
 use Rattle.vm_types.specs.Places.{KeyFits, RisesFrom, places}
 use Rattle.vm_disk.specs.Disk.{Contents, block}
 use Rattle.vm_block.specs.Leaf.{Record, Row, BeginsWith, HasRows, LinkFits, link_bytes}
@@ -14,10 +15,6 @@ pub record Sizes : Type 0 where
   pub leaf : ℕ
   pub fan : ℕ
   pub levels : ℕ
-
--- the greatest number of bytes of a value in a tree: none is long
-unfoldable pub longest : ℕ
-longest = 240
 
 -- a block for data, in a store of so many blocks
 abbrev pub IsData : ℕ → ℕ → Type 0

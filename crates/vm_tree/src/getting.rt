@@ -1,22 +1,61 @@
-//! The value of a key.
-ghost use Rattle.std.specs.Prelude.{◌≡◌, ◌≢◌, ◌≤◌, length, IfOk, IfSome};
-ghost use Rattle.vm_types.specs.Places.{KeyFits};
+//! The value of a key, and whether it has one.
+ghost use Rattle.std.specs.Prelude.{◌≡◌, ◌≢◌, ◌≤◌, ℕ, Bool, length, IfOk, IfSome};
+ghost use Rattle.vm_types.specs.Bytes.{longest};
+ghost use Rattle.vm_types.specs.Places.{place, value_at};
+ghost use Rattle.vm_block.specs.Head.{IsRowsHead};
+ghost use Rattle.vm_block.specs.Leaf.{LinkFits};
+ghost use Rattle.vm_block.specs.Told.{IfHasRows};
 ghost use Rattle.vm_tree.specs.Calls.{OnlyLooks};
-ghost use Rattle.vm_tree.specs.Giving.{GivesValue, GivesValueUnder};
-ghost use Rattle.vm_tree.specs.Reading.{FindsPath, FindsPathFrom};
+ghost use Rattle.vm_tree.specs.Giving.{GivesLeaf, GivesLinked, GivesValue, GivesValueUnder, IsLinkOf, TellsRecord, TellsRecordUnder};
+ghost use Rattle.vm_tree.specs.Reading.{FindsEnd, FindsLeaf, FindsPathFrom};
 
+use crate::long::long_at;
 use crate::reading::{block_at, way_at};
 use crate::root::{Root, TreeFault};
-use vm_block::{Child, find_record};
+use vm_block::{Child, Link, Stored, find_row, is_long_leaf};
 use vm_disk::Disk;
 use vm_types::Key;
 
-/// The value of the key under a block of this level. Each block is read into these bytes, and the
-/// value is lent from those of its leaf.
-fn get_below<'a, D: Disk>(
+/// The value to which a row of a leaf links, read into these bytes.
+fn get_long<'a, D: Disk>(
     disk: &mut D,
     blocks: u32,
-    level: u8,
+    key: Key,
+    link: Link,
+    bytes: &'a mut [u8; 4096],
+) -> Result<Option<&'a [u8]>, TreeFault>
+    requires { blocks ≤ (D.state disk.old).blocks }
+    ensures looks { OnlyLooks result (D.state disk.old) (D.state disk.new) }
+    ensures deep { result ≢ Err TreeFault.Deep }
+    ensures memory { result ≢ Err TreeFault.Memory }
+    ensures short { IfOk result (λ value. IfSome value (λ found. length found.now ≤ longest)) }
+    ensures value { GivesLinked result (D.state disk.old) (D.state disk.new) blocks key link }
+{
+    let value = long_at(disk, blocks, key, link, bytes)?;
+    Ok(Some(value))
+}
+
+/// The link to the key's value in a leaf: None, where it has the value itself, or none.
+pub(crate) fn long_link(bytes: &[u8; 4096], key: Key) -> Option<Link>
+    ensures fits { IfSome result LinkFits }
+    ensures headed { IfSome result (λ link. (long : Bool) × (n : ℕ) × IsRowsHead bytes.now 16 long n) }
+    ensures only { IfHasRows bytes.now (λ ws. IsLinkOf result (value_at (place key) ws)) }
+{
+    if !is_long_leaf(bytes) {
+        return None;
+    }
+    match find_row(bytes, key) {
+        Some(Some(Stored::Long(link))) => Some(link),
+        Some(Some(Stored::Short(_))) => None,
+        Some(None) => None,
+        None => None,
+    }
+}
+
+/// The value of the key in this leaf.
+fn get_in_leaf<'a, D: Disk>(
+    disk: &mut D,
+    blocks: u32,
     top: Child,
     key: Key,
     bytes: &'a mut [u8; 4096],
@@ -25,20 +64,66 @@ fn get_below<'a, D: Disk>(
     ensures looks { OnlyLooks result (D.state disk.old) (D.state disk.new) }
     ensures deep { result ≢ Err TreeFault.Deep }
     ensures memory { result ≢ Err TreeFault.Memory }
-    ensures fits { KeyFits key }
-    ensures short { IfOk result (λ value. IfSome value (λ found. length found.now ≤ 240)) }
-    ensures path { FindsPath result (D.state disk.old) (D.state disk.new) blocks level top }
-    ensures value { GivesValueUnder result (D.state disk.old) (D.state disk.new) blocks level top key }
+    ensures short { IfOk result (λ value. IfSome value (λ found. length found.now ≤ longest)) }
+    ensures path { FindsEnd result (D.state disk.old) (D.state disk.new) blocks top }
+    ensures value { GivesValueUnder result (D.state disk.old) (D.state disk.new) blocks top key }
+{
+    block_at(disk, blocks, top, bytes)?;
+    if let Some(link) = long_link(bytes, key) {
+        return get_long(disk, blocks, key, link, bytes);
+    }
+    match find_row(bytes, key) {
+        Some(Some(Stored::Short(value))) => Ok(Some(value)),
+        Some(Some(Stored::Long(_))) => Err(TreeFault::Damaged(top.block)),
+        Some(None) => Ok(None),
+        None => Err(TreeFault::Damaged(top.block)),
+    }
+}
+
+/// Whether this leaf has a record of the key.
+fn has_in_leaf<D: Disk>(
+    disk: &mut D,
+    blocks: u32,
+    top: Child,
+    key: Key,
+    bytes: &mut [u8; 4096],
+) -> Result<bool, TreeFault>
+    requires { blocks ≤ (D.state disk.old).blocks }
+    ensures looks { OnlyLooks result (D.state disk.old) (D.state disk.new) }
+    ensures deep { result ≢ Err TreeFault.Deep }
+    ensures memory { result ≢ Err TreeFault.Memory }
+    ensures path { FindsEnd result (D.state disk.old) (D.state disk.new) blocks top }
+    ensures found { TellsRecordUnder result (D.state disk.old) (D.state disk.new) blocks top key }
+{
+    block_at(disk, blocks, top, bytes)?;
+    match find_row(bytes, key) {
+        Some(Some(_)) => Ok(true),
+        Some(None) => Ok(false),
+        None => Err(TreeFault::Damaged(top.block)),
+    }
+}
+
+/// The leaf of the key under a block of this level. Each block above it is read into these bytes.
+fn leaf_of<D: Disk>(
+    disk: &mut D,
+    blocks: u32,
+    level: u8,
+    top: Child,
+    key: Key,
+    bytes: &mut [u8; 4096],
+) -> Result<Child, TreeFault>
+    requires { blocks ≤ (D.state disk.old).blocks }
+    ensures looks { OnlyLooks result (D.state disk.old) (D.state disk.new) }
+    ensures deep { result ≢ Err TreeFault.Deep }
+    ensures memory { result ≢ Err TreeFault.Memory }
+    ensures path { FindsLeaf result (D.state disk.old) (D.state disk.new) blocks level top }
+    ensures leaf { GivesLeaf result (D.state disk.old) (D.state disk.new) blocks level top key }
 {
     if level == 0 {
-        block_at(disk, blocks, top, bytes)?;
-        return match find_record(bytes, key) {
-            Some(value) => Ok(value),
-            None => Err(TreeFault::Damaged(top.block)),
-        };
+        return Ok(top);
     }
     let way = way_at::<D, 256>(disk, blocks, level, top, key, bytes)?;
-    get_below(disk, blocks, level - 1, way.child, key, bytes)
+    leaf_of(disk, blocks, level - 1, way.child, key, bytes)
 }
 
 /// The value of a key in the map under a root. Each block is read into these bytes, and the value is
@@ -54,7 +139,7 @@ pub fn get<'a, D: Disk>(
     ensures looks { OnlyLooks result (D.state disk.old) (D.state disk.new) }
     ensures deep { result ≢ Err TreeFault.Deep }
     ensures memory { result ≢ Err TreeFault.Memory }
-    ensures short { IfOk result (λ value. IfSome value (λ found. length found.now ≤ 240)) }
+    ensures short { IfOk result (λ value. IfSome value (λ found. length found.now ≤ longest)) }
 
     // A value, or that there is none, is told only where each block on the path has the head of its level and begins
     // with the key that its parent says, the first with the lowest key of the root.
@@ -70,5 +155,37 @@ pub fn get<'a, D: Disk>(
         low: root.low,
         block: root.block,
     };
-    get_below(disk, blocks, root.level, top, key, bytes)
+    let leaf = leaf_of(disk, blocks, root.level, top, key, bytes)?;
+    get_in_leaf(disk, blocks, leaf, key, bytes)
+}
+
+/// Whether the map under a root has a record of the key. Each block is read into these bytes; that of
+/// a long value is not.
+pub fn has<D: Disk>(
+    disk: &mut D,
+    blocks: u32,
+    root: Root,
+    key: Key,
+    bytes: &mut [u8; 4096],
+) -> Result<bool, TreeFault>
+    requires { blocks ≤ (D.state disk.old).blocks }
+    ensures looks { OnlyLooks result (D.state disk.old) (D.state disk.new) }
+    ensures deep { result ≢ Err TreeFault.Deep }
+    ensures memory { result ≢ Err TreeFault.Memory }
+
+    // It is told only where the blocks on the path are such as `get` asks for.
+    ensures path { FindsPathFrom root result (D.state disk.old) (D.state disk.new) blocks }
+
+    // On a tree it is told of its map, whatever the sizes of its blocks, unless the device fails.
+    ensures found { TellsRecord result (D.state disk.old) (D.state disk.new) blocks root key }
+{
+    if root.block == 0 {
+        return Ok(false);
+    }
+    let top = Child {
+        low: root.low,
+        block: root.block,
+    };
+    let leaf = leaf_of(disk, blocks, root.level, top, key, bytes)?;
+    has_in_leaf(disk, blocks, leaf, key, bytes)
 }

@@ -7,13 +7,17 @@
 //!
 //! A descent goes by the bytes of blocks. It compares the head and the first key of each with what
 //! stands above it, before any block is taken, and a block that differs there is refused and never
-//! copied. A change of one child is made in the bytes; `get` and `put` decode no block but a leaf
-//! that splits, and `scan` no leaf. For the walks of the crates above `data_at`, `leaf_at` and
-//! `node_at` read single blocks: one that is for data by one read, and another not at all.
+//! copied. A change of one child is made in the bytes; `get`, `has` and `put` decode no block but a
+//! leaf that splits, and `scan` no leaf. A long value has a block of its own, which `get` and `scan`
+//! read behind its leaf, by the link that the leaf has; `has` reads none. For the walks of the crates
+//! above `data_at`, `rows_into`, `node_into` and `node_at` read single blocks: one that is for data by
+//! one read, and another not at all.
 #![tactic(auto)]
 
 mod getting;
 mod laws;
+mod linking;
+mod long;
 mod putting;
 mod reading;
 mod removing;
@@ -22,10 +26,11 @@ mod scanning;
 mod splicing;
 mod writing;
 
-pub use getting::get;
+pub use getting::{get, has};
 pub use laws::one_tree;
+pub use long::long_at;
 pub use putting::put;
-pub use reading::{data_at, is_data, leaf_at, leaf_into, node_at, node_into};
+pub use reading::{data_at, is_data, node_at, node_into, rows_into};
 pub use removing::remove;
 pub use root::{Root, TreeFault};
 pub use scanning::scan;

@@ -1,28 +1,30 @@
 //! A record more, or another value of a key.
-ghost use Rattle.std.specs.Prelude.{◌≡◌, ◌≢◌, ◌+◌, ◌*◌, ◌<◌, ◌≤◌, true, false, length, IfOk};
+ghost use Rattle.std.specs.Prelude.{◌≡◌, ◌≢◌, ◌+◌, ◌*◌, ◌<◌, ◌≤◌, true, false, [], ◌∷◌, ◌++◌, length, IfOk};
 ghost use Rattle.vm_types.specs.Places.{KeyFits};
 ghost use Rattle.vm_alloc.specs.Held.{free_count};
 ghost use Rattle.vm_tree.specs.Answers.{OkOrDevice};
 ghost use Rattle.vm_tree.specs.Calls.{LooksIfDamaged, WritesFree};
-ghost use Rattle.vm_tree.specs.Free.{IsTaken, AreTaken, TakesAtMost};
-ghost use Rattle.vm_tree.specs.Making.{HasTaken, IfOne, MakesHalves, MakesNodesWith, PutsInLeaf, SplitsLeafOver, SplitsNodeOver, children_of, is_split};
-ghost use Rattle.vm_tree.specs.Paths.{NamesPath, NamesPathUnder};
+ghost use Rattle.vm_tree.specs.Free.{IsTaken, AreTaken, TakesAtMost, long_blocks};
+ghost use Rattle.vm_tree.specs.Making.{HasTaken, IfOne, MakesHalves, MakesNodesWith, PutsInLeaf, SplitsLeafOver, SplitsNodeOver, WritesPut, children_of, is_split};
+ghost use Rattle.vm_types.specs.Bytes.{longest};
+ghost use Rattle.vm_tree.specs.Paths.{NamesLong, NamesPath, NamesPathUnder};
 ghost use Rattle.vm_tree.specs.Putting.{PutsFirst, PutsFrom, PutsUnder, PutsUnderLeaf, ReplacesFrom, ReplacesInLeaf, ReplacesUnder, SplitsOnly};
 ghost use Rattle.vm_tree.specs.Reading.{FindsPath, FindsPathFrom};
-ghost use Rattle.vm_tree.specs.Replacing.{KeepsAbove};
+ghost use Rattle.vm_tree.specs.Replacing.{KeepsAbove, long_of};
 ghost use Rattle.vm_tree.specs.Root.{AreSizes, sizes_of};
 
+use crate::linking::{MAX_SHORT, linked, store, write_long_block};
 use crate::reading::{block_at, way_at};
 use crate::root::{Root, TreeFault, root_at};
 use crate::splicing::spliced;
 use crate::writing::{Copied, write_bytes, write_node_block, write_nodes};
 use vm_alloc::Held;
 use vm_block::{
-    Child, Placed, Stored, Way, leaf_size, put_record, set_child, spelled_children, split_rows,
-    write_rows,
+    Child, Placed, Stored, Way, put_row, rows_size, set_child, spelled_children, split_rows,
+    write_leaf,
 };
 use vm_disk::Disk;
-use vm_types::{Key, Value};
+use vm_types::Key;
 
 /// Writes the inner block of these bytes anew as one or two, with both children in the place of the
 /// one that was taken. It stands alone, and is not put into its caller, so that only here a list of
@@ -42,7 +44,8 @@ fn write_divided<D: Disk, const FAN: usize>(
     requires most { FAN ≤ 256 }
     requires within { way.index < way.count }
     requires few { way.count ≤ FAN }
-    requires free { 2 ≤ free_count held.old }
+    requires free { 0 < free_count held.old }
+    requires free_two { FAN ≤ way.count → 2 ≤ free_count held.old }
     ensures writes { WritesFree result held.old held.new (D.state disk.old) (D.state disk.new) }
     ensures device { OkOrDevice result (λ done. AreTaken held.new (children_of done)) }
     ensures split { IfOk result (λ done. is_split done ≡ true → FAN ≤ way.count) }
@@ -73,7 +76,8 @@ fn write_replaced<D: Disk, const FAN: usize>(
     requires most { FAN ≤ 256 }
     requires within { way.index < way.count }
     requires few { way.count ≤ FAN }
-    requires free { 2 ≤ free_count held.old }
+    requires free { 0 < free_count held.old }
+    requires free_two { is_split copied ≡ true → FAN ≤ way.count → 2 ≤ free_count held.old }
     ensures writes { WritesFree result held.old held.new (D.state disk.old) (D.state disk.new) }
     ensures device { OkOrDevice result (λ done. AreTaken held.new (children_of done)) }
     ensures split { SplitsOnly result copied FAN way.count }
@@ -110,7 +114,8 @@ fn write_halves<D: Disk>(
     ensures device { OkOrDevice result (λ done. AreTaken held.new (children_of done)) }
     ensures two { IfOk result (λ done. is_split done ≡ true) }
     ensures taken { TakesAtMost 2 held.old held.new }
-    ensures made { MakesHalves result held.old held.new (D.state disk.new) left.now right.now }
+    ensures made { MakesHalves result held.old held.new (D.state disk.old) (D.state disk.new)
+        left.now right.now }
 {
     let left = write_bytes(disk, held, left)?;
     let right = write_bytes(disk, held, right)?;
@@ -124,25 +129,26 @@ fn split_leaf<D: Disk, const LEAF: usize>(
     block: u32,
     bytes: &[u8; 4096],
     key: Key,
-    value: &Value,
+    value: &[u8],
 ) -> Result<Copied, TreeFault>
     requires inside { length held.old ≤ (D.state disk.old).blocks }
     requires most { LEAF ≤ 16 }
-    requires free { 2 ≤ free_count held.old }
+    requires short { length value.now ≤ longest }
+    requires free { 2 + long_blocks value.now ≤ free_count held.old }
     ensures writes { WritesFree result held.old held.new (D.state disk.old) (D.state disk.new) }
     ensures deep { result ≢ Err TreeFault.Deep }
     ensures memory { result ≢ Err TreeFault.Memory }
     ensures device { HasTaken result held.new }
     ensures looks { LooksIfDamaged result held.old held.new (D.state disk.old) (D.state disk.new) }
-    ensures single { IfOne result (TakesAtMost 1 held.old held.new) }
-    ensures taken { TakesAtMost 2 held.old held.new }
+    ensures single { IfOne result (TakesAtMost (1 + long_blocks value.now) held.old held.new) }
+    ensures taken { TakesAtMost (2 + long_blocks value.now) held.old held.new }
     ensures fine { SplitsLeafOver result LEAF bytes.now (key, value.now) }
-    ensures made { PutsInLeaf result LEAF held.old held.new (D.state disk.new)
+    ensures made { PutsInLeaf result LEAF held.old held.new (D.state disk.old) (D.state disk.new)
         bytes.now (key, value.now) }
 {
-    match leaf_size(bytes) {
+    match rows_size(bytes) {
         Some(count) if count <= LEAF => {
-            let stored = Stored::Short(value.as_bytes());
+            let stored = store(disk, held, key, value)?;
             let mut left = [0; 4096];
             let mut right = [0; 4096];
             split_rows(bytes, key, stored, &mut left, &mut right);
@@ -152,39 +158,86 @@ fn split_leaf<D: Disk, const LEAF: usize>(
     }
 }
 
-/// Gives the key this value in a leaf. Where it would split, `room` tells whether it may.
+/// What stands for a value in a leaf at first: the value, where it is short, and else no bytes.
+fn first_stored(value: &[u8]) -> &[u8]
+    ensures short { length result.now ≤ 240 }
+    ensures same { length value.now ≤ 240 → result.now ≡ value.now }
+{
+    if value.len() <= MAX_SHORT {
+        value
+    } else {
+        &value[..0]
+    }
+}
+
+/// Writes anew a leaf in whose bytes a row of the key stands. For a long value its block is written
+/// first, and the row is made the link to it.
+fn write_put<D: Disk, const LEAF: usize>(
+    disk: &mut D,
+    held: &mut Held,
+    bytes: &mut [u8; 4096],
+    key: Key,
+    value: &[u8],
+) -> Result<Child, TreeFault>
+    requires inside { length held.old ≤ (D.state disk.old).blocks }
+    requires most { LEAF ≤ 16 }
+    requires short { length value.now ≤ longest }
+    requires free { 1 + long_blocks value.now ≤ free_count held.old }
+    ensures writes { WritesFree result held.old held.new (D.state disk.old) (D.state disk.new) }
+    ensures device { OkOrDevice result (λ child. IsTaken held.new child.block) }
+    ensures taken { TakesAtMost (1 + long_blocks value.now) held.old held.new }
+    ensures made { WritesPut result LEAF held.old held.new (D.state disk.old) (D.state disk.new)
+        bytes.old (key, value.now) }
+{
+    if value.len() <= MAX_SHORT {
+        return write_bytes(disk, held, bytes);
+    }
+    let link = write_long_block(disk, held, key, value)?;
+    put_row(bytes, LEAF, key, Stored::Long(link));
+    write_bytes(disk, held, bytes)
+}
+
+/// Gives the key this value in a leaf. Where it would split, `room` tells whether it may. The block
+/// of a long value is written once it is known that the leaf will have it. In `long` comes the block
+/// of the long value that is replaced, 0 where there is none.
 fn put_in_leaf<D: Disk, const LEAF: usize>(
     disk: &mut D,
     held: &mut Held,
     top: Child,
     room: bool,
     key: Key,
-    value: &Value,
+    value: &[u8],
+    long: &mut u32,
 ) -> Result<Copied, TreeFault>
     requires inside { length held.old ≤ (D.state disk.old).blocks }
     requires least { 2 ≤ LEAF }
     requires most { LEAF ≤ 16 }
-    requires free { 2 ≤ free_count held.old }
+    requires short { length value.now ≤ longest }
+    requires free { 1 + long_blocks value.now ≤ free_count held.old }
+    requires free_two { room ≡ true → 2 + long_blocks value.now ≤ free_count held.old }
     ensures writes { WritesFree result held.old held.new (D.state disk.old) (D.state disk.new) }
     ensures memory { result ≢ Err TreeFault.Memory }
     ensures device { HasTaken result held.new }
     ensures split { IfOk result (λ copied. is_split copied ≡ true → room ≡ true) }
     ensures deep { result ≡ Err TreeFault.Deep → (room ≡ false) × (held.new ≡ held.old) }
     ensures looks { LooksIfDamaged result held.old held.new (D.state disk.old) (D.state disk.new) }
-    ensures one { room ≡ false → TakesAtMost 1 held.old held.new }
-    ensures single { IfOne result (TakesAtMost 1 held.old held.new) }
-    ensures taken { TakesAtMost 2 held.old held.new }
+    ensures one { room ≡ false → TakesAtMost (1 + long_blocks value.now) held.old held.new }
+    ensures single { IfOne result (TakesAtMost (1 + long_blocks value.now) held.old held.new) }
+    ensures taken { TakesAtMost (2 + long_blocks value.now) held.old held.new }
     ensures path { FindsPath result (D.state disk.old) (D.state disk.new) (length held.old) 0 top }
     ensures replaced { ReplacesInLeaf result LEAF held.old held.new
-        (D.state disk.old) (D.state disk.new) top key }
-    ensures put { PutsUnderLeaf result LEAF held.old held.new
         (D.state disk.old) (D.state disk.new) top (key, value.now) }
+    ensures put { PutsUnderLeaf result LEAF held.old held.new
+        (D.state disk.old) (D.state disk.new) top (key, value.now) (long_of long.new ++ (top.block ∷ [])) }
+    ensures path_in { NamesLong result LEAF (D.state disk.old) (D.state disk.new)
+        (length held.old) top long.new }
 {
     let mut bytes = [0; 4096];
     block_at(disk, held.blocks(), top, &mut bytes)?;
-    match put_record(&mut bytes, LEAF, key, value) {
+    *long = linked(&bytes, key);
+    match put_row(&mut bytes, LEAF, key, Stored::Short(first_stored(value))) {
         Placed::Put => {
-            let leaf = write_bytes(disk, held, &bytes)?;
+            let leaf = write_put::<D, LEAF>(disk, held, &mut bytes, key, value)?;
             Ok(Copied::One(leaf))
         }
         Placed::Full if !room => Err(TreeFault::Deep),
@@ -195,7 +248,7 @@ fn put_in_leaf<D: Disk, const LEAF: usize>(
 
 /// Gives the key this value under a block of this level. Where it would split, `room` tells whether
 /// it may: some block above has room for one child more, or the tree for a level. In `path` come
-/// the blocks that are replaced, each at its level.
+/// the blocks that are replaced, each at its level, and the long value's in the ninth place.
 fn put_below<D: Disk, const LEAF: usize, const FAN: usize>(
     disk: &mut D,
     held: &mut Held,
@@ -203,8 +256,8 @@ fn put_below<D: Disk, const LEAF: usize, const FAN: usize>(
     top: Child,
     room: bool,
     key: Key,
-    value: &Value,
-    path: &mut [u32; 8],
+    value: &[u8],
+    path: &mut [u32; 9],
 ) -> Result<Copied, TreeFault>
     requires inside { length held.old ≤ (D.state disk.old).blocks }
     requires leaf_least { 2 ≤ LEAF }
@@ -212,7 +265,9 @@ fn put_below<D: Disk, const LEAF: usize, const FAN: usize>(
     requires fan_least { 2 ≤ FAN }
     requires fan_most { FAN ≤ 256 }
     requires low { level ≤ 7 }
-    requires free { 2 * level + 2 ≤ free_count held.old }
+    requires short { length value.now ≤ longest }
+    requires free { 2 * level + 1 + long_blocks value.now ≤ free_count held.old }
+    requires free_two { room ≡ true → 2 * level + 2 + long_blocks value.now ≤ free_count held.old }
     ensures writes { WritesFree result held.old held.new (D.state disk.old) (D.state disk.new) }
     ensures memory { result ≢ Err TreeFault.Memory }
     ensures fits { KeyFits key }
@@ -220,12 +275,12 @@ fn put_below<D: Disk, const LEAF: usize, const FAN: usize>(
     ensures split { IfOk result (λ copied. is_split copied ≡ true → room ≡ true) }
     ensures deep { result ≡ Err TreeFault.Deep → (room ≡ false) × (held.new ≡ held.old) }
     ensures looks { LooksIfDamaged result held.old held.new (D.state disk.old) (D.state disk.new) }
-    ensures one { room ≡ false → TakesAtMost (2 * level + 1) held.old held.new }
-    ensures single { IfOne result (TakesAtMost (2 * level + 1) held.old held.new) }
-    ensures taken { TakesAtMost (2 * level + 2) held.old held.new }
+    ensures one { room ≡ false → TakesAtMost (2 * level + 1 + long_blocks value.now) held.old held.new }
+    ensures single { IfOne result (TakesAtMost (2 * level + 1 + long_blocks value.now) held.old held.new) }
+    ensures taken { TakesAtMost (2 * level + 2 + long_blocks value.now) held.old held.new }
     ensures path { FindsPath result (D.state disk.old) (D.state disk.new) (length held.old) level top }
     ensures replaced { ReplacesUnder result LEAF FAN held.old held.new
-        (D.state disk.old) (D.state disk.new) level top key }
+        (D.state disk.old) (D.state disk.new) level top (key, value.now) }
     ensures put { PutsUnder result LEAF FAN held.old held.new
         (D.state disk.old) (D.state disk.new) level top (key, value.now) path.new }
     ensures path_size { length path.new ≡ length path.old }
@@ -235,7 +290,7 @@ fn put_below<D: Disk, const LEAF: usize, const FAN: usize>(
 {
     path[usize::from(level)] = top.block;
     if level == 0 {
-        return put_in_leaf::<D, LEAF>(disk, held, top, room, key, value);
+        return put_in_leaf::<D, LEAF>(disk, held, top, room, key, value, &mut path[8]);
     }
     let mut bytes = [0; 4096];
     let way = way_at::<D, FAN>(disk, held.blocks(), level, top, key, &mut bytes)?;
@@ -258,36 +313,39 @@ fn put_first<D: Disk>(
     disk: &mut D,
     held: &mut Held,
     key: Key,
-    value: &Value,
+    value: &[u8],
 ) -> Result<Root, TreeFault>
     requires inside { length held.old ≤ (D.state disk.old).blocks }
     requires room { 16 ≤ free_count held.old }
+    requires short { length value.now ≤ longest }
     ensures writes { WritesFree result held.old held.new (D.state disk.old) (D.state disk.new) }
     ensures device { OkOrDevice result (λ r. IsTaken held.new r.block × (r.level ≡ 0)) }
-    ensures taken { TakesAtMost 1 held.old held.new }
+    ensures taken { TakesAtMost (1 + long_blocks value.now) held.old held.new }
     ensures put { PutsFirst result held.old held.new (D.state disk.new) (key, value.now) }
 {
-    let stored = Stored::Short(value.as_bytes());
+    let stored = store(disk, held, key, value)?;
     let mut bytes = [0; 4096];
-    write_rows(&[(key, stored)], &mut bytes);
+    write_leaf(&[(key, stored)], &mut bytes);
     let leaf = write_bytes(disk, held, &bytes)?;
     Ok(root_at(leaf, 0))
 }
 
 /// Gives the key this value: writes its path anew, in blocks that were free, and returns the new
-/// root. The caller owes 16 free blocks. In `path` come the blocks of the old path, each at its
-/// level: no block of the new tree is one of them.
+/// root. A long value is written into a block of its own before. The caller owes 16 free blocks. In
+/// `path` come the blocks of the old path, each at its level, and in its ninth place that of the long
+/// value which is replaced, or 0: no block of the new tree is one of them.
 pub fn put<D: Disk, const LEAF: usize, const FAN: usize, const LEVELS: usize>(
     disk: &mut D,
     held: &mut Held,
     root: Root,
     key: Key,
-    value: &Value,
-    path: &mut [u32; 8],
+    value: &[u8],
+    path: &mut [u32; 9],
 ) -> Result<Root, TreeFault>
     requires sizes { AreSizes LEAF FAN LEVELS }
     requires inside { length held.old ≤ (D.state disk.old).blocks }
     requires room { 16 ≤ free_count held.old }
+    requires short { length value.now ≤ longest }
     ensures memory { result ≢ Err TreeFault.Memory }
 
     // What is held stays held, and at no moment has a block that was held other bytes than before.
@@ -296,21 +354,22 @@ pub fn put<D: Disk, const LEAF: usize, const FAN: usize, const LEVELS: usize>(
     // The root is that of a block for data, which is held now.
     ensures root { IfOk result (λ r. IsTaken held.new r.block × (r.level < LEVELS)) }
 
-    // No more than 15 blocks are taken; none of them where the tree has no room.
-    ensures taken { TakesAtMost 15 held.old held.new }
+    // No more than 15 blocks are taken, and that of a long value; none of them where the tree has no room.
+    ensures taken { TakesAtMost (15 + long_blocks value.now) held.old held.new }
     ensures deep { result ≡ Err TreeFault.Deep → held.new ≡ held.old }
 
     // It takes the blocks of one path alone: two a level at most and a new root, or two a level but one at the top
-    // where the tree stays as high, and one for the empty map.
-    ensures path_taken { TakesAtMost (2 * root.level + 3) held.old held.new }
+    // where the tree stays as high, and one for the empty map; and that of a long value.
+    ensures path_taken { TakesAtMost (2 * root.level + 3 + long_blocks value.now) held.old held.new }
     ensures as_high { IfOk result
         (λ r. r.level ≡ root.level
-        → TakesAtMost (2 * root.level + 1) held.old held.new) }
-    ensures first_taken { root.block ≡ 0 → TakesAtMost 1 held.old held.new }
+        → TakesAtMost (2 * root.level + 1 + long_blocks value.now) held.old held.new) }
+    ensures first_taken { root.block ≡ 0
+        → TakesAtMost (1 + long_blocks value.now) held.old held.new }
 
-    // On a tree that has the key it takes one block a level.
+    // On a tree that has the key it takes one block a level, and that of a long value.
     ensures replaced { ReplacesFrom result (sizes_of LEAF FAN LEVELS) held.old held.new
-        (D.state disk.old) (D.state disk.new) root key }
+        (D.state disk.old) (D.state disk.new) root key value.now }
 
     // A block is found damaged before any is taken or written.
     ensures looks { LooksIfDamaged result held.old held.new (D.state disk.old) (D.state disk.new) }
@@ -329,6 +388,7 @@ pub fn put<D: Disk, const LEAF: usize, const FAN: usize, const LEVELS: usize>(
         (D.state disk.old) (D.state disk.new) (length held.old) root path.new }
 {
     if root.block == 0 {
+        path[8] = 0;
         return put_first(disk, held, key, value);
     }
     let level = root.level;

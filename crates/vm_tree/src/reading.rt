@@ -1,16 +1,17 @@
 //! Blocks of a tree, read from a disk, and the way down to a key.
 ghost use Rattle.std.specs.Prelude.{◌≡◌, ◌≢◌, ◌↔◌, ◌≤◌, length, IsTrue, IfOk};
 ghost use Rattle.vm_types.specs.Places.{place};
+ghost use Rattle.vm_block.specs.Told.{IsRowsSize};
 ghost use Rattle.vm_tree.specs.Tree.{IsData};
 ghost use Rattle.vm_tree.specs.Calls.{OnlyLooks};
-ghost use Rattle.vm_tree.specs.Reading.{FindsBlock, FindsData, FindsEnd, FindsLeaf, FindsNode, FindsStep, GivesData, GivesLeaf, GivesLeafUnder, GivesNode, GivesNodeUnder, GivesRecordsUnder, GivesWay, IsCount, IsLeafOf, IsNodeOf, IsWayAmong, ReadsLeaf, ReadsNode, ReadsOne};
+ghost use Rattle.vm_tree.specs.Reading.{FindsBlock, FindsData, FindsNode, FindsStep, GivesData, GivesNode, GivesNodeUnder, GivesRowsUnder, GivesWay, IsCount, IsNodeOf, IsWayAmong, ReadsNode, ReadsOne, ReadsRows};
 
 use crate::root::TreeFault;
 use arrayvec::ArrayVec;
 use vm_alloc::FIRST_DATA;
-use vm_block::{Child, Way, find_child, leaf_size, lowest_key, node_size, read_leaf, read_node};
+use vm_block::{Child, Way, find_child, lowest_key, node_size, read_node, rows_size};
 use vm_disk::Disk;
-use vm_types::{Key, Value};
+use vm_types::Key;
 
 /// Whether the block is for data, in a store of so many blocks.
 pub fn is_data(blocks: u32, block: u32) -> bool
@@ -56,7 +57,7 @@ pub(crate) fn block_at<D: Disk>(
     ensures deep { result ≢ Err TreeFault.Deep }
     ensures memory { result ≢ Err TreeFault.Memory }
     ensures found { FindsBlock result (D.state disk.old) (D.state disk.new) blocks top bytes.new }
-    ensures leaf { GivesLeafUnder result (D.state disk.old) (D.state disk.new) blocks top bytes.new }
+    ensures rows { GivesRowsUnder result (D.state disk.old) (D.state disk.new) blocks top bytes.new }
     ensures node { GivesNodeUnder result (D.state disk.old) (D.state disk.new) blocks top bytes.new }
 {
     data_at(disk, blocks, top.block, bytes)?;
@@ -93,51 +94,6 @@ pub(crate) fn way_at<D: Disk, const MOST: usize>(
     }
 }
 
-/// Reads this child's block, which is to be a leaf of MOST records at most, into these bytes.
-pub(crate) fn leaf_under<D: Disk, const MOST: usize>(
-    disk: &mut D,
-    blocks: u32,
-    top: Child,
-    bytes: &mut [u8; 4096],
-) -> Result<(), TreeFault>
-    requires { blocks ≤ (D.state disk.old).blocks }
-    ensures looks { OnlyLooks result (D.state disk.old) (D.state disk.new) }
-    ensures deep { result ≢ Err TreeFault.Deep }
-    ensures memory { result ≢ Err TreeFault.Memory }
-    ensures end { FindsEnd result (D.state disk.old) (D.state disk.new) blocks top }
-    ensures only { GivesRecordsUnder result (D.state disk.old) (D.state disk.new)
-        blocks top MOST bytes.new }
-{
-    block_at(disk, blocks, top, bytes)?;
-    match leaf_size(bytes) {
-        Some(count) if count <= MOST => Ok(()),
-        _ => Err(TreeFault::Damaged(top.block)),
-    }
-}
-
-/// The records of a leaf.
-pub fn leaf_at<D: Disk>(
-    disk: &mut D,
-    blocks: u32,
-    block: u32,
-) -> Result<ArrayVec<(Key, Value), 16>, TreeFault>
-    requires { blocks ≤ (D.state disk.old).blocks }
-    ensures looks { OnlyLooks result (D.state disk.old) (D.state disk.new) }
-    ensures deep { result ≢ Err TreeFault.Deep }
-    ensures memory { result ≢ Err TreeFault.Memory }
-    ensures once { ReadsOne blocks block (D.state disk.old).reads (D.state disk.new).reads }
-    ensures count { IfOk result (λ records. IsCount 16 (length records.items)) }
-    ensures found { FindsLeaf result (D.state disk.old) (D.state disk.new) blocks block }
-    ensures only { GivesLeaf result (D.state disk.old) (D.state disk.new) blocks block }
-{
-    let mut bytes = [0; 4096];
-    data_at(disk, blocks, block, &mut bytes)?;
-    match read_leaf(&bytes) {
-        Some(records) => Ok(records),
-        None => Err(TreeFault::Damaged(block)),
-    }
-}
-
 /// The children of an inner block of this level.
 pub fn node_at<D: Disk>(
     disk: &mut D,
@@ -163,8 +119,8 @@ pub fn node_at<D: Disk>(
     }
 }
 
-/// Reads a leaf into these bytes, and tells how many records it has.
-pub fn leaf_into<D: Disk>(
+/// Reads a leaf into these bytes, and tells how many rows it has, short and long.
+pub fn rows_into<D: Disk>(
     disk: &mut D,
     blocks: u32,
     block: u32,
@@ -175,12 +131,12 @@ pub fn leaf_into<D: Disk>(
     ensures deep { result ≢ Err TreeFault.Deep }
     ensures memory { result ≢ Err TreeFault.Memory }
     ensures once { ReadsOne blocks block (D.state disk.old).reads (D.state disk.new).reads }
-    ensures count { IfOk result (λ count. IsLeafOf bytes.new count) }
+    ensures count { IfOk result (IsRowsSize bytes.new) }
     ensures found { FindsData result (D.state disk.old) (D.state disk.new) blocks block bytes.new }
-    ensures only { ReadsLeaf result (D.state disk.old) (D.state disk.new) blocks block bytes.new }
+    ensures only { ReadsRows result (D.state disk.old) (D.state disk.new) blocks block bytes.new }
 {
     data_at(disk, blocks, block, bytes)?;
-    match leaf_size(bytes) {
+    match rows_size(bytes) {
         Some(count) => Ok(count),
         None => Err(TreeFault::Damaged(block)),
     }

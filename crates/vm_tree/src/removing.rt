@@ -1,22 +1,23 @@
 //! A record less.
-ghost use Rattle.std.specs.Prelude.{◌≡◌, ◌≢◌, ◌+◌, ◌<◌, ◌≤◌, true, false, None, length, IfOk, IfSome};
+ghost use Rattle.std.specs.Prelude.{◌≡◌, ◌≢◌, ◌+◌, ◌<◌, ◌≤◌, true, false, [], ◌∷◌, ◌++◌, None, length, IfOk, IfSome};
 ghost use Rattle.vm_types.specs.Places.{KeyFits, place};
 ghost use Rattle.vm_alloc.specs.Held.{free_count};
 ghost use Rattle.vm_tree.specs.Calls.{OnlyLooks, LooksIf, LooksIfDamaged, WritesFree};
 ghost use Rattle.vm_tree.specs.Free.{TakesAtMost};
-ghost use Rattle.vm_tree.specs.Paths.{NamesPath, NamesPathUnder};
-ghost use Rattle.vm_tree.specs.Reading.{FindsPath, FindsPathFrom};
+ghost use Rattle.vm_tree.specs.Paths.{NamesLong, NamesPath, NamesPathUnder};
+ghost use Rattle.vm_tree.specs.Reading.{FindsEnd, FindsPath, FindsPathFrom, GivesRowsAmong};
 ghost use Rattle.vm_tree.specs.Removing.{LeavesOut, LeavesRest, LooksIfNothing, LooksIfSame, NarrowsTo, RemovesFrom, RemovesFromLeaf, RemovesUnder, child_of, level_of};
-ghost use Rattle.vm_tree.specs.Replacing.{KeepsAbove};
+ghost use Rattle.vm_tree.specs.Replacing.{KeepsAbove, long_of};
 ghost use Rattle.vm_tree.specs.Root.{AreSizes, sizes_of};
 
-use crate::reading::{leaf_under, way_at};
+use crate::linking::linked;
+use crate::reading::{block_at, way_at};
 use crate::root::{Root, TreeFault, root_at};
 use crate::splicing::spliced;
 use crate::writing::{write_bytes, write_node_block};
 use arrayvec::ArrayVec;
 use vm_alloc::Held;
-use vm_block::{Child, Taken, Way, read_node, remove_row, set_child};
+use vm_block::{Child, Taken, Way, read_node, remove_row, rows_size, set_child};
 use vm_disk::Disk;
 use vm_types::Key;
 
@@ -56,12 +57,36 @@ fn without_child(bytes: &[u8; 4096], way: Way) -> Option<ArrayVec<Child, 257>>
     }
 }
 
-/// Takes the record of the key out of a leaf.
+/// Reads this child's block, which is to be a leaf of MOST rows at most, into these bytes.
+fn rows_under<D: Disk, const MOST: usize>(
+    disk: &mut D,
+    blocks: u32,
+    top: Child,
+    bytes: &mut [u8; 4096],
+) -> Result<(), TreeFault>
+    requires { blocks ≤ (D.state disk.old).blocks }
+    ensures looks { OnlyLooks result (D.state disk.old) (D.state disk.new) }
+    ensures deep { result ≢ Err TreeFault.Deep }
+    ensures memory { result ≢ Err TreeFault.Memory }
+    ensures end { FindsEnd result (D.state disk.old) (D.state disk.new) blocks top }
+    ensures only { GivesRowsAmong result (D.state disk.old) (D.state disk.new)
+        blocks top MOST bytes.new }
+{
+    block_at(disk, blocks, top, bytes)?;
+    match rows_size(bytes) {
+        Some(count) if count <= MOST => Ok(()),
+        _ => Err(TreeFault::Damaged(top.block)),
+    }
+}
+
+/// Takes the row of the key out of a leaf. The block of a long value is neither read nor written. In
+/// `long` comes that block, 0 where there is none.
 fn remove_from_leaf<D: Disk, const LEAF: usize>(
     disk: &mut D,
     held: &mut Held,
     top: Child,
     key: Key,
+    long: &mut u32,
 ) -> Result<Left, TreeFault>
     requires inside { length held.old ≤ (D.state disk.old).blocks }
     requires most { LEAF ≤ 16 }
@@ -76,10 +101,13 @@ fn remove_from_leaf<D: Disk, const LEAF: usize>(
     ensures looks { LooksIfDamaged result held.old held.new (D.state disk.old) (D.state disk.new) }
     ensures path { FindsPath result (D.state disk.old) (D.state disk.new) (length held.old) 0 top }
     ensures remove { RemovesFromLeaf result LEAF held.old held.new
-        (D.state disk.old) (D.state disk.new) top (place key) }
+        (D.state disk.old) (D.state disk.new) top (place key) (long_of long.new ++ (top.block ∷ [])) }
+    ensures path_in { NamesLong result LEAF (D.state disk.old) (D.state disk.new)
+        (length held.old) top long.new }
 {
     let mut bytes = [0; 4096];
-    leaf_under::<D, LEAF>(disk, held.blocks(), top, &mut bytes)?;
+    rows_under::<D, LEAF>(disk, held.blocks(), top, &mut bytes)?;
+    *long = linked(&bytes, key);
     match remove_row(&mut bytes, LEAF, key) {
         Taken::Out => {
             let leaf = write_bytes(disk, held, &bytes)?;
@@ -158,7 +186,7 @@ fn write_rest<D: Disk, const FAN: usize>(
 
 /// Takes the record of the key out of what lies under a block of this level. A root
 /// that would have one child is not written. In `path` come the blocks that are replaced, each at
-/// its level.
+/// its level, and the long value's in the ninth place.
 fn remove_below<D: Disk, const LEAF: usize, const FAN: usize>(
     disk: &mut D,
     held: &mut Held,
@@ -166,7 +194,7 @@ fn remove_below<D: Disk, const LEAF: usize, const FAN: usize>(
     top: Child,
     is_root: bool,
     key: Key,
-    path: &mut [u32; 8],
+    path: &mut [u32; 9],
 ) -> Result<Left, TreeFault>
     requires inside { length held.old ≤ (D.state disk.old).blocks }
     requires leaf_most { LEAF ≤ 16 }
@@ -193,7 +221,7 @@ fn remove_below<D: Disk, const LEAF: usize, const FAN: usize>(
 {
     path[usize::from(level)] = top.block;
     if level == 0 {
-        return remove_from_leaf::<D, LEAF>(disk, held, top, key);
+        return remove_from_leaf::<D, LEAF>(disk, held, top, key, &mut path[8]);
     }
     let mut bytes = [0; 4096];
     let way = way_at::<D, FAN>(disk, held.blocks(), level, top, key, &mut bytes)?;
@@ -218,13 +246,14 @@ fn remove_below<D: Disk, const LEAF: usize, const FAN: usize>(
 
 /// Takes the record of a key out: writes its path anew, in blocks that were free, and returns the
 /// new root; or None where the key is absent. The caller owes 16 free blocks. In `path` come the
-/// blocks of the old path, each at its level: no block of the new tree is one of them.
+/// blocks of the old path, each at its level, and in its ninth place that of the long value which is
+/// removed, or 0: no block of the new tree is one of them.
 pub fn remove<D: Disk, const LEAF: usize, const FAN: usize, const LEVELS: usize>(
     disk: &mut D,
     held: &mut Held,
     root: Root,
     key: Key,
-    path: &mut [u32; 8],
+    path: &mut [u32; 9],
 ) -> Result<Option<Root>, TreeFault>
     requires sizes { AreSizes LEAF FAN LEVELS }
     requires inside { length held.old ≤ (D.state disk.old).blocks }
@@ -263,6 +292,7 @@ pub fn remove<D: Disk, const LEAF: usize, const FAN: usize, const LEVELS: usize>
         (D.state disk.old) (D.state disk.new) (length held.old) root path.new }
 {
     if root.block == 0 {
+        path[8] = 0;
         return Ok(None);
     }
     if usize::from(root.level) >= LEVELS {

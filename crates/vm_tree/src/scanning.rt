@@ -1,22 +1,96 @@
 //! All records of a map, in order.
-ghost use Rattle.std.specs.Prelude.{◌≡◌, ◌≢◌, ◌≤◌};
+ghost use Rattle.std.specs.Prelude.{◌≡◌, ◌≢◌, ◌<◌, ◌≤◌, [], ◌∷◌, ◌++◌, length};
+ghost use Rattle.vm_types.specs.Bytes.{longest};
+ghost use Rattle.vm_block.specs.Told.{IfLeafRowAt};
+ghost use Rattle.vm_tree.specs.Answers.{Lists};
 ghost use Rattle.vm_tree.specs.Calls.{OnlyLooks};
-ghost use Rattle.vm_tree.specs.Giving.{Adds, AddsLeaf, GivesMap};
+ghost use Rattle.vm_tree.specs.Giving.{Adds, AddsLeaf, AddsLinked, AddsRow, GivesMap};
 
-use crate::reading::{leaf_into, node_at};
+use crate::long::long_at;
+use crate::reading::{node_at, rows_into};
 use crate::root::{Root, TreeFault};
-use std::alloc::{AllocError, Global};
-use vm_block::{record_key, record_value};
+use std::alloc::Global;
+use vm_block::{Link, Stored, record_key, stored_at};
 use vm_disk::Disk;
-use vm_types::Records;
+use vm_types::{Key, Records};
 
-/// Adds so many records of a leaf, each from where it stands in the leaf's bytes.
-fn push_records(bytes: &[u8; 4096], count: usize, into: &mut Records) -> Result<(), AllocError>
-    requires { count ≤ 16 }
-    ensures { AddsLeaf result bytes.now count into.old into.new }
+/// Adds a record. Where no memory is found, it changes nothing.
+fn push_value(key: Key, value: &[u8], into: &mut Records) -> Result<(), TreeFault>
+    requires { length value.now ≤ longest }
+    ensures looks { result ≢ Err TreeFault.Device }
+    ensures deep { result ≢ Err TreeFault.Deep }
+    ensures added { Lists result (λ _. into.new ≡ into.old ++ (key, value.now) ∷ []) }
+{
+    match into.push(key, value) {
+        Ok(()) => Ok(()),
+        Err(_) => Err(TreeFault::Memory),
+    }
+}
+
+/// Adds the record with the long value to which a row of a leaf links. It stands alone, and is
+/// not put into its caller, so that only here a second block is on the stack.
+#[inline(never)]
+fn push_long<D: Disk>(
+    disk: &mut D,
+    blocks: u32,
+    key: Key,
+    link: Link,
+    into: &mut Records,
+) -> Result<(), TreeFault>
+    requires { blocks ≤ (D.state disk.old).blocks }
+    ensures looks { OnlyLooks result (D.state disk.old) (D.state disk.new) }
+    ensures deep { result ≢ Err TreeFault.Deep }
+    ensures added { AddsLinked result (D.state disk.old) (D.state disk.new)
+        blocks key link into.old into.new }
+{
+    let mut bytes = [0; 4096];
+    let value = long_at(disk, blocks, key, link, &mut bytes)?;
+    push_value(key, value, into)
+}
+
+/// Adds the record for which the row at i of this leaf stands: a short one from where it stands in
+/// the leaf's bytes.
+fn push_row<D: Disk>(
+    disk: &mut D,
+    blocks: u32,
+    leaf: u32,
+    bytes: &[u8; 4096],
+    i: usize,
+    into: &mut Records,
+) -> Result<(), TreeFault>
+    requires inside { blocks ≤ (D.state disk.old).blocks }
+    requires few { i < 16 }
+    ensures looks { OnlyLooks result (D.state disk.old) (D.state disk.new) }
+    ensures deep { result ≢ Err TreeFault.Deep }
+    ensures added { IfLeafRowAt bytes.now i
+        (AddsRow result (D.state disk.old) (D.state disk.new) blocks into.old into.new) }
+{
+    let key = record_key(bytes, i);
+    match stored_at(bytes, i) {
+        Some(Stored::Short(value)) => push_value(key, value, into),
+        Some(Stored::Long(link)) => push_long(disk, blocks, key, link, into),
+        None => Err(TreeFault::Damaged(leaf)),
+    }
+}
+
+/// Adds the records for which so many rows of this leaf stand.
+fn push_rows<D: Disk>(
+    disk: &mut D,
+    blocks: u32,
+    leaf: u32,
+    bytes: &[u8; 4096],
+    count: usize,
+    into: &mut Records,
+) -> Result<(), TreeFault>
+    requires inside { blocks ≤ (D.state disk.old).blocks }
+    requires few { count ≤ 16 }
+    ensures looks { OnlyLooks result (D.state disk.old) (D.state disk.new) }
+    ensures deep { result ≢ Err TreeFault.Deep }
+    ensures added { AddsLeaf result (D.state disk.old) (D.state disk.new)
+        blocks bytes.now count into.old into.new }
 {
     for i in 0..count {
-        into.push(record_key(bytes, i), record_value(bytes, i))?;
+        push_row(disk, blocks, leaf, bytes, i, into)?;
     }
     Ok(())
 }
@@ -34,11 +108,8 @@ fn scan_leaf<D: Disk>(
     ensures added { Adds result (D.state disk.old) (D.state disk.new) blocks 0 block into.old into.new }
 {
     let mut bytes = [0; 4096];
-    let count = leaf_into(disk, blocks, block, &mut bytes)?;
-    match push_records(&bytes, count, into) {
-        Ok(()) => Ok(()),
-        Err(_) => Err(TreeFault::Memory),
-    }
+    let count = rows_into(disk, blocks, block, &mut bytes)?;
+    push_rows(disk, blocks, block, &bytes, count, into)
 }
 
 /// Adds the records under a block of this level.

@@ -19,7 +19,11 @@ pub(crate) enum Copied {
 }
 
 /// Takes the lowest free block and writes it.
-fn write_free<D: Disk>(disk: &mut D, held: &mut Held, bytes: &[u8; 4096]) -> Result<u32, TreeFault>
+pub(crate) fn write_free<D: Disk>(
+    disk: &mut D,
+    held: &mut Held,
+    bytes: &[u8; 4096],
+) -> Result<u32, TreeFault>
     requires inside { length held.old ≤ (D.state disk.old).blocks }
     requires room { 0 < free_count held.old }
     ensures writes { WritesFree result held.old held.new (D.state disk.old) (D.state disk.new) }
@@ -50,7 +54,7 @@ pub(crate) fn write_bytes<D: Disk>(
     ensures writes { WritesFree result held.old held.new (D.state disk.old) (D.state disk.new) }
     ensures device { OkOrDevice result (λ child. IsTaken held.new child.block) }
     ensures taken { TakesAtMost 1 held.old held.new }
-    ensures leaf { WritesLeaf result held.old held.new (D.state disk.new) bytes.now }
+    ensures leaf { WritesLeaf result held.old held.new (D.state disk.old) (D.state disk.new) bytes.now }
     ensures node { WritesNode result held.old held.new (D.state disk.old) (D.state disk.new) bytes.now }
 {
     let low = lowest_key(bytes);
@@ -93,7 +97,8 @@ pub(crate) fn write_nodes<D: Disk, const FAN: usize>(
     requires most { FAN ≤ 256 }
     requires some { 0 < length children.now }
     requires few { length children.now ≤ FAN + 1 }
-    requires room { 2 ≤ free_count held.old }
+    requires room { 0 < free_count held.old }
+    requires room_two { FAN < length children.now → 2 ≤ free_count held.old }
     ensures writes { WritesFree result held.old held.new (D.state disk.old) (D.state disk.new) }
     ensures device { OkOrDevice result (λ copied. AreTaken held.new (children_of copied)) }
     ensures split { IfOk result (λ copied. (is_split copied ≡ true) ↔ (FAN < length children.now)) }

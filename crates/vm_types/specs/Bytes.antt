@@ -3,6 +3,10 @@ use Rattle.std.specs.Prelude.{◌≡◌, ℕ, ◌-◌, ◌≤◌, List, ◌++◌
 use Rattle.std.proofs.Common.{ap, sym, ◌∙◌, arith}
 use Rattle.std.proofs.lemmas.List.{take-append-drop, length-take-le}
 
+-- the greatest number of bytes of a value
+abbrev pub longest : ℕ
+longest = 4000
+
 -- the array has n bytes, of which the first len count and the others are zero
 pub record IsPadded (n len : ℕ) (bytes : List ℕ) : Type 0 where
   pub whole : length bytes ≡ n

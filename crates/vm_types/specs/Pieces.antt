@@ -1,5 +1,6 @@
 -- Values that lie one after another in one run of bytes.
 use Rattle.std.specs.Prelude.{◌≡◌, ℕ, ◌+◌, ◌≤◌, List, ◌++◌, length, take, drop, Option, IfSome, option_map}
+use Rattle.vm_types.specs.Bytes.{longest}
 use Rattle.vm_types.specs.declared.values.Piece.{Piece}
 
 -- the value that a piece of the bytes is
@@ -13,7 +14,7 @@ optional_in bytes piece = option_map (value_in bytes) piece
 -- the piece lies within so many bytes, and is no longer than a value may be
 pub record LiesIn (count : ℕ) (piece : Piece) : Type 0 where
   pub within : piece.start + piece.len ≤ count
-  pub short : piece.len ≤ 240
+  pub short : piece.len ≤ longest
 
 -- so does a piece, if there is one
 abbrev pub MayLieIn : ℕ → Option Piece → Type 0

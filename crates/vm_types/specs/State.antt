@@ -95,3 +95,7 @@ edits tree (Put alt key value) = 1
 edits tree (Remove alt key) = 1
 edits tree (Merge alt settled) = length (delta (current_of tree alt) (current_of (tree_after tree (step tree (Merge alt settled))) alt))
 edits tree command = 0
+
+-- how many free blocks a record change wants: one more than it takes at most
+abbrev pub blocks_a_change : ℕ
+blocks_a_change = 17

@@ -1,5 +1,6 @@
 //! A list of changes, packed.
 ghost use Rattle.std.specs.Prelude.{◌≡◌, ◌<◌, ◌≤◌, ◌∷◌, ◌++◌, [], length, slice_get, slice_index_or, option_copied, IsTrue, ◌↔◌, IfOk, IfSome, OnOk, OnErr};
+ghost use Rattle.vm_types.specs.Bytes.{longest};
 ghost use Rattle.vm_types.specs.declared.change.Change.{Change};
 ghost use Rattle.vm_types.specs.Walked.{changes_left};
 
@@ -67,8 +68,8 @@ impl Changes {
         before: Option<&[u8]>,
         after: Option<&[u8]>,
     ) -> Result<(), AllocError>
-        requires before { IfSome before (λ value. length value.now ≤ 240) }
-        requires after { IfSome after (λ value. length value.now ≤ 240) }
+        requires before { IfSome before (λ value. length value.now ≤ longest) }
+        requires after { IfSome after (λ value. length value.now ≤ longest) }
         ensures ok { OnOk result (self.new ≡ self.old ++ record {
           key = key;
           before = option_copied before.entry;
@@ -95,7 +96,7 @@ impl Changes {
     pub fn before(&self, i: usize) -> Option<&[u8]>
         requires { i < length self.now }
         ensures value { (d : Change) → option_copied result ≡ (slice_index_or self.now i d).before }
-        ensures short { IfSome result (λ value. length value.now ≤ 240) }
+        ensures short { IfSome result (λ value. length value.now ≤ longest) }
     {
         self.values.get_if_any(self.rows[i].before)
     }
@@ -104,7 +105,7 @@ impl Changes {
     pub fn after(&self, i: usize) -> Option<&[u8]>
         requires { i < length self.now }
         ensures value { (d : Change) → option_copied result ≡ (slice_index_or self.now i d).after }
-        ensures short { IfSome result (λ value. length value.now ≤ 240) }
+        ensures short { IfSome result (λ value. length value.now ≤ longest) }
     {
         self.values.get_if_any(self.rows[i].after)
     }

@@ -1,5 +1,6 @@
 //! A list of conflicts, packed.
 ghost use Rattle.std.specs.Prelude.{◌≡◌, ◌<◌, ◌≤◌, ◌∷◌, ◌++◌, [], length, slice_get, slice_index_or, option_copied, IsTrue, ◌↔◌, IfOk, IfSome, OnOk, OnErr};
+ghost use Rattle.vm_types.specs.Bytes.{longest};
 ghost use Rattle.vm_types.specs.declared.change.Conflict.{Conflict};
 ghost use Rattle.vm_types.specs.Walked.{conflicts_left};
 
@@ -69,9 +70,9 @@ impl Conflicts {
         parent: Option<&[u8]>,
         mine: Option<&[u8]>,
     ) -> Result<(), AllocError>
-        requires base { IfSome base (λ value. length value.now ≤ 240) }
-        requires parent { IfSome parent (λ value. length value.now ≤ 240) }
-        requires mine { IfSome mine (λ value. length value.now ≤ 240) }
+        requires base { IfSome base (λ value. length value.now ≤ longest) }
+        requires parent { IfSome parent (λ value. length value.now ≤ longest) }
+        requires mine { IfSome mine (λ value. length value.now ≤ longest) }
         ensures ok { OnOk result (self.new ≡ self.old ++ record {
           key = key;
           base = option_copied base.entry;
@@ -105,7 +106,7 @@ impl Conflicts {
     pub fn base(&self, i: usize) -> Option<&[u8]>
         requires { i < length self.now }
         ensures value { (d : Conflict) → option_copied result ≡ (slice_index_or self.now i d).base }
-        ensures short { IfSome result (λ value. length value.now ≤ 240) }
+        ensures short { IfSome result (λ value. length value.now ≤ longest) }
     {
         self.values.get_if_any(self.rows[i].base)
     }
@@ -114,7 +115,7 @@ impl Conflicts {
     pub fn parent(&self, i: usize) -> Option<&[u8]>
         requires { i < length self.now }
         ensures value { (d : Conflict) → option_copied result ≡ (slice_index_or self.now i d).parent }
-        ensures short { IfSome result (λ value. length value.now ≤ 240) }
+        ensures short { IfSome result (λ value. length value.now ≤ longest) }
     {
         self.values.get_if_any(self.rows[i].parent)
     }
@@ -123,7 +124,7 @@ impl Conflicts {
     pub fn mine(&self, i: usize) -> Option<&[u8]>
         requires { i < length self.now }
         ensures value { (d : Conflict) → option_copied result ≡ (slice_index_or self.now i d).mine }
-        ensures short { IfSome result (λ value. length value.now ≤ 240) }
+        ensures short { IfSome result (λ value. length value.now ≤ longest) }
     {
         self.values.get_if_any(self.rows[i].mine)
     }

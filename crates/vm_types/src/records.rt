@@ -1,5 +1,6 @@
 //! A list of records, packed.
 ghost use Rattle.std.specs.Prelude.{◌≡◌, ◌<◌, ◌≤◌, ◌∷◌, ◌++◌, ℕ, List, [], length, slice_get, slice_index_or, IsTrue, ◌↔◌, IfOk, OnOk, OnErr};
+ghost use Rattle.vm_types.specs.Bytes.{longest};
 ghost use Rattle.vm_types.specs.declared.key.Key.{Key};
 ghost use Rattle.vm_types.specs.Walked.{left_of};
 
@@ -54,7 +55,7 @@ impl Records {
 
     /// Adds a record behind the others. Where no memory is found, it changes nothing.
     pub fn push(&mut self, key: Key, value: &[u8]) -> Result<(), AllocError>
-        requires { length value.now ≤ 240 }
+        requires { length value.now ≤ longest }
         ensures ok { OnOk result (self.new ≡ self.old ++ (key, value.now) ∷ []) }
         ensures err { OnErr result (self.new ≡ self.old) }
     {
@@ -76,7 +77,7 @@ impl Records {
     pub fn value(&self, i: usize) -> &[u8]
         requires { i < length self.now }
         ensures value { (d : Key × List ℕ) → result.now ≡ (slice_index_or self.now i d).1 }
-        ensures short { length result.now ≤ 240 }
+        ensures short { length result.now ≤ longest }
     {
         let (_, piece) = self.rows[i];
         self.values.get(piece)

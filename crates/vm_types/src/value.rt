@@ -1,62 +1,63 @@
 //! What a record holds.
 ghost use Rattle.std.specs.Prelude.{◌≡◌, ◌≤◌, ◌↔◌, ◌<◌, length, IsSome, IfSome, []};
-ghost use Rattle.vm_types.specs.Bytes.{padded};
+ghost use Rattle.vm_types.specs.Bytes.{longest, padded};
 
 use std::marker::Model;
 
-/// The value of a record: 0 to 240 bytes, which it holds in place.
+/// The value of a record: 0 to 4,000 bytes, which it holds in place. A list of values is packed, as
+/// [`Records`](crate::Records) is, so that it takes no room for 4,000 bytes each.
 #[derive(Clone, Copy, Debug)]
 pub struct Value {
-    bytes: [u8; 240],
-    len: u8,
+    bytes: [u8; Self::MAX_LEN],
+    len: u16,
 }
 
 impl Model for Value {
     ghost use Rattle.std.specs.Prelude.{ℕ, List, take, length};
-    ghost use Rattle.vm_types.specs.Bytes.{IsPadded, padded, padded-counted, length-counted};
+    ghost use Rattle.vm_types.specs.Bytes.{IsPadded, longest, padded, padded-counted, length-counted};
 
     ghost Value = { List ℕ };
 
     ghost view = { λ v. take v.len v.bytes };
 
-    ghost invariant = { λ v. IsPadded 240 v.len v.bytes };
+    ghost invariant = { λ v. IsPadded longest v.len v.bytes };
 
-    ghost inverse = { λ bytes. record { bytes = padded 240 bytes; len = length bytes } };
+    ghost inverse = { λ bytes. record { bytes = padded longest bytes; len = length bytes } };
 
-    ghost inverse_ok = { λ v h. λ i. record { bytes = padded-counted 240 v.len v.bytes h i; len = length-counted 240 v.len v.bytes h i } };
+    ghost inverse_ok = { λ v h. λ i. record { bytes = padded-counted longest v.len v.bytes h i; len = length-counted longest v.len v.bytes h i } };
 }
 
 impl Value {
     /// The greatest number of bytes of a value.
-    pub const MAX_LEN: usize = 240;
+    pub const MAX_LEN: usize = 4000;
 
-    /// A value of these bytes, where there are at most 240.
+    /// A value of these bytes, where there are at most 4,000.
     pub fn new(bytes: &[u8]) -> Option<Self>
-        ensures short { IsSome result ↔ (length bytes.now ≤ 240) }
+        ensures short { IsSome result ↔ (length bytes.now ≤ longest) }
         ensures value { IfSome result (λ v. v ≡ bytes.now) }
     {
         if bytes.len() > Self::MAX_LEN {
             return None;
         }
-        let mut held = [0; 240];
+        let mut held = [0; Self::MAX_LEN];
         held[..bytes.len()].copy_from_slice(bytes);
         Some(Value {
             bytes: held,
-            len: bytes.len() as u8,
+            len: bytes.len() as u16,
         })
     }
 
     pub fn as_bytes(&self) -> &[u8]
         ensures bytes { result.now ≡ self.now }
-        ensures short { length self.now ≤ 240 }
+        ensures short { length self.now ≤ longest }
     {
-        &self.bytes[..self.len as usize]
+        &self.bytes[..usize::from(self.len)]
     }
 
     /// The bytes, and zero bytes behind them up to the greatest length.
-    pub fn padded(&self) -> &[u8; 240]
-        ensures bytes { result.now ≡ padded 240 self.now }
-        ensures short { length self.now ≤ 240 }
+    pub fn padded(&self) -> &[u8; Self::MAX_LEN]
+        ensures bytes { result.now ≡ padded longest self.now }
+        ensures short { length self.now ≤ longest }
     {
         &self.bytes
     }
@@ -68,7 +69,7 @@ impl Default for Value {
         ensures { result ≡ [] }
     {
         Value {
-            bytes: [0; 240],
+            bytes: [0; Self::MAX_LEN],
             len: 0,
         }
     }

@@ -1,5 +1,6 @@
 //! Values that lie behind one another in one run of bytes.
 ghost use Rattle.std.specs.Prelude.{◌≡◌, ◌≤◌, ◌++◌, ℕ, List, [], length, option_copied, IfOk, IfSome, OnErr};
+ghost use Rattle.vm_types.specs.Bytes.{longest};
 ghost use Rattle.vm_types.specs.Pieces.{IsAdded, LiesIn, MayBeAdded, MayLieIn, optional_in, value_in};
 
 use crate::Value;
@@ -39,7 +40,7 @@ impl Values {
 
     /// Puts a value behind the others. Where no memory is found, it changes nothing.
     pub(crate) fn add(&mut self, value: &[u8]) -> Result<Piece, AllocError>
-        requires { length value.now ≤ 240 }
+        requires { length value.now ≤ longest }
         ensures ok { IfOk result (IsAdded self.old value.now self.new) }
         ensures err { OnErr result (self.new ≡ self.old) }
     {
@@ -53,7 +54,7 @@ impl Values {
 
     /// The same of a value that may be absent.
     pub(crate) fn add_if_any(&mut self, value: Option<&[u8]>) -> Result<Option<Piece>, AllocError>
-        requires { IfSome value (λ bytes. length bytes.now ≤ 240) }
+        requires { IfSome value (λ bytes. length bytes.now ≤ longest) }
         ensures ok { IfOk result (MayBeAdded self.old (option_copied value.entry) self.new) }
         ensures err { OnErr result (self.new ≡ self.old) }
     {
@@ -67,7 +68,7 @@ impl Values {
     pub(crate) fn get(&self, piece: Piece) -> &[u8]
         requires { LiesIn (length self.now) piece }
         ensures value { result.now ≡ value_in self.now piece }
-        ensures short { length result.now ≤ 240 }
+        ensures short { length result.now ≤ longest }
     {
         &self.bytes[piece.start..piece.start + usize::from(piece.len)]
     }
@@ -76,7 +77,7 @@ impl Values {
     pub(crate) fn get_if_any(&self, piece: Option<Piece>) -> Option<&[u8]>
         requires { MayLieIn (length self.now) piece }
         ensures value { option_copied result ≡ optional_in self.now piece }
-        ensures short { IfSome result (λ bytes. length bytes.now ≤ 240) }
+        ensures short { IfSome result (λ bytes. length bytes.now ≤ longest) }
     {
         piece.map(|piece| self.get(piece))
     }
@@ -84,7 +85,7 @@ impl Values {
 
 /// The value of these bytes, if there is one.
 pub(crate) fn whole_value(bytes: Option<&[u8]>) -> Option<Value>
-    requires { IfSome bytes (λ bytes. length bytes.now ≤ 240) }
+    requires { IfSome bytes (λ bytes. length bytes.now ≤ longest) }
     ensures { result ≡ option_copied bytes.entry }
 {
     match bytes {

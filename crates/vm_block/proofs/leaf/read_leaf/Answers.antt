@@ -1,28 +1,31 @@
-use Rattle.std.proofs.Common.{List, length, sym, ◌∙◌, subst, arith}
-use Rattle.std.proofs.lemmas.Bool.{false≢true}
-use Rattle.vm_block.specs.Leaf.{Record, IsLeaf}
+use Rattle.std.proofs.Common.{◌≡◌, ◌+◌, ◌<◌, ◌++◌, [], ◌∷◌, length, map, take, get_or, sym, ap, ◌∙◌, arith}
+use Rattle.std.proofs.lemmas.List.{length_push, map-append, take_more}
+use Rattle.vm_block.specs.Changed.{row_of}
+use Rattle.vm_block.specs.Leaf.{Row}
 use Rattle.vm_block.proofs.HeadLemmas.{some_same}
-use Rattle.vm_block.proofs.LeafLemmas.{leaf_rows, rows_of}
 use Rattle.vm_block.proofs.leaf.read_leaf.Goals as goal
 
-pub returns-in_default-clause-only : goal.returns-in_default-clause-only
-returns-in_default-clause-only c rs leaf = absurd (cc (c.in_default.ensures.only rs leaf))
+pub returns-in_default-stored_at-clause-only : goal.returns-in_default-stored_at-clause-only
+returns-in_default-stored_at-clause-only c ws leaf =
+    let count = some_same (length ws) c.in-Some.count (c.in-Some.ensures.only ws leaf) in
+    c.in_default-stored_at.ensures.row ws (record { table = 0; number = 0 }, []) leaf (omega (arith, count, c.loop-i-test.true))
 
-pub returns-then-not-read_records-clause-only : goal.returns-then-not-read_records-clause-only
-returns-then-not-read_records-clause-only c rs leaf =
-    let bytes = c.args.bytes.now in
-    let count = some_same (length rs) c.in-Some.count (c.in-Some.ensures.only rs leaf) in
-    absurd (false≢true (sym c.if-not-read_records.true ∙ (c.read_records.ensures rs _ leaf.fit (sym count) (leaf_rows bytes rs 4080 (rows_of bytes rs leaf) (omega arith))).0))
-
-pub returns-clause-found : goal.returns-clause-found
-returns-clause-found c =
-    let bytes = c.args.bytes.now in
-    let found = c.in-Some.ensures.found in
-    let same = (c.read_records.ensures found.0 _ found.1.fit found.2 (leaf_rows bytes found.0 4080 (rows_of bytes found.0 found.1) (omega arith))).1 in
-    subst (λ (rs : List Record). IsLeaf bytes rs) (sym same) found.1
-
-pub returns-clause-only : goal.returns-clause-only
-returns-clause-only c rs leaf =
-    let bytes = c.args.bytes.now in
-    let count = some_same (length rs) c.in-Some.count (c.in-Some.ensures.only rs leaf) in
-    (c.read_records.ensures rs _ leaf.fit (sym count) (leaf_rows bytes rs 4080 (rows_of bytes rs leaf) (omega arith))).1
+pub loop-i-preserved : goal.loop-i-preserved
+loop-i-preserved c =
+    let before = c.loop-i.rows.items in
+    let items = c.push.ensures.items in
+    let i = c.loop-i.i in
+    record {
+      many = ap length items ∙ length_push before (c.record_key.result, c.in-Some-stored_at.stored) ∙ ap (λ n. n + 1) c.loop-i.invariant.many;
+      read = λ ws leaf many.
+          let d : Row = (c.record_key.result, []) in
+          let lt : i < length ws = omega (arith, many, c.loop-i-test.true) in
+          let key = c.record_key.ensures.row ws d leaf lt in
+          let stored = c.in-Some-stored_at.ensures.row ws d leaf lt in
+          let here : row_of (c.record_key.result, c.in-Some-stored_at.stored) ≡ get_or ws i d = λ j. (sym key j, stored j) in
+          ap (map row_of) items
+          ∙ map-append row_of before ((c.record_key.result, c.in-Some-stored_at.stored) ∷ [])
+          ∙ ap (λ front. front ++ row_of (c.record_key.result, c.in-Some-stored_at.stored) ∷ []) (c.loop-i.invariant.read ws leaf many)
+          ∙ ap (λ w. take i ws ++ w ∷ []) here
+          ∙ sym (take_more ws i d lt);
+    }

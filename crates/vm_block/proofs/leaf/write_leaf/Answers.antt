@@ -1,14 +1,14 @@
-use Rattle.std.proofs.Common.{false, ◌++◌, length, sym, ap, ◌∙◌}
-use Rattle.std.specs.List.{flat_map}
-use Rattle.vm_block.specs.Padding.{padded}
-use Rattle.vm_block.specs.Leaf.{leaf_bytes, leaf_head, record_bytes}
-use Rattle.vm_block.proofs.LeafLemmas.{none_long}
+use Rattle.std.proofs.Common.{◌≡◌, length, map, sym, refl}
+use Rattle.std.proofs.lemmas.List.{length-map}
+use Rattle.vm_block.specs.Changed.{row_of}
+use Rattle.vm_block.proofs.ChangingLemmas.{rows_are_fit}
+use Rattle.vm_block.proofs.LeafLemmas.{body_at}
 use Rattle.vm_block.proofs.leaf.write_leaf.Goals as goal
 
 pub returns : goal.returns
-unfolding leaf_bytes
 returns c =
-    let rs = c.args.records.now in
-    c.write_leaf_into.ensures.written
-    ∙ ap (λ n. padded n (leaf_head false (length rs) ++ flat_map record_bytes rs)) c.told-out
-    ∙ ap (λ b. padded 4096 (leaf_head b (length rs) ++ flat_map record_bytes rs)) (sym (none_long rs c.write_leaf_into.ensures.short))
+    let rows = c.args.rows.now in
+    let ws = map row_of rows in
+    let many : length rows ≡ length ws = sym (length-map rows row_of) in
+    let fit = rows_are_fit rows c.requires.fit in
+    c.seal.ensures ws (body_at c.args.out.now _ _ ws (length rows) 4080 _ c.told-out fit c.requires.few many refl c.write_each.ensures c.write_each.auto.out refl c.put_zeros.ensures) fit many

@@ -1,4 +1,4 @@
-use Rattle.std.proofs.Common.{◌++◌, codes, replicate, refl}
+use Rattle.std.proofs.Common.{◌++◌, codes, drop, replicate, ap, refl, ◌∙◌}
 use Rattle.byteorder.specs.Endian.{little_bytes}
 use Rattle.vm_block.specs.Padding.{zeros}
 use Rattle.vm_block.specs.Slot.{head_bytes}
@@ -9,9 +9,12 @@ pub returns : goal.returns
 unfolding head_bytes zeros
 returns c =
     let old = c.args.out.now in
-    let front = codes "SLOT" ++ little_bytes 4 1 in
+    let letters = codes "SLOT" in
+    let number = little_bytes 4 c.number.result in
     let blocks = little_bytes 4 c.args.head.blocks in
     let entries = little_bytes 4 c.args.head.entries in
-    let second = then_writes front blocks old _ _ 8 _ 4 12 c.put.ensures refl refl c.write_u32.ensures refl in
-    let third = then_writes (front ++ blocks) entries old _ _ 12 _ 4 16 second refl refl c.write_u32-2.ensures refl in
-    then_writes (front ++ blocks ++ entries) (replicate 112 0) old _ _ 16 _ 112 128 third refl refl c.put-2.ensures refl
+    let first = then_writes letters number old _ _ 4 _ 4 8 c.put.ensures refl refl c.write_u32.ensures refl in
+    let second = then_writes (letters ++ number) blocks old _ _ 8 _ 4 12 first refl refl c.write_u32-2.ensures refl in
+    let third = then_writes (letters ++ number ++ blocks) entries old _ _ 12 _ 4 16 second refl refl c.write_u32-3.ensures refl in
+    then_writes (letters ++ number ++ blocks ++ entries) (replicate 112 0) old _ _ 16 _ 112 128 third refl refl c.put-2.ensures refl
+    ∙ ap (λ k. (letters ++ little_bytes 4 k ++ blocks ++ entries ++ replicate 112 0) ++ drop 128 old) c.number.ensures

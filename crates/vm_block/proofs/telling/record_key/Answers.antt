@@ -1,6 +1,5 @@
 use Rattle.std.proofs.Common.{◌+◌, ◌*◌, take, drop, sym, ◌∙◌, arith}
 use Rattle.std.proofs.lemmas.List.{take-take}
-use Rattle.vm_block.proofs.LeafLemmas.{rows_of}
 use Rattle.vm_block.proofs.WayLemmas.{leaf_piece}
 use Rattle.vm_block.proofs.TellingLemmas.{key_here}
 use Rattle.vm_block.proofs.telling.record_key.Goals as goal
@@ -10,6 +9,3 @@ returns-clause-row c ws d leaf lt =
     let row = drop (16 + 252 * c.args.i) c.args.bytes.now in
     let piece = leaf_piece c.args.bytes.now ws c.args.i d leaf lt in
     key_here _ (take 252 row) c.read_key.result piece.1 c.read_key.ensures.fits piece.0 (take-take 10 252 row (omega arith) ∙ sym (take-take 10 _ row (omega arith)) ∙ c.read_key.ensures.spelled)
-
-pub returns-clause-key : goal.returns-clause-key
-returns-clause-key c rs d leaf lt = returns-clause-row c rs d (rows_of c.args.bytes.now rs leaf) lt

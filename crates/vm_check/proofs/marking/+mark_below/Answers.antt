@@ -3,10 +3,13 @@ use Rattle.std.proofs.lemmas.Bool.{false≢true}
 use Rattle.vm_disk.proofs.MomentLemmas.{same_medium}
 use Rattle.vm_alloc.proofs.HeldLemmas.{holds_more_then, taken_holds_more}
 use Rattle.vm_alloc.specs.Held.{HoldsMore}
+use Rattle.vm_types.specs.Bytes.{longest}
+use Rattle.vm_tree.proofs.TreeLemmas.{leaf_opens}
 use Rattle.vm_tree.proofs.Descent.{subtree_top, node_read}
 use Rattle.vm_tree.proofs.Looking.{looks_on, looks_so, passed_on}
 use Rattle.vm_check.specs.Marking.{MarksMore}
-use Rattle.vm_check.proofs.MarkLemmas.{IsBelow, top_within, same_more, under_marked, set_less, leaf_marked, same_children, node_start, node_marked, node_fault, child_more}
+use Rattle.vm_check.proofs.MarkLemmas.{IsBelow, top_within, same_more, under_marked, set_less, fine_so, spares_beside, leaf_marked, same_children, node_start, node_marked, node_fault, child_more}
+use Rattle.vm_check.proofs.LinkLemmas.{links_data}
 use Rattle.vm_check.proofs.OnlyLemmas.{only_set, only_top, only_all, child_sound, child_only_more, child_only_fault}
 use Rattle.vm_check.proofs.marking.+mark_below.Goals as goal
 
@@ -20,12 +23,29 @@ returns-then-is_set-clause-marked g t c honest sizes rs bs tree closed =
 
 pub returns-then-level-eq0-clause-marked : goal.returns-then-level-eq0-clause-marked
 returns-then-level-eq0-clause-marked g t c honest sizes rs bs tree closed =
-    let inside = subtree_top sizes _ _ _ _ rs bs tree in
-    leaf_marked sizes _ _ _ _ rs bs _ _ c.if-level-eq0.true (omega (arith, inside.1, c.requires.bits)) c.set.ensures tree
+    let at = leaf_opens sizes _ _ _ _ rs bs c.if-level-eq0.true tree in
+    let beside = c.mark_beside.ensures in
+    fine_so _ _ c.mark_beside.result (beside.sound at.place honest at.holds.rows at.holds.leaf (links_data _ _ at.holds.rows rs at.under at.holds.stand)) (beside.marked honest at.holds.rows at.holds.leaf)
+    (λ each. leaf_marked sizes _ _ _ _ rs bs _ _ _ c.if-level-eq0.true (omega (arith, at.place.1, c.requires.bits)) c.set.ensures beside.growing at each (beside.only honest at.holds.rows at.holds.leaf))
+
+pub returns-then-level-eq0-clause-sound : goal.returns-then-level-eq0-clause-sound
+returns-then-level-eq0-clause-sound g t c honest sizes rs bs tree =
+    let at = leaf_opens sizes _ _ _ _ rs bs c.if-level-eq0.true tree in
+    c.mark_beside.ensures.sound at.place honest at.holds.rows at.holds.leaf (links_data _ _ at.holds.rows rs at.under at.holds.stand)
+
+pub returns-then-level-eq0-clause-growing : goal.returns-then-level-eq0-clause-growing
+returns-then-level-eq0-clause-growing g t c =
+    let grows = subst (HoldsMore c.args.marks.now) (sym c.set.ensures) (taken_holds_more c.args.marks.now c.args.block) in
+    holds_more_then _ _ _ grows c.mark_beside.ensures.growing
 
 pub returns-then-level-eq0-clause-once : goal.returns-then-level-eq0-clause-once
 returns-then-level-eq0-clause-once g t c =
-    omega (arith, set_less _ _ _ _ c.set.ensures c.requires.bits (c.is_data.ensures.0 c.if-not-is_data.false) (λ is. false≢true (sym c.if-is_set.false ∙ c.is_set.ensures.1 is)))
+    omega (
+      arith,
+      c.mark_beside.ensures.once,
+      c.mark_beside.ensures.fewer,
+      set_less _ _ _ _ c.set.ensures c.requires.bits (c.is_data.ensures.0 c.if-not-is_data.false) (λ is. false≢true (sym c.if-is_set.false ∙ c.is_set.ensures.1 is)),
+    )
 
 pub returns-in_err-count-clause-once : goal.returns-in_err-count-clause-once
 returns-in_err-count-clause-once g t c =
@@ -117,7 +137,9 @@ returns-in_err-mark_below-clause-sound g t c honest sizes rs bs tree =
     rw (passed_on _ c.from_residual-in_err-mark_below.ensures.1) (child_sound sizes _ _ _ _ form.0 _ c.child_at-child.result (same_medium _ _ (so_far.looks.reads (c.in_err-mark_below.ensures.looks.goes.earlier honest))) lt is _ _ start.joined (λ qs ds. c.in_err-mark_below.ensures.sound honest sizes qs ds))
 
 pub returns-then-level-eq0-clause-only : goal.returns-then-level-eq0-clause-only
-returns-then-level-eq0-clause-only g t c honest sizes rs bs tree = only_set _ bs _ _ c.set.ensures (top_within sizes _ _ _ _ rs bs tree)
+returns-then-level-eq0-clause-only g t c honest sizes rs bs tree =
+    let at = leaf_opens sizes _ _ _ _ rs bs c.if-level-eq0.true tree in
+    only_top _ at.under bs _ _ _ c.set.ensures at.first (spares_beside _ _ longest _ rs at.under _ _ at.holds (c.mark_beside.ensures.only honest at.holds.rows at.holds.leaf))
 
 pub returns-in_err-count-clause-only : goal.returns-in_err-count-clause-only
 returns-in_err-count-clause-only g t c honest sizes rs bs tree = only_set _ bs _ _ c.set.ensures (top_within sizes _ _ _ _ rs bs tree)

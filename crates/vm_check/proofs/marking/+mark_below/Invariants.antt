@@ -14,10 +14,10 @@ decreases-mark_below g l = l.level
 
 abbrev pub invariant-loop-i : goal.invariant-loop-i
 invariant-loop-i g l =
-    let old = g.D.Disk.state l.fn.disk in
-    let now = g.D.Disk.state l.disk in record {
+    let old = g.D.Disk.state l.fn.disk.inner in
+    let now = g.D.Disk.state l.disk.inner in record {
       looks : OnlyLooks {T = Unit {0}} (Ok tt) old now;
-      since : now.honest ≡ true → (g.D.Disk.state l.initial.disk).honest ≡ true;
+      since : now.honest ≡ true → (g.D.Disk.state l.initial.disk.inner).honest ≡ true;
       many : length l.marks ≡ l.blocks;
       once : now.reads + unmarked l.marks ≤ old.reads + unmarked l.fn.marks;
       growing : HoldsMore l.fn.marks l.marks;

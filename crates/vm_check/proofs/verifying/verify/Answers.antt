@@ -6,7 +6,7 @@ use Rattle.vm_tree.proofs.ScanLemmas.{device_lists}
 use Rattle.vm_tree.proofs.Looking.{looks_none, looks_on, passed_on}
 use Rattle.vm_check.specs.Marking.{unmarked}
 use Rattle.vm_check.proofs.MarkLemmas.{all_unmarked}
-use Rattle.vm_check.proofs.FoundLemmas.{first_found, number_more, number_fault, named_more}
+use Rattle.vm_check.proofs.FoundLemmas.{first_found, number_more, number_fault, numbers_found, named_more}
 use Rattle.vm_check.proofs.verifying.verify.Goals as goal
 
 pub loop-number-init : goal.loop-number-init
@@ -23,7 +23,7 @@ pub returns-in_err-root-clause-only : goal.returns-in_err-root-clause-only
 returns-in_err-root-clause-only g c honest trees =
     let so_far = c.loop-number.invariant in
     rw (passed_on _ c.from_residual.ensures.1) (device_lists _ _
-    (number_fault _ _ _ _ _ _ _ _ _ _ (same_medium _ _ (so_far.looks.reads (c.in_err-root.ensures.looks.goes.earlier honest))) c.loop-number-test.true (so_far.found (c.in_err-root.ensures.looks.goes.earlier honest)) trees (λ known m bs tree. c.in_err-root.ensures.only honest known m bs tree)))
+    (number_fault _ _ _ _ _ _ _ _ _ _ (same_medium _ _ (so_far.looks.reads (c.in_err-root.ensures.looks.goes.earlier honest))) c.loop-number-test.true (so_far.found (c.in_err-root.ensures.looks.goes.earlier honest)) trees (λ known m bs tree suit. c.in_err-root.ensures.only honest known m bs tree suit)))
 
 pub loop-number-preserved : goal.loop-number-preserved
 loop-number-preserved g c =
@@ -37,6 +37,10 @@ loop-number-preserved g c =
       found = λ honest. number_more _ _ _ _ _ _ _ _ _ _ _ _ _ (same_medium _ _ (so_far.looks.reads (c.in_ok-root.ensures.looks.goes.earlier honest))) c.loop-number-test.true c.in-Ok.ensures.items (so_far.found (c.in_ok-root.ensures.looks.goes.earlier honest))
           (λ known. c.in_ok-root.ensures.found honest known);
     }
+
+pub returns-clause-found : goal.returns-clause-found
+returns-clause-found g c honest =
+    let so_far = c.loop-number.invariant in numbers_found _ _ _ _ c.loop-number.number-index _ _ _ (omega (arith, c.loop-number-test.false)) so_far.many (so_far.found honest)
 
 pub returns-in-Err-clause-looks : goal.returns-in-Err-clause-looks
 returns-in-Err-clause-looks g c = looks_on c.loop-number.invariant.looks c.in_ok-root.ensures.looks (λ is. cc)

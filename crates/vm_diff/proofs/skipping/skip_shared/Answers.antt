@@ -29,3 +29,7 @@ shared-smaller c =
 pub shared-preserved : goal.shared-preserved
 shared-preserved c =
     skips_on c.args.one.now c.args.other.now c.shared.one c.shared.other c.pass_tops.new.one c.pass_tops.new.other c.shared.invariant c.pass_tops.ensures.passed c.pass_tops.ensures.pending.0 c.pass_tops.ensures.pending.1
+
+pub returns-then-not-pass_records-clause-most : goal.returns-then-not-pass_records-clause-most
+returns-then-not-pass_records-clause-most c =
+    (records_skipped c.args.one.now c.args.other.now c.pass_records.new.one c.pass_records.new.other c.pass_records.ensures.passed c.pass_records.ensures.tops.0 c.pass_records.ensures.tops.1).most

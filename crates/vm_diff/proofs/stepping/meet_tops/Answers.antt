@@ -1,4 +1,5 @@
 use Rattle.std.proofs.Common.{◌≡◌, ◌≢◌, sym, arith}
+use Rattle.vm_diff.specs.Front.Front.{Top}
 use Rattle.vm_diff.specs.Front.{front_of}
 use Rattle.vm_diff.proofs.OpenLemmas.{skip_falls}
 use Rattle.vm_diff.proofs.PayLemmas.{higher_first, left_read, right_read}
@@ -19,12 +20,12 @@ returns-then-first-second-2-clause-steps g c honest sizes most changes differ =
 pub returns-then-first-second-3-clause-bound : goal.returns-then-first-second-3-clause-bound
 returns-then-first-second-3-clause-bound g c honest sizes most changes differ =
     let first = higher_first c.args.second c.args.first (front_of c.args.one.now) c.requires.first (sym c.requires.level) (omega (arith, c.if-first-second-3.true)) (λ level. absurd (omega (arith, level, c.if-first-second-3.true))) in
-    right_read sizes (g.D.Disk.state c.args.disk.now).now.contents c.args.blocks c.args.one.now c.args.other.now (g.D.Disk.state c.args.disk.now).reads (g.D.Disk.state c.open.new.disk).reads most changes differ c.args.second c.requires.second first c.open.ensures.once
+    right_read sizes (g.D.Disk.state c.args.disk.now).now.contents c.args.blocks c.args.one.now c.args.other.now (g.D.Disk.state c.args.disk.now).reads (g.D.Disk.state c.open.new.disk).reads most changes differ (Top c.args.second) c.requires.second first c.open.ensures.once
 
 pub returns-then-first-second-3-clause-steps : goal.returns-then-first-second-3-clause-steps
 returns-then-first-second-3-clause-steps g c honest sizes most changes differ =
     let first = higher_first c.args.second c.args.first (front_of c.args.one.now) c.requires.first (sym c.requires.level) (omega (arith, c.if-first-second-3.true)) (λ level. absurd (omega (arith, level, c.if-first-second-3.true))) in
-    right_opened sizes (g.D.Disk.state c.args.disk.now).now.contents c.args.blocks (g.D.Disk.state c.args.disk.now).reads most c.args.one.now c.args.other.now c.open.new.walk (g.D.Disk.state c.open.new.disk).reads c.args.second changes c.open.result c.moved.result c.moved.ensures c.requires.second first c.open.ensures.once differ
+    right_opened sizes (g.D.Disk.state c.args.disk.now).now.contents c.args.blocks (g.D.Disk.state c.args.disk.now).reads most c.args.one.now c.args.other.now c.open.new.walk (g.D.Disk.state c.open.new.disk).reads (Top c.args.second) changes c.open.result c.moved.result c.moved.ensures c.requires.second first c.open.ensures.once differ
     (c.open.ensures.opens honest sizes differ.second differ.second_blocks differ.second_ahead)
 
 pub returns-else-first-second-3-clause-bound : goal.returns-else-first-second-3-clause-bound
@@ -34,7 +35,7 @@ returns-else-first-second-3-clause-bound g c honest sizes most changes differ =
       | else-first-second-via-else-first-second w ↦ λ level same. w.if-first-second.false (sym same)
     ] in
     let first = higher_first c.args.first c.args.second (front_of c.args.other.now) c.requires.second c.requires.level (omega (arith, c.if-first-second-3.false)) other in
-    left_read sizes (g.D.Disk.state c.args.disk.now).now.contents c.args.blocks c.args.one.now c.args.other.now (g.D.Disk.state c.args.disk.now).reads (g.D.Disk.state c.open-else-first-second-3.new.disk).reads most changes differ c.args.first c.requires.first first c.open-else-first-second-3.ensures.once
+    left_read sizes (g.D.Disk.state c.args.disk.now).now.contents c.args.blocks c.args.one.now c.args.other.now (g.D.Disk.state c.args.disk.now).reads (g.D.Disk.state c.open-else-first-second-3.new.disk).reads most changes differ (Top c.args.first) c.requires.first first c.open-else-first-second-3.ensures.once
 
 pub returns-else-first-second-3-clause-steps : goal.returns-else-first-second-3-clause-steps
 returns-else-first-second-3-clause-steps g c honest sizes most changes differ =
@@ -43,5 +44,5 @@ returns-else-first-second-3-clause-steps g c honest sizes most changes differ =
       | else-first-second-via-else-first-second w ↦ λ level same. w.if-first-second.false (sym same)
     ] in
     let first = higher_first c.args.first c.args.second (front_of c.args.other.now) c.requires.second c.requires.level (omega (arith, c.if-first-second-3.false)) other in
-    left_opened sizes (g.D.Disk.state c.args.disk.now).now.contents c.args.blocks (g.D.Disk.state c.args.disk.now).reads most c.args.one.now c.args.other.now c.open-else-first-second-3.new.walk (g.D.Disk.state c.open-else-first-second-3.new.disk).reads c.args.first changes c.open-else-first-second-3.result c.moved-else-first-second-3.result c.moved-else-first-second-3.ensures c.requires.first first c.open-else-first-second-3.ensures.once differ
+    left_opened sizes (g.D.Disk.state c.args.disk.now).now.contents c.args.blocks (g.D.Disk.state c.args.disk.now).reads most c.args.one.now c.args.other.now c.open-else-first-second-3.new.walk (g.D.Disk.state c.open-else-first-second-3.new.disk).reads (Top c.args.first) changes c.open-else-first-second-3.result c.moved-else-first-second-3.result c.moved-else-first-second-3.ensures c.requires.first first c.open-else-first-second-3.ensures.once differ
     (c.open-else-first-second-3.ensures.opens honest sizes differ.first differ.first_blocks differ.first_ahead)

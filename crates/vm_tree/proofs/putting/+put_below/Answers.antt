@@ -1,21 +1,21 @@
-use Rattle.std.proofs.Common.{◌≡◌, ◌∙◌, ℕ, ◌+◌, ◌-◌, List, false, Ok, Err, ◌≤◌, ◌<◌, length, ap, sym, subst, refl, arith, rules}
+use Rattle.std.proofs.Common.{◌≡◌, ◌∙◌, ℕ, ◌+◌, ◌-◌, List, [], ◌∷◌, ◌++◌, false, Ok, Err, ◌≤◌, ◌<◌, length, ap, sym, subst, refl, arith, rules}
 use Rattle.std.proofs.Math.ListN.{length-set}
 use Rattle.std.proofs.lemmas.Bool.{false≢true, ltb-false}
 use Rattle.vm_disk.proofs.MomentLemmas.{same_medium}
 use Rattle.vm_block.specs.Leaf.{Record}
 use Rattle.vm_block.specs.declared.node.Child.{Child}
-use Rattle.vm_types.specs.Places.{place}
-use Rattle.vm_alloc.specs.Held.{free_count}
+use Rattle.vm_types.specs.Places.{place, with_record}
+use Rattle.vm_tree.specs.Free.{TakesAtMost, long_blocks}
 use Rattle.vm_tree.specs.Tree.{Subtree}
 use Rattle.vm_tree.specs.declared.root.TreeFault.TheVariants.{Deep}
 use Rattle.vm_tree.specs.Root.{sizes_of}
-use Rattle.vm_tree.specs.Making.{Made, is_split, with_copied}
+use Rattle.vm_tree.specs.Making.{Made, PutsBelow, Splits, is_split, with_copied}
 use Rattle.vm_tree.specs.Reading.{IsNodeAt}
-use Rattle.vm_tree.specs.Replacing.{Replaces, path_from}
-use Rattle.vm_tree.proofs.Beside.{node_path, path_grown, path_leaf}
+use Rattle.vm_tree.specs.Replacing.{Replaces, long_of, path_from}
+use Rattle.vm_tree.proofs.Beside.{node_path, path_alone, path_grown, path_leaf}
 use Rattle.vm_tree.proofs.Looking.{looks_free, looks_if, looks_write, passed_on, writes_on}
 use Rattle.vm_tree.proofs.Descent.{node_read}
-use Rattle.vm_tree.proofs.Leading.{leads_on, if_ok_is}
+use Rattle.vm_tree.proofs.Leading.{leads_on, if_ok_is, if_ok_so}
 use Rattle.vm_tree.proofs.PutLemmas.{asked_of, node_put, not_split, there_below, node_fault, device_below, ok_if, only_one}
 use Rattle.vm_tree.proofs.Sparing.{held_kept}
 use Rattle.vm_tree.proofs.putting.+put_below.Goals as goal
@@ -23,7 +23,29 @@ use Rattle.vm_tree.proofs.putting.+put_below.Goals.{then-room, else-room}
 
 pub returns-then-level-eq0-clause-path_in : goal.returns-then-level-eq0-clause-path_in
 returns-then-level-eq0-clause-path_in g t c levels honest rs bs tree begins rises =
-    if_ok_is c.put_in_leaf.result _ (path_leaf (sizes_of g.row.LEAF g.row.FAN levels) _ _ c.args.level c.from.result c.args.top.block rs bs c.args.path.now c.told-path c.if-level-eq0.true c.from.ensures tree)
+    let sizes = sizes_of g.row.LEAF g.row.FAN levels in
+    let x = (g.D.Disk.state c.args.disk.now).now.contents in
+    let limit = length c.args.held.now in
+    let b = c.args.top.block in
+    let there = subst (λ l. Subtree sizes x limit l b rs bs) c.if-level-eq0.true tree in
+    if_ok_so c.put_in_leaf.result _ _ (c.put_in_leaf.ensures.path_in g.row.FAN levels honest rs bs there begins rises)
+    (path_leaf sizes x limit c.args.level c.from.result b c.put_in_leaf.new.long rs bs c.args.path.now c.told-path c.if-level-eq0.true c.from.ensures tree)
+
+pub returns-then-level-eq0-clause-put : goal.returns-then-level-eq0-clause-put
+returns-then-level-eq0-clause-put g t c levels honest rs bs tree begins rises =
+    let sizes = sizes_of g.row.LEAF g.row.FAN levels in
+    let r : Record = (c.args.key, c.args.value.now) in
+    let x = (g.D.Disk.state c.args.disk.now).now.contents in
+    let limit = length c.args.held.now in
+    let b = c.args.top.block in
+    let none = c.if-level-eq0.true in
+    let there = subst (λ l. Subtree sizes x limit l b rs bs) none tree in
+    let before = c.args.held.now in
+    let later = c.put_in_leaf.new.held in
+    let y = (g.D.Disk.state c.put_in_leaf.new.disk).now.contents in
+    let Puts : ℕ → List ℕ → Type 0 = λ l ns. PutsBelow c.put_in_leaf.result (Splits sizes x (place c.args.key) l b rs) (λ cs. Replaces before later ns bs (λ P. Made P sizes y limit l cs (with_record r rs))) in
+    subst (Puts c.args.level) (sym (path_alone c.args.path.now c.args.level c.from.result b c.put_in_leaf.new.long c.told-path none c.from.ensures))
+    (subst (λ l. Puts l (long_of c.put_in_leaf.new.long ++ (b ∷ []))) (sym none) (c.put_in_leaf.ensures.put g.row.FAN levels honest rs bs there begins rises))
 
 pub returns-clause-put : goal.returns-clause-put
 returns-clause-put g t c levels honest rs bs tree begins rises =
@@ -121,7 +143,7 @@ returns-clause-replaced g t c levels honest rs bs tree begins rises there =
     let only = only_one old.contents limit c.args.level c.args.top.block sizes.fan cs read.1 in
     let i = c.in_ok-way.way.index in
     let d = c.in_ok-way.way.child in
-    let A : Type 0 = (free_count c.args.held.now ≤ free_count c.put_below.new.held + (c.args.level - 1 + 1)) × (is_split c.in_ok-copied.copied ≡ false) in
+    let A : Type 0 = TakesAtMost (c.args.level - 1 + 1 + long_blocks c.args.value.now) c.args.held.now c.put_below.new.held × (is_split c.in_ok-copied.copied ≡ false) in
     let below = there_below sizes old _ limit c.args.level c.args.top.block r rs bs cs i d still above tree rises only way.2.chosen d A way.2.child there
     (λ sub own under low rising found. (
       c.in_ok-copied.ensures.replaced levels (c.write_replaced.ensures.writes.goes.earlier honest) sub own under low rising found,

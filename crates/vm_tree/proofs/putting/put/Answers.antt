@@ -1,4 +1,5 @@
 use Rattle.std.proofs.Common.{◌≡◌, ◌∙◌, ℕ, List, [], ◌+◌, ◌≤◌, ◌<◌, Err, IfOk, true, length, ap, sym, subst, refl, inl, inr, arith, rules}
+use Rattle.std.specs.Prelude.{slice_set}
 use Rattle.std.specs.List.{AllByRecursion}
 use Rattle.std.proofs.lemmas.Bool.{false≢true, ltb-false, ltb-true}
 use Rattle.vm_types.specs.Map.{Map, with_value}
@@ -25,8 +26,8 @@ returns-then-root-eq0-clause-put g c honest m bs (inl bare) =
     let held = c.put_first.new.held in
     let x = (g.D.Disk.state c.put_first.new.disk).now.contents in
     let limit = length before in
-    let path = path_under c.args.root c.args.path.now in
-    let none = path_bare c.args.root c.args.path.now c.if-root-eq0.true in
+    let path = path_under c.args.root (slice_set c.args.path.now 8 0) in
+    let none = path_bare c.args.root c.args.path.now c.told-path c.if-root-eq0.true in
     let made = c.put_first.ensures.put honest (lacks path) sizes (omega (arith, c.requires.sizes.leaf_least)) (omega (arith, c.requires.sizes.levels_least)) in
     let R : (ℕ → Type 0) → Map → Root → Type 0 = λ P n r. IsRootedIn sizes P x limit r (with_value n c.args.key c.args.value.now) in
     first_puts c.put_first.result _ _ _ (R (IsHeldBeside held path) m) c.put_first.ensures.device
@@ -124,7 +125,7 @@ returns-in_ok-top-in-Two-clause-replaced g c honest m bs (inr top) there =
     absurd (false≢true (sym one ∙ ap is_split c.in-Two.is))
 
 pub returns-then-root-eq0-clause-path_in : goal.returns-then-root-eq0-clause-path_in
-returns-then-root-eq0-clause-path_in g c honest m bs rooted = if_ok_is c.put_first.result _ (path_none c.args.root c.args.path.now bs c.if-root-eq0.true)
+returns-then-root-eq0-clause-path_in g c honest m bs rooted = if_ok_is c.put_first.result _ (path_none c.args.root c.args.path.now bs c.told-path c.if-root-eq0.true)
 
 pub returns-in-One-clause-path_in : goal.returns-in-One-clause-path_in
 returns-in-One-clause-path_in g c honest m bs rooted =
@@ -144,3 +145,9 @@ returns-in_err-top-in-Two-clause-writes g c = writes_on c.in_ok-copied.ensures.w
 
 pub returns-in_err-copied-clause-looks : goal.returns-in_err-copied-clause-looks
 returns-in_err-copied-clause-looks g c b = looks_as (c.in_err-copied.ensures.looks b) (search rules)
+
+pub put_first-requires-clause-short : goal.put_first-requires-clause-short
+put_first-requires-clause-short g c = omega (arith, c.requires.short)
+
+pub put_below-requires-clause-short : goal.put_below-requires-clause-short
+put_below-requires-clause-short g c = omega (arith, c.requires.short)

@@ -1,18 +1,25 @@
-use Rattle.std.proofs.Common.{ℕ, Bool, List, length, sym, subst, refl, arith, rules}
+use Rattle.std.proofs.Common.{◌≡◌, ◌<◌, ◌↔◌, ℕ, true, List, [], ◌∷◌, ◌++◌, length, sym, subst, refl, arith, rules}
+use Rattle.std.specs.List.{AllByRecursion}
 use Rattle.std.proofs.lemmas.Bool.{false≢true}
-use Rattle.vm_types.specs.Places.{with_record}
-use Rattle.vm_block.specs.Leaf.{Record, IsLeaf}
+use Rattle.vm_types.specs.Places.{place, with_record}
+use Rattle.vm_disk.specs.Disk.{Medium}
+use Rattle.vm_disk.proofs.MomentLemmas.{same_medium}
+use Rattle.vm_block.specs.Changed.{without_place}
+use Rattle.vm_block.specs.Leaf.{Record, Row, HasRows}
+use Rattle.vm_alloc.specs.Held.{IsHeld}
 use Rattle.vm_alloc.proofs.HeldLemmas.{holds_same}
+use Rattle.vm_tree.specs.Answers.{OkOrDevice}
 use Rattle.vm_tree.specs.Root.{sizes_of}
-use Rattle.vm_tree.specs.Making.{Made}
-use Rattle.vm_tree.specs.Replacing.{IsRenewed}
+use Rattle.vm_tree.specs.Making.{Made, children_of, is_split}
+use Rattle.vm_tree.specs.Replacing.{IsRenewed, KeepsBeside, Replaces, long_of}
+use Rattle.vm_tree.specs.Rows.{StandIn}
 use Rattle.vm_tree.proofs.TreeLemmas.{leaf_opens}
-use Rattle.vm_tree.proofs.Beside.{if_ok_each}
+use Rattle.vm_tree.proofs.Beside.{if_ok_where}
+use Rattle.vm_tree.proofs.LeafBeside.{long_apart, long_within, rest_kept, rows_read}
+use Rattle.vm_tree.proofs.LeafRows.{put_rows, with_count, with_many}
 use Rattle.vm_tree.proofs.Looking.{looks_free, looks_if, looks_write, passed_on}
-use Rattle.vm_tree.proofs.Descent.{leaf_there}
 use Rattle.vm_tree.proofs.FullPaths.{leaf_splits, splits_leaf}
 use Rattle.vm_tree.proofs.Leading.{ends_at, leads_end, if_ok_is}
-use Rattle.vm_tree.proofs.Placing.{with_fits, with_rises, with_some}
 use Rattle.vm_tree.proofs.PutLemmas.{leaf_put, device_below, ok_if}
 use Rattle.vm_tree.proofs.putting.put_in_leaf.Goals as goal
 
@@ -22,12 +29,25 @@ returns-in_ok-leaf-in-Put-clause-put g c fan levels honest rs bs tree begins ris
     let r : Record = (c.args.key, c.args.value.now) in
     let x = (g.D.Disk.state c.args.disk.now).now.contents in
     let limit = length c.args.held.now in
-    let at = leaf_opens sizes x limit 0 c.args.top.block rs bs refl tree in
-    let leaf = c.in_ok-block_at.ensures.leaf (c.in_ok-leaf-in-Put.ensures.writes.goes.earlier honest) rs (leaf_there sizes x limit _ 0 c.args.top.block rs bs refl c.blocks-2.ensures.count tree) begins in
-    let put = c.in-Put.ensures.only rs leaf at.few in
-    let made = λ (keep : ℕ → Bool). c.in_ok-leaf-in-Put.ensures.leaf honest c.args.held.now keep (holds_same c.args.held.now) sizes (with_record r rs) put.0 (with_some r rs) (omega (arith, put.1, c.requires.most)) put.1
-    (with_rises r 0 rs (omega arith) rises) (with_fits r rs c.put_record.ensures.fits leaf.fit) in
-    (made, (λ is. absurd (false≢true is), λ splits. let over = splits_leaf sizes x limit c.args.top.block r rs bs at splits in absurd (omega (arith, over, put.1))))
+    let b = c.args.top.block in
+    let at = leaf_opens sizes x limit 0 b rs bs refl tree in
+    let read = rows_read sizes x limit _ b c.args.top.low rs bs c.blocks-2.ensures.count tree begins in
+    let first = c.first_stored.result.now in
+    let w : Row = (c.args.key, first) in
+    let count = with_count x limit w r refl read.rows rs read.under read.stand in
+    let earlier = c.in_ok-leaf-in-Put.ensures.writes.goes.earlier honest in
+    let still = same_medium _ _ (c.in_ok-block_at.ensures.looks.reads earlier) in
+    let leaf = c.in_ok-block_at.ensures.rows earlier read.rows read.at read.begins in
+    let put = c.in-Put.ensures.only read.rows leaf read.few in
+    let has = put_rows c.put_row.new.bytes w read.rows _ leaf c.put_row.ensures.fits put.0 (omega (arith, put.1, c.requires.most)) in
+    let before = c.args.held.now in (
+      λ keep all keeps.
+          let P = IsRenewed before before keep in
+          let rest = rest_kept sizes x limit _ b c.args.top.low rs bs read before keep (place c.args.key) (long_of c.linked.result ++ (b ∷ [])) (long_apart sizes x limit _ b c.args.top.low rs bs read (place c.args.key) c.linked.result (c.linked.ensures read.rows leaf)) all keeps in
+          let there = subst (λ (m : Medium). StandIn P m.contents limit (without_place (place c.args.key) read.rows) (without_place (place c.args.key) rs)) (sym still) rest in
+          c.in_ok-leaf-in-Put.ensures.made honest before keep (holds_same before) sizes read.rows rs first has put.1 (omega arith) c.first_stored.ensures.same leaf.rising rises there read.within,
+      (λ is. absurd (false≢true is), λ splits. let over = splits_leaf sizes x limit b r rs bs at splits in absurd (omega (arith, over, put.1, count))),
+    )
 
 pub returns-in-Full-clause-put : goal.returns-in-Full-clause-put
 returns-in-Full-clause-put g c fan levels honest rs bs tree begins rises =
@@ -35,9 +55,14 @@ returns-in-Full-clause-put g c fan levels honest rs bs tree begins rises =
     let r : Record = (c.args.key, c.args.value.now) in
     let x = (g.D.Disk.state c.args.disk.now).now.contents in
     let limit = length c.args.held.now in
-    let at = leaf_opens sizes x limit 0 c.args.top.block rs bs refl tree in
-    let leaf = c.in_ok-block_at.ensures.leaf honest rs (leaf_there sizes x limit _ 0 c.args.top.block rs bs refl c.blocks-2.ensures.count tree) begins in
-    leaf_splits sizes x limit c.args.top.block r rs bs at rises (c.in-Full.ensures.only rs leaf at.few).1
+    let b = c.args.top.block in
+    let at = leaf_opens sizes x limit 0 b rs bs refl tree in
+    let read = rows_read sizes x limit _ b c.args.top.low rs bs c.blocks-2.ensures.count tree begins in
+    let first = c.first_stored.result.now in
+    let w : Row = (c.args.key, first) in
+    let count = with_count x limit w r refl read.rows rs read.under read.stand in
+    let leaf = c.in_ok-block_at.ensures.rows honest read.rows read.at read.begins in
+    leaf_splits sizes x limit b r rs bs at rises (omega (arith, (c.in-Full.ensures.only read.rows leaf read.few).1, count))
 
 pub returns-in-Full-2-clause-put : goal.returns-in-Full-2-clause-put
 returns-in-Full-2-clause-put g c fan levels honest rs bs tree begins rises =
@@ -45,15 +70,31 @@ returns-in-Full-2-clause-put g c fan levels honest rs bs tree begins rises =
     let r : Record = (c.args.key, c.args.value.now) in
     let x = (g.D.Disk.state c.args.disk.now).now.contents in
     let limit = length c.args.held.now in
-    let at = leaf_opens sizes x limit 0 c.args.top.block rs bs refl tree in
-    let leaf = c.in_ok-block_at.ensures.leaf (c.split_leaf.ensures.writes.goes.earlier honest) rs (leaf_there sizes x limit _ 0 c.args.top.block rs bs refl c.blocks-2.ensures.count tree) begins in
-    let still = subst (λ (b : List ℕ). IsLeaf b rs) (sym (c.in-Full-2.ensures.only rs leaf at.few).0) leaf in
-    let full = (c.in-Full-2.ensures.only rs leaf at.few).1 in
-    let fine = c.split_leaf.ensures.fine rs still at.few full in
-    leaf_put sizes x limit c.args.top.block r rs bs (with_record r rs) c.split_leaf.result _
-    (λ cs qs. (keep : ℕ → Bool) → Made (IsRenewed c.args.held.now c.split_leaf.new.held keep) sizes (g.D.Disk.state c.split_leaf.new.disk).now.contents limit 0 cs qs)
+    let b = c.args.top.block in
+    let at = leaf_opens sizes x limit 0 b rs bs refl tree in
+    let read = rows_read sizes x limit _ b c.args.top.low rs bs c.blocks-2.ensures.count tree begins in
+    let first = c.first_stored.result.now in
+    let w : Row = (c.args.key, first) in
+    let count = with_count x limit w r refl read.rows rs read.under read.stand in
+    let earlier = c.split_leaf.ensures.writes.goes.earlier honest in
+    let same = same_medium _ _ (c.in_ok-block_at.ensures.looks.reads earlier) in
+    let leaf = c.in_ok-block_at.ensures.rows earlier read.rows read.at read.begins in
+    let after = c.in-Full-2.ensures.only read.rows leaf read.few in
+    let still = subst (λ (bytes : List ℕ). HasRows bytes read.rows) (sym after.0) leaf in
+    let full : g.row.LEAF < length (with_record r read.rows) = omega (arith, after.1, with_many r w read.rows refl) in
+    let many : length (with_record r rs) ≡ length (with_record r read.rows) = with_count x limit r r refl read.rows rs read.under read.stand in
+    let fine = subst (λ n. OkOrDevice c.split_leaf.result (λ copied. (is_split copied ≡ true) ↔ (g.row.LEAF < n))) (sym many) (c.split_leaf.ensures.fine read.rows still read.few full) in
+    let before = c.args.held.now in
+    let z = (g.D.Disk.state c.split_leaf.new.disk).now.contents in
+    leaf_put sizes x limit b r rs bs (with_record r rs) c.split_leaf.result _
+    (λ cs qs. Replaces before c.split_leaf.new.held (long_of c.linked.result ++ (b ∷ [])) bs (λ P. Made P sizes z limit 0 cs qs))
     at rises refl fine (ok_if c.split_leaf.result _ fine)
-    (if_ok_each c.split_leaf.result _ (λ keep. c.split_leaf.ensures.made honest c.args.held.now keep (holds_same c.args.held.now) sizes rs still at.few full (omega arith)))
+    (if_ok_where c.split_leaf.result (λ keep. AllByRecursion (IsHeld before) bs) (λ keep. KeepsBeside (long_of c.linked.result ++ (b ∷ [])) keep bs) (λ copied keep. Made (IsRenewed before c.split_leaf.new.held keep) sizes z limit 0 (children_of copied) (with_record r rs))
+    (λ keep all keeps.
+    let P = IsRenewed before before keep in
+    let rest = rest_kept sizes x limit _ b c.args.top.low rs bs read before keep (place c.args.key) (long_of c.linked.result ++ (b ∷ [])) (long_apart sizes x limit _ b c.args.top.low rs bs read (place c.args.key) c.linked.result (c.linked.ensures read.rows leaf)) all keeps in
+    let there = subst (λ (m : Medium). StandIn P m.contents limit (without_place (place c.args.key) read.rows) (without_place (place c.args.key) rs)) (sym same) rest in
+    c.split_leaf.ensures.made honest before keep (holds_same before) sizes read.rows rs still read.few full (omega arith) rises there read.within))
 
 pub returns-in-NoLeaf-clause-put : goal.returns-in-NoLeaf-clause-put
 returns-in-NoLeaf-clause-put g c fan levels honest rs bs tree begins rises =
@@ -61,23 +102,30 @@ returns-in-NoLeaf-clause-put g c fan levels honest rs bs tree begins rises =
     let r : Record = (c.args.key, c.args.value.now) in
     let x = (g.D.Disk.state c.args.disk.now).now.contents in
     let limit = length c.args.held.now in
-    let at = leaf_opens sizes x limit 0 c.args.top.block rs bs refl tree in
-    let leaf = c.in_ok-block_at.ensures.leaf honest rs (leaf_there sizes x limit _ 0 c.args.top.block rs bs refl c.blocks-2.ensures.count tree) begins in
-    c.in-NoLeaf.ensures.only rs leaf at.few
+    let b = c.args.top.block in
+    let at = leaf_opens sizes x limit 0 b rs bs refl tree in
+    let read = rows_read sizes x limit _ b c.args.top.low rs bs c.blocks-2.ensures.count tree begins in
+    let first = c.first_stored.result.now in
+    let w : Row = (c.args.key, first) in
+    let count = with_count x limit w r refl read.rows rs read.under read.stand in
+    let leaf = c.in_ok-block_at.ensures.rows honest read.rows read.at read.begins in
+    c.in-NoLeaf.ensures.only read.rows leaf read.few
 
 pub returns-in_err-block_at-clause-put : goal.returns-in_err-block_at-clause-put
 returns-in_err-block_at-clause-put g c fan levels honest rs bs tree begins rises =
-    rw (passed_on _ c.from_residual.ensures.1) (device_below _ _ _ (c.in_err-block_at.ensures.leaf honest rs (leaf_there (sizes_of g.row.LEAF fan levels) _ (length c.args.held.now) _ 0 c.args.top.block rs bs refl c.blocks-2.ensures.count tree) begins))
+    let x = (g.D.Disk.state c.args.disk.now).now.contents in
+    let read = rows_read (sizes_of g.row.LEAF fan levels) x (length c.args.held.now) _ c.args.top.block c.args.top.low rs bs c.blocks-2.ensures.count tree begins in
+    rw (passed_on _ c.from_residual.ensures.1) (device_below _ _ _ (c.in_err-block_at.ensures.rows honest read.rows read.at read.begins))
 
 pub returns-in_ok-leaf-in-Put-clause-path : goal.returns-in_ok-leaf-in-Put-clause-path
 returns-in_ok-leaf-in-Put-clause-path g c honest =
     let head = c.in-Put.ensures.head.0 (λ e. cc e) in
-    leads_end _ _ (length c.args.held.now) 0 c.args.top.block c.args.top.low refl c.blocks-2.ensures.count (ends_at _ _ c.args.top.block c.args.top.low _ g.row.LEAF head.0 c.requires.most (c.in_ok-block_at.ensures.found (c.write_bytes.ensures.writes.goes.earlier honest)) head.1)
+    leads_end _ _ (length c.args.held.now) 0 c.args.top.block c.args.top.low refl c.blocks-2.ensures.count (ends_at _ _ c.args.top.block c.args.top.low _ g.row.LEAF head.0 head.1 c.requires.most (c.in_ok-block_at.ensures.found (c.write_put.ensures.writes.goes.earlier honest)) head.2)
 
 pub returns-in-Full-2-clause-path : goal.returns-in-Full-2-clause-path
 returns-in-Full-2-clause-path g c honest =
     let head = c.in-Full-2.ensures.head.0 (λ e. cc e) in
-    if_ok_is c.split_leaf.result _ (leads_end _ _ (length c.args.held.now) 0 c.args.top.block c.args.top.low refl c.blocks-2.ensures.count (ends_at _ _ c.args.top.block c.args.top.low _ g.row.LEAF head.0 c.requires.most (c.in_ok-block_at.ensures.found (c.split_leaf.ensures.writes.goes.earlier honest)) head.1))
+    if_ok_is c.split_leaf.result _ (leads_end _ _ (length c.args.held.now) 0 c.args.top.block c.args.top.low refl c.blocks-2.ensures.count (ends_at _ _ c.args.top.block c.args.top.low _ g.row.LEAF head.0 head.1 c.requires.most (c.in_ok-block_at.ensures.found (c.split_leaf.ensures.writes.goes.earlier honest)) head.2))
 
 pub returns-in-Full-2-clause-replaced : goal.returns-in-Full-2-clause-replaced
 returns-in-Full-2-clause-replaced g c fan levels honest rs bs tree begins rises there =
@@ -85,9 +133,14 @@ returns-in-Full-2-clause-replaced g c fan levels honest rs bs tree begins rises 
     let r : Record = (c.args.key, c.args.value.now) in
     let x = (g.D.Disk.state c.args.disk.now).now.contents in
     let limit = length c.args.held.now in
-    let at = leaf_opens sizes x limit 0 c.args.top.block rs bs refl tree in
-    let leaf = c.in_ok-block_at.ensures.leaf (c.split_leaf.ensures.writes.goes.earlier honest) rs (leaf_there sizes x limit _ 0 c.args.top.block rs bs refl c.blocks-2.ensures.count tree) begins in
-    absurd (there (leaf_splits sizes x limit c.args.top.block r rs bs at rises (c.in-Full-2.ensures.only rs leaf at.few).1).absent)
+    let b = c.args.top.block in
+    let at = leaf_opens sizes x limit 0 b rs bs refl tree in
+    let read = rows_read sizes x limit _ b c.args.top.low rs bs c.blocks-2.ensures.count tree begins in
+    let first = c.first_stored.result.now in
+    let w : Row = (c.args.key, first) in
+    let count = with_count x limit w r refl read.rows rs read.under read.stand in
+    let leaf = c.in_ok-block_at.ensures.rows (c.split_leaf.ensures.writes.goes.earlier honest) read.rows read.at read.begins in
+    absurd (there (leaf_splits sizes x limit b r rs bs at rises (omega (arith, (c.in-Full-2.ensures.only read.rows leaf read.few).1, count))).absent)
 
 pub returns-in_ok-leaf-in-Put-clause-writes : goal.returns-in_ok-leaf-in-Put-clause-writes
 returns-in_ok-leaf-in-Put-clause-writes g c = looks_write c.in_ok-block_at.ensures.looks c.in_ok-leaf-in-Put.ensures.writes (λ is. cc)
@@ -109,3 +162,21 @@ returns-in-NoLeaf-clause-writes g c = looks_free c.in_ok-block_at.ensures.looks 
 
 pub returns-in_err-block_at-clause-writes : goal.returns-in_err-block_at-clause-writes
 returns-in_err-block_at-clause-writes g c = looks_free c.in_err-block_at.ensures.looks (search rules)
+
+pub returns-in_ok-leaf-in-Put-clause-path_in : goal.returns-in_ok-leaf-in-Put-clause-path_in
+returns-in_ok-leaf-in-Put-clause-path_in g c fan levels honest rs bs tree begins rises =
+    let sizes = sizes_of g.row.LEAF fan levels in
+    let x = (g.D.Disk.state c.args.disk.now).now.contents in
+    let limit = length c.args.held.now in
+    let read = rows_read sizes x limit _ c.args.top.block c.args.top.low rs bs c.blocks-2.ensures.count tree begins in
+    let leaf = c.in_ok-block_at.ensures.rows (c.in_ok-leaf-in-Put.ensures.writes.goes.earlier honest) read.rows read.at read.begins in
+    long_within sizes x limit _ c.args.top.block c.args.top.low rs bs read (place c.args.key) c.linked.result (c.linked.ensures read.rows leaf)
+
+pub returns-in-Full-2-clause-path_in : goal.returns-in-Full-2-clause-path_in
+returns-in-Full-2-clause-path_in g c fan levels honest rs bs tree begins rises =
+    let sizes = sizes_of g.row.LEAF fan levels in
+    let x = (g.D.Disk.state c.args.disk.now).now.contents in
+    let limit = length c.args.held.now in
+    let read = rows_read sizes x limit _ c.args.top.block c.args.top.low rs bs c.blocks-2.ensures.count tree begins in
+    let leaf = c.in_ok-block_at.ensures.rows (c.split_leaf.ensures.writes.goes.earlier honest) read.rows read.at read.begins in
+    if_ok_is c.split_leaf.result _ (long_within sizes x limit _ c.args.top.block c.args.top.low rs bs read (place c.args.key) c.linked.result (c.linked.ensures read.rows leaf))

@@ -19,16 +19,29 @@ use Rattle.vm_tree.specs.declared.removing.Left.{Left}
 use Rattle.vm_tree.specs.declared.root.Root.{Root}
 use Rattle.vm_tree.specs.Root.{sizes_of}
 use Rattle.vm_tree.specs.declared.root.TreeFault.TheVariants.{Device}
-use Rattle.vm_tree.proofs.Beside.{node_path, path_grown, path_leaf}
+use Rattle.vm_tree.proofs.Beside.{node_path, path_alone, path_grown, path_leaf}
 use Rattle.vm_tree.proofs.Looking.{looks_free, looks_if, looks_if_on, looks_write, passed_on, writes_on}
 use Rattle.vm_tree.proofs.Descent.{node_read}
-use Rattle.vm_tree.proofs.Leading.{leads_on, if_ok_is}
+use Rattle.vm_tree.proofs.Leading.{leads_on, if_ok_is, if_ok_so}
 use Rattle.vm_tree.proofs.PutLemmas.{only_one, replaced_length}
 use Rattle.vm_tree.proofs.RemoveLemmas.{rests_removes, none_there, fault_there, node_rest, only_there, others_left}
 use Rattle.vm_tree.proofs.Renewing.{renewed_more}
 use Rattle.vm_tree.proofs.Sparing.{held_kept}
 use Rattle.vm_tree.proofs.removing.+remove_below.Goals as goal
 use Rattle.vm_tree.proofs.removing.+remove_below.Goals.{then-is_root, else-is_root}
+
+pub returns-then-level-eq0-clause-remove : goal.returns-then-level-eq0-clause-remove
+returns-then-level-eq0-clause-remove g t c levels honest rs bs tree begins rises =
+    let sizes = sizes_of g.row.LEAF g.row.FAN levels in
+    let p = place c.args.key in
+    let limit = length c.args.held.now in
+    let b = c.args.top.block in
+    let none = c.if-level-eq0.true in
+    let there = subst (λ l. Subtree sizes (g.D.Disk.state c.args.disk.now).now.contents limit l b rs bs) none tree in
+    let later = c.remove_from_leaf.new.held in
+    let y = (g.D.Disk.state c.remove_from_leaf.new.disk).now.contents in
+    let Leaves : List ℕ → Type 0 = λ ns. RemovesBelow c.remove_from_leaf.result p rs (λ root. Replaces c.args.held.now later ns bs (λ P. Made P sizes y limit root.level (child_of root ∷ []) (without_place p rs))) in
+    subst Leaves (sym (path_alone c.args.path.now c.args.level c.from.result b c.remove_from_leaf.new.long c.told-path none c.from.ensures)) (c.remove_from_leaf.ensures.remove g.row.FAN levels honest rs bs there begins rises)
 
 pub returns-then-alone-clause-remove : goal.returns-then-alone-clause-remove
 returns-then-alone-clause-remove g t c levels honest rs bs tree begins rises =
@@ -214,7 +227,13 @@ returns-in_err-way-clause-remove g t c levels honest rs bs tree begins rises =
 
 pub returns-then-level-eq0-clause-path_in : goal.returns-then-level-eq0-clause-path_in
 returns-then-level-eq0-clause-path_in g t c levels honest rs bs tree begins rises =
-    if_ok_is c.remove_from_leaf.result _ (path_leaf (sizes_of g.row.LEAF g.row.FAN levels) _ _ c.args.level c.from.result c.args.top.block rs bs c.args.path.now c.told-path c.if-level-eq0.true c.from.ensures tree)
+    let sizes = sizes_of g.row.LEAF g.row.FAN levels in
+    let x = (g.D.Disk.state c.args.disk.now).now.contents in
+    let limit = length c.args.held.now in
+    let b = c.args.top.block in
+    let there = subst (λ l. Subtree sizes x limit l b rs bs) c.if-level-eq0.true tree in
+    if_ok_so c.remove_from_leaf.result _ _ (c.remove_from_leaf.ensures.path_in g.row.FAN levels honest rs bs there begins rises)
+    (path_leaf sizes x limit c.args.level c.from.result b c.remove_from_leaf.new.long rs bs c.args.path.now c.told-path c.if-level-eq0.true c.from.ensures tree)
 
 pub returns-then-alone-clause-path_in : goal.returns-then-alone-clause-path_in
 returns-then-alone-clause-path_in g t c levels honest rs bs tree begins rises =

@@ -1,4 +1,4 @@
-use Rattle.std.proofs.Common.{◌∙◌, ℕ, List, ap, arith}
+use Rattle.std.proofs.Common.{◌∙◌, ℕ, true, List, ap, arith}
 use Rattle.std.proofs.lemmas.List.{with_items_is}
 use Rattle.vm_alloc.specs.Flags.{flags_of}
 use Rattle.vm_alloc.specs.Words.{is_bit_set}
@@ -11,7 +11,7 @@ set_bit-requires c = rw c.as_mut_slice.ensures.value (word_inside _ _ c.args.sel
 pub returns : goal.returns
 returns c =
     ap (λ (words : List ℕ). flags_of words c.self.inside.count) (with_items_is c.self.inside.words c.set_bit.new.words (omega arith))
-    ∙ flag_written c.self.inside.words.items c.as_mut_slice.result.now c.set_bit.new.words c.self.inside.count c.args.self.now c.args.n
+    ∙ flag_written c.self.inside.words.items c.as_mut_slice.result.now c.set_bit.new.words c.self.inside.count c.args.self.now c.args.n true
     c.self.view_is c.as_mut_slice.ensures.value c.requires c.set_bit.ensures.same c.set_bit.ensures.others
 
 pub invariant_of-self : goal.invariant_of-self
