@@ -1,8 +1,9 @@
 //! Laws of the catalog.
 ghost use Rattle.vm_catalog.specs.Laws.{ContentsNameOne, SlotsHoldOne, UsedBlocksName, WrittenSlotsAreSlots};
 
-/// A slot holds one list of entries, and contents name one; contents with the same used blocks
-/// name the same; and the blocks of a slot, as they are written, hold its entries.
+/// A slot is of one format and holds one list of entries, and contents name one such slot; contents
+/// with the same used blocks name the same; and the blocks of a slot, as they are written, hold its
+/// entries.
 pub fn one_catalog()
     ensures slot { SlotsHoldOne }
     ensures named { ContentsNameOne }

@@ -16,7 +16,7 @@ use Rattle.vm_tree.specs.Free.{is_free}
 use Rattle.vm_store.specs.Guarded.{IsGuarded}
 use Rattle.vm_store.specs.Resting.{IsInSeries, Rests, state_aside}
 use Rattle.vm_store.specs.Shown.{Shows}
-use Rattle.vm_store.specs.Store.{Answers, Carries, Holds}
+use Rattle.vm_store.specs.Store.{Answers, Carries, Holds, disk_of}
 use Rattle.vm_store.specs.declared.store.Store.{Store}
 use Rattle.vm_store.specs.declared.version.Version.{Version}
 use Rattle.vm_store.proofs.GuardLemmas.{guarded_on}
@@ -25,9 +25,9 @@ use Rattle.vm_store.proofs.RestingLemmas.{shows_old}
 module _ {D : Type 0} {members : _} (old new : Store D members) (s : State) (holds : Holds old s) (command : Command) (answer : Result Answer Refusal) (due : Answers old new s holds command answer)
   where
     -- calls that read, and then calls that touch no block of what was committed
-    pub spared : {limit : ℕ} {slot_name : SlotName} {bits : List Bool} {committed working : List Version} (mid : DiskState) → OnlyReads (members.state old.disk) mid
+    pub spared : {limit : ℕ} {slot_name : SlotName} {bits : List Bool} {committed working : List Version} (mid : DiskState) → OnlyReads (members.state (disk_of old)) mid
         → (stood : State) → committed_of stood ≡ committed_of s → Rests mid.now limit slot_name bits committed working stood
-        → Throughout mid (members.state new.disk) (TouchesOnly (is_free bits) mid.now) → HoldsMore bits new.held → (answer ≢ Err Device → Holds new (next s command answer)) → Carries old new s holds command answer
+        → Throughout mid (members.state (disk_of new)) (TouchesOnly (is_free bits) mid.now) → HoldsMore bits new.held → (answer ≢ Err Device → Holds new (next s command answer)) → Carries old new s holds command answer
     spared {limit} {slot_name} {bits} {committed} {working} mid reads stood same rests moments still state =
         let P = TouchesOnly (is_free bits) mid.now in
         let Q = Leaves (LeftBy Shows s command) in
@@ -39,26 +39,26 @@ module _ {D : Type 0} {members : _} (old new : Store D members) (s : State) (hol
         }
 
     -- calls that read, and then calls that write free blocks alone
-    pub wrote : {limit : ℕ} {slot_name : SlotName} {bits : List Bool} {committed working : List Version} (mid : DiskState) → OnlyReads (members.state old.disk) mid → Rests mid.now limit slot_name bits committed working s
-        → Throughout mid (members.state new.disk) (TouchesOnly (is_free bits) mid.now) → HoldsMore bits new.held → (answer ≢ Err Device → Holds new (next s command answer)) → Carries old new s holds command answer
+    pub wrote : {limit : ℕ} {slot_name : SlotName} {bits : List Bool} {committed working : List Version} (mid : DiskState) → OnlyReads (members.state (disk_of old)) mid → Rests mid.now limit slot_name bits committed working s
+        → Throughout mid (members.state (disk_of new)) (TouchesOnly (is_free bits) mid.now) → HoldsMore bits new.held → (answer ≢ Err Device → Holds new (next s command answer)) → Carries old new s holds command answer
     wrote mid reads rests moments still state = spared mid reads s refl rests moments still state
 
     -- calls that read, and then changes of a series
-    pub changed : {limit : ℕ} {slot_name : SlotName} {bits before : List Bool} {committed working : List Version} {alt : List ℕ} (mid : DiskState) → OnlyReads (members.state old.disk) mid
+    pub changed : {limit : ℕ} {slot_name : SlotName} {bits before : List Bool} {committed working : List Version} {alt : List ℕ} (mid : DiskState) → OnlyReads (members.state (disk_of old)) mid
         → IsInSeries alt mid.now limit slot_name bits before committed working s
-        → Throughout mid (members.state new.disk) (TouchesOnly (is_free before) mid.now) → HoldsMore bits new.held → (answer ≢ Err Device → Holds new (next s command answer)) → Carries old new s holds command answer
+        → Throughout mid (members.state (disk_of new)) (TouchesOnly (is_free before) mid.now) → HoldsMore bits new.held → (answer ≢ Err Device → Holds new (next s command answer)) → Carries old new s holds command answer
     changed {alt = alt} mid reads series moments still state =
         spared mid reads (state_aside alt s) refl series.others moments (holds_more_then _ _ _ series.wider still) state
 
     -- calls that read
-    pub looked : {limit : ℕ} {slot_name : SlotName} {committed working : List Version} → OnlyReads (members.state old.disk) (members.state new.disk) → Rests (members.state new.disk).now limit slot_name new.held committed working s
+    pub looked : {limit : ℕ} {slot_name : SlotName} {committed working : List Version} → OnlyReads (members.state (disk_of old)) (members.state (disk_of new)) → Rests (members.state (disk_of new)).now limit slot_name new.held committed working s
         → (answer ≢ Err Device → Holds new (next s command answer)) → Carries old new s holds command answer
     looked reads rests state =
-        wrote (members.state new.disk) reads rests (started _ _ (spares_itself (is_free new.held) _)) (record { same_length = refl; still = λ n h. h }) state
+        wrote (members.state (disk_of new)) reads rests (started _ _ (spares_itself (is_free new.held) _)) (record { same_length = refl; still = λ n h. h }) state
 
 -- reads, and then a command that was carried out
 pub read_carried : {D : Type 0} {members : _} (old mid new : Store D members) (s : State) (holds : Holds old s) (between : Holds mid s) (command : Command) (answer : Result Answer Refusal)
-    → OnlyReads (members.state old.disk) (members.state mid.disk) → Answers old new s holds command answer → Carries mid new s between command answer → Carries old new s holds command answer
+    → OnlyReads (members.state (disk_of old)) (members.state (disk_of mid)) → Answers old new s holds command answer → Carries mid new s between command answer → Carries old new s holds command answer
 read_carried old mid new s holds between command answer reads due carried = record {
   answers = due;
   state = carried.state;

@@ -135,6 +135,12 @@ device_makes Memory deep P is = cc
 
 -- ---- one change more
 
+-- what stands at a place that a list has, whatever is taken where it has none
+pub change_at : (changes : List Change) (i : ℕ) (d e : Change) → i < length changes → get_or changes i d ≡ get_or changes i e
+change_at [] i d e lt = absurd (omega arith)
+change_at (c ∷ changes) zero d e lt = refl
+change_at (c ∷ changes) (suc i) d e lt = change_at changes i d e (omega (arith, lt))
+
 with_changes-append : (m : Map) (earlier later : List Change) → with_changes m (earlier ++ later) ≡ with_changes (with_changes m earlier) later
 with_changes-append m [] later = refl
 with_changes-append m (c ∷ earlier) later = with_changes-append (with_change m c) earlier later

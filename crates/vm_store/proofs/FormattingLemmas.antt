@@ -1,5 +1,5 @@
 -- A formatting, moment by moment.
-use Rattle.std.proofs.Common.{◌≡◌, ◌≢◌, inl, inr, ℕ, ◌≤◌, ◌^◌, Bool, false, List, [], ◌∷◌, length, None, Result, Ok, Err, OnOk, IsTrue, refl, sym, ap, ◌∙◌, subst, arith}
+use Rattle.std.proofs.Common.{true, ◌≡◌, ◌≢◌, inl, inr, ℕ, ◌≤◌, ◌^◌, Bool, false, List, [], ◌∷◌, length, None, Result, Ok, Err, OnOk, IsTrue, refl, sym, ap, ◌∙◌, subst, arith}
 use Rattle.vm_types.specs.Map.{Map}
 use Rattle.std.proofs.lemmas.Bool.{false≢true}
 use Rattle.std.proofs.lemmas.List.Elements.{All-from_recursion}
@@ -8,10 +8,12 @@ use Rattle.vm_types.specs.Tree.{Tree, fresh}
 use Rattle.vm_disk.specs.Disk.{Contents, DiskState, IsClean, Medium, Syncs, Writes, block}
 use Rattle.vm_disk.specs.declared.disk.DeviceFault.{DeviceFault}
 use Rattle.vm_disk.specs.Moments.{Leaves, TouchesOnly}
+use Rattle.vm_block.specs.declared.slot.SlotFormat.TheVariants.{Two}
+use Rattle.vm_check.specs.Suits.{SuitsAt}
 use Rattle.vm_block.specs.Header.{IsHeader}
 use Rattle.vm_block.specs.Selector.{named_slot, selector_bytes}
 use Rattle.vm_block.specs.declared.selector.SlotName.TheVariants.{A}
-use Rattle.vm_block.specs.Slot.{SlotFits, IsSlot, used_blocks}
+use Rattle.vm_block.specs.Slot.{SlotFits, IsSlot, has_long, used_blocks}
 use Rattle.vm_tree.specs.Root.{IsRootedIn}
 use Rattle.vm_tree.specs.declared.root.Root.{Root}
 use Rattle.vm_tree.proofs.RootRemoval.{rooted_bare}
@@ -63,19 +65,19 @@ abbrev fresh_version : Version
 fresh_version = record { kind = kind.Alternative; name = fresh_entry.name; owner = None; current = no_root; base = no_root }
 
 -- what is under block 0 is empty
-empty_map : (x : Contents) (limit : ℕ) (root : Root) (m : Map) → root.block ≡ 0 → IsRootedIn sizes (λ n. Unit {0}) x limit root m → m ≡ []
-empty_map x limit root m none grown = (rooted_bare sizes x limit root m grown.stands_in grown.rooted none).empty
+empty_map : (P : ℕ → Type 0) (x : Contents) (limit : ℕ) (root : Root) (m : Map) → root.block ≡ 0 → IsRootedIn sizes P x limit root m → m ≡ []
+empty_map P x limit root m none grown = (rooted_bare sizes x limit root m grown.stands_in grown.rooted none).empty
 
-one_filed : (x : Contents) (limit : ℕ) (vs : List Version) (fs : List Filed) → slot_entries vs ≡ fresh_entry ∷ [] → Standing (λ n. Unit {0}) x limit vs fs → tree_of fs ≡ fresh
-one_filed x limit [] fs is s = cc
-one_filed x limit (v ∷ w ∷ vs) fs is s = cc
-one_filed x limit (v ∷ []) [] is s = absurd s
-one_filed x limit (v ∷ []) (f ∷ g ∷ fs) is s = absurd s.1
-one_filed x limit (v ∷ []) (f ∷ []) is s =
+one_filed : (P : ℕ → Type 0) (x : Contents) (limit : ℕ) (vs : List Version) (fs : List Filed) → slot_entries vs ≡ fresh_entry ∷ [] → Standing P x limit vs fs → tree_of fs ≡ fresh
+one_filed P x limit [] fs is s = cc
+one_filed P x limit (v ∷ w ∷ vs) fs is s = cc
+one_filed P x limit (v ∷ []) [] is s = absurd s
+one_filed P x limit (v ∷ []) (f ∷ g ∷ fs) is s = absurd s.1
+one_filed P x limit (v ∷ []) (f ∷ []) is s =
     let it : entry_of v ≡ fresh_entry = cc in
     let filed : Filed = record { kind = kind.Alternative; name = fresh_entry.name; owner = None; current = []; base = [] } in
     let same : f ≡ filed = by_parts f (s.0.kind ∙ ap (λ (e : Entry). e.kind) it) (s.0.name ∙ ap (λ (e : Entry). e.name) it) (s.0.owner ∙ ap (λ (e : Entry). e.owner) it)
-    (empty_map x limit v.current f.current (ap (λ (e : Entry). e.current) it) s.0.current) (empty_map x limit v.base f.base (ap (λ (e : Entry). e.base) it) s.0.base) in
+    (empty_map P x limit v.current f.current (ap (λ (e : Entry). e.current) it) s.0.current) (empty_map P x limit v.base f.base (ap (λ (e : Entry). e.base) it) s.0.base) in
     ap (λ (g : Filed). tree_of (g ∷ [])) same
   where
     by_parts : (f : Filed) → f.kind ≡ kind.Alternative → f.name ≡ fresh_entry.name → f.owner ≡ None → f.current ≡ [] → f.base ≡ []
@@ -88,11 +90,11 @@ one_filed x limit (v ∷ []) (f ∷ []) is s =
         ∙ ap (λ (b : Map). record f { kind = kind.Alternative; name = fresh_entry.name; owner = None; current = []; base = b }) b
 
 -- where slot A holds the one entry of a new store, and is named, only a new store can be shown
-pub only_fresh : (x : Contents) (blocks : ℕ) → selected x ≡ A → SlotAt x A blocks (fresh_entry ∷ []) → ShowsAtMostNew blocks x
+pub only_fresh : (x : Contents) (blocks : ℕ) → selected x ≡ A → SlotAt x A Two blocks (fresh_entry ∷ []) → ShowsAtMostNew blocks x
 only_fresh x blocks in_use slot seen shown =
-    let same = slot_one x A seen.blocks blocks (slot_entries shown.versions) (fresh_entry ∷ []) (subst (λ b. SlotAt x b seen.blocks (slot_entries shown.versions)) in_use shown.names.slot) slot in
-    let tree : seen.tree ≡ fresh = sym shown.gives ∙ one_filed x seen.blocks shown.versions shown.filed same.1 shown.stands in
-    ap (λ (t : Tree). record { tree = t; blocks = seen.blocks }) tree ∙ ap new_store same.0
+    let same = slot_one x A shown.format Two seen.blocks blocks (slot_entries shown.versions) (fresh_entry ∷ []) (subst (λ b. SlotAt x b shown.format seen.blocks (slot_entries shown.versions)) in_use shown.names.slot) slot in
+    let tree : seen.tree ≡ fresh = sym shown.gives ∙ one_filed (SuitsAt (has_long shown.format) x) x seen.blocks shown.versions shown.filed same.2 shown.stands in
+    ap (λ (t : Tree). record { tree = t; blocks = seen.blocks }) tree ∙ ap new_store same.1
 
 -- all but block 0 is as in a disk that is laid out, and clean
 pub record KeepsRest (old m : Medium) : Type 0 where
@@ -103,7 +105,7 @@ pub record KeepsRest (old m : Medium) : Type 0 where
 rest_fresh : (blocks : ℕ) (old : Medium) (x : Contents) → IsLaidOut blocks old → ((n : ℕ) → n ≢ 0 → block x n ≡ block old.contents n) → ShowsAtMostNew blocks x
 rest_fresh blocks old x laid same =
     only_fresh x blocks (ap (λ b. named_slot b) (same 1 (λ (e : 1 ≡ 0). omega arith)) ∙ laid.selected)
-    (slot_in old.contents x A blocks (fresh_entry ∷ []) (λ n low high. same n (λ (e : n ≡ 0). omega (arith, low))) laid.slot)
+    (slot_in old.contents x A Two blocks (fresh_entry ∷ []) (λ n low high. same n (λ (e : n ≡ 0). omega (arith, low))) laid.slot)
 
 pub at_header : (blocks : ℕ) (old m : Medium) → IsLaidOut blocks old → KeepsRest old m → Leaves (ShowsAtMostNew blocks) m
 at_header blocks old m laid keeps left may = rest_fresh blocks old left laid (λ n other. may.clean n (keeps.clean n other) ∙ keeps.same n other)
@@ -123,12 +125,13 @@ formatted_now blocks (Ok y) old mid new laid keeps header inside sync =
     let x = new.now.contents in
     let same : (n : ℕ) → n ≢ 0 → block x n ≡ block old.contents n = λ n other. ap (λ (x : Contents). block x n) sync.same ∙ keeps.same n other in
     let in_use : selected x ≡ A = ap (λ b. named_slot b) (same 1 (λ (e : 1 ≡ 0). omega arith)) ∙ laid.selected in
-    let slot : SlotAt x A blocks (fresh_entry ∷ []) = slot_in old.contents x A blocks (fresh_entry ∷ []) (λ n low high. same n (λ (e : n ≡ 0). omega (arith, low))) laid.slot in
+    let slot : SlotAt x A Two blocks (fresh_entry ∷ []) = slot_in old.contents x A Two blocks (fresh_entry ∷ []) (λ n low high. same n (λ (e : n ≡ 0). omega (arith, low))) laid.slot in
     record {
       shown = record {
+        format = Two;
         versions = fresh_version ∷ [];
         filed = record { kind = kind.Alternative; name = fresh_entry.name; owner = None; current = []; base = [] } ∷ [];
-        names = record { header = ap (λ (x : Contents). block x 0) sync.same ∙ header; slot = subst (λ b. SlotAt x b blocks (fresh_entry ∷ [])) (sym in_use) slot };
+        names = record { header = ap (λ (x : Contents). block x 0) sync.same ∙ header; slot = subst (λ b. SlotAt x b Two blocks (fresh_entry ∷ [])) (sym in_use) slot };
         inside = subst (λ n. blocks ≤ n) (sym (ap length sync.same ∙ keeps.count)) inside;
         stands = (record { kind = refl; name = refl; owner = refl; current = empty x; base = empty x }, tt);
         gives = refl;
@@ -136,24 +139,24 @@ formatted_now blocks (Ok y) old mid new laid keeps header inside sync =
       clean = sync.synced;
     }
   where
-    empty : (x : Contents) → IsRootedIn sizes (λ n. Unit {0}) x blocks no_root []
-    empty x = none_grown (λ n. Unit {0}) x blocks no_root refl
+    empty : (x : Contents) → IsRootedIn sizes (SuitsAt true x) x blocks no_root []
+    empty x = none_grown (SuitsAt true x) x blocks no_root refl
 
 -- the slot and the selector are written, and synced
 pub laid_now : {T : Type 0} (blocks : ℕ) (es : List Entry) (result : Result T DeviceFault) (written chosen new : DiskState) {U : Type 0} (select : Result U DeviceFault) (u : U) → es ≡ fresh_entry ∷ []
     → SlotFits blocks (fresh_entry ∷ [])
-    → blocks_from written.now.contents 2 (used_blocks (length es)) ≡ slot_blocks blocks es → select ≡ Ok u → Writes 1 (selector_bytes A) select written chosen → Syncs result chosen new → OnOk result (IsLaidOut blocks new.now)
+    → blocks_from written.now.contents 2 (used_blocks (length es)) ≡ slot_blocks Two blocks es → select ≡ Ok u → Writes 1 (selector_bytes A) select written chosen → Syncs result chosen new → OnOk result (IsLaidOut blocks new.now)
 laid_now blocks es (Err e) written chosen new select u is fits slot ok writes sync = tt
 laid_now blocks es (Ok y) written chosen new (Err e) u is fits slot ok writes sync = cc
 laid_now blocks es (Ok y) written chosen new (Ok v) u is fits slot ok writes sync =
     let x = new.now.contents in
     let same : (n : ℕ) → n ≢ 1 → block x n ≡ block written.now.contents n = λ n other. ap (λ (x : Contents). block x n) sync.same ∙ writes.others n other in
-    let there : SlotAt written.now.contents A blocks (fresh_entry ∷ []) =
-    subst (λ (bs : List (List ℕ)). IsSlot bs blocks (fresh_entry ∷ []))
-    (sym (subst (λ (l : List Entry). blocks_from written.now.contents 2 (used_blocks (length l)) ≡ slot_blocks blocks l) is slot)) (written_slot blocks (fresh_entry ∷ []) fits) in
+    let there : SlotAt written.now.contents A Two blocks (fresh_entry ∷ []) =
+    subst (λ (bs : List (List ℕ)). IsSlot bs Two blocks (fresh_entry ∷ []))
+    (sym (subst (λ (l : List Entry). blocks_from written.now.contents 2 (used_blocks (length l)) ≡ slot_blocks Two blocks l) is slot)) (written_slot Two blocks (fresh_entry ∷ []) fits) in
     record {
       selected = ap (λ b. named_slot b) (ap (λ (x : Contents). block x 1) sync.same ∙ writes.written) ∙ written_selector A;
-      slot = slot_in written.now.contents x A blocks (fresh_entry ∷ []) (λ n low high. same n (λ (e : n ≡ 1). omega (arith, low))) there;
+      slot = slot_in written.now.contents x A Two blocks (fresh_entry ∷ []) (λ n low high. same n (λ (e : n ≡ 1). omega (arith, low))) there;
       clean = sync.synced;
     }
 

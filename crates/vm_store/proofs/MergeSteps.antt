@@ -74,21 +74,21 @@ changed_twice test f g (x ∷ xs) keeps =
 
 module _ (s : State) (spare : ℕ) (deep : Type 0) (alt : List ℕ) (settled : List (Key × Side)) where
   pub merges_refused : (r : Refusal) → step s.working (Merge alt settled) ≡ Err r → IsMergeAnswer s spare deep alt settled (Err r)
-  merges_refused r is = inr (inr (subst (λ (o : Outcome). IsMergeDue o (nat_lt spare (16 * edits s.working (Merge alt settled))) deep (Err r)) (sym is) refl))
+  merges_refused r is = inr (inr (subst (λ (o : Outcome). IsMergeDue o (nat_lt spare (17 * edits s.working (Merge alt settled))) deep (Err r)) (sym is) refl))
 
   module _ (accepted : Tree × Answer) (is : step s.working (Merge alt settled) ≡ Ok accepted) (count : ℕ) (many : edits s.working (Merge alt settled) ≡ count) where
-    due : (r : Result Answer Refusal) (full : Bool) → nat_lt spare (16 * count) ≡ full → IsMergeDue (Ok accepted) full deep r → IsMergeAnswer s spare deep alt settled r
+    due : (r : Result Answer Refusal) (full : Bool) → nat_lt spare (17 * count) ≡ full → IsMergeDue (Ok accepted) full deep r → IsMergeAnswer s spare deep alt settled r
     due r full test h =
-        inr (inr (subst (λ (o : Outcome). IsMergeDue o (nat_lt spare (16 * edits s.working (Merge alt settled))) deep r) (sym is)
-        (subst (λ b. IsMergeDue (Ok accepted) b deep r) (sym (ap (λ n. nat_lt spare (16 * n)) many ∙ test)) h)))
+        inr (inr (subst (λ (o : Outcome). IsMergeDue o (nat_lt spare (17 * edits s.working (Merge alt settled))) deep r) (sym is)
+        (subst (λ b. IsMergeDue (Ok accepted) b deep r) (sym (ap (λ n. nat_lt spare (17 * n)) many ∙ test)) h)))
 
-    pub merges_full : nat_lt spare (16 * count) ≡ true → IsMergeAnswer s spare deep alt settled (Err Full)
+    pub merges_full : nat_lt spare (17 * count) ≡ true → IsMergeAnswer s spare deep alt settled (Err Full)
     merges_full full = due (Err Full) true full refl
 
-    pub merges_done : nat_lt spare (16 * count) ≡ false → IsMergeAnswer s spare deep alt settled (Ok accepted.1)
+    pub merges_done : nat_lt spare (17 * count) ≡ false → IsMergeAnswer s spare deep alt settled (Ok accepted.1)
     merges_done room = due (Ok accepted.1) false room (inl refl)
 
-    pub merges_deep : (refusal : Refusal) → refusal ≡ Deep → nat_lt spare (16 * count) ≡ false → deep → IsMergeAnswer s spare deep alt settled (Err refusal)
+    pub merges_deep : (refusal : Refusal) → refusal ≡ Deep → nat_lt spare (17 * count) ≡ false → deep → IsMergeAnswer s spare deep alt settled (Err refusal)
     merges_deep refusal same room is_deep = due (Err refusal) false room (inr (ap Err same, is_deep))
 
 -- ---- a Merge of an alternative that has a parent

@@ -1,5 +1,5 @@
 -- What a Remove answers, and what the store stands for after it.
-use Rattle.std.proofs.Common.{◌≡◌, ◌⊎◌, inl, inr, ℕ, ◌≤◌, nat_lt, Bool, true, false, List, Option, Some, None, IsTrue, Result, Ok, Err, refl, sym, ap, ◌∙◌, subst}
+use Rattle.std.proofs.Common.{◌≡◌, ◌⊎◌, inl, inr, ℕ, ◌≤◌, nat_lt, Bool, true, false, List, Option, Some, None, is_some, IsTrue, Result, Ok, Err, refl, sym, ap, ◌∙◌, subst}
 use Rattle.vm_types.specs.declared.answer.Answer.{Answer}
 use Rattle.vm_types.specs.declared.answer.Answer.TheVariants.{Done}
 use Rattle.vm_types.specs.declared.command.Command.TheVariants.{Remove}
@@ -55,7 +55,7 @@ module _ (tree : Tree) (name : List ℕ) (key : Key) where
 
 module _ (s : State) (name : List ℕ) (key : Key) (spare : ℕ) (deep : Type 0) where
   refused : (r : Refusal) → step s.working (Remove name key) ≡ Err r → IsAnswer s spare deep (Remove name key) (Err r)
-  refused r is = inr (subst (λ o. IsDue o (nat_lt spare 16) deep (Err r)) (sym is) refl)
+  refused r is = inr (subst (λ o. IsDue o (nat_lt spare 17) deep (Err r)) (sym is) refl)
 
   -- a Remove from no alternative
   pub removes_absent : Err NoSuchAlternative ≡ value_in s.working name key → IsAnswer s spare deep (Remove name key) (Err NoSuchAlternative)
@@ -70,19 +70,19 @@ module _ (s : State) (name : List ℕ) (key : Key) (spare : ℕ) (deep : Type 0)
     accepts = step_there s.working name key value is
 
     -- a Remove for which too few blocks are spare
-    pub removes_full : nat_lt spare 16 ≡ true → IsAnswer s spare deep (Remove name key) (Err Full)
+    pub removes_full : nat_lt spare 17 ≡ true → IsAnswer s spare deep (Remove name key) (Err Full)
     removes_full full =
-        inr (subst (λ o. IsDue o (nat_lt spare 16) deep (Err Full)) (sym accepts)
+        inr (subst (λ o. IsDue o (nat_lt spare 17) deep (Err Full)) (sym accepts)
         (subst (λ (b : Bool). IsDue (Ok (changed s.working name (λ x. record x { current = without x.current key }), Done)) b deep (Err Full)) (sym full) refl))
 
     -- a Remove that is carried out
-    pub removes_done : nat_lt spare 16 ≡ false → (deep → ⊥) → IsAnswer s spare deep (Remove name key) (Ok Done)
+    pub removes_done : nat_lt spare 17 ≡ false → (deep → ⊥) → IsAnswer s spare deep (Remove name key) (Ok Done)
     removes_done room shallow =
-        inr (subst (λ o. IsDue o (nat_lt spare 16) deep (Ok Done)) (sym accepts)
+        inr (subst (λ o. IsDue o (nat_lt spare 17) deep (Ok Done)) (sym accepts)
         (subst (λ (b : Bool). IsDue (Ok (changed s.working name (λ x. record x { current = without x.current key }), Done)) b deep (Ok Done)) (sym room) (inl (refl, shallow))))
 
   -- an answer where so many blocks are spare, and where as many are
-  pub removes_alike : (other : ℕ) (r : Result Answer Refusal) → nat_lt spare 16 ≡ false → nat_lt other 16 ≡ false → IsAnswer s spare deep (Remove name key) r → IsAnswer s other deep (Remove name key) r
+  pub removes_alike : (other : ℕ) (r : Result Answer Refusal) → nat_lt spare 17 ≡ false → nat_lt other 17 ≡ false → IsAnswer s spare deep (Remove name key) r → IsAnswer s other deep (Remove name key) r
   removes_alike other r room more answer = subst (λ (b : Bool). (r ≡ Err Device) ⊎ IsDue (step s.working (Remove name key)) b deep r) (room ∙ sym more) answer
 
   -- a Remove that the device fails
@@ -98,6 +98,15 @@ pub spare_after : (old new : DiskState) (limit : ℕ) (slot_name : SlotName) (bi
 spare_after old new limit slot_name bits before series committed working s count b reads test =
     let T : Medium → Type 0 = λ m. (holds : HoldsWith m limit slot_name bits before series committed working s) → (IsTrue b → count ≤ spare_of holds.rests) × (count ≤ spare_of holds.rests → IsTrue b) in
     subst T (same_medium old new reads) (test s)
+
+-- a record that is told to be there, and one that is told to be absent
+pub is_there : {T : Type 0} (o : Option T) → true ≡ is_some o → (value : T) × (Some value ≡ o)
+is_there None told = cc
+is_there (Some value) told = (value, refl)
+
+pub is_absent : {T : Type 0} (o : Option T) → false ≡ is_some o → None ≡ o
+is_absent None told = refl
+is_absent (Some value) told = cc
 
 -- the root that a Remove answered
 pub removed_root : {T : Type 0} (found : Option T) (root : T) (absent : Type 0) (P : T → Type 0) → found ≡ Some root → Removes (Ok found) absent P → P root

@@ -53,7 +53,7 @@ rests_show m limit slot_name bits committed working s rests left may = shows_old
 -- one answer of a run
 module _ {D : Type 0} {members : _} (old new : Store D members) (s : State) (holds : Holds old s) (r : Result Answer Refusal) where
   -- what is answered is told by the disk of the store and its size
-  pub answers_on : (other : Store D members) (command : Command) → members.state other.disk ≡ members.state new.disk → other.blocks ≡ new.blocks → Answers old new s holds command r → Answers old other s holds command r
+  pub answers_on : (other : Store D members) (command : Command) → members.state (disk_of other) ≡ members.state (disk_of new) → other.blocks ≡ new.blocks → Answers old new s holds command r → Answers old other s holds command r
   answers_on other (New name parent) same size answer = answer
   answers_on other (NewAt name parent checkpoint) same size answer = answer
   answers_on other (Drop alt) same size answer = answer
@@ -64,7 +64,7 @@ module _ {D : Type 0} {members : _} (old new : Store D members) (s : State) (hol
   answers_on other (Back alt name) same size answer = answer
   answers_on other (Merge alt settled) same size answer =
       let told : DiskState → ℕ → Type 0 = λ t n. IsMergeAnswer s (spare_of holds.rests) (MeetsFullPath t.now.contents n (current_of s.working alt) (merge_changes s.working alt settled)) alt settled r in
-      subst (λ n. told (members.state other.disk) n) (sym size) (subst (λ (t : DiskState). told t new.blocks) (sym same) answer)
+      subst (λ n. told (members.state (disk_of other)) n) (sym size) (subst (λ (t : DiskState). told t new.blocks) (sym same) answer)
   answers_on other (Post alt) same size answer = answer
   answers_on other Commit same size answer = answer
   answers_on other Reclaim same size answer = answer
@@ -81,15 +81,15 @@ after_through s (suc n) (c ∷ commands) (a ∷ answers) same = after_through (n
 
 module _ {D : Type 0} {members : _} where
   -- what `apply` promises of one command
-  pub carried_out : (old new : Store D members) (s : State) (c : Command) (a : Result Answer Refusal) → ((members.state new.disk).honest ≡ true → (holds : Holds old s) → Answers old new s holds c a)
-      → Grows (a ≡ Err Device) (members.state old.disk) (members.state new.disk)
-      → ((IsGrow c → ⊥) → (members.state new.disk).blocks ≡ (members.state old.disk).blocks) → (IsGrow c → IfErr a (λ refusal. IsEarly refusal → disk_of new ≡ disk_of old)) → (has_failed new ≡ true ↔ a ≡ Err Device)
+  pub carried_out : (old new : Store D members) (s : State) (c : Command) (a : Result Answer Refusal) → ((members.state (disk_of new)).honest ≡ true → (holds : Holds old s) → Answers old new s holds c a)
+      → Grows (a ≡ Err Device) (members.state (disk_of old)) (members.state (disk_of new))
+      → ((IsGrow c → ⊥) → (members.state (disk_of new)).blocks ≡ (members.state (disk_of old)).blocks) → (IsGrow c → IfErr a (λ refusal. IsEarly refusal → disk_of new ≡ disk_of old)) → (has_failed new ≡ true ↔ a ≡ Err Device)
       → a ≢ Err Failed → (a ≡ Err Memory → TakesMemory c)
       → OnErr a (a ≢ Err Device → entries_of new ≡ entries_of old) → IfErr a (λ refusal. IsEarly refusal → IsSameButDisk old new)
-      → (ChangesEntriesAlone c → (disk_of new ≡ disk_of old) × (held_of new ≡ held_of old)) → ((members.state new.disk).honest ≡ true → Holds old s → a ≢ Err Device → Holds new (next s c a))
-      → ((members.state new.disk).honest ≡ true → Holds old s → Throughout (members.state old.disk) (members.state new.disk) (Leaves (LeftBy Shows s c)))
-      → ((members.state new.disk).honest ≡ true → Holds old s → Throughout (members.state old.disk) (members.state new.disk) (IsGuarded (held_of new)))
-      → ((members.state new.disk).honest ≡ true → c ≡ Reclaim → (holds : Holds old s) → OnOk a (free_of new ≡ spare_of holds.rests))
+      → (ChangesEntriesAlone c → (disk_of new ≡ disk_of old) × (held_of new ≡ held_of old)) → ((members.state (disk_of new)).honest ≡ true → Holds old s → a ≢ Err Device → Holds new (next s c a))
+      → ((members.state (disk_of new)).honest ≡ true → Holds old s → Throughout (members.state (disk_of old)) (members.state (disk_of new)) (Leaves (LeftBy Shows s c)))
+      → ((members.state (disk_of new)).honest ≡ true → Holds old s → Throughout (members.state (disk_of old)) (members.state (disk_of new)) (IsGuarded (held_of new)))
+      → ((members.state (disk_of new)).honest ≡ true → c ≡ Reclaim → (holds : Holds old s) → OnOk a (free_of new ≡ spare_of holds.rests))
       → ((blocks : ℕ) → c ≡ Grow blocks → Holds old s → OnOk a (free_of new ≡ free_of old + (blocks - s.blocks))) → CarriesOut old new s c a
   carried_out old new s c a answers goes as_long untouched failed only_then memory same unchanged blocks holds crash guarded reclaimed grown = record {
     answers = answers;
@@ -150,23 +150,23 @@ module _ {D : Type 0} {members : _} where
       }
 
   -- the slots are guarded before the first command
-  pub guarded_none : (store : Store D members) (s : State) → IsGuarded (held_of store) (members.state store.disk).now → Throughout (members.state store.disk) (members.state store.disk) (IsGuardedOnTheWay store store s [] [])
+  pub guarded_none : (store : Store D members) (s : State) → IsGuarded (held_of store) (members.state (disk_of store)).now → Throughout (members.state (disk_of store)) (members.state (disk_of store)) (IsGuardedOnTheWay store store s [] [])
   guarded_none store s guarded =
-      started (members.state store.disk) (IsGuardedOnTheWay store store s [] []) (store, way_last store store s [] [] refl refl, guarded)
+      started (members.state (disk_of store)) (IsGuardedOnTheWay store store s [] []) (store, way_last store store s [] [] refl refl, guarded)
 
   -- and through one more
   pub guarded_more : (old mid new : Store D members) (s : State) (commands : List Command) (answers : List (Result Answer Refusal)) (c : Command) (a : Result Answer Refusal) → length answers ≡ length commands
       → AnswersInTurn old mid s commands answers → CarriesOut mid new (after s commands answers) c a
-      → (members.state new.disk).honest ≡ true → Holds mid (after s commands answers)
-      → Throughout (members.state old.disk) (members.state mid.disk) (IsGuardedOnTheWay old mid s commands answers)
-      → Throughout (members.state old.disk) (members.state new.disk) (IsGuardedOnTheWay old new s (commands ++ c ∷ []) (answers ++ a ∷ []))
+      → (members.state (disk_of new)).honest ≡ true → Holds mid (after s commands answers)
+      → Throughout (members.state (disk_of old)) (members.state (disk_of mid)) (IsGuardedOnTheWay old mid s commands answers)
+      → Throughout (members.state (disk_of old)) (members.state (disk_of new)) (IsGuardedOnTheWay old new s (commands ++ c ∷ []) (answers ++ a ∷ []))
   guarded_more old mid new s commands answers c a same told last honest holds so_far =
       let Q = IsGuardedOnTheWay old new s (commands ++ c ∷ []) (answers ++ a ∷ []) in
       let ends : length (answers ++ a ∷ []) ≡ length (commands ++ c ∷ []) = rw (length-append answers (a ∷ []), length-append commands (c ∷ []), same) refl in
       let here : IsOnTheWay old new s (commands ++ c ∷ []) (answers ++ a ∷ []) new = way_last old new s _ _ ends (in_turn_more old mid new s commands answers c a told last) in
-      and_then (members.state old.disk) (members.state mid.disk) (members.state new.disk) Q
-      (weaken (members.state old.disk) (members.state mid.disk) (IsGuardedOnTheWay old mid s commands answers) Q (λ m was. (was.0, way_more old mid new s commands answers c a same last was.0 was.1, was.2)) so_far)
-      (weaken (members.state mid.disk) (members.state new.disk) (IsGuarded (held_of new)) Q (λ m guarded. (new, here, guarded)) (last.guarded honest holds))
+      and_then (members.state (disk_of old)) (members.state (disk_of mid)) (members.state (disk_of new)) Q
+      (weaken (members.state (disk_of old)) (members.state (disk_of mid)) (IsGuardedOnTheWay old mid s commands answers) Q (λ m was. (was.0, way_more old mid new s commands answers c a same last was.0 was.1, was.2)) so_far)
+      (weaken (members.state (disk_of mid)) (members.state (disk_of new)) (IsGuarded (held_of new)) Q (λ m guarded. (new, here, guarded)) (last.guarded honest holds))
 
 -- one more answer that is no failure of the device
 pub none_more : (answers : List (Result Answer Refusal)) (a : Result Answer Refusal) → NoneIsDevice answers → (a ≡ Err Device → ⊥) → NoneIsDevice (answers ++ a ∷ [])

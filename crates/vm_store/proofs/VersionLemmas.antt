@@ -31,13 +31,13 @@ none_less n = grind (arith, nat_tests)
 
 -- a command that the model refuses
 pub answers_refused : (s : State) (spare : ℕ) (deep : Type 0) (command : Command) (r : Refusal) → outcome s command ≡ Err r → IsAnswer s spare deep command (Err r)
-answers_refused s spare deep command r is = inr (subst (λ (o : Outcome). IsDue o (nat_lt spare (16 * edits s.working command)) deep (Err r)) (sym is) refl)
+answers_refused s spare deep command r is = inr (subst (λ (o : Outcome). IsDue o (nat_lt spare (17 * edits s.working command)) deep (Err r)) (sym is) refl)
 
 -- a command without record changes that the model accepts
 pub answers_done : (s : State) (spare : ℕ) (deep : Type 0) (command : Command) (tree : Tree) → edits s.working command ≡ 0 → (deep → ⊥) → outcome s command ≡ done tree → IsAnswer s spare deep command (Ok Done)
 answers_done s spare deep command tree none shallow is =
-    inr (subst (λ (o : Outcome). IsDue o (nat_lt spare (16 * edits s.working command)) deep (Ok Done)) (sym is)
-    (subst (λ (b : Bool). IsDue (done tree) b deep (Ok Done)) (sym (ap (λ n. nat_lt spare (16 * n)) none ∙ none_less spare)) (inl (refl, shallow))))
+    inr (subst (λ (o : Outcome). IsDue o (nat_lt spare (17 * edits s.working command)) deep (Ok Done)) (sym is)
+    (subst (λ (b : Bool). IsDue (done tree) b deep (Ok Done)) (sym (ap (λ n. nat_lt spare (17 * n)) none ∙ none_less spare)) (inl (refl, shallow))))
 
 -- a Reclaim
 pub answers_reclaim : (s : State) (spare : ℕ) (r : Result Answer Refusal) → IfOk r (λ a. a ≡ Done) → IfErr r (λ e. e ≡ Device) → IsAnswer s spare ⊥ Reclaim r
@@ -48,8 +48,8 @@ answers_reclaim s spare (Err e) done_is device = inl (ap Err device)
 due : (s : State) (spare : ℕ) (command : Command) (r : Result Answer Refusal) (o : Outcome) → outcome s command ≡ o → edits s.working command ≡ 0 → r ≡ answer_of o → IsAnswer s spare ⊥ command r
 due s spare command r (Err refusal) is none same = subst (IsAnswer s spare ⊥ command) (sym same) (answers_refused s spare ⊥ command refusal is)
 due s spare command r (Ok o) is none same =
-    inr (subst (λ (o : Outcome). IsDue o (nat_lt spare (16 * edits s.working command)) ⊥ r) (sym is)
-    (subst (λ (b : Bool). IsDue (Ok o) b ⊥ r) (sym (ap (λ n. nat_lt spare (16 * n)) none ∙ none_less spare)) (inl (same, λ never. never))))
+    inr (subst (λ (o : Outcome). IsDue o (nat_lt spare (17 * edits s.working command)) ⊥ r) (sym is)
+    (subst (λ (b : Bool). IsDue (Ok o) b ⊥ r) (sym (ap (λ n. nat_lt spare (17 * n)) none ∙ none_less spare)) (inl (same, λ never. never))))
 
 -- what the working versions of a store stand for
 abbrev pub standing : {m : Medium} {limit : ℕ} {slot_name : SlotName} {bits : List Bool} {committed working : List Version} {s : State} → Rests m limit slot_name bits committed working s → StandFor bits m.contents limit working s.working

@@ -4,7 +4,8 @@ use Rattle.vm_types.specs.Map.{Map}
 use Rattle.vm_disk.specs.Disk.{Contents, block}
 use Rattle.vm_block.specs.Leaf.{Record}
 use Rattle.vm_block.specs.declared.node.Child.{Child}
-use Rattle.vm_tree.specs.Tree.{IsData, Children, Subtree, longest}
+use Rattle.vm_tree.specs.Tree.{IsData, Children, Subtree}
+use Rattle.vm_types.specs.Bytes.{longest}
 use Rattle.vm_tree.proofs.HoldingLemmas.{holds_wider}
 use Rattle.vm_tree.specs.Root.{IsRootedIn, IsRooted}
 use Rattle.vm_tree.specs.declared.root.Root.{Root}

@@ -11,7 +11,7 @@ use Rattle.vm_types.specs.declared.refusal.Refusal.{Refusal}
 use Rattle.vm_types.specs.declared.refusal.Refusal.TheVariants.{Full, Deep, Device, Memory, Damaged}
 use Rattle.vm_types.specs.Map.{Map, get, delta}
 use Rattle.vm_types.specs.Places.{place}
-use Rattle.vm_types.specs.State.{State, outcome, tree_after, edits}
+use Rattle.vm_types.specs.State.{State, blocks_a_change, outcome, tree_after, edits}
 use Rattle.vm_types.specs.Step.{Outcome, step}
 use Rattle.vm_types.specs.Tree.{Tree, current_of}
 use Rattle.vm_disk.specs.Disk.{Contents}
@@ -36,7 +36,7 @@ IsDue (Ok accepted) false deep result = ((result ≡ Ok accepted.1) × (deep →
 -- what is answered to a command but a Merge, where so many blocks are spare: what is due, or that the device failed
 abbrev pub IsAnswer : State → ℕ → Type 0 → Command → Result Answer Refusal → Type 0
 IsAnswer s spare deep command result =
-    (result ≡ Err Device) ⊎ IsDue (outcome s command) (nat_lt spare (16 * edits s.working command)) deep result
+    (result ≡ Err Device) ⊎ IsDue (outcome s command) (nat_lt spare (blocks_a_change * edits s.working command)) deep result
 
 -- the changes that a Merge makes in the records of the alternative
 abbrev pub merge_changes : Tree → List ℕ → List (Key × Side) → List Change
@@ -51,7 +51,7 @@ IsMergeDue (Ok accepted) false deep result = (result ≡ Ok accepted.1) ⊎ ((re
 -- what is answered to a Merge where so many blocks are spare: what is due, that the device failed, or that memory was wanting
 abbrev pub IsMergeAnswer : State → ℕ → Type 0 → List ℕ → List (Key × Side) → Result Answer Refusal → Type 0
 IsMergeAnswer s spare deep alt settled result =
-    (result ≡ Err Device) ⊎ ((result ≡ Err Memory) ⊎ IsMergeDue (step s.working (Merge alt settled)) (nat_lt spare (16 * edits s.working (Merge alt settled))) deep result)
+    (result ≡ Err Device) ⊎ ((result ≡ Err Memory) ⊎ IsMergeDue (step s.working (Merge alt settled)) (nat_lt spare (blocks_a_change * edits s.working (Merge alt settled))) deep result)
 
 -- a Grow that the model refuses is answered so, and one that it accepts, too, unless memory is wanting or the device fails
 abbrev pub IsGrowDue : Outcome → Result Answer Refusal → Type 0

@@ -7,6 +7,7 @@ use Rattle.vm_disk.specs.Moments.{Leaves, Throughout}
 use Rattle.vm_block.specs.Header.{IsHeader}
 use Rattle.vm_block.specs.declared.slot.Kind.TheVariants as kind
 use Rattle.vm_block.specs.declared.slot.Entry.{Entry}
+use Rattle.vm_block.specs.declared.slot.SlotFormat.TheVariants.{Two}
 use Rattle.vm_block.specs.declared.selector.SlotName.TheVariants.{A}
 use Rattle.vm_catalog.specs.Place.{selected}
 use Rattle.vm_catalog.specs.Catalog.{SlotAt}
@@ -24,7 +25,7 @@ IsBadSize blocks available = (blocks < 64) ⊎ ((2 ^ 20 < blocks) ⊎ (available
 -- the selector names slot A with the one entry of a new store of so many blocks, and all is synced
 pub record IsLaidOut (blocks : ℕ) (m : Medium) : Type 0 where
   pub selected : selected m.contents ≡ A
-  pub slot : SlotAt m.contents A blocks (fresh_entry ∷ [])
+  pub slot : SlotAt m.contents A Two blocks (fresh_entry ∷ [])
   pub clean : IsClean m
 
 -- a new store of so many blocks is shown, and all is synced

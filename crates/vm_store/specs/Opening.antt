@@ -12,7 +12,7 @@ use Rattle.vm_store.specs.Refused.{IsRefused, IsStore, IsSynced}
 use Rattle.vm_store.specs.Shown.{Shows, ShowsNothing}
 use Rattle.vm_alloc.specs.Held.{free_count}
 use Rattle.vm_store.specs.Resting.{Rests, spare_of}
-use Rattle.vm_store.specs.Store.{Holds, free_of}
+use Rattle.vm_store.specs.Store.{Holds, disk_of, free_of}
 use Rattle.vm_store.specs.declared.store.Store.{Store}
 use Rattle.vm_store.specs.declared.store.parts.Parts.{Parts}
 
@@ -47,13 +47,13 @@ module _ (old new : DiskState) where
   abbrev pub RefusesMaps : {T : Type 0} → Result T Refusal → SlotName → Slot → Type 0
   RefusesMaps result slot_name slot =
       new.honest ≡ true → IsStore old.now.contents → slot_name ≡ named_slot (block old.now.contents 1)
-      → SlotAt old.now.contents slot_name slot.blocks slot.entries.items → IfErr result (IsRefused old.now.contents)
+      → SlotAt old.now.contents slot_name slot.format slot.blocks slot.entries.items → IfErr result (IsRefused old.now.contents)
 
   -- the parts of a store stand for the maps of this slot, on a disk that is synced
   abbrev pub ReadsMaps : Result Parts Refusal → SlotName → Slot → Type 0
   ReadsMaps result slot_name slot =
       new.honest ≡ true → IsClean old.now → IsStore old.now.contents → slot_name ≡ named_slot (block old.now.contents 1)
-      → SlotAt old.now.contents slot_name slot.blocks slot.entries.items → IfOk result (PartsHold new.now)
+      → SlotAt old.now.contents slot_name slot.format slot.blocks slot.entries.items → IfOk result (PartsHold new.now)
 
   -- a refusal with which the disk comes back has its reason
   abbrev pub RefusesFor : {T E : Type 0} → Result T (E × Refusal) → Type 0
@@ -73,5 +73,5 @@ module _ {D : Type 0} {members : _} where
 
   -- the disk that comes back, in the store or with a refusal
   abbrev pub disk_in : Result (Store D members) (D × Refusal) → D
-  disk_in (Ok store) = store.disk
+  disk_in (Ok store) = disk_of store
   disk_in (Err e) = e.0

@@ -11,6 +11,7 @@ use Rattle.vm_types.specs.Tree.{current_of}
 use Rattle.vm_disk.specs.Disk.{Goes}
 use Rattle.vm_disk.specs.Moments.{Leaves, OnlyReads, Throughout}
 use Rattle.vm_alloc.specs.Held.{free_count}
+use Rattle.vm_check.specs.Noted.{inner_of}
 use Rattle.vm_store.specs.Answers.{IsAnswer, IsDeep, IsEarly, IsGrowDue, IsMergeAnswer, merge_changes}
 use Rattle.vm_store.specs.Changing.{MeetsFullPath}
 use Rattle.vm_store.specs.Growing.{Grows}
@@ -25,7 +26,7 @@ use Rattle.vm_store.specs.declared.version.Version.{Version}
 module _ {D : Type 0} {members : _} where
   -- the disk below
   abbrev pub disk_of : Store D members → D
-  disk_of store = store.disk
+  disk_of store = inner_of store.disk
 
   -- an earlier command was answered by Device
   abbrev pub has_failed : Store D members → Bool
@@ -59,23 +60,23 @@ module _ {D : Type 0} {members : _} where
 
   -- the disk has kept the rules of a disk in every call so far
   abbrev pub IsHonest : Store D members → Type 0
-  IsHonest store = (members.state store.disk).honest ≡ true
+  IsHonest store = (members.state (disk_of store)).honest ≡ true
 
   -- what a call of the store does to its disk, on any disk, where `fails` says that the device failed in it; it may give it more blocks
   abbrev pub GrowsOn : Type 0 → (old new : Store D members) → Type 0
-  GrowsOn fails old new = Grows fails (members.state old.disk) (members.state new.disk)
+  GrowsOn fails old new = Grows fails (members.state (disk_of old)) (members.state (disk_of new))
 
   -- the same of a call that leaves the number of its blocks
   abbrev pub GoesOn : Type 0 → (old new : Store D members) → Type 0
-  GoesOn fails old new = Goes fails (members.state old.disk) (members.state new.disk)
+  GoesOn fails old new = Goes fails (members.state (disk_of old)) (members.state (disk_of new))
 
   -- at each moment of the call the disk held what it held before
   abbrev pub ReadsAlone : (old new : Store D members) → Type 0
-  ReadsAlone old new = OnlyReads (members.state old.disk) (members.state new.disk)
+  ReadsAlone old new = OnlyReads (members.state (disk_of old)) (members.state (disk_of new))
 
   -- how many reads were asked of the disk
   abbrev pub reads_of : Store D members → ℕ
-  reads_of store = (members.state store.disk).reads
+  reads_of store = (members.state (disk_of store)).reads
 
   -- a refusal that comes before blocks are marked, taken or written leaves all but the disk as it was
   abbrev pub EarlyKeeps : Result Answer Refusal → (old new : Store D members) → Type 0
@@ -92,7 +93,7 @@ module _ {D : Type 0} {members : _} where
   -- the store stands for this state
   abbrev pub Holds : Store D members → State → Type 0
   Holds store s =
-      HoldsWith (members.state store.disk).now store.blocks store.slot_name store.held store.before store.series store.committed store.working s
+      HoldsWith (members.state (disk_of store)).now store.blocks store.slot_name store.held store.before store.series store.committed store.working s
 
   -- Q holds for each state that a store stands for which has not failed
   abbrev pub InState : Store D members → (State → Type 0) → Type 0
@@ -140,19 +141,19 @@ module _ {D : Type 0} {members : _} where
 
   -- a crash at any moment of the call leaves what was committed, or what the command commits
   abbrev pub CrashLeaves : (old new : Store D members) → State → Command → Type 0
-  CrashLeaves old new s command = Throughout (members.state old.disk) (members.state new.disk) (Leaves (LeftBy Shows s command))
+  CrashLeaves old new s command = Throughout (members.state (disk_of old)) (members.state (disk_of new)) (Leaves (LeftBy Shows s command))
 
   -- at each moment of the call the slots that a crash may leave in use are whole, clean and held
   abbrev pub StaysGuarded : (old new : Store D members) → Type 0
-  StaysGuarded old new = Throughout (members.state old.disk) (members.state new.disk) (IsGuarded (held_of new))
+  StaysGuarded old new = Throughout (members.state (disk_of old)) (members.state (disk_of new)) (IsGuarded (held_of new))
 
   -- what is answered to a command by a store that stands for the state, in terms of the store before and after
   abbrev pub Answers : (old new : Store D members) (s : State) → Holds old s → Command → Result Answer Refusal → Type 0
   Answers old new s holds (Merge alt settled) result =
-      IsMergeAnswer s (spare_of holds.rests) (MeetsFullPath (members.state new.disk).now.contents new.blocks (current_of s.working alt) (merge_changes s.working alt settled)) alt settled result
+      IsMergeAnswer s (spare_of holds.rests) (MeetsFullPath (members.state (disk_of new)).now.contents new.blocks (current_of s.working alt) (merge_changes s.working alt settled)) alt settled result
   Answers old new s holds (Grow blocks) result = IsGrowDue (outcome s (Grow blocks)) result
   Answers old new s holds command result =
-      IsAnswer s (spare_of holds.rests) (IsDeep (members.state old.disk).now.contents (root_of old) s.working command) command result
+      IsAnswer s (spare_of holds.rests) (IsDeep (members.state (disk_of old)).now.contents (root_of old) s.working command) command result
 
   -- a command was carried out by a store that stands for the state, on an honest disk: it gives the answer that is due, and unless the
   -- device failed the store stands for what that answer leaves; a crash at any moment shows what it may, and the slots stay whole

@@ -1,5 +1,8 @@
 //! Changes of records, made one after another in the tree under a root.
-ghost use Rattle.std.specs.Prelude.{◌≡◌, ◌≢◌, ◌+◌, ◌*◌, ◌≤◌, ◌∷◌, [], true, length};
+ghost use Rattle.std.specs.Prelude.{◌≡◌, ◌≢◌, ◌+◌, ◌*◌, ◌≤◌, ◌∷◌, [], true, length, option_copied, IfSome};
+ghost use Rattle.vm_types.specs.declared.change.Change.{Change};
+ghost use Rattle.vm_types.specs.Bytes.{longest};
+ghost use Rattle.vm_types.specs.State.{blocks_a_change};
 ghost use Rattle.vm_types.specs.Map.{Map, with_change, with_changes};
 ghost use Rattle.vm_disk.specs.Disk.{Goes};
 ghost use Rattle.vm_disk.specs.Moments.{Throughout, TouchesOnly};
@@ -13,35 +16,39 @@ use crate::series::{put_forgetting, remove_forgetting};
 use vm_alloc::{Baseline, Held};
 use vm_disk::Disk;
 use vm_tree::{Root, TreeFault};
-use vm_types::{Change, Changes};
+use vm_types::{Changes, Key};
 
-/// Makes one change of a record in the tree under a root, and returns the new root. The blocks of the
+/// Gives the key this value after, or takes its record out where there is none, in the tree under a root,
+/// and returns the new root. The blocks of the
 /// path as it was are forgotten, but for those that were held before.
 fn make_change<D: Disk>(
     disk: &mut D,
     held: &mut Held,
     before: &Baseline,
     root: Root,
-    change: &Change,
+    key: Key,
+    after: Option<&[u8]>,
 ) -> Result<Root, TreeFault>
     requires inside { length held.old ≤ (D.state disk.old).blocks }
     requires before { HoldsMore before.now held.old }
-    requires room { 16 ≤ free_count held.old }
+    requires short { IfSome after (λ value. length value.now ≤ longest) }
+    requires room { blocks_a_change ≤ free_count held.old }
     ensures any { Goes (result ≡ Err TreeFault.Device) (D.state disk.old) (D.state disk.new) }
     ensures memory { result ≢ Err TreeFault.Memory }
     ensures still { HoldsMore held.old held.new }
-    ensures taken { free_count held.old ≤ free_count held.new + 15 }
+    ensures taken { free_count held.old ≤ free_count held.new + 16 }
     ensures moments { (D.state disk.new).honest ≡ true
         → Throughout (D.state disk.old) (D.state disk.new)
         (TouchesOnly (is_free before.now) (D.state disk.old).now) }
-    ensures changed { (D.state disk.new).honest ≡ true → (m : Map)
+    ensures changed { (D.state disk.new).honest ≡ true → (m : Map) (change : Change)
+        → change.key ≡ key → change.after ≡ option_copied after.entry
         → IsRootedIn sizes (IsHeld held.old) (D.state disk.old).now.contents (length held.old) root m
-        → Makes result (MeetsFullPath (D.state disk.new).now.contents (length held.old) m (change.now ∷ []))
-        (λ r. IsRootedIn sizes (IsHeld held.new) (D.state disk.new).now.contents (length held.old) r (with_change m change.now)) }
+        → Makes result (MeetsFullPath (D.state disk.new).now.contents (length held.old) m (change ∷ []))
+        (λ r. IsRootedIn sizes (IsHeld held.new) (D.state disk.new).now.contents (length held.old) r (with_change m change)) }
 {
-    match &change.after {
-        Some(value) => put_forgetting(disk, held, Some(before), root, change.key, value),
-        None => match remove_forgetting(disk, held, Some(before), root, change.key) {
+    match after {
+        Some(value) => put_forgetting(disk, held, Some(before), root, key, value),
+        None => match remove_forgetting(disk, held, Some(before), root, key) {
             Ok(Some(rest)) => Ok(rest),
             Ok(None) => Ok(root),
             Err(fault) => Err(fault),
@@ -50,7 +57,7 @@ fn make_change<D: Disk>(
 }
 
 /// Makes changes of records in the tree under a root, in their order. A change to no value takes the
-/// record out, where it is there. The caller owes 16 free blocks a change, and `before`, a copy of what is
+/// record out, where it is there. The caller owes 17 free blocks a change, and `before`, a copy of what is
 /// held. Blocks that one change takes and a later one replaces are forgotten.
 pub fn make_changes<D: Disk>(
     disk: &mut D,
@@ -61,7 +68,7 @@ pub fn make_changes<D: Disk>(
 ) -> Result<Root, TreeFault>
     requires inside { length held.old ≤ (D.state disk.old).blocks }
     requires before { before.now ≡ held.old }
-    requires room { 16 * length changes.now ≤ free_count held.old }
+    requires room { blocks_a_change * length changes.now ≤ free_count held.old }
     ensures any { Goes (result ≡ Err TreeFault.Device) (D.state disk.old) (D.state disk.new) }
     ensures memory { result ≢ Err TreeFault.Memory }
 
@@ -79,8 +86,8 @@ pub fn make_changes<D: Disk>(
         (λ r. IsRootedIn sizes (IsHeld held.new) (D.state disk.new).now.contents (length held.old) r (with_changes m changes.now)) }
 {
     let mut i = 0;
-    while let Some(change) = changes.at(i) {
-        root = make_change(disk, held, before, root, &change)?;
+    while i < changes.len() {
+        root = make_change(disk, held, before, root, changes.key(i), changes.after(i))?;
         i += 1;
     }
     Ok(root)

@@ -2,6 +2,8 @@
 //! that was taken since a series began stands in no tree but that of its alternative's records, so where
 //! a change replaces it, nothing needs its bytes.
 ghost use Rattle.std.specs.Prelude.{◌≡◌, ◌≢◌, ◌↔◌, ◌⊎◌, ◌+◌, ◌<◌, ◌≤◌, ℕ, true, length, None, Some, option_copied, IsTrue, IfOk, OnErr};
+ghost use Rattle.vm_types.specs.Bytes.{longest};
+ghost use Rattle.vm_types.specs.State.{blocks_a_change};
 ghost use Rattle.std.specs.List.{AllByRecursion};
 ghost use Rattle.vm_types.specs.Map.{get, with_value, without};
 ghost use Rattle.vm_disk.specs.Disk.{Goes, Idles, block};
@@ -10,7 +12,7 @@ ghost use Rattle.vm_alloc.specs.Held.{HoldsMore, IsHeld, free_count};
 ghost use Rattle.vm_tree.specs.Answers.{LacksRoom, Puts, Removes};
 ghost use Rattle.vm_tree.specs.Calls.{LooksIf};
 ghost use Rattle.vm_tree.specs.Free.{is_free};
-ghost use Rattle.vm_tree.specs.Replacing.{Lacks, path_under};
+ghost use Rattle.vm_tree.specs.Replacing.{Lacks, long_of, path_under};
 ghost use Rattle.vm_tree.specs.Root.{IfWhole, IsRootedIn};
 ghost use Rattle.vm_store.specs.Resting.{before_of, before_series};
 ghost use Rattle.vm_store.specs.Sizes.{sizes};
@@ -19,7 +21,7 @@ use crate::{FAN, LEAF, LEVELS};
 use vm_alloc::{Baseline, Held};
 use vm_disk::Disk;
 use vm_tree::{Root, TreeFault, put, remove};
-use vm_types::{Key, Name, Value};
+use vm_types::{Key, Name};
 
 /// Whether the series of this alternative goes on.
 pub fn goes_on(series: &Option<Name>, alt: &Name) -> bool
@@ -90,9 +92,25 @@ fn forget_taken<D: Disk>(disk: &mut D, before: &Baseline, blocks: &[u32])
     }
 }
 
+/// Forgets the block of a long value, where the number is not 0 and it was not held before.
+fn forget_long<D: Disk>(disk: &mut D, before: &Baseline, long: u32)
+    requires { length before.now ≤ (D.state disk.old).blocks }
+    ensures any { Idles (D.state disk.old) (D.state disk.new) }
+    ensures moments { (D.state disk.new).honest ≡ true
+        → Throughout (D.state disk.old) (D.state disk.new)
+        (TouchesOnly (is_free before.now) (D.state disk.old).now) }
+    ensures others { (D.state disk.new).honest ≡ true → (n : ℕ) → Lacks n (long_of long)
+        → block (D.state disk.new).now.contents n ≡ block (D.state disk.old).now.contents n }
+{
+    if long != 0 {
+        forget_taken(disk, before, &[long]);
+    }
+}
+
 /// Tells the disk that the blocks of a path which a change replaced are not needed, but for those
-/// that were held before. The root is the one that the path led from.
-fn forget_path<D: Disk>(disk: &mut D, before: &Baseline, root: Root, path: &[u32; 8])
+/// that were held before: nor is that of the long value, if its ninth place tells one. The root is
+/// the one that the path led from.
+fn forget_path<D: Disk>(disk: &mut D, before: &Baseline, root: Root, path: &[u32; 9])
     requires { length before.now ≤ (D.state disk.old).blocks }
     ensures any { Idles (D.state disk.old) (D.state disk.new) }
     ensures moments { (D.state disk.new).honest ≡ true
@@ -102,6 +120,7 @@ fn forget_path<D: Disk>(disk: &mut D, before: &Baseline, root: Root, path: &[u32
         → Lacks n (path_under root path.now)
         → block (D.state disk.new).now.contents n ≡ block (D.state disk.old).now.contents n }
 {
+    forget_long(disk, before, path[8]);
     if root.block == 0 {
         return;
     }
@@ -111,22 +130,23 @@ fn forget_path<D: Disk>(disk: &mut D, before: &Baseline, root: Root, path: &[u32
 
 /// Gives the key this value in the tree under a root, and returns the new root. The blocks of the path as
 /// it was are forgotten, but for those that were held before the series; where none goes on, all of them
-/// were. The caller owes 16 free blocks.
+/// were. The caller owes 17 free blocks.
 pub fn put_forgetting<D: Disk>(
     disk: &mut D,
     held: &mut Held,
     before: Option<&Baseline>,
     root: Root,
     key: Key,
-    value: &Value,
+    value: &[u8],
 ) -> Result<Root, TreeFault>
     requires inside { length held.old ≤ (D.state disk.old).blocks }
     requires before { length (before_of (option_copied before) held.old) ≡ length held.old }
-    requires room { 16 ≤ free_count held.old }
+    requires short { length value.now ≤ longest }
+    requires room { blocks_a_change ≤ free_count held.old }
     ensures any { Goes (result ≡ Err TreeFault.Device) (D.state disk.old) (D.state disk.new) }
     ensures memory { result ≢ Err TreeFault.Memory }
     ensures still { HoldsMore held.old held.new }
-    ensures taken { free_count held.old ≤ free_count held.new + 15 }
+    ensures taken { free_count held.old ≤ free_count held.new + 16 }
     ensures block { IfOk result (λ r. r.block < length held.new) }
 
     // At no moment has a block that was held before other bytes, and where no root is answered, no held one has.
@@ -143,7 +163,7 @@ pub fn put_forgetting<D: Disk>(
         → IsRootedIn sizes (IsHeld held.new) (D.state disk.new).now.contents
         (length held.old) r (with_value m key value.now))) }
 {
-    let mut path = [0; 8];
+    let mut path = [0; 9];
     match put::<D, LEAF, FAN, LEVELS>(disk, held, root, key, value, &mut path) {
         Ok(new_root) => {
             if let Some(before) = before {
@@ -157,7 +177,7 @@ pub fn put_forgetting<D: Disk>(
 
 /// Takes the record of a key out of the tree under a root, and returns the new root, or None where the
 /// key is absent. The blocks of the path as it was are forgotten, but for those that were held before the
-/// series; where none goes on, all of them were. The caller owes 16 free blocks.
+/// series; where none goes on, all of them were. The caller owes 17 free blocks.
 pub fn remove_forgetting<D: Disk>(
     disk: &mut D,
     held: &mut Held,
@@ -167,7 +187,7 @@ pub fn remove_forgetting<D: Disk>(
 ) -> Result<Option<Root>, TreeFault>
     requires inside { length held.old ≤ (D.state disk.old).blocks }
     requires before { length (before_of (option_copied before) held.old) ≡ length held.old }
-    requires room { 16 ≤ free_count held.old }
+    requires room { blocks_a_change ≤ free_count held.old }
     ensures any { Goes (result ≡ Err TreeFault.Device) (D.state disk.old) (D.state disk.new) }
     ensures deep { result ≢ Err TreeFault.Deep }
     ensures memory { result ≢ Err TreeFault.Memory }
@@ -190,7 +210,7 @@ pub fn remove_forgetting<D: Disk>(
         → IsRootedIn sizes (IsHeld held.new) (D.state disk.new).now.contents
         (length held.old) r (without m key))) }
 {
-    let mut path = [0; 8];
+    let mut path = [0; 9];
     match remove::<D, LEAF, FAN, LEVELS>(disk, held, root, key, &mut path) {
         Ok(Some(rest)) => {
             if let Some(before) = before {

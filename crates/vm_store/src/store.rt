@@ -1,5 +1,8 @@
 //! A store, and its commands and queries.
 ghost use Rattle.std.specs.Prelude.{◌≡◌, ◌≢◌, ◌↔◌, ◌≤◌, ◌^◌, true, false, length, vec_capacity, OnErr, IsTrue};
+ghost use Rattle.vm_types.specs.Bytes.{longest};
+ghost use Rattle.vm_types.specs.declared.command.Command.TheVariants.{Put};
+ghost use Rattle.vm_check.specs.Noted.{inner_of};
 ghost use Rattle.vm_disk.specs.Moments.{Leaves};
 ghost use Rattle.vm_store.specs.Answers.{ChangesEntriesAlone, IsGrow, TakesMemory};
 ghost use Rattle.vm_store.specs.Shown.{Shows};
@@ -19,8 +22,9 @@ pub use running::Stop;
 use std::alloc::Global;
 use vm_alloc::{Baseline, Held, Marks};
 use vm_block::{Entry, SlotName};
+use vm_check::NotedDisk;
 use vm_disk::Disk;
-use vm_types::{Answer, Command, Name, Refusal};
+use vm_types::{Answer, Command, Key, Name, Refusal};
 
 /// Whether the device failed in a command.
 fn is_device(answer: &Result<Answer, Refusal>) -> bool
@@ -31,7 +35,8 @@ fn is_device(answer: &Result<Answer, Refusal>) -> bool
 
 /// A store on a disk: what is committed there, and what commands have made of it since.
 pub struct Store<D: Disk> {
-    disk: D,
+    // It notes which leaves have no long value, so that a marking need not read them.
+    disk: NotedDisk<D>,
     alloc: Global,
     blocks: u32,
     slot_name: SlotName,
@@ -50,7 +55,7 @@ pub struct Store<D: Disk> {
     failed: bool,
     ghost least: { 64 ≤ blocks },
     ghost most: { blocks ≤ 2 ^ 20 },
-    ghost inside: { blocks ≤ (D.state disk).blocks },
+    ghost inside: { blocks ≤ (D.state (inner_of disk)).blocks },
     ghost bits: { length held ≡ blocks },
     ghost mark_bits: { length marks ≡ blocks },
     ghost before_bits: { length before ≡ blocks },
@@ -58,7 +63,7 @@ pub struct Store<D: Disk> {
 }
 
 impl<D: Disk> Store<D> {
-    ghost use Rattle.vm_store.specs.Store.{disk_of, has_failed, entries_of, IsHonest, GrowsOn, IsAsLong, FromState, IsAnswered, StandsAfter, StaysGuarded, CrashLeaves, EarlyKeeps, EarlySpares, LeavesBlocks, ReclaimsAll, GrowsFree, ClosesWith};
+    ghost use Rattle.vm_store.specs.Store.{disk_of, has_failed, entries_of, IsHonest, GoesOn, GrowsOn, IsAsLong, FromState, IsAnswered, StandsAfter, StaysGuarded, CrashLeaves, EarlyKeeps, EarlySpares, LeavesBlocks, ReclaimsAll, GrowsFree, ClosesWith};
 
     /// Carries out one command. After an answer `Device` the store answers `Failed` to every call but
     /// `close`: close it, and open the disk again.
@@ -107,6 +112,40 @@ impl<D: Disk> Store<D> {
         answer
     }
 
+    /// Gives a record of the alternative a value, as `apply` does by a Put of it. The value is not
+    /// copied.
+    pub fn put(&mut self, alt: &Name, key: Key, value: &[u8]) -> Result<Answer, Refusal>
+        requires short { length value.now ≤ longest }
+
+        // On any disk.
+        ensures any { GoesOn (result ≡ Err Refusal.Device) self.old self.new }
+        ensures failed { has_failed self.old ≡ false
+            → (has_failed self.new ≡ true ↔ result ≡ Err Refusal.Device) }
+        ensures refused { has_failed self.old ≡ true → result ≡ Err Refusal.Failed }
+        ensures no_calls { has_failed self.old ≡ true → (self.new ≡ self.old) }
+        ensures only_then { has_failed self.old ≡ false → result ≢ Err Refusal.Failed }
+        ensures same { OnErr result (result ≢ Err Refusal.Device
+            → entries_of self.new ≡ entries_of self.old) }
+        ensures unchanged { EarlyKeeps result self.old self.new }
+        ensures memory { result ≢ Err Refusal.Memory }
+
+        // The answer is the model's, or one that the device or want of blocks forces.
+        ensures answer { IsAnswered self.old self.new (Put alt.now key value.now) result }
+        ensures state { StandsAfter self.old self.new (Put alt.now key value.now) result }
+
+        // A crash at any moment leaves what was committed, for the slots are whole, clean and held.
+        ensures crash { FromState self.old self.new
+            (λ s. CrashLeaves self.old self.new s (Put alt.now key value.now)) }
+        ensures guarded { FromState self.old self.new (λ s. StaysGuarded self.old self.new) }
+    {
+        if self.failed {
+            return Err(Refusal::Failed);
+        }
+        let answer = self.put_value(alt, key, value);
+        self.failed = is_device(&answer);
+        answer
+    }
+
     /// Gives the disk back. What was not committed is gone.
     pub fn close(self) -> D
         ensures disk { result ≡ disk_of self }
@@ -131,6 +170,6 @@ impl<D: Disk> Store<D> {
             changes: _,
             failed: _,
         } = self;
-        disk
+        disk.into_inner()
     }
 }

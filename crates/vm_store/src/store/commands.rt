@@ -37,7 +37,7 @@ impl<D: Disk> Store<D> {
         ensures grown { GrowsFree result self.old self.new command.now }
     {
         match command {
-            Command::Put { alt, key, value } => self.put(alt, *key, value),
+            Command::Put { alt, key, value } => self.put_value(alt, *key, value.as_bytes()),
             Command::Remove { alt, key } => self.remove(alt, *key),
             Command::Merge { alt, settled } => self.merge(alt, settled.as_slice()),
             Command::Post { alt } => self.post(alt),

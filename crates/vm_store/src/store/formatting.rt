@@ -4,7 +4,7 @@ ghost use Rattle.vm_disk.specs.Disk.{Goes, block};
 ghost use Rattle.vm_store.specs.Formatting.{ComesBack, Formats, FormatsAtMost, FormatsLaidOut, HadHeader, IsOfFormat, LaysOut, ShowsAtMostLaidOut, SparesStore, TellsHeader, IsBadSize, IsLaidOut, fresh_entry, given_back};
 ghost use Rattle.vm_store.specs.Refused.{SyncsAll, SyncsAtMost};
 
-use vm_block::{Entry, Kind, SlotName, is_header, write_header};
+use vm_block::{Entry, Kind, SlotFormat, SlotName, is_header, write_header};
 use vm_catalog::{select_slot, write_slot};
 use vm_disk::{DeviceFault, Disk};
 use vm_types::{Name, Refusal};
@@ -59,7 +59,7 @@ fn lay_out<D: Disk>(disk: &mut D, blocks: u32) -> Result<(), DeviceFault>
     ensures laid { (D.state disk.new).honest ≡ true
         → OnOk result (IsLaidOut blocks (D.state disk.new).now) }
 {
-    let Ok(()) = write_slot(disk, SlotName::A, blocks, &[fresh_entry()]) else {
+    let Ok(()) = write_slot(disk, SlotName::A, SlotFormat::Two, blocks, &[fresh_entry()]) else {
         return Err(DeviceFault);
     };
     let Ok(()) = select_slot(disk, SlotName::A) else {

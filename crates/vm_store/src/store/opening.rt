@@ -4,6 +4,7 @@ ghost use Rattle.vm_disk.specs.Disk.{Goes};
 ghost use Rattle.vm_disk.specs.Moments.{OnlyReads};
 ghost use Rattle.vm_block.specs.Slot.{SlotFits};
 ghost use Rattle.vm_catalog.specs.Calls.{LoadsHeld};
+ghost use Rattle.vm_check.specs.Noted.{inner_of};
 ghost use Rattle.vm_store.specs.Refused.{SyncsAll, SyncsAtMost, IsRefused};
 ghost use Rattle.vm_store.specs.Opening.{FindsSlot, IsTwice, OpensAs, PartsHold, ReadsMaps, RefusesFor, RefusesMaps, RefusesNothing, RefusesSlot, SyncsUnlessDevice, disk_in};
 ghost use Rattle.vm_store.specs.Store.{has_failed};
@@ -18,7 +19,7 @@ use std::alloc::Global;
 use vm_alloc::{Baseline, Held};
 use vm_block::{Entry, SlotName};
 use vm_catalog::{LoadFault, Slot, first_block, load, slot_in_use};
-use vm_check::verify;
+use vm_check::{NotedDisk, verify};
 use vm_disk::Disk;
 use vm_tree::Root;
 use vm_types::Refusal;
@@ -107,29 +108,40 @@ fn versions_twice(alloc: Global, entries: &[Entry], roots: &[Root]) -> Option<(V
 /// Reads the maps of a slot, reserves what a store needs, and holds the blocks that are reached.
 fn read_maps<D: Disk>(
     alloc: Global,
-    disk: &mut D,
+    disk: &mut NotedDisk<D>,
     slot_name: SlotName,
     slot: Slot,
 ) -> Result<Parts, Refusal>
-    requires inside { slot.blocks ≤ (D.state disk.old).blocks }
+    requires inside { slot.blocks ≤ (D.state (inner_of disk.old)).blocks }
     requires fits { SlotFits slot.blocks slot.entries.items }
     requires reserved { 511 ≤ vec_capacity slot.entries }
-    ensures any { Goes (result ≡ Err Refusal.Device) (D.state disk.old) (D.state disk.new) }
-    ensures reads { (D.state disk.new).honest ≡ true
-        → OnlyReads (D.state disk.old) (D.state disk.new) }
-    ensures inside { IfOk result (λ parts. parts.blocks ≤ (D.state disk.old).blocks) }
-    ensures holds { ReadsMaps (D.state disk.old) (D.state disk.new) result slot_name slot }
-    ensures refused { RefusesMaps (D.state disk.old) (D.state disk.new) result slot_name slot }
+    ensures any { Goes (result ≡ Err Refusal.Device) (D.state (inner_of disk.old)) (D.state (inner_of disk.new)) }
+    ensures reads { (D.state (inner_of disk.new)).honest ≡ true
+        → OnlyReads (D.state (inner_of disk.old)) (D.state (inner_of disk.new)) }
+    ensures inside { IfOk result (λ parts. parts.blocks ≤ (D.state (inner_of disk.old)).blocks) }
+    ensures holds { ReadsMaps (D.state (inner_of disk.old)) (D.state (inner_of disk.new)) result slot_name slot }
+    ensures refused { RefusesMaps (D.state (inner_of disk.old)) (D.state (inner_of disk.new)) result slot_name slot }
 {
-    let Slot { blocks, entries } = slot;
-    let (Some(numbers), Ok(mut held), Ok(before)) = (
+    let Slot {
+        format,
+        blocks,
+        entries,
+    } = slot;
+    let (Some(numbers), Ok(mut held), Ok(before), Ok(())) = (
         root_numbers(alloc, &entries),
         Held::new(alloc, blocks),
         Baseline::new(alloc, blocks),
+        disk.reserve(alloc, blocks),
     ) else {
         return Err(Refusal::Memory);
     };
-    match verify::<D, LEAF, FAN, LEVELS>(alloc, disk, blocks, &numbers) {
+    match verify::<NotedDisk<D>, LEAF, FAN, LEVELS>(
+        alloc,
+        disk,
+        blocks,
+        format.has_long(),
+        &numbers,
+    ) {
         Ok((roots, marks)) => {
             held.replace(&marks);
             let Some((committed, working)) = versions_twice(alloc, &entries, &roots) else {
@@ -151,15 +163,15 @@ fn read_maps<D: Disk>(
 }
 
 /// All that is known of the store on a disk.
-fn find_store<D: Disk>(alloc: Global, disk: &mut D) -> Result<Parts, Refusal>
-    ensures any { Goes (result ≡ Err Refusal.Device) (D.state disk.old) (D.state disk.new) }
-    ensures inside { IfOk result (λ parts. parts.blocks ≤ (D.state disk.old).blocks) }
-    ensures moments { SyncsAtMost (D.state disk.old) (D.state disk.new) }
-    ensures synced { SyncsAll result (D.state disk.old) (D.state disk.new) }
-    ensures holds { (D.state disk.new).honest ≡ true
-        → IfOk result (PartsHold (D.state disk.new).now) }
-    ensures refused { (D.state disk.new).honest ≡ true
-        → IfErr result (IsRefused (D.state disk.old).now.contents) }
+fn find_store<D: Disk>(alloc: Global, disk: &mut NotedDisk<D>) -> Result<Parts, Refusal>
+    ensures any { Goes (result ≡ Err Refusal.Device) (D.state (inner_of disk.old)) (D.state (inner_of disk.new)) }
+    ensures inside { IfOk result (λ parts. parts.blocks ≤ (D.state (inner_of disk.old)).blocks) }
+    ensures moments { SyncsAtMost (D.state (inner_of disk.old)) (D.state (inner_of disk.new)) }
+    ensures synced { SyncsAll result (D.state (inner_of disk.old)) (D.state (inner_of disk.new)) }
+    ensures holds { (D.state (inner_of disk.new)).honest ≡ true
+        → IfOk result (PartsHold (D.state (inner_of disk.new)).now) }
+    ensures refused { (D.state (inner_of disk.new)).honest ≡ true
+        → IfErr result (IsRefused (D.state (inner_of disk.old)).now.contents) }
 {
     match find_slot(disk) {
         Ok(slot_name) => match load_slot(alloc, disk, slot_name) {
@@ -172,7 +184,7 @@ fn find_store<D: Disk>(alloc: Global, disk: &mut D) -> Result<Parts, Refusal>
 
 /// Opens the store on a disk, as it was last committed. It syncs first; then it only reads. Where it
 /// refuses, the disk comes back with the refusal.
-pub fn open<D: Disk>(alloc: Global, mut disk: D) -> Result<Store<D>, (D, Refusal)>
+pub fn open<D: Disk>(alloc: Global, disk: D) -> Result<Store<D>, (D, Refusal)>
     // On any disk.
     ensures any { Goes (IsErrAnd result
         (λ e. e.1 ≡ Refusal.Device)) (D.state disk) (D.state (disk_in result)) }
@@ -190,6 +202,7 @@ pub fn open<D: Disk>(alloc: Global, mut disk: D) -> Result<Store<D>, (D, Refusal
     // At each moment nothing has changed, or all is synced.
     ensures moments { SyncsAtMost (D.state disk) (D.state (disk_in result)) }
 {
+    let mut disk = NotedDisk::new(disk);
     match find_store(alloc, &mut disk) {
         Ok(parts) => {
             let Parts {
@@ -218,6 +231,6 @@ pub fn open<D: Disk>(alloc: Global, mut disk: D) -> Result<Store<D>, (D, Refusal
                 failed: false,
             })
         }
-        Err(refusal) => Err((disk, refusal)),
+        Err(refusal) => Err((disk.into_inner(), refusal)),
     }
 }

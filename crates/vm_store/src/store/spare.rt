@@ -1,10 +1,11 @@
 //! Blocks that no version needs: marked, and counted.
 ghost use Rattle.std.specs.Prelude.{◌≡◌, ◌≢◌, ◌↔◌, ◌≤◌, ◌*◌, true, false, ℕ, List, length, Ok, Err, OnOk, IfOk, IfErr, IsTrue};
-ghost use Rattle.vm_types.specs.State.{State};
+ghost use Rattle.vm_types.specs.State.{State, blocks_a_change};
 ghost use Rattle.vm_disk.specs.Disk.{Goes};
 ghost use Rattle.vm_disk.specs.Moments.{OnlyReads};
 ghost use Rattle.vm_tree.specs.Answers.{OkOrDevice};
 ghost use Rattle.vm_check.specs.Marking.{IsClosed, MarksMore};
+ghost use Rattle.vm_check.specs.Noted.{inner_of};
 ghost use Rattle.vm_store.specs.Answers.{IsEarly};
 ghost use Rattle.vm_store.specs.Marking.{AreReached};
 ghost use Rattle.vm_store.specs.Resting.{spare_of};
@@ -13,37 +14,37 @@ use super::Store;
 use crate::faults::refusal_of;
 use crate::version::Version;
 use vm_alloc::Marks;
-use vm_check::mark;
+use vm_check::{NotedDisk, mark};
 use vm_disk::Disk;
 use vm_tree::TreeFault;
 use vm_types::Refusal;
 
 /// How many blocks one record change may take.
-const BLOCKS_A_CHANGE: u32 = 16;
+const BLOCKS_A_CHANGE: u32 = 17;
 
 /// Marks all blocks under the trees of the versions, without memory.
 fn mark_versions<D: Disk>(
-    disk: &mut D,
+    disk: &mut NotedDisk<D>,
     versions: &[Version],
     marks: &mut Marks,
 ) -> Result<(), TreeFault>
-    requires { length marks.old ≤ (D.state disk.old).blocks }
-    ensures any { Goes (result ≡ Err TreeFault.Device) (D.state disk.old) (D.state disk.new) }
+    requires { length marks.old ≤ (D.state (inner_of disk.old)).blocks }
+    ensures any { Goes (result ≡ Err TreeFault.Device) (D.state (inner_of disk.old)) (D.state (inner_of disk.new)) }
     ensures deep { result ≢ Err TreeFault.Deep }
     ensures memory { result ≢ Err TreeFault.Memory }
     ensures many { length marks.new ≡ length marks.old }
-    ensures reads { (D.state disk.new).honest ≡ true
-        → OnlyReads (D.state disk.old) (D.state disk.new) }
+    ensures reads { (D.state (inner_of disk.new)).honest ≡ true
+        → OnlyReads (D.state (inner_of disk.old)) (D.state (inner_of disk.new)) }
 
     // On trees the marks grow by exactly the blocks of the versions.
-    ensures marked { (D.state disk.new).honest ≡ true → (bs : List ℕ)
-        → AreReached (D.state disk.old).now.contents (length marks.old) versions.now bs
-        → IsClosed (D.state disk.old).now.contents marks.old
+    ensures marked { (D.state (inner_of disk.new)).honest ≡ true → (bs : List ℕ)
+        → AreReached (D.state (inner_of disk.old)).now.contents (length marks.old) versions.now bs
+        → IsClosed (D.state (inner_of disk.old)).now.contents marks.old
         → OkOrDevice result (λ _. MarksMore bs marks.old marks.new) }
-    ensures closed { (D.state disk.new).honest ≡ true → (bs : List ℕ)
-        → AreReached (D.state disk.old).now.contents (length marks.old) versions.now bs
-        → IsClosed (D.state disk.old).now.contents marks.old
-        → OnOk result (IsClosed (D.state disk.old).now.contents marks.new) }
+    ensures closed { (D.state (inner_of disk.new)).honest ≡ true → (bs : List ℕ)
+        → AreReached (D.state (inner_of disk.old)).now.contents (length marks.old) versions.now bs
+        → IsClosed (D.state (inner_of disk.old)).now.contents marks.old
+        → OnOk result (IsClosed (D.state (inner_of disk.old)).now.contents marks.new) }
 {
     for version in versions {
         match mark(disk, &[version.current, version.base], marks) {
@@ -105,7 +106,7 @@ impl<D: Disk> Store<D> {
 
     /// Whether as many blocks are free as so many record changes may take.
     pub(super) fn has_free(&self, changes: usize) -> bool
-        ensures { IsTrue result ↔ (16 * changes ≤ free_of self.now) }
+        ensures { IsTrue result ↔ (blocks_a_change * changes ≤ free_of self.now) }
     {
         changes <= (self.held.free_count() / BLOCKS_A_CHANGE) as usize
     }
@@ -119,12 +120,12 @@ impl<D: Disk> Store<D> {
         ensures late { IfErr result (λ refusal. IsEarly refusal → ⊥) }
         ensures same { entries_of self.new ≡ entries_of self.old }
         ensures roots { root_of self.new ≡ root_of self.old }
-        ensures free { IfOk result (λ yes. IsTrue yes → 16 * changes ≤ free_of self.new) }
+        ensures free { IfOk result (λ yes. IsTrue yes → blocks_a_change * changes ≤ free_of self.new) }
         ensures reads { IsHonest self.new → ReadsAlone self.old self.new }
         ensures only { IsHonest self.new → (s : State) → Holds self.old s
             → IfErr result (λ refusal. refusal ≡ Refusal.Device) }
         ensures spare { IsHonest self.new → (s : State) (holds : Holds self.old s)
-            → IfOk result (λ yes. IsTrue yes ↔ (16 * changes ≤ spare_of holds.rests)) }
+            → IfOk result (λ yes. IsTrue yes ↔ (blocks_a_change * changes ≤ spare_of holds.rests)) }
         ensures state { IsHonest self.new → (s : State) → Holds self.old s → Holds self.new s }
     {
         if self.has_free(changes) {

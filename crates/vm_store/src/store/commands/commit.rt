@@ -3,6 +3,7 @@ ghost use Rattle.std.specs.Prelude.{◌≡◌, ◌⊎◌, OnErr};
 
 use crate::store::Store;
 use crate::versions::write_entries;
+use vm_block::SlotFormat;
 use vm_catalog::publish;
 use vm_disk::Disk;
 use vm_types::{Answer, Command, Refusal};
@@ -20,7 +21,13 @@ impl<D: Disk> Store<D> {
         ensures carried { IsCarriedOut self.old self.new Command.Commit result }
     {
         write_entries(&mut self.entries, self.working.as_slice());
-        match publish(&mut self.disk, self.slot_name, self.blocks, &self.entries) {
+        match publish(
+            &mut self.disk,
+            self.slot_name,
+            SlotFormat::Two,
+            self.blocks,
+            &self.entries,
+        ) {
             Ok(()) => {
                 self.slot_name = self.slot_name.other();
                 self.committed.copy_from(&self.working);

@@ -51,6 +51,9 @@ impl<D: Disk> Store<D> {
         let Ok(before) = Baseline::new(self.alloc, blocks) else {
             return Err(Refusal::Memory);
         };
+        let Ok(()) = self.disk.reserve(self.alloc, blocks) else {
+            return Err(Refusal::Memory);
+        };
         self.lengthen(blocks)?;
         self.blocks = blocks;
         self.held = held;

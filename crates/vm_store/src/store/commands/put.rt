@@ -1,19 +1,26 @@
 //! The command that gives a record a value.
-ghost use Rattle.std.specs.Prelude.{◌≡◌, ◌≢◌, true, OnErr};
+ghost use Rattle.std.specs.Prelude.{◌≡◌, ◌≢◌, ◌≤◌, true, length, OnErr};
+ghost use Rattle.vm_types.specs.Bytes.{longest};
 ghost use Rattle.vm_types.specs.State.{State};
 
 use crate::faults::refusal_of;
 use crate::series::{before_series, go_on, put_forgetting};
 use crate::store::Store;
 use vm_disk::Disk;
-use vm_types::{Answer, Command, Key, Name, Refusal, Value};
+use vm_types::{Answer, Command, Key, Name, Refusal};
 
 impl<D: Disk> Store<D> {
     ghost use Rattle.vm_store.specs.Store.{has_failed, entries_of, Carries, Holds, IsHonest, GoesOn, EarlyKeeps};
 
     /// Gives a record of the alternative a value. The blocks that the series took for the path as
     /// it was are forgotten.
-    pub(super) fn put(&mut self, alt: &Name, key: Key, value: &Value) -> Result<Answer, Refusal>
+    pub(crate) fn put_value(
+        &mut self,
+        alt: &Name,
+        key: Key,
+        value: &[u8],
+    ) -> Result<Answer, Refusal>
+        requires short { length value.now ≤ longest }
         ensures any { GoesOn (result ≡ Err Refusal.Device) self.old self.new }
         ensures failed { has_failed self.new ≡ has_failed self.old }
         ensures never { (result ≢ Err Refusal.Failed) × (result ≢ Err Refusal.Memory) }

@@ -1,6 +1,6 @@
 //! The command that takes a record out.
 ghost use Rattle.std.specs.Prelude.{◌≡◌, ◌≢◌, ◌⊎◌, ◌*◌, ◌≤◌, true, find, None, Some, Ok, OnErr, IfErr};
-ghost use Rattle.vm_types.specs.State.{State};
+ghost use Rattle.vm_types.specs.State.{State, blocks_a_change};
 ghost use Rattle.vm_types.specs.declared.command.Command.TheVariants.{Remove};
 ghost use Rattle.vm_types.specs.Queries.{value_in};
 ghost use Rattle.vm_store.specs.Answers.{IsEarly};
@@ -11,7 +11,7 @@ use crate::series::{before_series, go_on, goes_on, remove_forgetting};
 use crate::store::Store;
 use crate::version::Version;
 use vm_disk::Disk;
-use vm_tree::get;
+use vm_tree::has;
 use vm_types::{Answer, Key, Name, Refusal};
 
 impl<D: Disk> Store<D> {
@@ -58,9 +58,9 @@ impl<D: Disk> Store<D> {
     {
         let root = version.current;
         let mut room = [0; 4096];
-        match get(&mut self.disk, self.blocks, root, key, &mut room) {
-            Ok(Some(_)) => {}
-            Ok(None) => return Err(Refusal::NoSuchRecord),
+        match has(&mut self.disk, self.blocks, root, key, &mut room) {
+            Ok(true) => {}
+            Ok(false) => return Err(Refusal::NoSuchRecord),
             Err(fault) => return Err(refusal_of(fault)),
         }
         match self.has_spare(1) {
@@ -90,7 +90,7 @@ impl<D: Disk> Store<D> {
     ) -> Result<Answer, Refusal>
         requires found { find (is_alternative_of alt.now) (entries_of self.old).1 ≡ Some version }
         requires series { (series_of self.old ≡ Some alt.now) ⊎ (series_of self.old ≡ None) }
-        requires room { 16 * 1 ≤ free_of self.old }
+        requires room { blocks_a_change * 1 ≤ free_of self.old }
         requires device { missing ≢ Refusal.Device }
         requires never { (missing ≢ Refusal.Failed) × (missing ≢ Refusal.Memory) }
         ensures any { GoesOn (result ≡ Err Refusal.Device) self.old self.new }

@@ -1,5 +1,6 @@
 //! The query for one record of an alternative.
 ghost use Rattle.std.specs.Prelude.{◌≡◌, ◌≢◌, ◌≤◌, true, false, length, option_copied, IfOk, IfSome};
+ghost use Rattle.vm_types.specs.Bytes.{longest};
 ghost use Rattle.vm_types.specs.State.{State};
 ghost use Rattle.vm_store.specs.Answers.{IsDueOrDevice, copied_answer};
 ghost use Rattle.vm_types.specs.Queries.{value_in};
@@ -12,7 +13,7 @@ use vm_types::{Key, Name, Refusal, Value};
 
 /// A copy of a value that is lent.
 fn copy_of(value: Option<&[u8]>) -> Option<Value>
-    requires { IfSome value (λ bytes. length bytes.now ≤ 240) }
+    requires { IfSome value (λ bytes. length bytes.now ≤ longest) }
     ensures { result ≡ option_copied value.entry }
 {
     match value {
@@ -39,7 +40,7 @@ impl<D: Disk> Store<D> {
         ensures only_then { has_failed self.old ≡ false → result ≢ Err Refusal.Failed }
         ensures unchanged { IsSameButDisk self.old self.new }
         ensures no_memory { result ≢ Err Refusal.Memory }
-        ensures short { IfOk result (λ value. IfSome value (λ bytes. length bytes.now ≤ 240)) }
+        ensures short { IfOk result (λ value. IfSome value (λ bytes. length bytes.now ≤ longest)) }
 
         ensures value { FromState self.old self.new
             (λ s. IsDueOrDevice (copied_answer result) (value_in s.working alt.now key)) }

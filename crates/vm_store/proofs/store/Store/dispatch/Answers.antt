@@ -1,7 +1,7 @@
 use Rattle.vm_store.proofs.store.Store.dispatch.Goals as goal
 
 pub returns-in-Put-clause-carried : goal.returns-in-Put-clause-carried
-returns-in-Put-clause-carried g c honest s holds = rw c.in-Put.is (c.put.ensures.carried honest s holds)
+returns-in-Put-clause-carried g c honest s holds = rw (c.in-Put.is, ← c.as_bytes.ensures.bytes) (c.put_value.ensures.carried honest s holds)
 
 pub returns-in-Remove-clause-carried : goal.returns-in-Remove-clause-carried
 returns-in-Remove-clause-carried g c honest s holds = rw c.in-Remove.is (c.remove.ensures.carried honest s holds)

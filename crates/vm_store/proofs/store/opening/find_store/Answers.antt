@@ -21,7 +21,7 @@ returns-in-Ok-load_slot-clause-holds g c honest =
     let found = c.in-Ok.ensures.found (c.load_slot.ensures.any.earlier (c.read_maps.ensures.any.earlier honest)) in
     let same = same_medium _ _ (c.load_slot.ensures.reads (c.read_maps.ensures.any.earlier honest)) in
     c.read_maps.ensures.holds honest synced.clean (subst IsStore (sym synced.same) found.0) (found.1 ∙ ap (λ x. named_slot (block x 1)) (sym synced.same))
-    (subst (λ (m : Medium). SlotAt m.contents c.in-Ok.slot_name c.in-Ok-load_slot.slot.blocks c.in-Ok-load_slot.slot.entries.items) (sym same) (c.in-Ok-load_slot.ensures.found (c.read_maps.ensures.any.earlier honest)))
+    (subst (λ (m : Medium). SlotAt m.contents c.in-Ok.slot_name c.in-Ok-load_slot.slot.format c.in-Ok-load_slot.slot.blocks c.in-Ok-load_slot.slot.entries.items) (sym same) (c.in-Ok-load_slot.ensures.found (c.read_maps.ensures.any.earlier honest)))
 
 pub returns-in-Ok-load_slot-clause-refused : goal.returns-in-Ok-load_slot-clause-refused
 returns-in-Ok-load_slot-clause-refused g c honest =
@@ -30,7 +30,7 @@ returns-in-Ok-load_slot-clause-refused g c honest =
     let same = same_medium _ _ (c.load_slot.ensures.reads (c.read_maps.ensures.any.earlier honest)) in
     subst (λ (x : Contents). IfErr c.read_maps.result (IsRefused x)) synced.same
     (c.read_maps.ensures.refused honest (subst IsStore (sym synced.same) found.0) (found.1 ∙ ap (λ x. named_slot (block x 1)) (sym synced.same))
-    (subst (λ (m : Medium). SlotAt m.contents c.in-Ok.slot_name c.in-Ok-load_slot.slot.blocks c.in-Ok-load_slot.slot.entries.items) (sym same) (c.in-Ok-load_slot.ensures.found (c.read_maps.ensures.any.earlier honest))))
+    (subst (λ (m : Medium). SlotAt m.contents c.in-Ok.slot_name c.in-Ok-load_slot.slot.format c.in-Ok-load_slot.slot.blocks c.in-Ok-load_slot.slot.entries.items) (sym same) (c.in-Ok-load_slot.ensures.found (c.read_maps.ensures.any.earlier honest))))
 
 pub returns-in-Err-load_slot-clause-moments : goal.returns-in-Err-load_slot-clause-moments
 returns-in-Err-load_slot-clause-moments g c honest =
