@@ -1,5 +1,6 @@
 -- What a word spells, from its front.
 use Rattle.std.proofs.Common.{◌≡◌, ◌<◌, ◌≤◌, ◌-◌, ◌==◌, ◌↔◌, ℕ, Bool, true, false, List, [], ◌∷◌, Option, Some, None, length, take, drop, get_or, set, ◌++◌, ◌+◌, ◌∙◌, suc, option_map, option_and_then, refl, ap, sym, arith, rules, add-one, append_assoc, length-append, length-take-le}
+use Rattle.vm_types.specs.Bytes.{longest}
 use Rattle.std.proofs.lemmas.Bool.Decides.{nat_tests}
 use Rattle.std.proofs.Math.Seq.{take-suc-set}
 use Rattle.std.specs.Prelude.{IfSome, IsNone, IsSome, codes, nat_le}
@@ -39,20 +40,20 @@ unescaped-plain (b ∷ c ∷ d ∷ rest) none =
 
 -- a word without `%` is the value, where it is short enough
 pub value_of-plain : (word : List ℕ) (found : Option ℕ) (value : Option (List ℕ)) → bytes_eq word (codes "-") ≡ false
-    → IsFirstByte (is_byte 37) word found → IsNone found → (IsSome value ↔ (length word ≤ 240)) → IfSome value (λ v. v ≡ word)
+    → IsFirstByte (is_byte 37) word found → IsNone found → (IsSome value ↔ (length word ≤ longest)) → IfSome value (λ v. v ≡ word)
     → value ≡ value_of word
 value_of-plain word (Some place) value full first none short is = cc
 value_of-plain word None value full first none short is = rw (full, unescaped-plain word (λ i lt. first i (omega arith) lt)) (go value short is)
   where
-    go : (o : Option (List ℕ)) → (IsSome o ↔ (length word ≤ 240)) → IfSome o (λ v. v ≡ word) → o ≡ short_enough word
-    go None lacks is = test (nat_le (length word) 240) refl
+    go : (o : Option (List ℕ)) → (IsSome o ↔ (length word ≤ longest)) → IfSome o (λ v. v ≡ word) → o ≡ short_enough word
+    go None lacks is = test (nat_le (length word) longest) refl
       where
-        test : (t : Bool) → nat_le (length word) 240 ≡ t → None ≡ short_enough word
-        test true e = let few : length word ≤ 240 = grind (arith, nat_tests, e) in let bad = lacks.1 few in cc
+        test : (t : Bool) → nat_le (length word) longest ≡ t → None ≡ short_enough word
+        test true e = let few : length word ≤ longest = grind (arith, nat_tests, e) in let bad = lacks.1 few in cc
         test false e = rw e refl
     go (Some v) has is =
-        let few : length word ≤ 240 = has.0 (search rules) in
-        let e : nat_le (length word) 240 ≡ true = grind (arith, nat_tests) in
+        let few : length word ≤ longest = has.0 (search rules) in
+        let e : nat_le (length word) longest ≡ true = grind (arith, nat_tests) in
         rw (e, is) refl
 
 -- nothing read so far
@@ -75,17 +76,17 @@ spelled-next word rest after held n b lt so_far front = so_far ∙ rw front (go 
     go (Some m) = ap (λ (bytes : List ℕ). Some bytes) (rw (add-one n, take-suc-set held n b lt) (sym (append_assoc (take n held) (b ∷ []) m)))
 
 -- more bytes than a value has
-pub spelled-long : (word rest after held : List ℕ) (b : ℕ) → 240 ≤ length held
-    → unescaped word ≡ option_map (λ more. take 240 held ++ more) (unescaped rest)
+pub spelled-long : (word rest after held : List ℕ) (b : ℕ) → longest ≤ length held
+    → unescaped word ≡ option_map (λ more. take longest held ++ more) (unescaped rest)
     → unescaped rest ≡ option_map (λ bytes. b ∷ bytes) (unescaped after)
     → option_and_then short_enough (unescaped word) ≡ None
 spelled-long word rest after held b le so_far front = rw (so_far, front) (go (unescaped after))
   where
-    go : (o : Option (List ℕ)) → option_and_then short_enough (option_map (λ more. take 240 held ++ more) (option_map (λ bytes. b ∷ bytes) o)) ≡ None
+    go : (o : Option (List ℕ)) → option_and_then short_enough (option_map (λ more. take longest held ++ more) (option_map (λ bytes. b ∷ bytes) o)) ≡ None
     go None = refl
     go (Some m) =
-        let long : length (take 240 held ++ b ∷ m) ≡ 240 + suc (length m) = simp (length-append, length-take-le) refl in
-        let no : nat_le (length (take 240 held ++ b ∷ m)) 240 ≡ false = rw long (grind (arith, nat_tests)) in
+        let long : length (take longest held ++ b ∷ m) ≡ longest + suc (length m) = simp (length-append, length-take-le) refl in
+        let no : nat_le (length (take longest held ++ b ∷ m)) longest ≡ false = rw long (grind (arith, nat_tests)) in
         rw no refl
 
 pub value_of-none : (word : List ℕ) → bytes_eq word (codes "-") ≡ false → option_and_then short_enough (unescaped word) ≡ None → value_of word ≡ None

@@ -9,7 +9,7 @@ use Rattle.vm_types.specs.declared.answer.Answer.{Answer}
 use Rattle.vm_types.specs.declared.command.Command.{Command}
 use Rattle.vm_types.specs.declared.refusal.Refusal.{Refusal}
 use Rattle.vm_types.specs.State.{State, after}
-use Rattle.vm_store.specs.Store.{Holds, has_failed}
+use Rattle.vm_store.specs.Store.{Holds, has_failed, disk_of}
 use Rattle.vm_store.specs.declared.store.Store.{Store}
 use Rattle.vm_cli.specs.Carried.{WritesStart}
 use Rattle.vm_cli.specs.Feeding.{Fed, Writes}
@@ -96,8 +96,8 @@ module _ {D : Type 0} {members : _} where
 
   -- a disk that is honest after a talk was so before it
   talks-back : (old new : Store D members) (s : State) (lines : List (List ℕ)) (text : List ℕ) (commands : List Command) (answers : List (Result Answer Refusal)) (refused : Bool) → Talks old new s lines text commands answers refused
-      → (members.state new.disk).honest ≡ true → (members.state old.disk).honest ≡ true
-  talks-back old new s [] text commands answers refused (d, e, f, g, h) honest = subst (λ (t : Store D members). (members.state t.disk).honest ≡ true) d honest
+      → (members.state (disk_of new)).honest ≡ true → (members.state (disk_of old)).honest ≡ true
+  talks-back old new s [] text commands answers refused (d, e, f, g, h) honest = subst (λ (t : Store D members). (members.state (disk_of t)).honest ≡ true) d honest
   talks-back old new s (line ∷ lines) text commands answers refused (mid, first, rest, later, others, step, e, f, g, again, h, talks) honest =
       step.passes.goes.earlier (talks-back mid new (after_line s step.done) lines rest later others again talks honest)
 

@@ -8,7 +8,7 @@ use Rattle.vm_disk.specs.Moments.{OnlyReads}
 use Rattle.vm_disk.proofs.GoesLemmas.{goes_at, goes_nowhere, goes_then}
 use Rattle.vm_disk.proofs.MomentLemmas.{started}
 use Rattle.vm_store.specs.Growing.{Grows}
-use Rattle.vm_store.specs.Store.{GoesOn, GrowsOn, IsSameButDisk, has_failed}
+use Rattle.vm_store.specs.Store.{GoesOn, GrowsOn, IsSameButDisk, has_failed, disk_of}
 use Rattle.vm_store.specs.declared.store.Store.{Store}
 use Rattle.vm_store.proofs.LongerLemmas.{goes_grow}
 use Rattle.vm_cli.specs.Talk.{EndsBy, Failing, Passes, StoreFails}
@@ -70,14 +70,14 @@ module _ {D : Type 0} {members : _} where
   -- a store passes into itself
   pub passes_none : (store : Store D members) → Passes store store None
   passes_none store = record {
-    goes = grows_none (members.state store.disk);
+    goes = grows_none (members.state (disk_of store));
     as_long = λ e. refl;
-    reads = λ honest e. started (members.state store.disk) (λ m. m ≡ (members.state store.disk).now) refl;
+    reads = λ honest e. started (members.state (disk_of store)) (λ m. m ≡ (members.state (disk_of store)).now) refl;
     unchanged = λ e. same_store store;
   }
 
   -- into one that only read
-  pub passes_reads : (old new : Store D members) → GoesOn ⊥ old new → ((members.state new.disk).honest ≡ true → OnlyReads (members.state old.disk) (members.state new.disk)) → IsSameButDisk old new → Passes old new None
+  pub passes_reads : (old new : Store D members) → GoesOn ⊥ old new → ((members.state (disk_of new)).honest ≡ true → OnlyReads (members.state (disk_of old)) (members.state (disk_of new))) → IsSameButDisk old new → Passes old new None
   passes_reads old new goes reads unchanged = record { goes = goes_grow ⊥ _ _ goes; as_long = λ e. goes.same_blocks; reads = λ honest e. reads honest; unchanged = λ e. unchanged }
 
   -- into one that carried out a command

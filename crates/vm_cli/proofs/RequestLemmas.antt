@@ -1,8 +1,9 @@
 -- What words ask for.
-use Rattle.std.proofs.Common.{◌≡◌, ◌∷◌, ℕ, List, [], Some, None, codes, refl}
+use Rattle.std.proofs.Common.{◌≡◌, ◌∷◌, ℕ, List, [], Option, Some, None, codes, option_map, refl}
 use Rattle.vm_types.specs.declared.command.Command.{Command}
+use Rattle.vm_types.specs.declared.command.Command.TheVariants.{Put}
 use Rattle.vm_types.specs.declared.key.Key.{Key}
-use Rattle.vm_cli.specs.Requests.{put_of, record_of, request_of}
+use Rattle.vm_cli.specs.Requests.{put_asked, put_of, record_of, request_of}
 use Rattle.vm_cli.specs.declared.lines.request.Request.TheVariants as request
 
 -- no words
@@ -19,8 +20,9 @@ get_asks words asked is = rw (← is) refl
 pub get_is_bad : (words : List (List ℕ)) → None ≡ record_of words → request_of (codes "get" ∷ words) ≡ request.Bad
 get_is_bad words is = rw (← is) refl
 
-pub put_asks : (words : List (List ℕ)) (command : Command) → Some command ≡ put_of words → request_of (codes "put" ∷ words) ≡ request.Command command
-put_asks words command is = rw (← is) refl
+pub put_spelled : (words : List (List ℕ)) (alt : List ℕ) (key : Key) (value : Option (List ℕ)) → put_of words ≡ option_map (λ v. Put alt key v) value → request_of (codes "put" ∷ words) ≡ put_asked alt key value
+put_spelled words alt key None is = rw is refl
+put_spelled words alt key (Some v) is = rw is refl
 
 pub put_is_bad : (words : List (List ℕ)) → None ≡ put_of words → request_of (codes "put" ∷ words) ≡ request.Bad
 put_is_bad words is = rw (← is) refl

@@ -51,16 +51,16 @@ module _ (old new : DiskState) (seen : Seen) (leaves : Leaves (λ x. Shows x see
       (weaken old new (IsAtMostSynced old.now) (Leaves (λ x. Shows x seen)) (λ m at_most. synced_leaves (λ x. Shows x seen) old.now m leaves at_most) synced)
 
 -- and so does one on which lines were answered
-module _ {D : Type 0} {members : _} (old : DiskState) (first last : Store D members) (opens : (members.state first.disk).honest ≡ true → OpensAs old.now.contents first)
-    (synced : (members.state first.disk).honest ≡ true → Throughout old (members.state first.disk) (IsAtMostSynced old.now)) (well : has_failed first ≡ false) (goes : Grows ⊥ (members.state first.disk) (members.state last.disk)) where
+module _ {D : Type 0} {members : _} (old : DiskState) (first last : Store D members) (opens : (members.state (disk_of first)).honest ≡ true → OpensAs old.now.contents first)
+    (synced : (members.state (disk_of first)).honest ≡ true → Throughout old (members.state (disk_of first)) (IsAtMostSynced old.now)) (well : has_failed first ≡ false) (goes : Grows ⊥ (members.state (disk_of first)) (members.state (disk_of last))) where
   session_keeps : (on : OnRefusal) (result : Result Bool ServeFault) (before then known : Option (List ℕ)) (serves : (s : State) → Serves first last s on result before then known)
-      → (members.state last.disk).honest ≡ true → (seen : Seen) → Leaves (λ x. Shows x seen) old.now
-      → Keeps old (members.state last.disk) (opened seen) (commands_of (serves (opened seen))) (answers_of (serves (opened seen)))
+      → (members.state (disk_of last)).honest ≡ true → (seen : Seen) → Leaves (λ x. Shows x seen) old.now
+      → Keeps old (members.state (disk_of last)) (opened seen) (commands_of (serves (opened seen))) (answers_of (serves (opened seen)))
   session_keeps on result before then known serves honest seen leaves =
       let honest_first = goes.earlier honest in
       let at_first = opens honest_first in
       let same : at_first.seen ≡ seen = shown_one old.now.contents at_first.seen seen at_first.shown (leaves_held (λ x. Shows x seen) old.now leaves) in
-      serves_keeps old (opened seen) first last (synced_keeping old (members.state first.disk) seen leaves (synced honest_first)) honest well
+      serves_keeps old (opened seen) first last (synced_keeping old (members.state (disk_of first)) seen leaves (synced honest_first)) honest well
       (subst (λ t. Holds first (opened t)) same at_first.holds) on result before then known (serves (opened seen))
 
   -- also on the disk that the store gives back

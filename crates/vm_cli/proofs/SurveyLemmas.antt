@@ -8,7 +8,7 @@ use Rattle.vm_types.specs.Shape.{saved_names, shape}
 use Rattle.vm_types.specs.State.{State}
 use Rattle.vm_types.specs.Tree.{Alternative}
 use Rattle.vm_disk.proofs.MomentLemmas.{reads_then, same_medium}
-use Rattle.vm_store.specs.Store.{Holds}
+use Rattle.vm_store.specs.Store.{Holds, disk_of}
 use Rattle.vm_store.specs.Tallies.{tally_in}
 use Rattle.vm_store.specs.declared.store.Store.{Store}
 use Rattle.vm_cli.specs.Drawing.{Branch, branch_of, branches_of, numbers}
@@ -41,7 +41,7 @@ module _ {D : Type 0} {members : _} where
   }
 
   -- a store that was only read stands for what it stood for
-  pub still_holds : (old new : Store D members) → Passes old new None → (members.state new.disk).honest ≡ true → (s : State) → Holds old s → Holds new s
+  pub still_holds : (old new : Store D members) → Passes old new None → (members.state (disk_of new)).honest ≡ true → (s : State) → Holds old s → Holds new s
   still_holds old new passes honest s holds =
       let same = passes.unchanged refl in
       let medium = same_medium _ _ (passes.reads honest refl) in

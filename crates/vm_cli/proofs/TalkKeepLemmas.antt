@@ -8,7 +8,7 @@ use Rattle.vm_types.proofs.Runs.{after_more}
 use Rattle.vm_disk.specs.Disk.{DiskState}
 use Rattle.vm_disk.proofs.MomentLemmas.{weaken}
 use Rattle.vm_store.specs.Running.{CarriesOut}
-use Rattle.vm_store.specs.Store.{Holds, has_failed}
+use Rattle.vm_store.specs.Store.{Holds, has_failed, disk_of}
 use Rattle.vm_store.specs.declared.store.Store.{Store}
 use Rattle.vm_store.proofs.RunLemmas.{rests_show}
 use Rattle.vm_cli.specs.Keeps.{Keeps, answers_of, commands_of}
@@ -70,27 +70,27 @@ module _ {D : Type 0} {members : _} where
   -- a disk that is honest after lines was so before them
   pub talks_earlier : (lines : List (List ℕ)) (old new : Store D members) (s : State) (text : List ℕ) (commands : List Command) (answers : List (Result Answer Refusal)) (refused : Bool)
       → Talks old new s lines text commands answers refused
-      → (members.state new.disk).honest ≡ true → (members.state old.disk).honest ≡ true
-  talks_earlier [] old new s text commands answers refused talks honest = subst (λ (t : Store D members). (members.state t.disk).honest ≡ true) talks.0 honest
+      → (members.state (disk_of new)).honest ≡ true → (members.state (disk_of old)).honest ≡ true
+  talks_earlier [] old new s text commands answers refused talks honest = subst (λ (t : Store D members). (members.state (disk_of t)).honest ≡ true) talks.0 honest
   talks_earlier (line ∷ lines) old new s text commands answers refused talks honest = talks.5.passes.goes.earlier (talks_earlier lines talks.0 new _ talks.2 talks.3 talks.4 talks.9 talks.11 honest)
 
   -- before a command a crash shows what is committed
-  stands_show : (store : Store D members) (s : State) → Holds store s → ShowsCommitted s (members.state store.disk).now
-  stands_show store s holds = rests_show (members.state store.disk).now store.blocks store.slot_name store.held store.committed store.working s holds.rests
+  stands_show : (store : Store D members) (s : State) → Holds store s → ShowsCommitted s (members.state (disk_of store)).now
+  stands_show store s holds = rests_show (members.state (disk_of store)).now store.blocks store.slot_name store.held store.committed store.working s holds.rests
 
   module _ (start : DiskState) (s : State) where
     -- the lines so far, up to this store
     abbrev SoFar : Store D members → List Command → List (Result Answer Refusal) → Type 0
-    SoFar store commands answers = Keeping start (members.state store.disk) s commands answers
+    SoFar store commands answers = Keeping start (members.state (disk_of store)) s commands answers
 
     -- one line more
-    module _ (old new : Store D members) (commands : List Command) (answers : List (Result Answer Refusal)) (so_far : SoFar old commands answers) (honest : (members.state new.disk).honest ≡ true) (holds : Holds old (after s commands answers)) where
+    module _ (old new : Store D members) (commands : List Command) (answers : List (Result Answer Refusal)) (so_far : SoFar old commands answers) (honest : (members.state (disk_of new)).honest ≡ true) (holds : Holds old (after s commands answers)) where
       -- it was no command
       line_reads : Passes old new None → SoFar new (commands ++ []) (answers ++ [])
       line_reads passes =
           rw (append-nil commands, append-nil answers)
-          (keeping_quiet start (members.state old.disk) s commands answers so_far (members.state new.disk)
-          (weaken (members.state old.disk) (members.state new.disk) (λ m. m ≡ (members.state old.disk).now) (ShowsCommitted (after s commands answers))
+          (keeping_quiet start (members.state (disk_of old)) s commands answers so_far (members.state (disk_of new))
+          (weaken (members.state (disk_of old)) (members.state (disk_of new)) (λ m. m ≡ (members.state (disk_of old)).now) (ShowsCommitted (after s commands answers))
           (λ m same. subst (ShowsCommitted (after s commands answers)) (sym same) (stands_show old (after s commands answers) holds))
           (passes.reads honest refl)))
 
@@ -98,7 +98,7 @@ module _ {D : Type 0} {members : _} where
       line_runs : (c : Command) (a : Result Answer Refusal) → CarriesOut old new (after s commands answers) c a
           → has_failed new ≡ false → SoFar new (commands ++ c ∷ []) (answers ++ a ∷ [])
       line_runs c a carries sound =
-          keeping_more start (members.state old.disk) s commands answers so_far (members.state new.disk) c a (carries.crash honest holds)
+          keeping_more start (members.state (disk_of old)) s commands answers so_far (members.state (disk_of new)) c a (carries.crash honest holds)
           (stands_show new _ (carries.holds honest holds (λ device. never_both _ sound (carries.failed.1 device))))
 
       line_keeping : (line text : List ℕ) (ends : Bool) (done : Done)
@@ -110,22 +110,22 @@ module _ {D : Type 0} {members : _} where
       -- it may end the talk
       line_keeps : (line text : List ℕ) (ends : Bool) (done : Done)
           → Answered old new (after s commands answers) line text ends done → Passes old new done
-          → Keeps start (members.state new.disk) s (commands ++ with_command done []) (answers ++ with_answer done [])
-      line_keeps line text ends None answered passes = keeps start (members.state new.disk) s _ _ (line_reads passes)
+          → Keeps start (members.state (disk_of new)) s (commands ++ with_command done []) (answers ++ with_answer done [])
+      line_keeps line text ends None answered passes = keeps start (members.state (disk_of new)) s _ _ (line_reads passes)
       line_keeps line text ends (Some (c, a)) answered passes = either (failed_or (has_failed new))
         where
           carries : CarriesOut old new (after s commands answers) c a
           carries = line_carries old new (after s commands answers) c a line text ends answered
 
           either : (has_failed new ≡ false) ⊎ (has_failed new ≡ true)
-              → Keeps start (members.state new.disk) s (commands ++ c ∷ []) (answers ++ a ∷ [])
-          either (inl sound) = keeps start (members.state new.disk) s _ _ (line_runs c a carries sound)
-          either (inr failed) = keeps_failed start (members.state old.disk) s commands answers so_far (members.state new.disk) c a (carries.crash honest holds) (carries.failed.0 failed)
+              → Keeps start (members.state (disk_of new)) s (commands ++ c ∷ []) (answers ++ a ∷ [])
+          either (inl sound) = keeps start (members.state (disk_of new)) s _ _ (line_runs c a carries sound)
+          either (inr failed) = keeps_failed start (members.state (disk_of old)) s commands answers so_far (members.state (disk_of new)) c a (carries.crash honest holds) (carries.failed.0 failed)
 
     -- lines that end no talk
     talks_keeping : (lines : List (List ℕ)) (old new : Store D members) (commands : List Command) (answers : List (Result Answer Refusal)) (text : List ℕ) (later : List Command) (others : List (Result Answer Refusal)) (refused : Bool)
         → Talks old new (after s commands answers) lines text later others refused → SoFar old commands answers
-        → (members.state new.disk).honest ≡ true → has_failed old ≡ false → Holds old (after s commands answers)
+        → (members.state (disk_of new)).honest ≡ true → has_failed old ≡ false → Holds old (after s commands answers)
         → SoFar new (commands ++ later) (answers ++ others)
     talks_keeping [] old new commands answers text later others refused talks so_far honest sound holds =
         rw (talks.0, talks.2, talks.3, append-nil commands, append-nil answers) so_far
@@ -145,16 +145,16 @@ module _ {D : Type 0} {members : _} where
         let those : (answers ++ with_answer done []) ++ talks.4 ≡ answers ++ others = append_assoc answers (with_answer done []) talks.4 ∙ ap (λ rs. answers ++ rs) (with_answer-append done talks.4 ∙ sym talks.8) in
         subst (λ cs. SoFar new cs (answers ++ others)) these (subst (λ rs. SoFar new ((commands ++ with_command done []) ++ talks.3) rs) those all)
 
-    module _ (old new : Store D members) (so_far : SoFar old [] []) (honest : (members.state new.disk).honest ≡ true) (sound : has_failed old ≡ false) (holds : Holds old s) where
+    module _ (old new : Store D members) (so_far : SoFar old [] []) (honest : (members.state (disk_of new)).honest ≡ true) (sound : has_failed old ≡ false) (holds : Holds old s) where
       talked_keeping : (on : OnRefusal) (lines : List (List ℕ)) (text : List ℕ) (talked : HasTalked old new s on lines text)
           → SoFar new talked.commands talked.answers
       talked_keeping on lines text talked = talks_keeping lines old new [] [] text talked.commands talked.answers talked.refused talked.talks so_far honest sound holds
 
     -- a talk that ended with a line
-    ended_keeps : (old new : Store D members) → SoFar old [] [] → (members.state new.disk).honest ≡ true
+    ended_keeps : (old new : Store D members) → SoFar old [] [] → (members.state (disk_of new)).honest ≡ true
         → has_failed old ≡ false → Holds old s
         → (on : OnRefusal) (ends : Bool) (all : List (List ℕ)) (text : List ℕ) (ended : EndsTalk old new s on ends all text)
-        → Keeps start (members.state new.disk) s (ended.talked.commands ++ with_command ended.handled.done []) (ended.talked.answers ++ with_answer ended.handled.done [])
+        → Keeps start (members.state (disk_of new)) s (ended.talked.commands ++ with_command ended.handled.done []) (ended.talked.answers ++ with_answer ended.handled.done [])
     ended_keeps old new so_far honest sound holds on ends all text ended =
         let mid = ended.mid in
         let talked = ended.talked in
@@ -164,12 +164,12 @@ module _ {D : Type 0} {members : _} where
         line_keeps mid new talked.commands talked.answers (talked_keeping old mid so_far honest_mid sound holds on ended.lines ended.earlier talked) honest stands ended.line ended.last ends handled.done handled.answers handled.passes
 
     -- each talk
-    pub serves_keeps : (old new : Store D members) → SoFar old [] [] → (members.state new.disk).honest ≡ true
+    pub serves_keeps : (old new : Store D members) → SoFar old [] [] → (members.state (disk_of new)).honest ≡ true
         → has_failed old ≡ false → Holds old s
         → (on : OnRefusal) (result : Result Bool ServeFault) (before then known : Option (List ℕ)) (serves : Serves old new s on result before then known)
-        → Keeps start (members.state new.disk) s (commands_of serves) (answers_of serves)
-    serves_keeps old new so_far honest sound holds on (Ok refused) before then known serves = keeps start (members.state new.disk) s _ _ (talked_keeping old new so_far honest sound holds on _ serves.served.0 serves.served.1)
-    serves_keeps old new so_far honest sound holds on (Err fault.Read) before then known serves = keeps start (members.state new.disk) s _ _ (talked_keeping old new so_far honest sound holds on serves.served.1 serves.served.0 serves.served.4)
+        → Keeps start (members.state (disk_of new)) s (commands_of serves) (answers_of serves)
+    serves_keeps old new so_far honest sound holds on (Ok refused) before then known serves = keeps start (members.state (disk_of new)) s _ _ (talked_keeping old new so_far honest sound holds on _ serves.served.0 serves.served.1)
+    serves_keeps old new so_far honest sound holds on (Err fault.Read) before then known serves = keeps start (members.state (disk_of new)) s _ _ (talked_keeping old new so_far honest sound holds on serves.served.1 serves.served.0 serves.served.4)
     serves_keeps old new so_far honest sound holds on (Err fault.Store) before then known serves = ended_keeps old new so_far honest sound holds on true _ serves.served.0 serves.served.1
     serves_keeps old new so_far honest sound holds on (Err fault.Refused) before then known serves = ended_keeps old new so_far honest sound holds on false _ serves.served.0 serves.served.1
     serves_keeps old new so_far honest sound holds on (Err fault.Write) before then known serves = ended_keeps old new so_far honest sound holds on serves.served.1 _ serves.served.0 serves.served.2

@@ -1,5 +1,6 @@
 -- How values are written, and that they are read again.
 use Rattle.std.proofs.Common.{◌≡◌, ◌<◌, ◌≤◌, ◌+◌, ◌*◌, ◌/◌, ◌%◌, ◌==◌, ◌++◌, ◌∙◌, ℕ, Bool, true, false, List, [], ◌∷◌, Some, zero, suc, length, take, get_or, option_map, refl, ap, sym, arith, add-one, append-nil, append_assoc, length-append, codes, lit≤}
+use Rattle.vm_types.specs.Bytes.{longest}
 use Rattle.std.proofs.lemmas.Bool.Decides.{nat_tests}
 use Rattle.std.proofs.lemmas.Slice.Eq.{bytes_eq-Decides}
 use Rattle.std.specs.Prelude.{nat_le, nat_lt}
@@ -88,11 +89,11 @@ escaped-again (b ∷ bytes) small =
     rw (byte-again b (escaped bytes) (small 0 (omega arith)), escaped-again bytes (λ i lt. small (suc i) (omega arith))) refl
 
 -- a value is read again as it was written
-pub value-again : (value : List ℕ) → ((i : ℕ) → i < length value → get_or value i 0 < 256) → length value ≤ 240 → value_of (value_text value) ≡ Some value
+pub value-again : (value : List ℕ) → ((i : ℕ) → i < length value → get_or value i 0 < 256) → length value ≤ longest → value_of (value_text value) ≡ Some value
 value-again [] small short = refl
 value-again (b ∷ bytes) small short = go (bytes_eq (b ∷ bytes) (codes "-")) refl
   where
-    within : nat_le (length (b ∷ bytes)) 240 ≡ true
+    within : nat_le (length (b ∷ bytes)) longest ≡ true
     within = grind (arith, nat_tests)
 
     go : (t : Bool) → bytes_eq (b ∷ bytes) (codes "-") ≡ t → value_of (value_text (b ∷ bytes)) ≡ Some (b ∷ bytes)

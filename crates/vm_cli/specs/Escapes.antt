@@ -1,4 +1,5 @@
 -- Values as they are written in lines.
+use Rattle.vm_types.specs.Bytes.{longest}
 use Rattle.std.specs.Prelude.{◌≡◌, ◌+◌, ◌-◌, ◌*◌, ◌/◌, ◌%◌, ◌<◌, ◌==◌, ◌&&◌, ◌++◌, ℕ, Bool, true, not, List, [], ◌∷◌, Option, Some, None, codes, if◌then◌else◌, length, nat_le, nat_lt, option_and_then, option_map}
 use Rattle.std.specs.Str.{bytes_eq}
 
@@ -32,7 +33,7 @@ unescaped (b ∷ c ∷ d ∷ rest) =
 
 -- bytes that are few enough for a value
 abbrev pub short_enough : List ℕ → Option (List ℕ)
-short_enough bytes = if nat_le (length bytes) 240 then Some bytes else None
+short_enough bytes = if nat_le (length bytes) longest then Some bytes else None
 
 -- the value that a word spells, where `-` is the empty one
 abbrev pub value_of : List ℕ → Option (List ℕ)

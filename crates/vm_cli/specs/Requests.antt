@@ -48,6 +48,11 @@ put_of (alt ∷ table ∷ number ∷ value ∷ []) =
     option_and_then (λ a. option_and_then (λ k. option_map (λ v. Put a k v) (value_of value)) (key_of table number)) (name_of alt)
 put_of _ = None
 
+-- what a put asks for, where its last word spells this value, or none
+abbrev pub put_asked : List ℕ → Key → Option (List ℕ) → Request
+put_asked alt key None = request.Bad
+put_asked alt key (Some value) = request.Command (Put alt key value)
+
 -- `grow BLOCKS`: a number that 32 bits hold
 abbrev pub grow_of : List (List ℕ) → Option Command
 grow_of (blocks ∷ []) = option_map Grow (number_of 4294967295 blocks)

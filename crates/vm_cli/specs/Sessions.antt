@@ -78,10 +78,10 @@ module _ {D : Type 0} (members : Ghosts D) where
     pub first : Store D members
     pub last : Store D members
     pub served : Result Bool ServeFault
-    pub found : Goes ⊥ (members.state old) (members.state first.disk)
-    pub goes : Grows ⊥ (members.state first.disk) (members.state new)
+    pub found : Goes ⊥ (members.state old) (members.state (disk_of first))
+    pub goes : Grows ⊥ (members.state (disk_of first)) (members.state new)
     pub well : has_failed first ≡ false
-    pub opens : (members.state first.disk).honest ≡ true → OpensAs (members.state old).now.contents first
+    pub opens : (members.state (disk_of first)).honest ≡ true → OpensAs (members.state old).now.contents first
     pub serves : (s : State) → Serves first last s on served before after input
     pub ends : exit ≡ end_of on served
     pub given_back : new ≡ disk_of last

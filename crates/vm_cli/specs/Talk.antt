@@ -14,7 +14,7 @@ use Rattle.vm_types.specs.Queries.{value_in}
 use Rattle.vm_types.specs.Queries.{changes_in, checkpoints_in, conflicts_in, records_in}
 use Rattle.vm_store.specs.Resting.{spare_of}
 use Rattle.vm_store.specs.Running.{CarriesOut}
-use Rattle.vm_store.specs.Store.{GrowsOn, Holds, IsSameButDisk, free_of, has_failed}
+use Rattle.vm_store.specs.Store.{GrowsOn, Holds, IsSameButDisk, free_of, has_failed, disk_of}
 use Rattle.vm_store.specs.declared.store.Store.{Store}
 use Rattle.vm_cli.specs.Carried.{WritesStart}
 use Rattle.vm_cli.specs.Lines.{lines_of}
@@ -101,7 +101,7 @@ with_answer (Some (command, answer)) answers = answer ∷ answers
 module _ {D : Type 0} {members : _} where
   -- a device call failed on the way from the one store to the other
   abbrev pub Failing : Store D members → Store D members → Type 0
-  Failing old new = (members.state old.disk).failures < (members.state new.disk).failures
+  Failing old new = (members.state (disk_of old)).failures < (members.state (disk_of new)).failures
 
   -- where the store had not failed before and has now, a device call failed on the way
   abbrev pub FailsByDevice : Store D members → Store D members → Type 0
@@ -120,15 +120,15 @@ module _ {D : Type 0} {members : _} where
 
   -- the store stood for this state before, and its disk is honest after: as long as that is so, each step keeps what it promises
   pub record Stood (old new : Store D members) (s : State) : Type 0 where
-    pub honest : (members.state new.disk).honest ≡ true
+    pub honest : (members.state (disk_of new)).honest ≡ true
     pub holds : Holds old s
 
   -- what a line did on any disk, and what it asked of the device: any but a command left the number of blocks, only read, and changed
   -- nothing of the store but its disk
   pub record Passes (old new : Store D members) (done : Done) : Type 0 where
     pub goes : GrowsOn ⊥ old new
-    pub as_long : done ≡ None → (members.state new.disk).blocks ≡ (members.state old.disk).blocks
-    pub reads : (members.state new.disk).honest ≡ true → done ≡ None → OnlyReads (members.state old.disk) (members.state new.disk)
+    pub as_long : done ≡ None → (members.state (disk_of new)).blocks ≡ (members.state (disk_of old)).blocks
+    pub reads : (members.state (disk_of new)).honest ≡ true → done ≡ None → OnlyReads (members.state (disk_of old)) (members.state (disk_of new))
     pub unchanged : done ≡ None → IsSameButDisk old new
 
   -- the store failed in a command, and a crash at any moment of it leaves what was committed, or what that command commits; or it

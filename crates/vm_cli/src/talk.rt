@@ -6,19 +6,23 @@ ghost use Rattle.vm_cli.specs.Feeding.{AnswersBy, AnswersLine, AnswersWith, Ends
 ghost use Rattle.vm_cli.specs.Lines.{IsPart, lines_of};
 ghost use Rattle.vm_cli.specs.Reading.{HoldsLine};
 ghost use Rattle.vm_cli.specs.Replies.{ends_talk, reply_text};
-ghost use Rattle.vm_cli.specs.Requests.{request_of};
+ghost use Rattle.vm_cli.specs.Escapes.{value_of};
+ghost use Rattle.vm_cli.specs.Requests.{put_asked, request_of};
 ghost use Rattle.vm_cli.specs.Spaces.{words_of};
 ghost use Rattle.vm_cli.specs.Talk.{EndsBy, FailsByDevice, StoreFails, answer_text};
 ghost use Rattle.vm_store.specs.Store.{Holds, has_failed, GoesOn, GrowsOn};
+ghost use Rattle.vm_types.specs.Bytes.{longest};
 ghost use Rattle.vm_types.specs.State.{State};
+ghost use Rattle.vm_types.specs.declared.command.Command.TheVariants.{Put};
 
 use crate::answers::lists::reply_with_list;
 use crate::answers::reply::{Reply, push_found};
 use crate::answers::text::Text;
 use crate::answers::writing::{WriteFault, flush, put_all};
+use crate::lines::escape::{plain, value};
 use crate::lines::line::{Line, LineKind};
 use crate::lines::pieces::first_word;
-use crate::lines::request::{Request, put, read_request, record};
+use crate::lines::request::{Request, put_words, read_request, record};
 use memchr::memchr;
 use std::alloc::{AllocError, Global};
 use std::io::{Read, Write};
@@ -305,10 +309,56 @@ fn reply_to_put<D: Disk>(rest: &[u8], store: &mut Store<D>) -> Reply
     ensures answer { AnswersBy (request_of (codes "put" ∷ words_of rest.now)) result
         store.old store.new }
 {
-    match put(rest) {
-        Some(command) => reply_to_command(&command, store),
+    let (record, word) = put_words(rest);
+    match record {
+        Some(asked) => reply_to_spelled(asked, word, store),
         None => Reply::BadLine,
     }
+}
+
+/// Puts the value that a word spells. Most words are their values, and none of those is copied.
+fn reply_to_spelled<D: Disk>(asked: (Name, Key), word: &[u8], store: &mut Store<D>) -> Reply
+    ensures goes { GrowsOn ⊥ store.old store.new }
+    ensures last { has_failed store.old ≡ false → ends_talk result ≡ has_failed store.new }
+    ensures failing { FailsByDevice store.old store.new }
+    ensures left { has_failed store.old ≡ true → store.new ≡ store.old }
+    ensures answer { AnswersBy (put_asked asked.0 asked.1 (value_of word.now)) result
+        store.old store.new }
+{
+    let (alt, key) = asked;
+    match plain(word) {
+        Some(value) => reply_to_value(&alt, key, value, store),
+        None => reply_to_escaped(&alt, key, word, store),
+    }
+}
+
+/// Puts the value that a word spells by other bytes than its own.
+#[inline(never)]
+fn reply_to_escaped<D: Disk>(alt: &Name, key: Key, word: &[u8], store: &mut Store<D>) -> Reply
+    ensures goes { GrowsOn ⊥ store.old store.new }
+    ensures last { has_failed store.old ≡ false → ends_talk result ≡ has_failed store.new }
+    ensures failing { FailsByDevice store.old store.new }
+    ensures left { has_failed store.old ≡ true → store.new ≡ store.old }
+    ensures answer { AnswersBy (put_asked alt.now key (value_of word.now)) result
+        store.old store.new }
+{
+    match value(word) {
+        Some(value) => reply_to_value(alt, key, value.as_bytes(), store),
+        None => Reply::BadLine,
+    }
+}
+
+/// Puts a value. Where the device failed in it, the store carries out nothing more.
+fn reply_to_value<D: Disk>(alt: &Name, key: Key, value: &[u8], store: &mut Store<D>) -> Reply
+    requires short { length value.now ≤ longest }
+    ensures goes { GrowsOn ⊥ store.old store.new }
+    ensures last { has_failed store.old ≡ false → ends_talk result ≡ has_failed store.new }
+    ensures failing { FailsByDevice store.old store.new }
+    ensures left { has_failed store.old ≡ true → store.new ≡ store.old }
+    ensures answer { AnswersBy (Request.Command (Put alt.now key value.now)) result
+        store.old store.new }
+{
+    answered(store.put(alt, key, value))
 }
 
 /// Carries out any other line, of which the first word and those behind it are given.

@@ -1,5 +1,6 @@
 //! The lines of lists.
 ghost use Rattle.std.specs.Prelude.{◌≡◌, ◌+◌, ◌<◌, ◌≤◌, ◌++◌, [], length, map, slice_index_or, option_copied, IfSome};
+ghost use Rattle.vm_types.specs.Bytes.{longest};
 ghost use Rattle.vm_cli.specs.Listings.{alternative_text, change_text, checkpoint_text, conflict_text, key_words, optional_text, record_text};
 
 use crate::answers::text::Text;
@@ -20,7 +21,7 @@ pub trait Listing {
     /// Writes the line at i.
     fn push_line(&self, i: usize, text: &mut Text)
         requires within { i < length (lines self.now) }
-        requires room { length text.old + 2304 ≤ 65536 }
+        requires room { length text.old + 36096 ≤ 65536 }
         ensures { text.new ≡ text.old ++ slice_index_or (lines self.now) i [] };
 }
 
@@ -90,7 +91,7 @@ pub trait Listed {
 
     /// Writes its line.
     fn push_onto(&self, text: &mut Text)
-        requires { length text.old + 2304 ≤ 65536 }
+        requires { length text.old + 36096 ≤ 65536 }
         ensures { text.new ≡ text.old ++ line self.now };
 }
 
@@ -112,8 +113,8 @@ impl Listed for Name {
 
 /// Writes the line of a record.
 fn push_record(text: &mut Text, key: Key, value: &[u8])
-    requires room { length text.old + 1024 ≤ 65536 }
-    requires short { length value.now ≤ 240 }
+    requires room { length text.old + 12288 ≤ 65536 }
+    requires short { length value.now ≤ longest }
     ensures { text.new ≡ text.old ++ record_text key value.now }
 {
     text.push_bytes(b"record ");
@@ -149,9 +150,9 @@ fn push_checkpoint(text: &mut Text, name: &Name)
 
 /// Writes the line of a change.
 fn push_change(text: &mut Text, key: Key, before: Option<&[u8]>, after: Option<&[u8]>)
-    requires room { length text.old + 2304 ≤ 65536 }
-    requires before { IfSome before (λ value. length value.now ≤ 240) }
-    requires after { IfSome after (λ value. length value.now ≤ 240) }
+    requires room { length text.old + 36096 ≤ 65536 }
+    requires before { IfSome before (λ value. length value.now ≤ longest) }
+    requires after { IfSome after (λ value. length value.now ≤ longest) }
     ensures { text.new ≡ text.old ++ change_text (record {
       key = key;
       before = option_copied before.entry;
@@ -174,10 +175,10 @@ fn push_conflict(
     parent: Option<&[u8]>,
     mine: Option<&[u8]>,
 )
-    requires room { length text.old + 2304 ≤ 65536 }
-    requires base { IfSome base (λ value. length value.now ≤ 240) }
-    requires parent { IfSome parent (λ value. length value.now ≤ 240) }
-    requires mine { IfSome mine (λ value. length value.now ≤ 240) }
+    requires room { length text.old + 36096 ≤ 65536 }
+    requires base { IfSome base (λ value. length value.now ≤ longest) }
+    requires parent { IfSome parent (λ value. length value.now ≤ longest) }
+    requires mine { IfSome mine (λ value. length value.now ≤ longest) }
     ensures { text.new ≡ text.old ++ conflict_text (record {
       key = key;
       base = option_copied base.entry;
@@ -209,10 +210,10 @@ fn push_key(text: &mut Text, key: Key)
 
 /// Writes a value, or `~` for absence.
 fn push_optional(text: &mut Text, value: Option<&[u8]>)
-    requires room { length text.old + 720 ≤ 65536 }
-    requires short { IfSome value (λ bytes. length bytes.now ≤ 240) }
+    requires room { length text.old + 12000 ≤ 65536 }
+    requires short { IfSome value (λ bytes. length bytes.now ≤ longest) }
     ensures written { text.new ≡ text.old ++ optional_text (option_copied value.entry) }
-    ensures short { length text.new ≤ length text.old + 720 }
+    ensures short { length text.new ≤ length text.old + 12000 }
 {
     match value {
         Some(value) => escape::push_spelled(text, value),

@@ -11,7 +11,7 @@ use std::io::Write;
 use vm_types::Refusal;
 
 /// No line of an answer has more bytes.
-const LONGEST_LINE: usize = 2304;
+const LONGEST_LINE: usize = 36_096;
 
 /// Answers a query for a list with its lines, or with why there is none. The text takes the lines but
 /// for the last, and what doesn't fit is written; the last line of the answer is given back.
@@ -53,7 +53,7 @@ fn write_list<L: Listing, W: Write>(
 
 /// Makes room for one more line, and writes what there is where that is too much.
 fn make_room<W: Write>(text: &mut Text, writer: &mut W) -> Result<(), WriteFault>
-    ensures room { OnOk result (length text.new + 2304 ≤ 65536) }
+    ensures room { OnOk result (length text.new + 36096 ≤ 65536) }
     ensures ok { OnOk result (GainsBut W.contents text.new text.old writer.old writer.new) }
     ensures err { OnErr result (Begins W.contents text.old writer.old writer.new) }
 {

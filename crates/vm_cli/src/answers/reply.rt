@@ -99,15 +99,16 @@ impl Reply {
 }
 
 ghost use Rattle.std.specs.Prelude.{◌∷◌, [], codes, option_copied, IfSome};
+ghost use Rattle.vm_types.specs.Bytes.{longest};
 ghost use Rattle.vm_types.specs.Texts.{detail_text, key_text, refusal_text};
 ghost use Rattle.vm_cli.specs.Replies.{found_text};
 
 /// Writes the line of a record's value, or that there is none.
 pub fn push_found(text: &mut Text, found: Option<&[u8]>)
-    requires room { length text.old + 727 ≤ 65536 }
-    requires small { IfSome found (λ value. length value.now ≤ 240) }
+    requires room { length text.old + 12007 ≤ 65536 }
+    requires small { IfSome found (λ value. length value.now ≤ longest) }
     ensures written { text.new ≡ text.old ++ found_text (option_copied found.entry) }
-    ensures short { length text.new ≤ length text.old + 727 }
+    ensures short { length text.new ≤ length text.old + 12007 }
 {
     match found {
         None => text.push_bytes(b"none\n"),

@@ -1,5 +1,6 @@
 //! Values as they are written in lines.
-ghost use Rattle.std.specs.Prelude.{◌≡◌, ◌+◌, ◌<◌, ◌≤◌, ◌++◌, ◌∷◌, length, MatchOption, None, Some, option_map, true};
+ghost use Rattle.std.specs.Prelude.{◌≡◌, ◌+◌, ◌<◌, ◌≤◌, ◌++◌, ◌∷◌, length, IfSome, MatchOption, None, Some, option_map, true};
+ghost use Rattle.vm_types.specs.Bytes.{longest};
 ghost use Rattle.vm_cli.specs.Escapes.{ArePlain, SpellsFirst, byte_text, hex_digit, hex_text, is_plain as is_plain_byte, unescaped, value_of, value_text};
 
 use crate::answers::text::Text;
@@ -30,6 +31,20 @@ pub fn value(word: &[u8]) -> Option<Value>
         rest = after;
     }
     Value::new(&bytes[..len])
+}
+
+/// The bytes of a word that are the value which it spells: None, where others are, or none.
+pub fn plain(word: &[u8]) -> Option<&[u8]>
+    ensures { IfSome result (λ bytes. (length bytes.now ≤ longest)
+        × (value_of word.now ≡ Some bytes.now)) }
+{
+    if word == b"-".as_slice() {
+        return None;
+    }
+    if memchr(b'%', word).is_some() || word.len() > Value::MAX_LEN {
+        return None;
+    }
+    Some(word)
 }
 
 /// The first byte that a word spells, and what stands after it.
@@ -65,10 +80,10 @@ fn hex(digit: u8) -> Option<u8>
 /// Writes the bytes of a value: none as `-`, each byte from 0x21 to 0x7D but `%` as itself, each
 /// other byte as `%` and two upper case hexadecimal digits, and so the value `-`.
 pub fn push_spelled(text: &mut Text, bytes: &[u8])
-    requires room { length text.old + 720 ≤ 65536 }
-    requires short { length bytes.now ≤ 240 }
+    requires room { length text.old + 12000 ≤ 65536 }
+    requires short { length bytes.now ≤ longest }
     ensures written { text.new ≡ text.old ++ value_text bytes.now }
-    ensures size { length text.new ≤ length text.old + 720 }
+    ensures size { length text.new ≤ length text.old + 12000 }
     ensures read_again { value_of (value_text bytes.now) ≡ Some bytes.now }
 {
     if bytes.is_empty() {

@@ -30,7 +30,9 @@ pub enum Request {
     Bad,
 }
 
-ghost use Rattle.std.specs.Prelude.{◌≡◌, ◌∷◌, [], ℕ, List, codes, IfOk, MatchOption, OnErr};
+ghost use Rattle.std.specs.Prelude.{◌≡◌, ◌∷◌, [], ℕ, List, None, codes, option_map, IfOk, MatchOption, OnErr};
+ghost use Rattle.vm_types.specs.declared.command.Command.TheVariants.{Put};
+ghost use Rattle.vm_cli.specs.Escapes.{value_of};
 ghost use Rattle.vm_cli.specs.Requests.{IsLongMerge, asked_by, command_of, grow_of, merge_of, name_of, named_of, names_of, new_of, put_of, query_of, record_of, request_of};
 ghost use Rattle.vm_cli.specs.Spaces.{HasWord, words_of};
 
@@ -160,18 +162,41 @@ fn query(verb: &[u8], rest: &[u8]) -> Option<Request>
 }
 
 /// `put ALT TABLE NUMBER VALUE`
-pub fn put(rest: &[u8]) -> Option<Command>
+fn put(rest: &[u8]) -> Option<Command>
     ensures { result ≡ put_of (words_of rest.now) }
 {
-    let (alt, rest) = first_word(rest)?;
-    let (table, rest) = first_word(rest)?;
-    let (number, rest) = first_word(rest)?;
-    let (value, rest) = first_word(rest)?;
-    ends(rest)?;
-    let alt = name(alt)?;
-    let key = key(table, number)?;
-    let value = escape::value(value)?;
+    let (record, word) = put_words(rest);
+    let (alt, key) = record?;
+    let value = escape::value(word)?;
     Some(Command::Put { alt, key, value })
+}
+
+/// The record of which a put speaks, and the word that spells its value. No record, where the words
+/// say none, or are too few or too many.
+pub fn put_words(rest: &[u8]) -> (Option<(Name, Key)>, &[u8])
+    ensures { MatchOption result.0 (put_of (words_of rest.now) ≡ None) (λ p. put_of (words_of rest.now)
+        ≡ option_map (λ value. Put p.0 p.1 value) (value_of result.1.now)) }
+{
+    let none = (None, rest);
+    let Some((alt, rest)) = first_word(rest) else {
+        return none;
+    };
+    let Some((table, rest)) = first_word(rest) else {
+        return none;
+    };
+    let Some((number, rest)) = first_word(rest) else {
+        return none;
+    };
+    let Some((word, rest)) = first_word(rest) else {
+        return none;
+    };
+    if first_word(rest).is_some() {
+        return none;
+    }
+    let (Some(alt), Some(key)) = (name(alt), key(table, number)) else {
+        return none;
+    };
+    (Some((alt, key)), word)
 }
 
 /// `new NAME PARENT`, or `new NAME PARENT CHECKPOINT`

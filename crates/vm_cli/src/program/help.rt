@@ -5,7 +5,7 @@
 /// the toolchain that it is proved and built with.
 pub const VERSION: &str = "\
 0.1.0
-file format 1
+file format 2
 proved with rattle-kit-13f logic dac8208d650f15bf";
 
 /// What the program is.
@@ -65,10 +65,11 @@ larger, and no line makes it smaller. How many blocks a store needs:
 
   - 34 blocks are the store's own.
   - A block holds at most 16 records, and 9 to 11 as they usually come: a
-    million records take 90,000 to 112,000 blocks.
+    million records take 90,000 to 112,000 blocks. A value of more than 240
+    bytes takes one more.
   - Versions share what they have in common: a changed record takes the blocks
     of one path through its tree, from one to eight.
-  - Keep a tenth of the blocks spare. Where fewer than 16 are, each change is
+  - Keep a tenth of the blocks spare. Where fewer than 17 are, each change is
     refused: error 13 Full.
 
 docs/OPERATING.md says more.
@@ -225,7 +226,7 @@ their lines ~ stands for no value or no parent.
 
 The first alternative is top. A name, ALT and PARENT too, has 1 to 32 ASCII
 letters, digits, _, - and . in it. TABLE is a number from 0 to 65535, NUMBER one
-from 0 to 18446744073709551615. A VALUE has up to 240 bytes; % and two
+from 0 to 18446744073709551615. A VALUE has up to 4,000 bytes; % and two
 hexadecimal digits are one byte, as in cable%20A, and - is the empty value. A
 merge has a SETTLEMENT for each record in conflict, TABLE:NUMBER=mine or
 TABLE:NUMBER=theirs. A line that is empty or begins with # has no answer.

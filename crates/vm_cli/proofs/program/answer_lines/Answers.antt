@@ -2,6 +2,7 @@ use Rattle.std.proofs.Common.{inl, refl, subst, sym}
 use Rattle.vm_types.specs.State.{opened}
 use Rattle.vm_store.specs.Growing.{Grows}
 use Rattle.vm_store.specs.Shown.{new_store}
+use Rattle.vm_store.specs.Store.{disk_of}
 use Rattle.vm_cli.proofs.PassLemmas.{goes_any}
 use Rattle.vm_cli.proofs.SessionLemmas.{may_end, session_kept}
 use Rattle.vm_cli.proofs.program.answer_lines.Goals as goal
@@ -18,7 +19,7 @@ returns-in-Ok-clause-served g c =
       last = last;
       served = c.serve-served.result;
       found = goes_any _ _ _ c.in-Ok.ensures.any;
-      goes = subst (λ d. Grows ⊥ (g.D.Disk.state first.disk) (g.D.Disk.state d)) (sym given) goes;
+      goes = subst (λ d. Grows ⊥ (g.D.Disk.state (disk_of first)) (g.D.Disk.state d)) (sym given) goes;
       well = c.in-Ok.ensures.well;
       opens = λ honest. c.in-Ok.ensures.opened honest;
       serves = c.serve-served.ensures.answers;

@@ -1,4 +1,5 @@
 use Rattle.std.proofs.Common.{[], ◌≡◌, ◌<◌, false, codes, arith, rules, sym}
+use Rattle.vm_types.specs.Bytes.{longest}
 use Rattle.std.specs.Str.{bytes_eq}
 use Rattle.vm_cli.proofs.Escapes.{spelled-long, spelled-next, spelled-start, value_of-none, value_of-plain}
 use Rattle.vm_cli.proofs.lines.escape.value.Goals as goal
@@ -22,7 +23,7 @@ returns-then-len-eq-MAX_LEN c =
 pub loop-rest-preserved : goal.loop-rest-preserved
 loop-rest-preserved c =
     let held = c.loop-rest.invariant.held in
-    let room : c.loop-rest.len < 240 = search rules in
+    let room : c.loop-rest.len < longest = search rules in
     record {
       spelled = spelled-next c.args.word.now c.loop-rest.rest.now c.in_ok-byte.after.now c.loop-rest.bytes c.loop-rest.len c.in_ok-byte.byte (omega arith)
           c.loop-rest.invariant.spelled c.in_ok-byte.ensures.0;

@@ -1,4 +1,5 @@
 use Rattle.std.proofs.Common.{◌≡◌, ◌++◌, ◌≤◌, length, take, option_map}
+use Rattle.vm_types.specs.Bytes.{longest}
 use Rattle.vm_cli.specs.Escapes.{unescaped}
 use Rattle.vm_cli.proofs.lines.escape.value.Given as goal
 
@@ -6,8 +7,8 @@ use Rattle.vm_cli.proofs.lines.escape.value.Given as goal
 abbrev pub invariant-loop-rest : goal.invariant-loop-rest
 invariant-loop-rest l = record {
   spelled : unescaped l.fn.word ≡ option_map (λ more. take l.len l.bytes ++ more) (unescaped l.rest);
-  room : l.len ≤ 240;
-  held : length l.bytes ≡ 240;
+  room : l.len ≤ longest;
+  held : length l.bytes ≡ longest;
 }
 
 abbrev pub decreases-loop-rest : goal.decreases-loop-rest
