@@ -1,17 +1,19 @@
 //! How long a leaf takes to write and to read.
+ghost use Rattle.vm_block.specs.Changed.{AreStored};
+
 use byteorder::{ByteOrder, LittleEndian};
 use std::io;
 use std::time::{Clock, Instant};
-use vm_block::{read_leaf, write_leaf};
-use vm_types::{Key, Value};
+use vm_block::{Stored, read_leaf, write_leaf};
+use vm_types::Key;
 
 const TIMES: u64 = 100_000;
 
-/// The sixteen records of a leaf, where nothing is looked at but their own bytes.
+/// The sixteen rows of a leaf of short values, where nothing is looked at but their own bytes.
 #[inline(never)]
-fn decode(block: &[u8; 4096]) -> [(Key, Value); 16] {
-    let mut records = [(Key::default(), Value::default()); 16];
-    for (i, record) in records.iter_mut().enumerate() {
+fn decode(block: &[u8; 4096]) -> [(Key, Stored<'_>); 16] {
+    let mut rows = [(Key::default(), Stored::default()); 16];
+    for i in 0..16 {
         let bytes = &block[16 + 252 * i..268 + 252 * i];
         let key = Key {
             table: LittleEndian::read_u16(bytes),
@@ -19,34 +21,62 @@ fn decode(block: &[u8; 4096]) -> [(Key, Value); 16] {
         };
         let len = LittleEndian::read_u16(&bytes[10..]) as usize;
         let end = (12 + len).min(252);
-        *record = (key, Value::new(&bytes[12..end]).unwrap_or_default());
+        rows[i] = (key, Stored::Short(&bytes[12..end]));
     }
-    records
+    rows
 }
 
-/// Looks at each record, so that it has to be made.
-fn sum_of(records: &[(Key, Value)]) -> u64 {
+fn key(number: u64) -> Key {
+    Key { table: 1, number }
+}
+
+/// The sixteen rows of a leaf, each with this value.
+fn rows_of(value: &[u8; 240]) -> [(Key, Stored<'_>); 16]
+    ensures { AreStored result }
+{
+    let short = Stored::Short(value);
+    [
+        (key(0), short),
+        (key(1), short),
+        (key(2), short),
+        (key(3), short),
+        (key(4), short),
+        (key(5), short),
+        (key(6), short),
+        (key(7), short),
+        (key(8), short),
+        (key(9), short),
+        (key(10), short),
+        (key(11), short),
+        (key(12), short),
+        (key(13), short),
+        (key(14), short),
+        (key(15), short),
+    ]
+}
+
+/// Looks at each row, so that it has to be made.
+fn sum_of(rows: &[(Key, Stored<'_>)]) -> u64 {
     let mut sum: u64 = 0;
-    for (key, value) in records {
+    for (key, stored) in rows {
         sum = sum.wrapping_add(key.number);
-        sum = sum.wrapping_add(value.as_bytes().len() as u64);
+        let len = match stored {
+            Stored::Short(value) => value.len() as u64,
+            Stored::Long(link) => u64::from(link.len),
+        };
+        sum = sum.wrapping_add(len);
     }
     sum
 }
 
-/// Writes a leaf of 16 records, reads it, and decodes it without a look at its form, many times.
+/// Writes a leaf of 16 rows, reads it, and decodes it without a look at its form, many times.
 pub(super) fn measure<R: Print + Clock>(rt: &R) -> io::Result<()> {
-    let value = Value::new(&[7; 240]).unwrap_or_default();
-    let mut records = [(Key::default(), value); 16];
-    let mut number = 0;
-    for record in records.iter_mut() {
-        record.0 = Key { table: 1, number };
-        number = number.wrapping_add(1);
-    }
+    let value = [7; 240];
+    let rows = rows_of(&value);
     let mut block = [0; 4096];
     let start = Instant::now(rt)?;
     for _ in 0..TIMES {
-        write_leaf(&records, &mut block);
+        write_leaf(&rows, &mut block);
     }
     let written = start.elapsed(rt)?;
     println!(rt; "write_leaf: {} ns for {TIMES}", written.as_nanos())?;
@@ -54,8 +84,8 @@ pub(super) fn measure<R: Print + Clock>(rt: &R) -> io::Result<()> {
     let mut read: u64 = 0;
     let start = Instant::now(rt)?;
     for _ in 0..TIMES {
-        if let Some(records) = read_leaf(&block) {
-            read = read.wrapping_add(sum_of(records.as_slice()));
+        if let Some(rows) = read_leaf(&block) {
+            read = read.wrapping_add(sum_of(rows.as_slice()));
         }
     }
     let spent = start.elapsed(rt)?;

@@ -1,9 +1,11 @@
 //! How long changes of one large tree take, and how long its records take to read.
-use std::alloc::Global;
+ghost use Rattle.std.specs.Prelude.{◌≤◌};
+
+use std::alloc::{AllocError, Global};
 use std::io;
 use std::time::{Clock, Instant};
 use vm_alloc::{Held, Marks};
-use vm_check::mark;
+use vm_check::{NotedDisk, mark};
 use vm_disk::{Disk, MemDisk};
 use vm_tree::{Root, TreeFault, get, put};
 use vm_types::{Key, Value};
@@ -48,7 +50,7 @@ fn mixed(n: u64) -> u64 {
 /// A tree on a disk in memory.
 #[derive(Drop)]
 struct Plot {
-    disk: MemDisk,
+    disk: NotedDisk<MemDisk>,
     held: Held,
     marks: Marks,
     root: Root,
@@ -56,11 +58,16 @@ struct Plot {
 }
 
 impl Plot {
-    fn new(alloc: Global) -> io::Result<Plot> {
+    fn new(alloc: Global, blocks: u32) -> Result<Plot, AllocError>
+        requires enough { 64 ≤ blocks }
+        requires few { blocks ≤ 1048576 }
+    {
+        let mut disk = NotedDisk::new(MemDisk::new(alloc, blocks)?);
+        disk.reserve(alloc, blocks)?;
         Ok(Plot {
-            disk: MemDisk::new(alloc, BLOCKS)?,
-            held: Held::new(alloc, BLOCKS)?,
-            marks: Marks::new(alloc, BLOCKS)?,
+            disk,
+            held: Held::new(alloc, blocks)?,
+            marks: Marks::new(alloc, blocks)?,
             root: Root::default(),
             markings: 0,
         })
@@ -86,13 +93,13 @@ impl Plot {
         if self.held.free_count() < 16 || self.held.blocks() > self.disk.blocks() {
             return Err(TreeFault::Memory);
         }
-        self.root = put::<MemDisk, 16, 256, 8>(
+        self.root = put::<NotedDisk<MemDisk>, 16, 256, 8>(
             &mut self.disk,
             &mut self.held,
             self.root,
             key,
-            value,
-            &mut [0; 8],
+            value.as_bytes(),
+            &mut [0; 9],
         )?;
         Ok(())
     }
@@ -107,7 +114,7 @@ impl Plot {
 
 /// Puts records into an empty tree, and gets each of them.
 fn measure_order<R: Print + Clock>(rt: &R, alloc: Global, order: Order) -> io::Result<()> {
-    let mut plot = Plot::new(alloc)?;
+    let mut plot = Plot::new(alloc, BLOCKS)?;
     let value = Value::new(&[7; 16]).unwrap_or_default();
     let name = order.name();
 

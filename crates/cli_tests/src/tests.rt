@@ -8,6 +8,7 @@ mod flushes;
 mod growing;
 mod help;
 mod lines;
+mod long_values;
 mod trees;
 
 use std::alloc::Global;

@@ -3,12 +3,14 @@ ghost use Rattle.std.specs.Prelude.{◌≡◌, [], ◌∷◌, ◌++◌, length, 
 ghost use Rattle.std.specs.Option.{option_eq};
 ghost use Rattle.vm_types.specs.Firsts.{IsFirst, without_first};
 ghost use Rattle.vm_types.specs.Map.{get, with_value, without, same_map, delta, conflicts, merge};
-ghost use Rattle.vm_types.specs.Shape.{saved_names};
+ghost use Rattle.vm_types.specs.Shape.{saved_names, shape};
 ghost use Rattle.vm_types.specs.Step.{new_alternative};
 ghost use Rattle.vm_types.specs.Tree.{saved_as};
 ghost use Rattle.vm_types.specs.Outcomes.{gone_back};
 
-use crate::{comparing, map};
+use crate::comparing;
+use crate::held::Held;
+use crate::map::{self, Map};
 use std::alloc::{AllocError, Global};
 use std::marker::Model;
 use vm_types::{Change, Conflict, Key, Name, Side, Value};
@@ -17,8 +19,8 @@ use vm_types::{Change, Conflict, Key, Name, Side, Value};
 #[derive(Drop)]
 pub struct Saved {
     name: Name,
-    current: Vec<(Key, Value)>,
-    base: Vec<(Key, Value)>,
+    current: Map,
+    base: Map,
 }
 
 impl Model for Saved {
@@ -34,8 +36,8 @@ impl Model for Saved {
 pub struct Alternative {
     name: Name,
     parent: Option<Name>,
-    current: Vec<(Key, Value)>,
-    base: Vec<(Key, Value)>,
+    current: Map,
+    base: Map,
     saved: Vec<Saved>,
 }
 
@@ -59,8 +61,8 @@ impl Saved {
     {
         Ok(Saved {
             name: self.name,
-            current: Vec::from_slice(alloc, &self.current)?,
-            base: Vec::from_slice(alloc, &self.base)?,
+            current: map::copy(alloc, &self.current)?,
+            base: map::copy(alloc, &self.base)?,
         })
     }
 }
@@ -133,15 +135,15 @@ impl Alternative {
         &self,
         alloc: Global,
         name: &Name,
-        records: &[(Key, Value)],
+        records: &[(Key, Held)],
     ) -> Result<Alternative, AllocError>
         ensures { IfOk result (λ child. child ≡ new_alternative name.now self.now records.now) }
     {
         Ok(Alternative {
             name: *name,
             parent: Some(self.name),
-            current: Vec::from_slice(alloc, records)?,
-            base: Vec::from_slice(alloc, records)?,
+            current: map::copy(alloc, records)?,
+            base: map::copy(alloc, records)?,
             saved: Vec::new(alloc),
         })
     }
@@ -153,8 +155,8 @@ impl Alternative {
         Ok(Alternative {
             name: self.name,
             parent: self.parent,
-            current: Vec::from_slice(alloc, &self.current)?,
-            base: Vec::from_slice(alloc, &self.base)?,
+            current: map::copy(alloc, &self.current)?,
+            base: map::copy(alloc, &self.base)?,
             saved: copy_saved(alloc, &self.saved)?,
         })
     }
@@ -199,7 +201,7 @@ impl Alternative {
         ensures ok { OnOk result (self.new ≡ record self.old { current = with_value self.old.current key value.now }) }
         ensures err { OnErr result (self.new ≡ self.old) }
     {
-        self.current = map::with_value(alloc, &self.current, key, value)?;
+        self.current = map::with_value(alloc, &self.current, key, value.as_bytes())?;
         Ok(())
     }
 
@@ -213,17 +215,24 @@ impl Alternative {
     }
 
     /// A copy of what it shows.
-    pub(super) fn records(&self, alloc: Global) -> Result<Vec<(Key, Value)>, AllocError>
+    pub(super) fn records(&self, alloc: Global) -> Result<Map, AllocError>
         ensures { IfOk result (λ copy. copy.items ≡ self.now.current) }
     {
-        Vec::from_slice(alloc, &self.current)
+        map::copy(alloc, &self.current)
+    }
+
+    /// The same, each value in the place of the greatest one.
+    pub(super) fn values(&self, alloc: Global) -> Result<Vec<(Key, Value)>, AllocError>
+        ensures { IfOk result (λ records. records.items ≡ self.now.current) }
+    {
+        map::values(alloc, &self.current)
     }
 
     /// What changed since its base, by rising keys.
     pub(super) fn changes(&self, alloc: Global) -> Result<Vec<Change>, AllocError>
         ensures { IfOk result (λ list. list.items ≡ delta self.now.base self.now.current) }
     {
-        comparing::changes(alloc, &self.base, &self.current)
+        comparing::changes_between(alloc, &self.base, &self.current)
     }
 
     /// Where it is in conflict with its parent, by rising keys.
@@ -250,7 +259,7 @@ impl Alternative {
         alloc: Global,
         parent: &Alternative,
         settled: &[(Key, Side)],
-    ) -> Result<Vec<(Key, Value)>, AllocError>
+    ) -> Result<Map, AllocError>
         ensures { IfOk result (λ merged. merged.items ≡ merge self.now.base parent.now.current self.now.current settled.now) }
     {
         comparing::merge(alloc, &self.base, &parent.current, &self.current, settled)
@@ -261,16 +270,16 @@ impl Alternative {
     pub(super) fn change_count(
         &self,
         alloc: Global,
-        records: &[(Key, Value)],
+        records: &[(Key, Held)],
     ) -> Result<u32, AllocError>
         ensures { IfOk result (λ count. count ≡ length (delta self.now.current records.now)) }
     {
-        let changes = comparing::changes(alloc, &self.current, records)?;
+        let changes = comparing::changes_between(alloc, &self.current, records)?;
         u32::try_from(changes.len()).map_err(|_| AllocError)
     }
 
     /// Shows these records from now on, and has these as its base.
-    pub(super) fn rebase(&mut self, current: Vec<(Key, Value)>, base: Vec<(Key, Value)>)
+    pub(super) fn rebase(&mut self, current: Map, base: Map)
         ensures { self.new ≡ record self.old { current = current.items; base = base.items } }
     {
         self.set_current(current);
@@ -278,14 +287,14 @@ impl Alternative {
     }
 
     /// Shows these records from now on.
-    pub(super) fn set_current(&mut self, records: Vec<(Key, Value)>)
+    pub(super) fn set_current(&mut self, records: Map)
         ensures { self.new ≡ record self.old { current = records.items } }
     {
         self.current = records;
     }
 
     /// Has these as its base from now on.
-    pub(super) fn set_base(&mut self, records: Vec<(Key, Value)>)
+    pub(super) fn set_base(&mut self, records: Map)
         ensures { self.new ≡ record self.old { base = records.items } }
     {
         self.base = records;
@@ -319,8 +328,8 @@ impl Alternative {
     {
         let checkpoint = Saved {
             name: *name,
-            current: Vec::from_slice(alloc, &self.current)?,
-            base: Vec::from_slice(alloc, &self.base)?,
+            current: map::copy(alloc, &self.current)?,
+            base: map::copy(alloc, &self.base)?,
         };
         self.saved.push(checkpoint)?;
         Ok(())
@@ -343,8 +352,8 @@ impl Alternative {
         let Some(i) = position_of(&self.saved, name) else {
             return Ok(());
         };
-        let current = Vec::from_slice(alloc, &self.saved[i].current)?;
-        let base = Vec::from_slice(alloc, &self.saved[i].base)?;
+        let current = map::copy(alloc, &self.saved[i].current)?;
+        let base = map::copy(alloc, &self.saved[i].base)?;
         self.current = current;
         self.base = base;
         Ok(())
@@ -360,4 +369,18 @@ pub(super) fn copy_tree(alloc: Global, tree: &[Alternative]) -> Result<Vec<Alter
         copy.push(alternative.copy(alloc)?)?;
     }
     Ok(copy)
+}
+
+/// The alternatives of a tree with their parents, in order of creation.
+pub(super) fn tree_labels(
+    alloc: Global,
+    tree: &[Alternative],
+) -> Result<Vec<(Name, Option<Name>)>, AllocError>
+    ensures { IfOk result (λ labels. labels.items ≡ shape tree.now) }
+{
+    let mut labels = Vec::new(alloc);
+    for alternative in tree {
+        labels.push(alternative.labels())?;
+    }
+    Ok(labels)
 }

@@ -1,35 +1,21 @@
 //! Where maps differ, and how three are merged.
 ghost use Rattle.std.specs.Prelude.{◌≡◌, IfOk};
-ghost use Rattle.vm_types.specs.Map.{over, same_map, change_at, delta, three, conflict_at, conflicts, side_of, merged_at, merge};
+ghost use Rattle.vm_types.specs.Map.{same_map, change_at, delta, three, conflict_at, conflicts, side_of, merged_at, merge};
 
-use crate::map;
+use crate::held::Held;
+use crate::map::{self, Map};
 use std::alloc::{AllocError, Global};
 use std::cmp::Ordering;
 use vm_types::{Change, Conflict, Key, Side, Value};
 
 /// Whether two maps are equal.
-pub(super) fn same(m: &[(Key, Value)], n: &[(Key, Value)]) -> bool
+pub(super) fn same(m: &[(Key, Held)], n: &[(Key, Held)]) -> bool
     ensures { result ≡ same_map m.now n.now }
 {
     m == n
 }
 
-/// The second map with the records of the first put into it.
-fn over(
-    alloc: Global,
-    m: &[(Key, Value)],
-    n: &[(Key, Value)],
-) -> Result<Vec<(Key, Value)>, AllocError>
-    ensures { IfOk result (λ all. all.items ≡ over m.now n.now) }
-{
-    let mut all = Vec::from_slice(alloc, n)?;
-    for (key, value) in m {
-        all = map::with_value(alloc, &all, *key, value)?;
-    }
-    Ok(all)
-}
-
-fn change_at(m: &[(Key, Value)], n: &[(Key, Value)], key: Key) -> Option<Change>
+fn change_at(m: &[(Key, Held)], n: &[(Key, Held)], key: Key) -> Option<Change>
     ensures { result ≡ change_at m.now n.now key }
 {
     let (before, after) = (map::get(m, key), map::get(n, key));
@@ -48,7 +34,19 @@ pub fn changes(
 ) -> Result<Vec<Change>, AllocError>
     ensures { IfOk result (λ list. list.items ≡ delta m.now n.now) }
 {
-    let all = over(alloc, m, n)?;
+    let (m, n) = (map::of_values(alloc, m)?, map::of_values(alloc, n)?);
+    changes_between(alloc, &m, &n)
+}
+
+/// The same of maps.
+pub(super) fn changes_between(
+    alloc: Global,
+    m: &[(Key, Held)],
+    n: &[(Key, Held)],
+) -> Result<Vec<Change>, AllocError>
+    ensures { IfOk result (λ list. list.items ≡ delta m.now n.now) }
+{
+    let all = map::over(alloc, m, n)?;
     all.iter()
         .map(|record| record.0)
         .filter_map(|key| change_at(m, n, key))
@@ -75,9 +73,9 @@ fn three_way(
 }
 
 fn conflict_at(
-    base: &[(Key, Value)],
-    parent: &[(Key, Value)],
-    mine: &[(Key, Value)],
+    base: &[(Key, Held)],
+    parent: &[(Key, Held)],
+    mine: &[(Key, Held)],
     key: Key,
 ) -> Option<Conflict>
     ensures { result ≡ conflict_at base.now parent.now mine.now key }
@@ -101,13 +99,13 @@ fn conflict_at(
 /// The keys in conflict, rising, with their three values.
 pub(super) fn conflicts(
     alloc: Global,
-    base: &[(Key, Value)],
-    parent: &[(Key, Value)],
-    mine: &[(Key, Value)],
+    base: &[(Key, Held)],
+    parent: &[(Key, Held)],
+    mine: &[(Key, Held)],
 ) -> Result<Vec<Conflict>, AllocError>
     ensures { IfOk result (λ list. list.items ≡ conflicts base.now parent.now mine.now) }
 {
-    let all = over(alloc, parent, mine)?;
+    let all = map::over(alloc, parent, mine)?;
     all.iter()
         .map(|record| record.0)
         .filter_map(|key| conflict_at(base, parent, mine, key))
@@ -128,9 +126,9 @@ pub(super) fn side_of(settled: &[(Key, Side)], key: Key) -> Option<Side>
 
 /// The value of the merge at a key, if it has one.
 fn merged_at(
-    base: &[(Key, Value)],
-    parent: &[(Key, Value)],
-    mine: &[(Key, Value)],
+    base: &[(Key, Held)],
+    parent: &[(Key, Held)],
+    mine: &[(Key, Held)],
     settled: &[(Key, Side)],
     key: Key,
 ) -> Option<Value>
@@ -148,19 +146,33 @@ fn merged_at(
     }
 }
 
-/// The merge of three maps, with conflicts settled so.
-pub(super) fn merge(
+/// The records of the merge of three maps, with conflicts settled so.
+fn merged_records(
     alloc: Global,
-    base: &[(Key, Value)],
-    parent: &[(Key, Value)],
-    mine: &[(Key, Value)],
+    base: &[(Key, Held)],
+    parent: &[(Key, Held)],
+    mine: &[(Key, Held)],
     settled: &[(Key, Side)],
 ) -> Result<Vec<(Key, Value)>, AllocError>
     ensures { IfOk result (λ merged. merged.items ≡ merge base.now parent.now mine.now settled.now) }
 {
-    let all = over(alloc, parent, mine)?;
+    let all = map::over(alloc, parent, mine)?;
     all.iter()
         .map(|record| record.0)
         .filter_map(|key| merged_at(base, parent, mine, settled, key).map(|value| (key, value)))
         .collect(alloc)
+}
+
+/// The merge of three maps, with conflicts settled so.
+pub(super) fn merge(
+    alloc: Global,
+    base: &[(Key, Held)],
+    parent: &[(Key, Held)],
+    mine: &[(Key, Held)],
+    settled: &[(Key, Side)],
+) -> Result<Map, AllocError>
+    ensures { IfOk result (λ merged. merged.items ≡ merge base.now parent.now mine.now settled.now) }
+{
+    let merged = merged_records(alloc, base, parent, mine, settled)?;
+    map::of_values(alloc, &merged)
 }

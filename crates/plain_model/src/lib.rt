@@ -6,6 +6,7 @@
 
 mod alternative;
 mod comparing;
+mod held;
 mod map;
 mod plain;
 mod settling;

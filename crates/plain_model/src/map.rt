@@ -1,18 +1,56 @@
 //! Maps as records by rising keys, each change a whole new copy.
-ghost use Rattle.std.specs.Prelude.{◌≡◌, ℕ, ◌+◌, ◌<◌, ◌≤◌, ◌++◌, ◌∷◌, List, length, take, drop, insert, IfOk, IfErr, MatchResult};
-ghost use Rattle.vm_types.specs.Map.{get, with_value, without};
+ghost use Rattle.std.specs.Prelude.{◌≡◌, ℕ, ◌+◌, ◌<◌, ◌≤◌, ◌++◌, ◌∷◌, List, length, take, drop, insert, IfOk, IfErr, MatchResult, OnOk};
+ghost use Rattle.vm_types.specs.Bytes.{longest};
+ghost use Rattle.vm_types.specs.Map.{get, over, with_value, without};
 
+use crate::held::Held;
 use std::alloc::{AllocError, Global};
 use std::cmp::Ordering;
 use vm_types::{Key, Value};
 
+/// The records of a map, by rising keys.
+pub type Map = Vec<(Key, Held)>;
+
+/// The map of these records.
+pub(super) fn of_values(alloc: Global, records: &[(Key, Value)]) -> Result<Map, AllocError>
+    ensures { IfOk result (λ map. map.items ≡ records.now) }
+{
+    let mut map = Vec::new(alloc);
+    for (key, value) in records {
+        map.push((*key, Held::new(alloc, value.as_bytes())?))?;
+    }
+    Ok(map)
+}
+
+/// The records of a map, each value in the place of the greatest one.
+pub(super) fn values(alloc: Global, map: &[(Key, Held)]) -> Result<Vec<(Key, Value)>, AllocError>
+    ensures { IfOk result (λ records. records.items ≡ map.now) }
+{
+    let mut records = Vec::new(alloc);
+    for (key, held) in map {
+        records.push((*key, held.value()))?;
+    }
+    Ok(records)
+}
+
+/// The same map once more.
+pub(super) fn copy(alloc: Global, map: &[(Key, Held)]) -> Result<Map, AllocError>
+    ensures { IfOk result (λ copy. copy.items ≡ map.now) }
+{
+    let mut copy = Vec::new(alloc);
+    for (key, held) in map {
+        copy.push((*key, held.copy(alloc)?))?;
+    }
+    Ok(copy)
+}
+
 /// The value at a key, if there is one.
-pub(super) fn get(map: &[(Key, Value)], key: Key) -> Option<Value>
+pub(super) fn get(map: &[(Key, Held)], key: Key) -> Option<Value>
     ensures { result ≡ get map.now key }
 {
-    for (other, value) in map {
+    for (other, held) in map {
         if key.cmp(other) == Ordering::Equal {
-            return Some(*value);
+            return Some(held.value());
         }
     }
     None
@@ -20,7 +58,7 @@ pub(super) fn get(map: &[(Key, Value)], key: Key) -> Option<Value>
 
 /// Where a key stands among the records: Ok with the place of its record, or else Err with the place
 /// at which its record would go.
-fn place_of(map: &[(Key, Value)], key: Key) -> Result<usize, usize>
+fn place_of(map: &[(Key, Held)], key: Key) -> Result<usize, usize>
     ensures within { MatchResult result (λ i. i < length map.now) (λ i. i ≤ length map.now) }
     ensures there { (value : List ℕ) → IfOk result (λ i. with_value map.now key value ≡ take i map.now ++ (key, value) ∷ drop (i + 1) map.now) }
     ensures absent { (value : List ℕ) → IfErr result (λ i. with_value map.now key value ≡ insert map.now i (key, value)) }
@@ -35,33 +73,54 @@ fn place_of(map: &[(Key, Value)], key: Key) -> Result<usize, usize>
     Err(map.len())
 }
 
+/// Gives the key this value in a map.
+fn put(alloc: Global, map: &mut Map, key: Key, value: &[u8]) -> Result<(), AllocError>
+    requires { length value.now ≤ longest }
+    ensures { OnOk result (map.new.items ≡ with_value map.old.items key value.now) }
+{
+    let held = Held::new(alloc, value)?;
+    match place_of(map, key) {
+        Ok(i) => map[i] = (key, held),
+        Err(i) => map.insert(i, (key, held))?,
+    }
+    Ok(())
+}
+
 /// The map with this value at the key.
 pub(super) fn with_value(
     alloc: Global,
-    map: &[(Key, Value)],
+    map: &[(Key, Held)],
     key: Key,
-    value: &Value,
-) -> Result<Vec<(Key, Value)>, AllocError>
+    value: &[u8],
+) -> Result<Map, AllocError>
+    requires { length value.now ≤ longest }
     ensures { IfOk result (λ changed. changed.items ≡ with_value map.now key value.now) }
 {
-    let mut changed = Vec::from_slice(alloc, map)?;
-    match place_of(map, key) {
-        Ok(i) => changed[i] = (key, *value),
-        Err(i) => changed.insert(i, (key, *value))?,
-    }
+    let mut changed = copy(alloc, map)?;
+    put(alloc, &mut changed, key, value)?;
     Ok(changed)
 }
 
+/// The second map with the records of the first put into it.
+pub(super) fn over(alloc: Global, m: &[(Key, Held)], n: &[(Key, Held)]) -> Result<Map, AllocError>
+    ensures { IfOk result (λ all. all.items ≡ over m.now n.now) }
+{
+    let mut all = copy(alloc, n)?;
+    for (key, held) in m {
+        put(alloc, &mut all, *key, held.as_bytes())?;
+    }
+    Ok(all)
+}
+
 /// The map without the key.
-pub(super) fn without(
-    alloc: Global,
-    map: &[(Key, Value)],
-    key: Key,
-) -> Result<Vec<(Key, Value)>, AllocError>
+pub(super) fn without(alloc: Global, map: &[(Key, Held)], key: Key) -> Result<Map, AllocError>
     ensures { IfOk result (λ changed. changed.items ≡ without map.now key) }
 {
-    map.iter()
-        .copied()
-        .filter(|record| key.cmp(&record.0) != Ordering::Equal)
-        .collect(alloc)
+    let mut changed = Vec::new(alloc);
+    for (other, held) in map {
+        if key.cmp(other) != Ordering::Equal {
+            changed.push((*other, held.copy(alloc)?))?;
+        }
+    }
+    Ok(changed)
 }

@@ -180,7 +180,7 @@ impl Plain {
     {
         match steps::position_of(&self.working, alt) {
             Some(i) => self.working[i]
-                .records(self.alloc)
+                .values(self.alloc)
                 .map_err(|_| Refusal::Memory),
             None => Err(Refusal::NoSuchAlternative),
         }
@@ -190,7 +190,7 @@ impl Plain {
     pub fn alternatives(&self) -> Result<Vec<(Name, Option<Name>)>, AllocError>
         ensures { IfOk result (λ list. list.items ≡ shape self.now.working) }
     {
-        self.working.iter().map(|a| a.labels()).collect(self.alloc)
+        alternative::tree_labels(self.alloc, &self.working)
     }
 
     /// The names of an alternative's checkpoints in the working state, in order of creation.

@@ -11,6 +11,7 @@ mod formats;
 mod growing;
 mod keeping;
 mod library;
+mod long_values;
 mod longer;
 mod merging;
 mod new_at;

@@ -7,6 +7,8 @@ mod blocks;
 mod changes;
 mod damage;
 mod differences;
+mod differing;
+mod long_values;
 mod marking;
 mod paths;
 mod random;

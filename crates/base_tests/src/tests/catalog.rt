@@ -2,7 +2,7 @@
 use std::alloc::Global;
 use std::process::Abort;
 use std::test::Fail;
-use vm_block::{Entry, Kind, SlotName, write_header};
+use vm_block::{Entry, Kind, SlotFormat, SlotName, write_header};
 use vm_catalog::{
     LoadFault, MAX_ENTRIES, Slot, load, publish, select_slot, slot_in_use, write_slot,
 };
@@ -47,7 +47,7 @@ fn put<D: Disk>(disk: &mut D, in_use: SlotName, entries: &[Entry]) -> Result<(),
     if disk.blocks() < 34 || entries.len() > MAX_ENTRIES {
         return Err(DeviceFault);
     }
-    publish(disk, in_use, 64, entries)
+    publish(disk, in_use, SlotFormat::One, 64, entries)
 }
 
 fn put_alone<D: Disk>(
@@ -58,7 +58,7 @@ fn put_alone<D: Disk>(
     if disk.blocks() < 34 || entries.len() > MAX_ENTRIES {
         return Err(DeviceFault);
     }
-    write_slot(disk, slot_name, 64, entries)
+    write_slot(disk, slot_name, SlotFormat::One, 64, entries)
 }
 
 fn get<D: Disk>(alloc: Global, disk: &mut D, slot_name: SlotName) -> Result<Slot, LoadFault> {
@@ -117,6 +117,7 @@ fn stands_after(
 fn expect_loaded<R: AllocGlobal + Abort>(rt: &R, disk: &mut FuseDisk<MemDisk>, entries: &[Entry]) {
     match get(rt.alloc(), disk, SlotName::B) {
         Ok(slot) => {
+            assert_eq!(rt; slot.format, SlotFormat::One);
             assert_eq!(rt; slot.blocks, 64);
             assert_eq!(rt; slot.entries.as_slice(), entries);
             assert!(rt; slot.entries.capacity() >= 511);
@@ -203,6 +204,10 @@ fn damaged_slots_are_refused(rt: HostRuntime) -> Result<(), Fail> {
         // No entries, and one more than a slot holds.
         (&one, 2, 12, 0, false),
         (&forty, 2, 13, 2, false),
+        // Formats: 0 and 3 are none, and 2 is one.
+        (&one, 2, 4, 0, false),
+        (&one, 2, 4, 3, false),
+        (&forty, 2, 4, 2, true),
         // A byte of the head that has to be zero, and a tag that is none, in the second block.
         (&one, 2, 16, 1, false),
         (&forty, 3, 128, b'B', false),

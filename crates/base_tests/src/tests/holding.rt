@@ -81,6 +81,30 @@ fn holds_what_is_marked(rt: HostRuntime) -> Result<(), Fail> {
 }
 
 #[test]
+fn takes_a_mark_away_and_copies_marks_with_more_blocks(rt: HostRuntime) -> Result<(), Fail> {
+    let mut held = Held::new(rt.alloc(), 130)?;
+    let mut marks = Marks::new(rt.alloc(), 66)?;
+    mark_all(&rt, &mut marks, &[34, 35, 65]);
+
+    // A second time changes nothing.
+    for _ in 0..2 {
+        assert!(rt; 35 < marks.blocks());
+        marks.unset(35);
+    }
+    assert_eq!(rt; marks.blocks(), 66);
+    let mut longer = marks.extended(rt.alloc(), 130)?;
+    mark_all(&rt, &mut longer, &[129]);
+    hold(&rt, &mut held, &longer);
+
+    assert_eq!(rt; held.free_count(), 93);
+    assert!(rt; is_held(&rt, &held, 34));
+    assert!(rt; !is_held(&rt, &held, 35));
+    assert!(rt; is_held(&rt, &held, 65));
+    assert!(rt; is_held(&rt, &held, 129));
+    Ok(())
+}
+
+#[test]
 fn holds_the_most_blocks(rt: HostRuntime) -> Result<(), Fail> {
     let mut held = Held::new(rt.alloc(), 1_048_576)?;
     assert_eq!(rt; held.free_count(), 1_048_542);

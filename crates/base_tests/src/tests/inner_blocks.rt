@@ -2,7 +2,7 @@
 use super::spelled::{is_block, key};
 use std::process::Abort;
 use vm_block::{
-    Child, Way, child_at, find_child, leaf_size, lowest_key, node_size, read_leaf, read_node,
+    Child, Way, child_at, find_child, lowest_key, node_size, read_leaf, read_node, rows_size,
     set_child, write_node,
 };
 
@@ -32,7 +32,7 @@ fn inner_block_is_spelled_and_read(rt: HostRuntime) {
     assert!(rt; has(&block, 1, &children));
     assert!(rt; read_leaf(&block).is_none());
     assert!(rt; node_size(&block) == Some((1, 2)));
-    assert!(rt; leaf_size(&block).is_none());
+    assert!(rt; rows_size(&block).is_none());
     assert!(rt; child_at(&block, 1) == child(1, 10, 36));
 }
 

@@ -5,7 +5,7 @@ use std::process::Abort;
 use std::test::Fail;
 use vm_types::{Change, Changes, Conflict, Conflicts, Key, Value};
 
-const LONG: [u8; 240] = [7; 240];
+const LONG: [u8; 4000] = [7; 4000];
 
 /// A record put in, one changed, one taken out, and one that is empty before.
 fn some_changes(alloc: Global) -> Result<Changes, AllocError> {
@@ -17,11 +17,12 @@ fn some_changes(alloc: Global) -> Result<Changes, AllocError> {
     Ok(changes)
 }
 
-/// A record that the alternative took out, and one that both put in.
+/// A record that the alternative took out, one that both put in, and one that both changed, or one of them.
 fn some_conflicts(alloc: Global) -> Result<Conflicts, AllocError> {
     let mut conflicts = Conflicts::new(alloc);
     conflicts.push(key(1, 9), Some(b"a"), Some(&LONG), None)?;
     conflicts.push(key(2, 0), None, Some(b"b"), Some(b""))?;
+    conflicts.push(key(2, 3), Some(&LONG), Some(&[8; 4000]), Some(&LONG))?;
     Ok(conflicts)
 }
 
@@ -55,10 +56,11 @@ fn conflict(key: Key, base: Option<&[u8]>, parent: Option<&[u8]>, mine: Option<&
 }
 
 /// What the list of conflicts is to have.
-fn due_conflicts() -> [Conflict; 2] {
+fn due_conflicts() -> [Conflict; 3] {
     [
         conflict(key(1, 9), Some(b"a"), Some(&LONG), None),
         conflict(key(2, 0), None, Some(b"b"), Some(b"")),
+        conflict(key(2, 3), Some(&LONG), Some(&[8; 4000]), Some(&LONG)),
     ]
 }
 
@@ -143,8 +145,8 @@ fn conflicts_are_given_in_the_order_of_the_pushes(rt: HostRuntime) -> Result<(),
     for (i, due) in due_conflicts().iter().enumerate() {
         expect_conflict(&rt, &conflicts, i, *due);
     }
-    assert_eq!(rt; conflicts.len(), 2);
-    assert!(rt; conflicts.at(2).is_none());
+    assert_eq!(rt; conflicts.len(), 3);
+    assert!(rt; conflicts.at(3).is_none());
     Ok(())
 }
 
@@ -163,8 +165,8 @@ fn walked_conflicts(conflicts: &Conflicts, due: &[Conflict]) -> usize {
 #[test]
 fn conflicts_are_walked_in_order_and_the_same_in_a_vec(rt: HostRuntime) -> Result<(), Fail> {
     let conflicts = some_conflicts(rt.alloc())?;
-    assert_eq!(rt; walked_conflicts(&conflicts, &due_conflicts()), 2);
-    assert_eq!(rt; conflicts.len(), 2);
+    assert_eq!(rt; walked_conflicts(&conflicts, &due_conflicts()), 3);
+    assert_eq!(rt; conflicts.len(), 3);
     assert!(rt; conflicts.to_vec(rt.alloc())?.as_slice() == due_conflicts().as_slice());
     Ok(())
 }

@@ -5,11 +5,11 @@ use std::process::Abort;
 use std::test::Fail;
 use vm_types::{Key, Records, Value};
 
-/// Values of 0, 240 and 4 bytes, with an empty one behind them.
+/// Values of 0, 4,000 and 4 bytes, with an empty one behind them.
 fn some_records(alloc: Global) -> Result<Records, AllocError> {
     let mut records = Records::new(alloc);
     records.push(key(1, 9), b"")?;
-    records.push(key(1, 10), &[7; 240])?;
+    records.push(key(1, 10), &[7; 4000])?;
     records.push(key(2, 0), b"duct")?;
     records.push(key(2, 3), b"")?;
     Ok(records)
@@ -24,7 +24,7 @@ fn record(key: Key, bytes: &[u8]) -> (Key, Value) {
 fn due_records() -> [(Key, Value); 4] {
     [
         record(key(1, 9), b""),
-        record(key(1, 10), &[7; 240]),
+        record(key(1, 10), &[7; 4000]),
         record(key(2, 0), b"duct"),
         record(key(2, 3), b""),
     ]

@@ -1,10 +1,10 @@
 //! Leaves with long rows, what a change makes of their letters, and blocks of long values.
 ghost use Rattle.vm_block.specs.Leaf.{StoredFits};
 
-use super::spelled::{is_block, key};
+use super::spelled::{is_block, is_leaf, key};
 use vm_block::{
-    Link, Placed, Stored, Taken, find_record, find_row, leaf_size, put_row, read_leaf, read_long,
-    read_node, record_key, remove_row, rows_size, split_rows, stored_at, write_long, write_rows,
+    Link, Placed, Stored, Taken, find_row, put_row, read_leaf, read_long, read_node, record_key,
+    remove_row, rows_size, split_rows, stored_at, write_leaf, write_long,
 };
 
 /// Where a value of 300 bytes stands.
@@ -65,33 +65,41 @@ fn bytes_that_are_no_long_value_are_refused(rt: HostRuntime) {
     }
 }
 
+/// Whether a block is the leaf of the one row that is a link, which is found by its place and its
+/// key.
+fn has_the_link_alone(block: &[u8; 4096]) -> bool {
+    is_leaf(block, &[(key(7, 1), link())])
+        && stored_at(block, 0) == Some(link())
+        && find_row(block, key(7, 1)) == Some(Some(link()))
+}
+
 #[test]
 fn long_row_is_spelled_and_read(rt: HostRuntime) {
     let mut block = [7; 4096];
-    write_rows(&[(key(7, 1), link())], &mut block);
+    write_leaf(&[(key(7, 1), link())], &mut block);
     let due = b"LEF2\0\0\0\0\x01\0\0\0\0\0\0\0\x07\0\x01\0\0\0\0\0\0\0\x2c\x01\x22\0\0\0";
     assert!(rt; is_block(&block, due));
     assert!(rt; rows_size(&block) == Some(1));
     assert!(rt; record_key(&block, 0) == key(7, 1));
-    assert!(rt; stored_at(&block, 0) == Some(link()));
-    assert!(rt; find_row(&block, key(7, 1)) == Some(Some(link())));
+    assert!(rt; has_the_link_alone(&block));
     assert!(rt; find_row(&block, key(7, 2)) == Some(None));
-    assert!(rt;
-        leaf_size(&block).is_none(),
-        "a leaf of records has no long row"
-    );
-    assert!(rt; read_leaf(&block).is_none());
-    assert!(rt; find_record(&block, key(7, 1)).is_none());
+    assert!(rt; read_long(&block).is_none());
 }
 
-/// How many rows a leaf with a link has once these bytes are put at this place.
+/// How many rows a leaf with a link has, counted and read, once these bytes are put at this place.
 fn rows_with(at: usize, bytes: &[u8]) -> Option<usize> {
     let mut block = [0; 4096];
-    write_rows(&[(key(7, 1), link())], &mut block);
+    write_leaf(&[(key(7, 1), link())], &mut block);
     if at <= 4096 && bytes.len() <= 4096 - at {
         block[at..at + bytes.len()].copy_from_slice(bytes);
     }
-    rows_size(&block)
+    let count = rows_size(&block);
+    let read = read_leaf(&block).map(|rows| rows.len());
+    if read == count {
+        count
+    } else {
+        Some(usize::MAX)
+    }
 }
 
 #[test]
@@ -113,15 +121,15 @@ fn bytes_that_are_no_leaf_with_a_link_are_refused(rt: HostRuntime) {
     }
     let short = [b'v'; 240];
     let mut block = [0; 4096];
-    write_rows(&[(key(7, 1), Stored::Short(&short))], &mut block);
+    write_leaf(&[(key(7, 1), Stored::Short(&short))], &mut block);
     assert!(rt; block.starts_with(b"LEAF"), "240 bytes are short");
-    assert!(rt; rows_size(&block) == Some(1) && leaf_size(&block) == Some(1));
+    assert!(rt; is_leaf(&block, &[(key(7, 1), Stored::Short(&short))]));
 }
 
 #[test]
 fn letters_follow_the_rows(rt: HostRuntime) {
     let mut block = [0; 4096];
-    write_rows(&[(key(7, 1), link())], &mut block);
+    write_leaf(&[(key(7, 1), link())], &mut block);
     let due = b"LEAF\0\0\0\0\x01\0\0\0\0\0\0\0\x07\0\x01\0\0\0\0\0\0\0\x04\0duct";
     let duct = Stored::Short(b"duct");
     assert!(rt; put_row(&mut block, 3, key(7, 1), duct) == Placed::Put);
@@ -142,7 +150,7 @@ fn letters_follow_the_rows(rt: HostRuntime) {
 #[test]
 fn split_gives_each_half_its_letters(rt: HostRuntime) {
     let mut block = [0; 4096];
-    write_rows(&[(key(7, 1), link())], &mut block);
+    write_leaf(&[(key(7, 1), link())], &mut block);
     for number in 2..=16_u64 {
         let placed = put_row(&mut block, 16, key(7, number), Stored::Short(b"duct"));
         assert!(rt; placed == Placed::Put, "{number}");

@@ -1,10 +1,13 @@
 //! The head of a slot and its entries, byte for byte, and bytes that are none.
 use super::spelled::name;
 use std::process::Abort;
-use vm_block::{Entry, Kind, SlotHead, read_entry, read_slot_head, write_entry, write_slot_head};
+use vm_block::{
+    Entry, Kind, SlotFormat, SlotHead, read_entry, read_slot_head, write_entry, write_slot_head,
+};
 
-/// The head of a slot of one entry, in a store of 64 blocks.
+/// The head of a slot of format 1 and of one entry, in a store of 64 blocks.
 const HEAD: SlotHead = SlotHead {
+    format: SlotFormat::One,
     blocks: 64,
     entries: 1,
 };
@@ -17,6 +20,18 @@ fn head_of_a_slot_is_spelled_and_read(rt: HostRuntime) {
     due[..16].copy_from_slice(b"SLOT\x01\0\0\0\x40\0\0\0\x01\0\0\0");
     assert!(rt; bytes == due);
     assert_eq!(rt; read_slot_head(&bytes), Some(HEAD));
+}
+
+#[test]
+fn head_of_format_2_is_spelled_and_read(rt: HostRuntime) {
+    let head = SlotHead {
+        format: SlotFormat::Two,
+        ..HEAD
+    };
+    let mut bytes = [7; 128];
+    write_slot_head(head, &mut bytes);
+    assert!(rt; bytes[..8] == b"SLOT\x02\0\0\0"[..]);
+    assert_eq!(rt; read_slot_head(&bytes), Some(head));
 }
 
 /// Whether the head of a slot is none once this byte is put at this place.
@@ -32,10 +47,13 @@ fn head_is_refused_with(at: usize, byte: u8) -> bool {
 
 #[test]
 fn bytes_that_are_no_head_are_refused(rt: HostRuntime) {
+    assert!(rt; !head_is_refused_with(4, 2), "format 2");
     assert!(rt; !head_is_refused_with(13, 1), "257 entries");
     for (at, byte, why) in [
         (0, b'L', "other letters"),
-        (4, 2, "format 2"),
+        (4, 0, "format 0"),
+        (4, 3, "format 3"),
+        (5, 1, "format 257"),
         (8, 63, "too few blocks"),
         (10, 16, "too many blocks"),
         (12, 0, "no entry"),

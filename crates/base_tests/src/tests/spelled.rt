@@ -1,13 +1,10 @@
 //! Keys, values and names, and what a block has to be, for the tests of block forms.
 use std::process::Abort;
-use vm_types::{Key, Name, Value};
+use vm_block::{Stored, read_leaf};
+use vm_types::{Key, Name};
 
 pub(super) fn key(table: u16, number: u64) -> Key {
     Key { table, number }
-}
-
-pub(super) fn value(rt: &impl Abort, bytes: &[u8]) -> Value {
-    Value::new(bytes).expect(rt, "a short value")
 }
 
 pub(super) fn name(rt: &impl Abort, bytes: &[u8]) -> Name {
@@ -22,4 +19,12 @@ pub(super) fn is_block(block: &[u8; 4096], front: &[u8]) -> bool {
     }
     due[..front.len()].copy_from_slice(front);
     *block == due
+}
+
+/// Whether a block is a leaf of just these rows.
+pub(super) fn is_leaf(block: &[u8; 4096], rows: &[(Key, Stored<'_>)]) -> bool {
+    match read_leaf(block) {
+        Some(read) => read.as_slice() == rows,
+        None => false,
+    }
 }

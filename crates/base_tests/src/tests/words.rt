@@ -19,10 +19,15 @@ fn key_is_written_with_a_colon(rt: HostRuntime) -> Result<(), Fail> {
 }
 
 #[test]
-fn value_holds_up_to_240_bytes(rt: HostRuntime) {
-    let bytes = [7; 241];
-    let longest = Value::new(&bytes[..240]);
-    assert!(rt; longest.is_some_and(|v| v.as_bytes() == &bytes[..240]));
+fn value_holds_up_to_4000_bytes(rt: HostRuntime) {
+    let bytes = [7; 4001];
+    for len in [240, 241, 4000] {
+        let value = Value::new(&bytes[..len]);
+        assert!(rt;
+            value.is_some_and(|v| v.as_bytes() == &bytes[..len]),
+            "{len}"
+        );
+    }
     assert!(rt; Value::new(&bytes).is_none());
     assert!(rt; Value::new(b"") == Some(Value::default()));
 }
@@ -31,7 +36,7 @@ fn value_holds_up_to_240_bytes(rt: HostRuntime) {
 fn value_is_padded_with_zeros(rt: HostRuntime) -> Result<(), Fail> {
     let value = Value::new(b"duct").ok_or("refused")?;
     assert!(rt; &value.padded()[..5] == b"duct\0".as_slice());
-    assert_eq!(rt; value.padded()[239], 0);
+    assert_eq!(rt; value.padded()[3999], 0);
     assert!(rt; Some(value) != Value::new(b"duc"));
     Ok(())
 }

@@ -106,7 +106,7 @@ fn shows_what_the_program_is(rt: HostRuntime) -> Result<(), Fail> {
 fn tells_its_version(rt: HostRuntime) -> Result<(), Fail> {
     for word in ["--version", "-V"] {
         let text = shown(&rt, ["altctl", word].as_slice())?;
-        let start = "altctl 0.1.0\nfile format 1\nproved with rattle";
+        let start = "altctl 0.1.0\nfile format 2\nproved with rattle";
         assert!(rt; text.starts_with(start));
         assert_eq!(rt; text.lines().count(), 3);
     }

@@ -408,12 +408,12 @@ pub(super) fn push_checkpoint(into: &mut Vec<u8>, verb: &[u8], number: u32) -> R
     Ok(())
 }
 
-/// 30 blocks are for data. Each of the 15 checkpoints keeps one, so 15 are spare for the next Put.
+/// 30 blocks are for data. Each of the 14 checkpoints keeps one, so 16 are spare for the next Put.
 #[test]
 fn answers_full_where_checkpoints_keep_the_blocks(rt: HostRuntime) -> Result<(), Fail> {
     let mut lines = Vec::new(rt.alloc());
     let mut answers = Vec::new(rt.alloc());
-    for number in 1..16 {
+    for number in 1..15 {
         lines.extend_from_slice(b"put top 1 1 v\n")?;
         push_checkpoint(&mut lines, b"checkpoint", number)?;
         answers.extend_from_slice(b"ok\nok\n")?;
@@ -421,7 +421,7 @@ fn answers_full_where_checkpoints_keep_the_blocks(rt: HostRuntime) -> Result<(),
     lines.extend_from_slice(b"commit\nput top 1 1 v\n")?;
     push_checkpoint(&mut lines, b"uncheck", 1)?;
     lines.extend_from_slice(b"put top 1 1 v\ncommit\nput top 1 1 v\nfree\n")?;
-    answers.extend_from_slice(b"ok\nerror 13 Full\nok\nerror 13 Full\nok\nok\nfree 15\n")?;
+    answers.extend_from_slice(b"ok\nerror 13 Full\nok\nerror 13 Full\nok\nok\nfree 16\n")?;
     expect_answers(&rt, lines.as_slice(), answers.as_slice());
     Ok(())
 }
@@ -441,15 +441,21 @@ fn answers_too_many_after_511_entries(rt: HostRuntime) -> Result<(), Fail> {
     Ok(())
 }
 
-/// Appends what begins the line of a record, and its value of 240 zero bytes.
+/// Appends what begins the line of a record, and its value of 4,000 zero bytes.
 fn push_zeros(into: &mut Vec<u8>, verb: &[u8], number: u8) -> Result<(), Fail> {
     into.extend_from_slice(verb)?;
     into.push(number)?;
     into.push(b' ')?;
-    for _ in 0..240 {
-        into.extend_from_slice(b"%00")?;
-    }
+    push_times(into, b"%00", 4000)?;
     into.push(b'\n')?;
+    Ok(())
+}
+
+/// Appends a text so many times.
+pub(super) fn push_times(into: &mut Vec<u8>, text: &[u8], times: usize) -> Result<(), Fail> {
+    for _ in 0..times {
+        into.extend_from_slice(text)?;
+    }
     Ok(())
 }
 

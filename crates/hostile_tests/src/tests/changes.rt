@@ -153,25 +153,28 @@ fn disk_of(alloc: Global, commands: &[Command]) -> Result<MemDisk, Wrong> {
     Ok(disk)
 }
 
-/// A disk of one record, in block 34.
-fn one_record(alloc: Global) -> Result<MemDisk, Wrong> {
-    let duct = Command::Put {
+/// A disk of one record. A short value is in block 34, and a long one there with its leaf in block 35.
+fn one_record(alloc: Global, value: &[u8]) -> Result<MemDisk, Wrong> {
+    let one = Command::Put {
         alt: top(),
         key: Key {
             table: 7,
             number: 1,
         },
-        value: Value::new(b"duct").unwrap_or_default(),
+        value: Value::new(value).unwrap_or_default(),
     };
-    disk_of(alloc, &[duct, Command::Commit])
+    disk_of(alloc, &[one, Command::Commit])
 }
 
-/// Sets each byte of a block to this, one at a time.
-fn try_bytes(alloc: Global, n: u32, byte: u8) -> Tally {
-    let disk = one_record(alloc).map_err(|wrong| (wrong, 0, 0))?;
+/// Sets each byte of a block to this, one at a time, up to a place, where this is the value of the record.
+fn try_bytes(alloc: Global, value: &[u8], n: u32, byte: u8, to: usize) -> Tally {
+    let disk = one_record(alloc, value).map_err(|wrong| (wrong, 0, 0))?;
     let mut bench = Bench::new(alloc, disk).map_err(|wrong| (wrong, 0, 0))?;
     let before = bench.image.block(n);
     for at in 0..4096 {
+        if at == to {
+            break;
+        }
         let mut bytes = before;
         bytes[at] = byte;
         bench = bench
@@ -197,13 +200,31 @@ fn each_byte_is_read_or_ignored(rt: HostRuntime) {
         (34, 0xFF, 2 + 8 + 4),
     ];
     for (n, byte, stores) in due {
-        let found = try_bytes(rt.alloc(), n, byte);
+        let found = try_bytes(rt.alloc(), b"duct", n, byte, 4096);
         assert_eq!(rt; found, Ok(stores), "block {n}, byte {byte}");
     }
 }
 
-/// A disk of seventeen records, with the root in block 37 over leaves in 35 and 36. Blocks 38 to 48
-/// and 34 hold the leaf as it was with 5 to 16 records: a Checkpoint and an Uncheck after each Put
+/// The same of the first bytes of the blocks of a value of 300 bytes. The letters, the length and the key
+/// of its block stand for themselves alone, and so does each byte of its leaf. The bytes of the value may
+/// be others.
+#[test]
+fn each_byte_of_a_long_value_is_read(rt: HostRuntime) {
+    let value = [0x61; 300];
+    let due = [
+        (34, 0, 512 - 8),
+        (34, 0xFF, 300),
+        (35, 0, 512 - 10),
+        (35, 0xFF, 0),
+    ];
+    for (n, byte, stores) in due {
+        let found = try_bytes(rt.alloc(), &value, n, byte, 512);
+        assert_eq!(rt; found, Ok(stores), "block {n}, byte {byte}");
+    }
+}
+
+/// A disk of seventeen records, with the root in block 38 over leaves in 36 and 37. Blocks 39 to 47,
+/// 34 and 35 hold the leaf as it was with 6 to 16 records: a Checkpoint and an Uncheck after each Put
 /// end its series, so that none is forgotten.
 fn two_levels(alloc: Global) -> Result<MemDisk, Wrong> {
     let mut commands = Vec::new(alloc);
@@ -221,9 +242,15 @@ fn two_levels(alloc: Global) -> Result<MemDisk, Wrong> {
     disk_of(alloc, &commands)
 }
 
-/// Sets four bytes of a block to each number from 0 to 64, from each of these places on.
-fn try_words(alloc: Global, n: u32, from: usize, to: usize) -> Tally {
-    let disk = two_levels(alloc).map_err(|wrong| (wrong, 0, 0))?;
+/// Sets four bytes of a block of a disk to each number from 0 to 64, from each of these places on.
+fn try_words_on(
+    alloc: Global,
+    disk: Result<MemDisk, Wrong>,
+    n: u32,
+    from: usize,
+    to: usize,
+) -> Tally {
+    let disk = disk.map_err(|wrong| (wrong, 0, 0))?;
     let mut bench = Bench::new(alloc, disk).map_err(|wrong| (wrong, 0, 0))?;
     let before = bench.image.block(n);
     for at in from..to {
@@ -240,13 +267,29 @@ fn try_words(alloc: Global, n: u32, from: usize, to: usize) -> Tally {
     Ok(bench.stores)
 }
 
-/// The root of `top` may be none or each block from 34 to 48. The first child may be each leaf that
+/// The same of the disk of seventeen records.
+fn try_words(alloc: Global, n: u32, from: usize, to: usize) -> Tally {
+    try_words_on(alloc, two_levels(alloc), n, from, to)
+}
+
+/// The root of `top` may be none or each block from 34 to 47. The first child may be each leaf that
 /// begins with the first record and has at most nine, and the second one is the only one to begin
 /// with the tenth.
 #[test]
 fn root_and_children_may_be_other_blocks(rt: HostRuntime) {
-    for (n, at, stores) in [(18, 128 + 67, 16), (37, 16 + 10, 6), (37, 30 + 10, 1)] {
+    for (n, at, stores) in [(18, 128 + 67, 15), (38, 16 + 10, 5), (38, 30 + 10, 1)] {
         let found = try_words(rt.alloc(), n, at, at + 1);
+        assert_eq!(rt; found, Ok(stores), "block {n}, byte {at}");
+    }
+}
+
+/// Of the store of one long value the root may be none or its leaf, and the link names the one block with
+/// its key. Of the formats the second alone has it.
+#[test]
+fn block_of_a_long_value_is_no_other(rt: HostRuntime) {
+    for (n, at, stores) in [(18, 128 + 67, 2), (35, 16 + 12, 1), (18, 4, 1)] {
+        let disk = one_record(rt.alloc(), &[0x61; 300]);
+        let found = try_words_on(rt.alloc(), disk, n, at, at + 1);
         assert_eq!(rt; found, Ok(stores), "block {n}, byte {at}");
     }
 }
@@ -259,6 +302,6 @@ fn each_number_in_the_slot_is_a_tree_or_refused(rt: HostRuntime) {
 
 #[test]
 fn each_number_in_the_root_is_a_tree_or_refused(rt: HostRuntime) {
-    let found = try_words(rt.alloc(), 37, 0, 4093);
+    let found = try_words(rt.alloc(), 38, 0, 4093);
     assert!(rt; found.is_ok(), "{found:?}");
 }

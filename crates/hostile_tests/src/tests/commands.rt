@@ -13,12 +13,16 @@ pub enum Script {
     Grown,
 }
 
-/// How many device calls `format`, `open` and the commands make where the store doesn't grow. The
-/// Remove goes on with the series of the Put before it, and reads its leaf once.
-const CALLS: u32 = 7 + 4 + 1 + 2 + 4 + 2 + 6 + 4 + 2 + 2 + 4;
+/// The long value of the run, which stands in a block of its own.
+pub const LONG: &'static [u8] = &[b'd'; 300];
+
+/// How many device calls `format`, `open` and the commands make where the store doesn't grow. The Merge
+/// reads the long value, and writes it into a block of its own. The Remove goes on with the series of the
+/// Put before it, and reads its leaf once.
+const CALLS: u32 = 7 + 4 + 1 + 2 + 4 + 3 + 8 + 4 + 2 + 2 + 4;
 
 /// How many of these are writes or syncs.
-const WRITES_AND_SYNCS: u32 = 6 + 1 + 1 + 1 + 4 + 1 + 1 + 4 + 1 + 1 + 4;
+const WRITES_AND_SYNCS: u32 = 6 + 1 + 1 + 1 + 4 + 2 + 2 + 4 + 1 + 1 + 4;
 
 /// The key of this number in table 1.
 pub(super) fn key(number: u64) -> Key {
@@ -53,7 +57,7 @@ fn posted(alloc: Global, n: u32) -> Command {
         },
         2 => put(b"x", 1, b"b"),
         3 => Command::Checkpoint { alt: x, name: c },
-        5 => put(b"top", 2, b"d"),
+        5 => put(b"top", 2, LONG),
         6 => merge(alloc),
         7 => Command::Post { alt: x },
         8 => Command::Uncheck { alt: x, name: c },

@@ -11,6 +11,19 @@ const FIRST_DATA: u32 = 34;
 /// The bytes of a name, zero bytes behind it, and its length.
 type Label = [u8; 33];
 
+/// How many bytes a value has at most that stands in its leaf.
+const MAX_SHORT: usize = 240;
+
+/// How many bytes a value has at most.
+const MAX_LONG: usize = 4000;
+
+/// The entries of a slot, and whether its format has long values.
+#[derive(Drop)]
+struct Slot {
+    entries: Vec<Found>,
+    has_long: bool,
+}
+
 /// An entry of a slot.
 #[derive(Clone, Copy)]
 struct Found {
@@ -90,12 +103,24 @@ fn have_keys(bytes: &[u8; 4096], count: usize, width: usize, part: Part) -> bool
     true
 }
 
+/// How many bytes the value of the record of this number in a leaf has.
+fn length_of(bytes: &[u8; 4096], i: usize) -> usize {
+    number(bytes, i.wrapping_mul(252).wrapping_add(26), 2) as usize
+}
+
+/// Whether one of so many records of a leaf has a long value.
+fn has_long(bytes: &[u8; 4096], count: usize) -> bool {
+    (0..count).any(|i| length_of(bytes, i) > MAX_SHORT)
+}
+
 /// Whether the bytes are a block of a tree of this level, with this many records or children.
 fn is_framed(bytes: &[u8; 4096], level: u32, count: usize, part: Part) -> bool {
-    let (letters, most, width): (&[u8], usize, usize) = if level == 0 {
-        (b"LEAF", 16, 252)
-    } else {
+    let (letters, most, width): (&[u8], usize, usize) = if level > 0 {
         (b"NODE", 256, 14)
+    } else if count <= 16 && has_long(bytes, count) {
+        (b"LEF2", 16, 252)
+    } else {
+        (b"LEAF", 16, 252)
     };
     starts_with(bytes, letters)
         && word(bytes, 4) == level
@@ -106,23 +131,65 @@ fn is_framed(bytes: &[u8; 4096], level: u32, count: usize, part: Part) -> bool {
         && have_keys(bytes, count, width, part)
 }
 
-/// The record that stands at a byte.
-fn record_at(bytes: &[u8; 4096], at: usize) -> Option<(Key, Value)> {
-    let length = number(bytes, at.wrapping_add(10), 2) as usize;
-    let start = at.wrapping_add(12);
-    let end = start.wrapping_add(length);
-    if length > 240 || !are_zero(bytes, end, start.wrapping_add(240)) {
+/// The short value of so many bytes that stands at a byte.
+fn short_at(bytes: &[u8; 4096], at: usize, length: usize) -> Option<Value> {
+    let end = at.wrapping_add(length);
+    if !are_zero(bytes, end, at.wrapping_add(MAX_SHORT)) {
         return None;
     }
-    let value = Value::new(bytes.get(start..end)?)?;
-    Some((key_at(bytes, at), value))
+    Value::new(bytes.get(at..end)?)
 }
 
-/// Adds the records of a leaf.
-fn read_records(bytes: &[u8; 4096], count: usize, records: &mut Vec<(Key, Value)>) -> Option<()> {
+/// The value of so many bytes that has a block of its own, under this key.
+fn long_in(bytes: &[u8; 4096], key: Key, length: usize) -> Option<Value> {
+    let end = length.wrapping_add(26);
+    let is_long = starts_with(bytes, b"LONG\0\0\0\0")
+        && word(bytes, 8) as usize == length
+        && word(bytes, 12) == 0
+        && key_at(bytes, 16) == key
+        && are_zero(bytes, end, 4096);
+    if !is_long {
+        return None;
+    }
+    Value::new(bytes.get(26..end)?)
+}
+
+/// Reads the long value of so many bytes whose block's number stands at a byte.
+fn read_long(
+    image: &Image,
+    bytes: &[u8; 4096],
+    at: usize,
+    key: Key,
+    length: usize,
+    content: &mut Content,
+) -> Option<Value> {
+    let block = word(bytes, at);
+    let is_whole = are_zero(bytes, at.wrapping_add(4), at.wrapping_add(MAX_SHORT));
+    if !is_whole || block < FIRST_DATA || block >= BLOCKS || length > MAX_LONG {
+        return None;
+    }
+    let value = long_in(&image.block(block), key, length)?;
+    add_block(&mut content.blocks, block)?;
+    Some(value)
+}
+
+/// Adds the records of a leaf, and the blocks of its long values.
+fn read_records(
+    image: &Image,
+    bytes: &[u8; 4096],
+    count: usize,
+    content: &mut Content,
+) -> Option<()> {
     for i in 0..count {
-        let record = record_at(bytes, i.wrapping_mul(252).wrapping_add(16))?;
-        records.push(record).ok()?;
+        let at = i.wrapping_mul(252).wrapping_add(16);
+        let (key, length) = (key_at(bytes, at), length_of(bytes, i));
+        let start = at.wrapping_add(12);
+        let value = if length > MAX_SHORT {
+            read_long(image, bytes, start, key, length, content)?
+        } else {
+            short_at(bytes, start, length)?
+        };
+        content.records.push((key, value)).ok()?;
     }
     Some(())
 }
@@ -162,6 +229,7 @@ fn add_block(blocks: &mut Vec<u32>, block: u32) -> Option<()> {
 fn read_level(
     alloc: Global,
     image: &Image,
+    allows_long: bool,
     level: u32,
     parts: &[Part],
     content: &mut Content,
@@ -173,12 +241,12 @@ fn read_level(
         }
         let bytes = image.block(part.block);
         let count = word(&bytes, 8) as usize;
-        if !is_framed(&bytes, level, count, *part) {
+        if !is_framed(&bytes, level, count, *part) || !allows_long && starts_with(&bytes, b"LEF2") {
             return None;
         }
         add_block(&mut content.blocks, part.block)?;
         if level == 0 {
-            read_records(&bytes, count, &mut content.records)?;
+            read_records(image, &bytes, count, content)?;
         } else {
             read_children(&bytes, count, part.above, &mut below)?;
         }
@@ -187,7 +255,13 @@ fn read_level(
 }
 
 /// Reads the tree under a root. Its records are those of the content then.
-fn read_tree(alloc: Global, image: &Image, root: u32, content: &mut Content) -> Option<()> {
+fn read_tree(
+    alloc: Global,
+    image: &Image,
+    allows_long: bool,
+    root: u32,
+    content: &mut Content,
+) -> Option<()> {
     content.records.clear();
     if root == 0 {
         return Some(());
@@ -201,7 +275,8 @@ fn read_tree(alloc: Global, image: &Image, root: u32, content: &mut Content) -> 
     let (low, above) = (None, None);
     parts.push(Part { block, low, above }).ok()?;
     for depth in 0..=levels {
-        parts = read_level(alloc, image, levels.saturating_sub(depth), &parts, content)?;
+        let level = levels.saturating_sub(depth);
+        parts = read_level(alloc, image, allows_long, level, &parts, content)?;
     }
     Some(())
 }
@@ -270,13 +345,16 @@ fn fits(found: Found, before: &[Found]) -> bool {
     }
 }
 
-/// The entries of the slot that is in use.
-fn read_entries(alloc: Global, image: &Image) -> Option<Vec<Found>> {
+/// The slot that is in use.
+fn read_slot(alloc: Global, image: &Image) -> Option<Slot> {
     let odd = byte(&image.block(1), 0) % 2 == 1;
     let first: u32 = if odd { 18 } else { 2 };
     let head = image.block(first);
     let count = word(&head, 12);
-    let is_head = starts_with(&head, b"SLOT\x01\0\0\0") && are_zero(&head, 16, 128);
+    let format = word(&head, 4);
+    let is_head = starts_with(&head, b"SLOT")
+        && matches!(format, 1 | 2)
+        && are_zero(&head, 16, 128);
     if !is_head || word(&head, 8) != BLOCKS || count == 0 || count > 511 {
         return None;
     }
@@ -289,7 +367,8 @@ fn read_entries(alloc: Global, image: &Image) -> Option<Vec<Found>> {
         }
         entries.push(found).ok()?;
     }
-    Some(entries)
+    let has_long = format == 2;
+    Some(Slot { entries, has_long })
 }
 
 fn is_header(bytes: &[u8; 4096]) -> bool {
@@ -305,10 +384,10 @@ pub(super) fn read_store(alloc: Global, image: &Image) -> Option<Content> {
         blocks: Vec::new(alloc),
         records: Vec::new(alloc),
     };
-    let entries = read_entries(alloc, image)?;
+    let Slot { entries, has_long } = read_slot(alloc, image)?;
     for entry in entries.iter().rev() {
-        read_tree(alloc, image, entry.base, &mut content)?;
-        read_tree(alloc, image, entry.current, &mut content)?;
+        read_tree(alloc, image, has_long, entry.base, &mut content)?;
+        read_tree(alloc, image, has_long, entry.current, &mut content)?;
     }
     Some(content)
 }

@@ -1,5 +1,5 @@
 //! Random choices, the same ones for the same seed.
-ghost use Rattle.std.specs.Prelude.{◌<◌};
+ghost use Rattle.std.specs.Prelude.{◌<◌, ◌≤◌};
 
 use super::cast::{ALTERNATIVES, CHECKPOINTS, KEYS, alternative, checkpoint, key, top};
 use plain_model::Plain;
@@ -115,10 +115,22 @@ impl Dice {
             1 => return Value::new(b"duct").unwrap_or_default(),
             _ => {}
         }
+        let len = self.length();
         let mut bytes = [0; Value::MAX_LEN];
-        self.rng.fill_bytes(&mut bytes);
-        let len = 16 + self.below(225) as usize;
+        self.rng.fill_bytes(&mut bytes[..len]);
         Value::new(&bytes[..len]).unwrap_or_default()
+    }
+
+    /// How many bytes a value has: mostly it is short, one time out of ten long, and now and then as long as
+    /// can be.
+    fn length(&mut self) -> usize
+        ensures { result ≤ 4000 }
+    {
+        match self.below(100) {
+            0 => Value::MAX_LEN,
+            1..=10 => 241 + self.below(360) as usize,
+            _ => 16 + self.below(225) as usize,
+        }
     }
 
     fn side(&mut self) -> Side {

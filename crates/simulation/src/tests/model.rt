@@ -6,13 +6,13 @@ use super::trees::{EMPTY, Trees};
 use super::{Reply, Wrong};
 use plain_model::Plain;
 use std::alloc::Global;
-use vm_types::{Change, Command, Key, Name, Refusal};
+use vm_types::{Change, Command, Key, Name, Refusal, Value};
 
 /// How many blocks come before the first one for data.
 const FIRST_DATA: u32 = 34;
 
 /// How many blocks have to be spare for a record change.
-const BLOCKS_A_CHANGE: u32 = 16;
+const BLOCKS_A_CHANGE: u32 = 17;
 
 /// The roots of the maps of one entry.
 #[derive(Clone, Copy)]
@@ -183,7 +183,7 @@ impl Model {
                 checkpoint,
             } => self.follow_new(name, parent, Some(*checkpoint))?,
             Command::Drop { alt } => self.working.retain(|roots| roots.alt != *alt),
-            Command::Put { alt, key, .. } => self.follow_put(alt, *key)?,
+            Command::Put { alt, key, value } => self.follow_put(alt, *key, value)?,
             Command::Remove { alt, key } => self.follow_remove(alt, *key)?,
             Command::Checkpoint { alt, name } => self.follow_checkpoint(alt, name)?,
             Command::Uncheck { alt, name } => {
@@ -224,10 +224,11 @@ impl Model {
         Ok(())
     }
 
-    fn follow_put(&mut self, alt: &Name, key: Key) -> Result<(), Wrong> {
+    fn follow_put(&mut self, alt: &Name, key: Key, value: &Value) -> Result<(), Wrong> {
         if let Some(i) = position(&self.working, alt, None) {
             let blocks = self.trees.blocks();
-            self.working[i].current = self.trees.put(self.working[i].current, key)?;
+            let len = value.as_bytes().len();
+            self.working[i].current = self.trees.put(self.working[i].current, key, len)?;
             self.take_new(blocks);
         }
         Ok(())
@@ -251,8 +252,8 @@ impl Model {
     /// After the changes the base lies in the blocks of what the parent shows.
     fn follow_merge(&mut self, alt: &Name, changes: &[Change]) -> Result<(), Wrong> {
         for change in changes {
-            match change.after {
-                Some(_) => self.follow_put(alt, change.key)?,
+            match &change.after {
+                Some(value) => self.follow_put(alt, change.key, value)?,
                 None => self.follow_remove(alt, change.key)?,
             }
         }

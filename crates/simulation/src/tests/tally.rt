@@ -136,7 +136,7 @@ impl Tally {
                     }
                 }
             }
-            Err(Refusal::Full) if free >= 16 => self.meet(Case::MergedFull),
+            Err(Refusal::Full) if free >= 17 => self.meet(Case::MergedFull),
             _ => {}
         }
     }

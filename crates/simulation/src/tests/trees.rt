@@ -1,6 +1,6 @@
 //! The blocks that maps lie in, as a plain list of nodes: a change copies the nodes of one path and
 //! leaves all others as they are. A node stands for a block, and two maps share the nodes that they
-//! both reach.
+//! both reach. A long value has a node of its own.
 use std::alloc::{AllocError, Global};
 use vm_types::Key;
 
@@ -13,7 +13,11 @@ const RECORDS: usize = 16;
 /// How many children an inner node has at most.
 const CHILDREN: usize = 256;
 
-/// A record of a leaf, or a child of an inner node with the lowest key under it. A record has no child.
+/// How many bytes a value has at most that stands in its leaf.
+const SHORT: usize = 240;
+
+/// A record of a leaf, or a child of an inner node with the lowest key under it. The child of a record is
+/// the node of its long value, or that of the empty map where its value is short.
 #[derive(Clone, Copy)]
 struct Row {
     low: Key,
@@ -21,7 +25,7 @@ struct Row {
 }
 
 /// A leaf has level 0, and the children of an inner node are one level below it. The rows are in the
-/// order of their keys.
+/// order of their keys. The node of a long value has none.
 #[derive(Drop)]
 struct Node {
     level: u32,
@@ -35,10 +39,10 @@ pub struct Trees {
     nodes: Vec<Node>,
 }
 
-/// Whether a key is put or taken out.
+/// A key is put, with the node of its long value, or taken out.
 #[derive(Clone, Copy, PartialEq, Eq)]
 enum Change {
-    Put,
+    Put(usize),
     Remove,
 }
 
@@ -58,11 +62,11 @@ fn without(alloc: Global, rows: &[Row], key: Key) -> Result<Vec<Row>, AllocError
         .collect(alloc)
 }
 
-/// The rows of a leaf with a key.
-fn with(alloc: Global, rows: &[Row], key: Key) -> Result<Vec<Row>, AllocError> {
+/// The rows of a leaf with a key, and the node of its long value.
+fn with(alloc: Global, rows: &[Row], key: Key, long: usize) -> Result<Vec<Row>, AllocError> {
     let record = Row {
         low: key,
-        child: EMPTY,
+        child: long,
     };
     let mut rows = without(alloc, rows, key)?;
     match rows.iter().position(|row| row.low > key) {
@@ -193,7 +197,7 @@ impl Trees {
             let old = self.rows(*node);
             let rows = match change {
                 _ if level > 0 => with_others(self.alloc, old, place_of(old, key), &names)?,
-                Change::Put => with(self.alloc, old, key)?,
+                Change::Put(long) => with(self.alloc, old, key, long)?,
                 Change::Remove => without(self.alloc, old, key)?,
             };
             names = self.add_all(level, &rows)?;
@@ -201,11 +205,26 @@ impl Trees {
         Ok(names)
     }
 
-    /// The root of the map with a key more. The nodes of the path are copied also where the key is
-    /// there. Where the root is cut in two, a new root stands above both.
-    pub(super) fn put(&mut self, root: usize, key: Key) -> Result<usize, AllocError> {
+    /// A new node for a value, where it is long, or else that of the empty map.
+    fn add_value(&mut self, len: usize) -> Result<usize, AllocError> {
+        if len <= SHORT {
+            return Ok(EMPTY);
+        }
+        let node = self.nodes.len();
+        self.nodes.push(Node {
+            level: 0,
+            rows: Vec::new(self.alloc),
+        })?;
+        Ok(node)
+    }
+
+    /// The root of the map with a key more, whose value has so many bytes. The nodes of the path are
+    /// copied, and a long value has a new node, also where the key is there. Where the root is cut in
+    /// two, a new root stands above both.
+    pub(super) fn put(&mut self, root: usize, key: Key, len: usize) -> Result<usize, AllocError> {
         let level = self.level(root).saturating_add(1);
-        let names = self.copy_path(root, key, Change::Put)?;
+        let long = self.add_value(len)?;
+        let names = self.copy_path(root, key, Change::Put(long))?;
         let name = match names.as_slice() {
             [one] => Some(*one),
             both => self.add(level, both)?,

@@ -1,12 +1,13 @@
 //! What an open store answers to a step of a script, as text.
-use super::words::{Wrong, command, key, name, number, value};
+use super::words::{Wrong, command, key, many_of, name, number, value};
 use std::alloc::Global;
 use std::fmt;
 use vm_disk::Disk;
 use vm_store::{Stop, Store};
 use vm_types::{Answer, Command, Key, Refusal, Value};
 
-/// A value, or none, as a script shows it: `~` for none, `''` for the one without bytes.
+/// A value, or none, as a script shows it: `~` for none, `''` for the one without bytes, `61*300` for so
+/// many bytes of one kind.
 #[derive(Clone, Copy)]
 struct Shown(Option<Value>);
 
@@ -17,6 +18,9 @@ impl fmt::Display for Shown {
         };
         if value.as_bytes().is_empty() {
             return f.write_str("''");
+        }
+        if let Some(byte) = many_of(value.as_bytes()) {
+            return write!(f, "{byte:02X}*{}", value.as_bytes().len());
         }
         for byte in value.as_bytes() {
             f.write_char(char::from(*byte))?;

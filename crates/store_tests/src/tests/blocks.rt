@@ -1,5 +1,5 @@
 //! The blocks of a disk in memory, looked at and changed by steps of a script.
-use super::words::{Wrong, byte, number};
+use super::words::{Wrong, byte, many_of, number};
 use std::alloc::Global;
 use vm_disk::{Disk, MemDisk};
 
@@ -56,6 +56,18 @@ pub(super) fn cut(alloc: Global, mut disk: MemDisk, blocks: u32) -> Result<MemDi
     Ok(shorter)
 }
 
+/// Sets behind a text the bytes of a run: `61*300`, where so many are of one kind.
+fn push_run(text: &mut String, run: &[u8]) -> Result<(), Wrong> {
+    if let Some(byte) = many_of(run) {
+        write!(text, "{byte:02X}*{}", run.len())?;
+        return Ok(());
+    }
+    for byte in run {
+        write!(text, "{byte:02X}")?;
+    }
+    Ok(())
+}
+
 /// The bytes that are not zero, behind the place of the first of each run.
 fn bytes_text(alloc: Global, bytes: &[u8; 4096]) -> Result<String, Wrong> {
     let mut text = String::new(alloc);
@@ -63,15 +75,13 @@ fn bytes_text(alloc: Global, bytes: &[u8; 4096]) -> Result<String, Wrong> {
         write!(text, "all={:02X}", bytes[0])?;
         return Ok(text);
     }
-    let mut before = 0;
-    for (at, byte) in bytes.iter().enumerate() {
-        if *byte != 0 {
-            if before == 0 {
-                write!(text, " {at}:")?;
-            }
-            write!(text, "{byte:02X}")?;
+    let mut at: usize = 0;
+    for run in bytes.split(|byte| *byte == 0) {
+        if !run.is_empty() {
+            write!(text, " {at}:")?;
+            push_run(&mut text, run)?;
         }
-        before = *byte;
+        at = at.saturating_add(run.len()).saturating_add(1);
     }
     Ok(text)
 }

@@ -94,22 +94,22 @@ fn remove_in_a_series_reads_its_leaf_once(rt: HostRuntime) {
     }
 }
 
-/// Opening makes four device calls, and the fourteen Puts 27. The second Remove looks first, since
+/// Opening makes four device calls, and the thirteen Puts 25. The second Remove looks first, since
 /// it may have to mark blocks. It does, which ends the series, and goes on with one of its own.
 #[test]
-fn remove_with_fewer_than_16_free_blocks_looks_first(rt: HostRuntime) {
+fn remove_with_fewer_than_17_free_blocks_looks_first(rt: HostRuntime) {
     let row = "
-        puts top 1:1 14 v
-        free -> 16
+        puts top 1:1 13 v
+        free -> 17
         remove top 1:1
-        free -> 15
+        free -> 16
         remove top 1:2
         free -> 28
         remove top 1:3
         free -> 27
         close
-        # 4 + 27 + 2 + 3 + 2
-        calls -> 38";
+        # 4 + 25 + 2 + 3 + 2
+        calls -> 36";
     in_memory(&rt, &[NEW, row]);
 }
 

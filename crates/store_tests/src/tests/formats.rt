@@ -2,14 +2,14 @@
 use super::script::{DUCT, on_both};
 
 /// `ALTSTORE`, one and the size of a block; the selector of slot B; both slots, which begin with
-/// `SLOT`, one and 64 blocks, with the entry of `top`, whose root is none in slot A and block 34 in
+/// `SLOT`, two and 64 blocks, with the entry of `top`, whose root is none in slot A and block 34 in
 /// slot B; and a leaf of the record 7:1, `duct`.
 const BLOCKS: &str = "
     written -> 0 1 2 18 34
     block 0 -> 0:414C5453544F524501 13:10
     block 1 -> 0:01
-    block 2 -> 0:534C4F5401 8:40 12:01 128:4103746F70
-    block 18 -> 0:534C4F5401 8:40 12:01 128:4103746F70 195:22
+    block 2 -> 0:534C4F5402 8:40 12:01 128:4103746F70
+    block 18 -> 0:534C4F5402 8:40 12:01 128:4103746F70 195:22
     block 34 -> 0:4C454146 8:01 16:07 18:01 26:04 28:64756374";
 
 #[test]
@@ -41,7 +41,7 @@ fn odd_selector_names_slot_b(rt: HostRuntime) {
         commit
         close
         block 1 -> none
-        block 2 -> 0:534C4F5401 8:40 12:01 128:4103746F70 195:22
+        block 2 -> 0:534C4F5402 8:40 12:01 128:4103746F70 195:22
         anew
         open
         get top 7:1 -> duct";

@@ -77,8 +77,8 @@ fn commit_writes_the_new_number_of_blocks(rt: HostRuntime) {
         close
         block 0 -> 0:414C5453544F524501 13:10
         block 1 -> none
-        block 2 -> 0:534C4F5401 8:50 12:01 128:4103746F70 195:22
-        block 18 -> 0:534C4F5401 8:40 12:01 128:4103746F70 195:22";
+        block 2 -> 0:534C4F5402 8:50 12:01 128:4103746F70 195:22
+        block 18 -> 0:534C4F5402 8:40 12:01 128:4103746F70 195:22";
     with_room(&rt, 80, &[DUCT, row]);
 }
 
@@ -106,19 +106,19 @@ fn new_blocks_are_taken_kept_and_found_again(rt: HostRuntime) {
     with_room(&rt, 96, &[NEW, row]);
 }
 
-/// 30 blocks are for data. Each of the 15 checkpoints keeps one, so 15 are spare, and one more with
+/// 30 blocks are for data. Each of the 14 checkpoints keeps one, so 16 are spare, and one more with
 /// the new one.
 #[test]
 fn growth_makes_room_for_a_put(rt: HostRuntime) {
     let row = "
-        kept top 1:1 v 15
+        kept top 1:1 v 14
         commit
         put top 1:1 v -> error 13 Full
-        free -> 15
-        grow 65
         free -> 16
+        grow 65
+        free -> 17
         put top 1:1 v
-        free -> 15
+        free -> 16
         put top 1:1 v -> error 13 Full";
     with_room(&rt, 65, &[NEW, row]);
 }

@@ -2,7 +2,7 @@
 use super::script::{DUCT, from_disk, in_memory, on_both};
 use std::alloc::Global;
 use std::test::Fail;
-use vm_block::{Entry, Kind, SlotName};
+use vm_block::{Entry, Kind, SlotFormat, SlotName};
 use vm_catalog::write_slot;
 use vm_disk::{Disk, MemDisk};
 use vm_store::{format, open};
@@ -83,7 +83,7 @@ fn disk_of(
     let mut disk = duct_disk(alloc)?;
     let entries = entries(alternative, checkpoint).ok_or("no name")?;
     if disk.blocks() >= 34 {
-        write_slot(&mut disk, SlotName::B, 64, &entries)?;
+        write_slot(&mut disk, SlotName::B, SlotFormat::Two, 64, &entries)?;
     }
     Ok(disk)
 }
@@ -121,7 +121,13 @@ fn slot_with_a_name_twice_is_damage(rt: HostRuntime) -> Result<(), Fail> {
     let mut disk = duct_disk(rt.alloc())?;
     let all = entries((34, 34), (0, 0)).ok_or("no name")?;
     if disk.blocks() >= 34 {
-        write_slot(&mut disk, SlotName::B, 64, &[all[0], all[1], all[1]])?;
+        write_slot(
+            &mut disk,
+            SlotName::B,
+            SlotFormat::Two,
+            64,
+            &[all[0], all[1], all[1]],
+        )?;
     }
     from_disk(&rt, disk, &["open -> error 18 Damaged 18"]);
     Ok(())

@@ -2,7 +2,8 @@
 //!
 //! A line is a step, and behind ` -> ` its answer, which is `ok` where the line says none. A refusal is
 //! `error` and its text. A line that begins with `#` is a comment. A record's key is `7:1`; `''` is the
-//! value without bytes, `~` no value, and `none` an empty list.
+//! value without bytes, `~` no value, and `none` an empty list. A hundred bytes of one kind or more are
+//! `61*300`.
 //!
 //! | Step, while a store is open | Answer |
 //! |---|---|

@@ -31,22 +31,22 @@ fn load_leaves_nothing_but_its_tree(rt: HostRuntime) {
     in_256_blocks(&rt, &[row]);
 }
 
-/// The sixteenth Put finds 15 free blocks and marks, which leaves block 48 alone. It takes block 34
-/// again, and the next one three blocks.
+/// The fifteenth Put finds 16 free blocks and marks, which leaves block 47 alone. It takes block 34
+/// again, the next one block 35, and the last one three blocks.
 #[test]
 fn a_series_goes_on_over_a_marking(rt: HostRuntime) {
     let row = "
         format 64
         open
         puts top 1:1 17 v
-        free -> 25
+        free -> 24
         close
-        forgotten -> 34 38 39 40 41 42 43 44 45 46 47 48";
+        forgotten -> 34 35 39 40 41 42 43 44 45 46 47";
     on_both(&rt, &[row]);
 }
 
-/// Block 34 is committed. The fifteenth Put behind it finds 15 free blocks and marks, which leaves
-/// 34 and 48.
+/// Block 34 is committed. The fourteenth Put behind it finds 16 free blocks and marks, which leaves
+/// 34 and 47. It takes block 35 again, and the last one block 36.
 #[test]
 fn what_is_committed_is_not_forgotten_after_a_marking(rt: HostRuntime) {
     let row = "
@@ -56,16 +56,16 @@ fn what_is_committed_is_not_forgotten_after_a_marking(rt: HostRuntime) {
         commit
         puts top 1:1 15 v
         close
-        forgotten -> 36 37 38 39 40 41 42 43 44 45 46 47 48
+        forgotten -> 35 37 38 39 40 41 42 43 44 45 46 47
         crash all=41
         open
         list top -> 7:1=duct";
     on_both(&rt, &[row]);
 }
 
-/// The root is in block 37, over the leaves 35 and 36, which are committed. The second Put replaces
-/// the leaf and the root of the first, the third one the leaf 36 and the root of the second, and
-/// the Remove both of the third.
+/// The root is in block 38, over the leaves 36 and 37, which are committed. The first Put takes the
+/// blocks 34 and 35. The second one replaces both, the third one the leaf 37 and the root of the
+/// second, and the Remove both of the third.
 #[test]
 fn blocks_from_before_the_series_are_not_forgotten(rt: HostRuntime) {
     let [one, two, three, four] = [
@@ -76,9 +76,9 @@ fn blocks_from_before_the_series_are_not_forgotten(rt: HostRuntime) {
     ];
     for (changes, forgotten) in [
         ([one, "", "", ""], "forgotten -> none"),
-        ([one, two, "", ""], "forgotten -> 34 38"),
-        ([one, two, three, ""], "forgotten -> 34 38 40"),
-        ([one, two, three, four], "forgotten -> 34 38 40 41 42"),
+        ([one, two, "", ""], "forgotten -> 34 35"),
+        ([one, two, three, ""], "forgotten -> 34 35 40"),
+        ([one, two, three, four], "forgotten -> 34 35 40 41 42"),
     ] {
         let [one, two, three, four] = changes;
         let row = [SEVENTEEN, "open", one, two, three, four, "close", forgotten];

@@ -42,10 +42,10 @@ fn what_is_refused_takes_no_block(rt: HostRuntime) {
     in_memory(&rt, &[NEW, row]);
 }
 
-/// Fifteen Puts take the blocks 34 to 48. The sixteenth finds fifteen free and marks: block 48
+/// Fourteen Puts take the blocks 34 to 47. The fifteenth finds sixteen free and marks: block 47
 /// alone stays held, and the Put takes block 34.
 #[test]
-fn put_marks_where_fewer_than_16_blocks_are_free(rt: HostRuntime) {
+fn put_marks_where_fewer_than_17_blocks_are_free(rt: HostRuntime) {
     let row = "
         put top 1:1 v
         free -> 29
@@ -76,11 +76,11 @@ fn put_marks_where_fewer_than_16_blocks_are_free(rt: HostRuntime) {
         put top 1:14 v
         free -> 16
         put top 1:15 v
-        free -> 15
-        put top 1:16 v
         free -> 28
+        put top 1:16 v
+        free -> 27
         close
-        dirty -> 34 35 36 37 38 39 40 41 42 43 44 45 46 47 48";
+        dirty -> 34 35 36 37 38 39 40 41 42 43 44 45 46 47";
     in_memory(&rt, &[NEW, row]);
 }
 
@@ -91,7 +91,7 @@ fn put_marks_where_fewer_than_16_blocks_are_free(rt: HostRuntime) {
 fn leaf_is_split_and_takes_the_place_of_the_root_again(rt: HostRuntime) {
     let row = "
         puts top 1:1 17 v
-        free -> 25
+        free -> 24
         reclaim
         free -> 27
         remove top 1:17
@@ -137,22 +137,22 @@ fn shared_blocks_are_held_once(rt: HostRuntime) {
     in_memory(&rt, &[SEVENTEEN, row]);
 }
 
-/// 30 blocks are for data. Each of the 15 checkpoints keeps one, so 15 are spare for the next Put.
+/// 30 blocks are for data. Each of the 14 checkpoints keeps one, so 16 are spare for the next Put.
 #[test]
 fn checkpoints_keep_their_blocks(rt: HostRuntime) {
     let row = "
-        kept top 1:1 v 15
+        kept top 1:1 v 14
         commit
         put top 1:1 v -> error 13 Full
         uncheck top k001
         put top 1:1 v -> error 13 Full
         commit
         put top 1:1 v
-        free -> 15";
+        free -> 16";
     on_both(&rt, &[NEW, row]);
 }
 
-/// Nine changes ask for 144 spare blocks. 28 are spare beside the two leaves.
+/// Nine changes ask for 153 spare blocks. 28 are spare beside the two leaves.
 #[test]
 fn merge_is_refused_where_too_few_blocks_are_spare(rt: HostRuntime) {
     let row = "
@@ -190,13 +190,13 @@ fn merge_makes_one_change_after_another(rt: HostRuntime) {
     in_256_blocks(&rt, &[row]);
 }
 
-/// 30 blocks are for data. Each of the 15 checkpoints keeps one, so 15 are spare, and one more
+/// 30 blocks are for data. Each of the 14 checkpoints keeps one, so 16 are spare, and one more
 /// after an Uncheck. A Merge without changes asks for none.
 #[test]
-fn merge_of_one_record_asks_for_sixteen_spare_blocks(rt: HostRuntime) {
+fn merge_of_one_record_asks_for_seventeen_spare_blocks(rt: HostRuntime) {
     let row = "
         new a top
-        kept top 1:1 v 15
+        kept top 1:1 v 14
         new b top
         merge a -> error 13 Full
         merge b -> ok 0
@@ -205,7 +205,7 @@ fn merge_of_one_record_asks_for_sixteen_spare_blocks(rt: HostRuntime) {
         merge a -> ok 1
         put a 1:1 v -> error 13 Full
         get a 1:1 -> v
-        free -> 15";
+        free -> 16";
     in_memory(&rt, &[NEW, row]);
 }
 

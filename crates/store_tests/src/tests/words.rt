@@ -54,8 +54,26 @@ pub(super) fn key(word: &str) -> Result<Key, Wrong> {
     Ok(Key { table, number })
 }
 
-/// A value, where `''` is the one without bytes.
+/// So many bytes of one kind, as in `61*300`, if the word is such.
+fn repeated(word: &str) -> Option<Value> {
+    let (digits, count) = word.split_once('*')?;
+    let bytes = [byte(digits).ok()?; 4096];
+    let count = count.parse::<usize>().ok()?;
+    Value::new(bytes.get(..count)?)
+}
+
+/// The byte of which alone these are a hundred or more, if there is one.
+pub(super) fn many_of(bytes: &[u8]) -> Option<u8> {
+    let first = *bytes.first()?;
+    let same = [first; 4096];
+    (bytes.len() >= 100 && same.get(..bytes.len()) == Some(bytes)).then_some(first)
+}
+
+/// A value, where `''` is the one without bytes, and `61*300` one of so many bytes.
 pub(super) fn value(word: &str) -> Result<Value, Wrong> {
+    if let Some(value) = repeated(word) {
+        return Ok(value);
+    }
     let text = if word == "''" { "" } else { word };
     Value::new(text.as_bytes()).ok_or(Wrong::Unreadable)
 }

@@ -1,32 +1,25 @@
 //! What steps of a row are answered.
 use super::bench::Bench;
-use super::blocks::{bytes_of, bytes_text, child_at, count_in, write_words};
+use super::blocks::{bytes_of, bytes_text, child_at, count_in, letters_text, write_words};
 use super::changes::{begin, change};
+use super::differing::{compared, differed};
 use super::walks::{add_root, marked, verified};
-use super::words::{Wrong, key, level, long, number};
+use super::words::{Wrong, add_stored, add_value, key, level, link, long, number};
 use std::alloc::Global;
+use vm_block::read_leaf;
 use vm_disk::Disk;
-use vm_tree::{TreeFault, data_at, get, is_data, leaf_at, node_at, scan};
-use vm_types::Key;
-
-/// Adds a record to a text.
-fn add_record(text: &mut String, key: Key, value: &[u8]) -> Result<(), Wrong> {
-    let value = str::from_utf8(value).map_err(|_| Wrong::Unreadable)?;
-    write!(text, " {}={value}", key.number)?;
-    Ok(())
-}
+use vm_tree::{TreeFault, data_at, get, is_data, long_at, node_at, rows_into, scan};
 
 /// The value of a key, or `~`.
 fn got(alloc: Global, bench: &mut Bench, number: u64) -> Result<String, Wrong> {
     let blocks = bench.disk.blocks();
     let mut room = [0; 4096];
+    let mut text = String::new(alloc);
     match get(&mut bench.disk, blocks, bench.root, key(number), &mut room)? {
-        Some(value) => {
-            let value = str::from_utf8(value).map_err(|_| Wrong::Unreadable)?;
-            Ok(String::from_str(alloc, value)?)
-        }
-        None => Ok(String::from_str(alloc, "~")?),
+        Some(value) => add_value(&mut text, value)?,
+        None => text.push_str("~")?,
     }
+    Ok(text)
 }
 
 fn listed(alloc: Global, bench: &mut Bench) -> Result<String, Wrong> {
@@ -34,19 +27,37 @@ fn listed(alloc: Global, bench: &mut Bench) -> Result<String, Wrong> {
     let records = scan(alloc, &mut bench.disk, blocks, bench.root)?;
     let mut text = String::new(alloc);
     for (key, value) in &records {
-        add_record(&mut text, key, value)?;
+        write!(text, " {}=", key.number)?;
+        add_value(&mut text, value)?;
     }
     Ok(text)
 }
 
-/// The records of a leaf.
+/// The rows of a leaf: of each its value, or the link to it.
 fn leaf_text(alloc: Global, bench: &mut Bench, block: u32) -> Result<String, Wrong> {
     let blocks = bench.disk.blocks();
-    let records = leaf_at(&mut bench.disk, blocks, block)?;
-    let mut text = String::new(alloc);
-    for (key, value) in records.as_slice() {
-        add_record(&mut text, *key, value.as_bytes())?;
+    let mut bytes = [1; 4096];
+    let count = rows_into(&mut bench.disk, blocks, block, &mut bytes)?;
+    let rows = read_leaf(&bytes).ok_or(Wrong::Unreadable)?;
+    if rows.len() != count {
+        return Err(Wrong::Unreadable);
     }
+    let mut text = String::new(alloc);
+    for (key, stored) in rows.as_slice() {
+        write!(text, " {}=", key.number)?;
+        add_stored(&mut text, *stored)?;
+    }
+    Ok(text)
+}
+
+/// The long value of a key to which a link leads.
+fn long_text(alloc: Global, bench: &mut Bench, n: u64, word: &str) -> Result<String, Wrong> {
+    let link = link(word)?.ok_or(Wrong::Unreadable)?;
+    let blocks = bench.disk.blocks();
+    let mut bytes = [1; 4096];
+    let value = long_at(&mut bench.disk, blocks, key(n), link, &mut bytes)?;
+    let mut text = String::new(alloc);
+    add_value(&mut text, value)?;
     Ok(text)
 }
 
@@ -91,7 +102,7 @@ fn leaf_counts(alloc: Global, bench: &mut Bench) -> Result<String, Wrong> {
 fn dirty_blocks(alloc: Global, bench: &Bench) -> Result<String, Wrong> {
     let mut text = String::new(alloc);
     for n in 0..bench.disk.blocks() {
-        if bench.disk.inner().is_dirty(n) {
+        if bench.disk.inner().inner().is_dirty(n) {
             write!(text, " {n}")?;
         }
     }
@@ -133,6 +144,7 @@ fn taken(alloc: Global, bench: &mut Bench) -> Result<String, Wrong> {
 fn look(alloc: Global, bench: &mut Bench, words: &[&str]) -> Result<String, Wrong> {
     match words {
         ["bytes", n] => bytes_text(alloc, &bytes_of(&mut bench.disk, number(n)?)?),
+        ["letters", n] => letters_text(alloc, &bytes_of(&mut bench.disk, number(n)?)?),
         ["count", n] => {
             let count = count_in(&mut bench.disk, number(n)?)?;
             Ok(format!(in alloc; "{count}")?)
@@ -142,6 +154,7 @@ fn look(alloc: Global, bench: &mut Bench, words: &[&str]) -> Result<String, Wron
         ["dirty"] => dirty_blocks(alloc, bench),
         ["data", n] => data_text(alloc, bench, number(n)?),
         ["leaf", n] => leaf_text(alloc, bench, number(n)?),
+        ["long", n, link] => long_text(alloc, bench, long(n)?, link),
         ["node", above, n] => node_text(alloc, bench, level(above)?, number(n)?),
         _ => Err(Wrong::Unreadable),
     }
@@ -157,7 +170,11 @@ fn ask(alloc: Global, bench: &mut Bench, words: &[&str]) -> Result<String, Wrong
         ["free"] => Ok(format!(in alloc; "{}", bench.held.free_count())?),
         ["take"] => taken(alloc, bench),
         ["mark", roots @ ..] => marked(alloc, bench, roots),
-        ["verify", numbers @ ..] => verified(alloc, bench, numbers),
+        ["verify", numbers @ ..] => verified(alloc, bench, true, numbers),
+        ["strict", numbers @ ..] => verified(alloc, bench, false, numbers),
+        ["differ", first, second] => differed(alloc, bench, first, second),
+        ["same", first, second] => compared(alloc, bench, first, second),
+        ["calls"] => Ok(format!(in alloc; "{}", bench.new_calls())?),
         ["sync"] => {
             bench.disk.sync()?;
             Ok(String::from_str(alloc, "ok")?)

@@ -3,14 +3,16 @@ use super::words::Wrong;
 use std::alloc::Global;
 use std::mem;
 use vm_alloc::{Held, Marks};
+use vm_check::NotedDisk;
 use vm_disk::{FuseDisk, MemDisk};
 use vm_tree::Root;
 
 /// More device calls than any row makes.
 const NEVER: u32 = 1_000_000;
 
-/// A disk in memory that counts device calls, and may fail one.
-pub(super) type Device = FuseDisk<MemDisk>;
+/// A disk in memory that counts device calls, and may fail one, and that notes which leaves have no
+/// long value.
+pub(super) type Device = NotedDisk<FuseDisk<MemDisk>>;
 
 /// The sizes of trees that rows use: records of a leaf, children of an inner block, levels.
 #[derive(Clone, Copy)]
@@ -33,9 +35,11 @@ pub(super) struct Bench {
     pub(super) held: Held,
     pub(super) marks: Marks,
     pub(super) root: Root,
-    /// The blocks that the last put or remove replaced, each at its level.
-    pub(super) path: [u32; 8],
+    /// The blocks that the last put or remove replaced, each at its level, and that of a long value.
+    pub(super) path: [u32; 9],
     pub(super) sizes: Sizes,
+    /// How many device calls there were when they were last asked for.
+    pub(super) seen: u32,
 }
 
 impl Bench {
@@ -45,24 +49,41 @@ impl Bench {
             return Err(Wrong::Unreadable);
         }
         let disk = MemDisk::new(alloc, blocks)?;
+        let mut disk = NotedDisk::new(FuseDisk::once(disk, NEVER, [0; 4096]));
+        disk.reserve(alloc, blocks)?;
         Ok(Bench {
-            disk: FuseDisk::once(disk, NEVER, [0; 4096]),
+            disk,
             held: Held::new(alloc, blocks)?,
             marks: Marks::new(alloc, blocks)?,
             root: Root::default(),
-            path: [0; 8],
+            path: [0; 9],
             sizes: Sizes::Store,
+            seen: 0,
         })
     }
 
-    /// Has the disk fail once, after so many device calls from now.
+    /// How many device calls were made.
+    pub(super) fn calls(&self) -> u32 {
+        self.disk.inner().calls()
+    }
+
+    /// How many were made since they were last asked for.
+    pub(super) fn new_calls(&mut self) -> u32 {
+        let calls = self.calls();
+        let before = mem::replace(&mut self.seen, calls);
+        calls.saturating_sub(before)
+    }
+
+    /// Has the disk fail once, after so many device calls from now. Its notes are gone.
     pub(super) fn fail_after(&mut self, alloc: Global, passes: u32) -> Result<(), Wrong> {
         if passes > NEVER {
             return Err(Wrong::Unreadable);
         }
         let blank = FuseDisk::once(MemDisk::new(alloc, 64)?, NEVER, [0; 4096]);
-        let disk = mem::replace(&mut self.disk, blank);
-        self.disk = FuseDisk::once(disk.into_inner(), passes, [0; 4096]);
+        let disk = mem::replace(&mut self.disk, NotedDisk::new(blank));
+        let inner = disk.into_inner().into_inner();
+        self.disk = NotedDisk::new(FuseDisk::once(inner, passes, [0; 4096]));
+        self.seen = 0;
         Ok(())
     }
 }

@@ -1,11 +1,15 @@
 //! The blocks of a disk, written and looked at by steps of a row.
-use super::words::{Wrong, byte, child, key, level, long, number, value};
+ghost use Rattle.vm_block.specs.Leaf.{StoredFits};
+
+use super::words::{Wrong, byte, child, key, level, long, number, stored, value};
 use arrayvec::ArrayVec;
 use std::alloc::Global;
-use vm_block::{Child, read_leaf, read_node, write_leaf, write_node};
+use vm_block::{
+    Child, Placed, Stored, put_row, read_leaf, read_node, write_leaf, write_long, write_node,
+};
 use vm_disk::Disk;
 use vm_tree::TreeFault;
-use vm_types::{Key, Value};
+use vm_types::Key;
 
 pub(super) fn bytes_of<D: Disk>(disk: &mut D, n: u32) -> Result<[u8; 4096], Wrong> {
     let mut bytes = [0; 4096];
@@ -24,18 +28,46 @@ fn write_block<D: Disk>(disk: &mut D, n: u32, bytes: &[u8; 4096]) -> Result<(), 
     Ok(())
 }
 
-/// A leaf of these keys, each with this value.
-fn leaf(given: &str, numbers: &[&str]) -> Result<[u8; 4096], Wrong> {
-    let given = value(given)?;
-    let mut records: ArrayVec<(Key, Value), 16> = ArrayVec::new();
-    for word in numbers {
-        if records.is_full() {
-            return Err(Wrong::Unreadable);
-        }
-        records.push((key(long(word)?), given));
+/// Puts a row into a leaf that has room for it.
+fn add_row(bytes: &mut [u8; 4096], key: Key, stored: Stored<'_>) -> Result<(), Wrong>
+    requires { StoredFits stored }
+{
+    match put_row(bytes, 16, key, stored) {
+        Placed::Put => Ok(()),
+        _ => Err(Wrong::Unreadable),
     }
+}
+
+/// A leaf of these keys, each with this value or link.
+fn leaf(given: &str, numbers: &[&str]) -> Result<[u8; 4096], Wrong> {
+    let (first, others) = numbers.split_first().ok_or(Wrong::Unreadable)?;
+    let given = stored(given)?;
     let mut bytes = [0; 4096];
-    write_leaf(records.as_slice(), &mut bytes);
+    write_leaf(&[(key(long(first)?), given)], &mut bytes);
+    for word in others {
+        add_row(&mut bytes, key(long(word)?), given)?;
+    }
+    Ok(bytes)
+}
+
+/// A leaf of these keys, each with a value or link of its own.
+fn rows(words: &[&str]) -> Result<[u8; 4096], Wrong> {
+    let (first, others) = words.split_first().ok_or(Wrong::Unreadable)?;
+    let (number, given) = first.split_once('=').ok_or(Wrong::Unreadable)?;
+    let mut bytes = [0; 4096];
+    write_leaf(&[(key(long(number)?), stored(given)?)], &mut bytes);
+    for word in others {
+        let (number, given) = word.split_once('=').ok_or(Wrong::Unreadable)?;
+        add_row(&mut bytes, key(long(number)?), stored(given)?)?;
+    }
+    Ok(bytes)
+}
+
+/// The block of this key and its long value.
+fn long_value(number: &str, given: &str) -> Result<[u8; 4096], Wrong> {
+    let given = value(given)?;
+    let mut bytes = [0; 4096];
+    write_long(key(long(number)?), given.as_bytes(), &mut bytes);
     Ok(bytes)
 }
 
@@ -89,6 +121,8 @@ fn set_run(bytes: &mut [u8; 4096], run: &str) -> Result<(), Wrong> {
 pub(super) fn write_words<D: Disk>(disk: &mut D, words: &[&str]) -> Result<bool, Wrong> {
     let (n, bytes) = match words {
         ["write", "leaf", n, given, numbers @ ..] => (n, leaf(given, numbers)?),
+        ["write", "rows", n, words @ ..] => (n, rows(words)?),
+        ["write", "long", n, number, given] => (n, long_value(number, given)?),
         ["write", "node", n, above, children @ ..] => (n, node(above, children)?),
         ["write", "fan", n, count] => (n, fan(number(count)?)?),
         ["write", "all", n, fill] => (n, [byte(fill)?; 4096]),
@@ -120,11 +154,17 @@ pub(super) fn bytes_text(alloc: Global, bytes: &[u8; 4096]) -> Result<String, Wr
     Ok(text)
 }
 
-/// How many records a leaf has, or children an inner block.
+/// The letters that a block begins with.
+pub(super) fn letters_text(alloc: Global, bytes: &[u8; 4096]) -> Result<String, Wrong> {
+    let letters = str::from_utf8(&bytes[..4]).map_err(|_| Wrong::Unreadable)?;
+    Ok(String::from_str(alloc, letters)?)
+}
+
+/// How many rows a leaf has, or children an inner block.
 pub(super) fn count_in<D: Disk>(disk: &mut D, n: u32) -> Result<usize, Wrong> {
     let bytes = bytes_of(disk, n)?;
-    if let Some(records) = read_leaf(&bytes) {
-        return Ok(records.len());
+    if let Some(rows) = read_leaf(&bytes) {
+        return Ok(rows.len());
     }
     match read_node(&bytes) {
         Some(node) => Ok(node.children.len()),

@@ -19,13 +19,13 @@ fn put_in<const LEAF: usize, const FAN: usize, const LEVELS: usize>(
     if bench.held.free_count() < 16 || bench.held.blocks() > bench.disk.blocks() {
         return Err(Wrong::Unreadable);
     }
-    bench.path = [0; 8];
+    bench.path = [0; 9];
     bench.root = put::<Device, LEAF, FAN, LEVELS>(
         &mut bench.disk,
         &mut bench.held,
         bench.root,
         key(number),
-        value,
+        value.as_bytes(),
         &mut bench.path,
     )?;
     Ok(())
@@ -57,7 +57,7 @@ fn removed<const LEAF: usize, const FAN: usize, const LEVELS: usize>(
     if bench.held.free_count() < 16 || bench.held.blocks() > bench.disk.blocks() {
         return Err(Wrong::Unreadable);
     }
-    bench.path = [0; 8];
+    bench.path = [0; 9];
     let root = remove::<Device, LEAF, FAN, LEVELS>(
         &mut bench.disk,
         &mut bench.held,

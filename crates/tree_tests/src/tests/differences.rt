@@ -57,8 +57,8 @@ fn with<const LEAF: usize, const FAN: usize, const LEVELS: usize>(
         &mut bench.held,
         root,
         key(number),
-        &value(byte),
-        &mut [0; 8],
+        value(byte).as_bytes(),
+        &mut [0; 9],
     )
 }
 
@@ -78,7 +78,7 @@ fn without<const LEAF: usize, const FAN: usize, const LEVELS: usize>(
         &mut bench.held,
         root,
         key(number),
-        &mut [0; 8],
+        &mut [0; 9],
     )?;
     removed.ok_or(TreeFault::Memory)
 }

@@ -8,8 +8,8 @@ use std::alloc::{AllocError, Global};
 use std::collections::BTreeMap;
 use std::test::Fail;
 use vm_alloc::{FIRST_DATA, Held, Marks};
-use vm_block::{Child, read_node};
-use vm_check::mark;
+use vm_block::{Child, Stored, is_long_leaf, read_leaf, read_node};
+use vm_check::{NotedDisk, mark};
 use vm_disk::{Disk, MemDisk};
 use vm_tree::{Root, TreeFault, get, put, remove, scan};
 use vm_types::{Key, Value};
@@ -17,7 +17,10 @@ use vm_types::{Key, Value};
 const BLOCKS: u32 = 16_384;
 
 /// The most blocks that a change may take, and one.
-const NEEDED: u32 = 16;
+const NEEDED: u32 = 17;
+
+/// How many bytes one in eight values has.
+const LENGTHS: [usize; 6] = [0, 1, 240, 241, 300, 4000];
 
 const CHANGES: u32 = 100_000;
 
@@ -62,11 +65,11 @@ impl From<TreeFault> for Wrong {
 /// A tree on a disk of its own, and the sorted map that it has to agree with.
 #[derive(Drop)]
 struct Pair {
-    disk: MemDisk,
+    disk: NotedDisk<MemDisk>,
     held: Held,
     marks: Marks,
     root: Root,
-    plain: BTreeMap<u64, Value>,
+    plain: BTreeMap<u64, Vec<u8>>,
     dice: Xoshiro256PlusPlus,
     /// How many keys there are.
     keys: u64,
@@ -80,39 +83,71 @@ fn key(number: u64) -> Key {
     Key { table: 1, number }
 }
 
-/// The children of an inner block.
-fn children_at(disk: &mut MemDisk, block: u32) -> Result<ArrayVec<Child, 256>, Wrong> {
+fn bytes_at(disk: &mut NotedDisk<MemDisk>, block: u32) -> Result<[u8; 4096], Wrong> {
     let mut bytes = [0; 4096];
     if block >= disk.blocks() {
         return Err(Wrong::Sizes);
     }
     disk.read(block, &mut bytes)
         .map_err(|_| Wrong::Tree(TreeFault::Device))?;
+    Ok(bytes)
+}
+
+/// The children of an inner block.
+fn children_at(disk: &mut NotedDisk<MemDisk>, block: u32) -> Result<ArrayVec<Child, 256>, Wrong> {
+    let bytes = bytes_at(disk, block)?;
     match read_node(&bytes) {
         Some(node) => Ok(node.children),
         None => Err(Wrong::Tree(TreeFault::Damaged(block))),
     }
 }
 
+/// The blocks of the long values of a leaf. Each is held.
+fn count_long(disk: &mut NotedDisk<MemDisk>, held: &Held, block: u32) -> Result<u32, Wrong> {
+    let bytes = bytes_at(disk, block)?;
+    if !is_long_leaf(&bytes) {
+        return Ok(0);
+    }
+    let rows = read_leaf(&bytes).ok_or(Wrong::Tree(TreeFault::Damaged(block)))?;
+    let mut count: u32 = 0;
+    for (_, stored) in rows.as_slice() {
+        if let Stored::Long(link) = stored {
+            if link.block >= held.blocks() || !held.is_held(link.block) {
+                return Err(Wrong::Free(link.block));
+            }
+            count = count.saturating_add(1);
+        }
+    }
+    Ok(count)
+}
+
 /// How many blocks there are from this one of this level down. Each is held.
-fn count_under(disk: &mut MemDisk, held: &Held, level: u8, block: u32) -> Result<u32, Wrong> {
+fn count_under(
+    disk: &mut NotedDisk<MemDisk>,
+    held: &Held,
+    level: u8,
+    block: u32,
+) -> Result<u32, Wrong> {
     if block >= held.blocks() || !held.is_held(block) {
         return Err(Wrong::Free(block));
     }
+    if level == 0 {
+        return Ok(count_long(disk, held, block)?.saturating_add(1));
+    }
     let mut count: u32 = 1;
-    if level > 0 {
-        for child in children_at(disk, block)?.as_slice() {
-            let under = count_under(disk, held, level - 1, child.block)?;
-            count = count.saturating_add(under);
-        }
+    for child in children_at(disk, block)?.as_slice() {
+        let under = count_under(disk, held, level - 1, child.block)?;
+        count = count.saturating_add(under);
     }
     Ok(count)
 }
 
 impl Pair {
     fn new(alloc: Global, seed: u64, keys: u64) -> Result<Pair, AllocError> {
+        let mut disk = NotedDisk::new(MemDisk::new(alloc, BLOCKS)?);
+        disk.reserve(alloc, BLOCKS)?;
         Ok(Pair {
-            disk: MemDisk::new(alloc, BLOCKS)?,
+            disk,
             held: Held::new(alloc, BLOCKS)?,
             marks: Marks::new(alloc, BLOCKS)?,
             root: Root::default(),
@@ -160,17 +195,28 @@ impl Pair {
         self.dice.next_u64() % self.keys.max(1)
     }
 
-    fn value(&mut self) -> Value {
+    /// How many bytes a value is to have: one in eight times those of a short or a long one at a
+    /// limit, and else up to 240.
+    fn length(&mut self) -> usize {
+        let roll = self.dice.next_u32() as usize;
+        if roll % 8 == 0 {
+            LENGTHS[roll / 8 % LENGTHS.len()]
+        } else {
+            roll / 8 % 241
+        }
+    }
+
+    fn value(&mut self, alloc: Global) -> Result<Vec<u8>, AllocError> {
         let mut bytes = [0; Value::MAX_LEN];
-        self.dice.fill_bytes(&mut bytes);
-        let len = self.dice.next_u32() as usize % 241;
-        Value::new(&bytes[..len]).unwrap_or_default()
+        let value = &mut bytes[..self.length().min(Value::MAX_LEN)];
+        self.dice.fill_bytes(value);
+        value.to_vec(alloc)
     }
 
     fn put<const LEAF: usize, const FAN: usize, const LEVELS: usize>(
         &mut self,
         number: u64,
-        value: Value,
+        value: Vec<u8>,
     ) -> Result<(), Wrong>
         requires { AreSizes LEAF FAN LEVELS }
     {
@@ -178,13 +224,16 @@ impl Pair {
         if free < NEEDED || self.held.blocks() > self.disk.blocks() {
             return Err(Wrong::Sizes);
         }
-        let changed = put::<MemDisk, LEAF, FAN, LEVELS>(
+        if value.len() > Value::MAX_LEN {
+            return Err(Wrong::Sizes);
+        }
+        let changed = put::<NotedDisk<MemDisk>, LEAF, FAN, LEVELS>(
             &mut self.disk,
             &mut self.held,
             self.root,
             key(number),
-            &value,
-            &mut [0; 8],
+            value.as_slice(),
+            &mut [0; 9],
         );
         match changed {
             Ok(root) => {
@@ -213,12 +262,12 @@ impl Pair {
         if self.held.free_count() < NEEDED || self.held.blocks() > self.disk.blocks() {
             return Err(Wrong::Sizes);
         }
-        let removed = remove::<MemDisk, LEAF, FAN, LEVELS>(
+        let removed = remove::<NotedDisk<MemDisk>, LEAF, FAN, LEVELS>(
             &mut self.disk,
             &mut self.held,
             self.root,
             key(number),
-            &mut [0; 8],
+            &mut [0; 9],
         )?;
         if self.plain.remove(&number).is_some() != removed.is_some() {
             return Err(Wrong::Removed(number));
@@ -244,7 +293,7 @@ impl Pair {
             return Err(Wrong::Records(changes));
         }
         for ((found, value), (number, due)) in records.iter().zip(self.plain.iter()) {
-            if found != key(*number) || value != due.as_bytes() {
+            if found != key(*number) || value != due.as_slice() {
                 return Err(Wrong::Records(changes));
             }
         }
@@ -252,7 +301,7 @@ impl Pair {
         for _ in 0..100 {
             let number = self.number();
             let found = self.get(number, &mut room)?;
-            if found != self.plain.get(&number).map(|value| value.as_bytes()) {
+            if found != self.plain.get(&number).map(|value| value.as_slice()) {
                 return Err(Wrong::Got(number));
             }
         }
@@ -271,7 +320,7 @@ impl Pair {
             let puts = if change / SEASON % 2 == 0 { 3 } else { 1 };
             let number = self.number();
             if self.dice.next_u32() % 4 < puts {
-                let value = self.value();
+                let value = self.value(alloc)?;
                 self.put::<LEAF, FAN, LEVELS>(number, value)?;
             } else {
                 self.remove::<LEAF, FAN, LEVELS>(number)?;

@@ -2,7 +2,8 @@
 //!
 //! A line is a step, and behind ` -> ` its answer, which is `ok` where the line says none. A fault is `error` and
 //! its name, as `error Damaged 36`. A line that begins with `#` is a comment. Keys are those of table 1, by their
-//! numbers; `''` is the value without bytes, `~` no value; `none` is an empty list, or the root of the empty map.
+//! numbers; `''` is the value without bytes, `300*a` that of 300 times the letter a, `~` no value; `none` is an empty
+//! list, or the root of the empty map. `300@34` is a link: to a value of 300 bytes in block 34.
 //!
 //! | Step | Answer |
 //! |---|---|
@@ -19,22 +20,30 @@
 //! | `let go` | `ok`: just the blocks under the root are held |
 //! | `top 35.1.0` | `ok`: this is the root from here on |
 //! | `take` | `34`: the lowest free block is held |
+//! | `calls` | `2`: how many device calls were made since the last step of these letters, or the start |
+//! | `differ 36.0.1 37.0.1` | `2=v>w by 2`: the values that the second map changes, and the device calls |
+//! | `same 36.0.1 37.0.1` | `no by 2`: whether the maps are one, and the device calls |
 //!
 //! | Step | Answer |
 //! |---|---|
 //! | `mark 34.1.1 none` | `marks 34 35 by 1`: what is marked after a marking from these, and its device calls |
 //! | `verify 34 0` | `34.1.1 none marks 34 35 by 2`: what is found under these numbers |
-//! | `leaf 36`, `node 1 37` | `10=v 11=v`, `1:35 10:36`: what the reader of single blocks gives |
+//! | `strict 34 0` | the same, where no leaf with a long value is allowed |
+//! | `leaf 36`, `node 1 37` | `10=v 11=300@34`, `1:35 10:36`: what the readers of single blocks give |
+//! | `long 1 300@34` | `300*a`: the long value of a key to which a link leads |
 //! | `data 34` | the bytes of a block for data, as those of a block |
 //!
 //! | Step | Answer |
 //! |---|---|
 //! | `write leaf 34 v 1 2` | `ok`: a leaf of these keys with one value is written into the block |
+//! | `write rows 34 1=v 2=300@35` | the same of a leaf whose rows have values or links of their own |
+//! | `write long 35 2 300*a` | the same of the block of a key's long value |
 //! | `write node 34 1 1:35 2:36` | the same of an inner block of level 1 |
 //! | `write fan 35 256` | the same with so many children: 0:34, 32:34, 64:34 and so on |
 //! | `write all 36 07`, `copy 36 35` | the same of one byte, and of the bytes of another block |
 //! | `set 36 0:4E4F` | `ok`: these bytes of the block, from this place on |
 //! | `bytes 37` | `0:4E4F444501 8:02`: its bytes but zeros, from these places on |
+//! | `letters 35` | `LEF2`: the letters that it begins with |
 //! | `count 35` | `9`: its records or children |
 //! | `child 38 2` | `32:34`: its third child |
 //! | `leaves` | `2 2 3`: the records of each leaf under a root of level 1 |

@@ -28,7 +28,8 @@ fn names_the_first_block_that_is_wrong(rt: HostRuntime) {
         new 64
         # A block of zeros, and a key twice.
         verify 40 -> error Damaged 40
-        write leaf 34 '' 1 1
+        write leaf 34 '' 1 2
+        set 34 270:01
         verify 34 -> error Damaged 34
         # A child of the wrong level.
         write leaf 35 '' 1

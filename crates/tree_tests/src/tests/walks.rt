@@ -41,9 +41,9 @@ pub(super) fn marked(alloc: Global, bench: &mut Bench, words: &[&str]) -> Result
     if bench.marks.blocks() > bench.disk.blocks() {
         return Err(Wrong::Unreadable);
     }
-    let before = bench.disk.calls();
+    let before = bench.calls();
     mark(&mut bench.disk, &roots, &mut bench.marks)?;
-    let calls = bench.disk.calls().saturating_sub(before);
+    let calls = bench.calls().saturating_sub(before);
     let mut text = String::new(alloc);
     add_marks(&mut text, &bench.marks, calls)?;
     Ok(text)
@@ -52,6 +52,7 @@ pub(super) fn marked(alloc: Global, bench: &mut Bench, words: &[&str]) -> Result
 fn found<const LEAF: usize, const FAN: usize, const LEVELS: usize>(
     alloc: Global,
     bench: &mut Bench,
+    long: bool,
     numbers: &[u32],
 ) -> Result<(Vec<Root>, Marks), Wrong>
     requires { AreSizes LEAF FAN LEVELS }
@@ -60,34 +61,41 @@ fn found<const LEAF: usize, const FAN: usize, const LEVELS: usize>(
     if blocks > bench.disk.blocks() {
         return Err(Wrong::Unreadable);
     }
-    let found = verify::<Device, LEAF, FAN, LEVELS>(alloc, &mut bench.disk, blocks, numbers)?;
+    let found = verify::<Device, LEAF, FAN, LEVELS>(alloc, &mut bench.disk, blocks, long, numbers)?;
     Ok(found)
 }
 
 fn found_sized(
     alloc: Global,
     bench: &mut Bench,
+    long: bool,
     numbers: &[u32],
 ) -> Result<(Vec<Root>, Marks), Wrong> {
     match bench.sizes {
-        Sizes::Store => found::<16, 256, 8>(alloc, bench, numbers),
-        Sizes::Threes => found::<3, 3, 2>(alloc, bench, numbers),
-        Sizes::Twos => found::<2, 2, 2>(alloc, bench, numbers),
-        Sizes::Pairs => found::<3, 2, 2>(alloc, bench, numbers),
-        Sizes::Flat => found::<3, 3, 1>(alloc, bench, numbers),
+        Sizes::Store => found::<16, 256, 8>(alloc, bench, long, numbers),
+        Sizes::Threes => found::<3, 3, 2>(alloc, bench, long, numbers),
+        Sizes::Twos => found::<2, 2, 2>(alloc, bench, long, numbers),
+        Sizes::Pairs => found::<3, 2, 2>(alloc, bench, long, numbers),
+        Sizes::Flat => found::<3, 3, 1>(alloc, bench, long, numbers),
     }
 }
 
-/// What the walk of trees under these numbers is answered.
-pub(super) fn verified(alloc: Global, bench: &mut Bench, words: &[&str]) -> Result<String, Wrong> {
+/// What the walk of trees under these numbers is answered. `long` says whether leaves with long
+/// values are allowed.
+pub(super) fn verified(
+    alloc: Global,
+    bench: &mut Bench,
+    long: bool,
+    words: &[&str],
+) -> Result<String, Wrong> {
     let mut numbers = Vec::new(alloc);
     for word in words {
         let n = number(word)?;
         numbers.push(n).map_err(|_| Wrong::Memory)?;
     }
-    let before = bench.disk.calls();
-    let (roots, marks) = found_sized(alloc, bench, &numbers)?;
-    let calls = bench.disk.calls().saturating_sub(before);
+    let before = bench.calls();
+    let (roots, marks) = found_sized(alloc, bench, long, &numbers)?;
+    let calls = bench.calls().saturating_sub(before);
     let mut text = String::new(alloc);
     for root in &roots {
         add_root(&mut text, *root)?;

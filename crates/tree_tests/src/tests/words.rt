@@ -1,7 +1,10 @@
 //! What the words of a row stand for.
+ghost use Rattle.std.specs.Prelude.{IfOk, IfSome};
+ghost use Rattle.vm_block.specs.Leaf.{LinkFits, StoredFits};
+
 use std::alloc::AllocError;
 use std::num::ParseIntError;
-use vm_block::Child;
+use vm_block::{Child, Link, Stored};
 use vm_disk::DeviceFault;
 use vm_tree::{Root, TreeFault};
 use vm_types::{Key, Value};
@@ -63,10 +66,77 @@ pub(super) fn key(number: u64) -> Key {
     Key { table: 1, number }
 }
 
-/// A value, where `''` is the one without bytes.
+/// The bytes for which a word stands, where `''` is for none.
+fn bytes_of(word: &str) -> &[u8] {
+    if word == "''" { b"" } else { word.as_bytes() }
+}
+
+/// A value, where `''` is the one without bytes, and `300*a` that of 300 times the letter a.
 pub(super) fn value(word: &str) -> Result<Value, Wrong> {
-    let text = if word == "''" { "" } else { word };
-    Value::new(text.as_bytes()).ok_or(Wrong::Unreadable)
+    let Some((count, letter)) = word.split_once('*') else {
+        return Value::new(bytes_of(word)).ok_or(Wrong::Unreadable);
+    };
+    let count = number(count)? as usize;
+    let letter = letter.as_bytes().first().ok_or(Wrong::Unreadable)?;
+    if count > Value::MAX_LEN {
+        return Err(Wrong::Unreadable);
+    }
+    Value::new(&[*letter; Value::MAX_LEN][..count]).ok_or(Wrong::Unreadable)
+}
+
+/// Adds a value to a text: one of more than 16 bytes is one letter over and over, as in `300*a`.
+pub(super) fn add_value(text: &mut String, value: &[u8]) -> Result<(), Wrong> {
+    let letters = str::from_utf8(value).map_err(|_| Wrong::Unreadable)?;
+    if value.len() <= 16 {
+        text.push_str(letters)?;
+        return Ok(());
+    }
+    let first = value[0];
+    if value.iter().any(|byte| *byte != first) {
+        return Err(Wrong::Unreadable);
+    }
+    write!(text, "{}*{}", value.len(), char::from(first))?;
+    Ok(())
+}
+
+/// A link to so many bytes in a block, as in `300@35`, where it is one.
+pub(super) fn link(word: &str) -> Result<Option<Link>, Wrong>
+    ensures { IfOk result (λ link. IfSome link LinkFits) }
+{
+    let Some((len, block)) = word.split_once('@') else {
+        return Ok(None);
+    };
+    let len = len.parse::<u16>()?;
+    if len <= 240 || len > 4000 {
+        return Err(Wrong::Unreadable);
+    }
+    let block = number(block)?;
+    Ok(Some(Link { len, block }))
+}
+
+/// What a leaf has of a value: a link, or the bytes of a short one.
+pub(super) fn stored(word: &str) -> Result<Stored<'_>, Wrong>
+    ensures { IfOk result StoredFits }
+{
+    if let Some(link) = link(word)? {
+        return Ok(Stored::Long(link));
+    }
+    let bytes = bytes_of(word);
+    if bytes.len() > 240 {
+        return Err(Wrong::Unreadable);
+    }
+    Ok(Stored::Short(bytes))
+}
+
+/// Adds what a leaf has of a value to a text.
+pub(super) fn add_stored(text: &mut String, stored: Stored<'_>) -> Result<(), Wrong> {
+    match stored {
+        Stored::Short(value) => add_value(text, value),
+        Stored::Long(link) => {
+            write!(text, "{}@{}", link.len, link.block)?;
+            Ok(())
+        }
+    }
 }
 
 /// Lowest key and block of a child, as in `10:36`.

@@ -1,6 +1,6 @@
 use Rattle.std.proofs.Common.{◌≡◌, drop}
 use Rattle.vm_types.specs.Map.{over}
-use Rattle.plain_model.proofs.comparing.over.Given as goal
+use Rattle.plain_model.proofs.map.over.Given as goal
 
 -- the records so far are put in, and the others are left
 abbrev pub invariant-loop-key : goal.invariant-loop-key
