@@ -1,8 +1,11 @@
 #!/usr/bin/env python3
-"""Runs random sessions of `altctl` over real files beside a model of its own, and compares all answers, and the file after each
-session: every byte of it where no written block waits (half of the files), and else those of header, slots and each block that a
-committed version reaches, since blocks that nobody needs are not written then; then it spoils bytes of the file, and compares what opening it is answered: `tools/compare.py [-n FILES] [-s SEED]
-[ALTCTL]`. The model goes by docs/MODEL.md and docs/FORMATS.md, and shares nothing with the store. It stands beside the gate."""
+"""Runs random sessions of `altctl` over real files beside a model of its own, and compares all answers, and the file
+after each session: `tools/compare.py [-n FILES] [-s SEED] [--short] [ALTCTL]`.
+
+Of the file every byte is compared where no written block waits (half of the files), and else those of header, slots and
+each block that a committed version reaches, since blocks that nobody needs are not written then. Between sessions some
+slots are made such of format 1. At the end it spoils bytes of the file, and compares what opening it is answered. The
+model goes by docs/MODEL.md and docs/FORMATS.md, and shares nothing with the store. It stands beside the gate."""
 import argparse
 import os
 import random
@@ -10,8 +13,13 @@ import struct
 import subprocess
 import sys
 import tempfile
+from typing import NamedTuple
 
 BLOCK, FIRST = 4096, 34
+# A leaf has rows of 252 bytes. A value of more than 240 bytes stands in a block of its own, and has 4,000 at most.
+ROW, SHORT, LONGEST = 252, 240, 4000
+# So many blocks have to be spare for each record that is changed.
+MARGIN = 17
 LETTERS = {*b"ABCDEFGHIJKLMNOPQRSTUVWXYZabcdefghijklmnopqrstuvwxyz0123456789_-."}
 NAMES = "NoSuchAlternative AlternativeExists NoSuchCheckpoint CheckpointExists NoSuchRecord IsTop HasChildren NotMerged Unsettled"
 NAMES = [None, *NAMES.split(), "NotInConflict", "SettledTwice", "TooMany", "Full", "Deep", "Device", "Memory", "Failed"]
@@ -21,6 +29,28 @@ NAMES += ["Damaged", "NotAStore", "AlreadyAStore", "BadSize"]
 class Refused(Exception):
     def __init__(self, code, detail=""):
         self.text = f"error {code} {NAMES[code]}{detail}"
+
+
+class Link(NamedTuple):
+    """What a leaf has of a long value: its length, and the block that has it."""
+
+    size: int
+    block: int
+
+
+def stored_in(field, size):
+    """What the 240 bytes behind the length in a row stand for: a value, or a link to one."""
+    return Link(size, *struct.unpack_from("<I", field)) if size > SHORT else field[:size]
+
+
+def row_of(key, stored):
+    """The bytes of a row."""
+    size, field = (stored.size, struct.pack("<I", stored.block)) if isinstance(stored, Link) else (len(stored), stored)
+    return struct.pack("<HQH", *key, size) + field.ljust(SHORT, b"\0")
+
+
+def has_links(items):
+    return any(isinstance(stored, Link) for _, stored in items)
 
 
 class Alternative:
@@ -50,7 +80,7 @@ class Store:
     # --- the slots
 
     def slot_blocks(self, entries):
-        head = b"SLOT" + struct.pack("<III", 1, self.blocks, len(entries))
+        head = b"SLOT" + struct.pack("<III", 2, self.blocks, len(entries))
         text = head.ljust(128, b"\0") + b"".join(it.encoded() for it in entries)
         text = text.ljust((len(entries) + 32) // 32 * BLOCK, b"\0")
         return [text[at : at + BLOCK] for at in range(0, len(text), BLOCK)]
@@ -79,28 +109,46 @@ class Store:
     # --- trees
 
     def decoded(self, block):
-        """The level of a block, and its records or children."""
+        """The level of a block, and its children or, of a leaf, its rows: keys with a value, or a link to one."""
         text = self.disk[block]
         level, count = struct.unpack_from("<II", text, 4)
-        if text[:4] == b"LEAF":
+        if text[:4] in (b"LEAF", b"LEF2"):
             found = []
-            for at in range(16, 16 + 252 * count, 252):
+            for at in range(16, 16 + ROW * count, ROW):
                 table, number, size = struct.unpack_from("<HQH", text, at)
-                found.append(((table, number), text[at + 12 : at + 12 + size]))
+                found.append(((table, number), stored_in(text[at + 12 : at + ROW], size)))
+            assert has_links(found) == (text[:4] == b"LEF2")
             return 0, found
         assert text[:4] == b"NODE" and level > 0
         words = [struct.unpack_from("<HQI", text, at) for at in range(16, 16 + 14 * count, 14)]
         return level, [((table, number), child) for table, number, child in words]
 
-    def write(self, level, items):
-        """Writes items into the lowest block that isn't held, and gives their first key, and the block."""
+    def value_of(self, stored):
+        return self.disk[stored.block][26 : 26 + stored.size] if isinstance(stored, Link) else stored
+
+    def take(self):
+        """The lowest block that isn't held, which is held from then on."""
         block = next(it for it in range(FIRST, self.blocks) if it not in self.held)
         self.held.add(block)
+        return block
+
+    def stored(self, key, value):
+        """What a leaf is to have of a value. A long one is written into a block of its own."""
+        if len(value) <= SHORT:
+            return value
+        block = self.take()
+        head = b"LONG" + struct.pack("<IIIHQ", 0, len(value), 0, *key)
+        self.disk[block] = (head + value).ljust(BLOCK, b"\0")
+        return Link(len(value), block)
+
+    def write(self, level, items):
+        """Writes items into the lowest block that isn't held, and gives their first key, and the block."""
+        block = self.take()
         if level == 0:
-            body = b"".join(struct.pack("<HQH", *key, len(value)) + value.ljust(240, b"\0") for key, value in items)
+            letters, body = b"LEF2" if has_links(items) else b"LEAF", b"".join(row_of(*it) for it in items)
         else:
-            body = b"".join(struct.pack("<HQI", *key, child) for key, child in items)
-        head = (b"NODE" if level else b"LEAF") + struct.pack("<III", level, len(items), 0)
+            letters, body = b"NODE", b"".join(struct.pack("<HQI", *key, child) for key, child in items)
+        head = letters + struct.pack("<III", level, len(items), 0)
         self.disk[block] = (head + body).ljust(BLOCK, b"\0")
         return items[0][0], block
 
@@ -114,9 +162,11 @@ class Store:
         if root and root not in found:
             found.add(root)
             level, items = self.decoded(root)
-            if level:
-                for _, child in items:
-                    self.blocks_under(child, found)
+            for _, it in items:
+                if level:
+                    self.blocks_under(it, found)
+                elif isinstance(it, Link):
+                    found.add(it.block)
         return found
 
     def reached(self, entries):
@@ -131,7 +181,7 @@ class Store:
             return {}
         level, items = self.decoded(root)
         if level == 0:
-            return dict(items)
+            return {key: self.value_of(stored) for key, stored in items}
         found = {}
         for _, child in items:
             found.update(self.records(child))
@@ -141,18 +191,19 @@ class Store:
     def chosen(items, key):
         return max((at for at, it in enumerate(items) if it[0] <= key), default=0)
 
-    def put_below(self, block, key, value):
+    def put_below(self, block, key, stored):
         level, items = self.decoded(block)
         if level == 0:
-            return 0, self.write_split(0, sorted({**dict(items), key: value}.items()))
+            return 0, self.write_split(0, sorted({**dict(items), key: stored}.items()))
         at = self.chosen(items, key)
-        _, now = self.put_below(items[at][1], key, value)
+        _, now = self.put_below(items[at][1], key, stored)
         return level, self.write_split(level, [*items[:at], *now, *items[at + 1 :]])
 
     def put(self, root, key, value):
+        stored = self.stored(key, value)
         if not root:
-            return self.write(0, [(key, value)])[1]
-        level, now = self.put_below(root, key, value)
+            return self.write(0, [(key, stored)])[1]
+        level, now = self.put_below(root, key, stored)
         return now[0][1] if len(now) == 1 else self.write(level + 1, now)[1]
 
     def remove_below(self, block, key):
@@ -197,9 +248,9 @@ class Store:
         self.blocks = blocks
 
     def demand(self, changes):
-        if self.free() < 16 * changes:
+        if self.free() < MARGIN * changes:
             self.held = self.reached(self.committed) | self.reached(self.working)
-            if self.free() < 16 * changes:
+            if self.free() < MARGIN * changes:
                 raise Refused(13)
 
     # --- commands
@@ -365,11 +416,11 @@ def name_in(text, size, least):
 
 
 def slot_in(disk, slot):
-    """The number of blocks and the entries of a slot, where it is one."""
+    """The format, the number of blocks and the entries of a slot, where it is one."""
     head = disk[slot][:128]
-    if head[:8] != b"SLOT\1\0\0\0" or any(head[16:]):
+    form, blocks, count = struct.unpack_from("<III", head, 4)
+    if head[:4] != b"SLOT" or form not in (1, 2) or any(head[16:]):
         raise Damaged(slot)
-    blocks, count = struct.unpack_from("<II", head, 8)
     if not 64 <= blocks <= 1 << 20 or not 1 <= count <= 511:
         raise Damaged(slot)
     text, entries = b"".join(disk[slot : slot + (count + 32) // 32]), []
@@ -384,49 +435,85 @@ def slot_in(disk, slot):
         if is_top and (it[:1], name, owner) != (b"A", "top", "") or base and (is_top or it[:1] == b"C" and owner == "top"):
             raise Damaged(slot)
         entries.append(Alternative(it[:1], name, owner, current, base))
-    return blocks, entries
+    return form, blocks, entries
+
+
+def row_in(text):
+    """What a row of a leaf has of its value, where it is a row."""
+    size = struct.unpack_from("<H", text, 10)[0]
+    if size > LONGEST or any(text[12 + (4 if size > SHORT else size) :]):
+        return None
+    return stored_in(text[12:], size)
+
+
+def long_in(text):
+    """The key and the length of the value in a block of a long value, where it is one."""
+    zero, size, other, *key = struct.unpack_from("<IIIHQ", text, 4)
+    if text[:4] != b"LONG" or zero or other or not SHORT < size <= LONGEST or any(text[26 + size :]):
+        return None
+    return tuple(key), size
 
 
 class Walk:
-    """A walk through the trees under roots, each block once."""
+    """A walk through the trees under roots, each block once. Of each block that was met it keeps the level, and the lowest
+    and the highest key under it, or what `long_in` tells of it."""
 
-    def __init__(self, disk, blocks):
-        self.disk, self.blocks, self.met = disk, blocks, {}
+    LONG = "long"
 
-    def form(self, block):
-        """The level and the items of a block."""
+    def __init__(self, disk, form, blocks):
+        self.disk, self.form, self.blocks, self.met = disk, form, blocks, {}
+
+    def items(self, block):
+        """The level and the items of a block: what a leaf has of its values, or children."""
         text = self.disk[block]
         level, count, zero = struct.unpack_from("<III", text, 4)
-        is_leaf = text[:4] == b"LEAF" and level == 0 and 1 <= count <= 16
+        letters = [b"LEAF", b"LEF2"] if self.form == 2 else [b"LEAF"]
+        is_leaf = text[:4] in letters and level == 0 and 1 <= count <= 16
         is_node = text[:4] == b"NODE" and 1 <= level <= 7 and 1 <= count <= 256
-        size = 252 if is_leaf else 14
+        size = ROW if is_leaf else 14
         if not is_leaf and not is_node or zero or any(text[16 + size * count :]):
             raise Damaged(block)
         items = []
         for at in range(16, 16 + size * count, size):
-            table, number, value = struct.unpack_from("<HQH" if is_leaf else "<HQI", text, at)
-            if is_leaf and (value > 240 or any(text[at + 12 + value : at + 252])) or items and items[-1][0] >= (table, number):
+            table, number, child = struct.unpack_from("<HQI", text, at)
+            it = row_in(text[at : at + ROW]) if is_leaf else child
+            if it is None or items and items[-1][0] >= (table, number):
                 raise Damaged(block)
-            items.append(((table, number), value))
+            items.append(((table, number), it))
+        if is_leaf and has_links(items) != (text[:4] == b"LEF2"):
+            raise Damaged(block)
         return level, items
+
+    def visit_long(self, key, link):
+        """A block to which a leaf links. One that was met before has to be one of this key and length, too."""
+        block = link.block
+        if not FIRST <= block < self.blocks:
+            raise Damaged(block)
+        if block not in self.met:
+            self.met[block] = self.LONG, long_in(self.disk[block])
+        if self.met[block] != (self.LONG, (key, link.size)):
+            raise Damaged(block)
 
     def visit(self, block, expected):
         """The lowest and the highest key under a block."""
         if not FIRST <= block < self.blocks:
             raise Damaged(block)
         if block not in self.met:
-            level, items = self.form(block)
+            level, items = self.items(block)
             if expected not in (None, level):
                 raise Damaged(block)
             self.met[block] = level, None
             low, high = items[0][0], items[-1][0]
+            for key, stored in items:
+                if isinstance(stored, Link):
+                    self.visit_long(key, stored)
             for at, (key, child) in enumerate(items if level else []):
                 least, high = self.visit(child, level - 1)
                 if least != key or at + 1 < len(items) and high >= items[at + 1][0]:
                     raise Damaged(child)
             self.met[block] = level, (low, high)
         level, keys = self.met[block]
-        if expected not in (None, level):
+        if level == self.LONG or expected not in (None, level):
             raise Damaged(block)
         return keys
 
@@ -436,10 +523,10 @@ def refusal(disk):
     if len(disk) < 64 or disk[0] != Store(64).disk[0]:
         return "19 NotAStore"
     try:
-        blocks, entries = slot_in(disk, 18 if disk[1][0] & 1 else 2)
+        form, blocks, entries = slot_in(disk, 18 if disk[1][0] & 1 else 2)
         if blocks > len(disk):
             return "21 BadSize"
-        walk = Walk(disk, blocks)
+        walk = Walk(disk, form, blocks)
         for it in entries:
             for root in (it.current, it.base):
                 if root:
@@ -447,6 +534,11 @@ def refusal(disk):
     except Damaged as damaged:
         return f"18 Damaged {damaged.args[0]}"
     return None
+
+
+def count_in(text, most):
+    """The count in the head of a block, or a length, where it is no more than it may be."""
+    return max(1, min(most, struct.unpack_from("<I", text, 8)[0]))
 
 
 def spoiled(rng, disk):
@@ -462,8 +554,17 @@ def spoiled(rng, disk):
         if block >= FIRST and rng.random() < 0.3:
             text = bytearray(disk[rng.choice(used)])
         elif text[:4] == b"NODE" and rng.random() < 0.6:
-            at = 16 + 14 * rng.randrange(struct.unpack_from("<I", text, 8)[0]) + rng.choice([2, 10, 10, 11])
+            at = 16 + 14 * rng.randrange(count_in(text, 256)) + rng.choice([2, 10, 10, 11])
             text[at] = rng.choice([0, 1, 33, 34, 35, rng.randrange(256)])
+        elif text[:4] == b"LEF2" and rng.random() < 0.6:
+            at = 16 + ROW * rng.randrange(count_in(text, 16)) + rng.choice([2, 10, 11, 12, 12, 12, 13, 16, 251])
+            text[at] = rng.choice([0, 1, 33, 34, 35, rng.choice(used) & 255, rng.randrange(256)])
+        elif text[:4] == b"LONG" and rng.random() < 0.6:
+            size = count_in(text, LONGEST)
+            at = rng.choice([3, 4, 8, 9, 12, 16, 17, 18, 25, 26, 25 + size, min(26 + size, BLOCK - 1), BLOCK - 1])
+            text[at] = rng.choice([0, 1, 14, 15, 16, 255, text[at] ^ 1, rng.randrange(256)])
+        elif block in (2, 18) and rng.random() < 0.2:
+            text[4] = rng.choice([0, 1, 1, 1, 3, 255])
         elif block in (2, 18) and rng.random() < 0.4:
             at = 128 * rng.randrange(1, 6) + rng.choice([0, 1, 2, 34, 35, 67, 67, 71, 71])
             text[at] = rng.choice([0, 1, 0x41, 0x43, 34, 35, rng.randrange(256)])
@@ -509,8 +610,9 @@ def checked(altctl, file, store):
 class Editor:
     """Makes random lines, each with its meaning: None for no answer, a text for an answer that never changes, or words for the store."""
 
-    def __init__(self, rng):
+    def __init__(self, rng, most=LONGEST):
         self.rng = rng
+        self.long = rng.choice([0, 0.02, 0.1, 0.4]) if most > SHORT else 0
         self.names = ["top", "top", "a", "b", "c", "d-1", "e.f_G"]
         self.marks = ["k", "l", "m" * 32]
         self.width = rng.choice([3, 20, 60, 400, 3000])
@@ -522,7 +624,11 @@ class Editor:
         return self.rng.choice([1, 1, 1, 7]), self.rng.randrange(self.width)
 
     def value(self):
-        size = self.rng.choice([0, 1, 1, 1, 2, 4, 4, 10, 240])
+        """A value, of which some are long. Of those of many bytes half are such as may come again."""
+        is_long = self.rng.random() < self.long
+        size = self.rng.choice([241, 300, 1000, 4000] if is_long else [0, 1, 1, 1, 2, 4, 4, 10, 240])
+        if size > 10 and self.rng.random() < 0.5:
+            return bytes([self.rng.choice([0, 97])]) * size
         return bytes(self.rng.choice([45, 97, 98, self.rng.randrange(256)]) for _ in range(size))
 
     def typed(self, value):
@@ -546,7 +652,7 @@ class Editor:
 
     def odd(self):
         bad = ["PUT top 1 1 a", "get top x 1", "get top 65536 1", "get top 1 18446744073709551616", "commit now", "put top 1 1", "put top 1 1 %z1"]
-        bad += ["put top 1 1 " + "x" * 241, "new a", "new a~ top", "new a top c!", "new a top c d", "new " + "n" * 33 + " top", "merge", "merge top 1:1=ours", "get\ttop 1 1", "free\r\r"]
+        bad += ["put top 1 1 " + self.rng.choice(["x", "%61"]) * 4001, "new a", "new a~ top", "new a top c!", "new a top c d", "new " + "n" * 33 + " top", "merge", "merge top 1:1=ours", "get\ttop 1 1", "free\r\r"]
         bad += ["grow", "grow 4294967296", "grow 18446744073709551616", "grow " + "0" * 20 + "1", "grow -1", "grow +70", "grow 70 80", "grow many"]
         if self.rng.random() < 0.3:
             return self.rng.choice(["", "# note", "   ", "  #x"]) + "\n", None
@@ -605,17 +711,29 @@ class Editor:
         return self.spaced(["merge", name, *[f"{k[0]}:{k[1]}={side}" for k, side in settled]]), ["merge", name, settled]
 
 
-def compared(altctl, rng, folder, waits):
+def lower(rng, file, store):
+    """Has the slot in use say format 1 now and then, as that of an older store does, where no leaf has a link."""
+    reached = store.reached(store.committed)
+    if rng.random() < 0.3 and not any(store.disk[it][:4] == b"LEF2" for it in reached):
+        slot = 18 if store.disk[1][0] & 1 else 2
+        store.disk[slot] = store.disk[slot][:4] + b"\1" + store.disk[slot][5:]
+        with open(file, "r+b") as it:
+            it.seek(slot * BLOCK)
+            it.write(store.disk[slot])
+
+
+def compared(altctl, rng, folder, waits, most):
     """Makes a file, runs some sessions over it, and says what differs from the model."""
     options = [] if waits else ["--buffer", "0"]
     file, blocks = os.path.join(folder, "map.alt"), rng.choice([64, 64, 66, 100, 200, 1000])
     made = subprocess.run([altctl, "create", file, str(blocks)], stdout=subprocess.PIPE, stderr=subprocess.PIPE)
     if (made.returncode, made.stdout) != (0, f"created {blocks}\n".encode()):
         return f"create said {made}"
-    store, editor = Store(blocks), Editor(rng)
+    store, editor = Store(blocks), Editor(rng, most)
     count = 0
     for _ in range(rng.randrange(1, 5)):
         store.open()
+        lower(rng, file, store)
         lines, answers = "", []
         for _ in range(rng.choice([10, 100, 400])):
             line, words = editor.line(store)
@@ -660,12 +778,13 @@ def main():
     words = argparse.ArgumentParser(description=__doc__)
     words.add_argument("-n", type=int, default=200, help="so many files")
     words.add_argument("-s", type=int, default=1, help="the first seed")
+    words.add_argument("--short", action="store_true", help="only values of up to 240 bytes, as plain.c has them")
     words.add_argument("altctl", nargs="?", default=os.path.join(os.path.dirname(os.path.abspath(__file__)), "..", "altctl"))
     said = words.parse_args()
     lines = 0
     with tempfile.TemporaryDirectory() as folder:
         for seed in range(said.s, said.s + said.n):
-            found = compared(said.altctl, random.Random(seed), folder, seed % 2 == 1)
+            found = compared(said.altctl, random.Random(seed), folder, seed % 2 == 1, SHORT if said.short else LONGEST)
             if isinstance(found, str):
                 print(f"compare: seed {seed}: {found}", file=sys.stderr)
                 return 1

@@ -24,7 +24,7 @@ NAMES = ["a", "b", "c", "d", "e", "f", "g", "h"]
 CHECKPOINTS = ["before", "between", "after"]
 TABLES = range(3)
 NUMBERS = range(64)
-VALUES = ["-", "%2D", "duct", "cable%20A", "%00%FF", "pipe", "x" * 240]
+VALUES = ["-", "%2D", "duct", "cable%20A", "%00%FF", "pipe", "x" * 240, "y" * 241, "%00" * 300, "z" * 4000]
 
 
 # --- the model ------------------------------------------------------------------------------------

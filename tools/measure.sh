@@ -1,15 +1,16 @@
 #!/bin/sh
 # Measures the program over real files beside a store in the same format that is written by hand in C, without proofs
-# (`plain.c`), and prints tables in Markdown: `tools/measure.sh [-c] [-d DIVISOR] [--peers] [ALTCTL]`. Both get the same
-# lines, and all answers of both are compared with what is expected. A time is the middle one of three. With -c it is
-# the least one, and only that in which the process had a processor, which other work on the machine disturbs less; a
-# DIVISOR of 1 to 16 makes all of it so many times smaller. With --peers loads and gets are measured over LMDB and
-# SQLite, too (`peers.c`), where Debian's packages liblmdb-dev and libsqlite3-dev are installed. It stands beside the
-# gate: times are looked at, never tested.
+# (`plain.c`), and prints tables in Markdown: `tools/measure.sh [-c] [-d DIVISOR] [--peers] [--long] [ALTCTL]`. Both get
+# the same lines, and all answers of both are compared with what is expected. A time is the middle one of three. With -c
+# it is the least one, and only that in which the process had a processor, which other work on the machine disturbs
+# less; a DIVISOR of 1 to 16 makes all of it so many times smaller. With --peers loads and gets are measured over LMDB
+# and SQLite, too (`peers.c`), where Debian's packages liblmdb-dev and libsqlite3-dev are installed. With --long values
+# of 2,000 bytes are measured instead, in one record each and split over several, by the program alone: plain.c has
+# none; that needs about 3 GB for temporary files. It stands beside the gate: times are looked at, never tested.
 set -eu
 
 usage() {
-    echo 'usage: tools/measure.sh [-c] [-d DIVISOR] [--peers] [ALTCTL]' >&2
+    echo 'usage: tools/measure.sh [-c] [-d DIVISOR] [--peers] [--long] [ALTCTL]' >&2
     exit 2
 }
 
@@ -21,6 +22,7 @@ fail() {
 clock=1
 divisor=1
 peers=
+long=
 while [ $# -gt 0 ]; do
     case $1 in
     -c) clock=2 ;;
@@ -30,6 +32,7 @@ while [ $# -gt 0 ]; do
         shift
         ;;
     --peers) peers=1 ;;
+    --long) long=1 ;;
     -*) usage ;;
     *) break ;;
     esac
@@ -48,6 +51,9 @@ large_records=$((1000000 / divisor))
 large_gets=$((100000 / divisor))
 markings=1000
 puts=$((20000 / divisor))
+long_blocks=$((196608 / divisor))
+long_records=$((100000 / divisor))
+long_markings=100
 
 tools=$(cd "$(dirname "$0")" && pwd)
 altctl=${1:-$tools/../altctl}
@@ -189,6 +195,18 @@ print_rows() {
         }'
 }
 
+# The rows of one program.
+print_alone() {
+    echo
+    echo "| $1 | altctl | Each | Blocks read | Written |"
+    echo '|---|---|---|---|---|'
+    chosen | awk -F '|' "$functions"'
+        {
+            each = $4 > 1 ? short($3, $5 / $4) : ""
+            printf "| %s | %s | %s | %s | %s |\n", $1, short($3, $5), each, grouped($6), grouped($7)
+        }'
+}
+
 # The rows that other stores have, too.
 print_peers() {
     echo
@@ -321,6 +339,24 @@ prepare_large() {
     echo "grow $((2 * blocks))" | all_ok growth
 }
 
+# The lines on values of 2,000 bytes: in a record each, and in nine records of 223 bytes at most, which have ten times
+# the number and a place.
+prepare_long() {
+    numbers "$long_records" random >"$work/whole"
+    sort -n "$work/whole" >"$work/whole_rising"
+    awk '{ for (i = 0; i < 9; i++) printf "%d\n", 10 * $1 + i }' "$work/whole" >"$work/split"
+    sort -n "$work/split" >"$work/split_rising"
+    for it in 'whole 2000' 'split 223'; do
+        set -- $it
+        { put_lines top "$2" 0 <"$work/$1" && echo commit; } | all_ok "long_load_$1"
+        prepare_gets "long_gets_$1" "$1" "$2"
+        awk -v size="$2" '{ printf "record 1 %d %0*d\n", $1, size, $1 } END { print "end " NR }' "$work/$1_rising" \
+            >"$work/long_list_$1.answers"
+        echo list top >"$work/long_list_$1.lines"
+    done
+    yes reclaim | head -n $long_markings | all_ok long_markings
+}
+
 # --- what is measured ----------------------------------------------------------------------------
 
 # All rows of records of 200 bytes, of one program.
@@ -411,6 +447,22 @@ measure_large() {
     rm -f "$work/store"
 }
 
+# Values of 2,000 bytes in a store, in the records of a name: a load, gets, a list, markings, and an opening. The blocks
+# that they take are told, too.
+measure_long() {
+    of=$(grouped "$(wc -l <"$work/$1")")
+    begin "$long_blocks"
+    measure "long_load_$1" "$2: $of puts in random order, one commit" "$long_records"
+    echo "$2: $(grouped $((long_blocks - 34 - $(spare)))) blocks" >"$work/long_blocks_$1"
+    measure "long_gets_$1" "$2: $of gets" "$long_records"
+    measure "long_list_$1" "$2: a list" 1
+    measure long_markings "$2: $(grouped $long_markings) markings" "$long_markings"
+    end
+    times=$("$work/timed" run "$program" run "$work/store")
+    add "$2: open" time 1 "$(echo "$times" | cut -d ' ' -f $clock)" "$((long_blocks - 34 - $(free_of_store) + 3))" 0
+    add "$2: the greatest memory of that" memory 1 "$(echo "$times" | cut -d ' ' -f 3)" 0 0
+}
+
 # Loads and gets of records of 200 bytes over another store.
 measure_peer() {
     of=$(grouped "$records")
@@ -457,8 +509,20 @@ both() {
 mkfifo "$work/input"
 echo checks top >"$work/ready.lines"
 echo end 0 >"$work/ready.answers"
-"$tools/compare.py" -n 20 "$work/plain" >"$work/compared" || fail 'plain.c answers otherwise than compare.py expects'
+"$tools/compare.py" --short -n 20 "$work/plain" >"$work/compared" || fail 'plain.c answers otherwise than compare.py expects'
 
+if [ -n "$long" ]; then
+    table=long name=altctl program=$altctl
+    prepare_long
+    for round in $(seq $rounds); do
+        measure_long whole 'one record each'
+        measure_long split 'nine records each'
+    done
+    print_alone "$(grouped "$long_records") values of 2,000 bytes"
+    echo
+    cat "$work/long_blocks_whole" "$work/long_blocks_split"
+    exit 0
+fi
 table=small
 prepare
 both measure_records $rounds

@@ -228,6 +228,7 @@ def strip():
         fill, line = (GREEN_PALE, GREEN) if x > 544 else (PALE, GREY)
         it.box(x, 248, width, 34, tells.split("|"), fill, line, 11 if "|" in tells else 12)
         x += width
+    it.text(544, 300, "A longer value stands in a data block of its own.", 12, GREY)
     it.text(24, 340, "Where a tree begins", 14, bold=True)
     lines = [
         "Only the slot that the selector names counts. Its entries name",

@@ -2,8 +2,9 @@
    compiles and calls it. It is what one writes straightforwardly: each block that a change makes is written at once,
    by one call; 256 blocks are kept in memory, those that were used last; blocks are read where they lie, and of a path
    only heads are tested. Files, lines, answers and statuses are those of docs/FORMATS.md, so each program opens the
-   files of the other, and `tools/compare.py` tries this one, too. It is trusted with nothing: memory that is refused
-   and a file that fails end it.
+   files of the other, and `tools/compare.py --short` tries this one, too. It has values of up to 240 bytes alone, as
+   the lines have that both are measured by: a longer one is a bad line here, and a file with one is damaged. It is
+   trusted with nothing: memory that is refused and a file that fails end it.
 
    plain create FILE BLOCKS
    plain run [--buffer 0] FILE     no written block waits, with the words `--buffer 0` and without
@@ -24,7 +25,7 @@
 enum { BLOCK = 4096, FIRST = 34, LEAST_BLOCKS = 64, MOST_BLOCKS = 1 << 20, AT_ONCE = 16 };
 enum { SLOT_A = 2, SLOT_B = 18, SLOT_BLOCKS = 16, CELL = 128, ENTRIES = 511, NAME = 33 };
 enum { HEAD = 16, LEAF = 16, FAN = 256, LEVELS = 8, RECORD = 252, CHILD = 14, VALUE = 240 };
-enum { BLOCKS_A_CHANGE = 16, KEPT = 256, BUCKETS = 512, LINE = 1 << 20, CHUNK = 1 << 16 };
+enum { BLOCKS_A_CHANGE = 17, KEPT = 256, BUCKETS = 512, LINE = 1 << 20, CHUNK = 1 << 16 };
 
 typedef unsigned char byte;
 
@@ -764,7 +765,7 @@ static void publish(void)
     uint32_t used = slot_blocks(working.count);
     memset(slot, 0, used * BLOCK);
     memcpy(slot, "SLOT", 4);
-    store32(slot + 4, 1);
+    store32(slot + 4, 2);
     store32(slot + 8, blocks);
     store32(slot + 12, (uint32_t)working.count);
     for (int i = 0; i < working.count; i++)
@@ -869,10 +870,10 @@ static void read_slot(uint32_t first)
 {
     static byte slot[SLOT_BLOCKS * BLOCK];
     read_file(first, slot);
-    uint32_t count = load32(slot + 12);
+    uint32_t format = load32(slot + 4), count = load32(slot + 12);
     blocks = load32(slot + 8);
-    if (memcmp(slot, "SLOT\1\0\0\0", 8) != 0 || blocks < LEAST_BLOCKS || blocks > MOST_BLOCKS || count < 1
-        || count > ENTRIES || !is_zero(slot + 16, CELL - 16))
+    if (memcmp(slot, "SLOT", 4) != 0 || format < 1 || format > 2 || blocks < LEAST_BLOCKS || blocks > MOST_BLOCKS
+        || count < 1 || count > ENTRIES || !is_zero(slot + 16, CELL - 16))
         damaged(first);
     for (uint32_t i = 1; i < slot_blocks((int)count); i++)
         read_file(first + i, slot + i * BLOCK);

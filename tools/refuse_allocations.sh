@@ -25,15 +25,16 @@ trap 'rm -rf "$room"' EXIT
 trap '' PIPE
 
 # Each line of the first session, and the last line of its answer.
-cat >"$room/session.a" <<'END'
+long=$(printf '%0300d' 7)
+cat >"$room/session.a" <<END
 new a top => ok
 put top 1 1 x => ok
 put a 1 1 y => ok
-put a 1 9 y => ok
+put a 1 9 $long => ok
 put top 1 2 x => ok
 put top 1 3 x => ok
 put top 1 4 x => ok
-put top 1 5 x => ok
+put top 1 5 $long => ok
 put top 1 6 x => ok
 checkpoint a before => ok
 changes a => end 2
@@ -56,7 +57,7 @@ list a => end 2
 checks a => end 1
 alts => end 2
 reclaim => ok
-free => free 963
+free => free 960
 END
 
 # The list of commands as lines, and each listing.

@@ -329,16 +329,16 @@ error 21 BadSize
 value x
 END
 
-# The smallest store is full with 15 records of one leaf in as many checkpoints, and takes more once it has grown.
+# The smallest store is full with 14 records of one leaf in as many checkpoints, and takes more once it has grown.
 create full 64
-for n in 1 2 3 4 5 6 7 8 9 10 11 12 13 14 15; do
+for n in 1 2 3 4 5 6 7 8 9 10 11 12 13 14; do
     printf 'put top 1 %d x\ncheckpoint top c%d\n' $n $n
 done >lines
-for n in 1 2 3 4 5 6 7 8 9 10 11 12 13 14 15; do
+for n in 1 2 3 4 5 6 7 8 9 10 11 12 13 14; do
     printf 'ok\nok\n'
 done >output
-printf 'put top 1 16 x\nfree\ngrow 65\nput top 1 16 x\nfree\ncommit\n' >>lines
-printf 'error 13 Full\nfree 15\nok\nok\nfree 15\nok\n' >>output
+printf 'put top 1 15 x\nfree\ngrow 65\nput top 1 15 x\nfree\ncommit\n' >>lines
+printf 'error 13 Full\nfree 16\nok\nok\nfree 16\nok\n' >>output
 : >faults
 program 'a full store that grows' 0 run full
 has_bytes full 266240
@@ -357,6 +357,101 @@ free 62
 ok
 END
 has_bytes wider 524288
+
+# --- long values ---------------------------------------------------------------------------------
+
+create long 96
+long=$(printf '%0300d' 7)
+most=$(printf '%04000d' 8)
+session 'long values' long <<END
+> put top 7 1 $long
+ok
+> get top 7 1
+value $long
+> free
+free 60
+> list top
+record 7 1 $long
+end 1
+> new a top
+ok
+> put a 7 1 $most
+ok
+> put top 7 1 duct
+ok
+> put top 7 2 $long
+ok
+> changes a
+change 7 1 $long $most
+end 1
+> conflicts a
+conflict 7 1 $long duct $most
+end 1
+> merge a 7:1=mine
+ok 1
+> list a
+record 7 1 $most
+record 7 2 $long
+end 2
+> post a
+ok
+> commit
+ok
+> reclaim
+ok
+> free
+free 59
+> put top 7 3 x$most
+error 22 BadLine
+END
+checked_free() {
+    printf 'alternatives 2\ncheckpoints 0\nfree %s\n' "$2" >output
+    : >lines
+    : >faults
+    program "$1" 0 check long
+}
+checked_free 'check of long values' 59
+session 'long values that go' long <<END
+> get top 7 1
+value $most
+> put top 7 1 duct
+ok
+> remove top 7 2
+ok
+> changes a
+end 0
+> list top
+record 7 1 duct
+end 1
+> post a
+error 8 NotMerged
+> merge a
+ok 2
+> list a
+record 7 1 duct
+end 1
+> commit
+ok
+END
+checked_free 'check of a store whose long values went' 60
+
+# The longest line of an answer: three values of 4,000 bytes of which none stands for itself.
+create longest 64
+zeros=$(printf '%%00%.0s' $(seq 3999))
+{
+    echo "put top 65535 18446744073709551615 $zeros%00"
+    echo new a top
+    echo "put top 65535 18446744073709551615 $zeros%01"
+    echo "put a 65535 18446744073709551615 $zeros%02"
+    echo conflicts a
+} >lines
+{
+    printf 'ok\nok\nok\nok\n'
+    echo "conflict 65535 18446744073709551615 $zeros%00 $zeros%01 $zeros%02"
+    echo end 1
+} >output
+: >faults
+program 'the longest line' 0 run longest
 
 # --- lines as words, and refused lines -----------------------------------------------------------
 
@@ -425,7 +520,7 @@ program 'no words' 2
 
 {
     echo 'altctl 0.1.0'
-    echo 'file format 1'
+    echo 'file format 2'
     sed -n 's/^Proved with: `\(.*\)`\.$/proved with \1/p' "$tools/../README.md"
 } >output
 : >faults

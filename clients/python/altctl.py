@@ -5,7 +5,7 @@
         store.put("north", 7, 1, b"duct")
         store.commit()
 
-Values are bytes, names are texts, and a key is a table and a number. What was not committed is gone at the end of
+Values are bytes, 4,000 at most, names are texts, and a key is a table and a number. What was not committed is gone at the end of
 the `with`. docs/FORMATS.md has the lines and their answers, docs/OPERATING.md what helps where one is refused.
 """
 import fcntl

@@ -46,11 +46,29 @@ class StoreTests(unittest.TestCase):
 
     def test_each_byte_comes_back(self):
         values = [bytes(range(240)), bytes(range(16, 256)), b"", b"-", b"%2D", b"~", "Straße 7".encode(), b" a b "]
+        values += [bytes(range(241)), bytes(range(256)) * 15 + bytes(160), b"-" * 4000]
         with self.open() as store:
             for number, value in enumerate(values):
                 store.put("top", 65535, 2**64 - 1 - number, value)
             self.assertEqual(values[::-1], [it.value for it in store.list("top")])
-            self.refused(22, "BadLine", "", store.put, "top", 1, 1, bytes(241))
+            self.refused(22, "BadLine", "", store.put, "top", 1, 1, bytes(4001))
+
+    def test_a_long_value_is_merged_and_committed(self):
+        course, other = b"2600010.5,1200020 " * 100, b"2600010.5,1200021 " * 100
+        with self.open() as store:
+            store.put("top", 7, 1, course)
+            self.assertEqual(28, store.free())
+            store.new("a", "top")
+            store.put("a", 7, 1, other)
+            store.put("top", 7, 1, b"duct")
+            self.assertEqual([Change(7, 1, course, other)], list(store.changes("a")))
+            self.assertEqual([Conflict(7, 1, course, b"duct", other)], list(store.conflicts("a")))
+            self.assertEqual(0, store.merge("a", {(7, 1): "mine"}))
+            store.post("a")
+            store.commit()
+        with self.open() as store:
+            self.assertEqual([Record(7, 1, other)], list(store.list("top")))
+            self.assertEqual(28, store.free())
 
     def test_words_of_values(self):
         words = {b"": "-", b"-": "%2D", b"~": "%7E", b"a}": "a}", b"%": "%25", b"a A": "a%20A", b"\xff\n": "%FF%0A"}
@@ -71,7 +89,7 @@ class StoreTests(unittest.TestCase):
             self.refused(8, "NotMerged", "", store.post, "a")
             self.refused(9, "Unsettled", "1", store.merge, "a")
             self.refused(10, "NotInConflict", "7:2", store.merge, "a", {(7, 2): "mine"})
-            # One change asks for 16 spare blocks, and 1 record changes here: the one that came in from top.
+            # One change asks for 17 spare blocks, and 1 record changes here: the one that came in from top.
             self.assertEqual(1, store.merge("a", {(7, 1): "mine"}))
             store.post("a")
             self.assertEqual([Record(7, 1, b"cable A"), Record(7, 2, b"hose")], list(store.list("top")))
@@ -129,13 +147,13 @@ class StoreTests(unittest.TestCase):
 
     def test_a_store_that_is_full_grows(self):
         with self.open() as store:
-            for number in range(15):
+            for number in range(14):
                 store.put("top", 1, number, b"")
                 store.checkpoint("top", f"c{number}")
-            self.refused(13, "Full", "", store.put, "top", 1, 15, b"")
+            self.refused(13, "Full", "", store.put, "top", 1, 14, b"")
             store.grow(65)
-            store.put("top", 1, 15, b"")
-            self.assertEqual(15, store.free())
+            store.put("top", 1, 14, b"")
+            self.assertEqual(16, store.free())
 
     def test_rows_stay_whole_where_other_lines_come_between(self):
         with self.open() as store:
