@@ -22,7 +22,7 @@ use crate::answers::writing::{WriteFault, flush, put_all};
 use crate::lines::escape::{plain, value};
 use crate::lines::line::{Line, LineKind};
 use crate::lines::pieces::first_word;
-use crate::lines::request::{Request, put_words, read_request, record};
+use crate::lines::request::{Request, command_but_merge, put_words, read_request, record};
 use memchr::memchr;
 use std::alloc::{AllocError, Global};
 use std::io::{Read, Write};
@@ -380,6 +380,9 @@ fn reply_to_rest<W: Write, D: Disk>(
     ensures answer { RepliesToWords W.contents (verb.now ∷ words_of rest.now) result
         store.old store.new writer.old writer.new text.new }
 {
+    if let Some(command) = command_but_merge(verb, rest) {
+        return Ok(reply_to_command(&command, store));
+    }
     match read_request(alloc, verb, rest) {
         Ok(request) => reply_to_request(alloc, request, text, writer, store),
         Err(AllocError) => Ok(Reply::Refused(Refusal::Memory)),

@@ -30,7 +30,7 @@ pub enum Request {
     Bad,
 }
 
-ghost use Rattle.std.specs.Prelude.{◌≡◌, ◌∷◌, [], ℕ, List, None, codes, option_map, IfOk, MatchOption, OnErr};
+ghost use Rattle.std.specs.Prelude.{◌≡◌, ◌∷◌, [], ℕ, List, None, codes, option_map, IfOk, IfSome, MatchOption, OnErr};
 ghost use Rattle.vm_types.specs.declared.command.Command.TheVariants.{Put};
 ghost use Rattle.vm_cli.specs.Escapes.{value_of};
 ghost use Rattle.vm_cli.specs.Requests.{IsLongMerge, asked_by, command_of, grow_of, merge_of, name_of, named_of, names_of, new_of, put_of, query_of, record_of, request_of};
@@ -46,6 +46,20 @@ pub fn read_request(alloc: Global, verb: &[u8], rest: &[u8]) -> Result<Request, 
     }
     let asked = asked(alloc, verb, rest)?;
     Ok(asked.unwrap_or(Request::Bad))
+}
+
+/// The command of a line, but for a merge: None, where the line asks for anything else. It is looked
+/// for first, since a request has to be moved with room for a value.
+pub fn command_but_merge(verb: &[u8], rest: &[u8]) -> Option<Command>
+    ensures { IfSome result (λ command. Request.Command command ≡ request_of (verb.now ∷ words_of rest.now)) }
+{
+    if verb.first() == Some(&b'#') {
+        return None;
+    }
+    if verb == b"merge".as_slice() {
+        return None;
+    }
+    command(verb, rest)
 }
 
 /// What the words after the first ask for.
