@@ -1,6 +1,5 @@
 //! Values of more than 240 bytes: each has a block of its own, and its leaf a link to that block.
 use super::script::{DUCT, NEW, and_late, in_256_blocks, in_memory, on_both, on_each, with_room};
-use std::test::Fail;
 use vm_types::Value;
 
 /// A disk as it was left before there were long values: both slots have the format 1. `duct` is committed
@@ -166,7 +165,7 @@ fn leaf_that_is_copied_links_to_the_same_block(rt: HostRuntime) {
 /// The first Put takes the blocks 34 and 35, the next fifteen one each, and the last one a leaf for
 /// nine records, one for eight, and the root. The long value is the first record.
 #[test]
-fn only_the_half_with_a_long_value_is_a_leaf_of_the_new_form(rt: HostRuntime) -> Result<(), Fail> {
+fn only_the_half_with_a_long_value_is_a_leaf_of_the_new_form(rt: HostRuntime) {
     let made = "
         format 256
         open
@@ -177,40 +176,31 @@ fn only_the_half_with_a_long_value_is_a_leaf_of_the_new_form(rt: HostRuntime) ->
         free -> 218
         commit
         close";
-    let mut row = String::from_str(
-        rt.alloc(),
-        "block 51 -> 0:4C454632 8:09 16:01 18:01 26:2C0122",
-    )?;
-    for n in 1..9 {
-        let at = 16 + 252 * n;
-        write!(
-            row,
-            " {at}:01 {}:{:02X} {}:01 {}:76",
-            at + 2,
-            n + 1,
-            at + 10,
-            at + 12
-        )?;
-    }
-    row.push_str("\nblock 52 -> 0:4C454146 8:08")?;
-    for n in 0..8 {
-        let at = 16 + 252 * n;
-        write!(
-            row,
-            " {at}:01 {}:{:02X} {}:01 {}:76",
-            at + 2,
-            n + 10,
-            at + 10,
-            at + 12
-        )?;
-    }
+    let halves = "
+        block 51 -> 0:4C454632 8:09 16:01 18:01 26:2C0122 \
+            268:01 270:02 278:01 280:76 \
+            520:01 522:03 530:01 532:76 \
+            772:01 774:04 782:01 784:76 \
+            1024:01 1026:05 1034:01 1036:76 \
+            1276:01 1278:06 1286:01 1288:76 \
+            1528:01 1530:07 1538:01 1540:76 \
+            1780:01 1782:08 1790:01 1792:76 \
+            2032:01 2034:09 2042:01 2044:76
+        block 52 -> 0:4C454146 8:08 \
+            16:01 18:0A 26:01 28:76 \
+            268:01 270:0B 278:01 280:76 \
+            520:01 522:0C 530:01 532:76 \
+            772:01 774:0D 782:01 784:76 \
+            1024:01 1026:0E 1034:01 1036:76 \
+            1276:01 1278:0F 1286:01 1288:76 \
+            1528:01 1530:10 1538:01 1540:76 \
+            1780:01 1782:11 1790:01 1792:76";
     let node = "
         block 53 -> 0:4E4F444501 8:02 16:01 18:01 26:33 30:01 32:0A 40:34
         open
         list top -> 1:1=61*300 1:2=v 1:3=v 1:4=v 1:5=v 1:6=v 1:7=v 1:8=v 1:9=v 1:10=v 1:11=v \
             1:12=v 1:13=v 1:14=v 1:15=v 1:16=v 1:17=v";
-    in_256_blocks(&rt, &[made, &row, node]);
-    Ok(())
+    in_256_blocks(&rt, &[made, halves, node]);
 }
 
 /// Each Put takes two of the thirty blocks, and the checkpoint keeps them: seven leave 16.
