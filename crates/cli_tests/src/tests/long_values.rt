@@ -7,9 +7,6 @@ use std::test::Fail;
 use vm_cli::{MemFiles, Place};
 use vm_disk::Disk;
 
-/// The greatest key, as lines have it.
-const LAST: &[u8] = b"65535 18446744073709551615";
-
 /// A value as a line has it: so many zero bytes, and behind them a text.
 fn zeros(alloc: Global, count: usize, text: &[u8]) -> Result<Vec<u8>, Fail> {
     let mut word = Vec::new(alloc);
@@ -121,118 +118,6 @@ fn takes_values_of_240_bytes_and_of_one_more(rt: HostRuntime) -> Result<(), Fail
     talk.answer(&[b"record 1 2", long.as_slice()])?;
     talk.answer(&[b"end 2"])?;
     let mut files = new_files(&rt);
-    talk.expect(&rt, &mut files);
-    Ok(())
-}
-
-/// Each of the three values has 4,000 bytes, and each byte three letters. With the greatest key the
-/// line of the conflict is the longest that there is: 36,039 bytes.
-#[test]
-fn writes_the_longest_lines_whole(rt: HostRuntime) -> Result<(), Fail> {
-    let base = zeros(rt.alloc(), 4000, b"")?;
-    let parent = zeros(rt.alloc(), 3999, b"%01")?;
-    let mine = zeros(rt.alloc(), 3999, b"%02")?;
-    let (base, parent, mine) = (base.as_slice(), parent.as_slice(), mine.as_slice());
-    let mut longest = Vec::new(rt.alloc());
-    push_line(&mut longest, &[b"conflict", LAST, base, parent, mine])?;
-    assert_eq!(rt; longest.len(), 36_039);
-    let mut talk = Talk::new(rt.alloc());
-    talk.ask(&[b"put top", LAST, base], &[b"ok"])?;
-    talk.ask(&[b"new a top"], &[b"ok"])?;
-    talk.ask(&[b"put top", LAST, parent], &[b"ok"])?;
-    talk.ask(&[b"put a", LAST, mine], &[b"ok"])?;
-    talk.ask(&[b"changes a"], &[b"change", LAST, base, mine])?;
-    talk.answer(&[b"end 1"])?;
-    talk.line(&[b"conflicts a"])?;
-    talk.answers.extend_from_slice(longest.as_slice())?;
-    talk.answer(&[b"end 1"])?;
-    talk.ask(&[b"merge a"], &[b"error 9 Unsettled 1"])?;
-    talk.ask(&[b"merge a 65535:18446744073709551615=theirs"], &[b"ok 1"])?;
-    talk.ask(&[b"conflicts a"], &[b"end 0"])?;
-    talk.ask(&[b"get a", LAST], &[b"value", parent])?;
-    talk.ask(&[b"put a", LAST, mine], &[b"ok"])?;
-    talk.ask(&[b"post a"], &[b"ok"])?;
-    talk.ask(&[b"list top"], &[b"record", LAST, mine])?;
-    talk.answer(&[b"end 1"])?;
-    let mut files = new_files(&rt);
-    talk.expect(&rt, &mut files);
-    Ok(())
-}
-
-/// Lines of conflicts before the longest one: a text takes 65,536 bytes in all. The first two have
-/// 12,018 bytes each, and the third one 18 beside its value, so that all three have 29,440 where the
-/// value is written with 5,386, just what leaves room for the longest line.
-#[test]
-fn writes_the_longest_line_whole_behind_others(rt: HostRuntime) -> Result<(), Fail> {
-    let base = zeros(rt.alloc(), 4000, b"")?;
-    let parent = zeros(rt.alloc(), 3999, b"%01")?;
-    let mine = zeros(rt.alloc(), 3999, b"%02")?;
-    let (base, parent, mine) = (base.as_slice(), parent.as_slice(), mine.as_slice());
-    for third in [b"".as_slice(), b"a", b"aa", b"aaa"] {
-        let third = zeros(rt.alloc(), 1795, third)?;
-        let third = third.as_slice();
-        let mut talk = Talk::new(rt.alloc());
-        talk.ask(&[b"put top", LAST, base], &[b"ok"])?;
-        talk.ask(&[b"new a top"], &[b"ok"])?;
-        talk.ask(&[b"put top", LAST, parent], &[b"ok"])?;
-        talk.ask(&[b"put a", LAST, mine], &[b"ok"])?;
-        for (key, value) in [
-            (b"0 1".as_slice(), base),
-            (b"0 2".as_slice(), base),
-            (b"0 3".as_slice(), third),
-        ] {
-            talk.ask(&[b"put top", key, b"x"], &[b"ok"])?;
-            talk.ask(&[b"put a", key, value], &[b"ok"])?;
-        }
-        talk.line(&[b"conflicts a"])?;
-        talk.answer(&[b"conflict 0 1 ~ x", base])?;
-        talk.answer(&[b"conflict 0 2 ~ x", base])?;
-        talk.answer(&[b"conflict 0 3 ~ x", third])?;
-        talk.answer(&[b"conflict", LAST, base, parent, mine])?;
-        talk.answer(&[b"end 4"])?;
-        let mut files = new_files(&rt);
-        talk.expect(&rt, &mut files);
-    }
-    Ok(())
-}
-
-/// Ten lines of two values each, in a store that grew for them, and nine that are in conflict.
-#[test]
-fn lists_many_of_the_longest_lines(rt: HostRuntime) -> Result<(), Fail> {
-    let [base, parent, mine] = [b"%00", b"%01", b"%02"];
-    let base = zeros(rt.alloc(), 3999, base)?;
-    let parent = zeros(rt.alloc(), 3999, parent)?;
-    let mine = zeros(rt.alloc(), 3999, mine)?;
-    let (base, parent, mine) = (base.as_slice(), parent.as_slice(), mine.as_slice());
-    let keys = [b"0 1".as_slice(), b"0 2", b"0 3", b"0 4", b"0 5"];
-    let mut talk = Talk::new(rt.alloc());
-    talk.ask(&[b"grow 128"], &[b"ok"])?;
-    for key in keys {
-        talk.ask(&[b"put top", key, base], &[b"ok"])?;
-    }
-    talk.ask(&[b"new a top"], &[b"ok"])?;
-    for key in keys {
-        talk.ask(&[b"put top", key, parent], &[b"ok"])?;
-        talk.ask(&[b"put a", key, mine], &[b"ok"])?;
-    }
-    talk.line(&[b"changes a"])?;
-    talk.line(&[b"conflicts a"])?;
-    talk.line(&[b"list top"])?;
-    for key in keys {
-        talk.answer(&[b"change", key, base, mine])?;
-    }
-    talk.answer(&[b"end 5"])?;
-    for key in keys {
-        talk.answer(&[b"conflict", key, base, parent, mine])?;
-    }
-    talk.answer(&[b"end 5"])?;
-    for key in keys {
-        talk.answer(&[b"record", key, parent])?;
-    }
-    talk.answer(&[b"end 5"])?;
-    let mut files = MemFiles::with_room(rt.alloc(), 128);
-    let created = done(b"created 64\n");
-    expect_run(&rt, &mut files, super::CREATE.as_slice(), b"", created);
     talk.expect(&rt, &mut files);
     Ok(())
 }
