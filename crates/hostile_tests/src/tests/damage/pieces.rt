@@ -1,0 +1,199 @@
+//! Pieces of a store, written on a disk by hand.
+use crate::tests::{BLOCKS, Wrong, name};
+use std::alloc::Global;
+use vm_block::{Child, Entry, Kind, SlotFormat, SlotName, write_header, write_node};
+use vm_catalog::write_slot;
+use vm_disk::{Disk, MemDisk};
+use vm_types::Key;
+
+/// An alternative: its name, its parent, and its current and its base root.
+pub type Line = (&'static [u8], &'static [u8], u32, u32);
+
+/// A row of a leaf: its key in table 1, how many bytes its value has, and the first four that stand there:
+/// those of a short value, or the number of a long one's block.
+pub type Row = (u64, u16, u32);
+
+/// What is written on a disk.
+#[derive(Clone, Copy)]
+pub enum Piece {
+    /// A block, a byte of it, and what it is set to.
+    Byte(u32, usize, u8),
+    /// The same of four bytes.
+    Word(u32, usize, u32),
+    /// A leaf of keys of table 1, with empty values.
+    Leaf(u32, &'static [u64]),
+    /// A leaf with these letters and rows.
+    Rows(u32, &'static [u8], &'static [Row]),
+    /// The block of a long value: its key in table 1, and how many bytes it has.
+    Long(u32, u64, u16),
+    /// An inner block of a level: of each child the lowest key, in table 1, and the block.
+    Node(u32, u8, &'static [(u64, u32)]),
+    /// The entries of slot A, behind `top` with root 34.
+    Slot(&'static [Line]),
+    /// Slot A with `top` and so many children of it, all of which are empty.
+    Children(usize),
+}
+
+use Piece::{Byte, Children, Leaf, Long, Node, Rows, Slot, Word};
+
+pub const LEAF: &'static [u8] = b"LEAF";
+
+pub const LEF2: &'static [u8] = b"LEF2";
+
+pub fn set_block(disk: &mut MemDisk, n: u32, bytes: &[u8; 4096]) -> Result<(), Wrong> {
+    if n >= disk.blocks() {
+        return Err(Wrong::Device);
+    }
+    disk.write(n, bytes)?;
+    Ok(())
+}
+
+/// Sets bytes of a block.
+pub fn set_bytes(disk: &mut MemDisk, n: u32, at: usize, bytes: &[u8]) -> Result<(), Wrong> {
+    let mut block = [0; 4096];
+    if n < disk.blocks() {
+        disk.read(n, &mut block)?;
+    }
+    lay(&mut block, at, bytes);
+    set_block(disk, n, &block)
+}
+
+/// Sets bytes of a block that is written then.
+fn lay(block: &mut [u8; 4096], at: usize, bytes: &[u8]) {
+    for (place, byte) in block.iter_mut().skip(at).zip(bytes) {
+        *place = *byte;
+    }
+}
+
+/// Writes a leaf, spelled by hand.
+fn put_rows(disk: &mut MemDisk, n: u32, letters: &[u8], rows: &[Row]) -> Result<(), Wrong> {
+    let mut block = [0; 4096];
+    lay(&mut block, 0, letters);
+    lay(&mut block, 8, &[u8::try_from(rows.len()).unwrap_or(0xFF)]);
+    for (i, (number, length, start)) in rows.iter().enumerate() {
+        let at = i.wrapping_mul(252).wrapping_add(16);
+        lay(&mut block, at, &[1]);
+        lay(&mut block, at.wrapping_add(2), &number.to_le_bytes());
+        lay(&mut block, at.wrapping_add(10), &length.to_le_bytes());
+        lay(&mut block, at.wrapping_add(12), &start.to_le_bytes());
+    }
+    set_block(disk, n, &block)
+}
+
+fn put_leaf(alloc: Global, disk: &mut MemDisk, n: u32, numbers: &[u64]) -> Result<(), Wrong> {
+    let rows: Vec<Row> = numbers.iter().map(|number| (*number, 0, 0)).collect(alloc)?;
+    put_rows(disk, n, LEAF, &rows)
+}
+
+/// Writes the block of a long value, spelled by hand. Each of its bytes is an `a`.
+fn put_long(disk: &mut MemDisk, n: u32, number: u64, length: u16) -> Result<(), Wrong> {
+    let mut block = [0; 4096];
+    lay(&mut block, 0, b"LONG");
+    lay(&mut block, 8, &length.to_le_bytes());
+    lay(&mut block, 16, &[1]);
+    lay(&mut block, 18, &number.to_le_bytes());
+    for place in block.iter_mut().skip(26).take(usize::from(length)) {
+        *place = b'a';
+    }
+    set_block(disk, n, &block)
+}
+
+fn put_node(
+    alloc: Global,
+    disk: &mut MemDisk,
+    n: u32,
+    level: u8,
+    children: &[(u64, u32)],
+) -> Result<(), Wrong> {
+    let mut entries = Vec::new(alloc);
+    for (number, block) in children {
+        let low = Key {
+            table: 1,
+            number: *number,
+        };
+        let child = Child { low, block: *block };
+        entries.push(child).map_err(|_| Wrong::Memory)?;
+    }
+    let mut bytes = [0; 4096];
+    if entries.len() <= 256 {
+        write_node(level, &entries, &mut bytes);
+    }
+    set_block(disk, n, &bytes)
+}
+
+fn entry(line: Line) -> Entry {
+    Entry {
+        kind: Kind::Alternative,
+        name: name(line.0),
+        owner: if line.1.is_empty() {
+            None
+        } else {
+            Some(name(line.1))
+        },
+        current: line.2,
+        base: line.3,
+    }
+}
+
+/// Writes slot A in the first format.
+fn write_entries(disk: &mut MemDisk, entries: &[Entry]) -> Result<(), Wrong> {
+    if entries.len() <= 511 && disk.blocks() >= 34 {
+        write_slot(disk, SlotName::A, SlotFormat::One, BLOCKS, entries)?;
+    }
+    Ok(())
+}
+
+/// The entries are `top`, and these behind it.
+fn put_slot(alloc: Global, disk: &mut MemDisk, lines: &[Line]) -> Result<(), Wrong> {
+    let mut entries = Vec::new(alloc);
+    entries
+        .push(entry((b"top", b"", 34, 0)))
+        .map_err(|_| Wrong::Memory)?;
+    for line in lines {
+        entries.push(entry(*line)).map_err(|_| Wrong::Memory)?;
+    }
+    write_entries(disk, &entries)
+}
+
+/// The entries are `top`, and so many children of it.
+fn put_children(alloc: Global, disk: &mut MemDisk, count: usize) -> Result<(), Wrong> {
+    let mut entries = Vec::new(alloc);
+    let top = entry((b"top", b"", 34, 0));
+    entries.push(top).map_err(|_| Wrong::Memory)?;
+    for n in 0..count {
+        let digits = [b'n', b'0' + (n / 10 % 10) as u8, b'0' + (n % 10) as u8];
+        let child = Entry {
+            name: name(&digits),
+            ..entry((b"n", b"top", 0, 0))
+        };
+        entries.push(child).map_err(|_| Wrong::Memory)?;
+    }
+    write_entries(disk, &entries)
+}
+
+fn put_piece(alloc: Global, disk: &mut MemDisk, piece: Piece) -> Result<(), Wrong> {
+    match piece {
+        Byte(n, at, byte) => set_bytes(disk, n, at, &[byte]),
+        Word(n, at, word) => set_bytes(disk, n, at, &word.to_le_bytes()),
+        Leaf(n, numbers) => put_leaf(alloc, disk, n, numbers),
+        Rows(n, letters, rows) => put_rows(disk, n, letters, rows),
+        Long(n, number, length) => put_long(disk, n, number, length),
+        Node(n, level, children) => put_node(alloc, disk, n, level, children),
+        Slot(lines) => put_slot(alloc, disk, lines),
+        Children(count) => put_children(alloc, disk, count),
+    }
+}
+
+/// A store whose first alternative has one record in block 34, with these pieces written over it.
+pub fn disk_of(alloc: Global, pieces: &[Piece]) -> Result<MemDisk, Wrong> {
+    let mut disk = MemDisk::new(alloc, BLOCKS)?;
+    let mut header = [0; 4096];
+    write_header(&mut header);
+    set_block(&mut disk, 0, &header)?;
+    put_slot(alloc, &mut disk, &[])?;
+    put_leaf(alloc, &mut disk, 34, &[1])?;
+    for piece in pieces {
+        put_piece(alloc, &mut disk, *piece)?;
+    }
+    Ok(disk)
+}
