@@ -7,6 +7,9 @@ use std::test::Fail;
 use vm_cli::{MemFiles, Place};
 use vm_disk::Disk;
 
+/// The greatest key, as lines have it.
+const LAST: &[u8] = b"65535 18446744073709551615";
+
 /// A value as a line has it: so many zero bytes, and behind them a text.
 fn zeros(alloc: Global, count: usize, text: &[u8]) -> Result<Vec<u8>, Fail> {
     let mut word = Vec::new(alloc);
@@ -65,6 +68,38 @@ impl Talk {
     }
 }
 
+/// The values of a record on all sides of a conflict, as lines have them: 4,000 bytes each, of which each
+/// takes three letters.
+#[derive(Drop)]
+struct Sides {
+    base: Vec<u8>,
+    parent: Vec<u8>,
+    mine: Vec<u8>,
+}
+
+impl Sides {
+    fn new(alloc: Global) -> Result<Sides, Fail> {
+        let base = zeros(alloc, 4000, b"")?;
+        let parent = zeros(alloc, 3999, b"%01")?;
+        let mine = zeros(alloc, 3999, b"%02")?;
+        Ok(Sides { base, parent, mine })
+    }
+
+    /// The line of the conflict in a record.
+    fn push_conflict(&self, into: &mut Vec<u8>, key: &[u8]) -> Result<(), Fail> {
+        push_line(
+            into,
+            &[
+                b"conflict",
+                key,
+                self.base.as_slice(),
+                self.parent.as_slice(),
+                self.mine.as_slice(),
+            ],
+        )
+    }
+}
+
 #[test]
 fn takes_values_of_up_to_4000_bytes(rt: HostRuntime) -> Result<(), Fail> {
     let mut plain = Vec::new(rt.alloc());
@@ -118,6 +153,117 @@ fn takes_values_of_240_bytes_and_of_one_more(rt: HostRuntime) -> Result<(), Fail
     talk.answer(&[b"record 1 2", long.as_slice()])?;
     talk.answer(&[b"end 2"])?;
     let mut files = new_files(&rt);
+    talk.expect(&rt, &mut files);
+    Ok(())
+}
+
+/// Each of the three values has 4,000 bytes, and each byte three letters. With the greatest key the
+/// line of the conflict is the longest that there is: 36,039 bytes.
+#[test]
+fn writes_the_longest_lines_whole(rt: HostRuntime) -> Result<(), Fail> {
+    let sides = Sides::new(rt.alloc())?;
+    let mut longest = Vec::new(rt.alloc());
+    sides.push_conflict(&mut longest, LAST)?;
+    assert_eq!(rt; longest.len(), 36_039);
+    let mut talk = Talk::new(rt.alloc());
+    talk.ask(&[b"put top", LAST, sides.base.as_slice()], &[b"ok"])?;
+    talk.ask(&[b"new a top"], &[b"ok"])?;
+    talk.ask(&[b"put top", LAST, sides.parent.as_slice()], &[b"ok"])?;
+    talk.ask(&[b"put a", LAST, sides.mine.as_slice()], &[b"ok"])?;
+    talk.line(&[b"changes a"])?;
+    talk.answer(&[
+        b"change",
+        LAST,
+        sides.base.as_slice(),
+        sides.mine.as_slice(),
+    ])?;
+    talk.answer(&[b"end 1"])?;
+    talk.line(&[b"conflicts a"])?;
+    talk.answers.extend_from_slice(longest.as_slice())?;
+    talk.answer(&[b"end 1"])?;
+    talk.ask(&[b"merge a"], &[b"error 9 Unsettled 1"])?;
+    talk.ask(&[b"merge a 65535:18446744073709551615=theirs"], &[b"ok 1"])?;
+    talk.ask(&[b"conflicts a"], &[b"end 0"])?;
+    talk.ask(&[b"get a", LAST], &[b"value", sides.parent.as_slice()])?;
+    talk.ask(&[b"put a", LAST, sides.mine.as_slice()], &[b"ok"])?;
+    talk.ask(&[b"post a"], &[b"ok"])?;
+    talk.ask(&[b"list top"], &[b"record", LAST, sides.mine.as_slice()])?;
+    talk.answer(&[b"end 1"])?;
+    let mut files = new_files(&rt);
+    talk.expect(&rt, &mut files);
+    Ok(())
+}
+
+/// Lines of conflicts before the longest one: a text takes 65,536 bytes in all. The first two have
+/// 12,018 bytes each, and the third one 18 beside its value.
+fn behind_others(alloc: Global, sides: &Sides, third: &[u8]) -> Result<Talk, Fail> {
+    let mut talk = Talk::new(alloc);
+    talk.ask(&[b"put top", LAST, sides.base.as_slice()], &[b"ok"])?;
+    talk.ask(&[b"new a top"], &[b"ok"])?;
+    talk.ask(&[b"put top", LAST, sides.parent.as_slice()], &[b"ok"])?;
+    talk.ask(&[b"put a", LAST, sides.mine.as_slice()], &[b"ok"])?;
+    talk.ask(&[b"put top 0 1 x"], &[b"ok"])?;
+    talk.ask(&[b"put a 0 1", sides.base.as_slice()], &[b"ok"])?;
+    talk.ask(&[b"put top 0 2 x"], &[b"ok"])?;
+    talk.ask(&[b"put a 0 2", sides.base.as_slice()], &[b"ok"])?;
+    talk.ask(&[b"put top 0 3 x"], &[b"ok"])?;
+    talk.ask(&[b"put a 0 3", third], &[b"ok"])?;
+    talk.line(&[b"conflicts a"])?;
+    talk.answer(&[b"conflict 0 1 ~ x", sides.base.as_slice()])?;
+    talk.answer(&[b"conflict 0 2 ~ x", sides.base.as_slice()])?;
+    talk.answer(&[b"conflict 0 3 ~ x", third])?;
+    sides.push_conflict(&mut talk.answers, LAST)?;
+    talk.answer(&[b"end 4"])?;
+    Ok(talk)
+}
+
+/// The first three lines have 29,440 bytes where the third value is written with 5,386, just what leaves
+/// room for the longest line.
+#[test]
+fn writes_the_longest_line_whole_behind_others(rt: HostRuntime) -> Result<(), Fail> {
+    let sides = Sides::new(rt.alloc())?;
+    for letters in [b"".as_slice(), b"a", b"aa", b"aaa"] {
+        let third = zeros(rt.alloc(), 1795, letters)?;
+        let talk = behind_others(rt.alloc(), &sides, third.as_slice())?;
+        let mut files = new_files(&rt);
+        talk.expect(&rt, &mut files);
+    }
+    Ok(())
+}
+
+/// Five lines of two values each, and five that are in conflict, in a store that grew for them.
+#[test]
+fn lists_many_of_the_longest_lines(rt: HostRuntime) -> Result<(), Fail> {
+    let sides = Sides::new(rt.alloc())?;
+    let keys = [b"0 1".as_slice(), b"0 2", b"0 3", b"0 4", b"0 5"];
+    let mut talk = Talk::new(rt.alloc());
+    talk.ask(&[b"grow 128"], &[b"ok"])?;
+    for key in keys {
+        talk.ask(&[b"put top", key, sides.base.as_slice()], &[b"ok"])?;
+    }
+    talk.ask(&[b"new a top"], &[b"ok"])?;
+    for key in keys {
+        talk.ask(&[b"put top", key, sides.parent.as_slice()], &[b"ok"])?;
+        talk.ask(&[b"put a", key, sides.mine.as_slice()], &[b"ok"])?;
+    }
+    talk.line(&[b"changes a"])?;
+    talk.line(&[b"conflicts a"])?;
+    talk.line(&[b"list top"])?;
+    for key in keys {
+        talk.answer(&[b"change", key, sides.base.as_slice(), sides.mine.as_slice()])?;
+    }
+    talk.answer(&[b"end 5"])?;
+    for key in keys {
+        sides.push_conflict(&mut talk.answers, key)?;
+    }
+    talk.answer(&[b"end 5"])?;
+    for key in keys {
+        talk.answer(&[b"record", key, sides.parent.as_slice()])?;
+    }
+    talk.answer(&[b"end 5"])?;
+    let mut files = MemFiles::with_room(rt.alloc(), 128);
+    let created = done(b"created 64\n");
+    expect_run(&rt, &mut files, super::CREATE.as_slice(), b"", created);
     talk.expect(&rt, &mut files);
     Ok(())
 }
