@@ -18,8 +18,7 @@ use Rattle.vm_cli.specs.declared.lines.line.LineKind.TheVariants.{Kept, Long}
 use Rattle.vm_cli.specs.declared.lines.line.Line.{Line}
 use Rattle.vm_cli.specs.declared.answers.reply.Reply.{Reply}
 use Rattle.vm_cli.specs.declared.answers.reply.Reply.TheVariants as reply
-use Rattle.vm_cli.specs.declared.lines.request.Request.{Request}
-use Rattle.vm_cli.specs.declared.lines.request.Request.TheVariants as request
+use Rattle.vm_cli.specs.Asking.{Request}
 use Rattle.vm_cli.specs.declared.answers.writing.WriteFault.{WriteFault}
 use Rattle.vm_cli.proofs.CarriedLemmas.{carries-nothing}
 use Rattle.vm_cli.proofs.PassLemmas.{failed_or, grows_any, never_both, passes_command, passes_left, passes_none}
@@ -54,18 +53,18 @@ module _ {D : Type 0} {members : _} (store : Store D members) (s : State) where
   }
 
   -- a line without words
-  pub nothing_handled : HandlesRequest store store s request.Nothing [] false
-  nothing_handled = unmoved false (AnsweredRequest store store s request.Nothing [] false) (either (failed_or (has_failed store)))
+  pub nothing_handled : HandlesRequest store store s Request.Nothing [] false
+  nothing_handled = unmoved false (AnsweredRequest store store s Request.Nothing [] false) (either (failed_or (has_failed store)))
     where
-      either : (has_failed store ≡ false) ⊎ (has_failed store ≡ true) → AnsweredRequest store store s request.Nothing [] false None
+      either : (has_failed store ≡ false) ⊎ (has_failed store ≡ true) → AnsweredRequest store store s Request.Nothing [] false None
       either (inl sound) = inl (sound, sym sound, (refl, sound, λ stood. refl))
       either (inr failed) = inr (failed, refl, refl, (refl, refl))
 
   -- a line that asks for nothing that there is
-  pub bad_handled : HandlesRequest store store s request.Bad (reply_text reply.BadLine) false
-  bad_handled = unmoved false (AnsweredRequest store store s request.Bad (reply_text reply.BadLine) false) (either (failed_or (has_failed store)))
+  pub bad_handled : HandlesRequest store store s Request.Bad (reply_text reply.BadLine) false
+  bad_handled = unmoved false (AnsweredRequest store store s Request.Bad (reply_text reply.BadLine) false) (either (failed_or (has_failed store)))
     where
-      either : (has_failed store ≡ false) ⊎ (has_failed store ≡ true) → AnsweredRequest store store s request.Bad (reply_text reply.BadLine) false None
+      either : (has_failed store ≡ false) ⊎ (has_failed store ≡ true) → AnsweredRequest store store s Request.Bad (reply_text reply.BadLine) false None
       either (inl sound) = inl (sound, sym sound, (refl, sound, λ stood. refl))
       either (inr failed) = inr (failed, refl, refl, (refl, refl))
 
@@ -127,11 +126,6 @@ module _ {D : Type 0} {members : _} (old new : Store D members) (s : State) wher
   pub request_as : (asked query : Request) → asked ≡ query → (text : List ℕ) (ends : Bool) → HandlesRequest old new s query text ends → HandlesRequest old new s asked text ends
   request_as asked query is text ends p = subst (λ q. HandlesRequest old new s q text ends) (sym is) p
 
-  -- what was asked for is this
-  pub asked_as : (asked query : Request) → asked ≡ query → (r : Result Reply WriteFault) (a b : Option (List ℕ)) (rest : List ℕ) → Replies (HandlesRequest old new s query) r a b rest
-      → Replies (HandlesRequest old new s asked) r a b rest
-  asked_as asked query is r a b rest p = subst (λ q. Replies (HandlesRequest old new s q) r a b rest) (sym is) p
-
   -- a query, after which the store has failed where it had before, and is else as good
   module _ (query : Request) (passes : Passes old new None) (same : has_failed new ≡ has_failed old) (left : has_failed old ≡ true → new ≡ old) (holds : Stood old new s → Holds new s) where
     pub asked : (text : List ℕ) (ends : Bool) → (has_failed old ≡ false → (ends ≡ false) × Meets old new s query text None) → (has_failed old ≡ true → SaysFailed query text ends)
@@ -170,10 +164,10 @@ pub record Applied {D : Type 0} {members : _} (old new : Store D members) (s : S
 -- a command
 module _ {D : Type 0} {members : _} (old new : Store D members) (s : State) (command : Command) (answer : Result Answer Refusal) (applied : Applied old new s command answer) where
   pub carried : (text : List ℕ) (ends : Bool) → text ≡ answer_text answer → (has_failed old ≡ false → ends ≡ has_failed new) → (answer ≡ Err Failed → ends ≡ true)
-      → HandlesRequest old new s (request.Command command) text ends
+      → HandlesRequest old new s (Request.Command command) text ends
   carried text ends says last fails = either (failed_or (has_failed old))
     where
-      either : (has_failed old ≡ false) ⊎ (has_failed old ≡ true) → HandlesRequest old new s (request.Command command) text ends
+      either : (has_failed old ≡ false) ⊎ (has_failed old ≡ true) → HandlesRequest old new s (Request.Command command) text ends
       either (inl sound) =
           let carries = applied.carries sound in
           record {
@@ -201,17 +195,17 @@ module _ {D : Type 0} {members : _} (old new : Store D members) (s : State) wher
 
   -- it can be no query's, unless the store had failed
   meets_stops : (asked : Request) (text : List ℕ) (was : Done) → has_failed new ≡ true → Meets old new s asked text was → (command : Command) × CarriesOut old new s command (Err Device)
-  meets_stops (request.Command command) text None failed meets = absurd meets
-  meets_stops (request.Command command) text (Some (other, answer)) failed meets = carries_device command answer meets.1 failed
-  meets_stops (request.Get alt key) text was failed meets = absurd (never_both _ meets.1 failed)
-  meets_stops (request.List alt) text was failed meets = absurd (never_both _ meets.1 failed)
-  meets_stops request.Alternatives text was failed meets = absurd (never_both _ meets.1 failed)
-  meets_stops (request.Checkpoints alt) text was failed meets = absurd (never_both _ meets.1 failed)
-  meets_stops (request.Changes alt) text was failed meets = absurd (never_both _ meets.1 failed)
-  meets_stops (request.Conflicts alt) text was failed meets = absurd (never_both _ meets.1 failed)
-  meets_stops request.Free text was failed meets = absurd (never_both _ meets.1 failed)
-  meets_stops request.Nothing text was failed meets = absurd (never_both _ meets.1 failed)
-  meets_stops request.Bad text was failed meets = absurd (never_both _ meets.1 failed)
+  meets_stops (Request.Command command) text None failed meets = absurd meets
+  meets_stops (Request.Command command) text (Some (other, answer)) failed meets = carries_device command answer meets.1 failed
+  meets_stops (Request.Get alt key) text was failed meets = absurd (never_both _ meets.1 failed)
+  meets_stops (Request.List alt) text was failed meets = absurd (never_both _ meets.1 failed)
+  meets_stops Request.Alternatives text was failed meets = absurd (never_both _ meets.1 failed)
+  meets_stops (Request.Checkpoints alt) text was failed meets = absurd (never_both _ meets.1 failed)
+  meets_stops (Request.Changes alt) text was failed meets = absurd (never_both _ meets.1 failed)
+  meets_stops (Request.Conflicts alt) text was failed meets = absurd (never_both _ meets.1 failed)
+  meets_stops Request.Free text was failed meets = absurd (never_both _ meets.1 failed)
+  meets_stops Request.Nothing text was failed meets = absurd (never_both _ meets.1 failed)
+  meets_stops Request.Bad text was failed meets = absurd (never_both _ meets.1 failed)
 
   request_stops : (asked : Request) (text : List ℕ) (ends : Bool) (was : Done) → ends ≡ true → AnsweredRequest old new s asked text ends was → Stops old new s
   request_stops asked text ends was e (inl (sound, last, meets)) = inl (sound, meets_stops asked text was (sym last ∙ e) meets)

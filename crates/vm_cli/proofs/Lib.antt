@@ -20,6 +20,7 @@ pub mod TalkLemmas
 pub mod HandledLemmas
 pub mod RequestLemmas
 pub mod ListedLemmas
+pub mod VerbLemmas
 pub mod WritesLemmas
 pub mod FeedLemmas
 pub mod ServeLemmas

@@ -13,7 +13,7 @@ use Rattle.vm_cli.specs.Replies.{ends_talk, is_error, reply_text}
 use Rattle.vm_cli.specs.Talk.{Meets, Passes, SaysFailed, SaysList, Stood, error_text}
 use Rattle.vm_cli.specs.declared.answers.reply.Reply.{Reply}
 use Rattle.vm_cli.specs.declared.answers.reply.Reply.TheVariants.{End}
-use Rattle.vm_cli.specs.declared.lines.request.Request.{Request}
+use Rattle.vm_cli.specs.Asking.{Request}
 use Rattle.vm_cli.specs.declared.answers.writing.WriteFault.{WriteFault}
 use Rattle.vm_cli.proofs.HandledLemmas.{refusal_handled, replied_whole, told}
 use Rattle.vm_cli.proofs.TalkLemmas.{list_replies, says_refusal, want, was_sound}

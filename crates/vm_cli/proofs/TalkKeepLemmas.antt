@@ -16,8 +16,7 @@ use Rattle.vm_cli.specs.Reading.{without_return}
 use Rattle.vm_cli.specs.Requests.{request_of}
 use Rattle.vm_cli.specs.Spaces.{words_of}
 use Rattle.vm_cli.specs.Talk.{Answered, AnsweredRequest, Done, EndsTalk, HasTalked, Meets, Passes, Serves, Talks, after_line, with_answer, with_command}
-use Rattle.vm_cli.specs.declared.lines.request.Request.{Request}
-use Rattle.vm_cli.specs.declared.lines.request.Request.TheVariants as request
+use Rattle.vm_cli.specs.Asking.{Request}
 use Rattle.vm_cli.specs.declared.talk.OnRefusal.{OnRefusal}
 use Rattle.vm_cli.specs.declared.talk.ServeFault.{ServeFault}
 use Rattle.vm_cli.specs.declared.talk.ServeFault.TheVariants as fault
@@ -44,16 +43,16 @@ after_line-is s commands answers (Some (command, answer)) same = after_more s co
 module _ {D : Type 0} {members : _} (old new : Store D members) (s : State) (c : Command) (a : Result Answer Refusal) where
   -- a line that was a command was answered as the store carried it out
   meets_carries : (asked : Request) (text : List ℕ) → Meets old new s asked text (Some (c, a)) → CarriesOut old new s c a
-  meets_carries (request.Command command) text meets = subst (λ d. CarriesOut old new s d a) (sym meets.0) meets.1
-  meets_carries (request.Get alt key) text meets = let none = meets.0 in cc
-  meets_carries (request.List alt) text meets = let none = meets.0 in cc
-  meets_carries request.Alternatives text meets = let none = meets.0 in cc
-  meets_carries (request.Checkpoints alt) text meets = let none = meets.0 in cc
-  meets_carries (request.Changes alt) text meets = let none = meets.0 in cc
-  meets_carries (request.Conflicts alt) text meets = let none = meets.0 in cc
-  meets_carries request.Free text meets = let none = meets.0 in cc
-  meets_carries request.Nothing text meets = let none = meets.0 in cc
-  meets_carries request.Bad text meets = let none = meets.0 in cc
+  meets_carries (Request.Command command) text meets = subst (λ d. CarriesOut old new s d a) (sym meets.0) meets.1
+  meets_carries (Request.Get alt key) text meets = let none = meets.0 in cc
+  meets_carries (Request.List alt) text meets = let none = meets.0 in cc
+  meets_carries Request.Alternatives text meets = let none = meets.0 in cc
+  meets_carries (Request.Checkpoints alt) text meets = let none = meets.0 in cc
+  meets_carries (Request.Changes alt) text meets = let none = meets.0 in cc
+  meets_carries (Request.Conflicts alt) text meets = let none = meets.0 in cc
+  meets_carries Request.Free text meets = let none = meets.0 in cc
+  meets_carries Request.Nothing text meets = let none = meets.0 in cc
+  meets_carries Request.Bad text meets = let none = meets.0 in cc
 
   request_carries : (asked : Request) (text : List ℕ) (ends : Bool) → AnsweredRequest old new s asked text ends (Some (c, a))
       → CarriesOut old new s c a

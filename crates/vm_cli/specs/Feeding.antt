@@ -1,5 +1,5 @@
 -- How a talk goes on inside: answers that are written in part, and bytes that are fed to it.
-use Rattle.std.specs.Prelude.{◌≡◌, ◌≢◌, ◌⊎◌, ℕ, Bool, true, false, List, [], ◌++◌, Option, None, Result, Ok, Err, IfOk, OnErr, flat_map, length}
+use Rattle.std.specs.Prelude.{◌≡◌, ◌≢◌, ◌⊎◌, ◌+◌, ◌≤◌, ℕ, Bool, true, false, List, [], ◌++◌, Option, None, Result, Ok, Err, IfOk, OnErr, OnOk, flat_map, length}
 use Rattle.std.specs.Io.KnownBytes.{Appends}
 use Rattle.vm_types.specs.State.{State}
 use Rattle.vm_types.specs.declared.answer.Answer.{Answer}
@@ -9,14 +9,14 @@ use Rattle.vm_store.specs.declared.store.Store.{Store}
 use Rattle.vm_cli.specs.Carried.{WritesStart, Carries}
 use Rattle.vm_cli.specs.Lines.{lines_of}
 use Rattle.vm_cli.specs.Replies.{ends_talk, is_error, reply_text}
-use Rattle.vm_store.specs.Store.{has_failed}
+use Rattle.vm_store.specs.Store.{GrowsOn, has_failed}
 use Rattle.vm_cli.specs.Reading.{HoldsLine}
 use Rattle.vm_cli.specs.Requests.{request_of}
-use Rattle.vm_cli.specs.Talk.{AnsweredRequest, Done, Handled, HandlesLine, HasTalked, Serves, ServesLines, error_text}
+use Rattle.vm_cli.specs.Talk.{AnsweredRequest, Done, FailsByDevice, Handled, HandlesLine, HasTalked, Serves, ServesLines, error_text}
 use Rattle.vm_cli.specs.declared.lines.line.Line.{Line}
 use Rattle.vm_cli.specs.declared.answers.reply.Reply.{Reply}
 use Rattle.vm_cli.specs.declared.answers.reply.Reply.TheVariants.{End}
-use Rattle.vm_cli.specs.declared.lines.request.Request.{Request}
+use Rattle.vm_cli.specs.Asking.{Request}
 use Rattle.vm_cli.specs.declared.talk.OnRefusal.{OnRefusal}
 use Rattle.vm_cli.specs.declared.talk.OnRefusal.TheVariants.{Stop}
 use Rattle.vm_cli.specs.declared.talk.ServeFault.{ServeFault}
@@ -104,6 +104,15 @@ module _ {D : Type 0} {members : _} where
   AnswersWith request reply text old new =
       (s : State) → HandlesRequest old new s request (text ++ reply_text reply) (ends_talk reply) × (is_error (text ++ reply_text reply) ≡ is_error (reply_text reply))
 
+  -- what the words of a line ask for is handled, and this reply is the answer. On any disk it ends the talk just where the store fails in it, as a
+  -- device call did; a store that had failed is left as it was
+  pub record HandlesBy (words : List (List ℕ)) (reply : Reply) (old new : Store D members) : Type 0 where
+    pub goes : GrowsOn ⊥ old new
+    pub last : has_failed old ≡ false → ends_talk reply ≡ has_failed new
+    pub failing : FailsByDevice old new
+    pub left : has_failed old ≡ true → new ≡ old
+    pub answers : AnswersBy (request_of words) reply old new
+
   -- a reply ends the talk just where the store, which had not failed, failed in it
   abbrev pub EndsIfFailed : Result Reply WriteFault → Store D members → Store D members → Type 0
   EndsIfFailed result old new = has_failed old ≡ false → IfOk result (λ reply. ends_talk reply ≡ has_failed new)
@@ -129,10 +138,15 @@ module _ {D W : Type 0} {members : _} (contents : W → Option (List ℕ)) where
   RepliesToWords words result old new writer writer' rest =
       (s : State) → Replies (HandlesWords old new s words) result (contents writer) (contents writer') rest
 
-  -- so is a request
-  abbrev pub RepliesToRequest : Request → Result Reply WriteFault → Store D members → Store D members → W → W → List ℕ → Type 0
-  RepliesToRequest request result old new writer writer' rest =
-      (s : State) → Replies (HandlesRequest old new s request) result (contents writer) (contents writer') rest
+  -- the words of a line are handled, and of their answer the rest, behind which there is room for a last line, is still to be written.
+  -- On any disk the talk ends with it just where the store fails in it, as a device call did; a store that had failed is left as it was
+  pub record HandlesInto (words : List (List ℕ)) (result : Result Reply WriteFault) (old new : Store D members) (writer writer' : W) (rest : List ℕ) : Type 0 where
+    pub room : OnOk result (length rest + 1024 ≤ 65536)
+    pub goes : GrowsOn ⊥ old new
+    pub last : EndsIfFailed result old new
+    pub failing : FailsByDevice old new
+    pub left : has_failed old ≡ true → new ≡ old
+    pub answers : RepliesToWords words result old new writer writer' rest
 
   -- these bytes are answered, up to those of another line
   abbrev pub FeedsLine : OnRefusal → List ℕ → Line → Line → Result Bool ServeFault → Store D members → Store D members → W → W → Type 0

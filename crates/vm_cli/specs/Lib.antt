@@ -4,6 +4,7 @@ pub mod Lines
 pub mod Listings
 pub mod Numbers
 pub mod Pieces
+pub mod Asking
 pub mod Requests
 pub mod Spaces
 pub mod Given

@@ -5,11 +5,10 @@ use Rattle.std.specs.Str.{bytes_eq}
 use Rattle.vm_types.specs.declared.command.Command.{Command}
 use Rattle.vm_types.specs.declared.command.Command.TheVariants.{New, NewAt, Drop, Put, Remove, Checkpoint, Uncheck, Back, Merge, Post, Commit, Reclaim, Grow}
 use Rattle.vm_types.specs.declared.key.Key.{Key}
+use Rattle.vm_cli.specs.Asking.{Request}
 use Rattle.vm_cli.specs.Escapes.{value_of}
 use Rattle.vm_cli.specs.Numbers.{key_of, number_of}
 use Rattle.vm_cli.specs.Settlements.{settled_of}
-use Rattle.vm_cli.specs.declared.lines.request.Request.{Request}
-use Rattle.vm_cli.specs.declared.lines.request.Request.TheVariants as request
 
 -- a byte may stand in a name: an ASCII letter or digit, `_`, `-` or `.`
 abbrev pub is_name_byte : ℕ → Bool
@@ -35,6 +34,11 @@ abbrev pub names_of : List (List ℕ) → Option (List ℕ × List ℕ)
 names_of (first ∷ second ∷ []) = option_and_then (λ a. option_map (λ b. (a, b)) (name_of second)) (name_of first)
 names_of _ = None
 
+-- the command of two names, or of three
+abbrev pub new_command : List ℕ × List ℕ × Option (List ℕ) → Command
+new_command (name, parent, None) = New name parent
+new_command (name, parent, Some checkpoint) = NewAt name parent checkpoint
+
 -- `new NAME PARENT`, or `new NAME PARENT CHECKPOINT`
 abbrev pub new_of : List (List ℕ) → Option Command
 new_of (name ∷ parent ∷ []) = option_and_then (λ n. option_map (λ p. New n p) (name_of parent)) (name_of name)
@@ -50,8 +54,8 @@ put_of _ = None
 
 -- what a put asks for, where its last word spells this value, or none
 abbrev pub put_asked : List ℕ → Key → Option (List ℕ) → Request
-put_asked alt key None = request.Bad
-put_asked alt key (Some value) = request.Command (Put alt key value)
+put_asked alt key None = Request.Bad
+put_asked alt key (Some value) = Request.Command (Put alt key value)
 
 -- `grow BLOCKS`: a number that 32 bits hold
 abbrev pub grow_of : List (List ℕ) → Option Command
@@ -86,23 +90,23 @@ command_of verb words =
 -- the query that the words after the first complete
 abbrev pub query_of : List ℕ → List (List ℕ) → Option Request
 query_of verb words =
-    if bytes_eq verb (codes "get") then option_map (λ r. request.Get r.0 r.1) (record_of words)
-    else (if bytes_eq verb (codes "list") then option_map request.List (named_of words)
-    else (if bytes_eq verb (codes "checks") then option_map request.Checkpoints (named_of words)
-    else (if bytes_eq verb (codes "changes") then option_map request.Changes (named_of words)
-    else (if bytes_eq verb (codes "conflicts") then option_map request.Conflicts (named_of words)
-    else (if bytes_eq verb (codes "alts") then alone request.Alternatives words
-    else (if bytes_eq verb (codes "free") then alone request.Free words else None))))))
+    if bytes_eq verb (codes "get") then option_map (λ r. Request.Get r.0 r.1) (record_of words)
+    else (if bytes_eq verb (codes "list") then option_map Request.List (named_of words)
+    else (if bytes_eq verb (codes "checks") then option_map Request.Checkpoints (named_of words)
+    else (if bytes_eq verb (codes "changes") then option_map Request.Changes (named_of words)
+    else (if bytes_eq verb (codes "conflicts") then option_map Request.Conflicts (named_of words)
+    else (if bytes_eq verb (codes "alts") then alone Request.Alternatives words
+    else (if bytes_eq verb (codes "free") then alone Request.Free words else None))))))
 
 -- a command, or else a query
 abbrev pub command_or : Option Command → Option Request → Option Request
-command_or (Some command) query = Some (request.Command command)
+command_or (Some command) query = Some (Request.Command command)
 command_or None query = query
 
 -- what the words after the first ask for
 abbrev pub asked_by : List ℕ → List (List ℕ) → Option Request
 asked_by verb words =
-    if bytes_eq verb (codes "merge") then option_map request.Command (merge_of words)
+    if bytes_eq verb (codes "merge") then option_map Request.Command (merge_of words)
     else command_or (command_of verb words) (query_of verb words)
 
 -- a merge with further words after its alternative: to read a line takes memory only where it is one
@@ -117,5 +121,5 @@ is_comment (b ∷ bytes) = b == 35
 
 -- what a line of these words asks for
 abbrev pub request_of : List (List ℕ) → Request
-request_of [] = request.Nothing
-request_of (verb ∷ words) = if is_comment verb then request.Nothing else unwrap_or (asked_by verb words) request.Bad
+request_of [] = Request.Nothing
+request_of (verb ∷ words) = if is_comment verb then Request.Nothing else unwrap_or (asked_by verb words) Request.Bad

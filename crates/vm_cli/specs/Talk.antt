@@ -24,8 +24,7 @@ use Rattle.vm_cli.specs.Replies.{found_text, is_error, reply_text}
 use Rattle.vm_cli.specs.Requests.{request_of}
 use Rattle.vm_cli.specs.Spaces.{words_of}
 use Rattle.vm_cli.specs.declared.answers.reply.Reply.TheVariants as reply
-use Rattle.vm_cli.specs.declared.lines.request.Request.{Request}
-use Rattle.vm_cli.specs.declared.lines.request.Request.TheVariants as request
+use Rattle.vm_cli.specs.Asking.{Request}
 use Rattle.vm_cli.specs.declared.talk.OnRefusal.{OnRefusal}
 use Rattle.vm_cli.specs.declared.talk.OnRefusal.TheVariants.{Stop}
 use Rattle.vm_cli.specs.declared.talk.ServeFault.{ServeFault}
@@ -62,21 +61,21 @@ SaysList Fails line due text = (text ≡ list_lines line due) ⊎ (((text ≡ er
 -- the text of the answer to a query on the working tree, where `Fails` says that the device failed in it, and `IsFree` which
 -- numbers of free blocks may be answered
 abbrev pub Says : Type 0 → (ℕ → Type 0) → State → Request → List ℕ → Type 0
-Says Fails IsFree s (request.Get alt key) text = (text ≡ value_line (value_in s.working alt key)) ⊎ ((text ≡ error_text Device) × Fails)
-Says Fails IsFree s (request.List alt) text = SaysList Fails (λ (r : Key × List ℕ). record_text r.0 r.1) (records_in s.working alt) text
-Says Fails IsFree s request.Alternatives text = SaysList ⊥ (λ (a : List ℕ × Option (List ℕ)). alternative_text a.0 a.1) (Ok (shape s.working)) text
-Says Fails IsFree s (request.Checkpoints alt) text = SaysList ⊥ checkpoint_text (checkpoints_in s.working alt) text
-Says Fails IsFree s (request.Changes alt) text = SaysList Fails change_text (changes_in s.working alt) text
-Says Fails IsFree s (request.Conflicts alt) text = SaysList Fails conflict_text (conflicts_in s.working alt) text
-Says Fails IsFree s request.Free text = (count : ℕ) × IsFree count × (text ≡ reply_text (reply.Free count))
-Says Fails IsFree s request.Nothing text = text ≡ []
-Says Fails IsFree s request.Bad text = text ≡ reply_text reply.BadLine
-Says Fails IsFree s (request.Command command) text = ⊥
+Says Fails IsFree s (Request.Get alt key) text = (text ≡ value_line (value_in s.working alt key)) ⊎ ((text ≡ error_text Device) × Fails)
+Says Fails IsFree s (Request.List alt) text = SaysList Fails (λ (r : Key × List ℕ). record_text r.0 r.1) (records_in s.working alt) text
+Says Fails IsFree s Request.Alternatives text = SaysList ⊥ (λ (a : List ℕ × Option (List ℕ)). alternative_text a.0 a.1) (Ok (shape s.working)) text
+Says Fails IsFree s (Request.Checkpoints alt) text = SaysList ⊥ checkpoint_text (checkpoints_in s.working alt) text
+Says Fails IsFree s (Request.Changes alt) text = SaysList Fails change_text (changes_in s.working alt) text
+Says Fails IsFree s (Request.Conflicts alt) text = SaysList Fails conflict_text (conflicts_in s.working alt) text
+Says Fails IsFree s Request.Free text = (count : ℕ) × IsFree count × (text ≡ reply_text (reply.Free count))
+Says Fails IsFree s Request.Nothing text = text ≡ []
+Says Fails IsFree s Request.Bad text = text ≡ reply_text reply.BadLine
+Says Fails IsFree s (Request.Command command) text = ⊥
 
 -- what a store that had failed answers, and whether the talk ends with it
 abbrev pub SaysFailed : Request → List ℕ → Bool → Type 0
-SaysFailed request.Nothing text ends = (text ≡ []) × (ends ≡ false)
-SaysFailed request.Bad text ends = (text ≡ reply_text reply.BadLine) × (ends ≡ false)
+SaysFailed Request.Nothing text ends = (text ≡ []) × (ends ≡ false)
+SaysFailed Request.Bad text ends = (text ≡ reply_text reply.BadLine) × (ends ≡ false)
 SaysFailed request text ends = (text ≡ error_text Failed) × (ends ≡ true)
 
 -- the command that a line was, with its answer, or that it was none
@@ -149,7 +148,7 @@ module _ {D : Type 0} {members : _} where
 
   -- what a request is answered by a store that had not failed: no query makes it fail
   abbrev pub Meets : Store D members → Store D members → State → Request → List ℕ → Done → Type 0
-  Meets old new s (request.Command command) text done = AnswersCommand old new s command text done
+  Meets old new s (Request.Command command) text done = AnswersCommand old new s command text done
   Meets old new s query text done = (done ≡ None) × (has_failed new ≡ false) × (Stood old new s → Says (Failing old new) (CountsFree old s) s query text)
 
   -- a request is answered, and the talk ends with it where the device fails in a command, or the store had failed before, which is

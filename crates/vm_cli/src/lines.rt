@@ -1,8 +1,8 @@
-//! Lines as they are read: their bytes, their words, and what they ask for.
+//! Lines as they are read: their bytes, their words, and what stands in those.
 
+pub mod arguments;
 pub mod escape;
 pub mod line;
 pub mod number;
 pub mod pieces;
-pub mod request;
 pub mod settlement;

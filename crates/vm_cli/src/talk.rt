@@ -1,35 +1,41 @@
 //! The talk: lines in, answers out.
-ghost use Rattle.std.specs.Prelude.{◌≡◌, ◌≢◌, ◌⊎◌, ◌+◌, ◌≤◌, ◌++◌, ◌∷◌, ℕ, List, [], codes, length, true, false, Err, flat_map, IfErr, IfOk, OnErr, OnOk};
-ghost use Rattle.std.specs.Io.KnownBytes.{Appends, IsAtEnd};
-ghost use Rattle.vm_cli.specs.Carried.{Begins, Gains};
-ghost use Rattle.vm_cli.specs.Feeding.{AnswersBy, AnswersLine, AnswersWith, EndsAmong, EndsIfFailed, FeedsLine, RepliesToLine, RepliesToRequest, RepliesToWords, ServesEach, TalkGoesOn};
-ghost use Rattle.vm_cli.specs.Lines.{IsPart, lines_of};
-ghost use Rattle.vm_cli.specs.Reading.{HoldsLine};
-ghost use Rattle.vm_cli.specs.Replies.{ends_talk, reply_text};
-ghost use Rattle.vm_cli.specs.Escapes.{value_of};
-ghost use Rattle.vm_cli.specs.Requests.{put_asked, request_of};
-ghost use Rattle.vm_cli.specs.Spaces.{words_of};
-ghost use Rattle.vm_cli.specs.Talk.{EndsBy, FailsByDevice, StoreFails, answer_text};
-ghost use Rattle.vm_store.specs.Store.{Holds, has_failed, GoesOn, GrowsOn};
-ghost use Rattle.vm_types.specs.Bytes.{longest};
-ghost use Rattle.vm_types.specs.State.{State};
-ghost use Rattle.vm_types.specs.declared.command.Command.TheVariants.{Put};
 
-use crate::answers::lists::reply_with_list;
-use crate::answers::reply::{Reply, push_found};
+pub mod commands;
+pub mod puts;
+pub mod queries;
+
+ghost use Rattle.std.specs.Prelude.{◌≡◌, ◌+◌, ◌≤◌, ◌++◌, ◌∷◌, [], length, true, false, IfErr, OnErr, OnOk};
+ghost use Rattle.std.specs.Io.KnownBytes.{IsAtEnd};
+ghost use Rattle.vm_cli.specs.Carried.{Begins, Gains};
+ghost use Rattle.vm_cli.specs.Feeding.{AnswersLine, EndsAmong, EndsIfFailed, FeedsLine, HandlesInto, RepliesToLine, RepliesToWords, ServesEach};
+ghost use Rattle.vm_cli.specs.Lines.{IsPart};
+ghost use Rattle.vm_cli.specs.Replies.{reply_text};
+ghost use Rattle.vm_cli.specs.Spaces.{words_of};
+ghost use Rattle.vm_cli.specs.Talk.{EndsBy, FailsByDevice, StoreFails};
+ghost use Rattle.vm_store.specs.Store.{has_failed, GrowsOn};
+
+use crate::answers::reply::Reply;
 use crate::answers::text::Text;
 use crate::answers::writing::{WriteFault, flush, put_all};
-use crate::lines::escape::{plain, value};
 use crate::lines::line::{Line, LineKind};
 use crate::lines::pieces::first_word;
-use crate::lines::request::{Request, command_but_merge, put_words, read_request, record};
+use commands::{
+    reply_to_back, reply_to_checkpoint, reply_to_commit, reply_to_drop, reply_to_grow,
+    reply_to_merge, reply_to_new, reply_to_post, reply_to_reclaim, reply_to_remove,
+    reply_to_uncheck,
+};
 use memchr::memchr;
+use puts::reply_to_put;
+use queries::{
+    reply_to_alts, reply_to_changes, reply_to_checks, reply_to_conflicts, reply_to_free,
+    reply_to_get, reply_to_list,
+};
 use std::alloc::{AllocError, Global};
 use std::io::{Read, Write};
 use thiserror::Error;
 use vm_disk::Disk;
 use vm_store::Store;
-use vm_types::{Answer, Command, Key, Name, Refusal};
+use vm_types::Refusal;
 
 /// What a line that is refused means, whose answer is an error.
 #[derive(Clone, Copy, Debug, PartialEq, Eq)]
@@ -252,8 +258,7 @@ fn reply_to<W: Write, D: Disk>(
     }
 }
 
-/// Carries out a line whose bytes are held. A get and a put are told by their first word alone, and
-/// have frames of their own, so that the talk has a small one.
+/// Carries out a line whose bytes are held.
 fn reply_to_words<W: Write, D: Disk>(
     alloc: Global,
     line: &[u8],
@@ -273,97 +278,12 @@ fn reply_to_words<W: Write, D: Disk>(
     let Some((verb, rest)) = first_word(line) else {
         return Ok(Reply::Nothing);
     };
-    match verb {
-        b"get" => Ok(reply_to_get(rest, text, store)),
-        b"put" => Ok(reply_to_put(rest, store)),
-        _ => reply_to_rest(alloc, verb, rest, text, writer, store),
-    }
+    reply_to_verb(alloc, verb, rest, text, writer, store)
 }
 
-/// Answers a query for the value of a record, of which the words behind the first are given. The
-/// text takes the answer, unless it is a refusal.
-#[inline(never)]
-fn reply_to_get<D: Disk>(rest: &[u8], text: &mut Text, store: &mut Store<D>) -> Reply
-    requires { text.old ≡ [] }
-    ensures room { length text.new + 1024 ≤ 65536 }
-    ensures goes { GoesOn ⊥ store.old store.new }
-    ensures failed { has_failed store.new ≡ has_failed store.old }
-    ensures last { has_failed store.old ≡ false → ends_talk result ≡ false }
-    ensures left { has_failed store.old ≡ true → store.new ≡ store.old }
-    ensures answer { AnswersWith (request_of (codes "get" ∷ words_of rest.now)) result text.new
-        store.old store.new }
-{
-    match record(rest) {
-        Some((alt, key)) => get(&alt, key, text, store),
-        None => Reply::BadLine,
-    }
-}
-
-/// Carries out a put, of which the words behind the first are given.
-#[inline(never)]
-fn reply_to_put<D: Disk>(rest: &[u8], store: &mut Store<D>) -> Reply
-    ensures goes { GrowsOn ⊥ store.old store.new }
-    ensures last { has_failed store.old ≡ false → ends_talk result ≡ has_failed store.new }
-    ensures failing { FailsByDevice store.old store.new }
-    ensures left { has_failed store.old ≡ true → store.new ≡ store.old }
-    ensures answer { AnswersBy (request_of (codes "put" ∷ words_of rest.now)) result
-        store.old store.new }
-{
-    let (record, word) = put_words(rest);
-    match record {
-        Some(asked) => reply_to_spelled(asked, word, store),
-        None => Reply::BadLine,
-    }
-}
-
-/// Puts the value that a word spells. Most words are their values, and none of those is copied.
-fn reply_to_spelled<D: Disk>(asked: (Name, Key), word: &[u8], store: &mut Store<D>) -> Reply
-    ensures goes { GrowsOn ⊥ store.old store.new }
-    ensures last { has_failed store.old ≡ false → ends_talk result ≡ has_failed store.new }
-    ensures failing { FailsByDevice store.old store.new }
-    ensures left { has_failed store.old ≡ true → store.new ≡ store.old }
-    ensures answer { AnswersBy (put_asked asked.0 asked.1 (value_of word.now)) result
-        store.old store.new }
-{
-    let (alt, key) = asked;
-    match plain(word) {
-        Some(value) => reply_to_value(&alt, key, value, store),
-        None => reply_to_escaped(&alt, key, word, store),
-    }
-}
-
-/// Puts the value that a word spells by other bytes than its own.
-#[inline(never)]
-fn reply_to_escaped<D: Disk>(alt: &Name, key: Key, word: &[u8], store: &mut Store<D>) -> Reply
-    ensures goes { GrowsOn ⊥ store.old store.new }
-    ensures last { has_failed store.old ≡ false → ends_talk result ≡ has_failed store.new }
-    ensures failing { FailsByDevice store.old store.new }
-    ensures left { has_failed store.old ≡ true → store.new ≡ store.old }
-    ensures answer { AnswersBy (put_asked alt.now key (value_of word.now)) result
-        store.old store.new }
-{
-    match value(word) {
-        Some(value) => reply_to_value(alt, key, value.as_bytes(), store),
-        None => Reply::BadLine,
-    }
-}
-
-/// Puts a value. Where the device failed in it, the store carries out nothing more.
-fn reply_to_value<D: Disk>(alt: &Name, key: Key, value: &[u8], store: &mut Store<D>) -> Reply
-    requires short { length value.now ≤ longest }
-    ensures goes { GrowsOn ⊥ store.old store.new }
-    ensures last { has_failed store.old ≡ false → ends_talk result ≡ has_failed store.new }
-    ensures failing { FailsByDevice store.old store.new }
-    ensures left { has_failed store.old ≡ true → store.new ≡ store.old }
-    ensures answer { AnswersBy (Request.Command (Put alt.now key value.now)) result
-        store.old store.new }
-{
-    answered(store.put(alt, key, value))
-}
-
-/// Carries out any other line, of which the first word and those behind it are given.
-#[inline(never)]
-fn reply_to_rest<W: Write, D: Disk>(
+/// Carries out a line by its first word, of which those behind it are given. Each kind of line has a
+/// frame of its own, since a command has room for a value: so the talk has a small one.
+fn reply_to_verb<W: Write, D: Disk>(
     alloc: Global,
     verb: &[u8],
     rest: &[u8],
@@ -372,109 +292,35 @@ fn reply_to_rest<W: Write, D: Disk>(
     store: &mut Store<D>,
 ) -> Result<Reply, WriteFault>
     requires { text.old ≡ [] }
-    ensures room { OnOk result (length text.new + 1024 ≤ 65536) }
-    ensures goes { GrowsOn ⊥ store.old store.new }
-    ensures last { EndsIfFailed result store.old store.new }
-    ensures failing { FailsByDevice store.old store.new }
-    ensures left { has_failed store.old ≡ true → store.new ≡ store.old }
-    ensures answer { RepliesToWords W.contents (verb.now ∷ words_of rest.now) result
+    ensures { HandlesInto W.contents (verb.now ∷ words_of rest.now) result
         store.old store.new writer.old writer.new text.new }
 {
-    if let Some(command) = command_but_merge(verb, rest) {
-        return Ok(reply_to_command(&command, store));
-    }
-    match read_request(alloc, verb, rest) {
-        Ok(request) => reply_to_request(alloc, request, text, writer, store),
-        Err(AllocError) => Ok(Reply::Refused(Refusal::Memory)),
-    }
-}
-
-/// Does what a line asks for. The text takes the lines of a list as above.
-fn reply_to_request<W: Write, D: Disk>(
-    alloc: Global,
-    request: Request,
-    text: &mut Text,
-    writer: &mut W,
-    store: &mut Store<D>,
-) -> Result<Reply, WriteFault>
-    requires { text.old ≡ [] }
-    ensures room { OnOk result (length text.new + 1024 ≤ 65536) }
-    ensures goes { GrowsOn ⊥ store.old store.new }
-    ensures last { EndsIfFailed result store.old store.new }
-    ensures failing { FailsByDevice store.old store.new }
-    ensures left { has_failed store.old ≡ true → store.new ≡ store.old }
-    ensures answer { RepliesToRequest W.contents request result
-        store.old store.new writer.old writer.new text.new }
-{
-    match request {
-        Request::Nothing => Ok(Reply::Nothing),
-        Request::Bad => Ok(Reply::BadLine),
-        Request::Command(command) => Ok(reply_to_command(&command, store)),
-        Request::Get { alt, key } => Ok(get(&alt, key, text, store)),
-        Request::Free => Ok(free(store)),
-        Request::List { alt } => reply_with_list(store.list(alloc, &alt), text, writer),
-        Request::Alternatives => reply_with_list(store.alternatives(alloc), text, writer),
-        Request::Checkpoints { alt } => {
-            reply_with_list(store.checkpoints(alloc, &alt), text, writer)
-        }
-        Request::Changes { alt } => reply_with_list(store.changes(alloc, &alt), text, writer),
-        Request::Conflicts { alt } => reply_with_list(store.conflicts(alloc, &alt), text, writer),
-    }
-}
-
-/// Carries out a command. Where the device failed in it, the store carries out nothing more.
-fn reply_to_command<D: Disk>(command: &Command, store: &mut Store<D>) -> Reply
-    ensures goes { GrowsOn ⊥ store.old store.new }
-    ensures last { has_failed store.old ≡ false → ends_talk result ≡ has_failed store.new }
-    ensures failing { FailsByDevice store.old store.new }
-    ensures left { has_failed store.old ≡ true → store.new ≡ store.old }
-    ensures answer { AnswersBy (Request.Command command.now) result store.old store.new }
-{
-    answered(store.apply(command))
-}
-
-/// What is answered to a command.
-fn answered(answer: Result<Answer, Refusal>) -> Reply
-    ensures text { reply_text result ≡ answer_text answer }
-    ensures last { TalkGoesOn answer result }
-    ensures device { answer ≡ Err Refusal.Device → ends_talk result ≡ true }
-    ensures failed { answer ≡ Err Refusal.Failed → ends_talk result ≡ true }
-{
-    match answer {
-        Ok(Answer::Done) => Reply::Done,
-        Ok(Answer::Merged(changes)) => Reply::Merged(changes),
-        Err(Refusal::Device) => Reply::Last(Refusal::Device),
-        Err(refusal) => Reply::from_refusal(refusal),
-    }
-}
-
-/// Answers a query for the value of a record. The text takes the answer, unless it is a refusal.
-fn get<D: Disk>(alt: &Name, key: Key, text: &mut Text, store: &mut Store<D>) -> Reply
-    requires { text.old ≡ [] }
-    ensures room { length text.new + 1024 ≤ 65536 }
-    ensures goes { GoesOn ⊥ store.old store.new }
-    ensures failed { has_failed store.new ≡ has_failed store.old }
-    ensures last { has_failed store.old ≡ false → ends_talk result ≡ false }
-    ensures left { has_failed store.old ≡ true → store.new ≡ store.old }
-    ensures answer { AnswersWith (Request.Get alt.now key) result text.new store.old store.new }
-{
-    let mut room = [0; 4096];
-    match store.look(alt, key, &mut room) {
-        Ok(found) => {
-            push_found(text, found);
-            Reply::Nothing
-        }
-        Err(refusal) => Reply::from_refusal(refusal),
-    }
-}
-
-/// Answers a query for the number of free blocks.
-fn free<D: Disk>(store: &Store<D>) -> Reply
-    ensures last { has_failed store.now ≡ false → ends_talk result ≡ false }
-    ensures answer { AnswersBy Request.Free result store.now store.now }
-{
-    match store.free() {
-        Ok(count) => Reply::Free(count),
-        Err(refusal) => Reply::from_refusal(refusal),
+    match verb {
+        _ if verb == b"get".as_slice() => Ok(reply_to_get(rest, text, store)),
+        _ if verb == b"put".as_slice() => Ok(reply_to_put(rest, store)),
+        _ if verb == b"remove".as_slice() => Ok(reply_to_remove(rest, store)),
+        _ if verb == b"new".as_slice() => Ok(reply_to_new(rest, store)),
+        _ if verb == b"drop".as_slice() => Ok(reply_to_drop(rest, store)),
+        _ if verb == b"post".as_slice() => Ok(reply_to_post(rest, store)),
+        _ if verb == b"merge".as_slice() => match reply_to_merge(alloc, rest, store) {
+            Ok(reply) => Ok(reply),
+            Err(AllocError) => Ok(Reply::Refused(Refusal::Memory)),
+        },
+        _ if verb == b"commit".as_slice() => Ok(reply_to_commit(rest, store)),
+        _ if verb == b"checkpoint".as_slice() => Ok(reply_to_checkpoint(rest, store)),
+        _ if verb == b"uncheck".as_slice() => Ok(reply_to_uncheck(rest, store)),
+        _ if verb == b"back".as_slice() => Ok(reply_to_back(rest, store)),
+        _ if verb == b"reclaim".as_slice() => Ok(reply_to_reclaim(rest, store)),
+        _ if verb == b"grow".as_slice() => Ok(reply_to_grow(rest, store)),
+        _ if verb == b"list".as_slice() => reply_to_list(alloc, rest, text, writer, store),
+        _ if verb == b"alts".as_slice() => reply_to_alts(alloc, rest, text, writer, store),
+        _ if verb == b"checks".as_slice() => reply_to_checks(alloc, rest, text, writer, store),
+        _ if verb == b"changes".as_slice() => reply_to_changes(alloc, rest, text, writer, store),
+        _ if verb == b"conflicts".as_slice() => reply_to_conflicts(
+            alloc, rest, text, writer, store,
+        ),
+        _ if verb == b"free".as_slice() => Ok(reply_to_free(rest, store)),
+        _ if verb.first() == Some(&b'#') => Ok(Reply::Nothing),
+        _ => Ok(Reply::BadLine),
     }
 }

@@ -1,0 +1,26 @@
+use Rattle.std.proofs.Common.{refl}
+use Rattle.vm_store.specs.Store.{has_failed}
+use Rattle.vm_cli.specs.Asking.{Request}
+use Rattle.vm_cli.proofs.HandledLemmas.{refusal_handled, told}
+use Rattle.vm_cli.proofs.PassLemmas.{passes_none}
+use Rattle.vm_cli.proofs.TalkLemmas.{was_sound}
+use Rattle.vm_cli.proofs.talk.queries.free.Goals as goal
+
+pub returns-in-Ok-clause-answer : goal.returns-in-Ok-clause-answer
+returns-in-Ok-clause-answer g c s =
+    let store = c.args.store.now in
+    let said = c.in-Ok.ensures in
+    let sound = was_sound (has_failed store) c.in-Ok.count said.failed in
+    told store store s Request.Free (passes_none store) refl (λ failed. refl) (λ stood. stood.holds)
+    _ sound (refl, sound, λ stood. (c.in-Ok.count, (let counted = said.counted sound in cc, said.spare s), refl))
+
+pub returns-in-Err-clause-answer : goal.returns-in-Err-clause-answer
+returns-in-Err-clause-answer g c s =
+    let store = c.args.store.now in
+    let said = c.in-Err.ensures in
+    let refusal = c.in-Err.refusal in
+    refusal_handled store store s Request.Free (passes_none store) refl (λ failed. refl) (λ stood. stood.holds)
+    refusal c.from_refusal.result c.from_refusal.ensures.text c.from_refusal.ensures.last c.from_refusal.ensures.failed (λ failed. let e = said.failed failed in cc)
+    (λ sound is. let counted = said.counted sound in cc)
+    (λ text ends is last. (is, last))
+    (λ sound. let counted = said.counted sound in absurd cc)

@@ -1,0 +1,115 @@
+//! What stands behind the first word of a line.
+ghost use Rattle.std.specs.Prelude.{◌≡◌, ◌∷◌, [], None, option_map, MatchOption};
+ghost use Rattle.vm_types.specs.declared.command.Command.TheVariants.{Grow, Put};
+ghost use Rattle.vm_cli.specs.Escapes.{value_of};
+ghost use Rattle.vm_cli.specs.Requests.{grow_of, name_of, named_of, names_of, new_command, new_of, put_of, record_of};
+ghost use Rattle.vm_cli.specs.Spaces.{HasWord, words_of};
+
+use crate::lines::number::{key, number};
+use crate::lines::pieces::first_word;
+use vm_types::{Key, Name};
+
+/// The record of which a put speaks, and the word that spells its value. No record, where the words
+/// say none, or are too few or too many.
+pub fn put_words(rest: &[u8]) -> (Option<(Name, Key)>, &[u8])
+    ensures { MatchOption result.0 (put_of (words_of rest.now) ≡ None) (λ p. put_of (words_of rest.now)
+        ≡ option_map (λ value. Put p.0 p.1 value) (value_of result.1.now)) }
+{
+    let none = (None, rest);
+    let Some((alt, rest)) = first_word(rest) else {
+        return none;
+    };
+    let Some((table, rest)) = first_word(rest) else {
+        return none;
+    };
+    let Some((number, rest)) = first_word(rest) else {
+        return none;
+    };
+    let Some((word, rest)) = first_word(rest) else {
+        return none;
+    };
+    if first_word(rest).is_some() {
+        return none;
+    }
+    let (Some(alt), Some(key)) = (name(alt), key(table, number)) else {
+        return none;
+    };
+    (Some((alt, key)), word)
+}
+
+/// `NAME PARENT`, or `NAME PARENT CHECKPOINT`
+pub fn new_names(rest: &[u8]) -> Option<(Name, Name, Option<Name>)>
+    ensures { option_map new_command result ≡ new_of (words_of rest.now) }
+{
+    let (first, rest) = first_word(rest)?;
+    let (second, rest) = first_word(rest)?;
+    let child = name(first)?;
+    let parent = name(second)?;
+    let Some((third, rest)) = first_word(rest) else {
+        return Some((child, parent, None));
+    };
+    ends(rest)?;
+    let checkpoint = name(third)?;
+    Some((child, parent, Some(checkpoint)))
+}
+
+/// `BLOCKS`
+pub fn blocks(rest: &[u8]) -> Option<u32>
+    ensures { option_map Grow result ≡ grow_of (words_of rest.now) }
+{
+    let (blocks, rest) = first_word(rest)?;
+    ends(rest)?;
+    let blocks = number(blocks, 4_294_967_295)?;
+    Some(blocks as u32)
+}
+
+/// `ALT TABLE NUMBER`
+pub fn record(rest: &[u8]) -> Option<(Name, Key)>
+    ensures { result ≡ record_of (words_of rest.now) }
+{
+    let (alt, rest) = first_word(rest)?;
+    let (table, rest) = first_word(rest)?;
+    let (number, rest) = first_word(rest)?;
+    ends(rest)?;
+    let alt = name(alt)?;
+    let key = key(table, number)?;
+    Some((alt, key))
+}
+
+/// `NAME`
+pub fn one_name(rest: &[u8]) -> Option<Name>
+    ensures { result ≡ named_of (words_of rest.now) }
+{
+    let (word, rest) = first_word(rest)?;
+    ends(rest)?;
+    name(word)
+}
+
+/// `NAME NAME`
+pub fn two_names(rest: &[u8]) -> Option<(Name, Name)>
+    ensures { result ≡ names_of (words_of rest.now) }
+{
+    let (first, rest) = first_word(rest)?;
+    let (second, rest) = first_word(rest)?;
+    ends(rest)?;
+    let first = name(first)?;
+    let second = name(second)?;
+    Some((first, second))
+}
+
+/// The name that a word is.
+pub fn name(word: &[u8]) -> Option<Name>
+    ensures { result ≡ name_of word.now }
+{
+    Name::new(word)
+}
+
+/// No word is left.
+pub fn ends(rest: &[u8]) -> Option<()>
+    ensures { MatchOption result (HasWord rest.now) (λ _. words_of rest.now ≡ []) }
+{
+    match first_word(rest) {
+        None => Some(()),
+        Some(_) => None,
+    }
+}

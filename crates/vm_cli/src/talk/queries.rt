@@ -1,0 +1,175 @@
+//! Lines that are queries. The text takes an answer, or the lines of a list but for the last; what
+//! doesn't fit is written, and the last line of the answer is given back.
+ghost use Rattle.std.specs.Prelude.{◌≡◌, ◌+◌, ◌≤◌, ◌∷◌, [], codes, length, true, false};
+ghost use Rattle.vm_cli.specs.Asking.{Request};
+ghost use Rattle.vm_cli.specs.Feeding.{AnswersBy, AnswersWith, HandlesBy, HandlesInto};
+ghost use Rattle.vm_cli.specs.Replies.{ends_talk};
+ghost use Rattle.vm_cli.specs.Requests.{request_of};
+ghost use Rattle.vm_cli.specs.Spaces.{words_of};
+ghost use Rattle.vm_store.specs.Store.{has_failed, GoesOn};
+
+use crate::answers::lists::reply_with_list;
+use crate::answers::reply::{Reply, push_found};
+use crate::answers::text::Text;
+use crate::answers::writing::WriteFault;
+use crate::lines::arguments::{ends, one_name, record};
+use std::alloc::Global;
+use std::io::Write;
+use vm_disk::Disk;
+use vm_store::Store;
+use vm_types::{Key, Name};
+
+/// Answers a query for the value of a record, of which the words behind the first are given. The
+/// text takes the answer, unless it is a refusal.
+#[inline(never)]
+pub fn reply_to_get<D: Disk>(rest: &[u8], text: &mut Text, store: &mut Store<D>) -> Reply
+    requires { text.old ≡ [] }
+    ensures room { length text.new + 1024 ≤ 65536 }
+    ensures goes { GoesOn ⊥ store.old store.new }
+    ensures failed { has_failed store.new ≡ has_failed store.old }
+    ensures last { has_failed store.old ≡ false → ends_talk result ≡ false }
+    ensures left { has_failed store.old ≡ true → store.new ≡ store.old }
+    ensures answer { AnswersWith (request_of (codes "get" ∷ words_of rest.now)) result text.new
+        store.old store.new }
+{
+    match record(rest) {
+        Some((alt, key)) => get(&alt, key, text, store),
+        None => Reply::BadLine,
+    }
+}
+
+/// Answers a query for the value of a record. The text takes the answer, unless it is a refusal.
+fn get<D: Disk>(alt: &Name, key: Key, text: &mut Text, store: &mut Store<D>) -> Reply
+    requires { text.old ≡ [] }
+    ensures room { length text.new + 1024 ≤ 65536 }
+    ensures goes { GoesOn ⊥ store.old store.new }
+    ensures failed { has_failed store.new ≡ has_failed store.old }
+    ensures last { has_failed store.old ≡ false → ends_talk result ≡ false }
+    ensures left { has_failed store.old ≡ true → store.new ≡ store.old }
+    ensures answer { AnswersWith (Request.Get alt.now key) result text.new store.old store.new }
+{
+    let mut room = [0; 4096];
+    match store.look(alt, key, &mut room) {
+        Ok(found) => {
+            push_found(text, found);
+            Reply::Nothing
+        }
+        Err(refusal) => Reply::from_refusal(refusal),
+    }
+}
+
+/// `list ALT`
+#[inline(never)]
+pub fn reply_to_list<W: Write, D: Disk>(
+    alloc: Global,
+    rest: &[u8],
+    text: &mut Text,
+    writer: &mut W,
+    store: &mut Store<D>,
+) -> Result<Reply, WriteFault>
+    requires { text.old ≡ [] }
+    ensures { HandlesInto W.contents (codes "list" ∷ words_of rest.now) result
+        store.old store.new writer.old writer.new text.new }
+{
+    match one_name(rest) {
+        Some(alt) => reply_with_list(store.list(alloc, &alt), text, writer),
+        None => Ok(Reply::BadLine),
+    }
+}
+
+/// `alts`
+#[inline(never)]
+pub fn reply_to_alts<W: Write, D: Disk>(
+    alloc: Global,
+    rest: &[u8],
+    text: &mut Text,
+    writer: &mut W,
+    store: &Store<D>,
+) -> Result<Reply, WriteFault>
+    requires { text.old ≡ [] }
+    ensures { HandlesInto W.contents (codes "alts" ∷ words_of rest.now) result
+        store.now store.now writer.old writer.new text.new }
+{
+    match ends(rest) {
+        Some(()) => reply_with_list(store.alternatives(alloc), text, writer),
+        None => Ok(Reply::BadLine),
+    }
+}
+
+/// `checks ALT`
+#[inline(never)]
+pub fn reply_to_checks<W: Write, D: Disk>(
+    alloc: Global,
+    rest: &[u8],
+    text: &mut Text,
+    writer: &mut W,
+    store: &Store<D>,
+) -> Result<Reply, WriteFault>
+    requires { text.old ≡ [] }
+    ensures { HandlesInto W.contents (codes "checks" ∷ words_of rest.now) result
+        store.now store.now writer.old writer.new text.new }
+{
+    match one_name(rest) {
+        Some(alt) => reply_with_list(store.checkpoints(alloc, &alt), text, writer),
+        None => Ok(Reply::BadLine),
+    }
+}
+
+/// `changes ALT`
+#[inline(never)]
+pub fn reply_to_changes<W: Write, D: Disk>(
+    alloc: Global,
+    rest: &[u8],
+    text: &mut Text,
+    writer: &mut W,
+    store: &mut Store<D>,
+) -> Result<Reply, WriteFault>
+    requires { text.old ≡ [] }
+    ensures { HandlesInto W.contents (codes "changes" ∷ words_of rest.now) result
+        store.old store.new writer.old writer.new text.new }
+{
+    match one_name(rest) {
+        Some(alt) => reply_with_list(store.changes(alloc, &alt), text, writer),
+        None => Ok(Reply::BadLine),
+    }
+}
+
+/// `conflicts ALT`
+#[inline(never)]
+pub fn reply_to_conflicts<W: Write, D: Disk>(
+    alloc: Global,
+    rest: &[u8],
+    text: &mut Text,
+    writer: &mut W,
+    store: &mut Store<D>,
+) -> Result<Reply, WriteFault>
+    requires { text.old ≡ [] }
+    ensures { HandlesInto W.contents (codes "conflicts" ∷ words_of rest.now) result
+        store.old store.new writer.old writer.new text.new }
+{
+    match one_name(rest) {
+        Some(alt) => reply_with_list(store.conflicts(alloc, &alt), text, writer),
+        None => Ok(Reply::BadLine),
+    }
+}
+
+/// `free`
+pub fn reply_to_free<D: Disk>(rest: &[u8], store: &Store<D>) -> Reply
+    ensures { HandlesBy (codes "free" ∷ words_of rest.now) result store.now store.now }
+{
+    match ends(rest) {
+        Some(()) => free(store),
+        None => Reply::BadLine,
+    }
+}
+
+/// Answers a query for the number of free blocks.
+fn free<D: Disk>(store: &Store<D>) -> Reply
+    ensures last { has_failed store.now ≡ false → ends_talk result ≡ false }
+    ensures answer { AnswersBy Request.Free result store.now store.now }
+{
+    match store.free() {
+        Ok(count) => Reply::Free(count),
+        Err(refusal) => Reply::from_refusal(refusal),
+    }
+}
