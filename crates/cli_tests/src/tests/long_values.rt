@@ -231,36 +231,44 @@ fn writes_the_longest_line_whole_behind_others(rt: HostRuntime) -> Result<(), Fa
     Ok(())
 }
 
-/// Five lines of two values each, and five that are in conflict, in a store that grew for them.
-#[test]
-fn lists_many_of_the_longest_lines(rt: HostRuntime) -> Result<(), Fail> {
-    let sides = Sides::new(rt.alloc())?;
-    let keys = [b"0 1".as_slice(), b"0 2", b"0 3", b"0 4", b"0 5"];
-    let mut talk = Talk::new(rt.alloc());
+/// The keys of five records.
+const KEYS: [&[u8]; 5] = [b"0 1", b"0 2", b"0 3", b"0 4", b"0 5"];
+
+/// Five lines of two values each, and five that are in conflict.
+fn many_lines(alloc: Global, sides: &Sides) -> Result<Talk, Fail> {
+    let mut talk = Talk::new(alloc);
     talk.ask(&[b"grow 128"], &[b"ok"])?;
-    for key in keys {
+    for key in KEYS {
         talk.ask(&[b"put top", key, sides.base.as_slice()], &[b"ok"])?;
     }
     talk.ask(&[b"new a top"], &[b"ok"])?;
-    for key in keys {
+    for key in KEYS {
         talk.ask(&[b"put top", key, sides.parent.as_slice()], &[b"ok"])?;
         talk.ask(&[b"put a", key, sides.mine.as_slice()], &[b"ok"])?;
     }
     talk.line(&[b"changes a"])?;
-    talk.line(&[b"conflicts a"])?;
-    talk.line(&[b"list top"])?;
-    for key in keys {
+    for key in KEYS {
         talk.answer(&[b"change", key, sides.base.as_slice(), sides.mine.as_slice()])?;
     }
     talk.answer(&[b"end 5"])?;
-    for key in keys {
+    talk.line(&[b"conflicts a"])?;
+    for key in KEYS {
         sides.push_conflict(&mut talk.answers, key)?;
     }
     talk.answer(&[b"end 5"])?;
-    for key in keys {
+    talk.line(&[b"list top"])?;
+    for key in KEYS {
         talk.answer(&[b"record", key, sides.parent.as_slice()])?;
     }
     talk.answer(&[b"end 5"])?;
+    Ok(talk)
+}
+
+/// The store grows for them.
+#[test]
+fn lists_many_of_the_longest_lines(rt: HostRuntime) -> Result<(), Fail> {
+    let sides = Sides::new(rt.alloc())?;
+    let talk = many_lines(rt.alloc(), &sides)?;
     let mut files = MemFiles::with_room(rt.alloc(), 128);
     let created = done(b"created 64\n");
     expect_run(&rt, &mut files, super::CREATE.as_slice(), b"", created);
