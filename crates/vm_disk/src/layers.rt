@@ -54,7 +54,8 @@ impl<D: Disk> Layers<D> {
         Ok(())
     }
 
-    /// Writes block n out, if it waits, together with those that wait around it.
+    /// Writes block n out, if it waits, together with those that wait around it. One that waits alone is
+    /// not copied for that.
     fn send(&mut self, n: u32) -> Result<(), DeviceFault>
         ensures any { Between (layers_state D.state) (Counts 0 result) self.old self.new }
         ensures honest { (D.state (lower_of self.new)).honest ≡ true → Sends D.state self.old self.new }
@@ -62,6 +63,9 @@ impl<D: Disk> Layers<D> {
         ensures no_more { WaitNoMore self.old self.new }
     {
         let first = self.waiting.begin_run(n);
+        if first == n && self.waiting.bytes(n.saturating_add(1)).is_none() {
+            return self.send_alone(n);
+        }
         self.waiting.copy_run(first, &mut self.run);
         if self.run.is_empty() {
             return self.send_alone(n);

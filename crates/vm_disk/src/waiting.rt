@@ -49,6 +49,9 @@ impl Waiting {
     pub(crate) fn bytes(&self, n: u32) -> Option<&[u8; 4096]>
         ensures { option_copied result ≡ bytes_for self.now n }
     {
+        if self.rooms.is_empty() {
+            return None;
+        }
         match self.rooms.peek(&n) {
             Some(room) => Some(&**room),
             None => None,
