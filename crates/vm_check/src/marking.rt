@@ -77,8 +77,41 @@ fn mark_links(
     Ok(())
 }
 
+/// Reads a leaf, and marks the blocks of its long values.
+#[inline(never)]
+fn mark_links_at<D: Disk>(
+    disk: &mut NotedDisk<D>,
+    blocks: u32,
+    block: u32,
+    marks: &mut Marks,
+) -> Result<(), TreeFault>
+    requires inside { blocks ≤ (D.state (inner_of disk.old)).blocks }
+    requires bits { length marks.old ≡ blocks }
+    ensures looks { OnlyLooks result (D.state (inner_of disk.old)) (D.state (inner_of disk.new)) }
+    ensures deep { result ≢ Err TreeFault.Deep }
+    ensures memory { result ≢ Err TreeFault.Memory }
+    ensures once { (D.state (inner_of disk.new)).reads ≤ (D.state (inner_of disk.old)).reads + 1 }
+    ensures growing { HoldsMore marks.old marks.new }
+    ensures fewer { unmarked marks.new ≤ unmarked marks.old }
+    ensures marked { OnLeaf (D.state (inner_of disk.old)) (D.state (inner_of disk.new))
+        block (MarksLinks result marks.new) }
+    ensures only { OnLeaf (D.state (inner_of disk.old)) (D.state (inner_of disk.new))
+        block (SparesLinks marks.old marks.new) }
+    ensures sound { IsData blocks block
+        → OnLeaf (D.state (inner_of disk.old)) (D.state (inner_of disk.new))
+        block (SoundLeaf result blocks) }
+{
+    let mut bytes = [0; 4096];
+    data_at(disk, blocks, block, &mut bytes)?;
+    if !is_long_leaf(&bytes) {
+        return Ok(());
+    }
+    mark_links(&bytes, blocks, block, marks)
+}
+
 /// Marks the blocks of the long values of a leaf. A leaf that is noted plain has none, and is not
 /// read.
+#[inline(always)]
 fn mark_beside<D: Disk>(
     disk: &mut NotedDisk<D>,
     blocks: u32,
@@ -105,12 +138,7 @@ fn mark_beside<D: Disk>(
     if disk.is_plain(block) {
         return Ok(());
     }
-    let mut bytes = [0; 4096];
-    data_at(disk, blocks, block, &mut bytes)?;
-    if !is_long_leaf(&bytes) {
-        return Ok(());
-    }
-    mark_links(&bytes, blocks, block, marks)
+    mark_links_at(disk, blocks, block, marks)
 }
 
 /// Marks a block of this level and all blocks under it, unless it is marked.
