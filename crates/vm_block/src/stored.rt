@@ -1,5 +1,5 @@
 //! What a leaf has of a value: the value itself, or a link to its block.
-ghost use Rattle.std.specs.Prelude.{◌≡◌, ◌≤◌, ◌<◌, ◌++◌, length, drop, IfSome};
+ghost use Rattle.std.specs.Prelude.{◌≡◌, ◌≤◌, ◌<◌, ◌++◌, [], length, drop, IfSome};
 ghost use Rattle.vm_block.specs.Leaf.{LinkFits, StoredFits, link_bytes, record_bytes, stored_bytes, value_bytes};
 ghost use Rattle.vm_block.specs.Told.{IsInRow, IsLength, IsRowOf};
 
@@ -34,7 +34,9 @@ pub enum Stored<'a> {
 
 /// The empty value.
 impl Default for Stored<'_> {
-    fn default() -> Self {
+    fn default() -> Self
+        ensures { stored_bytes result ≡ [] }
+    {
         Stored::Short(&[])
     }
 }
