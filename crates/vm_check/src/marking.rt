@@ -141,7 +141,84 @@ fn mark_beside<D: Disk>(
     mark_links_at(disk, blocks, block, marks)
 }
 
-/// Marks a block of this level and all blocks under it, unless it is marked.
+/// Marks a leaf and the blocks of its long values, unless it is marked.
+#[inline(always)]
+fn mark_leaf<D: Disk>(
+    disk: &mut NotedDisk<D>,
+    blocks: u32,
+    block: u32,
+    marks: &mut Marks,
+) -> Result<(), TreeFault>
+    requires inside { blocks ≤ (D.state (inner_of disk.old)).blocks }
+    requires bits { length marks.old ≡ blocks }
+    ensures looks { OnlyLooks result (D.state (inner_of disk.old)) (D.state (inner_of disk.new)) }
+    ensures deep { result ≢ Err TreeFault.Deep }
+    ensures memory { result ≢ Err TreeFault.Memory }
+    ensures once { PaysReads (D.state (inner_of disk.old))
+        (D.state (inner_of disk.new)) marks.old marks.new }
+    ensures growing { HoldsMore marks.old marks.new }
+    ensures marked { CoversBelow result (D.state (inner_of disk.old)) (D.state (inner_of disk.new))
+        blocks 0 block marks.old marks.new }
+    ensures sound { SoundBelow result (D.state (inner_of disk.old))
+        (D.state (inner_of disk.new)) blocks 0 block }
+    ensures only { Spares (D.state (inner_of disk.old)) (D.state (inner_of disk.new))
+        blocks 0 block marks.old marks.new }
+{
+    if !is_data(blocks, block) {
+        return Err(TreeFault::Damaged(block));
+    }
+    if marks.is_set(block) {
+        return Ok(());
+    }
+    marks.set(block);
+    mark_beside(disk, blocks, block, marks)
+}
+
+/// Marks an inner block of this level and all blocks under it, unless it is marked.
+#[cycle(mark_below)]
+fn mark_node<D: Disk>(
+    disk: &mut NotedDisk<D>,
+    blocks: u32,
+    level: u8,
+    block: u32,
+    marks: &mut Marks,
+) -> Result<(), TreeFault>
+    requires inside { blocks ≤ (D.state (inner_of disk.old)).blocks }
+    requires inner { 0 < level }
+    requires bits { length marks.old ≡ blocks }
+    ensures looks { OnlyLooks result (D.state (inner_of disk.old)) (D.state (inner_of disk.new)) }
+    ensures deep { result ≢ Err TreeFault.Deep }
+    ensures memory { result ≢ Err TreeFault.Memory }
+    ensures once { PaysReads (D.state (inner_of disk.old))
+        (D.state (inner_of disk.new)) marks.old marks.new }
+    ensures growing { HoldsMore marks.old marks.new }
+    ensures marked { CoversBelow result (D.state (inner_of disk.old)) (D.state (inner_of disk.new))
+        blocks level block marks.old marks.new }
+    ensures sound { SoundBelow result (D.state (inner_of disk.old))
+        (D.state (inner_of disk.new)) blocks level block }
+    ensures only { Spares (D.state (inner_of disk.old)) (D.state (inner_of disk.new))
+        blocks level block marks.old marks.new }
+{
+    if !is_data(blocks, block) {
+        return Err(TreeFault::Damaged(block));
+    }
+    if marks.is_set(block) {
+        return Ok(());
+    }
+    marks.set(block);
+    let mut bytes = [0; 4096];
+    let count = node_at(disk, blocks, level, block, &mut bytes)?;
+    for i in 0..count {
+        let child = child_at(&bytes, i);
+        mark_below(disk, blocks, level - 1, child.block, marks)?;
+    }
+    Ok(())
+}
+
+/// Marks a block of this level and all blocks under it, unless it is marked. A leaf needs no room for
+/// the bytes of a block.
+#[cycle(mark_below)]
+#[inline(always)]
 fn mark_below<D: Disk>(
     disk: &mut NotedDisk<D>,
     blocks: u32,
@@ -164,23 +241,11 @@ fn mark_below<D: Disk>(
     ensures only { Spares (D.state (inner_of disk.old)) (D.state (inner_of disk.new))
         blocks level block marks.old marks.new }
 {
-    if !is_data(blocks, block) {
-        return Err(TreeFault::Damaged(block));
-    }
-    if marks.is_set(block) {
-        return Ok(());
-    }
-    marks.set(block);
     if level == 0 {
-        return mark_beside(disk, blocks, block, marks);
+        mark_leaf(disk, blocks, block, marks)
+    } else {
+        mark_node(disk, blocks, level, block, marks)
     }
-    let mut bytes = [0; 4096];
-    let count = node_at(disk, blocks, level, block, &mut bytes)?;
-    for i in 0..count {
-        let child = child_at(&bytes, i);
-        mark_below(disk, blocks, level - 1, child.block, marks)?;
-    }
-    Ok(())
 }
 
 /// Marks all blocks under a root.

@@ -3,60 +3,31 @@ use Rattle.std.proofs.lemmas.Bool.{false≢true}
 use Rattle.vm_disk.proofs.MomentLemmas.{same_medium}
 use Rattle.vm_alloc.proofs.HeldLemmas.{holds_more_then, taken_holds_more}
 use Rattle.vm_alloc.specs.Held.{HoldsMore}
-use Rattle.vm_types.specs.Bytes.{longest}
-use Rattle.vm_tree.proofs.TreeLemmas.{leaf_opens}
 use Rattle.vm_tree.proofs.Descent.{subtree_top, node_read}
 use Rattle.vm_tree.proofs.Looking.{looks_on, looks_so, passed_on}
 use Rattle.vm_check.specs.Marking.{MarksMore}
-use Rattle.vm_check.proofs.MarkLemmas.{IsBelow, top_within, same_more, under_marked, set_less, fine_so, spares_beside, leaf_marked, same_children, node_start, node_marked, node_fault, child_more}
-use Rattle.vm_check.proofs.LinkLemmas.{links_data}
+use Rattle.vm_check.proofs.MarkLemmas.{IsBelow, top_within, same_more, under_marked, set_less, same_children, node_start, node_marked, node_fault, child_more}
 use Rattle.vm_check.proofs.OnlyLemmas.{only_set, only_top, only_all, child_sound, child_only_more, child_only_fault}
 use Rattle.vm_check.proofs.marking.+mark_below.Goals as goal
 
-pub returns-then-not-is_data-clause-marked : goal.returns-then-not-is_data-clause-marked
-returns-then-not-is_data-clause-marked g t c honest sizes rs bs tree closed =
+pub mark_node-returns-then-not-is_data-clause-marked : goal.mark_node-returns-then-not-is_data-clause-marked
+mark_node-returns-then-not-is_data-clause-marked g t c honest sizes rs bs tree closed =
     absurd (false≢true (sym c.if-not-is_data.true ∙ c.is_data.ensures.1 (subtree_top sizes _ _ _ _ rs bs tree)))
 
-pub returns-then-is_set-clause-marked : goal.returns-then-is_set-clause-marked
-returns-then-is_set-clause-marked g t c honest sizes rs bs tree closed =
+pub mark_node-returns-then-is_set-clause-marked : goal.mark_node-returns-then-is_set-clause-marked
+mark_node-returns-then-is_set-clause-marked g t c honest sizes rs bs tree closed =
     same_more bs _ (under_marked sizes _ _ _ _ closed _ _ rs bs (omega arith) tree (c.is_set.ensures.0 c.if-is_set.true))
 
-pub returns-then-level-eq0-clause-marked : goal.returns-then-level-eq0-clause-marked
-returns-then-level-eq0-clause-marked g t c honest sizes rs bs tree closed =
-    let at = leaf_opens sizes _ _ _ _ rs bs c.if-level-eq0.true tree in
-    let beside = c.mark_beside.ensures in
-    fine_so _ _ c.mark_beside.result (beside.sound at.place honest at.holds.rows at.holds.leaf (links_data _ _ at.holds.rows rs at.under at.holds.stand)) (beside.marked honest at.holds.rows at.holds.leaf)
-    (λ each. leaf_marked sizes _ _ _ _ rs bs _ _ _ c.if-level-eq0.true (omega (arith, at.place.1, c.requires.bits)) c.set.ensures beside.growing at each (beside.only honest at.holds.rows at.holds.leaf))
-
-pub returns-then-level-eq0-clause-sound : goal.returns-then-level-eq0-clause-sound
-returns-then-level-eq0-clause-sound g t c honest sizes rs bs tree =
-    let at = leaf_opens sizes _ _ _ _ rs bs c.if-level-eq0.true tree in
-    c.mark_beside.ensures.sound at.place honest at.holds.rows at.holds.leaf (links_data _ _ at.holds.rows rs at.under at.holds.stand)
-
-pub returns-then-level-eq0-clause-growing : goal.returns-then-level-eq0-clause-growing
-returns-then-level-eq0-clause-growing g t c =
-    let grows = subst (HoldsMore c.args.marks.now) (sym c.set.ensures) (taken_holds_more c.args.marks.now c.args.block) in
-    holds_more_then _ _ _ grows c.mark_beside.ensures.growing
-
-pub returns-then-level-eq0-clause-once : goal.returns-then-level-eq0-clause-once
-returns-then-level-eq0-clause-once g t c =
-    omega (
-      arith,
-      c.mark_beside.ensures.once,
-      c.mark_beside.ensures.fewer,
-      set_less _ _ _ _ c.set.ensures c.requires.bits (c.is_data.ensures.0 c.if-not-is_data.false) (λ is. false≢true (sym c.if-is_set.false ∙ c.is_set.ensures.1 is)),
-    )
-
-pub returns-in_err-count-clause-once : goal.returns-in_err-count-clause-once
-returns-in_err-count-clause-once g t c =
+pub mark_node-returns-in_err-count-clause-once : goal.mark_node-returns-in_err-count-clause-once
+mark_node-returns-in_err-count-clause-once g t c =
     omega (
       arith,
       c.node_at.ensures.once.most,
       set_less _ _ _ _ c.set.ensures c.requires.bits (c.is_data.ensures.0 c.if-not-is_data.false) (λ is. false≢true (sym c.if-is_set.false ∙ c.is_set.ensures.1 is)),
     )
 
-pub loop-i-init : goal.loop-i-init
-loop-i-init g t c =
+pub mark_node-loop-i-init : goal.mark_node-loop-i-init
+mark_node-loop-i-init g t c =
     let any = c.in_ok-count.ensures.looks.goes in
     let inside = c.is_data.ensures.0 c.if-not-is_data.false in
     let less = set_less _ _ _ _ c.set.ensures c.requires.bits inside (λ is. false≢true (sym c.if-is_set.false ∙ c.is_set.ensures.1 is)) in
@@ -71,19 +42,19 @@ loop-i-init g t c =
       only = λ honest sizes cs node count bs none n is. inl is;
     }
 
-pub returns-in_err-mark_below-clause-marked : goal.returns-in_err-mark_below-clause-marked
-returns-in_err-mark_below-clause-marked g t c honest sizes rs bs tree closed =
+pub mark_node-returns-in_err-mark_below-clause-marked : goal.mark_node-returns-in_err-mark_below-clause-marked
+mark_node-returns-in_err-mark_below-clause-marked g t c honest sizes rs bs tree closed =
     let so_far = c.loop-i.invariant in
     let inside = subtree_top sizes _ _ _ _ rs bs tree in
     let form = c.in_ok-count.ensures.form in
-    let start = node_start sizes _ _ _ _ rs bs form.0 (omega (arith, c.if-level-eq0.false)) tree (λ ds at. same_children _ _ _ form.0 ds (c.in_ok-count.ensures.found (so_far.since (c.in_err-mark_below.ensures.looks.goes.earlier honest))) form.1 at.node) in
+    let start = node_start sizes _ _ _ _ rs bs form.0 (omega (arith, c.requires.inner)) tree (λ ds at. same_children _ _ _ form.0 ds (c.in_ok-count.ensures.found (so_far.since (c.in_err-mark_below.ensures.looks.goes.earlier honest))) form.1 at.node) in
     let lt : c.loop-i.i < length form.0 = omega (arith, c.loop-i-test.true, form.2) in
     let is = c.child_at-child.ensures.child _ form.0 form.1 lt in
-    rw (passed_on _ c.from_residual-in_err-mark_below.ensures.1) (node_fault sizes _ _ _ _ _ _ bs form.0 c.child_at-child.result _ _ _ _ (same_medium _ _ (so_far.looks.reads (c.in_err-mark_below.ensures.looks.goes.earlier honest))) (omega (arith, inside.1, c.requires.bits)) c.set.ensures (omega (arith, c.if-level-eq0.false))
+    rw (passed_on _ c.from_residual-in_err-mark_below.ensures.1) (node_fault sizes _ _ _ _ _ _ bs form.0 c.child_at-child.result _ _ _ _ (same_medium _ _ (so_far.looks.reads (c.in_err-mark_below.ensures.looks.goes.earlier honest))) (omega (arith, inside.1, c.requires.bits)) c.set.ensures (omega (arith, c.requires.inner))
     lt is start closed (so_far.marked (c.in_err-mark_below.ensures.looks.goes.earlier honest) sizes form.0 form.1 form.2) (λ qs ds. c.in_err-mark_below.ensures.marked honest sizes qs ds))
 
-pub loop-i-preserved : goal.loop-i-preserved
-loop-i-preserved g t c =
+pub mark_node-loop-i-preserved : goal.mark_node-loop-i-preserved
+mark_node-loop-i-preserved g t c =
     let so_far = c.loop-i.invariant in
     let any = c.mark_below.ensures.looks.goes in
     let grows = c.mark_below.ensures.growing in
@@ -105,61 +76,56 @@ loop-i-preserved g t c =
           (λ rs ds. c.mark_below.ensures.only honest sizes rs ds);
     }
 
-pub returns-clause-marked : goal.returns-clause-marked
-returns-clause-marked g t c honest sizes rs bs tree closed =
+pub mark_node-returns-clause-marked : goal.mark_node-returns-clause-marked
+mark_node-returns-clause-marked g t c honest sizes rs bs tree closed =
     let inside = subtree_top sizes _ _ _ _ rs bs tree in
     let form = c.in_ok-count.ensures.form in
-    let start = node_start sizes _ _ _ _ rs bs form.0 (omega (arith, c.if-level-eq0.false)) tree (λ ds at. same_children _ _ _ form.0 ds (c.in_ok-count.ensures.found (c.loop-i.invariant.since honest)) form.1 at.node) in
-    node_marked sizes _ _ _ _ _ bs _ _ _ _ (omega (arith, inside.1, c.requires.bits)) c.set.ensures (omega (arith, c.if-level-eq0.false)) (omega (arith, c.loop-i-test.false, form.2)) start closed
+    let start = node_start sizes _ _ _ _ rs bs form.0 (omega (arith, c.requires.inner)) tree (λ ds at. same_children _ _ _ form.0 ds (c.in_ok-count.ensures.found (c.loop-i.invariant.since honest)) form.1 at.node) in
+    node_marked sizes _ _ _ _ _ bs _ _ _ _ (omega (arith, inside.1, c.requires.bits)) c.set.ensures (omega (arith, c.requires.inner)) (omega (arith, c.loop-i-test.false, form.2)) start closed
     (c.loop-i.invariant.marked honest sizes form.0 form.1 form.2)
 
-pub returns-in_err-count-clause-marked : goal.returns-in_err-count-clause-marked
-returns-in_err-count-clause-marked g t c honest sizes rs bs tree closed =
-    let at = node_read sizes _ _ _ _ rs bs (omega (arith, c.if-level-eq0.false)) tree in
+pub mark_node-returns-in_err-count-clause-marked : goal.mark_node-returns-in_err-count-clause-marked
+mark_node-returns-in_err-count-clause-marked g t c honest sizes rs bs tree closed =
+    let at = node_read sizes _ _ _ _ rs bs (omega (arith, c.requires.inner)) tree in
     rw (passed_on _ c.from_residual.ensures.1) (c.in_err-count.ensures.only honest at.0 at.1)
 
-pub returns-then-not-is_data-clause-sound : goal.returns-then-not-is_data-clause-sound
-returns-then-not-is_data-clause-sound g t c honest sizes rs bs tree =
+pub mark_node-returns-then-not-is_data-clause-sound : goal.mark_node-returns-then-not-is_data-clause-sound
+mark_node-returns-then-not-is_data-clause-sound g t c honest sizes rs bs tree =
     absurd (false≢true (sym c.if-not-is_data.true ∙ c.is_data.ensures.1 (subtree_top sizes _ _ _ _ rs bs tree)))
 
-pub returns-in_err-count-clause-sound : goal.returns-in_err-count-clause-sound
-returns-in_err-count-clause-sound g t c honest sizes rs bs tree =
-    let at = node_read sizes _ _ _ _ rs bs (omega (arith, c.if-level-eq0.false)) tree in
+pub mark_node-returns-in_err-count-clause-sound : goal.mark_node-returns-in_err-count-clause-sound
+mark_node-returns-in_err-count-clause-sound g t c honest sizes rs bs tree =
+    let at = node_read sizes _ _ _ _ rs bs (omega (arith, c.requires.inner)) tree in
     rw (passed_on _ c.from_residual.ensures.1) (c.in_err-count.ensures.only honest at.0 at.1)
 
-pub returns-in_err-mark_below-clause-sound : goal.returns-in_err-mark_below-clause-sound
-returns-in_err-mark_below-clause-sound g t c honest sizes rs bs tree =
+pub mark_node-returns-in_err-mark_below-clause-sound : goal.mark_node-returns-in_err-mark_below-clause-sound
+mark_node-returns-in_err-mark_below-clause-sound g t c honest sizes rs bs tree =
     let so_far = c.loop-i.invariant in
     let form = c.in_ok-count.ensures.form in
-    let start = node_start sizes _ _ _ _ rs bs form.0 (omega (arith, c.if-level-eq0.false)) tree (λ ds at. same_children _ _ _ form.0 ds (c.in_ok-count.ensures.found (so_far.since (c.in_err-mark_below.ensures.looks.goes.earlier honest))) form.1 at.node) in
+    let start = node_start sizes _ _ _ _ rs bs form.0 (omega (arith, c.requires.inner)) tree (λ ds at. same_children _ _ _ form.0 ds (c.in_ok-count.ensures.found (so_far.since (c.in_err-mark_below.ensures.looks.goes.earlier honest))) form.1 at.node) in
     let lt : c.loop-i.i < length form.0 = omega (arith, c.loop-i-test.true, form.2) in
     let is = c.child_at-child.ensures.child _ form.0 form.1 lt in
     rw (passed_on _ c.from_residual-in_err-mark_below.ensures.1) (child_sound sizes _ _ _ _ form.0 _ c.child_at-child.result (same_medium _ _ (so_far.looks.reads (c.in_err-mark_below.ensures.looks.goes.earlier honest))) lt is _ _ start.joined (λ qs ds. c.in_err-mark_below.ensures.sound honest sizes qs ds))
 
-pub returns-then-level-eq0-clause-only : goal.returns-then-level-eq0-clause-only
-returns-then-level-eq0-clause-only g t c honest sizes rs bs tree =
-    let at = leaf_opens sizes _ _ _ _ rs bs c.if-level-eq0.true tree in
-    only_top _ at.under bs _ _ _ c.set.ensures at.first (spares_beside _ _ longest _ rs at.under _ _ at.holds (c.mark_beside.ensures.only honest at.holds.rows at.holds.leaf))
+pub mark_node-returns-in_err-count-clause-only : goal.mark_node-returns-in_err-count-clause-only
+mark_node-returns-in_err-count-clause-only g t c honest sizes rs bs tree = only_set _ bs _ _ c.set.ensures (top_within sizes _ _ _ _ rs bs tree)
 
-pub returns-in_err-count-clause-only : goal.returns-in_err-count-clause-only
-returns-in_err-count-clause-only g t c honest sizes rs bs tree = only_set _ bs _ _ c.set.ensures (top_within sizes _ _ _ _ rs bs tree)
-
-pub returns-in_err-mark_below-clause-only : goal.returns-in_err-mark_below-clause-only
-returns-in_err-mark_below-clause-only g t c honest sizes rs bs tree =
+pub mark_node-returns-in_err-mark_below-clause-only : goal.mark_node-returns-in_err-mark_below-clause-only
+mark_node-returns-in_err-mark_below-clause-only g t c honest sizes rs bs tree =
     let so_far = c.loop-i.invariant in
     let form = c.in_ok-count.ensures.form in
-    let start = node_start sizes _ _ _ _ rs bs form.0 (omega (arith, c.if-level-eq0.false)) tree (λ ds at. same_children _ _ _ form.0 ds (c.in_ok-count.ensures.found (so_far.since (c.in_err-mark_below.ensures.looks.goes.earlier honest))) form.1 at.node) in
+    let start = node_start sizes _ _ _ _ rs bs form.0 (omega (arith, c.requires.inner)) tree (λ ds at. same_children _ _ _ form.0 ds (c.in_ok-count.ensures.found (so_far.since (c.in_err-mark_below.ensures.looks.goes.earlier honest))) form.1 at.node) in
     let lt : c.loop-i.i < length form.0 = omega (arith, c.loop-i-test.true, form.2) in
     let is = c.child_at-child.ensures.child _ form.0 form.1 lt in
     only_top _ start.under bs _ _ _ c.set.ensures start.first
     (child_only_fault sizes _ _ _ _ form.0 _ c.child_at-child.result (same_medium _ _ (so_far.looks.reads (c.in_err-mark_below.ensures.looks.goes.earlier honest))) lt is _ _ _ (so_far.only (c.in_err-mark_below.ensures.looks.goes.earlier honest) sizes form.0 form.1 form.2)
     (λ qs ds. c.in_err-mark_below.ensures.only honest sizes qs ds) start.under start.joined)
 
-pub returns-clause-only : goal.returns-clause-only
-returns-clause-only g t c honest sizes rs bs tree =
+pub mark_node-returns-clause-only : goal.mark_node-returns-clause-only
+mark_node-returns-clause-only g t c honest sizes rs bs tree =
     let form = c.in_ok-count.ensures.form in
-    let start = node_start sizes _ _ _ _ rs bs form.0 (omega (arith, c.if-level-eq0.false)) tree (λ ds at. same_children _ _ _ form.0 ds (c.in_ok-count.ensures.found (c.loop-i.invariant.since honest)) form.1 at.node) in
+    let start = node_start sizes _ _ _ _ rs bs form.0 (omega (arith, c.requires.inner)) tree (λ ds at. same_children _ _ _ form.0 ds (c.in_ok-count.ensures.found (c.loop-i.invariant.since honest)) form.1 at.node) in
     only_top _ start.under bs _ _ _ c.set.ensures start.first (only_all (IsBelow sizes _ _ _) form.0 _ start.under _ _ (omega (arith, c.loop-i-test.false, form.2)) (c.loop-i.invariant.only honest sizes form.0 form.1 form.2) start.joined)
 
-pub returns-in_err-mark_below-clause-looks : goal.returns-in_err-mark_below-clause-looks
-returns-in_err-mark_below-clause-looks g t c = looks_on c.loop-i.invariant.looks c.mark_below.ensures.looks (search rules)
+pub mark_node-returns-in_err-mark_below-clause-looks : goal.mark_node-returns-in_err-mark_below-clause-looks
+mark_node-returns-in_err-mark_below-clause-looks g t c = looks_on c.loop-i.invariant.looks c.mark_below.ensures.looks (search rules)

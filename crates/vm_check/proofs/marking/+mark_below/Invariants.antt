@@ -10,10 +10,13 @@ use Rattle.vm_check.proofs.OnlyLemmas.{OnlySoFar}
 use Rattle.vm_check.proofs.marking.+mark_below.Given as goal
 
 abbrev pub decreases-mark_below : goal.decreases-mark_below
-decreases-mark_below g l = l.level
+decreases-mark_below g l = l.level + l.level + 1
 
-abbrev pub invariant-loop-i : goal.invariant-loop-i
-invariant-loop-i g l =
+abbrev pub decreases-mark_node : goal.decreases-mark_node
+decreases-mark_node g l = l.level + l.level
+
+abbrev pub invariant-mark_node-loop-i : goal.invariant-mark_node-loop-i
+invariant-mark_node-loop-i g l =
     let old = g.D.Disk.state l.fn.disk.inner in
     let now = g.D.Disk.state l.disk.inner in record {
       looks : OnlyLooks {T = Unit {0}} (Ok tt) old now;
