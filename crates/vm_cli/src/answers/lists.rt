@@ -15,7 +15,7 @@ const LONGEST_LINE: usize = 36_096;
 
 /// Answers a query for a list with its lines, or with why there is none. The text takes the lines but
 /// for the last, and what doesn't fit is written; the last line of the answer is given back.
-pub fn reply_with_list<L: Listing + Drop, W: Write>(
+pub(crate) fn reply_with_list<L: Listing + Drop, W: Write>(
     list: Result<L, Refusal>,
     text: &mut Text,
     writer: &mut W,

@@ -29,7 +29,7 @@ impl Reply {
     ghost use Rattle.vm_cli.specs.Talk.{error_text};
 
     /// Writes the answer as one line, or as none.
-    pub fn push_onto(&self, text: &mut Text)
+    pub(crate) fn push_onto(&self, text: &mut Text)
         requires { length text.old + 1024 ≤ 65536 }
         ensures { text.new ≡ text.old ++ reply_text self.now }
     {
@@ -59,7 +59,7 @@ impl Reply {
     }
 
     /// What is answered to a line that is refused, where the device didn't fail in a command.
-    pub fn from_refusal(refusal: Refusal) -> Reply
+    pub(crate) fn from_refusal(refusal: Refusal) -> Reply
         ensures text { reply_text result ≡ error_text refusal }
         ensures last { refusal ≢ Refusal.Failed → ends_talk result ≡ false }
         ensures failed { refusal ≡ Refusal.Failed → ends_talk result ≡ true }
@@ -71,7 +71,7 @@ impl Reply {
     }
 
     /// Whether the talk ends with this answer.
-    pub fn is_last(&self) -> bool
+    pub(crate) fn is_last(&self) -> bool
         ensures { result ≡ ends_talk self.now }
     {
         match self {
@@ -81,7 +81,7 @@ impl Reply {
     }
 
     /// Whether it says that a line was refused.
-    pub fn is_refusal(&self) -> bool
+    pub(crate) fn is_refusal(&self) -> bool
         ensures { result ≡ is_error (reply_text self.now) }
     {
         match self {
@@ -104,7 +104,7 @@ ghost use Rattle.vm_types.specs.Texts.{detail_text, key_text, refusal_text};
 ghost use Rattle.vm_cli.specs.Replies.{found_text};
 
 /// Writes the line of a record's value, or that there is none.
-pub fn push_found(text: &mut Text, found: Option<&[u8]>)
+pub(crate) fn push_found(text: &mut Text, found: Option<&[u8]>)
     requires room { length text.old + 12007 ≤ 65536 }
     requires small { IfSome found (λ value. length value.now ≤ longest) }
     ensures written { text.new ≡ text.old ++ found_text (option_copied found.entry) }
@@ -131,7 +131,7 @@ fn push_error(text: &mut Text, refusal: &Refusal)
 }
 
 /// Writes a refusal: its number, its name, and what it has beside them.
-pub fn push_refusal(text: &mut Text, refusal: &Refusal)
+pub(crate) fn push_refusal(text: &mut Text, refusal: &Refusal)
     requires room { length text.old + 120 ≤ 65536 }
     ensures written { text.new ≡ text.old ++ refusal_text refusal.now }
     ensures short { length text.new ≤ length text.old + 120 }

@@ -26,7 +26,7 @@ impl Text {
     pub const MAX_LEN: usize = 65536;
 
     /// A text without bytes.
-    pub fn new() -> Text
+    pub(crate) fn new() -> Text
         ensures { result ≡ [] }
     {
         Text {
@@ -36,7 +36,7 @@ impl Text {
     }
 
     /// Takes one more byte.
-    pub fn push(&mut self, byte: u8)
+    pub(crate) fn push(&mut self, byte: u8)
         requires { length self.old < 65536 }
         ensures { self.new ≡ self.old ++ byte ∷ [] }
     {
@@ -45,7 +45,7 @@ impl Text {
     }
 
     /// Takes more bytes.
-    pub fn push_bytes(&mut self, bytes: &[u8])
+    pub(crate) fn push_bytes(&mut self, bytes: &[u8])
         requires { length self.old + length bytes.now ≤ 65536 }
         ensures { self.new ≡ self.old ++ bytes.now }
     {
@@ -55,7 +55,7 @@ impl Text {
     }
 
     /// Takes a number, in decimal digits.
-    pub fn push_number(&mut self, number: u64)
+    pub(crate) fn push_number(&mut self, number: u64)
         requires { length self.old + 20 ≤ 65536 }
         ensures written { self.new ≡ self.old ++ decimal number }
         ensures short { length self.new ≤ length self.old + 20 }
@@ -65,13 +65,13 @@ impl Text {
     }
 
     /// Drops all bytes.
-    pub fn clear(&mut self)
+    pub(crate) fn clear(&mut self)
         ensures { self.new ≡ [] }
     {
         self.len = 0;
     }
 
-    pub fn as_bytes(&self) -> &[u8]
+    pub(crate) fn as_bytes(&self) -> &[u8]
         ensures { result.now ≡ self.now }
     {
         &self.bytes[..self.len]

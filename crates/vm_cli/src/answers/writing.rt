@@ -11,7 +11,7 @@ pub struct WriteFault;
 
 /// Writes all the bytes. Unlike `write_all` it takes an interrupted call for a failure, and its
 /// contract says what was written before one.
-pub fn put_all<W: Write>(writer: &mut W, bytes: &[u8]) -> Result<(), WriteFault>
+pub(crate) fn put_all<W: Write>(writer: &mut W, bytes: &[u8]) -> Result<(), WriteFault>
     ensures ok { OnOk result (Gains W.contents bytes.now writer.old writer.new) }
     ensures err { OnErr result ((k : ℕ) × Gains W.contents (take k bytes.now) writer.old writer.new) }
 {
@@ -29,7 +29,7 @@ pub fn put_all<W: Write>(writer: &mut W, bytes: &[u8]) -> Result<(), WriteFault>
 }
 
 /// Hands on what the writer still holds.
-pub fn flush<W: Write>(writer: &mut W) -> Result<(), WriteFault>
+pub(crate) fn flush<W: Write>(writer: &mut W) -> Result<(), WriteFault>
     ensures { Keeps (W.contents writer.old) (W.contents writer.new) }
 {
     match writer.flush() {

@@ -11,7 +11,7 @@ use vm_types::{Key, Name};
 
 /// The record of which a put speaks, and the word that spells its value. No record, where the words
 /// say none, or are too few or too many.
-pub fn put_words(rest: &[u8]) -> (Option<(Name, Key)>, &[u8])
+pub(crate) fn put_words(rest: &[u8]) -> (Option<(Name, Key)>, &[u8])
     ensures { MatchOption result.0 (put_of (words_of rest.now) ≡ None) (λ p. put_of (words_of rest.now)
         ≡ option_map (λ value. Put p.0 p.1 value) (value_of result.1.now)) }
 {
@@ -38,7 +38,7 @@ pub fn put_words(rest: &[u8]) -> (Option<(Name, Key)>, &[u8])
 }
 
 /// `NAME PARENT`, or `NAME PARENT CHECKPOINT`
-pub fn new_names(rest: &[u8]) -> Option<(Name, Name, Option<Name>)>
+pub(crate) fn new_names(rest: &[u8]) -> Option<(Name, Name, Option<Name>)>
     ensures { option_map new_command result ≡ new_of (words_of rest.now) }
 {
     let (first, rest) = first_word(rest)?;
@@ -54,7 +54,7 @@ pub fn new_names(rest: &[u8]) -> Option<(Name, Name, Option<Name>)>
 }
 
 /// `BLOCKS`
-pub fn blocks(rest: &[u8]) -> Option<u32>
+pub(crate) fn blocks(rest: &[u8]) -> Option<u32>
     ensures { option_map Grow result ≡ grow_of (words_of rest.now) }
 {
     let (blocks, rest) = first_word(rest)?;
@@ -64,7 +64,7 @@ pub fn blocks(rest: &[u8]) -> Option<u32>
 }
 
 /// `ALT TABLE NUMBER`
-pub fn record(rest: &[u8]) -> Option<(Name, Key)>
+pub(crate) fn record(rest: &[u8]) -> Option<(Name, Key)>
     ensures { result ≡ record_of (words_of rest.now) }
 {
     let (alt, rest) = first_word(rest)?;
@@ -77,7 +77,7 @@ pub fn record(rest: &[u8]) -> Option<(Name, Key)>
 }
 
 /// `NAME`
-pub fn one_name(rest: &[u8]) -> Option<Name>
+pub(crate) fn one_name(rest: &[u8]) -> Option<Name>
     ensures { result ≡ named_of (words_of rest.now) }
 {
     let (word, rest) = first_word(rest)?;
@@ -86,7 +86,7 @@ pub fn one_name(rest: &[u8]) -> Option<Name>
 }
 
 /// `NAME NAME`
-pub fn two_names(rest: &[u8]) -> Option<(Name, Name)>
+pub(crate) fn two_names(rest: &[u8]) -> Option<(Name, Name)>
     ensures { result ≡ names_of (words_of rest.now) }
 {
     let (first, rest) = first_word(rest)?;
@@ -98,14 +98,14 @@ pub fn two_names(rest: &[u8]) -> Option<(Name, Name)>
 }
 
 /// The name that a word is.
-pub fn name(word: &[u8]) -> Option<Name>
+pub(crate) fn name(word: &[u8]) -> Option<Name>
     ensures { result ≡ name_of word.now }
 {
     Name::new(word)
 }
 
 /// No word is left.
-pub fn ends(rest: &[u8]) -> Option<()>
+pub(crate) fn ends(rest: &[u8]) -> Option<()>
     ensures { MatchOption result (HasWord rest.now) (λ _. words_of rest.now ≡ []) }
 {
     match first_word(rest) {

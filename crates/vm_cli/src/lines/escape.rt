@@ -9,7 +9,7 @@ use vm_types::Value;
 
 /// The value that a word spells: `-` is the empty one, `%` and two hexadecimal digits are one
 /// byte, and any other byte stands for itself.
-pub fn value(word: &[u8]) -> Option<Value>
+pub(crate) fn value(word: &[u8]) -> Option<Value>
     ensures { result ≡ value_of word.now }
 {
     if word == b"-".as_slice() {
@@ -34,7 +34,7 @@ pub fn value(word: &[u8]) -> Option<Value>
 }
 
 /// The bytes of a word that are the value which it spells: None, where others are, or none.
-pub fn plain(word: &[u8]) -> Option<&[u8]>
+pub(crate) fn plain(word: &[u8]) -> Option<&[u8]>
     ensures { IfSome result (λ bytes. (length bytes.now ≤ longest)
         × (value_of word.now ≡ Some bytes.now)) }
 {
@@ -79,7 +79,7 @@ fn hex(digit: u8) -> Option<u8>
 
 /// Writes the bytes of a value: none as `-`, each byte from 0x21 to 0x7D but `%` as itself, each
 /// other byte as `%` and two upper case hexadecimal digits, and so the value `-`.
-pub fn push_spelled(text: &mut Text, bytes: &[u8])
+pub(crate) fn push_spelled(text: &mut Text, bytes: &[u8])
     requires room { length text.old + 12000 ≤ 65536 }
     requires short { length bytes.now ≤ longest }
     ensures written { text.new ≡ text.old ++ value_text bytes.now }

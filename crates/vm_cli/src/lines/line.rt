@@ -29,7 +29,7 @@ impl Line {
     ghost use Rattle.vm_cli.specs.Reading.{HoldsLine, without_return};
 
     /// A line without bytes.
-    pub fn new(alloc: Global) -> Line
+    pub(crate) fn new(alloc: Global) -> Line
         ensures { HoldsLine result [] }
     {
         Line {
@@ -40,7 +40,7 @@ impl Line {
     }
 
     /// Takes more bytes of the line.
-    pub fn extend(&mut self, bytes: &[u8])
+    pub(crate) fn extend(&mut self, bytes: &[u8])
         requires { IsPart bytes.now }
         ensures { (part : List ℕ) → HoldsLine self.old part → HoldsLine self.new (part ++ bytes.now) }
     {
@@ -62,7 +62,7 @@ impl Line {
     }
 
     /// Begins the next line.
-    pub fn clear(&mut self)
+    pub(crate) fn clear(&mut self)
         ensures { HoldsLine self.new [] }
     {
         self.bytes.clear();
@@ -71,7 +71,7 @@ impl Line {
     }
 
     /// The bytes that are held, without one carriage return at their end.
-    pub fn text(&self) -> &[u8]
+    pub(crate) fn text(&self) -> &[u8]
         ensures { result.now ≡ without_return self.now.bytes.items }
     {
         let bytes = self.bytes.as_slice();

@@ -5,7 +5,7 @@ ghost use Rattle.vm_cli.specs.Numbers.{key_of, number_of};
 use vm_types::Key;
 
 /// The number that a word of 1 to 20 decimal digits says, where it is at most `most`.
-pub fn number(word: &[u8], most: u64) -> Option<u64>
+pub(crate) fn number(word: &[u8], most: u64) -> Option<u64>
     ensures { result ≡ number_of most word.now }
 {
     if word.is_empty() || word.len() > 20 {
@@ -25,7 +25,7 @@ pub fn number(word: &[u8], most: u64) -> Option<u64>
 }
 
 /// The key that two words say.
-pub fn key(table: &[u8], number_in_table: &[u8]) -> Option<Key>
+pub(crate) fn key(table: &[u8], number_in_table: &[u8]) -> Option<Key>
     ensures { result ≡ key_of table.now number_in_table.now }
 {
     let table = number(table, 65_535)?;

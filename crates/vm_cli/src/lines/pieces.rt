@@ -6,7 +6,7 @@ ghost use Rattle.vm_cli.specs.Spaces.{BeginsWith, words_of};
 use memchr::memchr;
 
 /// The first word of a line, and what stands after it.
-pub fn first_word(line: &[u8]) -> Option<(&[u8], &[u8])>
+pub(crate) fn first_word(line: &[u8]) -> Option<(&[u8], &[u8])>
     ensures { MatchOption result (words_of line.now ≡ [])
         (λ p. BeginsWith line.now p.0.now p.1.now) }
 {
@@ -22,7 +22,7 @@ pub fn first_word(line: &[u8]) -> Option<(&[u8], &[u8])>
 }
 
 /// What stands before the first mark, and what stands behind it.
-pub fn first_piece(bytes: &[u8], mark: u8) -> (&[u8], &[u8])
+pub(crate) fn first_piece(bytes: &[u8], mark: u8) -> (&[u8], &[u8])
     ensures piece { result.0.now ≡ before_mark mark bytes.now }
     ensures rest { result.1.now ≡ behind_mark mark bytes.now }
     ensures shorter { 0 < length bytes.now → length result.1.now < length bytes.now }

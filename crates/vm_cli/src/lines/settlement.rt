@@ -9,7 +9,7 @@ use std::alloc::{AllocError, Global};
 use vm_types::{Key, Settled, Side};
 
 /// The settlements that all words of a line say, in their order.
-pub fn settled(alloc: Global, line: &[u8]) -> Result<Option<Settled>, AllocError>
+pub(crate) fn settled(alloc: Global, line: &[u8]) -> Result<Option<Settled>, AllocError>
     ensures words { IfOk result (λ settled. settled ≡ settled_of (words_of line.now)) }
     ensures memory { OnErr result (words_of line.now ≢ []) }
 {

@@ -15,7 +15,7 @@ use vm_disk::{CachedDisk, DelayedDisk, Disk};
 /// Opens the store on a disk, and answers the lines of the input. The blocks of the disk that were used
 /// last stay in memory; where there is no memory for a cache, none do. Written blocks wait over that:
 /// one that is forgotten while it waits never reaches the cache, and one that was written out stays there.
-pub fn answer_lines_in_memory<D: Disk, R: Read, W: Write, F: Write>(
+pub(crate) fn answer_lines_in_memory<D: Disk, R: Read, W: Write, F: Write>(
     alloc: Global,
     disk: D,
     in_memory: InMemory,

@@ -21,7 +21,7 @@ pub struct Counts {
 
 impl Counts {
     /// Writes them, a line each.
-    pub fn push_onto(&self, text: &mut Text)
+    pub(crate) fn push_onto(&self, text: &mut Text)
         requires { length text.old + 200 ≤ 65536 }
         ensures { text.new ≡ text.old ++ counts_text self.now }
     {
@@ -36,7 +36,7 @@ impl Counts {
 }
 
 /// Counts what a store holds. It makes no device call.
-pub fn count<D: Disk>(alloc: Global, store: &Store<D>) -> Result<Counts, Refusal>
+pub(crate) fn count<D: Disk>(alloc: Global, store: &Store<D>) -> Result<Counts, Refusal>
     ensures counted { InState store.now (λ s. IfOk result (AreCounts store.now s)) }
     ensures refused { InState store.now (λ s. IfErr result IsMemory) }
     ensures never { has_failed store.now ≡ false → result ≢ Err Refusal.Device }

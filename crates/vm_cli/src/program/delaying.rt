@@ -13,7 +13,7 @@ use vm_disk::{DelayedDisk, Disk};
 /// Opens the store on a disk, and answers the lines of the input. Up to `buffer` written blocks of the
 /// disk wait in memory; where there is no memory for them, none do. At the end those that still wait
 /// are given up: no commit reaches them.
-pub fn answer_lines_late<D: Disk, R: Read, W: Write, F: Write>(
+pub(crate) fn answer_lines_late<D: Disk, R: Read, W: Write, F: Write>(
     alloc: Global,
     disk: D,
     buffer: u32,

@@ -37,7 +37,7 @@ impl Branch {
 
 /// The text of a tree: a heading, and a line for each alternative and each checkpoint. The first of
 /// these is the first alternative, and each other one comes behind its parent.
-pub fn draw(alloc: Global, branches: &[Branch]) -> Result<Vec<u8>, AllocError>
+pub(crate) fn draw(alloc: Global, branches: &[Branch]) -> Result<Vec<u8>, AllocError>
     ensures { IfOk result (λ text. text.items ≡ drawing branches.now) }
 {
     let mut text = Vec::new(alloc);

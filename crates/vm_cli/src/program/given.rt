@@ -5,7 +5,7 @@ ghost use Rattle.vm_cli.specs.Given.{input_of as input_of_lines};
 use std::alloc::{AllocError, Global};
 
 /// The input whose lines they are: a line feed ends each.
-pub fn input_of(alloc: Global, lines: &[&str]) -> Result<Vec<u8>, AllocError>
+pub(crate) fn input_of(alloc: Global, lines: &[&str]) -> Result<Vec<u8>, AllocError>
     ensures { IfOk result (λ input. input.items ≡ input_of_lines (map (λ line. line.now) lines.now)) }
 {
     let mut input = Vec::new(alloc);

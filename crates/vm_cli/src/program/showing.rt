@@ -20,7 +20,7 @@ use vm_store::{Store, open};
 use vm_types::Refusal;
 
 /// Opens the store in a file for reading alone, and draws the tree of its alternatives.
-pub fn tree<P: Place, W: Write, F: Write>(
+pub(crate) fn tree<P: Place, W: Write, F: Write>(
     alloc: Global,
     file: &str,
     place: &mut P,

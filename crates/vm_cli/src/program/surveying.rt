@@ -13,7 +13,7 @@ use vm_types::{Name, Refusal};
 
 /// What is drawn of each alternative of a store, in order of creation. It reads only what differs between
 /// an alternative, its base and its parent.
-pub fn survey<D: Disk>(alloc: Global, store: &mut Store<D>) -> Result<Vec<Branch>, Refusal>
+pub(crate) fn survey<D: Disk>(alloc: Global, store: &mut Store<D>) -> Result<Vec<Branch>, Refusal>
     ensures any { GoesOn (result ≡ Err Refusal.Device) store.old store.new }
     ensures passes { Passes store.old store.new None }
     ensures drawn { FromState store.old store.new (GivesBranches result) }

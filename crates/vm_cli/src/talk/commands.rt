@@ -19,7 +19,7 @@ use vm_types::{Answer, Command, Refusal};
 
 /// `remove ALT TABLE NUMBER`
 #[inline(never)]
-pub fn reply_to_remove<D: Disk>(rest: &[u8], store: &mut Store<D>) -> Reply
+pub(crate) fn reply_to_remove<D: Disk>(rest: &[u8], store: &mut Store<D>) -> Reply
     ensures { HandlesBy (codes "remove" ∷ words_of rest.now) result store.old store.new }
 {
     match record(rest) {
@@ -30,7 +30,7 @@ pub fn reply_to_remove<D: Disk>(rest: &[u8], store: &mut Store<D>) -> Reply
 
 /// `new NAME PARENT`, or `new NAME PARENT CHECKPOINT`
 #[inline(never)]
-pub fn reply_to_new<D: Disk>(rest: &[u8], store: &mut Store<D>) -> Reply
+pub(crate) fn reply_to_new<D: Disk>(rest: &[u8], store: &mut Store<D>) -> Reply
     ensures { HandlesBy (codes "new" ∷ words_of rest.now) result store.old store.new }
 {
     let Some((name, parent, checkpoint)) = new_names(rest) else {
@@ -51,7 +51,7 @@ pub fn reply_to_new<D: Disk>(rest: &[u8], store: &mut Store<D>) -> Reply
 
 /// `drop ALT`
 #[inline(never)]
-pub fn reply_to_drop<D: Disk>(rest: &[u8], store: &mut Store<D>) -> Reply
+pub(crate) fn reply_to_drop<D: Disk>(rest: &[u8], store: &mut Store<D>) -> Reply
     ensures { HandlesBy (codes "drop" ∷ words_of rest.now) result store.old store.new }
 {
     match one_name(rest) {
@@ -62,7 +62,7 @@ pub fn reply_to_drop<D: Disk>(rest: &[u8], store: &mut Store<D>) -> Reply
 
 /// `post ALT`
 #[inline(never)]
-pub fn reply_to_post<D: Disk>(rest: &[u8], store: &mut Store<D>) -> Reply
+pub(crate) fn reply_to_post<D: Disk>(rest: &[u8], store: &mut Store<D>) -> Reply
     ensures { HandlesBy (codes "post" ∷ words_of rest.now) result store.old store.new }
 {
     match one_name(rest) {
@@ -73,7 +73,7 @@ pub fn reply_to_post<D: Disk>(rest: &[u8], store: &mut Store<D>) -> Reply
 
 /// `merge ALT` and settlements, which take memory.
 #[inline(never)]
-pub fn reply_to_merge<D: Disk>(
+pub(crate) fn reply_to_merge<D: Disk>(
     alloc: Global,
     rest: &[u8],
     store: &mut Store<D>,
@@ -96,7 +96,7 @@ pub fn reply_to_merge<D: Disk>(
 
 /// `commit`
 #[inline(never)]
-pub fn reply_to_commit<D: Disk>(rest: &[u8], store: &mut Store<D>) -> Reply
+pub(crate) fn reply_to_commit<D: Disk>(rest: &[u8], store: &mut Store<D>) -> Reply
     ensures { HandlesBy (codes "commit" ∷ words_of rest.now) result store.old store.new }
 {
     match ends(rest) {
@@ -107,7 +107,7 @@ pub fn reply_to_commit<D: Disk>(rest: &[u8], store: &mut Store<D>) -> Reply
 
 /// `checkpoint ALT NAME`
 #[inline(never)]
-pub fn reply_to_checkpoint<D: Disk>(rest: &[u8], store: &mut Store<D>) -> Reply
+pub(crate) fn reply_to_checkpoint<D: Disk>(rest: &[u8], store: &mut Store<D>) -> Reply
     ensures { HandlesBy (codes "checkpoint" ∷ words_of rest.now) result store.old store.new }
 {
     match two_names(rest) {
@@ -118,7 +118,7 @@ pub fn reply_to_checkpoint<D: Disk>(rest: &[u8], store: &mut Store<D>) -> Reply
 
 /// `uncheck ALT NAME`
 #[inline(never)]
-pub fn reply_to_uncheck<D: Disk>(rest: &[u8], store: &mut Store<D>) -> Reply
+pub(crate) fn reply_to_uncheck<D: Disk>(rest: &[u8], store: &mut Store<D>) -> Reply
     ensures { HandlesBy (codes "uncheck" ∷ words_of rest.now) result store.old store.new }
 {
     match two_names(rest) {
@@ -129,7 +129,7 @@ pub fn reply_to_uncheck<D: Disk>(rest: &[u8], store: &mut Store<D>) -> Reply
 
 /// `back ALT NAME`
 #[inline(never)]
-pub fn reply_to_back<D: Disk>(rest: &[u8], store: &mut Store<D>) -> Reply
+pub(crate) fn reply_to_back<D: Disk>(rest: &[u8], store: &mut Store<D>) -> Reply
     ensures { HandlesBy (codes "back" ∷ words_of rest.now) result store.old store.new }
 {
     match two_names(rest) {
@@ -140,7 +140,7 @@ pub fn reply_to_back<D: Disk>(rest: &[u8], store: &mut Store<D>) -> Reply
 
 /// `reclaim`
 #[inline(never)]
-pub fn reply_to_reclaim<D: Disk>(rest: &[u8], store: &mut Store<D>) -> Reply
+pub(crate) fn reply_to_reclaim<D: Disk>(rest: &[u8], store: &mut Store<D>) -> Reply
     ensures { HandlesBy (codes "reclaim" ∷ words_of rest.now) result store.old store.new }
 {
     match ends(rest) {
@@ -151,7 +151,7 @@ pub fn reply_to_reclaim<D: Disk>(rest: &[u8], store: &mut Store<D>) -> Reply
 
 /// `grow BLOCKS`
 #[inline(never)]
-pub fn reply_to_grow<D: Disk>(rest: &[u8], store: &mut Store<D>) -> Reply
+pub(crate) fn reply_to_grow<D: Disk>(rest: &[u8], store: &mut Store<D>) -> Reply
     ensures { HandlesBy (codes "grow" ∷ words_of rest.now) result store.old store.new }
 {
     match blocks(rest) {
@@ -172,7 +172,7 @@ fn reply_to_command<D: Disk>(command: &Command, store: &mut Store<D>) -> Reply
 }
 
 /// What is answered to a command.
-pub fn answered(answer: Result<Answer, Refusal>) -> Reply
+pub(crate) fn answered(answer: Result<Answer, Refusal>) -> Reply
     ensures text { reply_text result ≡ answer_text answer }
     ensures last { TalkGoesOn answer result }
     ensures device { answer ≡ Err Refusal.Device → ends_talk result ≡ true }

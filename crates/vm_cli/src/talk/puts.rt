@@ -21,7 +21,7 @@ use vm_types::{Key, Name};
 
 /// Carries out a put, of which the words behind the first are given.
 #[inline(never)]
-pub fn reply_to_put<D: Disk>(rest: &[u8], store: &mut Store<D>) -> Reply
+pub(crate) fn reply_to_put<D: Disk>(rest: &[u8], store: &mut Store<D>) -> Reply
     ensures { HandlesBy (codes "put" ∷ words_of rest.now) result store.old store.new }
 {
     let (record, word) = put_words(rest);

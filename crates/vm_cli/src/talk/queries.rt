@@ -22,7 +22,7 @@ use vm_types::{Key, Name};
 /// Answers a query for the value of a record, of which the words behind the first are given. The
 /// text takes the answer, unless it is a refusal.
 #[inline(never)]
-pub fn reply_to_get<D: Disk>(rest: &[u8], text: &mut Text, store: &mut Store<D>) -> Reply
+pub(crate) fn reply_to_get<D: Disk>(rest: &[u8], text: &mut Text, store: &mut Store<D>) -> Reply
     requires { text.old ≡ [] }
     ensures room { length text.new + 1024 ≤ 65536 }
     ensures goes { GoesOn ⊥ store.old store.new }
@@ -60,7 +60,7 @@ fn get<D: Disk>(alt: &Name, key: Key, text: &mut Text, store: &mut Store<D>) -> 
 
 /// `list ALT`
 #[inline(never)]
-pub fn reply_to_list<W: Write, D: Disk>(
+pub(crate) fn reply_to_list<W: Write, D: Disk>(
     alloc: Global,
     rest: &[u8],
     text: &mut Text,
@@ -79,7 +79,7 @@ pub fn reply_to_list<W: Write, D: Disk>(
 
 /// `alts`
 #[inline(never)]
-pub fn reply_to_alts<W: Write, D: Disk>(
+pub(crate) fn reply_to_alts<W: Write, D: Disk>(
     alloc: Global,
     rest: &[u8],
     text: &mut Text,
@@ -98,7 +98,7 @@ pub fn reply_to_alts<W: Write, D: Disk>(
 
 /// `checks ALT`
 #[inline(never)]
-pub fn reply_to_checks<W: Write, D: Disk>(
+pub(crate) fn reply_to_checks<W: Write, D: Disk>(
     alloc: Global,
     rest: &[u8],
     text: &mut Text,
@@ -117,7 +117,7 @@ pub fn reply_to_checks<W: Write, D: Disk>(
 
 /// `changes ALT`
 #[inline(never)]
-pub fn reply_to_changes<W: Write, D: Disk>(
+pub(crate) fn reply_to_changes<W: Write, D: Disk>(
     alloc: Global,
     rest: &[u8],
     text: &mut Text,
@@ -136,7 +136,7 @@ pub fn reply_to_changes<W: Write, D: Disk>(
 
 /// `conflicts ALT`
 #[inline(never)]
-pub fn reply_to_conflicts<W: Write, D: Disk>(
+pub(crate) fn reply_to_conflicts<W: Write, D: Disk>(
     alloc: Global,
     rest: &[u8],
     text: &mut Text,
@@ -154,7 +154,7 @@ pub fn reply_to_conflicts<W: Write, D: Disk>(
 }
 
 /// `free`
-pub fn reply_to_free<D: Disk>(rest: &[u8], store: &Store<D>) -> Reply
+pub(crate) fn reply_to_free<D: Disk>(rest: &[u8], store: &Store<D>) -> Reply
     ensures { HandlesBy (codes "free" ∷ words_of rest.now) result store.now store.now }
 {
     match ends(rest) {

@@ -40,7 +40,7 @@ pub const LEAF: &'static [u8] = b"LEAF";
 
 pub const LEF2: &'static [u8] = b"LEF2";
 
-pub fn set_block(disk: &mut MemDisk, n: u32, bytes: &[u8; 4096]) -> Result<(), Wrong> {
+pub(super) fn set_block(disk: &mut MemDisk, n: u32, bytes: &[u8; 4096]) -> Result<(), Wrong> {
     if n >= disk.blocks() {
         return Err(Wrong::Device);
     }
@@ -49,7 +49,7 @@ pub fn set_block(disk: &mut MemDisk, n: u32, bytes: &[u8; 4096]) -> Result<(), W
 }
 
 /// Sets bytes of a block.
-pub fn set_bytes(disk: &mut MemDisk, n: u32, at: usize, bytes: &[u8]) -> Result<(), Wrong> {
+pub(super) fn set_bytes(disk: &mut MemDisk, n: u32, at: usize, bytes: &[u8]) -> Result<(), Wrong> {
     let mut block = [0; 4096];
     if n < disk.blocks() {
         disk.read(n, &mut block)?;
@@ -185,7 +185,7 @@ fn put_piece(alloc: Global, disk: &mut MemDisk, piece: Piece) -> Result<(), Wron
 }
 
 /// A store whose first alternative has one record in block 34, with these pieces written over it.
-pub fn disk_of(alloc: Global, pieces: &[Piece]) -> Result<MemDisk, Wrong> {
+pub(super) fn disk_of(alloc: Global, pieces: &[Piece]) -> Result<MemDisk, Wrong> {
     let mut disk = MemDisk::new(alloc, BLOCKS)?;
     let mut header = [0; 4096];
     write_header(&mut header);
