@@ -96,6 +96,7 @@ impl Cursor {
     }
 
     /// What the walk stands before.
+    #[inline(always)]
     pub(crate) fn next(&self) -> Next
         ensures { result ≡ next_of (front_of self.now) }
     {

@@ -59,6 +59,7 @@ impl Records {
     }
 
     /// What comes next.
+    #[inline(always)]
     pub(crate) fn next(&self) -> Next
         ensures { result ≡ next_of (first_of self.now []) }
     {
@@ -188,6 +189,7 @@ impl Records {
 }
 
 /// What the row at i of a leaf has of its record.
+#[inline(always)]
 fn entry_at(bytes: &[u8; 4096], i: usize) -> Next
     requires { i < 16 }
     ensures { result ≡ next_of (first_of (entry_of (leaf_row bytes.now i) ∷ []) []) }
