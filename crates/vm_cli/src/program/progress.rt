@@ -53,7 +53,7 @@ impl Progress {
     }
 
     /// Has the line tell how many blocks there are in all, as long as no more were counted.
-    pub fn set_total(&self, blocks: u64) {
+    pub(crate) fn set_total(&self, blocks: u64) {
         self.total.set(blocks);
     }
 
