@@ -22,12 +22,13 @@ use Rattle.vm_tree.proofs.TreeLemmas.{subtree_one}
 use Rattle.vm_tree.proofs.ApartLemmas.{all_above}
 use Rattle.vm_diff.specs.Entry.{Entry, EntriesFor}
 use Rattle.vm_diff.specs.Walk.{Walk, IsAhead, Under}
-use Rattle.vm_diff.specs.Front.{Front, front_of, next_of, place_of, opened_at}
+use Rattle.vm_diff.specs.Front.{Front, front_of, next_of, next_place, place_of, opened_at}
 use Rattle.vm_diff.specs.Shared.{unshared}
 use Rattle.vm_diff.specs.Differ.{AreRising, Differ, Passes}
 use Rattle.vm_diff.specs.Steps.{StepsBy, Meet, moved_by}
 use Rattle.vm_diff.specs.declared.front.Step.{Step}
 use Rattle.vm_diff.specs.Front.Front.{End, Pair, Far, Top}
+use Rattle.vm_diff.specs.declared.front.Next.{Next}
 use Rattle.vm_diff.specs.declared.front.Next.TheVariants.{Record as OneRecord, Long, Subtree}
 use Rattle.vm_diff.proofs.ApartLemmas.{subtree_apart}
 use Rattle.vm_diff.proofs.OpenLemmas.{front_top, top_ahead, pair_passed, far_ahead, far_passed}
@@ -313,3 +314,9 @@ next_far (Top t) key link e = cc
 
 pub record_or_top : (front : Front) (key : Key) (top : Root) → OneRecord key ≡ next_of front → front ≡ Top top → ⊥
 record_or_top front key top is at = let both : OneRecord key ≡ Subtree top = is ∙ ap next_of at in cc
+
+pub place_next : (front : Front) (next : Next) → next ≡ next_of front → next_place next ≡ place_of front
+place_next End next is = ap next_place is
+place_next (Pair key value) next is = ap next_place is
+place_next (Far key link) next is = ap next_place is
+place_next (Top top) next is = ap next_place is

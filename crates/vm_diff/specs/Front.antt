@@ -35,6 +35,13 @@ next_of (Far key link) = OneLong key link
 next_of (Top top) = OneSubtree top
 
 -- where its first key stands: at the end above all keys
+abbrev pub next_place : Next → ℕ
+next_place NoMore = 2 ^ 80
+next_place (OneRecord key) = place key
+next_place (OneLong key link) = place key
+next_place (OneSubtree top) = place top.low
+
+-- the same of what a walk stands before
 abbrev pub place_of : Front → ℕ
 place_of End = 2 ^ 80
 place_of (Pair key value) = place key

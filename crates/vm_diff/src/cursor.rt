@@ -1,10 +1,10 @@
 //! A walk through a tree, by rising keys.
-ghost use Rattle.std.specs.Prelude.{◌≡◌, ◌≢◌, ◌+◌, ◌^◌, ◌<◌, ◌≤◌, [], ◌∷◌, length, drop, option_copied, IsFalse, IsTrue, IfSome, OnOk};
+ghost use Rattle.std.specs.Prelude.{◌≡◌, ◌≢◌, ◌+◌, ◌<◌, ◌≤◌, [], ◌∷◌, length, drop, option_copied, IsFalse, IsTrue, IfSome, OnOk};
 ghost use Rattle.vm_types.specs.Bytes.{longest};
 ghost use Rattle.vm_tree.specs.Calls.{OnlyLooks};
 ghost use Rattle.vm_diff.specs.Walk.{Walk, past_record, walk_of};
 ghost use Rattle.vm_diff.specs.Ahead.{PassedBoth, first_top, tops_in};
-ghost use Rattle.vm_diff.specs.Front.{front_of, next_of, place_of};
+ghost use Rattle.vm_diff.specs.Front.{front_of, next_of};
 ghost use Rattle.vm_diff.specs.Front.Front.{Far, Top};
 ghost use Rattle.vm_diff.specs.Opened.{GoesPast, HasNoValue, HasValue, IsIntoRecord, IsIntoRecords, IsIntoTops, IsNextValue, OpensLeaf, OpensLong, OpensNode, Stays};
 
@@ -106,18 +106,6 @@ impl Cursor {
                 None => Next::End,
             },
             next => next,
-        }
-    }
-
-    /// Where the first key that is ahead stands: at the end above all keys.
-    pub(crate) fn place(&self) -> u128
-        ensures place { result ≡ place_of (front_of self.now) }
-        ensures most { result ≤ 2 ^ 80 }
-    {
-        match self.next() {
-            Next::End => 1 << 80,
-            Next::Record(key) | Next::Long(key, _) => key.place(),
-            Next::Subtree(top) => top.low.place(),
         }
     }
 

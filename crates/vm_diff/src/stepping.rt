@@ -110,8 +110,12 @@ fn meet<D: Disk>(
     blocks: u32,
     one: &mut Cursor,
     other: &mut Cursor,
+    here: Next,
+    there: Next,
 ) -> Result<Step, TreeFault>
     requires blocks { blocks ≤ (D.state disk.old).blocks }
+    requires here { here ≡ next_of (front_of one.old) }
+    requires there { there ≡ next_of (front_of other.old) }
     requires level { place_of (front_of one.old) ≡ place_of (front_of other.old) }
     ensures looks { OnlyLooks result (D.state disk.old) (D.state disk.new) }
     ensures deep { result ≢ Err TreeFault.Deep }
@@ -122,25 +126,25 @@ fn meet<D: Disk>(
     ensures steps { Steps result (D.state disk.old) (D.state disk.new) blocks
         one.old other.old one.new other.new }
 {
-    match one.next() {
-        Next::Subtree(first) => match other.next() {
+    match here {
+        Next::Subtree(first) => match there {
             Next::Subtree(second) => meet_tops(disk, blocks, one, other, first, second),
             _ => moved(open(disk, blocks, one, first)),
         },
-        Next::Record(key) => match other.next() {
+        Next::Record(key) => match there {
             Next::Subtree(second) => moved(open(disk, blocks, other, second)),
             Next::Long(low, link) => moved(open_long(disk, blocks, other, low, link)),
             Next::Record(_) => Ok(meet_pairs(one, other, key)),
             Next::End => Ok(Step::Done),
         },
-        Next::Long(key, link) => match other.next() {
+        Next::Long(key, link) => match there {
             Next::Subtree(second) => moved(open(disk, blocks, other, second)),
-            Next::Long(low, there) if link.block == there.block => {
-                Ok(meet_links(one, other, key, link, low, there))
+            Next::Long(low, far) if link.block == far.block => {
+                Ok(meet_links(one, other, key, link, low, far))
             }
             _ => moved(open_long(disk, blocks, one, key, link)),
         },
-        Next::End => match other.next() {
+        Next::End => match there {
             Next::Subtree(second) => moved(open(disk, blocks, other, second)),
             Next::Long(low, link) => moved(open_long(disk, blocks, other, low, link)),
             _ => Ok(Step::Done),
@@ -166,24 +170,25 @@ pub(crate) fn step<D: Disk>(
     ensures steps { Steps result (D.state disk.old) (D.state disk.new) blocks
         one.old other.old one.new other.new }
 {
-    let (here, there) = (one.place(), other.place());
-    if here < there {
-        return match one.next() {
+    let (here, there) = (one.next(), other.next());
+    let (near, far) = (here.place(), there.place());
+    if near < far {
+        return match here {
             Next::Record(key) => Ok(Step::Found(key)),
             Next::Long(key, link) => moved(open_long(disk, blocks, one, key, link)),
             Next::Subtree(top) => moved(open(disk, blocks, one, top)),
             Next::End => Ok(Step::Done),
         };
     }
-    if there < here {
-        return match other.next() {
+    if far < near {
+        return match there {
             Next::Record(key) => Ok(Step::Found(key)),
             Next::Long(key, link) => moved(open_long(disk, blocks, other, key, link)),
             Next::Subtree(top) => moved(open(disk, blocks, other, top)),
             Next::End => Ok(Step::Done),
         };
     }
-    meet(disk, blocks, one, other)
+    meet(disk, blocks, one, other, here, there)
 }
 
 /// Goes past the difference at this key, which both walks stand before.
