@@ -129,9 +129,11 @@ impl<D: Disk> NotedDisk<D> {
 }
 
 impl<D: Disk> Disk for NotedDisk<D> {
-    ghost use Rattle.vm_check.specs.Noted.{notes_of, noted_state};
+    ghost use Rattle.vm_check.specs.Noted.{notes_of, noted_hand, noted_state};
 
     ghost state = { noted_state D.state };
+
+    ghost hand = { noted_hand D.hand };
 
     ghost whole = { λ disk honest. D.whole disk.inner honest };
 
@@ -159,6 +161,30 @@ impl<D: Disk> Disk for NotedDisk<D> {
             note(&mut self.plain, n, true);
         }
         Ok(())
+    }
+
+    fn load(&mut self, n: u32) -> Result<(), DeviceFault>
+        requires { n < (noted_state D.state self.old).blocks }
+        ensures any { Between (noted_state D.state) (Counts 1 result) self.old self.new }
+        ensures honest { IfHonest (noted_state D.state) (Reads n (noted_hand D.hand self.new) result)
+            self.old self.new }
+
+        // A plain block that is at hand is noted, and no note is lost.
+        ensures plain { OnOk result (IsPlain (noted_hand D.hand self.new)
+            → notes_of self.new ≡ with_note n true (notes_of self.old)) }
+        ensures other { OnOk result ((IsPlain (noted_hand D.hand self.new) → ⊥) →
+            notes_of self.new ≡ notes_of self.old) }
+        ensures failed { OnErr result (notes_of self.new ≡ notes_of self.old) }
+    {
+        self.inner.load(n)?;
+        if !is_long_leaf(self.inner.at_hand()) {
+            note(&mut self.plain, n, true);
+        }
+        Ok(())
+    }
+
+    fn at_hand(&self) -> &[u8; 4096] {
+        self.inner.at_hand()
     }
 
     fn write(&mut self, n: u32, from: &[u8; 4096]) -> Result<(), DeviceFault>

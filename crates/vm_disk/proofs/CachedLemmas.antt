@@ -49,6 +49,11 @@ either_right : (contents : Contents) (first es es' : Entries) (kept refused : Ty
 either_right contents first es es' kept refused (inl w) right_first right = same_right contents first es' w.1 right_first
 either_right contents first es es' kept refused (inr w) right_first right = same_right contents es es' w.1 right
 
+-- whether it was kept or refused
+pub kept_or_not : {kept first refused same : Type 0} (b : Bool) → OnTrue b (kept × first) → OnFalse b (refused × same) → (kept × first) ⊎ (refused × same)
+kept_or_not true h m = inl h
+kept_or_not false h m = inr m
+
 -- another block was read below
 pub right_after_miss : {T : Type 0} (result : Result T DeviceFault) (x : T) (old new : DiskState) (n limit : ℕ) (bytes : List ℕ) (es mid es' : Entries) (hit : Bool) (kept refused : Type 0)
     → result ≡ Ok x → hit ≡ false → OnFalse hit (mid ≡ es) → IsInside n old new

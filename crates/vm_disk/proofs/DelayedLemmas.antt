@@ -1,12 +1,12 @@
 -- How the disk below follows a late one, once that noted one moment more.
-use Rattle.std.proofs.Common.{◌≡◌, ◌++◌, ◌∙◌, ℕ, arith, None, List, [], ◌∷◌, length, map, true, refl, sym, subst, ap}
+use Rattle.std.proofs.Common.{◌≡◌, ◌++◌, ◌∙◌, ℕ, arith, None, List, [], ◌∷◌, length, map, true, sym, subst, ap}
 use Rattle.std.proofs.lemmas.List.{length-map}
 use Rattle.vm_disk.specs.declared.layers.Layers.{Layers}
 use Rattle.vm_disk.specs.declared.delayed.DelayedDisk.{DelayedDisk}
 use Rattle.vm_disk.specs.Disk.{DiskState, Medium}
 use Rattle.vm_disk.specs.Past.{noted}
 use Rattle.vm_disk.specs.Delayed.{inner_of, delayed_state, rests_of, FollowsBelow}
-use Rattle.vm_disk.specs.Laid.{IsCovered, Rest, rests_before, time_at}
+use Rattle.vm_disk.specs.Laid.{IsCovered, rests_before, time_at}
 use Rattle.vm_disk.specs.Waiting.{bytes_for}
 use Rattle.vm_disk.specs.Layers.{lower_of, waiting_of, medium_of, rest_of, IsApart}
 use Rattle.vm_disk.proofs.LaidLemmas.{UnderPast, covered_after, covered_before, laid_none, media_before, time_newest, time_rises, under_meanwhile}

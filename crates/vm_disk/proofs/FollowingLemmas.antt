@@ -1,5 +1,5 @@
 -- What a disk held at each moment.
-use Rattle.std.proofs.Common.{◌≡◌, ◌⊎◌, ◌≤◌, ◌<◌, ◌++◌, ℕ, inl, inr, List, [], ◌∷◌, length, refl, sym, subst, arith}
+use Rattle.std.proofs.Common.{◌≡◌, ◌≤◌, ◌<◌, ◌++◌, ℕ, inl, inr, List, [], ◌∷◌, length, refl, sym, subst, arith}
 use Rattle.std.proofs.lemmas.List.{length-append}
 use Rattle.vm_disk.specs.Disk.{Contents, DiskState, LeftAt, LeftPast, MayLeave, Medium, moment}
 use Rattle.vm_disk.specs.Following.{Follows, HeldAt, HeldPast, IsMeanwhile}

@@ -1,6 +1,7 @@
 -- What the words of the cache's map give for the blocks that are kept.
-use Rattle.std.proofs.Common.{◌≡◌, ◌≢◌, ℕ, zero, suc, ◌-◌, ◌<◌, Bool, true, false, cond, if◌then◌else◌, List, [], ◌∷◌, map, take, is_some, option_map, Option, Some, None, nat_eq, refl, sym, ◌∙◌, ap, subst, eqb-true, ne_eqb, eq-eqb, arith}
+use Rattle.std.proofs.Common.{◌≡◌, ◌≢◌, ℕ, zero, suc, ◌-◌, ◌<◌, Bool, true, false, cond, if◌then◌else◌, List, [], ◌∷◌, map, take, is_some, option_map, slice_get, Option, Some, None, nat_eq, refl, sym, ◌∙◌, ap, subst, eqb-true, ne_eqb, eq-eqb, arith}
 use Rattle.std.specs.Option.{option_map_or}
+use Rattle.std.specs.Bool.{OnTrue, OnFalse}
 use Rattle.std.specs.Map.{keys_of, lookup, lookup_entry, remove_entry, set_value}
 use Rattle.std.specs.List.{IsDistinct}
 use Rattle.std.specs.Cmp.{nat_eq_equiv}
@@ -8,7 +9,7 @@ use Rattle.std.proofs.lemmas.Bool.{cond-true, cond-false}
 use Rattle.std.proofs.lemmas.Map.{lookup-remove_entry}
 use Rattle.lru.specs.LruCache.{LruCache, lru_cache, promoted, put_entries}
 use Rattle.vm_disk.specs.declared.kept.Kept.{Kept}
-use Rattle.vm_disk.specs.Kept.{Entries, UsesBlock, entries_of, keeps, limit_of, refusals_in, with_first}
+use Rattle.vm_disk.specs.Kept.{Entries, UsesBlock, entries_of, first_in, first_or, keeps, limit_of, refusals_in, with_first}
 
 -- either answer of a test
 pub by_answer : {P : Type 0} (b : Bool) → (b ≡ true → P) → (b ≡ false → P) → P
@@ -213,3 +214,51 @@ module _ {V : Type 0} (f : V → List ℕ) (n : ℕ) where
       → IsDistinct nat_eq (keys_of before.entries) → keeps n (view f after.entries) ≡ false
   gone_after_pop before after is distinct =
       ap (λ (c : LruCache ℕ V). keeps n (view f c.entries)) is ∙ view_removed f n before.entries distinct
+
+  -- the first bytes
+  pub first_view : (es : List (ℕ × V)) → first_in (view f es) ≡ option_map f (option_map (λ e. e.1) (slice_get es 0))
+  first_view [] = refl
+  first_view (e ∷ es) = refl
+
+  pub promoted_keeps : (before after : LruCache ℕ V) (found : Bool) → after ≡ lru_cache (promoted (nat_eq n) before.entries) before.cap
+      → found ≡ is_some (lookup (nat_eq n) before.entries) → found ≡ keeps n (view f before.entries)
+  promoted_keeps before after found is answer = answer ∙ by_found (lookup (nat_eq n) before.entries) refl
+    where
+      by_found : (o : Option V) → lookup (nat_eq n) before.entries ≡ o → is_some (lookup (nat_eq n) before.entries) ≡ keeps n (view f before.entries)
+      by_found (Some v) h = ap is_some h ∙ sym (kept_found before.entries v h)
+      by_found None h = ap is_some h ∙ sym (kept_missed before.entries h)
+
+  -- after the key was used, where it is there
+  module _ (before after : LruCache ℕ V) (is : after ≡ lru_cache (promoted (nat_eq n) before.entries) before.cap) where
+    first_promoted : (v : V) → lookup (nat_eq n) before.entries ≡ Some v → first_or [] (view f after.entries) ≡ f v
+    first_promoted v h = ap (λ (c : LruCache ℕ V). first_or [] (view f c.entries)) is ∙ ap (λ (es : List (ℕ × V)). first_or [] (view f es)) (promoted_found f n before.entries v h)
+
+    pub promoted_first : is_some (lookup (nat_eq n) before.entries) ≡ true
+        → view f after.entries ≡ with_first before.cap n (first_or [] (view f after.entries)) (view f before.entries)
+    promoted_first there = by_found (lookup (nat_eq n) before.entries) refl
+      where
+        by_found : (o : Option V) → lookup (nat_eq n) before.entries ≡ o → view f after.entries ≡ with_first before.cap n (first_or [] (view f after.entries)) (view f before.entries)
+        by_found (Some v) h = after_found before after v (first_or [] (view f after.entries)) is h (first_promoted v h)
+        by_found None h = let clash : false ≡ true = sym (ap is_some h) ∙ there in absurd cc
+
+    pub promoted_lookup : is_some (lookup (nat_eq n) before.entries) ≡ true → lookup (nat_eq n) (view f before.entries) ≡ Some (first_or [] (view f after.entries))
+    promoted_lookup there = by_found (lookup (nat_eq n) before.entries) refl
+      where
+        by_found : (o : Option V) → lookup (nat_eq n) before.entries ≡ o → lookup (nat_eq n) (view f before.entries) ≡ Some (first_or [] (view f after.entries))
+        by_found (Some v) h = lookup_view f (nat_eq n) before.entries ∙ ap (option_map f) h ∙ ap Some (sym (first_promoted v h))
+        by_found None h = let clash : false ≡ true = sym (ap is_some h) ∙ there in absurd cc
+
+    pub promoted_same : is_some (lookup (nat_eq n) before.entries) ≡ false → view f after.entries ≡ view f before.entries
+    promoted_same gone = by_found (lookup (nat_eq n) before.entries) refl
+      where
+        by_found : (o : Option V) → lookup (nat_eq n) before.entries ≡ o → view f after.entries ≡ view f before.entries
+        by_found (Some v) h = let clash : true ≡ false = sym (ap is_some h) ∙ gone in absurd cc
+        by_found None h = after_missed before after is h
+
+pub on_true : {P : Type 0} (b : Bool) → (b ≡ true → P) → OnTrue b P
+on_true true h = h refl
+on_true false h = tt
+
+pub on_false : {P : Type 0} (b : Bool) → (b ≡ false → P) → OnFalse b P
+on_false true h = tt
+on_false false h = h refl

@@ -1,10 +1,10 @@
 -- What a `CachedDisk` shows, and which blocks it keeps.
-use Rattle.std.specs.Prelude.{◌≡◌, ℕ, ◌+◌, ◌<◌, false, nat_eq, List, [], length, Some, Result, IsOk}
+use Rattle.std.specs.Prelude.{◌≡◌, ℕ, ◌+◌, ◌<◌, false, nat_eq, if◌then◌else◌, List, [], length, Some, Result, IsOk}
 use Rattle.std.specs.Map.{lookup, remove_entry}
 use Rattle.vm_disk.specs.declared.cached.CachedDisk.{CachedDisk}
 use Rattle.vm_disk.specs.declared.disk.DeviceFault.{DeviceFault}
 use Rattle.vm_disk.specs.Disk.{DiskState}
-use Rattle.vm_disk.specs.Kept.{Entries, UsesBlock, UsesBlocks, entries_of, keeps, limit_of, refusals_in, without_run}
+use Rattle.vm_disk.specs.Kept.{Entries, UsesBlock, UsesBlocks, entries_of, keeps, limit_of, refusals_in, first_or, without_run}
 use Rattle.vm_disk.specs.Past.{noted}
 
 module _ {D : Type 0} {members : _} where
@@ -35,6 +35,10 @@ module _ {D : Type 0} {members : _} where
         now = below.now;
         past = below.past;
       }
+
+  -- the bytes on the desk, or those of the kept block that was used last
+  abbrev pub cached_hand : CachedDisk D members → List ℕ
+  cached_hand cached = if cached.on_desk then cached.desk.value else first_or cached.desk.value (kept_of cached)
 
   -- R holds between what is known of the disk below before and after
   abbrev pub Below : (D → DiskState) → (DiskState → DiskState → Type 0) → CachedDisk D members → CachedDisk D members → Type 0

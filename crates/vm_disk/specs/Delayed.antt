@@ -6,7 +6,7 @@ use Rattle.vm_disk.specs.Disk.{DiskState}
 use Rattle.vm_disk.specs.Following.{Follows}
 use Rattle.vm_disk.specs.Laid.{laid_length, Rest, rests_before}
 use Rattle.vm_disk.specs.Waiting.{bytes_for, limit_of}
-use Rattle.vm_disk.specs.Layers.{lower_of, waiting_of, medium_of, rest_of}
+use Rattle.vm_disk.specs.Layers.{lower_of, waiting_of, layers_hand, medium_of, rest_of}
 use Rattle.vm_disk.specs.Past.{noted}
 
 module _ {D : Type 0} {members : _} where
@@ -29,6 +29,10 @@ module _ {D : Type 0} {members : _} where
         now = medium_of state delayed.layers;
         past = map (medium_of state) (noted delayed.past) ++ (state delayed.first.value).past;
       }
+
+  -- the bytes at hand
+  abbrev pub delayed_hand : (D → List ℕ) → DelayedDisk D members → List ℕ
+  delayed_hand hand delayed = layers_hand hand delayed.layers
 
   -- it holds as many blocks as the disk below
   pub delayed_whole : (state : D → DiskState) (delayed : DelayedDisk D members) → length (state (inner_of delayed)).now.contents ≡ (state (inner_of delayed)).blocks → length (delayed_state state delayed).now.contents ≡ (delayed_state state delayed).blocks

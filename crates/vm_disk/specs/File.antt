@@ -121,6 +121,10 @@ pub record IsZero (s : DiskState) : Type 0 where
   pub zero : s.now.contents ≡ replicate s.blocks (replicate 4096 0)
 
 module _ {F : Type 0} where
+  -- the bytes in its room
+  abbrev pub file_hand : FileDisk F → List ℕ
+  file_hand disk = disk.room
+
   -- the file below
   abbrev pub file_of : FileDisk F → F
   file_of disk = disk.file

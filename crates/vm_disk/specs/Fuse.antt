@@ -74,6 +74,10 @@ module _ {D : Type 0} where
         past = below.past;
       }
 
+  -- the block at hand is the one below
+  abbrev pub fuse_hand : (D → List ℕ) → FuseDisk D → List ℕ
+  fuse_hand hand fuse = hand (inner_of fuse)
+
   -- a call that it does not fail: R holds between what is known of the disk below before and after
   abbrev pub Passes : (D → DiskState) → (DiskState → DiskState → Type 0) → FuseDisk D → FuseDisk D → Type 0
   Passes state R old new = fails_next old ≡ false → R (state (inner_of old)) (state (inner_of new))

@@ -1,5 +1,5 @@
 -- The blocks that a cache keeps.
-use Rattle.std.specs.Prelude.{◌≡◌, ◌≢◌, ◌⊎◌, ℕ, zero, suc, ◌+◌, ◌-◌, ◌<◌, Bool, true, if◌then◌else◌, List, [], ◌∷◌, length, map, take, nat_eq, is_some, slice_index_or, Some}
+use Rattle.std.specs.Prelude.{◌≡◌, ◌≢◌, ◌⊎◌, ℕ, zero, suc, ◌+◌, ◌-◌, ◌<◌, Bool, true, if◌then◌else◌, List, [], ◌∷◌, length, map, take, nat_eq, is_some, slice_index_or, Option, Some, None}
 use Rattle.std.specs.Map.{lookup, remove_entry}
 use Rattle.vm_disk.specs.declared.kept.Kept.{Kept}
 use Rattle.vm_disk.specs.Disk.{Contents, block}
@@ -20,6 +20,16 @@ with_first limit n bytes entries = (n, bytes) ∷ (if keeps n entries then remov
 -- each of them is one of these blocks, and has its bytes
 abbrev pub AreOf : Contents → Entries → Type 0
 AreOf contents entries = (n : ℕ) (bytes : List ℕ) → lookup (nat_eq n) entries ≡ Some bytes → (n < length contents) × (bytes ≡ block contents n)
+
+-- the bytes of the first one, if there is one
+abbrev pub first_in : Entries → Option (List ℕ)
+first_in [] = None
+first_in (entry ∷ entries) = Some entry.1
+
+-- the same, or else these
+abbrev pub first_or : List ℕ → Entries → List ℕ
+first_or bytes [] = bytes
+first_or bytes (entry ∷ entries) = entry.1
 
 -- the kept blocks
 abbrev pub entries_of : Kept → Entries

@@ -1,5 +1,5 @@
 -- A medium with blocks laid over it that wait to be written, and what a crash of the disk below leaves.
-use Rattle.std.specs.Prelude.{◌≡◌, ◌⊎◌, ℕ, ◌+◌, ◌<◌, ◌≤◌, ◌||◌, max, nat_eq, true, if◌then◌else◌, List, [], ◌∷◌, length, map, slice_get, is_some, Option, Some, None}
+use Rattle.std.specs.Prelude.{◌≡◌, ℕ, ◌+◌, ◌<◌, ◌≤◌, ◌||◌, max, nat_eq, true, if◌then◌else◌, List, [], ◌∷◌, length, map, slice_get, is_some, Option, Some, None}
 use Rattle.std.specs.List.{range_with_len}
 use Rattle.std.proofs.Common.{sym, subst}
 use Rattle.std.proofs.lemmas.Bool.{or_left}

@@ -33,6 +33,10 @@ memory_state m =
       past = map medium_of (noted m.past);
     }
 
+-- the block at its place, or zeros where there is none
+abbrev pub memory_hand : MemDisk → List ℕ
+memory_hand m = slice_index_or m.platter.blocks.items m.at (replicate 4096 0)
+
 -- a disk just made: so many blocks of zero bytes, none dirty and all sure, and no call so far
 pub record IsBlank (count : ℕ) (s : DiskState) : Type 0 where
   pub blocks : s.blocks ≡ count

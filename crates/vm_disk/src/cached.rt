@@ -8,7 +8,7 @@ ghost use Rattle.vm_disk.specs.Kept.{AreOf, entries_of};
 
 use crate::disk::{DeviceFault, Disk};
 use crate::history::History;
-use crate::kept::Kept;
+use crate::kept::{Kept, Room};
 use std::alloc::Global;
 use std::num::NonZeroUsize;
 
@@ -18,10 +18,16 @@ use std::num::NonZeroUsize;
 /// Memory for the bytes of a block is taken when it is kept, until the cache is full. From there a block
 /// that is new takes the room of the one that goes. Where memory is refused, the block is not kept,
 /// and the call is served.
+///
+/// A block that comes from below is read onto the desk, a room that is kept with it then, for another
+/// one that takes its place. At hand is the block that was used last, or the one on the desk, where it
+/// could not be kept.
 #[derive(Drop)]
 pub struct CachedDisk<D: Disk> {
     inner: D,
     kept: Kept,
+    desk: Room,
+    on_desk: bool,
     reads: History<()>,
     ghost right: { (D.state inner).honest ≡ true → AreOf (D.state inner).now.contents (entries_of kept) },
 }
@@ -30,7 +36,7 @@ impl<D: Disk> CachedDisk<D> {
     ghost use Rattle.vm_disk.specs.Cached.{inner_of, IsEmptyOver};
 
     /// Keeps up to `capacity` blocks of the disk below. Takes memory for the order of all of them and for the
-    /// bytes of one; where it is refused, the disk comes back.
+    /// bytes of two; where it is refused, the disk comes back.
     pub fn new(alloc: Global, inner: D, capacity: usize) -> Result<CachedDisk<D>, D>
         requires { 0 < capacity }
         ensures ok { IfOk result (IsEmptyOver inner capacity) }
@@ -39,13 +45,15 @@ impl<D: Disk> CachedDisk<D> {
         let Some(limit) = NonZeroUsize::new(capacity) else {
             return Err(inner);
         };
-        match Kept::new(alloc, limit) {
-            Ok(kept) => Ok(CachedDisk {
+        match (Kept::new(alloc, limit), Box::new(alloc, [0; 4096])) {
+            (Ok(kept), Ok(desk)) => Ok(CachedDisk {
                 inner,
                 kept,
+                desk,
+                on_desk: false,
                 reads: History::new(),
             }),
-            Err(_) => Err(inner),
+            _ => Err(inner),
         }
     }
 
@@ -66,9 +74,11 @@ impl<D: Disk> CachedDisk<D> {
 
 impl<D: Disk> Disk for CachedDisk<D> {
     ghost use Rattle.vm_disk.specs.Kept.{keeps};
-    ghost use Rattle.vm_disk.specs.Cached.{Below, Loses, Recalls, inner_of, kept_of, cached_state, KeepsJust, LosesRun, Uses, UsesRun};
+    ghost use Rattle.vm_disk.specs.Cached.{Below, Loses, Recalls, inner_of, kept_of, cached_state, cached_hand, KeepsJust, LosesRun, Uses, UsesRun};
 
     ghost state = { cached_state D.state };
+
+    ghost hand = { cached_hand };
 
     ghost whole = { λ disk honest. D.whole disk.inner honest };
 
@@ -93,13 +103,45 @@ impl<D: Disk> Disk for CachedDisk<D> {
         ensures kept { OnOk result (Uses n into.new self.old self.new) }
         ensures failed { OnErr result (KeepsJust (kept_of self.old) self.old self.new) }
     {
+        self.load(n)?;
+        *into = *self.at_hand();
+        Ok(())
+    }
+
+    fn load(&mut self, n: u32) -> Result<(), DeviceFault>
+        requires { n < (cached_state D.state self.old).blocks }
+        ensures any { Between (cached_state D.state) (Counts 1 result) self.old self.new }
+        ensures honest { IfHonest (cached_state D.state) (Reads n (cached_hand self.new) result)
+            self.old self.new }
+
+        // A kept block is at hand at once, and the disk below is not asked.
+        ensures hit { keeps n (kept_of self.old) ≡ true
+            → Recalls n (cached_hand self.new) result self.old self.new }
+
+        // Else it is asked once.
+        ensures miss { keeps n (kept_of self.old) ≡ false
+            → Below D.state (Counts 1 result) self.old self.new }
+        ensures kept { OnOk result (Uses n (cached_hand self.new) self.old self.new) }
+        ensures failed { OnErr result (KeepsJust (kept_of self.old) self.old self.new) }
+    {
         self.reads.note(&());
-        if self.kept.recall(n, into) {
+        if self.kept.promote(n) {
+            self.on_desk = false;
             return Ok(());
         }
-        self.inner.read(n, into)?;
-        self.kept.keep(n, into);
+        self.inner.read(n, &mut self.desk)?;
+        self.on_desk = !self.kept.keep_room(n, &mut self.desk);
         Ok(())
+    }
+
+    fn at_hand(&self) -> &[u8; 4096] {
+        if self.on_desk {
+            return &self.desk;
+        }
+        match self.kept.first() {
+            Some(bytes) => bytes,
+            None => &self.desk,
+        }
     }
 
     fn write(&mut self, n: u32, from: &[u8; 4096]) -> Result<(), DeviceFault>

@@ -72,9 +72,11 @@ impl<D: Disk> DelayedDisk<D> {
 }
 
 impl<D: Disk> Disk for DelayedDisk<D> {
-    ghost use Rattle.vm_disk.specs.Delayed.{inner_of, delayed_state, delayed_whole};
+    ghost use Rattle.vm_disk.specs.Delayed.{inner_of, delayed_state, delayed_hand, delayed_whole};
 
     ghost state = { delayed_state D.state };
+
+    ghost hand = { delayed_hand D.hand };
 
     ghost whole = { λ disk honest. delayed_whole D.state disk (D.whole (inner_of disk) honest) };
 
@@ -88,6 +90,16 @@ impl<D: Disk> Disk for DelayedDisk<D> {
         self.reads.note(&());
         self.past.note(&self.layers);
         self.layers.read(n, into)
+    }
+
+    fn load(&mut self, n: u32) -> Result<(), DeviceFault> {
+        self.reads.note(&());
+        self.past.note(&self.layers);
+        self.layers.load(n)
+    }
+
+    fn at_hand(&self) -> &[u8; 4096] {
+        self.layers.at_hand()
     }
 
     fn write(&mut self, n: u32, from: &[u8; 4096]) -> Result<(), DeviceFault> {

@@ -1,5 +1,5 @@
 //! The trait of a disk.
-ghost use Rattle.std.specs.Prelude.{◌≡◌, ◌+◌, ◌<◌, ◌≤◌, ◌^◌, true, length};
+ghost use Rattle.std.specs.Prelude.{◌≡◌, ◌+◌, ◌<◌, ◌≤◌, ◌^◌, ℕ, true, List, length};
 ghost use Rattle.vm_disk.specs.Moments.{WritesRun};
 ghost use Rattle.vm_disk.specs.Disk.{DiskState, Counts, Reads, Writes, Idles, Forgets, Syncs, Extends, Enlarges};
 
@@ -14,6 +14,9 @@ pub trait Disk {
     /// What is known of it, for contracts alone.
     ghost state: { Self → DiskState };
 
+    /// The bytes of the block at hand.
+    ghost hand: { Self → List ℕ };
+
     /// How many blocks it has.
     fn blocks(&self) -> u32
         ensures { result ≡ (state self.now).blocks };
@@ -24,6 +27,18 @@ pub trait Disk {
         ensures any { Counts 1 result (state self.old) (state self.new) }
         ensures honest { (state self.new).honest ≡ true
             → Reads n into.new result (state self.old) (state self.new) };
+
+    /// Gets block n to hand, where it stays until the next call that may change the disk. Where it fails,
+    /// any bytes are at hand.
+    fn load(&mut self, n: u32) -> Result<(), DeviceFault>
+        requires { n < (state self.old).blocks }
+        ensures any { Counts 1 result (state self.old) (state self.new) }
+        ensures honest { (state self.new).honest ≡ true
+            → Reads n (hand self.new) result (state self.old) (state self.new) };
+
+    /// The block at hand, where it is.
+    fn at_hand(&self) -> &[u8; 4096]
+        ensures { result.now ≡ hand self.now };
 
     /// Writes block n. Until the next sync that succeeds, a crash may leave any bytes there.
     fn write(&mut self, n: u32, from: &[u8; 4096]) -> Result<(), DeviceFault>

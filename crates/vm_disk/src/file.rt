@@ -3,7 +3,7 @@ ghost use Rattle.std.specs.Prelude.{◌≡◌, ◌+◌, ◌<◌, ◌≤◌, ◌^
 ghost use Rattle.vm_disk.specs.Between.{Between, IfHonest};
 ghost use Rattle.vm_disk.specs.Disk.{Counts, Reads, Writes, Idles, Forgets, Syncs, Extends, Enlarges};
 ghost use Rattle.vm_disk.specs.Moments.{WritesRun};
-ghost use Rattle.vm_disk.specs.Positional.{IfHonestFile, CountsFailures};
+ghost use Rattle.vm_disk.specs.Positional.{IfHonestFile, CountsFailures, ReadsAt};
 
 use crate::disk::{DeviceFault, Disk};
 use crate::history::History;
@@ -36,7 +36,7 @@ impl<F> Drop for Earlier<F> {
 }
 
 /// A file as a disk: block n is the 4,096 bytes from 4096 n on. It knows how many blocks the file had
-/// when it was last synced, or was opened.
+/// when it was last synced, or was opened. It has room for the block at hand.
 #[derive(Drop)]
 pub struct FileDisk<F> {
     file: F,
@@ -45,6 +45,7 @@ pub struct FileDisk<F> {
     forgotten: History<u32>,
     past: History<Earlier<F>>,
     reads: History<()>,
+    room: [u8; 4096],
     ghost small: { blocks < 2 ^ 32 },
     ghost known: { sure ≤ blocks },
 }
@@ -54,6 +55,15 @@ fn offset_of(n: u32) -> u64
     ensures { result ≡ 4096 * n }
 {
     u64::from(n) * BLOCK
+}
+
+/// Reads block n of a file into these bytes.
+fn read_block<F: Positional>(file: &mut F, n: u32, into: &mut [u8; 4096]) -> Result<(), DeviceFault>
+    ensures any { CountsFailures result (F.state file.old) (F.state file.new) }
+    ensures full { length into.new ≡ 4096 }
+    ensures honest { IfHonestFile F.state (ReadsAt (4096 * n) into.new result) file.old file.new }
+{
+    file.read_at(into, offset_of(n))
 }
 
 impl<F: Positional> FileDisk<F> {
@@ -107,6 +117,7 @@ impl<F: Positional> FileDisk<F> {
             forgotten: History::new(),
             past: History::new(),
             reads: History::new(),
+            room: [0; 4096],
         }
     }
 
@@ -150,9 +161,11 @@ impl<F: Positional> FileDisk<F> {
 
 impl<F: Positional> Disk for FileDisk<F> {
     ghost use Rattle.std.proofs.lemmas.List.FromFn.{length-map-range_with_len};
-    ghost use Rattle.vm_disk.specs.File.{GetsZeros, file_state, file_of, AddsZeros, StaysHonest};
+    ghost use Rattle.vm_disk.specs.File.{GetsZeros, file_state, file_hand, file_of, AddsZeros, StaysHonest};
 
     ghost state = { file_state F.state };
+
+    ghost hand = { file_hand };
 
     ghost whole = { λ disk honest. length-map-range_with_len _ 0 disk.blocks };
 
@@ -173,6 +186,24 @@ impl<F: Positional> Disk for FileDisk<F> {
         let was = self.earlier();
         self.past.note(&was);
         self.file.read_at(into, offset_of(n))
+    }
+
+    fn load(&mut self, n: u32) -> Result<(), DeviceFault>
+        requires { n < (file_state F.state self.old).blocks }
+        ensures any { Between (file_state F.state) (Counts 1 result) self.old self.new }
+        ensures honest { IfHonest (file_state F.state) (Reads n (file_hand self.new) result)
+            self.old self.new }
+
+        ensures stays { StaysHonest F.state self.old self.new }
+    {
+        self.reads.note(&());
+        let was = self.earlier();
+        self.past.note(&was);
+        read_block(&mut self.file, n, &mut self.room)
+    }
+
+    fn at_hand(&self) -> &[u8; 4096] {
+        &self.room
     }
 
     fn write(&mut self, n: u32, from: &[u8; 4096]) -> Result<(), DeviceFault>

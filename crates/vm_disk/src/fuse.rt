@@ -115,9 +115,11 @@ impl<D: Disk> FuseDisk<D> {
 }
 
 impl<D: Disk> Disk for FuseDisk<D> {
-    ghost use Rattle.vm_disk.specs.Fuse.{Passes, Tears, inner_of, torn_of, fails_next, Burns, Stays, fuse_state};
+    ghost use Rattle.vm_disk.specs.Fuse.{Passes, Tears, inner_of, torn_of, fails_next, Burns, Stays, fuse_state, fuse_hand};
 
     ghost state = { fuse_state D.state };
+
+    ghost hand = { fuse_hand D.hand };
 
     ghost whole = { λ disk honest. D.whole disk.inner honest };
 
@@ -142,6 +144,28 @@ impl<D: Disk> Disk for FuseDisk<D> {
             return Err(DeviceFault);
         }
         self.inner.read(n, into)
+    }
+
+    fn load(&mut self, n: u32) -> Result<(), DeviceFault>
+        requires { n < (fuse_state D.state self.old).blocks }
+        ensures any { Between (fuse_state D.state) (Counts 1 result) self.old self.new }
+        ensures honest { IfHonest (fuse_state D.state) (Reads n (fuse_hand D.hand self.new) result)
+            self.old self.new }
+
+        ensures burns { Burns self.old self.new }
+        ensures passed { Passes D.state (Counts 1 result) self.old self.new }
+        ensures failed { fails_next self.old ≡ true → IsErr result }
+        ensures kept { fails_next self.old ≡ true → inner_of self.new ≡ inner_of self.old }
+    {
+        if self.fails() {
+            self.missed.note(&());
+            return Err(DeviceFault);
+        }
+        self.inner.load(n)
+    }
+
+    fn at_hand(&self) -> &[u8; 4096] {
+        self.inner.at_hand()
     }
 
     fn write(&mut self, n: u32, from: &[u8; 4096]) -> Result<(), DeviceFault>

@@ -1,16 +1,18 @@
 //! The blocks that a cache keeps.
-ghost use Rattle.std.specs.Prelude.{◌≡◌, ◌⊎◌, ◌+◌, ◌<◌, ◌^◌, ℕ, [], length, nat_eq, false, IfSome, IfOk};
+ghost use Rattle.std.specs.Prelude.{◌≡◌, ◌⊎◌, ◌+◌, ◌<◌, ◌^◌, ℕ, Some, [], length, nat_eq, false, IfSome, IfOk};
 ghost use Rattle.std.specs.Bool.{OnTrue, OnFalse};
 ghost use Rattle.std.specs.Map.{lookup, remove_entry};
+ghost use Rattle.std.specs.Option.{option_copied};
 ghost use Rattle.std.specs.NonZero.{non_zero_usize_get};
 
 use crate::history::History;
 use lru::LruCache;
 use std::alloc::{AllocError, Global};
+use std::mem;
 use std::num::NonZeroUsize;
 
 /// Room for the bytes of one block.
-type Room = Box<[u8; 4096]>;
+pub(crate) type Room = Box<[u8; 4096]>;
 
 /// Blocks with their bytes, in the order of their last use. Where one more would be too many, the
 /// one that was used longest ago goes, and the next block that is new takes its room.
@@ -29,7 +31,7 @@ fn fill(room: &mut Room, bytes: &[u8; 4096])
 }
 
 impl Kept {
-    ghost use Rattle.vm_disk.specs.Kept.{entries_of, limit_of, refusals_in, keeps, without_run, ComesFirst, ComesFirstOrNot, Settings, UsesBlock, UsesBlocks};
+    ghost use Rattle.vm_disk.specs.Kept.{entries_of, limit_of, refusals_in, keeps, first_in, first_or, without_run, ComesFirst, ComesFirstOrNot, Settings, UsesBlock, UsesBlocks};
 
     /// No blocks yet. Takes memory for the order of all of them, and for the bytes of one.
     pub(crate) fn new(alloc: Global, capacity: NonZeroUsize) -> Result<Kept, AllocError>
@@ -45,20 +47,62 @@ impl Kept {
         })
     }
 
-    /// Copies a kept block out, which is then the one used last, and tells whether there is one.
-    pub(crate) fn recall(&mut self, n: u32, into: &mut [u8; 4096]) -> bool
+    /// Makes a kept block the one used last, and tells whether there is one.
+    pub(crate) fn promote(&mut self, n: u32) -> bool
         ensures answer { result ≡ keeps n (entries_of self.old) }
-        ensures found { OnTrue result (lookup (nat_eq n) (entries_of self.old) ≡ Some into.new) }
-        ensures first { OnTrue result (ComesFirst n into.new self.old self.new) }
+        ensures found { OnTrue result
+            (lookup (nat_eq n) (entries_of self.old) ≡ Some (first_or [] (entries_of self.new))) }
+        ensures first { OnTrue result (ComesFirst n (first_or [] (entries_of self.new)) self.old self.new) }
         ensures missed { OnFalse result (entries_of self.new ≡ entries_of self.old) }
         ensures settings { Settings self.old self.new }
     {
-        match self.rooms.get(&n) {
-            Some(room) => {
-                *into = **room;
+        self.rooms.promote(&n)
+    }
+
+    /// The bytes of the block used last.
+    pub(crate) fn first(&self) -> Option<&[u8; 4096]>
+        ensures { option_copied result ≡ first_in (entries_of self.now) }
+    {
+        let (_, room) = self.rooms.peek_mru()?;
+        Some(room)
+    }
+
+    /// Room for a block that is new. In a full cache it is the spare one.
+    fn empty_room(&mut self) -> Option<Room>
+        ensures rooms { self.new.rooms ≡ self.old.rooms }
+        ensures settings { Settings self.old self.new }
+    {
+        if self.rooms.len() < self.rooms.cap().get() {
+            return Box::new(self.alloc, [0; 4096]).ok();
+        }
+        self.spare.take()
+    }
+
+    /// Keeps a block with the room on the desk, which has its bytes, and puts another room there; or
+    /// tells that there is no memory for it.
+    pub(crate) fn keep_room(&mut self, n: u32, desk: &mut Room) -> bool
+        ensures limit { limit_of self.new ≡ limit_of self.old }
+        ensures kept { OnTrue result ((refusals_in self.new ≡ refusals_in self.old)
+            × ComesFirst n desk.old.value self.old self.new) }
+        ensures refused { OnFalse result ((refusals_in self.new ≡ refusals_in self.old + 1)
+            × (entries_of self.new ≡ entries_of self.old)) }
+        ensures bytes { OnFalse result (desk.new ≡ desk.old) }
+    {
+        let Some(room) = self.empty_room() else {
+            self.refused.note(&());
+            return false;
+        };
+        match self.rooms.push(n, mem::replace(desk, room)) {
+            Ok(Some((_, room))) => {
+                self.spare = Some(room);
                 true
             }
-            None => false,
+            Ok(None) => true,
+            Err(failed) => {
+                self.spare = Some(mem::replace(desk, failed.value.1));
+                self.refused.note(&());
+                false
+            }
         }
     }
 
@@ -78,16 +122,13 @@ impl Kept {
         }
     }
 
-    /// Room with these bytes. In a full cache it is the spare one.
+    /// Room with these bytes, unless memory for it is refused.
     fn room(&mut self, bytes: &[u8; 4096]) -> Option<Room>
         ensures bytes { IfSome result (λ room. room.value ≡ bytes.now) }
         ensures rooms { self.new.rooms ≡ self.old.rooms }
         ensures settings { Settings self.old self.new }
     {
-        if self.rooms.len() < self.rooms.cap().get() {
-            return Box::new(self.alloc, *bytes).ok();
-        }
-        let mut room = self.spare.take()?;
+        let mut room = self.empty_room()?;
         fill(&mut room, bytes);
         Some(room)
     }

@@ -10,17 +10,19 @@ use crate::waiting::Waiting;
 use std::alloc::Global;
 use std::num::NonZeroUsize;
 
-/// A disk, and blocks that wait to be written to it. Those in a row are copied, and written then.
+/// A disk, and blocks that wait to be written to it. Those in a row are copied, and written then. The
+/// block at hand is one of those that wait, or else the one at hand below.
 #[derive(Drop)]
 pub(crate) struct Layers<D: Disk> {
     pub(crate) inner: D,
     waiting: Waiting,
+    at: Option<u32>,
     run: Vec<[u8; 4096]>,
     ghost inside: { (n : ℕ) → waits waiting n ≡ true → n < (D.state inner).blocks },
 }
 
 impl<D: Disk> Layers<D> {
-    ghost use Rattle.vm_disk.specs.Layers.{lower_of, waiting_of, layers_state, FewerWait, IfHonestBelow, IsApart, Sends, WaitNoMore};
+    ghost use Rattle.vm_disk.specs.Layers.{lower_of, waiting_of, layers_state, layers_hand, FewerWait, IfHonestBelow, IsApart, Sends, WaitNoMore};
 
     /// No block waits yet. Where memory is refused, the disk comes back.
     pub(crate) fn new(alloc: Global, inner: D, capacity: NonZeroUsize) -> Result<Layers<D>, D>
@@ -34,6 +36,7 @@ impl<D: Disk> Layers<D> {
             Ok(waiting) => Ok(Layers {
                 inner,
                 waiting,
+                at: None,
                 run: Vec::new(alloc),
             }),
             Err(_) => Err(inner),
@@ -119,6 +122,39 @@ impl<D: Disk> Layers<D> {
             }
             None => self.inner.read(n, into),
         }
+    }
+
+    /// Gets block n to hand, from those that wait, or else from the disk below.
+    pub(crate) fn load(&mut self, n: u32) -> Result<(), DeviceFault>
+        requires { n < (layers_state D.state self.old).blocks }
+        ensures any { Between (layers_state D.state) (Counts 0 result) self.old self.new }
+        ensures honest { IfHonestBelow D.state (Reads n (layers_hand D.hand self.new) result)
+            self.old self.new }
+        ensures below { (D.state (lower_of self.new)).honest ≡ true
+            → IsApart D.state self.old self.new }
+    {
+        match self.waiting.bytes(n) {
+            Some(_) => {
+                self.at = Some(n);
+                Ok(())
+            }
+            None => {
+                self.at = None;
+                self.inner.load(n)
+            }
+        }
+    }
+
+    /// The block at hand.
+    pub(crate) fn at_hand(&self) -> &[u8; 4096]
+        ensures { result.now ≡ layers_hand D.hand self.now }
+    {
+        if let Some(n) = self.at {
+            if let Some(bytes) = self.waiting.bytes(n) {
+                return bytes;
+            }
+        }
+        self.inner.at_hand()
     }
 
     /// Has block n wait with these bytes, in its place where it waits already. Where too many would wait,

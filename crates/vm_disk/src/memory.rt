@@ -31,10 +31,11 @@ struct Platter {
 }
 
 /// A disk in memory, always honest, which fails only where it is to get longer than its room. Its device
-/// calls take no memory.
+/// calls take no memory. At hand is the block that was got last, as it is.
 #[derive(Drop)]
 pub struct MemDisk {
     platter: Platter,
+    at: u32,
     past: History<Platter>,
     reads: History<()>,
     failed: History<()>,
@@ -161,6 +162,7 @@ impl MemDisk {
         blank.settle();
         Ok(MemDisk {
             platter: blank,
+            at: 0,
             past: History::new(),
             reads: History::new(),
             failed: History::new(),
@@ -195,6 +197,7 @@ impl MemDisk {
     {
         let MemDisk {
             mut platter,
+            at: _,
             past: _,
             reads: _,
             failed: _,
@@ -203,6 +206,7 @@ impl MemDisk {
         platter.settle();
         MemDisk {
             platter,
+            at: 0,
             past: History::new(),
             reads: History::new(),
             failed: History::new(),
@@ -231,9 +235,11 @@ impl MemDisk {
 
 impl Disk for MemDisk {
     ghost use Rattle.std.specs.Prelude.{refl};
-    ghost use Rattle.vm_disk.specs.Memory.{memory_state, room_of, GetsZeros, JustFails};
+    ghost use Rattle.vm_disk.specs.Memory.{memory_state, memory_hand, room_of, GetsZeros, JustFails};
 
     ghost state = { memory_state };
+
+    ghost hand = { memory_hand };
 
     ghost whole = { λ disk honest. refl };
 
@@ -255,6 +261,27 @@ impl Disk for MemDisk {
         self.past.note(&self.platter);
         *into = self.platter.blocks[n as usize];
         Ok(())
+    }
+
+    fn load(&mut self, n: u32) -> Result<(), DeviceFault>
+        requires { n < (memory_state self.old).blocks }
+        ensures any { Between memory_state (Counts 1 result) self.old self.new }
+        ensures honest { IfHonest memory_state (Reads n (memory_hand self.new) result) self.old self.new }
+
+        ensures served { IsOk result }
+        ensures room { room_of self.new ≡ room_of self.old }
+    {
+        self.reads.note(&());
+        self.past.note(&self.platter);
+        self.at = n;
+        Ok(())
+    }
+
+    fn at_hand(&self) -> &[u8; 4096] {
+        match self.platter.blocks.get(self.at as usize) {
+            Some(block) => block,
+            None => &[0; 4096],
+        }
     }
 
     fn write(&mut self, n: u32, from: &[u8; 4096]) -> Result<(), DeviceFault>

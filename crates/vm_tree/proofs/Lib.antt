@@ -3,6 +3,7 @@ pub mod Beside
 pub mod Descent
 pub mod FullPaths
 pub mod Growing
+pub mod HandLemmas
 pub mod HoldingLemmas
 pub mod LeafBeside
 pub mod LeafRows

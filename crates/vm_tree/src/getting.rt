@@ -10,7 +10,7 @@ ghost use Rattle.vm_tree.specs.Giving.{GivesLeaf, GivesLinked, GivesValue, Gives
 ghost use Rattle.vm_tree.specs.Reading.{FindsEnd, FindsLeaf, FindsPathFrom};
 
 use crate::long::long_at;
-use crate::reading::{block_at, way_at};
+use crate::reading::{load_block, load_way};
 use crate::root::{Root, TreeFault};
 use vm_block::{Child, Link, Stored, find_row, is_long_leaf};
 use vm_disk::Disk;
@@ -52,6 +52,16 @@ pub(crate) fn long_link(bytes: &[u8; 4096], key: Key) -> Option<Link>
     }
 }
 
+/// The same bytes, at the start of this room.
+fn copied<'a>(value: &[u8], room: &'a mut [u8; 4096]) -> &'a [u8]
+    requires { length value.now ≤ 4096 }
+    ensures { result.now ≡ value.now }
+{
+    let start = &mut room[..value.len()];
+    start.copy_from_slice(value);
+    start
+}
+
 /// The value of the key in this leaf.
 fn get_in_leaf<'a, D: Disk>(
     disk: &mut D,
@@ -68,12 +78,12 @@ fn get_in_leaf<'a, D: Disk>(
     ensures path { FindsEnd result (D.state disk.old) (D.state disk.new) blocks top }
     ensures value { GivesValueUnder result (D.state disk.old) (D.state disk.new) blocks top key }
 {
-    block_at(disk, blocks, top, bytes)?;
-    if let Some(link) = long_link(bytes, key) {
+    load_block(disk, blocks, top)?;
+    if let Some(link) = long_link(disk.at_hand(), key) {
         return get_long(disk, blocks, key, link, bytes);
     }
-    match find_row(bytes, key) {
-        Some(Some(Stored::Short(value))) => Ok(Some(value)),
+    match find_row(disk.at_hand(), key) {
+        Some(Some(Stored::Short(value))) => Ok(Some(copied(value, bytes))),
         Some(Some(Stored::Long(_))) => Err(TreeFault::Damaged(top.block)),
         Some(None) => Ok(None),
         None => Err(TreeFault::Damaged(top.block)),
@@ -81,13 +91,7 @@ fn get_in_leaf<'a, D: Disk>(
 }
 
 /// Whether this leaf has a record of the key.
-fn has_in_leaf<D: Disk>(
-    disk: &mut D,
-    blocks: u32,
-    top: Child,
-    key: Key,
-    bytes: &mut [u8; 4096],
-) -> Result<bool, TreeFault>
+fn has_in_leaf<D: Disk>(disk: &mut D, blocks: u32, top: Child, key: Key) -> Result<bool, TreeFault>
     requires { blocks ≤ (D.state disk.old).blocks }
     ensures looks { OnlyLooks result (D.state disk.old) (D.state disk.new) }
     ensures deep { result ≢ Err TreeFault.Deep }
@@ -95,22 +99,21 @@ fn has_in_leaf<D: Disk>(
     ensures path { FindsEnd result (D.state disk.old) (D.state disk.new) blocks top }
     ensures found { TellsRecordUnder result (D.state disk.old) (D.state disk.new) blocks top key }
 {
-    block_at(disk, blocks, top, bytes)?;
-    match find_row(bytes, key) {
+    load_block(disk, blocks, top)?;
+    match find_row(disk.at_hand(), key) {
         Some(Some(_)) => Ok(true),
         Some(None) => Ok(false),
         None => Err(TreeFault::Damaged(top.block)),
     }
 }
 
-/// The leaf of the key under a block of this level. Each block above it is read into these bytes.
+/// The leaf of the key under a block of this level.
 fn leaf_of<D: Disk>(
     disk: &mut D,
     blocks: u32,
     level: u8,
     top: Child,
     key: Key,
-    bytes: &mut [u8; 4096],
 ) -> Result<Child, TreeFault>
     requires { blocks ≤ (D.state disk.old).blocks }
     ensures looks { OnlyLooks result (D.state disk.old) (D.state disk.new) }
@@ -122,12 +125,12 @@ fn leaf_of<D: Disk>(
     if level == 0 {
         return Ok(top);
     }
-    let way = way_at::<D, 256>(disk, blocks, level, top, key, bytes)?;
-    leaf_of(disk, blocks, level - 1, way.child, key, bytes)
+    let way = load_way::<D, 256>(disk, blocks, level, top, key)?;
+    leaf_of(disk, blocks, level - 1, way.child, key)
 }
 
-/// The value of a key in the map under a root. Each block is read into these bytes, and the value is
-/// lent from those of its leaf.
+/// The value of a key in the map under a root, in these bytes. The blocks on the path are looked at
+/// where the disk has them at hand, and only the value is copied.
 pub fn get<'a, D: Disk>(
     disk: &mut D,
     blocks: u32,
@@ -155,19 +158,12 @@ pub fn get<'a, D: Disk>(
         low: root.low,
         block: root.block,
     };
-    let leaf = leaf_of(disk, blocks, root.level, top, key, bytes)?;
+    let leaf = leaf_of(disk, blocks, root.level, top, key)?;
     get_in_leaf(disk, blocks, leaf, key, bytes)
 }
 
-/// Whether the map under a root has a record of the key. Each block is read into these bytes; that of
-/// a long value is not.
-pub fn has<D: Disk>(
-    disk: &mut D,
-    blocks: u32,
-    root: Root,
-    key: Key,
-    bytes: &mut [u8; 4096],
-) -> Result<bool, TreeFault>
+/// Whether the map under a root has a record of the key. The block of a long value is not read.
+pub fn has<D: Disk>(disk: &mut D, blocks: u32, root: Root, key: Key) -> Result<bool, TreeFault>
     requires { blocks ≤ (D.state disk.old).blocks }
     ensures looks { OnlyLooks result (D.state disk.old) (D.state disk.new) }
     ensures deep { result ≢ Err TreeFault.Deep }
@@ -186,6 +182,6 @@ pub fn has<D: Disk>(
         low: root.low,
         block: root.block,
     };
-    let leaf = leaf_of(disk, blocks, root.level, top, key, bytes)?;
-    has_in_leaf(disk, blocks, leaf, key, bytes)
+    let leaf = leaf_of(disk, blocks, root.level, top, key)?;
+    has_in_leaf(disk, blocks, leaf, key)
 }

@@ -14,7 +14,7 @@ ghost use Rattle.vm_tree.specs.Replacing.{KeepsAbove, long_of};
 ghost use Rattle.vm_tree.specs.Root.{AreSizes, sizes_of};
 
 use crate::linking::{MAX_SHORT, linked, store, write_long_block};
-use crate::reading::{block_at, way_at};
+use crate::reading::{load_block, load_way};
 use crate::root::{Root, TreeFault, root_at};
 use crate::splicing::spliced;
 use crate::writing::{Copied, write_bytes, write_node_block, write_nodes};
@@ -232,8 +232,8 @@ fn put_in_leaf<D: Disk, const LEAF: usize>(
     ensures path_in { NamesLong result LEAF (D.state disk.old) (D.state disk.new)
         (length held.old) top long.new }
 {
-    let mut bytes = [0; 4096];
-    block_at(disk, held.blocks(), top, &mut bytes)?;
+    load_block(disk, held.blocks(), top)?;
+    let mut bytes = *disk.at_hand();
     *long = linked(&bytes, key);
     match put_row(&mut bytes, LEAF, key, Stored::Short(first_stored(value))) {
         Placed::Put => {
@@ -292,8 +292,8 @@ fn put_below<D: Disk, const LEAF: usize, const FAN: usize>(
     if level == 0 {
         return put_in_leaf::<D, LEAF>(disk, held, top, room, key, value, &mut path[8]);
     }
-    let mut bytes = [0; 4096];
-    let way = way_at::<D, FAN>(disk, held.blocks(), level, top, key, &mut bytes)?;
+    let way = load_way::<D, FAN>(disk, held.blocks(), level, top, key)?;
+    let mut bytes = *disk.at_hand();
     let room = room || way.count < FAN;
     let copied = put_below::<D, LEAF, FAN>(
         disk,

@@ -44,38 +44,54 @@ pub fn data_at<D: Disk>(
     }
 }
 
-/// Reads this child's block, which is to be for data and to begin with the child's lowest key, into
-/// these bytes.
-pub(crate) fn block_at<D: Disk>(
-    disk: &mut D,
-    blocks: u32,
-    top: Child,
-    bytes: &mut [u8; 4096],
-) -> Result<(), TreeFault>
+/// Gets a block, which is to be for data, to hand: Damaged, where it is not for data.
+fn load_data<D: Disk>(disk: &mut D, blocks: u32, block: u32) -> Result<(), TreeFault>
     requires { blocks ≤ (D.state disk.old).blocks }
     ensures looks { OnlyLooks result (D.state disk.old) (D.state disk.new) }
     ensures deep { result ≢ Err TreeFault.Deep }
     ensures memory { result ≢ Err TreeFault.Memory }
-    ensures found { FindsBlock result (D.state disk.old) (D.state disk.new) blocks top bytes.new }
-    ensures rows { GivesRowsUnder result (D.state disk.old) (D.state disk.new) blocks top bytes.new }
-    ensures node { GivesNodeUnder result (D.state disk.old) (D.state disk.new) blocks top bytes.new }
+    ensures found { FindsData result (D.state disk.old) (D.state disk.new)
+        blocks block (D.hand disk.new) }
+    ensures only { GivesData result (D.state disk.old) (D.state disk.new)
+        blocks block (D.hand disk.new) }
 {
-    data_at(disk, blocks, top.block, bytes)?;
-    if lowest_key(bytes) != top.low {
+    if !is_data(blocks, block) {
+        return Err(TreeFault::Damaged(block));
+    }
+    match disk.load(block) {
+        Ok(()) => Ok(()),
+        Err(_) => Err(TreeFault::Device),
+    }
+}
+
+/// Gets this child's block, which is to be for data and to begin with the child's lowest key, to hand.
+pub(crate) fn load_block<D: Disk>(disk: &mut D, blocks: u32, top: Child) -> Result<(), TreeFault>
+    requires { blocks ≤ (D.state disk.old).blocks }
+    ensures looks { OnlyLooks result (D.state disk.old) (D.state disk.new) }
+    ensures deep { result ≢ Err TreeFault.Deep }
+    ensures memory { result ≢ Err TreeFault.Memory }
+    ensures found { FindsBlock result (D.state disk.old) (D.state disk.new)
+        blocks top (D.hand disk.new) }
+    ensures rows { GivesRowsUnder result (D.state disk.old) (D.state disk.new)
+        blocks top (D.hand disk.new) }
+    ensures node { GivesNodeUnder result (D.state disk.old) (D.state disk.new)
+        blocks top (D.hand disk.new) }
+{
+    load_data(disk, blocks, top.block)?;
+    if lowest_key(disk.at_hand()) != top.low {
         return Err(TreeFault::Damaged(top.block));
     }
     Ok(())
 }
 
-/// Reads this child's block, which is to be an inner block of this level with MOST children at
-/// most, into these bytes, and tells where a descent to the key goes in it.
-pub(crate) fn way_at<D: Disk, const MOST: usize>(
+/// Gets this child's block, which is to be an inner block of this level with MOST children at most, to
+/// hand, and tells where a descent to the key goes in it.
+pub(crate) fn load_way<D: Disk, const MOST: usize>(
     disk: &mut D,
     blocks: u32,
     level: u8,
     top: Child,
     key: Key,
-    bytes: &mut [u8; 4096],
 ) -> Result<Way, TreeFault>
     requires { blocks ≤ (D.state disk.old).blocks }
     ensures looks { OnlyLooks result (D.state disk.old) (D.state disk.new) }
@@ -85,10 +101,10 @@ pub(crate) fn way_at<D: Disk, const MOST: usize>(
     ensures within { IfOk result (IsWayAmong MOST) }
     ensures step { FindsStep result (D.state disk.old) (D.state disk.new) blocks level top }
     ensures only { GivesWay result (D.state disk.old) (D.state disk.new)
-        blocks level top MOST (place key) bytes.new }
+        blocks level top MOST (place key) (D.hand disk.new) }
 {
-    block_at(disk, blocks, top, bytes)?;
-    match find_child(bytes, key) {
+    load_block(disk, blocks, top)?;
+    match find_child(disk.at_hand(), key) {
         Some(way) if way.level == level && way.count <= MOST => Ok(way),
         _ => Err(TreeFault::Damaged(top.block)),
     }

@@ -11,7 +11,7 @@ ghost use Rattle.vm_tree.specs.Replacing.{KeepsAbove, long_of};
 ghost use Rattle.vm_tree.specs.Root.{AreSizes, sizes_of};
 
 use crate::linking::linked;
-use crate::reading::{block_at, way_at};
+use crate::reading::{load_block, load_way};
 use crate::root::{Root, TreeFault, root_at};
 use crate::splicing::spliced;
 use crate::writing::{write_bytes, write_node_block};
@@ -57,12 +57,11 @@ fn without_child(bytes: &[u8; 4096], way: Way) -> Option<ArrayVec<Child, 257>>
     }
 }
 
-/// Reads this child's block, which is to be a leaf of MOST rows at most, into these bytes.
-fn rows_under<D: Disk, const MOST: usize>(
+/// Gets this child's block, which is to be a leaf of MOST rows at most, to hand.
+fn load_rows<D: Disk, const MOST: usize>(
     disk: &mut D,
     blocks: u32,
     top: Child,
-    bytes: &mut [u8; 4096],
 ) -> Result<(), TreeFault>
     requires { blocks ≤ (D.state disk.old).blocks }
     ensures looks { OnlyLooks result (D.state disk.old) (D.state disk.new) }
@@ -70,10 +69,10 @@ fn rows_under<D: Disk, const MOST: usize>(
     ensures memory { result ≢ Err TreeFault.Memory }
     ensures end { FindsEnd result (D.state disk.old) (D.state disk.new) blocks top }
     ensures only { GivesRowsAmong result (D.state disk.old) (D.state disk.new)
-        blocks top MOST bytes.new }
+        blocks top MOST (D.hand disk.new) }
 {
-    block_at(disk, blocks, top, bytes)?;
-    match rows_size(bytes) {
+    load_block(disk, blocks, top)?;
+    match rows_size(disk.at_hand()) {
         Some(count) if count <= MOST => Ok(()),
         _ => Err(TreeFault::Damaged(top.block)),
     }
@@ -105,8 +104,8 @@ fn remove_from_leaf<D: Disk, const LEAF: usize>(
     ensures path_in { NamesLong result LEAF (D.state disk.old) (D.state disk.new)
         (length held.old) top long.new }
 {
-    let mut bytes = [0; 4096];
-    rows_under::<D, LEAF>(disk, held.blocks(), top, &mut bytes)?;
+    load_rows::<D, LEAF>(disk, held.blocks(), top)?;
+    let mut bytes = *disk.at_hand();
     *long = linked(&bytes, key);
     match remove_row(&mut bytes, LEAF, key) {
         Taken::Out => {
@@ -136,9 +135,8 @@ fn narrowed<D: Disk, const FAN: usize>(
     if level == 0 {
         return Ok(root_at(top, 0));
     }
-    let mut bytes = [0; 4096];
     // To any key the way goes to the one child, where there is one.
-    let way = way_at::<D, FAN>(disk, blocks, level, top, top.low, &mut bytes)?;
+    let way = load_way::<D, FAN>(disk, blocks, level, top, top.low)?;
     if way.count == 1 {
         narrowed::<D, FAN>(disk, blocks, way.child, level - 1)
     } else {
@@ -223,8 +221,8 @@ fn remove_below<D: Disk, const LEAF: usize, const FAN: usize>(
     if level == 0 {
         return remove_from_leaf::<D, LEAF>(disk, held, top, key, &mut path[8]);
     }
-    let mut bytes = [0; 4096];
-    let way = way_at::<D, FAN>(disk, held.blocks(), level, top, key, &mut bytes)?;
+    let way = load_way::<D, FAN>(disk, held.blocks(), level, top, key)?;
+    let mut bytes = *disk.at_hand();
     let alone = is_root && way.count == 1;
     let left = remove_below::<D, LEAF, FAN>(disk, held, level - 1, way.child, alone, key, path)?;
     match left {

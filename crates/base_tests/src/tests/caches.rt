@@ -44,6 +44,48 @@ fn cache_asks_for_what_it_does_not_keep(rt: HostRuntime) -> Result<(), Fail> {
 }
 
 #[test]
+fn cache_lends_what_it_keeps(rt: HostRuntime) -> Result<(), Fail> {
+    let fuse = FuseDisk::once(memory(rt.alloc(), 64)?, 3, [9; 4096]);
+    let row = "
+        fill 34 7
+        calls -> 1
+        hand 34 -> 7
+        calls -> 1
+        hand 35 -> 0
+        calls -> 2
+        hand 34 35 -> 7 0
+        holds 35 34 -> 0 7
+        calls -> 2
+        # Block 35 was used longest ago, and goes.
+        hand 36 -> 0
+        calls -> 3
+        hand 35 -> fault
+        calls -> 4
+        hand 34 36 -> 7 0
+        calls -> 4
+        hand 35 -> 0
+        calls -> 5";
+    on_a_cache(&rt, fuse, 2, row, "");
+    Ok(())
+}
+
+#[test]
+fn cache_of_one_block_lends_each(rt: HostRuntime) -> Result<(), Fail> {
+    let fuse = FuseDisk::once(memory(rt.alloc(), 8)?, 99, [9; 4096]);
+    let row = "
+        fill 1 1
+        fill 2 2
+        fill 3 3
+        hand 1 2 3 3 1 -> 1 2 3 3 1
+        calls -> 7
+        holds 1 2 -> 1 2
+        hand 2 -> 2
+        calls -> 8";
+    on_a_cache(&rt, fuse, 1, row, "");
+    Ok(())
+}
+
+#[test]
 fn cache_keeps_the_blocks_of_a_run(rt: HostRuntime) -> Result<(), Fail> {
     let fuse = FuseDisk::once(memory(rt.alloc(), 8)?, 99, [9; 4096]);
     let row = "

@@ -11,7 +11,13 @@ fn a_read_sees_the_blocks_that_wait(rt: HostRuntime) -> Result<(), Fail> {
         fill 1 8
         fill 3 9
         dirty 0 1 2 3 -> no no no no
-        holds 0 1 2 3 -> 0 8 0 9";
+        holds 0 1 2 3 -> 0 8 0 9
+        hand 0 1 2 3 -> 0 8 0 9
+        forget 1
+        fill 0 5
+        hand 3 0 2 -> 9 5 0
+        sync
+        hand 3 0 2 -> 9 5 0";
     on_a_late_disk(&rt, memory(rt.alloc(), 4)?, 2, row, "");
     Ok(())
 }

@@ -9,7 +9,8 @@ fn memory_gives_back_what_was_written(rt: HostRuntime) -> Result<(), Fail> {
     let row = "
         blocks -> 4
         fill 2 7
-        holds 0 1 2 3 -> 0 0 7 0";
+        holds 0 1 2 3 -> 0 0 7 0
+        hand 0 1 2 3 -> 0 0 7 0";
     plays(&rt, &mut memory(rt.alloc(), 4)?, row);
     Ok(())
 }
@@ -191,8 +192,9 @@ fn fuse_stops(rt: HostRuntime) -> Result<(), Fail> {
         fill 1 7
         sync -> fault
         holds 1 -> fault
+        hand 1 -> fault
         fill 2 8 -> fault
-        calls -> 4";
+        calls -> 5";
     plays(&rt, &mut disk, row);
     let left = "
         dirty 1 2 3 -> yes yes no

@@ -141,7 +141,8 @@ fn file_reads_and_writes_at_its_offsets(rt: HostRuntime) {
         holds 0 1 2 -> 1 2 3
         fill 1 7
         sync
-        holds 1 -> 7";
+        holds 1 -> 7
+        hand 0 1 2 -> 1 7 3";
     let bytes = on_numbered(&rt, 12298, row);
     for (at, byte) in [(4095, 1), (4096, 7), (8191, 7), (8192, 3), (12297, 4)] {
         assert_eq!(rt; bytes.get(at).copied(), Some(byte), "byte {at}");
@@ -203,6 +204,7 @@ fn file_that_fails(rt: HostRuntime) -> Result<(), Fail> {
     let mut disk = FileDisk::over(file, 1);
     let row = "
         holds 0 -> fault
+        hand 0 -> fault
         fill 0 7 -> fault
         sync -> fault
         grow 2 -> fault

@@ -11,6 +11,7 @@
 //! | `grow 5` | `ok`: the disk has so many blocks |
 //! | `sync` | `ok` |
 //! | `holds 0 2` | `0 7`: the byte that fills each of these blocks, or `mixed` |
+//! | `hand 0 2` | `0 7`: the same, of each block at hand |
 //! | `is 2 7` | `yes`: whether each byte of block 2 is 7 |
 //! | `blocks` | `5`: how many the disk has |
 //! | `sure` | `3`: how many of the disk in memory below a crash leaves at least |
@@ -114,20 +115,44 @@ fn change<D: Disk>(disk: &mut D, words: &[&str]) -> Result<bool, Wrong> {
     Ok(true)
 }
 
-/// The byte that fills a block, if it is one byte.
+/// The byte that fills these, if it is one byte.
+fn byte_in(bytes: &[u8; 4096]) -> Option<u8> {
+    let first = bytes[0];
+    bytes.iter().all(|byte| *byte == first).then_some(first)
+}
+
+/// The byte that fills a block, as it is read.
 fn filling<D: Disk>(disk: &mut D, n: u32) -> Result<Option<u8>, Wrong> {
     let mut bytes = [0; 4096];
     if n >= disk.blocks() {
         return Err(Wrong::Unreadable);
     }
     disk.read(n, &mut bytes)?;
-    let first = bytes[0];
-    Ok(bytes.iter().all(|byte| *byte == first).then_some(first))
+    Ok(byte_in(&bytes))
 }
 
-fn fillings<D: Disk>(disk: &mut D, blocks: &[&str], text: &mut String) -> Result<(), Wrong> {
+/// The same, as it is at hand.
+fn filling_at_hand<D: Disk>(disk: &mut D, n: u32) -> Result<Option<u8>, Wrong> {
+    if n >= disk.blocks() {
+        return Err(Wrong::Unreadable);
+    }
+    disk.load(n)?;
+    Ok(byte_in(disk.at_hand()))
+}
+
+fn fillings<D: Disk>(
+    disk: &mut D,
+    blocks: &[&str],
+    at_hand: bool,
+    text: &mut String,
+) -> Result<(), Wrong> {
     for n in blocks {
-        match filling(disk, number(n)?)? {
+        let found = if at_hand {
+            filling_at_hand(disk, number(n)?)?
+        } else {
+            filling(disk, number(n)?)?
+        };
+        match found {
             Some(byte) => write!(text, " {byte}")?,
             None => write!(text, " mixed")?,
         }
@@ -160,7 +185,8 @@ fn count<D: Seen>(disk: &D, of: &str) -> Option<u32> {
 /// Adds what the disk holds to a text.
 fn look<D: Seen>(disk: &mut D, words: &[&str], text: &mut String) -> Result<(), Wrong> {
     match words {
-        ["holds", blocks @ ..] => fillings(disk, blocks, text),
+        ["holds", blocks @ ..] => fillings(disk, blocks, false, text),
+        ["hand", blocks @ ..] => fillings(disk, blocks, true, text),
         ["dirty", blocks @ ..] => dirty(disk, blocks, text),
         ["is", n, due] => {
             let found = filling(disk, number(n)?)?;

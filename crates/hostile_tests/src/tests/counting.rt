@@ -24,6 +24,15 @@ impl CountingDisk {
         self.reads.fill(0);
     }
 
+    fn count_read(&mut self, n: u32)
+        ensures { self.new.inner ≡ self.old.inner }
+    {
+        let at = n as usize;
+        if at < self.reads.len() {
+            self.reads[at] = self.reads[at].saturating_add(1);
+        }
+    }
+
     /// How often the block was read that was read most often.
     pub(super) fn most(&self) -> u32 {
         self.reads.iter().copied().max().unwrap_or(0)
@@ -37,9 +46,11 @@ impl CountingDisk {
 
 impl Disk for CountingDisk {
     ghost use Rattle.std.specs.Prelude.{refl};
-    ghost use Rattle.vm_disk.specs.Memory.{memory_state};
+    ghost use Rattle.vm_disk.specs.Memory.{memory_hand, memory_state};
 
     ghost state = { λ disk. memory_state disk.inner };
+
+    ghost hand = { λ disk. memory_hand disk.inner };
 
     ghost whole = { λ disk honest. refl };
 
@@ -50,11 +61,17 @@ impl Disk for CountingDisk {
     }
 
     fn read(&mut self, n: u32, into: &mut [u8; 4096]) -> Result<(), DeviceFault> {
-        let at = n as usize;
-        if at < self.reads.len() {
-            self.reads[at] = self.reads[at].saturating_add(1);
-        }
+        self.count_read(n);
         self.inner.read(n, into)
+    }
+
+    fn load(&mut self, n: u32) -> Result<(), DeviceFault> {
+        self.count_read(n);
+        self.inner.load(n)
+    }
+
+    fn at_hand(&self) -> &[u8; 4096] {
+        self.inner.at_hand()
     }
 
     fn write(&mut self, n: u32, from: &[u8; 4096]) -> Result<(), DeviceFault> {

@@ -124,9 +124,11 @@ fn after(alloc: Global, mut inner: MemDisk) -> Result<RecordingDisk, Wrong> {
 
 impl Disk for RecordingDisk {
     ghost use Rattle.std.specs.Prelude.{refl};
-    ghost use Rattle.vm_disk.specs.Memory.{memory_state};
+    ghost use Rattle.vm_disk.specs.Memory.{memory_hand, memory_state};
 
     ghost state = { λ disk. memory_state disk.inner };
+
+    ghost hand = { λ disk. memory_hand disk.inner };
 
     ghost whole = { λ disk honest. refl };
 
@@ -138,6 +140,14 @@ impl Disk for RecordingDisk {
 
     fn read(&mut self, n: u32, into: &mut [u8; 4096]) -> Result<(), DeviceFault> {
         self.inner.read(n, into)
+    }
+
+    fn load(&mut self, n: u32) -> Result<(), DeviceFault> {
+        self.inner.load(n)
+    }
+
+    fn at_hand(&self) -> &[u8; 4096] {
+        self.inner.at_hand()
     }
 
     fn write(&mut self, n: u32, from: &[u8; 4096]) -> Result<(), DeviceFault> {

@@ -57,8 +57,7 @@ impl<D: Disk> Store<D> {
             → Carries self.old self.new s holds (Remove alt.now key) result }
     {
         let root = version.current;
-        let mut room = [0; 4096];
-        match has(&mut self.disk, self.blocks, root, key, &mut room) {
+        match has(&mut self.disk, self.blocks, root, key) {
             Ok(true) => {}
             Ok(false) => return Err(Refusal::NoSuchRecord),
             Err(fault) => return Err(refusal_of(fault)),

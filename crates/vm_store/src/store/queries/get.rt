@@ -25,8 +25,8 @@ fn copy_of(value: Option<&[u8]>) -> Option<Value>
 impl<D: Disk> Store<D> {
     ghost use Rattle.vm_store.specs.Store.{has_failed, FromState, Holds, IsSameButDisk, IsHonest, GoesOn, ReadsAlone};
 
-    /// The value of a record in the working state of an alternative, lent from the block in which it
-    /// stands, which is read into this room.
+    /// The value of a record in the working state of an alternative, lent from this room, into which it
+    /// is read or copied.
     pub fn look<'a>(
         &mut self,
         alt: &Name,

@@ -12,6 +12,7 @@ use Rattle.vm_tree.specs.Root.{sizes_of}
 use Rattle.vm_tree.specs.Making.{Made, PutsBelow, Splits, is_split, with_copied}
 use Rattle.vm_tree.specs.Reading.{IsNodeAt}
 use Rattle.vm_tree.specs.Replacing.{Replaces, long_of, path_from}
+use Rattle.vm_tree.proofs.HandLemmas.{hand_node}
 use Rattle.vm_tree.proofs.Beside.{node_path, path_alone, path_grown, path_leaf}
 use Rattle.vm_tree.proofs.Looking.{looks_free, looks_if, looks_write, passed_on, writes_on}
 use Rattle.vm_tree.proofs.Descent.{node_read}
@@ -61,7 +62,7 @@ returns-clause-put g t c levels honest rs bs tree begins rises =
     let i = c.in_ok-way.way.index in
     let d = c.in_ok-way.way.child in
     let lent = with_copied cs i c.in_ok-copied.copied in
-    let fine = c.write_replaced.ensures.fine cs way.0 way.1 in
+    let fine = c.write_replaced.ensures.fine cs (hand_node (sym c.at_hand.ensures) way.0) way.1 in
     let limit = length c.args.held.now in
     let y = (g.D.Disk.state c.put_below.new.disk).now.contents in
     let under = path_from (c.args.level - 1) c.put_below.new.path in
@@ -74,7 +75,7 @@ returns-clause-put g t c levels honest rs bs tree begins rises =
     (λ ds qs own. Replaces c.args.held.now c.put_below.new.held under own (λ P. Made P sizes y limit (c.args.level - 1) ds qs)) way.2.child (c.in_ok-copied.ensures.put levels (c.write_replaced.ensures.writes.goes.earlier honest)))
     (held_kept c.args.held.now _ _ (c.in_ok-copied.ensures.writes.moments (c.write_replaced.ensures.writes.goes.earlier honest))) c.in_ok-copied.ensures.writes.still
     refl fine (ok_if c.write_replaced.result _ fine)
-    (λ keep qs rising made. c.write_replaced.ensures.made honest c.args.held.now keep c.in_ok-copied.ensures.writes.still sizes cs qs way.0 way.1 (omega arith) rising made)
+    (λ keep qs rising made. c.write_replaced.ensures.made honest c.args.held.now keep c.in_ok-copied.ensures.writes.still sizes cs qs (hand_node (sym c.at_hand.ensures) way.0) way.1 (omega arith) rising made)
 
 pub returns-clause-path_in : goal.returns-clause-path_in
 returns-clause-path_in g t c levels honest rs bs tree begins rises =

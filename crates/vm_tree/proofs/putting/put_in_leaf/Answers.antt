@@ -13,6 +13,7 @@ use Rattle.vm_tree.specs.Root.{sizes_of}
 use Rattle.vm_tree.specs.Making.{Made, children_of, is_split}
 use Rattle.vm_tree.specs.Replacing.{IsRenewed, KeepsBeside, Replaces, long_of}
 use Rattle.vm_tree.specs.Rows.{StandIn}
+use Rattle.vm_tree.proofs.HandLemmas.{hand_block, hand_rows}
 use Rattle.vm_tree.proofs.TreeLemmas.{leaf_opens}
 use Rattle.vm_tree.proofs.Beside.{if_ok_where}
 use Rattle.vm_tree.proofs.LeafBeside.{long_apart, long_within, rest_kept, rows_read}
@@ -36,8 +37,8 @@ returns-in_ok-leaf-in-Put-clause-put g c fan levels honest rs bs tree begins ris
     let w : Row = (c.args.key, first) in
     let count = with_count x limit w r refl read.rows rs read.under read.stand in
     let earlier = c.in_ok-leaf-in-Put.ensures.writes.goes.earlier honest in
-    let still = same_medium _ _ (c.in_ok-block_at.ensures.looks.reads earlier) in
-    let leaf = c.in_ok-block_at.ensures.rows earlier read.rows read.at read.begins in
+    let still = same_medium _ _ (c.in_ok-load_block.ensures.looks.reads earlier) in
+    let leaf = hand_rows (sym c.at_hand.ensures) (c.in_ok-load_block.ensures.rows earlier read.rows read.at read.begins) in
     let put = c.in-Put.ensures.only read.rows leaf read.few in
     let has = put_rows c.put_row.new.bytes w read.rows _ leaf c.put_row.ensures.fits put.0 (omega (arith, put.1, c.requires.most)) in
     let before = c.args.held.now in (
@@ -61,7 +62,7 @@ returns-in-Full-clause-put g c fan levels honest rs bs tree begins rises =
     let first = c.first_stored.result.now in
     let w : Row = (c.args.key, first) in
     let count = with_count x limit w r refl read.rows rs read.under read.stand in
-    let leaf = c.in_ok-block_at.ensures.rows honest read.rows read.at read.begins in
+    let leaf = hand_rows (sym c.at_hand.ensures) (c.in_ok-load_block.ensures.rows honest read.rows read.at read.begins) in
     leaf_splits sizes x limit b r rs bs at rises (omega (arith, (c.in-Full.ensures.only read.rows leaf read.few).1, count))
 
 pub returns-in-Full-2-clause-put : goal.returns-in-Full-2-clause-put
@@ -77,8 +78,8 @@ returns-in-Full-2-clause-put g c fan levels honest rs bs tree begins rises =
     let w : Row = (c.args.key, first) in
     let count = with_count x limit w r refl read.rows rs read.under read.stand in
     let earlier = c.split_leaf.ensures.writes.goes.earlier honest in
-    let same = same_medium _ _ (c.in_ok-block_at.ensures.looks.reads earlier) in
-    let leaf = c.in_ok-block_at.ensures.rows earlier read.rows read.at read.begins in
+    let same = same_medium _ _ (c.in_ok-load_block.ensures.looks.reads earlier) in
+    let leaf = hand_rows (sym c.at_hand.ensures) (c.in_ok-load_block.ensures.rows earlier read.rows read.at read.begins) in
     let after = c.in-Full-2.ensures.only read.rows leaf read.few in
     let still = subst (λ (bytes : List ℕ). HasRows bytes read.rows) (sym after.0) leaf in
     let full : g.row.LEAF < length (with_record r read.rows) = omega (arith, after.1, with_many r w read.rows refl) in
@@ -108,24 +109,24 @@ returns-in-NoLeaf-clause-put g c fan levels honest rs bs tree begins rises =
     let first = c.first_stored.result.now in
     let w : Row = (c.args.key, first) in
     let count = with_count x limit w r refl read.rows rs read.under read.stand in
-    let leaf = c.in_ok-block_at.ensures.rows honest read.rows read.at read.begins in
+    let leaf = hand_rows (sym c.at_hand.ensures) (c.in_ok-load_block.ensures.rows honest read.rows read.at read.begins) in
     c.in-NoLeaf.ensures.only read.rows leaf read.few
 
-pub returns-in_err-block_at-clause-put : goal.returns-in_err-block_at-clause-put
-returns-in_err-block_at-clause-put g c fan levels honest rs bs tree begins rises =
+pub returns-in_err-load_block-clause-put : goal.returns-in_err-load_block-clause-put
+returns-in_err-load_block-clause-put g c fan levels honest rs bs tree begins rises =
     let x = (g.D.Disk.state c.args.disk.now).now.contents in
     let read = rows_read (sizes_of g.row.LEAF fan levels) x (length c.args.held.now) _ c.args.top.block c.args.top.low rs bs c.blocks-2.ensures.count tree begins in
-    rw (passed_on _ c.from_residual.ensures.1) (device_below _ _ _ (c.in_err-block_at.ensures.rows honest read.rows read.at read.begins))
+    rw (passed_on _ c.from_residual.ensures.1) (device_below _ _ _ (c.in_err-load_block.ensures.rows honest read.rows read.at read.begins))
 
 pub returns-in_ok-leaf-in-Put-clause-path : goal.returns-in_ok-leaf-in-Put-clause-path
 returns-in_ok-leaf-in-Put-clause-path g c honest =
     let head = c.in-Put.ensures.head.0 (λ e. cc e) in
-    leads_end _ _ (length c.args.held.now) 0 c.args.top.block c.args.top.low refl c.blocks-2.ensures.count (ends_at _ _ c.args.top.block c.args.top.low _ g.row.LEAF head.0 head.1 c.requires.most (c.in_ok-block_at.ensures.found (c.write_put.ensures.writes.goes.earlier honest)) head.2)
+    leads_end _ _ (length c.args.held.now) 0 c.args.top.block c.args.top.low refl c.blocks-2.ensures.count (ends_at _ _ c.args.top.block c.args.top.low _ g.row.LEAF head.0 head.1 c.requires.most (hand_block (sym c.at_hand.ensures) (c.in_ok-load_block.ensures.found (c.write_put.ensures.writes.goes.earlier honest))) head.2)
 
 pub returns-in-Full-2-clause-path : goal.returns-in-Full-2-clause-path
 returns-in-Full-2-clause-path g c honest =
     let head = c.in-Full-2.ensures.head.0 (λ e. cc e) in
-    if_ok_is c.split_leaf.result _ (leads_end _ _ (length c.args.held.now) 0 c.args.top.block c.args.top.low refl c.blocks-2.ensures.count (ends_at _ _ c.args.top.block c.args.top.low _ g.row.LEAF head.0 head.1 c.requires.most (c.in_ok-block_at.ensures.found (c.split_leaf.ensures.writes.goes.earlier honest)) head.2))
+    if_ok_is c.split_leaf.result _ (leads_end _ _ (length c.args.held.now) 0 c.args.top.block c.args.top.low refl c.blocks-2.ensures.count (ends_at _ _ c.args.top.block c.args.top.low _ g.row.LEAF head.0 head.1 c.requires.most (hand_block (sym c.at_hand.ensures) (c.in_ok-load_block.ensures.found (c.split_leaf.ensures.writes.goes.earlier honest))) head.2))
 
 pub returns-in-Full-2-clause-replaced : goal.returns-in-Full-2-clause-replaced
 returns-in-Full-2-clause-replaced g c fan levels honest rs bs tree begins rises there =
@@ -139,29 +140,29 @@ returns-in-Full-2-clause-replaced g c fan levels honest rs bs tree begins rises 
     let first = c.first_stored.result.now in
     let w : Row = (c.args.key, first) in
     let count = with_count x limit w r refl read.rows rs read.under read.stand in
-    let leaf = c.in_ok-block_at.ensures.rows (c.split_leaf.ensures.writes.goes.earlier honest) read.rows read.at read.begins in
+    let leaf = hand_rows (sym c.at_hand.ensures) (c.in_ok-load_block.ensures.rows (c.split_leaf.ensures.writes.goes.earlier honest) read.rows read.at read.begins) in
     absurd (there (leaf_splits sizes x limit b r rs bs at rises (omega (arith, (c.in-Full-2.ensures.only read.rows leaf read.few).1, count))).absent)
 
 pub returns-in_ok-leaf-in-Put-clause-writes : goal.returns-in_ok-leaf-in-Put-clause-writes
-returns-in_ok-leaf-in-Put-clause-writes g c = looks_write c.in_ok-block_at.ensures.looks c.in_ok-leaf-in-Put.ensures.writes (λ is. cc)
+returns-in_ok-leaf-in-Put-clause-writes g c = looks_write c.in_ok-load_block.ensures.looks c.in_ok-leaf-in-Put.ensures.writes (λ is. cc)
 
 pub returns-in_err-leaf-in-Put-clause-writes : goal.returns-in_err-leaf-in-Put-clause-writes
-returns-in_err-leaf-in-Put-clause-writes g c = looks_write c.in_ok-block_at.ensures.looks c.in_err-leaf-in-Put.ensures.writes (search rules)
+returns-in_err-leaf-in-Put-clause-writes g c = looks_write c.in_ok-load_block.ensures.looks c.in_err-leaf-in-Put.ensures.writes (search rules)
 
 pub returns-in-Full-clause-writes : goal.returns-in-Full-clause-writes
-returns-in-Full-clause-writes g c = looks_free c.in_ok-block_at.ensures.looks (λ is. cc)
+returns-in-Full-clause-writes g c = looks_free c.in_ok-load_block.ensures.looks (λ is. cc)
 
 pub returns-in-Full-2-clause-writes : goal.returns-in-Full-2-clause-writes
-returns-in-Full-2-clause-writes g c = looks_write c.in_ok-block_at.ensures.looks c.split_leaf.ensures.writes (λ is. is)
+returns-in-Full-2-clause-writes g c = looks_write c.in_ok-load_block.ensures.looks c.split_leaf.ensures.writes (λ is. is)
 
 pub returns-in-Full-2-clause-looks : goal.returns-in-Full-2-clause-looks
-returns-in-Full-2-clause-looks g c b = looks_if c.in_ok-block_at.ensures.looks c.split_leaf.ensures.writes.goes.earlier (c.split_leaf.ensures.looks b) (λ is. is)
+returns-in-Full-2-clause-looks g c b = looks_if c.in_ok-load_block.ensures.looks c.split_leaf.ensures.writes.goes.earlier (c.split_leaf.ensures.looks b) (λ is. is)
 
 pub returns-in-NoLeaf-clause-writes : goal.returns-in-NoLeaf-clause-writes
-returns-in-NoLeaf-clause-writes g c = looks_free c.in_ok-block_at.ensures.looks (λ is. cc)
+returns-in-NoLeaf-clause-writes g c = looks_free c.in_ok-load_block.ensures.looks (λ is. cc)
 
-pub returns-in_err-block_at-clause-writes : goal.returns-in_err-block_at-clause-writes
-returns-in_err-block_at-clause-writes g c = looks_free c.in_err-block_at.ensures.looks (search rules)
+pub returns-in_err-load_block-clause-writes : goal.returns-in_err-load_block-clause-writes
+returns-in_err-load_block-clause-writes g c = looks_free c.in_err-load_block.ensures.looks (search rules)
 
 pub returns-in_ok-leaf-in-Put-clause-path_in : goal.returns-in_ok-leaf-in-Put-clause-path_in
 returns-in_ok-leaf-in-Put-clause-path_in g c fan levels honest rs bs tree begins rises =
@@ -169,7 +170,7 @@ returns-in_ok-leaf-in-Put-clause-path_in g c fan levels honest rs bs tree begins
     let x = (g.D.Disk.state c.args.disk.now).now.contents in
     let limit = length c.args.held.now in
     let read = rows_read sizes x limit _ c.args.top.block c.args.top.low rs bs c.blocks-2.ensures.count tree begins in
-    let leaf = c.in_ok-block_at.ensures.rows (c.in_ok-leaf-in-Put.ensures.writes.goes.earlier honest) read.rows read.at read.begins in
+    let leaf = hand_rows (sym c.at_hand.ensures) (c.in_ok-load_block.ensures.rows (c.in_ok-leaf-in-Put.ensures.writes.goes.earlier honest) read.rows read.at read.begins) in
     long_within sizes x limit _ c.args.top.block c.args.top.low rs bs read (place c.args.key) c.linked.result (c.linked.ensures read.rows leaf)
 
 pub returns-in-Full-2-clause-path_in : goal.returns-in-Full-2-clause-path_in
@@ -178,5 +179,5 @@ returns-in-Full-2-clause-path_in g c fan levels honest rs bs tree begins rises =
     let x = (g.D.Disk.state c.args.disk.now).now.contents in
     let limit = length c.args.held.now in
     let read = rows_read sizes x limit _ c.args.top.block c.args.top.low rs bs c.blocks-2.ensures.count tree begins in
-    let leaf = c.in_ok-block_at.ensures.rows (c.split_leaf.ensures.writes.goes.earlier honest) read.rows read.at read.begins in
+    let leaf = hand_rows (sym c.at_hand.ensures) (c.in_ok-load_block.ensures.rows (c.split_leaf.ensures.writes.goes.earlier honest) read.rows read.at read.begins) in
     if_ok_is c.split_leaf.result _ (long_within sizes x limit _ c.args.top.block c.args.top.low rs bs read (place c.args.key) c.linked.result (c.linked.ensures read.rows leaf))

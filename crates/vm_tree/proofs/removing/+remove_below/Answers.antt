@@ -19,6 +19,7 @@ use Rattle.vm_tree.specs.declared.removing.Left.{Left}
 use Rattle.vm_tree.specs.declared.root.Root.{Root}
 use Rattle.vm_tree.specs.Root.{sizes_of}
 use Rattle.vm_tree.specs.declared.root.TreeFault.TheVariants.{Device}
+use Rattle.vm_tree.proofs.HandLemmas.{hand_node}
 use Rattle.vm_tree.proofs.Beside.{node_path, path_alone, path_grown, path_leaf}
 use Rattle.vm_tree.proofs.Looking.{looks_free, looks_if, looks_if_on, looks_write, passed_on, writes_on}
 use Rattle.vm_tree.proofs.Descent.{node_read}
@@ -123,7 +124,7 @@ returns-in-Some-clause-remove g t c levels honest rs bs tree begins rises =
     let grown = path_grown c.remove_below.new.path c.args.path.now l c.from.result b d.block size c.told-path c.requires.low c.from.ensures above c.in_ok-left.ensures.path_above in
     let none = ap Ok c.in-Nothing.is in
     let kept : c.remove_below.new.held ≡ c.args.held.now = c.in_ok-left.ensures.nothing.kept none in
-    let lent = c.as_slice.ensures.value ∙ c.in-Some.ensures.only l cs way.0 way.1 in
+    let lent = c.as_slice.ensures.value ∙ c.in-Some.ensures.only l cs (hand_node (sym c.at_hand.ensures) way.0) way.1 in
     let o = others_left sizes old _ limit l b p rs bs cs i d still above tree rises only chosen d way.2.child path under grown (c.in_ok-left.ensures.path_in levels (c.write_rest.ensures.writes.goes.earlier honest)) before c.as_slice.result.now lent
     (λ sub own there low rising. subst (λ (left : Left). RemovesBelow (Ok left) p sub (λ root. Replaces before between under own (λ P. Made P sizes after limit root.level (child_of root ∷ []) (without_place p sub)))) c.in-Nothing.is (c.in_ok-left.ensures.remove levels (c.write_rest.ensures.writes.goes.earlier honest) sub own there low rising)) in
     let same = ap (λ (m : Medium). m.contents) (same_medium _ _ (c.in_ok-left.ensures.nothing.reads (c.write_rest.ensures.writes.goes.earlier honest) none) ∙ still) in
@@ -148,7 +149,7 @@ returns-in-None-clause-remove g t c levels honest rs bs tree begins rises =
     let read = node_read sizes old.contents limit l b rs bs above tree in
     let cs = read.0 in
     let way = c.in_ok-way.ensures.only (c.in_ok-left.ensures.writes.goes.earlier honest) cs (subst (λ n. IsNodeAt old.contents n l b cs) (sym c.blocks-2.ensures.count) read.1) (read.3 c.args.top.low begins) read.2 in
-    absurd (c.in-None.ensures.only l cs way.0 way.1)
+    absurd (c.in-None.ensures.only l cs (hand_node (sym c.at_hand.ensures) way.0) way.1)
 
 pub returns-in_ok-node-in-Rest-clause-remove : goal.returns-in_ok-node-in-Rest-clause-remove
 returns-in_ok-node-in-Rest-clause-remove g t c levels honest rs bs tree begins rises =
@@ -193,7 +194,7 @@ returns-in_ok-node-in-Rest-clause-remove g t c levels honest rs bs tree begins r
           let P = IsRenewed before later keep in
           let y = (g.D.Disk.state c.write_bytes.new.disk).now.contents in
           let parts = rest.1 keep all keeps in
-          let made = c.in_ok-node-in-Rest.ensures.node honest before keep c.in_ok-left.ensures.writes.still sizes l lent (without_place p rs) (c.set_child.ensures l cs way.0 within) above c.requires.low (omega (arith, many, within)) (omega (arith, many, read.1.node.few)) (omega (arith, many, read.2)) parts.0 parts.1 in
+          let made = c.in_ok-node-in-Rest.ensures.node honest before keep c.in_ok-left.ensures.writes.still sizes l lent (without_place p rs) (c.set_child.ensures l cs (hand_node (sym c.at_hand.ensures) way.0) within) above c.requires.low (omega (arith, many, within)) (omega (arith, many, read.1.node.few)) (omega (arith, many, read.2)) parts.0 parts.1 in
           let moved = subst (λ z. Made P sizes y z l (c.in_ok-node-in-Rest.node ∷ []) (without_place p rs)) c.in_ok-left.ensures.writes.still.same_length made in
           subst (λ (r : Root). Made P sizes y limit r.level (child_of r ∷ []) (without_place p rs)) (sym c.root_at.ensures) moved,
     )

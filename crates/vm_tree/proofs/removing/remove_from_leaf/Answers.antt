@@ -13,6 +13,7 @@ use Rattle.vm_tree.specs.Tree.{IsWithin}
 use Rattle.vm_types.specs.Bytes.{longest}
 use Rattle.vm_tree.specs.Root.{sizes_of}
 use Rattle.vm_tree.specs.declared.root.Root.{Root}
+use Rattle.vm_tree.proofs.HandLemmas.{hand_rows}
 use Rattle.vm_tree.proofs.LeafBeside.{long_apart, long_within, none_left, rest_kept, rows_read}
 use Rattle.vm_tree.proofs.LeafRows.{all_absent, all_present, rows_leaf}
 use Rattle.vm_tree.proofs.Looking.{looks_free, looks_write, passed_on}
@@ -26,7 +27,7 @@ returns-in-Absent-clause-remove g c fan levels honest rs bs tree begins rises =
     let x = (g.D.Disk.state c.args.disk.now).now.contents in
     let limit = length c.args.held.now in
     let read = rows_read sizes x limit _ c.args.top.block c.args.top.low rs bs c.blocks-2.ensures.count tree begins in
-    all_absent x limit (place c.args.key) read.rows rs read.under read.stand (c.in-Absent.ensures.only read.rows (c.in_ok-rows_under.ensures.only honest read.rows read.at read.begins read.few) read.few)
+    all_absent x limit (place c.args.key) read.rows rs read.under read.stand (c.in-Absent.ensures.only read.rows (hand_rows (sym c.at_hand.ensures) (c.in_ok-load_rows.ensures.only honest read.rows read.at read.begins read.few)) read.few)
 
 pub returns-in-Last-clause-remove : goal.returns-in-Last-clause-remove
 returns-in-Last-clause-remove g c fan levels honest rs bs tree begins rises =
@@ -35,7 +36,7 @@ returns-in-Last-clause-remove g c fan levels honest rs bs tree begins rises =
     let limit = length c.args.held.now in
     let read = rows_read sizes x limit _ c.args.top.block c.args.top.low rs bs c.blocks-2.ensures.count tree begins in
     let p = place c.args.key in
-    let out = c.in-Last.ensures.only read.rows (c.in_ok-rows_under.ensures.only honest read.rows read.at read.begins read.few) read.few in
+    let out = c.in-Last.ensures.only read.rows (hand_rows (sym c.at_hand.ensures) (c.in_ok-load_rows.ensures.only honest read.rows read.at read.begins read.few)) read.few in
     (λ none. out.0 (all_present x limit p read.rows rs read.under read.stand none), none_left sizes x limit _ c.args.top.block c.args.top.low rs bs read p out.1)
 
 pub returns-in-NoLeaf-clause-remove : goal.returns-in-NoLeaf-clause-remove
@@ -44,7 +45,7 @@ returns-in-NoLeaf-clause-remove g c fan levels honest rs bs tree begins rises =
     let x = (g.D.Disk.state c.args.disk.now).now.contents in
     let limit = length c.args.held.now in
     let read = rows_read sizes x limit _ c.args.top.block c.args.top.low rs bs c.blocks-2.ensures.count tree begins in
-    absurd (c.in-NoLeaf.ensures.only read.rows (c.in_ok-rows_under.ensures.only honest read.rows read.at read.begins read.few) read.few)
+    absurd (c.in-NoLeaf.ensures.only read.rows (hand_rows (sym c.at_hand.ensures) (c.in_ok-load_rows.ensures.only honest read.rows read.at read.begins read.few)) read.few)
 
 pub returns-in_ok-leaf-in-Out-clause-remove : goal.returns-in_ok-leaf-in-Out-clause-remove
 returns-in_ok-leaf-in-Out-clause-remove g c fan levels honest rs bs tree begins rises =
@@ -53,8 +54,8 @@ returns-in_ok-leaf-in-Out-clause-remove g c fan levels honest rs bs tree begins 
     let limit = length c.args.held.now in
     let read = rows_read sizes x limit _ c.args.top.block c.args.top.low rs bs c.blocks-2.ensures.count tree begins in
     let earlier = c.in_ok-leaf-in-Out.ensures.writes.goes.earlier honest in
-    let still = same_medium _ _ (c.in_ok-rows_under.ensures.looks.reads earlier) in
-    let leaf = c.in_ok-rows_under.ensures.only earlier read.rows read.at read.begins read.few in
+    let still = same_medium _ _ (c.in_ok-load_rows.ensures.looks.reads earlier) in
+    let leaf = hand_rows (sym c.at_hand.ensures) (c.in_ok-load_rows.ensures.only earlier read.rows read.at read.begins read.few) in
     let out = c.in-Out.ensures.only read.rows leaf read.few in
     let p = place c.args.key in
     let before = c.args.held.now in
@@ -79,40 +80,40 @@ returns-in_ok-leaf-in-Out-clause-remove g c fan levels honest rs bs tree begins 
           subst (M keep) (sym c.root_at.ensures) made,
     )
 
-pub returns-in_err-rows_under-clause-remove : goal.returns-in_err-rows_under-clause-remove
-returns-in_err-rows_under-clause-remove g c fan levels honest rs bs tree begins rises =
+pub returns-in_err-load_rows-clause-remove : goal.returns-in_err-load_rows-clause-remove
+returns-in_err-load_rows-clause-remove g c fan levels honest rs bs tree begins rises =
     let sizes = sizes_of g.row.LEAF fan levels in
     let x = (g.D.Disk.state c.args.disk.now).now.contents in
     let limit = length c.args.held.now in
     let read = rows_read sizes x limit _ c.args.top.block c.args.top.low rs bs c.blocks-2.ensures.count tree begins in
-    rw (passed_on _ c.from_residual.ensures.1) (c.in_err-rows_under.ensures.only honest read.rows read.at read.begins read.few)
+    rw (passed_on _ c.from_residual.ensures.1) (c.in_err-load_rows.ensures.only honest read.rows read.at read.begins read.few)
 
 pub returns-in-Absent-clause-path : goal.returns-in-Absent-clause-path
-returns-in-Absent-clause-path g c honest = leads_end _ _ (length c.args.held.now) 0 c.args.top.block c.args.top.low refl c.blocks-2.ensures.count (c.in_ok-rows_under.ensures.end honest)
+returns-in-Absent-clause-path g c honest = leads_end _ _ (length c.args.held.now) 0 c.args.top.block c.args.top.low refl c.blocks-2.ensures.count (c.in_ok-load_rows.ensures.end honest)
 
 pub returns-in-Last-clause-path : goal.returns-in-Last-clause-path
-returns-in-Last-clause-path g c honest = leads_end _ _ (length c.args.held.now) 0 c.args.top.block c.args.top.low refl c.blocks-2.ensures.count (c.in_ok-rows_under.ensures.end honest)
+returns-in-Last-clause-path g c honest = leads_end _ _ (length c.args.held.now) 0 c.args.top.block c.args.top.low refl c.blocks-2.ensures.count (c.in_ok-load_rows.ensures.end honest)
 
 pub returns-in_ok-leaf-in-Out-clause-path : goal.returns-in_ok-leaf-in-Out-clause-path
-returns-in_ok-leaf-in-Out-clause-path g c honest = leads_end _ _ (length c.args.held.now) 0 c.args.top.block c.args.top.low refl c.blocks-2.ensures.count (c.in_ok-rows_under.ensures.end (c.write_bytes.ensures.writes.goes.earlier honest))
+returns-in_ok-leaf-in-Out-clause-path g c honest = leads_end _ _ (length c.args.held.now) 0 c.args.top.block c.args.top.low refl c.blocks-2.ensures.count (c.in_ok-load_rows.ensures.end (c.write_bytes.ensures.writes.goes.earlier honest))
 
 pub returns-in-Absent-clause-writes : goal.returns-in-Absent-clause-writes
-returns-in-Absent-clause-writes g c = looks_free c.in_ok-rows_under.ensures.looks (λ is. cc)
+returns-in-Absent-clause-writes g c = looks_free c.in_ok-load_rows.ensures.looks (λ is. cc)
 
 pub returns-in-Last-clause-writes : goal.returns-in-Last-clause-writes
-returns-in-Last-clause-writes g c = looks_free c.in_ok-rows_under.ensures.looks (λ is. cc)
+returns-in-Last-clause-writes g c = looks_free c.in_ok-load_rows.ensures.looks (λ is. cc)
 
 pub returns-in-NoLeaf-clause-writes : goal.returns-in-NoLeaf-clause-writes
-returns-in-NoLeaf-clause-writes g c = looks_free c.in_ok-rows_under.ensures.looks (λ is. cc)
+returns-in-NoLeaf-clause-writes g c = looks_free c.in_ok-load_rows.ensures.looks (λ is. cc)
 
 pub returns-in_ok-leaf-in-Out-clause-writes : goal.returns-in_ok-leaf-in-Out-clause-writes
-returns-in_ok-leaf-in-Out-clause-writes g c = looks_write c.in_ok-rows_under.ensures.looks c.in_ok-leaf-in-Out.ensures.writes (λ is. cc)
+returns-in_ok-leaf-in-Out-clause-writes g c = looks_write c.in_ok-load_rows.ensures.looks c.in_ok-leaf-in-Out.ensures.writes (λ is. cc)
 
 pub returns-in_err-leaf-in-Out-clause-writes : goal.returns-in_err-leaf-in-Out-clause-writes
-returns-in_err-leaf-in-Out-clause-writes g c = looks_write c.in_ok-rows_under.ensures.looks c.in_err-leaf-in-Out.ensures.writes (search rules)
+returns-in_err-leaf-in-Out-clause-writes g c = looks_write c.in_ok-load_rows.ensures.looks c.in_err-leaf-in-Out.ensures.writes (search rules)
 
-pub returns-in_err-rows_under-clause-writes : goal.returns-in_err-rows_under-clause-writes
-returns-in_err-rows_under-clause-writes g c = looks_free c.in_err-rows_under.ensures.looks (search rules)
+pub returns-in_err-load_rows-clause-writes : goal.returns-in_err-load_rows-clause-writes
+returns-in_err-load_rows-clause-writes g c = looks_free c.in_err-load_rows.ensures.looks (search rules)
 
 pub returns-in-Absent-clause-path_in : goal.returns-in-Absent-clause-path_in
 returns-in-Absent-clause-path_in g c fan levels honest rs bs tree begins rises =
@@ -120,7 +121,7 @@ returns-in-Absent-clause-path_in g c fan levels honest rs bs tree begins rises =
     let x = (g.D.Disk.state c.args.disk.now).now.contents in
     let limit = length c.args.held.now in
     let read = rows_read sizes x limit _ c.args.top.block c.args.top.low rs bs c.blocks-2.ensures.count tree begins in
-    let leaf = c.in_ok-rows_under.ensures.only honest read.rows read.at read.begins read.few in
+    let leaf = hand_rows (sym c.at_hand.ensures) (c.in_ok-load_rows.ensures.only honest read.rows read.at read.begins read.few) in
     long_within sizes x limit _ c.args.top.block c.args.top.low rs bs read (place c.args.key) c.linked.result (c.linked.ensures read.rows leaf)
 
 pub returns-in-Last-clause-path_in : goal.returns-in-Last-clause-path_in
@@ -129,7 +130,7 @@ returns-in-Last-clause-path_in g c fan levels honest rs bs tree begins rises =
     let x = (g.D.Disk.state c.args.disk.now).now.contents in
     let limit = length c.args.held.now in
     let read = rows_read sizes x limit _ c.args.top.block c.args.top.low rs bs c.blocks-2.ensures.count tree begins in
-    let leaf = c.in_ok-rows_under.ensures.only honest read.rows read.at read.begins read.few in
+    let leaf = hand_rows (sym c.at_hand.ensures) (c.in_ok-load_rows.ensures.only honest read.rows read.at read.begins read.few) in
     long_within sizes x limit _ c.args.top.block c.args.top.low rs bs read (place c.args.key) c.linked.result (c.linked.ensures read.rows leaf)
 
 pub returns-in_ok-leaf-in-Out-clause-path_in : goal.returns-in_ok-leaf-in-Out-clause-path_in
@@ -138,5 +139,5 @@ returns-in_ok-leaf-in-Out-clause-path_in g c fan levels honest rs bs tree begins
     let x = (g.D.Disk.state c.args.disk.now).now.contents in
     let limit = length c.args.held.now in
     let read = rows_read sizes x limit _ c.args.top.block c.args.top.low rs bs c.blocks-2.ensures.count tree begins in
-    let leaf = c.in_ok-rows_under.ensures.only (c.in_ok-leaf-in-Out.ensures.writes.goes.earlier honest) read.rows read.at read.begins read.few in
+    let leaf = hand_rows (sym c.at_hand.ensures) (c.in_ok-load_rows.ensures.only (c.in_ok-leaf-in-Out.ensures.writes.goes.earlier honest) read.rows read.at read.begins read.few) in
     long_within sizes x limit _ c.args.top.block c.args.top.low rs bs read (place c.args.key) c.linked.result (c.linked.ensures read.rows leaf)

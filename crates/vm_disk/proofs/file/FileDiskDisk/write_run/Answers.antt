@@ -7,13 +7,13 @@ use Rattle.vm_disk.proofs.file.FileDiskDisk.write_run.Goals as goal
 pub returns-clause-honest : goal.returns-clause-honest
 returns-clause-honest g c =
     let was = c.args.self.now in
-    disk_writes_run g.F.Positional.state _ _ _ _ was (record { file = _; blocks = _; sure = _; forgotten = was.forgotten; past = _; reads = was.reads; small = was.small; known = was.known }) _
+    disk_writes_run g.F.Positional.state _ _ _ _ was (record { room = was.room; file = _; blocks = _; sure = _; forgotten = was.forgotten; past = _; reads = was.reads; small = was.small; known = was.known }) _
     (record { is = refl; earlier = _; told = c.earlier-was.ensures; past = c.note.ensures })
     c.requires c.offset_of.ensures c.told-blocks c.write_blocks_at.ensures.honest
 
 pub returns-clause-stays : goal.returns-clause-stays
 returns-clause-stays g c =
     let was = c.args.self.now in
-    write_stays g.F.Positional.state _ _ _ (joined c.args.blocks.now) was (record { file = _; blocks = _; sure = _; forgotten = was.forgotten; past = _; reads = was.reads; small = was.small; known = was.known }) _
+    write_stays g.F.Positional.state _ _ _ (joined c.args.blocks.now) was (record { room = was.room; file = _; blocks = _; sure = _; forgotten = was.forgotten; past = _; reads = was.reads; small = was.small; known = was.known }) _
     (record { is = refl; earlier = _; told = c.earlier-was.ensures; past = c.note.ensures })
     (omega (arith, c.requires)) c.offset_of.ensures c.write_blocks_at.ensures.honest

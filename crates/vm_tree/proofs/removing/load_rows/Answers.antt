@@ -1,0 +1,12 @@
+use Rattle.std.proofs.Common.{length, sym, arith}
+use Rattle.std.specs.List.{list_any}
+use Rattle.vm_block.specs.Leaf.{is_long}
+use Rattle.vm_block.proofs.HeadLemmas.{rows_headed}
+use Rattle.vm_tree.proofs.HandLemmas.{hand_block}
+use Rattle.vm_tree.proofs.Leading.{ends_at}
+use Rattle.vm_tree.proofs.removing.load_rows.Goals as goal
+
+pub returns-in-Some-clause-end : goal.returns-in-Some-clause-end
+returns-in-Some-clause-end g c honest =
+    let found = c.in-Some.ensures.found in
+    ends_at _ c.args.blocks c.args.top.block c.args.top.low _ 16 (list_any is_long found.0) (length found.0) (omega arith) (hand_block (sym c.at_hand.ensures) (c.in_ok-load_block.ensures.found honest)) (rows_headed _ found.0 16 found.1 found.1.few)
