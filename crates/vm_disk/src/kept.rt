@@ -185,6 +185,7 @@ impl Kept {
             }
         }
     }
+
     /// Keeps so many blocks in a row no longer, from the first one on.
     pub(crate) fn forget_run(&mut self, first: u32, count: u32)
         requires { first + count < 2 ^ 32 }

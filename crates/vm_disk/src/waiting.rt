@@ -81,12 +81,13 @@ impl Waiting {
         ensures bytes { IfSome result (λ room. room.value ≡ bytes.now) }
         ensures rooms { self.new.rooms ≡ self.old.rooms }
     {
-        let mut room = match self.spare.pop() {
-            Some(room) => room,
-            None => Box::new(self.alloc, [0; 4096]).ok()?,
-        };
-        fill(&mut room, bytes);
-        Some(room)
+        match self.spare.pop() {
+            Some(mut room) => {
+                fill(&mut room, bytes);
+                Some(room)
+            }
+            None => Box::new(self.alloc, *bytes).ok(),
+        }
     }
 
     /// Gives block n these bytes, if it waits, and tells whether it does: then its last write is the
