@@ -93,6 +93,8 @@ pub fn serve<R: Read, W: Write, D: Disk>(
 {
     let mut line = Line::new(alloc);
     let mut text = Text::new();
+    // Values are found in it, and nothing is kept: one for all lines, so that none has to fill it with zeros.
+    let mut room = [0; 4096];
     let mut chunk = [0; 8192];
     let mut refused = false;
     for _ in 0..u64::MAX {
@@ -101,7 +103,9 @@ pub fn serve<R: Read, W: Write, D: Disk>(
                 if line.is_empty {
                     return Ok(refused);
                 }
-                match answer(alloc, &line, &mut text, writer, store, on_refusal) {
+                match answer(
+                    alloc, &line, &mut text, &mut room, writer, store, on_refusal,
+                ) {
                     Ok(last) => return Ok(refused | last),
                     Err(fault) => return Err(fault),
                 }
@@ -109,7 +113,7 @@ pub fn serve<R: Read, W: Write, D: Disk>(
             Ok(count) => {
                 let bytes = &chunk[..count];
                 match feed(
-                    alloc, bytes, &mut line, &mut text, writer, store, on_refusal,
+                    alloc, bytes, &mut line, &mut text, &mut room, writer, store, on_refusal,
                 ) {
                     Ok(again) => refused |= again,
                     Err(fault) => return Err(fault),
@@ -128,6 +132,7 @@ fn feed<W: Write, D: Disk>(
     bytes: &[u8],
     line: &mut Line,
     text: &mut Text,
+    room: &mut [u8; 4096],
     writer: &mut W,
     store: &mut Store<D>,
     on_refusal: OnRefusal,
@@ -144,7 +149,16 @@ fn feed<W: Write, D: Disk>(
     let mut rest = bytes;
     let mut refused = false;
     while let Some(end) = memchr(b'\n', rest) {
-        match feed_line(alloc, &rest[..end], line, text, writer, store, on_refusal) {
+        match feed_line(
+            alloc,
+            &rest[..end],
+            line,
+            text,
+            room,
+            writer,
+            store,
+            on_refusal,
+        ) {
             Ok(again) => refused |= again,
             Err(fault) => return Err(fault),
         }
@@ -161,6 +175,7 @@ fn feed_line<W: Write, D: Disk>(
     bytes: &[u8],
     line: &mut Line,
     text: &mut Text,
+    room: &mut [u8; 4096],
     writer: &mut W,
     store: &mut Store<D>,
     on_refusal: OnRefusal,
@@ -176,7 +191,7 @@ fn feed_line<W: Write, D: Disk>(
         store.old store.new writer.old writer.new }
 {
     line.extend(bytes);
-    match answer(alloc, line, text, writer, store, on_refusal) {
+    match answer(alloc, line, text, room, writer, store, on_refusal) {
         Ok(refused) => {
             line.clear();
             Ok(refused)
@@ -191,6 +206,7 @@ fn answer<W: Write, D: Disk>(
     alloc: Global,
     line: &Line,
     text: &mut Text,
+    room: &mut [u8; 4096],
     writer: &mut W,
     store: &mut Store<D>,
     on_refusal: OnRefusal,
@@ -203,7 +219,7 @@ fn answer<W: Write, D: Disk>(
         store.old store.new writer.old writer.new }
 {
     text.clear();
-    let Ok(reply) = reply_to(alloc, line, text, writer, store) else {
+    let Ok(reply) = reply_to(alloc, line, text, room, writer, store) else {
         return Err(ServeFault::Write);
     };
     let Ok(()) = send(reply, text, writer) else {
@@ -239,6 +255,7 @@ fn reply_to<W: Write, D: Disk>(
     alloc: Global,
     line: &Line,
     text: &mut Text,
+    room: &mut [u8; 4096],
     writer: &mut W,
     store: &mut Store<D>,
 ) -> Result<Reply, WriteFault>
@@ -254,7 +271,7 @@ fn reply_to<W: Write, D: Disk>(
     match line.kind {
         LineKind::Long => Ok(Reply::LongLine),
         LineKind::NoMemory => Ok(Reply::Refused(Refusal::Memory)),
-        LineKind::Kept => reply_to_words(alloc, line.text(), text, writer, store),
+        LineKind::Kept => reply_to_words(alloc, line.text(), text, room, writer, store),
     }
 }
 
@@ -263,6 +280,7 @@ fn reply_to_words<W: Write, D: Disk>(
     alloc: Global,
     line: &[u8],
     text: &mut Text,
+    room: &mut [u8; 4096],
     writer: &mut W,
     store: &mut Store<D>,
 ) -> Result<Reply, WriteFault>
@@ -278,7 +296,7 @@ fn reply_to_words<W: Write, D: Disk>(
     let Some((verb, rest)) = first_word(line) else {
         return Ok(Reply::Nothing);
     };
-    reply_to_verb(alloc, verb, rest, text, writer, store)
+    reply_to_verb(alloc, verb, rest, text, room, writer, store)
 }
 
 /// Carries out a line by its first word, of which those behind it are given. Each kind of line has a
@@ -288,6 +306,7 @@ fn reply_to_verb<W: Write, D: Disk>(
     verb: &[u8],
     rest: &[u8],
     text: &mut Text,
+    room: &mut [u8; 4096],
     writer: &mut W,
     store: &mut Store<D>,
 ) -> Result<Reply, WriteFault>
@@ -296,7 +315,7 @@ fn reply_to_verb<W: Write, D: Disk>(
         store.old store.new writer.old writer.new text.new }
 {
     match verb {
-        _ if verb == b"get".as_slice() => Ok(reply_to_get(rest, text, store)),
+        _ if verb == b"get".as_slice() => Ok(reply_to_get(rest, text, room, store)),
         _ if verb == b"put".as_slice() => Ok(reply_to_put(rest, store)),
         _ if verb == b"remove".as_slice() => Ok(reply_to_remove(rest, store)),
         _ if verb == b"new".as_slice() => Ok(reply_to_new(rest, store)),

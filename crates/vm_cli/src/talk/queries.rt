@@ -22,7 +22,12 @@ use vm_types::{Key, Name};
 /// Answers a query for the value of a record, of which the words behind the first are given. The
 /// text takes the answer, unless it is a refusal.
 #[inline(never)]
-pub(crate) fn reply_to_get<D: Disk>(rest: &[u8], text: &mut Text, store: &mut Store<D>) -> Reply
+pub(crate) fn reply_to_get<D: Disk>(
+    rest: &[u8],
+    text: &mut Text,
+    room: &mut [u8; 4096],
+    store: &mut Store<D>,
+) -> Reply
     requires { text.old ≡ [] }
     ensures room { length text.new + 1024 ≤ 65536 }
     ensures goes { GoesOn ⊥ store.old store.new }
@@ -33,13 +38,19 @@ pub(crate) fn reply_to_get<D: Disk>(rest: &[u8], text: &mut Text, store: &mut St
         store.old store.new }
 {
     match record(rest) {
-        Some((alt, key)) => get(&alt, key, text, store),
+        Some((alt, key)) => get(&alt, key, text, room, store),
         None => Reply::BadLine,
     }
 }
 
 /// Answers a query for the value of a record. The text takes the answer, unless it is a refusal.
-fn get<D: Disk>(alt: &Name, key: Key, text: &mut Text, store: &mut Store<D>) -> Reply
+fn get<D: Disk>(
+    alt: &Name,
+    key: Key,
+    text: &mut Text,
+    room: &mut [u8; 4096],
+    store: &mut Store<D>,
+) -> Reply
     requires { text.old ≡ [] }
     ensures room { length text.new + 1024 ≤ 65536 }
     ensures goes { GoesOn ⊥ store.old store.new }
@@ -48,8 +59,7 @@ fn get<D: Disk>(alt: &Name, key: Key, text: &mut Text, store: &mut Store<D>) -> 
     ensures left { has_failed store.old ≡ true → store.new ≡ store.old }
     ensures answer { AnswersWith (Request.Get alt.now key) result text.new store.old store.new }
 {
-    let mut room = [0; 4096];
-    match store.look(alt, key, &mut room) {
+    match store.look(alt, key, room) {
         Ok(found) => {
             push_found(text, found);
             Reply::Nothing
