@@ -117,14 +117,14 @@ lookup_others n k (e ∷ es) apart = by_answer (nat_eq n e.0)
     ap (lookup (nat_eq k)) (cond_yes es (e ∷ remove_entry (nat_eq n) es) y) ∙ sym (cond_no _ _ other))
     (λ z. ap (lookup (nat_eq k)) (cond_no es (e ∷ remove_entry (nat_eq n) es) z) ∙ ap (cond (nat_eq k e.0) (Some e.1)) (lookup_others n k es apart))
 
-lookup_taken : (m k : ℕ) (bytes : List ℕ) (es : Entries) → lookup (nat_eq k) (take m es) ≡ Some bytes → lookup (nat_eq k) es ≡ Some bytes
+pub lookup_taken : (m k : ℕ) (bytes : List ℕ) (es : Entries) → lookup (nat_eq k) (take m es) ≡ Some bytes → lookup (nat_eq k) es ≡ Some bytes
 lookup_taken zero k bytes es h = cc
 lookup_taken (suc m) k bytes [] h = cc
 lookup_taken (suc m) k bytes (e ∷ es) h = by_answer (nat_eq k e.0)
     (λ y. cond_yes _ _ y ∙ sym (cond_yes (Some e.1) (lookup (nat_eq k) (take m es)) y) ∙ h)
     (λ z. cond_no _ _ z ∙ lookup_taken m k bytes es (sym (cond_no (Some e.1) (lookup (nat_eq k) (take m es)) z) ∙ h))
 
-lookup_rest : (limit n k : ℕ) (bytes : List ℕ) (es : Entries) (b : Bool) → k ≢ n
+pub lookup_rest : (limit n k : ℕ) (bytes : List ℕ) (es : Entries) (b : Bool) → k ≢ n
     → lookup (nat_eq k) (if b then remove_entry (nat_eq n) es else take (limit - 1) es) ≡ Some bytes → lookup (nat_eq k) es ≡ Some bytes
 lookup_rest limit n k bytes es true apart h = sym (lookup_others n k es apart) ∙ h
 lookup_rest limit n k bytes es false apart h = lookup_taken (limit - 1) k bytes es h

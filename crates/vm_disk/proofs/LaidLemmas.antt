@@ -578,7 +578,7 @@ forgotten_under held held' lower lower' n old new was is past gone forgets =
 module _ (held : Held) (first : ℕ) (blocks : List (List ℕ)) (old new : DiskState)
     (waits : (i : ℕ) → i < length blocks → held (first + i) ≡ Some (slice_index_or blocks i [])) where
   -- where one of them stands
-  found : (k : ℕ) → in_run first (length blocks) k ≡ true → (i : ℕ) × (i < length blocks) × (first + i ≡ k)
+  pub found : (k : ℕ) → in_run first (length blocks) k ≡ true → (i : ℕ) × (i < length blocks) × (first + i ≡ k)
   found k inside =
       let parts = and_parts (nat_le first k) (nat_lt k (first + length blocks)) inside in
       let from = leb-true first k parts.0 in

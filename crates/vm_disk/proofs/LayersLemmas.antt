@@ -3,12 +3,12 @@ use Rattle.std.proofs.Common.{◌≡◌, ℕ, Bool, ap, ◌∙◌, subst, refl}
 use Rattle.vm_disk.specs.declared.layers.Layers.{Layers}
 use Rattle.vm_disk.specs.Disk.{DiskState, Medium}
 use Rattle.vm_disk.specs.Moments.{Throughout, TouchesOnly}
-use Rattle.vm_disk.specs.declared.waiting.Waiting.{Waiting}
 use Rattle.vm_disk.specs.Laid.{laid}
 use Rattle.vm_disk.specs.Waiting.{bytes_for}
 use Rattle.vm_disk.specs.Layers.{lower_of, medium_of, waiting_of, Sends}
 use Rattle.vm_disk.proofs.MomentLemmas.{and_then, weaken, at_end, started, spares_itself}
 use Rattle.vm_disk.proofs.LaidLemmas.{spares_then}
+use Rattle.vm_disk.proofs.WrittenLemmas.{same_shown}
 
 module _ {D : Type 0} {members : _} (state : D → DiskState) where
   -- nothing was written out
@@ -34,10 +34,10 @@ module _ {D : Type 0} {members : _} (state : D → DiskState) where
       }
 
   -- before that there were the same blocks over the same disk
-  pub sends_from : {mid : Layers D members} (old new : Layers D members) → Sends state mid new → lower_of mid ≡ lower_of old → waiting_of mid ≡ waiting_of old → Sends state old new
+  pub sends_from : {mid : Layers D members} (old new : Layers D members) → Sends state mid new → lower_of mid ≡ lower_of old → (waiting_of mid).rooms ≡ (waiting_of old).rooms → Sends state old new
   sends_from {mid} old new sends lower waiting =
       let shown : medium_of state mid ≡ medium_of state old =
-      ap (λ (w : Waiting). laid (bytes_for w) (state (lower_of mid)).now) waiting ∙ ap (λ (d : D). laid (bytes_for (waiting_of old)) (state d).now) lower in
+      same_shown (waiting_of old) (waiting_of mid) waiting (state (lower_of mid)).now ∙ ap (λ (d : D). laid (bytes_for (waiting_of old)) (state d).now) lower in
       let R : Medium → Type 0 = λ m. Throughout (state (lower_of mid)) (state (lower_of new)) (TouchesOnly m.dirty (state (lower_of mid)).now) in
       let S : D → Type 0 = λ d. Throughout (state d) (state (lower_of new)) (TouchesOnly (medium_of state old).dirty (state d).now) in
       record { same = sends.same ∙ shown; touches = subst S lower (subst R shown sends.touches) }

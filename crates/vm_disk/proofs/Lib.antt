@@ -12,6 +12,7 @@ pub mod KeptLemmas
 pub mod KeptRunLemmas
 pub mod CachedLemmas
 pub mod WaitingLemmas
+pub mod WrittenLemmas
 pub mod LaidLemmas
 pub mod LayersLemmas
 pub mod DelayedLemmas

@@ -1,6 +1,8 @@
 -- The blocks that a cache keeps.
 use Rattle.std.specs.Prelude.{◌≡◌, ◌≢◌, ◌⊎◌, ℕ, zero, suc, ◌+◌, ◌-◌, ◌<◌, Bool, true, if◌then◌else◌, List, [], ◌∷◌, length, map, take, nat_eq, is_some, slice_index_or, Option, Some, None}
+use Rattle.std.specs.Global.{Box}
 use Rattle.std.specs.Map.{lookup, remove_entry}
+use Rattle.lru.specs.LruCache.{LruCache}
 use Rattle.vm_disk.specs.declared.kept.Kept.{Kept}
 use Rattle.vm_disk.specs.Disk.{Contents, block}
 use Rattle.vm_disk.specs.Past.{noted}
@@ -8,6 +10,10 @@ use Rattle.vm_disk.specs.Past.{noted}
 -- blocks by number, each with its bytes, the one that was used last first
 abbrev pub Entries : Type 0
 Entries = List (ℕ × List ℕ)
+
+-- those for which there are these rooms
+abbrev pub rooms_in : LruCache ℕ (Box (List ℕ)) → Entries
+rooms_in rooms = map (λ entry. (entry.0, entry.1.value)) rooms.entries
 
 -- block n is among them
 abbrev pub keeps : ℕ → Entries → Bool
@@ -33,7 +39,7 @@ first_or bytes (entry ∷ entries) = entry.1
 
 -- the kept blocks
 abbrev pub entries_of : Kept → Entries
-entries_of kept = map (λ entry. (entry.0, entry.1.value)) kept.rooms.entries
+entries_of kept = rooms_in kept.rooms
 
 -- how many blocks may be kept
 abbrev pub limit_of : Kept → ℕ

@@ -1,21 +1,25 @@
 -- What a disk with blocks that wait over it shows.
 use Rattle.std.specs.Prelude.{◌≡◌, ◌<◌, ℕ, true, false, List, [], ◌∷◌, Option, Some, None}
+use Rattle.vm_disk.specs.declared.layers.Hand.{Hand}
+use Rattle.vm_disk.specs.declared.layers.Hand.TheVariants.{Waits, Kept, Below}
 use Rattle.vm_disk.specs.declared.layers.Layers.{Layers}
 use Rattle.vm_disk.specs.Disk.{Medium, DiskState, moment}
 use Rattle.vm_disk.specs.Moments.{Throughout, TouchesOnly}
 use Rattle.vm_disk.specs.Laid.{laid, TouchesDirty, Rest}
 use Rattle.vm_disk.specs.declared.waiting.Waiting.{Waiting}
-use Rattle.vm_disk.specs.Waiting.{bytes_for, count_of, waits}
+use Rattle.vm_disk.specs.Kept.{first_in, rooms_in}
+use Rattle.vm_disk.specs.Waiting.{bytes_for, written_for, count_of, waits}
 
 -- those bytes, or else these
 abbrev pub some_or : Option (List ℕ) → List ℕ → List ℕ
 some_or None bytes = bytes
 some_or (Some other) bytes = other
 
--- the bytes that wait for this block, if it is one that waits, or else those
-abbrev pub waiting_or : Waiting → Option ℕ → List ℕ → List ℕ
-waiting_or waiting None bytes = bytes
-waiting_or waiting (Some n) bytes = some_or (bytes_for waiting n) bytes
+-- the bytes at hand, where those are at hand below
+abbrev pub at_hand : Hand → Waiting → List ℕ → List ℕ
+at_hand Waits waiting below = some_or (first_in (rooms_in waiting.rooms)) below
+at_hand (Kept n) waiting below = some_or (written_for waiting n) below
+at_hand Below waiting below = below
 
 module _ {D : Type 0} {members : _} where
   -- the disk below
@@ -32,7 +36,7 @@ module _ {D : Type 0} {members : _} where
 
   -- the bytes at hand
   abbrev pub layers_hand : (D → List ℕ) → Layers D members → List ℕ
-  layers_hand hand layers = waiting_or (waiting_of layers) layers.at (hand (lower_of layers))
+  layers_hand hand layers = at_hand layers.at (waiting_of layers) (hand (lower_of layers))
 
   -- what is known of them, but for their past and the reads
   abbrev pub layers_state : (D → DiskState) → Layers D members → DiskState

@@ -1,11 +1,29 @@
--- The blocks that wait to be written.
-use Rattle.std.specs.Prelude.{◌≡◌, ◌+◌, ◌<◌, ◌&&◌, ℕ, Bool, if◌then◌else◌, List, [], length, map, nat_eq, nat_le, nat_lt, is_some, slice_index_or, Option, Some, None}
+-- The blocks that wait to be written, and those that were.
+use Rattle.std.specs.Prelude.{◌≡◌, ◌⊎◌, ◌+◌, ◌<◌, ◌&&◌, ℕ, Bool, true, false, if◌then◌else◌, List, [], length, nat_eq, nat_le, nat_lt, is_some, slice_index_or, Option, Some, None}
 use Rattle.std.specs.Map.{lookup, update}
+use Rattle.vm_disk.specs.Kept.{Entries, rooms_in}
 use Rattle.vm_disk.specs.declared.waiting.Waiting.{Waiting}
 
 -- the bytes that wait for block n, if it waits
 abbrev pub bytes_for : Waiting → ℕ → Option (List ℕ)
-bytes_for waiting n = lookup (nat_eq n) (map (λ entry. (entry.0, entry.1.value)) waiting.rooms.entries)
+bytes_for waiting n = lookup (nat_eq n) (rooms_in waiting.rooms)
+
+-- the written blocks that are kept
+abbrev pub written_in : Waiting → Entries
+written_in waiting = rooms_in waiting.written
+
+-- the bytes with which block n was written, if it is one of them
+abbrev pub written_for : Waiting → ℕ → Option (List ℕ)
+written_for waiting n = lookup (nat_eq n) (written_in waiting)
+
+-- these bytes, or else those
+abbrev pub first_of : Option (List ℕ) → Option (List ℕ) → Option (List ℕ)
+first_of None other = other
+first_of (Some bytes) other = Some bytes
+
+-- the bytes that wait for block n, or else those with which it was written
+abbrev pub known_for : Waiting → ℕ → Option (List ℕ)
+known_for waiting n = first_of (bytes_for waiting n) (written_for waiting n)
 
 -- block n waits
 abbrev pub waits : Waiting → ℕ → Bool
@@ -30,3 +48,21 @@ IsRun first run waiting = (i : ℕ) → i < length run → bytes_for waiting (fi
 -- how many may wait
 abbrev pub limit_of : Waiting → ℕ
 limit_of waiting = waiting.rooms.cap
+
+-- each written block that is kept was kept before, with the same bytes
+abbrev pub KeepsNoMore : Waiting → Waiting → Type 0
+KeepsNoMore old new = (k : ℕ) (bytes : List ℕ) → written_for new k ≡ Some bytes → written_for old k ≡ Some bytes
+
+-- and block n is not kept
+abbrev pub Drops : ℕ → Waiting → Waiting → Type 0
+Drops n old new = (k : ℕ) (bytes : List ℕ) → written_for new k ≡ Some bytes → (nat_eq n k ≡ false) × (written_for old k ≡ Some bytes)
+
+-- each written block that is kept is block n, with these bytes, or another one that was kept before
+abbrev pub Gains : ℕ → List ℕ → Waiting → Waiting → Type 0
+Gains n bytes old new =
+    (k : ℕ) (kept : List ℕ) → written_for new k ≡ Some kept → ((nat_eq n k ≡ true) × (kept ≡ bytes)) ⊎ ((nat_eq n k ≡ false) × (written_for old k ≡ Some kept))
+
+-- it is one that was settled, with the bytes that waited for it, or another one that was kept before
+abbrev pub Settles : (ℕ → Bool) → Waiting → Waiting → Type 0
+Settles settled old new =
+    (k : ℕ) (bytes : List ℕ) → written_for new k ≡ Some bytes → ((settled k ≡ true) × (bytes_for old k ≡ Some bytes)) ⊎ ((settled k ≡ false) × (written_for old k ≡ Some bytes))

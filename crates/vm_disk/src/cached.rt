@@ -8,7 +8,8 @@ ghost use Rattle.vm_disk.specs.Kept.{AreOf, entries_of};
 
 use crate::disk::{DeviceFault, Disk};
 use crate::history::History;
-use crate::kept::{Kept, Room};
+use crate::kept::Kept;
+use crate::rooms::Room;
 use std::alloc::Global;
 use std::num::NonZeroUsize;
 

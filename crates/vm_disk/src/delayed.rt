@@ -13,8 +13,9 @@ use std::num::NonZeroUsize;
 use std::snapshot::Snapshot;
 
 /// Has written blocks wait, and writes them to the disk below at a sync, or where too many would wait:
-/// then the one goes out whose last write is the longest ago, with those that wait right before and
-/// behind it. A read looks among those that wait first.
+/// then the one goes out that was written, or got to hand, the longest ago, with those that wait right
+/// before and behind it. A read looks among those that wait first, and then among those that were
+/// written, which stay until their room is needed.
 ///
 /// Memory for a block is taken where one more waits than ever before. Where it is refused, the block
 /// is written at once, and the call is served. A fault of the disk below is answered by the call in

@@ -6,13 +6,11 @@ ghost use Rattle.std.specs.Option.{option_copied};
 ghost use Rattle.std.specs.NonZero.{non_zero_usize_get};
 
 use crate::history::History;
+use crate::rooms::{Room, fill, newest};
 use lru::LruCache;
 use std::alloc::{AllocError, Global};
 use std::mem;
 use std::num::NonZeroUsize;
-
-/// Room for the bytes of one block.
-pub(crate) type Room = Box<[u8; 4096]>;
 
 /// Blocks with their bytes, in the order of their last use. Where one more would be too many, the
 /// one that was used longest ago goes, and the next block that is new takes its room.
@@ -22,12 +20,6 @@ pub(crate) struct Kept {
     rooms: LruCache<u32, Room>,
     spare: Option<Room>,
     refused: History<()>,
-}
-
-fn fill(room: &mut Room, bytes: &[u8; 4096])
-    ensures { room.new.value ≡ bytes.now }
-{
-    **room = *bytes;
 }
 
 impl Kept {
@@ -63,8 +55,7 @@ impl Kept {
     pub(crate) fn first(&self) -> Option<&[u8; 4096]>
         ensures { option_copied result ≡ first_in (entries_of self.now) }
     {
-        let (_, room) = self.rooms.peek_mru()?;
-        Some(room)
+        newest(&self.rooms)
     }
 
     /// Room for a block that is new. In a full cache it is the spare one.

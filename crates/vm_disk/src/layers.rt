@@ -1,24 +1,36 @@
-//! A disk with blocks over it that wait to be written.
+//! A disk with blocks over it that wait to be written, or were.
 ghost use Rattle.std.specs.Prelude.{◌≡◌, ◌<◌, ◌≤◌, ℕ, true, false, None, IfOk, IfErr, OnOk, OnErr, IsOk};
 ghost use Rattle.vm_disk.specs.Between.{Between};
 ghost use Rattle.vm_disk.specs.Disk.{Counts, Reads, Writes, Idles, Forgets, Syncs, Extends, Enlarges};
 ghost use Rattle.std.specs.NonZero.{non_zero_usize_get};
-ghost use Rattle.vm_disk.specs.Waiting.{bytes_for, waits, count_of, limit_of};
+ghost use Rattle.vm_disk.specs.Kept.{AreOf};
+ghost use Rattle.vm_disk.specs.Waiting.{bytes_for, waits, written_in, count_of, limit_of};
 
 use crate::disk::{DeviceFault, Disk};
 use crate::waiting::Waiting;
 use std::alloc::Global;
 use std::num::NonZeroUsize;
 
-/// A disk, and blocks that wait to be written to it. Those in a row are copied, and written then. The
-/// block at hand is one of those that wait, or else the one at hand below.
+/// Where the block at hand is: the one used last of those that wait, a written one that is kept, or the
+/// one at hand below.
+#[derive(Clone, Copy)]
+enum Hand {
+    Waits,
+    Kept(u32),
+    Below,
+}
+
+/// A disk, and blocks that wait to be written to it. Those in a row are copied, and written then. Of the
+/// blocks that were written, the disk below holds what is kept.
 #[derive(Drop)]
 pub(crate) struct Layers<D: Disk> {
     pub(crate) inner: D,
     waiting: Waiting,
-    at: Option<u32>,
+    at: Hand,
     run: Vec<[u8; 4096]>,
     ghost inside: { (n : ℕ) → waits waiting n ≡ true → n < (D.state inner).blocks },
+    ghost right: { (D.state inner).honest ≡ true
+        → AreOf (D.state inner).now.contents (written_in waiting) },
 }
 
 impl<D: Disk> Layers<D> {
@@ -36,7 +48,7 @@ impl<D: Disk> Layers<D> {
             Ok(waiting) => Ok(Layers {
                 inner,
                 waiting,
-                at: None,
+                at: Hand::Below,
                 run: Vec::new(alloc),
             }),
             Err(_) => Err(inner),
@@ -50,11 +62,19 @@ impl<D: Disk> Layers<D> {
         ensures fewer { OnOk result (FewerWait n self.old self.new) }
         ensures no_more { WaitNoMore self.old self.new }
     {
-        if let Some(bytes) = self.waiting.bytes(n) {
-            self.inner.write(n, bytes)?;
-            self.waiting.forget(n);
+        let Some(bytes) = self.waiting.bytes(n) else {
+            return Ok(());
+        };
+        match self.inner.write(n, bytes) {
+            Ok(()) => {
+                self.waiting.settle(n);
+                Ok(())
+            }
+            Err(fault) => {
+                self.waiting.forget_all_written();
+                Err(fault)
+            }
         }
-        Ok(())
     }
 
     /// Writes block n out, if it waits, together with those that wait around it. One that waits alone is
@@ -73,10 +93,17 @@ impl<D: Disk> Layers<D> {
         if self.run.is_empty() {
             return self.send_alone(n);
         }
-        self.inner.write_run(first, &self.run)?;
-        let end = first + self.run.len() as u32;
-        self.waiting.forget_run(first, end);
-        Ok(())
+        match self.inner.write_run(first, &self.run) {
+            Ok(()) => {
+                let end = first + self.run.len() as u32;
+                self.waiting.settle_run(first, end);
+                Ok(())
+            }
+            Err(fault) => {
+                self.waiting.forget_all_written();
+                Err(fault)
+            }
+        }
     }
 
     /// Writes the block out whose last write is the longest ago, with its neighbours, unless one
@@ -107,7 +134,7 @@ impl<D: Disk> Layers<D> {
         Ok(())
     }
 
-    /// Reads block n, from those that wait, or else from the disk below.
+    /// Reads block n, from those that wait or are kept, or else from the disk below.
     pub(crate) fn read(&mut self, n: u32, into: &mut [u8; 4096]) -> Result<(), DeviceFault>
         requires { n < (layers_state D.state self.old).blocks }
         ensures any { Between (layers_state D.state) (Counts 0 result) self.old self.new }
@@ -115,7 +142,7 @@ impl<D: Disk> Layers<D> {
         ensures below { (D.state (lower_of self.new)).honest ≡ true
             → IsApart D.state self.old self.new }
     {
-        match self.waiting.bytes(n) {
+        match self.waiting.known(n) {
             Some(bytes) => {
                 *into = *bytes;
                 Ok(())
@@ -124,7 +151,7 @@ impl<D: Disk> Layers<D> {
         }
     }
 
-    /// Gets block n to hand, from those that wait, or else from the disk below.
+    /// Gets block n to hand, from those that wait or are kept, or else from the disk below.
     pub(crate) fn load(&mut self, n: u32) -> Result<(), DeviceFault>
         requires { n < (layers_state D.state self.old).blocks }
         ensures any { Between (layers_state D.state) (Counts 0 result) self.old self.new }
@@ -133,13 +160,17 @@ impl<D: Disk> Layers<D> {
         ensures below { (D.state (lower_of self.new)).honest ≡ true
             → IsApart D.state self.old self.new }
     {
-        match self.waiting.bytes(n) {
+        if self.waiting.use_waiting(n) {
+            self.at = Hand::Waits;
+            return Ok(());
+        }
+        match self.waiting.written_bytes(n) {
             Some(_) => {
-                self.at = Some(n);
+                self.at = Hand::Kept(n);
                 Ok(())
             }
             None => {
-                self.at = None;
+                self.at = Hand::Below;
                 self.inner.load(n)
             }
         }
@@ -149,16 +180,20 @@ impl<D: Disk> Layers<D> {
     pub(crate) fn at_hand(&self) -> &[u8; 4096]
         ensures { result.now ≡ layers_hand D.hand self.now }
     {
-        if let Some(n) = self.at {
-            if let Some(bytes) = self.waiting.bytes(n) {
-                return bytes;
-            }
+        let used_last = match self.at {
+            Hand::Waits => self.waiting.newest_waiting(),
+            Hand::Kept(n) => self.waiting.written_bytes(n),
+            Hand::Below => None,
+        };
+        match used_last {
+            Some(bytes) => bytes,
+            None => self.inner.at_hand(),
         }
-        self.inner.at_hand()
     }
 
     /// Has block n wait with these bytes, in its place where it waits already. Where too many would wait,
-    /// the oldest is written out for it, and where memory is refused, it is itself.
+    /// the one not used for the longest time is written out for it, and where memory is refused, it is
+    /// itself.
     pub(crate) fn write(&mut self, n: u32, from: &[u8; 4096]) -> Result<(), DeviceFault>
         requires { n < (layers_state D.state self.old).blocks }
         ensures any { Between (layers_state D.state) (Counts 0 result) self.old self.new }
@@ -166,10 +201,14 @@ impl<D: Disk> Layers<D> {
         ensures below { (D.state (lower_of self.new)).honest ≡ true
             → IsApart D.state self.old self.new }
     {
+        if self.waiting.put(n, from) {
+            return Ok(());
+        }
         if self.waiting.change(n, from) {
             return Ok(());
         }
         if let Err(fault) = self.make_place() {
+            self.waiting.forget_all_written();
             // So that this block is dirty, too.
             let _ = self.inner.write(n, from);
             return Err(fault);
@@ -177,10 +216,11 @@ impl<D: Disk> Layers<D> {
         if self.waiting.put(n, from) {
             return Ok(());
         }
+        self.waiting.forget_all_written();
         self.inner.write(n, from)
     }
 
-    /// Has block n wait no longer, and forgets it below.
+    /// Has block n wait no longer, nor be kept, and forgets it below.
     pub(crate) fn forget(&mut self, n: u32)
         requires { n < (layers_state D.state self.old).blocks }
         ensures any { Between (layers_state D.state) Idles self.old self.new }

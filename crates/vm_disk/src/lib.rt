@@ -3,7 +3,7 @@
 //! over a file, one that fails where a test asks it to, one that keeps the blocks of another which
 //! were used last, and one that writes the blocks of another late.
 //!
-//! It stands on std, and on `lru` for the order of the blocks that are kept or wait. Its one
+//! It stands on std, and on `lru` for the order of the blocks that are kept, wait or were written. Its one
 //! promise: what an honest disk holds at each moment is known to contracts, and with it everything
 //! that a crash at that moment may leave.
 #![tactic(auto)]
@@ -18,6 +18,7 @@ mod kept;
 mod layers;
 mod memory;
 mod positional;
+mod rooms;
 mod system;
 mod waiting;
 

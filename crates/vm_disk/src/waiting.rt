@@ -1,10 +1,12 @@
-//! The blocks that wait to be written.
-ghost use Rattle.std.specs.Prelude.{◌≡◌, ◌+◌, ◌<◌, ◌≤◌, ◌||◌, ◌&&◌, ℕ, None, Some, true, false, if◌then◌else◌, [], length, slice_index_or, nat_lt, nat_le, nat_eq, IfOk, IfSome, IfNone};
+//! The blocks that wait to be written, and those that were, as long as their room is not needed.
+ghost use Rattle.std.specs.Prelude.{◌≡◌, ◌+◌, ◌<◌, ◌≤◌, ◌||◌, ◌&&◌, ℕ, None, Some, true, false, if◌then◌else◌, [], length, slice_index_or, nat_lt, nat_le, nat_eq, is_some, option_map, IfOk, IfSome, IfNone};
 ghost use Rattle.std.specs.Bool.{OnTrue, OnFalse};
 ghost use Rattle.std.specs.Map.{update};
 ghost use Rattle.std.specs.NonZero.{non_zero_usize_get};
 ghost use Rattle.std.specs.Option.{option_copied};
+ghost use Rattle.vm_disk.specs.Kept.{first_in, rooms_in};
 
+use crate::rooms::{Room, fill, find, newest, promote};
 use lru::LruCache;
 use std::alloc::{AllocError, Global};
 use std::num::NonZeroUsize;
@@ -12,35 +14,30 @@ use std::num::NonZeroUsize;
 /// How many blocks in a row are written with one call at most.
 const AT_ONCE: u32 = 64;
 
-/// Room for the bytes of one block.
-type Room = Box<[u8; 4096]>;
-
-/// Blocks with their bytes, in the order of their last write. Memory for a block is taken where one
-/// more waits than ever before. The room of one that waits no longer is used again.
+/// Blocks with their bytes, in the order in which they were written or got to hand last. Memory for a
+/// block is taken where one more waits than ever before. The room of one that waits no longer is used
+/// again: where nothing is spare, that of the block which was written out first.
 #[derive(Drop)]
 pub(crate) struct Waiting {
     alloc: Global,
     rooms: LruCache<u32, Room>,
+    written: LruCache<u32, Room>,
     spare: Vec<Room>,
 }
 
-fn fill(room: &mut Room, bytes: &[u8; 4096])
-    ensures { room.new.value ≡ bytes.now }
-{
-    **room = *bytes;
-}
-
 impl Waiting {
-    ghost use Rattle.vm_disk.specs.Waiting.{bytes_for, waits, count_of, limit_of, ChangesOne, IsRun, LosesRun};
+    ghost use Rattle.vm_disk.specs.Waiting.{bytes_for, known_for, waits, written_for, written_in, count_of, limit_of, ChangesOne, Drops, Gains, IsRun, KeepsNoMore, LosesRun, Settles};
 
     /// No blocks yet. Takes memory for the order of so many.
     pub(crate) fn new(alloc: Global, capacity: NonZeroUsize) -> Result<Waiting, AllocError>
         ensures empty { IfOk result (λ waiting. (n : ℕ) → bytes_for waiting n ≡ None) }
         ensures limit { IfOk result (λ waiting. limit_of waiting ≡ non_zero_usize_get capacity) }
+        ensures none { IfOk result (λ waiting. written_in waiting ≡ []) }
     {
         Ok(Waiting {
             alloc,
             rooms: LruCache::new(alloc, capacity)?,
+            written: LruCache::sparse(alloc, capacity)?,
             spare: Vec::new(alloc),
         })
     }
@@ -49,16 +46,44 @@ impl Waiting {
     pub(crate) fn bytes(&self, n: u32) -> Option<&[u8; 4096]>
         ensures { option_copied result ≡ bytes_for self.now n }
     {
-        if self.rooms.is_empty() {
-            return None;
-        }
-        match self.rooms.peek(&n) {
-            Some(room) => Some(&**room),
-            None => None,
+        find(&self.rooms, n)
+    }
+
+    /// The bytes with which block n was written, if it is kept.
+    pub(crate) fn written_bytes(&self, n: u32) -> Option<&[u8; 4096]>
+        ensures { option_copied result ≡ written_for self.now n }
+    {
+        find(&self.written, n)
+    }
+
+    /// The bytes that wait for block n, or else those with which it was written.
+    pub(crate) fn known(&self, n: u32) -> Option<&[u8; 4096]>
+        ensures { option_copied result ≡ known_for self.now n }
+    {
+        match self.bytes(n) {
+            Some(bytes) => Some(bytes),
+            None => self.written_bytes(n),
         }
     }
 
-    /// The block whose last write is the longest ago.
+    /// Makes block n the one used last of those that wait, and tells whether it does.
+    pub(crate) fn use_waiting(&mut self, n: u32) -> bool
+        ensures answer { result ≡ waits self.old n }
+        ensures first { OnTrue result (first_in (rooms_in self.new.rooms) ≡ bytes_for self.old n) }
+        ensures same { (k : ℕ) → bytes_for self.new k ≡ bytes_for self.old k }
+        ensures written { self.new.written ≡ self.old.written }
+    {
+        promote(&mut self.rooms, n)
+    }
+
+    /// The bytes of the one used last of those that wait.
+    pub(crate) fn newest_waiting(&self) -> Option<&[u8; 4096]>
+        ensures { option_copied result ≡ first_in (rooms_in self.now.rooms) }
+    {
+        newest(&self.rooms)
+    }
+
+    /// The block that was not used for the longest time.
     pub(crate) fn oldest(&self) -> Option<u32>
         ensures some { IfSome result (λ n. waits self.now n ≡ true) }
         ensures none { IfNone result ((n : ℕ) → waits self.now n ≡ false) }
@@ -80,9 +105,14 @@ impl Waiting {
     fn room(&mut self, bytes: &[u8; 4096]) -> Option<Room>
         ensures bytes { IfSome result (λ room. room.value ≡ bytes.now) }
         ensures rooms { self.new.rooms ≡ self.old.rooms }
+        ensures no_more { KeepsNoMore self.old self.new }
     {
-        match self.spare.pop() {
-            Some(mut room) => {
+        if let Some(mut room) = self.spare.pop() {
+            fill(&mut room, bytes);
+            return Some(room);
+        }
+        match self.written.pop_lru() {
+            Some((_, mut room)) => {
                 fill(&mut room, bytes);
                 Some(room)
             }
@@ -96,6 +126,7 @@ impl Waiting {
         ensures answer { result ≡ waits self.old n }
         ensures changed { OnTrue result (ChangesOne n (Some bytes.now) self.old self.new) }
         ensures missed { OnFalse result (self.new ≡ self.old) }
+        ensures written { written_in self.new ≡ written_in self.old }
     {
         match self.rooms.get_mut(&n) {
             Some(room) => {
@@ -110,7 +141,8 @@ impl Waiting {
     /// memory for it is refused.
     pub(crate) fn put(&mut self, n: u32, bytes: &[u8; 4096]) -> bool
         ensures placed { OnTrue result (ChangesOne n (Some bytes.now) self.old self.new) }
-        ensures refused { OnFalse result ((k : ℕ) → bytes_for self.new k ≡ bytes_for self.old k) }
+        ensures refused { OnFalse result (self.new.rooms ≡ self.old.rooms) }
+        ensures no_more { KeepsNoMore self.old self.new }
     {
         if !self.has_place() {
             return false;
@@ -119,7 +151,11 @@ impl Waiting {
             return false;
         };
         match self.rooms.push(n, room) {
-            Ok(_) => true,
+            Ok(Some((_, room))) => {
+                let _ = self.spare.push(room);
+                true
+            }
+            Ok(None) => true,
             Err(failed) => {
                 let _ = self.spare.push(failed.value.1);
                 false
@@ -127,29 +163,93 @@ impl Waiting {
         }
     }
 
-    /// Has block n wait no longer.
-    pub(crate) fn forget(&mut self, n: u32)
+    /// The room of block n, which waits no longer, if it did.
+    fn take(&mut self, n: u32) -> Option<Room>
+        ensures bytes { option_map (λ room. room.value) result ≡ bytes_for self.old n }
         ensures gone { ChangesOne n None self.old self.new }
         ensures fewer { waits self.old n ≡ true → count_of self.new < count_of self.old }
         ensures most { count_of self.new ≤ count_of self.old }
+        ensures written { self.new.written ≡ self.old.written }
     {
-        if self.rooms.len() > 0 {
-            if let Some(room) = self.rooms.pop(&n) {
+        if self.rooms.len() == 0 {
+            return None;
+        }
+        self.rooms.pop(&n)
+    }
+
+    /// Has block n wait no longer, nor be kept as a written one.
+    pub(crate) fn forget(&mut self, n: u32)
+        ensures gone { ChangesOne n None self.old self.new }
+        ensures drops { Drops n self.old self.new }
+    {
+        self.forget_written(n);
+        if let Some(room) = self.take(n) {
+            let _ = self.spare.push(room);
+        }
+    }
+
+    /// Keeps block n as a written one no longer.
+    fn forget_written(&mut self, n: u32)
+        ensures rooms { self.new.rooms ≡ self.old.rooms }
+        ensures drops { Drops n self.old self.new }
+    {
+        if self.written.len() > 0 {
+            if let Some(room) = self.written.pop(&n) {
                 let _ = self.spare.push(room);
             }
         }
     }
 
-    /// Has the blocks of a row wait no longer, from the first one up to the one before the end.
-    pub(crate) fn forget_run(&mut self, first: u32, end: u32)
+    /// Keeps no written block any longer.
+    pub(crate) fn forget_all_written(&mut self)
+        ensures rooms { self.new.rooms ≡ self.old.rooms }
+        ensures none { written_in self.new ≡ [] }
+    {
+        self.written.clear()
+    }
+
+    /// Keeps block n with this room, which has its bytes, as the one written last, if there is memory
+    /// for its place.
+    fn keep_written(&mut self, n: u32, room: Room)
+        ensures rooms { self.new.rooms ≡ self.old.rooms }
+        ensures gains { Gains n room.value self.old self.new }
+    {
+        self.forget_written(n);
+        match self.written.push(n, room) {
+            Ok(Some((_, room))) => {
+                let _ = self.spare.push(room);
+            }
+            Ok(None) => {}
+            Err(failed) => {
+                let _ = self.spare.push(failed.value.1);
+            }
+        }
+    }
+
+    /// Has block n, which was written as it waits, wait no longer, and keeps it as a written one.
+    pub(crate) fn settle(&mut self, n: u32)
+        ensures gone { ChangesOne n None self.old self.new }
+        ensures fewer { waits self.old n ≡ true → count_of self.new < count_of self.old }
+        ensures most { count_of self.new ≤ count_of self.old }
+        ensures settles { Settles (nat_eq n) self.old self.new }
+    {
+        match self.take(n) {
+            Some(room) => self.keep_written(n, room),
+            None => self.forget_written(n),
+        }
+    }
+
+    /// Settles the blocks of a row, from the first one up to the one before the end.
+    pub(crate) fn settle_run(&mut self, first: u32, end: u32)
         requires { first ≤ end }
         ensures gone { LosesRun first end self.old self.new }
         ensures fewer { first < end
             → waits self.old first ≡ true
             → count_of self.new < count_of self.old }
+        ensures settles { Settles (λ k. nat_le first k && nat_lt k end) self.old self.new }
     {
         for n in first..end {
-            self.forget(n);
+            self.settle(n);
         }
     }
 

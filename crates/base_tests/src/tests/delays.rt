@@ -73,7 +73,7 @@ fn a_sync_writes_all_and_then_syncs(rt: HostRuntime) -> Result<(), Fail> {
 #[test]
 fn what_waits_outlives_a_write_that_fails_below(rt: HostRuntime) -> Result<(), Fail> {
     // The write of block 0 or 1, which go out to make room for block 2, that of block 2 at the sync,
-    // or the sync fails once. Calls 2 and 3 are the reads of the blocks that wait no longer.
+    // or the sync fails once. Call 2 is the read of block 0, whose room block 2 took.
     let in_a_write = "
         fill 0 1
         fill 1 2
@@ -94,8 +94,8 @@ fn what_waits_outlives_a_write_that_fails_below(rt: HostRuntime) -> Result<(), F
     for (fails, row) in [
         (0, in_a_write),
         (1, in_a_write),
+        (3, in_the_sync),
         (4, in_the_sync),
-        (5, in_the_sync),
     ] {
         let fuse = FuseDisk::once(memory(rt.alloc(), 4)?, fails, [99; 4096]);
         on_a_late_disk(&rt, fuse, 2, row, below);
@@ -191,21 +191,78 @@ fn a_forgotten_block_takes_no_place_in_a_cache_below(rt: HostRuntime) -> Result<
 }
 
 #[test]
-fn what_was_written_out_stays_in_a_cache_below(rt: HostRuntime) -> Result<(), Fail> {
+fn what_was_written_out_stays_while_its_room_is_not_needed(rt: HostRuntime) -> Result<(), Fail> {
     let fuse = FuseDisk::once(memory(rt.alloc(), 8)?, 99, [0; 4096]);
     let row = "
-        fill 2 3
         fill 3 4
+        fill 2 3
         fill 2 5
         calls -> 0
-        # Both go out in a row, and stay.
+        # Both go out in a row.
         sync
         calls -> 3
         holds 2 3 -> 5 4
-        calls -> 3";
+        hand 3 2 -> 4 5
+        calls -> 3
+        # Block 2 was written out first, and its room is taken.
+        fill 5 6
+        holds 3 5 -> 4 6
+        calls -> 3
+        holds 2 -> 5
+        calls -> 4
+        # Block 3 goes out once more, with its new bytes.
+        fill 3 7
+        holds 3 -> 7
+        calls -> 4
+        sync
+        calls -> 7
+        holds 3 5 -> 7 6
+        calls -> 7";
     let below = "
-        dirty 2 3 -> no no
-        holds 2 3 -> 5 4";
-    on_a_late_disk(&rt, cached(rt.alloc(), fuse, 2)?, 2, row, below);
+        dirty 2 3 5 -> no no no
+        holds 2 3 5 -> 5 7 6";
+    on_a_late_disk(&rt, fuse, 2, row, below);
+    Ok(())
+}
+
+#[test]
+fn a_forgotten_block_is_not_kept_after_it_was_written(rt: HostRuntime) -> Result<(), Fail> {
+    let fuse = FuseDisk::once(memory(rt.alloc(), 8)?, 99, [0; 4096]);
+    let row = "
+        fill 2 3
+        sync
+        calls -> 2
+        holds 2 -> 3
+        calls -> 2
+        forget 2
+        is 2 3 -> no
+        calls -> 3";
+    on_a_late_disk(&rt, fuse, 2, row, "");
+    Ok(())
+}
+
+#[test]
+fn nothing_is_kept_over_a_write_that_fails_below(rt: HostRuntime) -> Result<(), Fail> {
+    // The second write of block 5 fails: what the disk below holds then is asked anew.
+    let fuse = FuseDisk::once(memory(rt.alloc(), 8)?, 3, [99; 4096]);
+    let row = "
+        fill 2 3
+        fill 5 4
+        sync
+        calls -> 3
+        holds 2 5 -> 3 4
+        fill 5 6
+        calls -> 3
+        sync -> fault
+        calls -> 4
+        holds 5 2 -> 6 3
+        calls -> 5
+        sync
+        holds 5 2 -> 6 3
+        calls -> 8";
+    let below = "
+        dirty 2 5 -> no no
+        holds 2 5 -> 3 6";
+    on_a_late_disk(&rt, fuse, 2, row, below);
     Ok(())
 }
