@@ -11,10 +11,7 @@ use crate::alternative::{self, Alternative};
 use crate::steps::{self, Reply};
 use std::alloc::{AllocError, Global};
 use std::marker::Model;
-use vm_types::{Answer, Change, Command, Conflict, Key, Name, Refusal, Value};
-
-/// The greatest number of blocks of a store.
-const MAX_BLOCKS: u32 = 1_048_576;
+use vm_types::{Answer, Change, Command, Conflict, Key, MAX_BLOCKS, Name, Refusal, Value};
 
 /// A store as the definitions have it: slow, and obvious.
 #[derive(Drop)]

@@ -10,13 +10,10 @@ ghost use Rattle.plain_model.specs.Plain.{IsUnder, parent_refusal};
 use crate::alternative::Alternative;
 use crate::settling;
 use std::alloc::{AllocError, Global};
-use vm_types::{Answer, Key, Name, Refusal, Side, Value};
+use vm_types::{Answer, Key, MAX_VERSIONS, Name, Refusal, Side, Value};
 
 /// What a command is answered.
 pub type Reply = Result<Answer, Refusal>;
-
-/// The greatest number of alternatives and checkpoints together.
-const MAX_ENTRIES: usize = 511;
 
 /// Where the alternative of this name stands.
 pub(super) fn position_of(tree: &[Alternative], name: &Name) -> Option<usize>
@@ -64,7 +61,7 @@ fn has_children(tree: &[Alternative], name: &Name) -> bool
 fn is_full(tree: &[Alternative]) -> bool
     ensures { result ≡ is_full tree.now }
 {
-    let mut left = MAX_ENTRIES;
+    let mut left = MAX_VERSIONS;
     for alternative in tree {
         let saved = alternative.saved_count();
         if left <= 1 || left - 1 <= saved {

@@ -5,6 +5,7 @@ use crate::flags::Flags;
 use crate::held::Held;
 use std::alloc::{AllocError, Global};
 use std::marker::Model;
+use vm_types::MAX_BLOCKS;
 
 /// The blocks that were held at one time, but for those that were let go since.
 #[derive(Drop)]
@@ -23,7 +24,7 @@ impl Model for Baseline {
 impl Baseline {
     /// It has no block. The only call that takes memory.
     pub fn new(alloc: Global, blocks: u32) -> Result<Baseline, AllocError>
-        requires few { blocks ≤ 1048576 }
+        requires few { blocks ≤ MAX_BLOCKS }
         ensures { IfOk result (λ baseline. baseline ≡ replicate blocks false) }
     {
         Ok(Baseline {
@@ -34,7 +35,7 @@ impl Baseline {
     /// How many blocks the store has.
     pub fn blocks(&self) -> u32
         ensures count { result ≡ length self.now }
-        ensures few { length self.now ≤ 1048576 }
+        ensures few { length self.now ≤ MAX_BLOCKS }
     {
         self.flags.len() as u32
     }

@@ -1,9 +1,10 @@
 //! A fixed number of flags, of which a contract sees the list.
-ghost use Rattle.std.specs.Prelude.{◌≡◌, ℕ, ◌-◌, ◌^◌, ◌<◌, ◌≤◌, ◌++◌, ◌&&◌, true, false, length, replicate, drop, slice_index_or, slice_set, IfOk};
+ghost use Rattle.std.specs.Prelude.{◌≡◌, ℕ, ◌-◌, ◌<◌, ◌≤◌, ◌++◌, ◌&&◌, true, false, length, replicate, drop, slice_index_or, slice_set, IfOk};
 
 use crate::words::{bit, clear_bits_but, first_clear_bit, set_bit, set_first_bits, unset_bit};
 use std::alloc::{AllocError, Global};
 use std::marker::Model;
+use vm_types::MAX_BLOCKS;
 
 #[derive(Drop)]
 pub(crate) struct Flags {
@@ -24,7 +25,7 @@ impl Model for Flags {
 
 impl Flags {
     pub(crate) fn new(alloc: Global, count: usize) -> Result<Flags, AllocError>
-        requires { count ≤ 2 ^ 20 }
+        requires { count ≤ MAX_BLOCKS }
         ensures { IfOk result (λ flags. flags ≡ replicate count false) }
     {
         Ok(Flags {
@@ -36,7 +37,7 @@ impl Flags {
     /// A copy with so many flags in all, of which those behind its own are clear.
     pub(crate) fn extended(&self, alloc: Global, count: usize) -> Result<Flags, AllocError>
         requires longer { length self.now ≤ count }
-        requires few { count ≤ 2 ^ 20 }
+        requires few { count ≤ MAX_BLOCKS }
         ensures { IfOk result (λ flags. flags ≡ self.now ++ replicate (count - length self.now) false) }
     {
         let mut words = Vec::with_capacity(alloc, count.div_ceil(64))?;
@@ -47,7 +48,7 @@ impl Flags {
 
     pub(crate) fn len(&self) -> usize
         ensures count { result ≡ length self.now }
-        ensures few { length self.now ≤ 2 ^ 20 }
+        ensures few { length self.now ≤ MAX_BLOCKS }
     {
         self.count
     }

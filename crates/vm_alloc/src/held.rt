@@ -6,9 +6,7 @@ use crate::flags::Flags;
 use crate::marks::Marks;
 use std::alloc::{AllocError, Global};
 use std::marker::Model;
-
-/// The first block that may hold data. The blocks before it are the store's own, and always held.
-pub const FIRST_DATA: u32 = 34;
+use vm_types::{FIRST_DATA, MAX_BLOCKS, MIN_BLOCKS};
 
 /// Which blocks of a store are held: never written until they are let go. The others are free.
 #[derive(Drop)]
@@ -33,8 +31,8 @@ impl Model for Held {
 impl Held {
     /// Blocks 0 to 33 are held. No call but this one and `extended` takes memory.
     pub fn new(alloc: Global, blocks: u32) -> Result<Held, AllocError>
-        requires enough { 64 ≤ blocks }
-        requires few { blocks ≤ 1048576 }
+        requires enough { MIN_BLOCKS ≤ blocks }
+        requires few { blocks ≤ MAX_BLOCKS }
         ensures count { IfOk result (λ held. length held ≡ blocks) }
         ensures system { IfOk result (λ held. (n : ℕ) → IsHeld held n ↔ (n < FIRST_DATA)) }
     {
@@ -50,7 +48,7 @@ impl Held {
     /// A copy with so many blocks in all, of which the new ones are free.
     pub fn extended(&self, alloc: Global, blocks: u32) -> Result<Held, AllocError>
         requires longer { length self.now ≤ blocks }
-        requires few { blocks ≤ 1048576 }
+        requires few { blocks ≤ MAX_BLOCKS }
         ensures blocks { IfOk result (λ held. held ≡ self.now ++ replicate (blocks - length self.now) false) }
         ensures count { IfOk result (λ held. length held ≡ blocks) }
         ensures free { IfOk result (λ held. free_count held ≡ free_count self.now + (blocks - length self.now)) }
@@ -66,8 +64,8 @@ impl Held {
     /// How many blocks there are, held or free.
     pub fn blocks(&self) -> u32
         ensures count { result ≡ length self.now }
-        ensures enough { 64 ≤ length self.now }
-        ensures few { length self.now ≤ 1048576 }
+        ensures enough { MIN_BLOCKS ≤ length self.now }
+        ensures few { length self.now ≤ MAX_BLOCKS }
         ensures system { (n : ℕ) → n < FIRST_DATA → IsHeld self.now n }
     {
         self.flags.len() as u32

@@ -3,9 +3,9 @@ ghost use Rattle.vm_alloc.specs.Held.{free_count};
 ghost use Rattle.vm_alloc.specs.Marks.{IsMarked};
 
 use crate::flags::Flags;
-use crate::held::FIRST_DATA;
 use std::alloc::{AllocError, Global};
 use std::marker::Model;
+use vm_types::{FIRST_DATA, MAX_BLOCKS, MIN_BLOCKS};
 
 /// Which blocks of a store are marked, as those that are still in use.
 #[derive(Drop)]
@@ -29,8 +29,8 @@ impl Model for Marks {
 impl Marks {
     /// No block is marked. No call but this one and `extended` takes memory.
     pub fn new(alloc: Global, blocks: u32) -> Result<Marks, AllocError>
-        requires enough { 64 ≤ blocks }
-        requires few { blocks ≤ 1048576 }
+        requires enough { MIN_BLOCKS ≤ blocks }
+        requires few { blocks ≤ MAX_BLOCKS }
         ensures { IfOk result (λ marks. marks ≡ replicate blocks false) }
     {
         Ok(Marks {
@@ -42,7 +42,7 @@ impl Marks {
     /// A copy with so many blocks in all, of which the new ones are not marked.
     pub fn extended(&self, alloc: Global, blocks: u32) -> Result<Marks, AllocError>
         requires longer { length self.now ≤ blocks }
-        requires few { blocks ≤ 1048576 }
+        requires few { blocks ≤ MAX_BLOCKS }
         ensures { IfOk result (λ marks. marks ≡ self.now ++ replicate (blocks - length self.now) false) }
     {
         let new_blocks = blocks - self.blocks();
@@ -55,8 +55,8 @@ impl Marks {
     /// How many blocks there are, marked or not.
     pub fn blocks(&self) -> u32
         ensures count { result ≡ length self.now }
-        ensures enough { 64 ≤ length self.now }
-        ensures few { length self.now ≤ 1048576 }
+        ensures enough { MIN_BLOCKS ≤ length self.now }
+        ensures few { length self.now ≤ MAX_BLOCKS }
     {
         self.flags.len() as u32
     }

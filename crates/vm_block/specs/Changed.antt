@@ -2,6 +2,7 @@
 use Rattle.std.specs.Prelude.{◌≡◌, ◌≢◌, ◌==◌, ℕ, ◌+◌, ◌-◌, ◌*◌, ◌/◌, ◌<◌, ◌≤◌, Bool, if◌then◌else◌, IsTrue, List, [], ◌∷◌, ◌++◌, length, take, drop, slice_index_or, None}
 use Rattle.std.specs.List.{AllByRecursion, flat_map}
 use Rattle.vm_types.specs.declared.key.Key.{Key}
+use Rattle.vm_types.specs.declared.sizes.TheConstants.{BLOCK_SIZE}
 use Rattle.vm_types.specs.Places.{KeyFits, place, value_at, with_record}
 use Rattle.vm_block.specs.Padding.{zeros}
 use Rattle.vm_block.specs.Leaf.{Record, Row, RowFits, HasRows, StoredFits, leaf_bytes, record_bytes, stored_bytes}
@@ -31,7 +32,7 @@ leave_out i xs = take i xs ++ drop (i + 1) xs
 
 -- behind the sixteen bytes of a head these rows stand, and zero bytes
 abbrev pub HasBody : List ℕ → List Row → Type 0
-HasBody bytes ws = drop 16 bytes ≡ flat_map record_bytes ws ++ zeros (4096 - (16 + 252 * length ws))
+HasBody bytes ws = drop 16 bytes ≡ flat_map record_bytes ws ++ zeros (BLOCK_SIZE - (16 + 252 * length ws))
 
 -- where so many rows stand behind a head, it is made that of their leaf
 abbrev pub Seals : ℕ → List ℕ → List ℕ → Type 0

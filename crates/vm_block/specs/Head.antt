@@ -1,6 +1,8 @@
 -- The head of a block of a tree: its first sixteen bytes.
 use Rattle.std.specs.Prelude.{◌≡◌, ℕ, ◌<◌, ◌≤◌, Bool, List, ◌++◌, take, codes}
 use Rattle.byteorder.specs.Endian.{little_bytes}
+use Rattle.vm_types.specs.Bytes.{longest}
+use Rattle.vm_block.specs.declared.sizes.TheConstants.{MAX_CHILDREN, MAX_SHORT}
 use Rattle.vm_block.specs.Leaf.{leaf_head}
 use Rattle.vm_block.specs.Node.{node_head}
 use Rattle.vm_block.specs.declared.head.Head.{Head}
@@ -15,7 +17,7 @@ IsHeadOfLeaf letters most head = (head.letters ≡ letters) × (head.level ≡ 0
 
 -- it has the letters of an inner block, and is the head of one
 abbrev pub IsHeadOfNode : ℕ → Head → Type 0
-IsHeadOfNode letters head = (head.letters ≡ letters) × (0 < head.level) × (head.level ≤ 7) × (0 < head.count) × (head.count ≤ 256) × (head.zero ≡ 0)
+IsHeadOfNode letters head = (head.letters ≡ letters) × (0 < head.level) × (head.level ≤ 7) × (0 < head.count) × (head.count ≤ MAX_CHILDREN) × (head.zero ≡ 0)
 
 -- the bytes begin with the head of a leaf of so many rows, from one to the greatest count, whose letters say whether one is long
 pub record IsRowsHead (bytes : List ℕ) (most : ℕ) (long : Bool) (n : ℕ) : Type 0 where
@@ -29,10 +31,10 @@ pub record IsNodeHead (bytes : List ℕ) (level n : ℕ) : Type 0 where
   pub above : 0 < level
   pub low : level ≤ 7
   pub some : 0 < n
-  pub few : n ≤ 256
+  pub few : n ≤ MAX_CHILDREN
 
 -- the bytes begin with the head of a block of a long value of so many bytes, from 241 to 4,000
 pub record IsLongHead (bytes : List ℕ) (n : ℕ) : Type 0 where
   pub begins : take 16 bytes ≡ codes "LONG" ++ (little_bytes 4 0 ++ (little_bytes 4 n ++ little_bytes 4 0))
-  pub above : 240 < n
-  pub most : n ≤ 4000
+  pub above : MAX_SHORT < n
+  pub most : n ≤ longest

@@ -1,8 +1,10 @@
 -- Laws of the forms, each a sentence about all bytes.
 use Rattle.std.specs.Prelude.{◌≡◌, ℕ, ◌<◌, ◌≤◌, List, length}
 use Rattle.std.specs.List.{AllByRecursion}
+use Rattle.vm_types.specs.Bytes.{longest}
 use Rattle.vm_types.specs.Places.{KeyFits, RisesFrom, places}
 use Rattle.vm_types.specs.declared.key.Key.{Key}
+use Rattle.vm_block.specs.declared.sizes.TheConstants.{MAX_ROWS, MAX_CHILDREN, MAX_SHORT}
 use Rattle.vm_block.specs.Leaf.{Row, RowFits, HasRows, leaf_bytes}
 use Rattle.vm_block.specs.Long.{IsLong, long_bytes}
 use Rattle.vm_block.specs.Node.{ChildFits, IsNode, lows, node_bytes}
@@ -54,16 +56,16 @@ SlotsAreOne =
 -- the leaf of rows that rise, each within its limits and 16 at most, is a leaf of these
 abbrev pub WrittenRowsAreRows : Type 0
 WrittenRowsAreRows =
-    (ws : List Row) → 0 < length ws → length ws ≤ 16 → AllByRecursion RowFits ws → RisesFrom 0 (places ws) → HasRows (leaf_bytes ws) ws
+    (ws : List Row) → 0 < length ws → length ws ≤ MAX_ROWS → AllByRecursion RowFits ws → RisesFrom 0 (places ws) → HasRows (leaf_bytes ws) ws
 
 -- the block of a key and a value of 241 to 4,000 bytes is theirs
 abbrev pub WrittenLongsAreLong : Type 0
-WrittenLongsAreLong = (key : Key) (value : List ℕ) → KeyFits key → 240 < length value → length value ≤ 4000 → IsLong (long_bytes key value) key value
+WrittenLongsAreLong = (key : Key) (value : List ℕ) → KeyFits key → MAX_SHORT < length value → length value ≤ longest → IsLong (long_bytes key value) key value
 
 -- the inner block of a level from 1 to 7 and of children that rise, each of its size and 256 at most, is one of these
 abbrev pub WrittenNodesAreNodes : Type 0
 WrittenNodesAreNodes =
-    (l : ℕ) (cs : List Child) → 0 < l → l ≤ 7 → 0 < length cs → length cs ≤ 256 → AllByRecursion ChildFits cs → RisesFrom 0 (lows cs)
+    (l : ℕ) (cs : List Child) → 0 < l → l ≤ 7 → 0 < length cs → length cs ≤ MAX_CHILDREN → AllByRecursion ChildFits cs → RisesFrom 0 (lows cs)
     → IsNode (node_bytes l cs) l cs
 
 -- the head of a slot with counts that it may have is one with these

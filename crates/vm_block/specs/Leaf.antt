@@ -2,8 +2,11 @@
 use Rattle.std.specs.Prelude.{◌≡◌, ◌⊎◌, ℕ, ◌<◌, ◌≤◌, ◌^◌, Bool, true, false, nat_lt, List, [], ◌∷◌, ◌++◌, length, take, codes}
 use Rattle.std.specs.List.{AllByRecursion, flat_map, list_any}
 use Rattle.byteorder.specs.Endian.{little_bytes}
+use Rattle.vm_types.specs.Bytes.{longest}
 use Rattle.vm_types.specs.declared.key.Key.{Key}
 use Rattle.vm_types.specs.Places.{KeyFits, RisesFrom, places}
+use Rattle.vm_types.specs.declared.sizes.TheConstants.{BLOCK_SIZE}
+use Rattle.vm_block.specs.declared.sizes.TheConstants.{MAX_ROWS, MAX_SHORT}
 use Rattle.vm_block.specs.Padding.{padded}
 use Rattle.vm_block.specs.declared.stored.Link.{Link}
 use Rattle.vm_block.specs.declared.stored.Stored.{Stored}
@@ -28,7 +31,7 @@ key_bytes key = little_bytes 2 key.table ++ little_bytes 8 key.number
 
 -- what a leaf has of a value, in its 242 bytes: the value's length, and the first 240 bytes, with zero bytes behind them
 abbrev pub value_bytes : List ℕ → List ℕ
-value_bytes value = little_bytes 2 (length value) ++ take 240 (padded 240 value)
+value_bytes value = little_bytes 2 (length value) ++ take MAX_SHORT (padded MAX_SHORT value)
 
 -- a record or row in its 252 bytes
 unfoldable pub record_bytes : Record → List ℕ
@@ -36,7 +39,7 @@ record_bytes r = key_bytes r.0 ++ value_bytes r.1
 
 -- whether a row is long: its value has more than 240 bytes, and so a block of its own
 abbrev pub is_long : Row → Bool
-is_long w = nat_lt 240 (length w.1)
+is_long w = nat_lt MAX_SHORT (length w.1)
 
 -- the letters of a leaf, by whether it has a long row
 abbrev pub leaf_letters : Bool → List ℕ
@@ -49,7 +52,7 @@ leaf_head long count = leaf_letters long ++ (little_bytes 4 0 ++ (little_bytes 4
 
 -- the leaf of these records or rows, as it is written
 unfoldable pub leaf_bytes : List Record → List ℕ
-leaf_bytes rs = padded 4096 (leaf_head (list_any is_long rs) (length rs) ++ flat_map record_bytes rs)
+leaf_bytes rs = padded BLOCK_SIZE (leaf_head (list_any is_long rs) (length rs) ++ flat_map record_bytes rs)
 
 -- a link, in as many bytes as the value has: the number of the value's block, with zero bytes behind it
 abbrev pub link_bytes : Link → List ℕ
@@ -57,17 +60,17 @@ link_bytes link = padded link.len (little_bytes 4 link.block)
 
 -- a link to a value of 241 to 4,000 bytes, by a number of its size
 pub record LinkFits (link : Link) : Type 0 where
-  pub long : 240 < link.len
-  pub most : link.len ≤ 4000
+  pub long : MAX_SHORT < link.len
+  pub most : link.len ≤ longest
   pub block : link.block < 2 ^ 32
 
 -- what a leaf may have of a value: up to 240 bytes, which are the value, or a link
 abbrev pub IsStored : List ℕ → Type 0
-IsStored stored = (length stored ≤ 240) ⊎ ((link : Link) × LinkFits link × (stored ≡ link_bytes link))
+IsStored stored = (length stored ≤ MAX_SHORT) ⊎ ((link : Link) × LinkFits link × (stored ≡ link_bytes link))
 
 -- a short value, or a link, within its limits
 abbrev pub StoredFits : Stored → Type 0
-StoredFits (Short value) = length value.now ≤ 240
+StoredFits (Short value) = length value.now ≤ MAX_SHORT
 StoredFits (Long link) = LinkFits link
 
 -- what is stored, as the bytes that a row has
@@ -77,7 +80,7 @@ stored_bytes (Long link) = link_bytes link
 
 -- a row that is not long
 abbrev pub IsShort : Row → Type 0
-IsShort w = length w.1 ≤ 240
+IsShort w = length w.1 ≤ MAX_SHORT
 
 -- a row within the limits of keys and of what a leaf may have of a value
 abbrev pub RowFits : Row → Type 0
@@ -87,6 +90,6 @@ RowFits w = KeyFits w.0 × IsStored w.1
 pub record HasRows (bytes : List ℕ) (ws : List Row) : Type 0 where
   pub spelled : bytes ≡ leaf_bytes ws
   pub some : 0 < length ws
-  pub few : length ws ≤ 16
+  pub few : length ws ≤ MAX_ROWS
   pub fit : AllByRecursion RowFits ws
   pub rising : RisesFrom 0 (places ws)

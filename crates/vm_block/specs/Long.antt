@@ -1,8 +1,11 @@
 -- A block of a long value: it has the value's key, too.
 use Rattle.std.specs.Prelude.{◌≡◌, ℕ, ◌<◌, ◌≤◌, List, ◌++◌, length, codes}
 use Rattle.byteorder.specs.Endian.{little_bytes}
+use Rattle.vm_types.specs.Bytes.{longest}
 use Rattle.vm_types.specs.declared.key.Key.{Key}
 use Rattle.vm_types.specs.Places.{KeyFits}
+use Rattle.vm_types.specs.declared.sizes.TheConstants.{BLOCK_SIZE}
+use Rattle.vm_block.specs.declared.sizes.TheConstants.{MAX_SHORT}
 use Rattle.vm_block.specs.Padding.{padded}
 use Rattle.vm_block.specs.Leaf.{key_bytes}
 
@@ -12,11 +15,11 @@ long_head key n = codes "LONG" ++ (little_bytes 4 0 ++ (little_bytes 4 n ++ (lit
 
 -- the block of this key and its long value, as it is written
 unfoldable pub long_bytes : Key → List ℕ → List ℕ
-long_bytes key value = padded 4096 (long_head key (length value) ++ value)
+long_bytes key value = padded BLOCK_SIZE (long_head key (length value) ++ value)
 
 -- these bytes are the block of this key and its long value, of 241 to 4,000 bytes
 pub record IsLong (bytes : List ℕ) (key : Key) (value : List ℕ) : Type 0 where
   pub spelled : bytes ≡ long_bytes key value
-  pub above : 240 < length value
-  pub most : length value ≤ 4000
+  pub above : MAX_SHORT < length value
+  pub most : length value ≤ longest
   pub fits : KeyFits key

@@ -3,6 +3,8 @@ use Rattle.std.specs.Prelude.{◌≡◌, ℕ, ◌<◌, ◌≤◌, ◌^◌, List,
 use Rattle.std.specs.List.{AllByRecursion, flat_map}
 use Rattle.byteorder.specs.Endian.{little_bytes}
 use Rattle.vm_types.specs.Places.{KeyFits, RisesFrom, place}
+use Rattle.vm_types.specs.declared.sizes.TheConstants.{BLOCK_SIZE}
+use Rattle.vm_block.specs.declared.sizes.TheConstants.{MAX_CHILDREN}
 use Rattle.vm_block.specs.Padding.{padded}
 use Rattle.vm_block.specs.Leaf.{key_bytes}
 use Rattle.vm_block.specs.declared.node.Child.{Child}
@@ -17,7 +19,7 @@ node_head level count = codes "NODE" ++ (little_bytes 4 level ++ (little_bytes 4
 
 -- the inner block of this level and these children, as it is written
 unfoldable pub node_bytes : ℕ → List Child → List ℕ
-node_bytes level cs = padded 4096 (node_head level (length cs) ++ flat_map child_bytes cs)
+node_bytes level cs = padded BLOCK_SIZE (node_head level (length cs) ++ flat_map child_bytes cs)
 
 -- a child whose numbers have their sizes
 abbrev pub ChildFits : Child → Type 0
@@ -33,6 +35,6 @@ pub record IsNode (bytes : List ℕ) (level : ℕ) (cs : List Child) : Type 0 wh
   pub above : 0 < level
   pub low : level ≤ 7
   pub some : 0 < length cs
-  pub few : length cs ≤ 256
+  pub few : length cs ≤ MAX_CHILDREN
   pub fit : AllByRecursion ChildFits cs
   pub rising : RisesFrom 0 (lows cs)

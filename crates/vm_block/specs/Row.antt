@@ -2,6 +2,7 @@
 use Rattle.std.specs.Prelude.{ℕ, ◌+◌, ◌*◌, List, take, drop, min}
 use Rattle.byteorder.specs.Endian.{little_number}
 use Rattle.vm_types.specs.declared.key.Key.{Key}
+use Rattle.vm_block.specs.declared.sizes.TheConstants.{MAX_SHORT}
 use Rattle.vm_block.specs.Leaf.{Record}
 use Rattle.vm_block.specs.declared.node.Child.{Child}
 
@@ -11,7 +12,7 @@ key_of row = record { table = little_number 2 row; number = little_number 8 (dro
 
 -- the record in a row: a key, a length and as many bytes, but 240 at most
 unfoldable pub record_of : List ℕ → Record
-record_of row = (key_of row, take (min 240 (little_number 2 (drop 10 row))) (drop 12 row))
+record_of row = (key_of row, take (min MAX_SHORT (little_number 2 (drop 10 row))) (drop 12 row))
 
 -- the child in a row: its lowest key and its block
 unfoldable pub child_of : List ℕ → Child

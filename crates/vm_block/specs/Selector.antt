@@ -1,5 +1,6 @@
 -- Block 1, which names one of the two slots.
 use Rattle.std.specs.Prelude.{ℕ, ◌%◌, ◌==◌, List, [], ◌∷◌, slice_index, if◌then◌else◌}
+use Rattle.vm_types.specs.declared.sizes.TheConstants.{BLOCK_SIZE}
 use Rattle.vm_block.specs.Padding.{padded}
 use Rattle.vm_block.specs.declared.selector.SlotName.{SlotName}
 use Rattle.vm_block.specs.declared.selector.SlotName.TheVariants.{A, B}
@@ -20,4 +21,4 @@ selector_byte B = 1
 
 -- as it is written
 unfoldable pub selector_bytes : SlotName → List ℕ
-selector_bytes slot_name = padded 4096 (selector_byte slot_name ∷ [])
+selector_bytes slot_name = padded BLOCK_SIZE (selector_byte slot_name ∷ [])

@@ -4,6 +4,7 @@ use Rattle.std.specs.List.{AllByRecursion, flat_map, list_any}
 use Rattle.std.specs.Option.{option_eq}
 use Rattle.std.specs.Str.{bytes_eq}
 use Rattle.byteorder.specs.Endian.{little_bytes}
+use Rattle.vm_types.specs.declared.sizes.TheConstants.{BLOCK_SIZE, MIN_BLOCKS, MAX_BLOCKS, MAX_VERSIONS}
 use Rattle.vm_types.specs.Name.{IsName}
 use Rattle.vm_block.specs.Padding.{padded}
 use Rattle.vm_block.specs.declared.slot.Kind.{Kind}
@@ -60,10 +61,10 @@ head_bytes format limit n =
 
 -- counts that a slot may have: of the store's blocks, and of entries
 pub record HeadFits (limit n : ℕ) : Type 0 where
-  pub least : 64 ≤ limit
-  pub most : limit ≤ 2 ^ 20
+  pub least : MIN_BLOCKS ≤ limit
+  pub most : limit ≤ MAX_BLOCKS
   pub some : 0 < n
-  pub few : n ≤ 511
+  pub few : n ≤ MAX_VERSIONS
 
 -- these bytes are the head of a slot
 pub record IsHead (bytes : List ℕ) (format : SlotFormat) (limit n : ℕ) : Type 0 where
@@ -128,6 +129,6 @@ slot_bytes format limit es = head_bytes format limit (length es) ++ flat_map ent
 -- these blocks hold these entries; what follows the last entry is ignored
 pub record IsSlot (blocks : List (List ℕ)) (format : SlotFormat) (limit : ℕ) (es : List Entry) : Type 0 where
   pub fits : SlotFits limit es
-  pub whole : AllByRecursion (λ block. length block ≡ 4096) blocks
+  pub whole : AllByRecursion (λ block. length block ≡ BLOCK_SIZE) blocks
   pub rest : List ℕ
   pub spelled : flat_map (λ block. block) blocks ≡ slot_bytes format limit es ++ rest

@@ -4,6 +4,7 @@ use Rattle.std.specs.List.{AllByRecursion, flat_map}
 use Rattle.vm_types.specs.declared.key.Key.{Key}
 use Rattle.vm_types.specs.Places.{KeyFits, RisesFrom, places}
 use Rattle.byteorder.specs.Endian.{little_bytes}
+use Rattle.vm_block.specs.declared.sizes.TheConstants.{MAX_ROWS}
 use Rattle.vm_block.specs.Leaf.{Row, RowFits, HasRows, StoredFits, key_bytes, record_bytes, stored_bytes}
 use Rattle.vm_block.specs.Head.{IsRowsHead}
 use Rattle.vm_block.specs.declared.stored.Stored.{Stored}
@@ -88,7 +89,7 @@ found_bytes (Some stored) = Some (stored_bytes stored)
 
 -- in one of the rows that the bytes have by their head this stands
 abbrev pub StandsAmong : List ℕ → Stored → Type 0
-StandsAmong bytes stored = (long : Bool) (n : ℕ) → IsRowsHead bytes 16 long n → (i : ℕ) × (i < n) × IsInRow (leaf_row bytes i) stored
+StandsAmong bytes stored = (long : Bool) (n : ℕ) → IsRowsHead bytes MAX_ROWS long n → (i : ℕ) × (i < n) × IsInRow (leaf_row bytes i) stored
 
 -- in one of so many rows of a leaf stands none
 abbrev pub LacksRow : List ℕ → ℕ → Type 0

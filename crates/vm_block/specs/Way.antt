@@ -2,6 +2,7 @@
 use Rattle.std.specs.Prelude.{◌≡◌, ℕ, ◌+◌, ◌*◌, ◌<◌, ◌≤◌, List, [], ◌∷◌, length, take, drop, Option, IsSomeAnd, slice_index, slice_index_or}
 use Rattle.vm_types.specs.declared.key.Key.{Key}
 use Rattle.vm_types.specs.Places.{KeyFits, place}
+use Rattle.vm_block.specs.declared.sizes.TheConstants.{MAX_CHILDREN}
 use Rattle.vm_block.specs.Head.{IsNodeHead}
 use Rattle.vm_block.specs.Leaf.{key_bytes}
 use Rattle.vm_block.specs.Node.{lows}
@@ -30,7 +31,7 @@ Lowest key (c ∷ cs) = c.low ≡ key
 
 -- a way in an inner block of a level from 1 to 7 and of 256 children at most, to one of these
 abbrev pub IsWay : Way → Type 0
-IsWay way = (0 < way.level) × (way.level ≤ 7) × (way.index < way.count) × (way.count ≤ 256)
+IsWay way = (0 < way.level) × (way.level ≤ 7) × (way.index < way.count) × (way.count ≤ MAX_CHILDREN)
 
 -- a way in an inner block of this level with these children, to the one where a descent to place p goes
 abbrev pub IsWayTo : ℕ → ℕ → List Child → Way → Type 0

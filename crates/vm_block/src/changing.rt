@@ -8,6 +8,7 @@ use crate::head::rows_head;
 use crate::keys::read_key;
 use crate::leaf_rows::seal;
 use crate::node::{Child, write_child};
+use crate::sizes::{MAX_CHILDREN, MAX_ROWS};
 use crate::stored::{Stored, write_row};
 use crate::way::choose;
 use vm_types::Key;
@@ -25,7 +26,7 @@ pub enum Placed {
 
 /// Puts the child in the place of the one at this index of an inner block.
 pub fn set_child(bytes: &mut [u8; 4096], index: usize, child: Child)
-    requires { index < 256 }
+    requires { index < MAX_CHILDREN }
     ensures { SetsChild index child bytes.old bytes.new }
 {
     write_child(child, &mut bytes[16 + 14 * index..]);
@@ -34,7 +35,7 @@ pub fn set_child(bytes: &mut [u8; 4096], index: usize, child: Child)
 /// Writes the row over the one at this index of a leaf of so many.
 fn set_row(bytes: &mut [u8; 4096], count: usize, index: usize, key: Key, stored: Stored<'_>)
     requires within { index < count }
-    requires few { count ≤ 16 }
+    requires few { count ≤ MAX_ROWS }
     requires fits { StoredFits stored }
     ensures { SetsRow count index (key, stored_bytes stored.entry) bytes.old bytes.new }
 {
@@ -45,7 +46,7 @@ fn set_row(bytes: &mut [u8; 4096], count: usize, index: usize, key: Key, stored:
 /// Puts the row at this index of a leaf of so many, before those that stand there.
 fn insert_row(bytes: &mut [u8; 4096], count: usize, index: usize, key: Key, stored: Stored<'_>)
     requires within { index ≤ count }
-    requires room { count < 16 }
+    requires room { count < MAX_ROWS }
     requires fits { StoredFits stored }
     ensures { InsertsRow count index (key, stored_bytes stored.entry) bytes.old bytes.new }
 {
@@ -57,7 +58,7 @@ fn insert_row(bytes: &mut [u8; 4096], count: usize, index: usize, key: Key, stor
 /// Gives the key this in a leaf of MOST rows at most, where it does not get more by that. The
 /// letters of the leaf are those of its rows then.
 pub fn put_row(bytes: &mut [u8; 4096], most: usize, key: Key, stored: Stored<'_>) -> Placed
-    requires few { most ≤ 16 }
+    requires few { most ≤ MAX_ROWS }
     requires stored { StoredFits stored }
     ensures fits { RowFits (key, stored_bytes stored.entry) }
     ensures head { (result ≢ Placed.NoLeaf) ↔ ((long : Bool) × (n : ℕ) × IsRowsHead bytes.old most long n) }

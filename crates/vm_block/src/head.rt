@@ -6,10 +6,9 @@ ghost use Rattle.vm_block.specs.Leaf.{is_long};
 ghost use Rattle.vm_block.specs.Told.{IfHasRows};
 
 use crate::node::is_in_range;
+use crate::sizes::{MAX_ROWS, MAX_SHORT};
 use byteorder::{ByteOrder, LittleEndian};
-
-/// The greatest number of rows of a leaf.
-pub(crate) const MAX_RECORDS: usize = 16;
+use vm_types::Value;
 
 /// The letters LEAF as a number.
 const LEAF: u32 = 0x4641_454C;
@@ -64,7 +63,7 @@ fn is_node(head: Head) -> bool
 /// Whether a leaf has a long row by its head, and how many rows it has. None where the bytes begin
 /// with the head of no leaf of so many rows at most.
 pub(crate) fn rows_head(bytes: &[u8; 4096], most: usize) -> Option<(bool, usize)>
-    requires { most ≤ 16 }
+    requires { most ≤ MAX_ROWS }
     ensures found { IfSome result (λ head. IsRowsHead bytes.now most head.0 head.1) }
     ensures only { (long : Bool) (n : ℕ) → IsRowsHead bytes.now most long n → result ≡ Some (long, n) }
 {
@@ -108,7 +107,11 @@ pub(crate) fn long_len(bytes: &[u8; 4096]) -> Option<usize>
 {
     let head = read_head(bytes);
     let len = head.count as usize;
-    if head.letters == LONG && head.level == 0 && (241..=4000).contains(&len) && head.zero == 0 {
+    if head.letters == LONG
+        && head.level == 0
+        && (MAX_SHORT as usize + 1..=Value::MAX_LEN).contains(&len)
+        && head.zero == 0
+    {
         Some(len)
     } else {
         None

@@ -7,6 +7,7 @@ ghost use Rattle.vm_block.specs.Leaf.{HasRows, leaf_bytes, leaf_head, leaf_lette
 ghost use Rattle.vm_block.specs.Told.{IfHasRows};
 
 use crate::leaf_rows::{seal, stored_at};
+use crate::sizes::MAX_ROWS;
 use crate::spelling::{put, put_zeros};
 use crate::stored::{Stored, write_row};
 use crate::telling::{record_key, rows_size};
@@ -47,7 +48,7 @@ fn write_each(rows: &[(Key, Stored<'_>)], out: &mut [u8])
 
 /// Writes the leaf of these rows. Its letters say whether one of them is long.
 pub fn write_leaf(rows: &[(Key, Stored<'_>)], out: &mut [u8; 4096])
-    requires few { length rows.now ≤ 16 }
+    requires few { length rows.now ≤ MAX_ROWS }
     requires fit { AreStored rows.now }
     ensures { out.new ≡ leaf_bytes (map row_of rows.now) }
 {

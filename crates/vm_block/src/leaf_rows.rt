@@ -8,12 +8,13 @@ ghost use Rattle.vm_block.specs.Told.{IfLeafRowAt, IfRowAt, IfRows, IsInRow, IsR
 
 use crate::leaf::write_leaf_head;
 use crate::row::record_row;
-use crate::stored::{MAX_SHORT, Stored, read_stored};
+use crate::sizes::{MAX_ROWS, MAX_SHORT};
+use crate::stored::{Stored, read_stored};
 use byteorder::{ByteOrder, LittleEndian};
 
 /// Whether the row at i is long, of the rows with which the bytes begin.
 fn is_long_row(bytes: &[u8], i: usize) -> bool
-    requires few { i < 16 }
+    requires few { i < MAX_ROWS }
     requires room { 252 * i + 252 ≤ length bytes.now }
     ensures { IfRowAt bytes.now i (λ w. result ≡ is_long w) }
 {
@@ -23,7 +24,7 @@ fn is_long_row(bytes: &[u8], i: usize) -> bool
 
 /// Whether one of so many rows, with which the bytes begin, is long.
 fn has_long(bytes: &[u8], count: usize) -> bool
-    requires few { count ≤ 16 }
+    requires few { count ≤ MAX_ROWS }
     requires room { 252 * count ≤ length bytes.now }
     ensures { IfRows bytes.now count (λ ws. result ≡ list_any is_long ws) }
 {
@@ -37,7 +38,7 @@ fn has_long(bytes: &[u8], count: usize) -> bool
 
 /// Whether letters say of so many rows, with which the bytes begin, what is so.
 pub(crate) fn is_sealed(bytes: &[u8], count: usize, long: bool) -> bool
-    requires few { count ≤ 16 }
+    requires few { count ≤ MAX_ROWS }
     requires room { 252 * count ≤ length bytes.now }
     ensures { IfRows bytes.now count (λ ws. IsTrue result ↔ (list_any is_long ws ≡ long)) }
 {
@@ -46,7 +47,7 @@ pub(crate) fn is_sealed(bytes: &[u8], count: usize, long: bool) -> bool
 
 /// Writes the head of the leaf of so many rows, which stand behind it.
 pub(crate) fn seal(bytes: &mut [u8; 4096], count: usize)
-    requires { count ≤ 16 }
+    requires { count ≤ MAX_ROWS }
     ensures { Seals count bytes.old bytes.new }
 {
     let long = has_long(&bytes[16..], count);
@@ -55,7 +56,7 @@ pub(crate) fn seal(bytes: &mut [u8; 4096], count: usize)
 
 /// What the row at i has of its value. None just where there stands no row.
 pub fn stored_at(bytes: &[u8; 4096], i: usize) -> Option<Stored<'_>>
-    requires { i < 16 }
+    requires { i < MAX_ROWS }
     ensures found { IfSome result (IsInRow (leaf_row bytes.now i)) }
     ensures only { IsRowOf (leaf_row bytes.now i) result }
     ensures row { IfLeafRowAt bytes.now i (IsSomeOf result) }

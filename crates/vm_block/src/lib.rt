@@ -23,6 +23,7 @@ mod long;
 mod node;
 mod row;
 mod selector;
+mod sizes;
 mod slot;
 mod spelling;
 mod splitting;
@@ -41,9 +42,9 @@ pub use long::{read_long, write_long};
 pub use node::{Child, Node, read_node, spelled_children, write_node};
 pub use row::{child_row, record_row, record_value};
 pub use selector::{SlotName, read_selector, write_selector};
+pub use sizes::{MAX_CHILDREN, MAX_ROWS, MAX_SHORT};
 pub use slot::{
-    Entry, Kind, MAX_BLOCKS, MAX_ENTRIES, MIN_BLOCKS, SlotFormat, SlotHead, read_entry,
-    read_slot_head, write_entry, write_slot_head,
+    Entry, Kind, SlotFormat, SlotHead, read_entry, read_slot_head, write_entry, write_slot_head,
 };
 pub use splitting::split_rows;
 pub use stored::{Link, Stored};

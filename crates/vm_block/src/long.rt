@@ -1,6 +1,7 @@
 //! The block of a long value, which has its key, too.
 ghost use Rattle.std.specs.Prelude.{◌≡◌, ◌≤◌, ◌++◌, List, ℕ, length, drop, IfSome, IsSomeAnd};
 ghost use Rattle.vm_types.specs.declared.key.Key.{Key};
+ghost use Rattle.vm_types.specs.Bytes.{longest};
 ghost use Rattle.vm_block.specs.Long.{IsLong, long_bytes, long_head};
 
 use crate::head::long_len;
@@ -22,7 +23,7 @@ fn write_long_head(key: Key, len: u32, out: &mut [u8])
 /// Writes the block of this key and its value.
 #[tactic(auto, unfolding(crate::specs::Long::long_bytes))]
 pub fn write_long(key: Key, value: &[u8], out: &mut [u8; 4096])
-    requires { length value.now ≤ 4000 }
+    requires { length value.now ≤ longest }
     ensures { out.new ≡ long_bytes key value.now }
 {
     write_long_head(key, value.len() as u32, out);

@@ -7,6 +7,7 @@ ghost use Rattle.vm_block.specs.Node.{IsNode, ChildFits, lows, child_bytes, node
 ghost use Rattle.vm_block.specs.Told.{IfNode, IsNodeWith};
 
 use crate::keys::{read_key, write_key};
+use crate::sizes::MAX_CHILDREN;
 use crate::spelling::{is_framed, put, put_zeros};
 use arrayvec::ArrayVec;
 use byteorder::{ByteOrder, LittleEndian};
@@ -54,7 +55,7 @@ fn write_node_head(level: u32, count: u32, out: &mut [u8])
 }
 
 fn write_node_into(level: u8, children: &[Child], out: &mut [u8])
-    requires few { length children.now ≤ 256 }
+    requires few { length children.now ≤ MAX_CHILDREN }
     requires room { 3600 ≤ length out.old }
     ensures { out.new ≡ padded (length out.old) (node_head level (length children.now) ++ flat_map child_bytes children.now) }
 {
@@ -66,7 +67,7 @@ fn write_node_into(level: u8, children: &[Child], out: &mut [u8])
 /// Writes the inner block of this level and these children.
 #[tactic(auto, unfolding(crate::specs::Node::node_bytes))]
 pub fn write_node(level: u8, children: &[Child], out: &mut [u8; 4096])
-    requires { length children.now ≤ 256 }
+    requires { length children.now ≤ MAX_CHILDREN }
     ensures { out.new ≡ node_bytes level children.now }
 {
     write_node_into(level, children, out);
@@ -100,7 +101,7 @@ pub(crate) fn read_child(bytes: &[u8]) -> Child
 
 /// Puts so many children, with which the bytes begin, into an empty list.
 fn read_children(bytes: &[u8], count: usize, children: &mut ArrayVec<Child, 256>)
-    requires few { count ≤ 256 }
+    requires few { count ≤ MAX_CHILDREN }
     requires room { 14 * count ≤ length bytes.now }
     requires empty { children.old.items ≡ [] }
     ensures fit { AllByRecursion ChildFits children.new.items }
@@ -115,7 +116,7 @@ fn read_children(bytes: &[u8], count: usize, children: &mut ArrayVec<Child, 256>
 /// So many children, as they are spelled behind the head of an inner block: those that it has,
 /// where the bytes are one with so many, and else what stands there.
 pub fn spelled_children(bytes: &[u8; 4096], count: usize) -> ArrayVec<Child, 256>
-    requires { count ≤ 256 }
+    requires { count ≤ MAX_CHILDREN }
     ensures many { length result.items ≡ count }
     ensures fit { AllByRecursion ChildFits result.items }
     ensures spelled { take (14 * count) (drop 16 bytes.now) ≡ flat_map child_bytes result.items }
@@ -128,7 +129,7 @@ pub fn spelled_children(bytes: &[u8; 4096], count: usize) -> ArrayVec<Child, 256
 
 /// Whether an inner block may have this level and so many children.
 pub(crate) fn is_in_range(level: u32, count: u32) -> bool
-    ensures { IsTrue result ↔ ((0 < level) × (level ≤ 7) × (0 < count) × (count ≤ 256)) }
+    ensures { IsTrue result ↔ ((0 < level) × (level ≤ 7) × (0 < count) × (count ≤ MAX_CHILDREN)) }
 {
     (1..=7).contains(&level) && (1..=256).contains(&count)
 }

@@ -4,13 +4,13 @@ ghost use Rattle.vm_block.specs.Leaf.{IsShort};
 ghost use Rattle.vm_block.specs.Row.{leaf_row, node_row, record_of};
 ghost use Rattle.vm_block.specs.Told.{IfLeafRowAt};
 
-use crate::stored::MAX_SHORT;
+use crate::sizes::{MAX_CHILDREN, MAX_ROWS, MAX_SHORT};
 use byteorder::{ByteOrder, LittleEndian};
 
 /// The bytes of the value of the row at i, where a leaf has it, and it is short.
 pub fn record_value(bytes: &[u8; 4096], i: usize) -> &[u8]
-    requires { i < 16 }
-    ensures short { length result.now ≤ 240 }
+    requires { i < MAX_ROWS }
+    ensures short { length result.now ≤ MAX_SHORT }
     ensures stands { result.now ≡ (record_of (leaf_row bytes.now i)).1 }
     ensures value { IfLeafRowAt bytes.now i (λ w. IsShort w → w.1 ≡ result.now) }
 {
@@ -24,7 +24,7 @@ pub fn record_value(bytes: &[u8; 4096], i: usize) -> &[u8]
 
 /// The bytes in which the row at i stands, where a leaf has it.
 pub fn record_row(bytes: &[u8; 4096], i: usize) -> &[u8]
-    requires { i < 16 }
+    requires { i < MAX_ROWS }
     ensures whole { length result.now ≡ 252 }
     ensures row { result.now ≡ leaf_row bytes.now i }
 {
@@ -33,7 +33,7 @@ pub fn record_row(bytes: &[u8; 4096], i: usize) -> &[u8]
 
 /// The bytes in which the child at i stands, where an inner block has it.
 pub fn child_row(bytes: &[u8; 4096], i: usize) -> &[u8]
-    requires { i < 256 }
+    requires { i < MAX_CHILDREN }
     ensures whole { length result.now ≡ 14 }
     ensures row { result.now ≡ node_row bytes.now i }
 {

@@ -8,14 +8,7 @@ ghost use Rattle.vm_block.specs.Slot.{tag_of, name_bytes, owner_bytes, entry_byt
 
 use crate::spelling::put;
 use byteorder::{ByteOrder, LittleEndian};
-use vm_types::Name;
-
-/// The smallest number of blocks of a store.
-pub const MIN_BLOCKS: u32 = 64;
-/// The greatest number of blocks of a store.
-pub const MAX_BLOCKS: u32 = 1 << 20;
-/// The greatest number of entries of a slot.
-pub const MAX_ENTRIES: u32 = 511;
+use vm_types::{MAX_BLOCKS, MAX_VERSIONS, MIN_BLOCKS, Name};
 
 /// What an entry of a slot stands for.
 #[derive(Clone, Copy, Debug, PartialEq, Eq)]
@@ -93,7 +86,7 @@ impl SlotHead {
         ensures { IsTrue result ↔ HeadFits self.blocks self.entries }
     {
         (MIN_BLOCKS..=MAX_BLOCKS).contains(&self.blocks)
-            && (1..=MAX_ENTRIES).contains(&self.entries)
+            && (1..=MAX_VERSIONS as u32).contains(&self.entries)
     }
 }
 

@@ -4,10 +4,11 @@ ghost use Rattle.vm_types.specs.Places.{KeyFits};
 ghost use Rattle.vm_block.specs.Changed.{SplitsRows, WritesPart, WritesPartAt, WritesRowOf};
 ghost use Rattle.vm_block.specs.Leaf.{StoredFits, stored_bytes};
 
-use crate::head::{MAX_RECORDS, rows_head};
+use crate::head::rows_head;
 use crate::keys::read_key;
 use crate::leaf_rows::seal;
 use crate::row::record_row;
+use crate::sizes::MAX_ROWS;
 use crate::spelling::{put, put_zeros};
 use crate::stored::{Stored, write_row};
 use crate::way::choose;
@@ -23,8 +24,8 @@ struct Coming<'a> {
 
 /// Writes the row that is at i once the one that comes stands in the leaf.
 fn write_row_of(bytes: &[u8; 4096], coming: &Coming<'_>, i: usize, out: &mut [u8])
-    requires index { coming.now.index ≤ 16 }
-    requires within { i ≤ 16 }
+    requires index { coming.now.index ≤ MAX_ROWS }
+    requires within { i ≤ MAX_ROWS }
     requires fits { StoredFits coming.now.stored }
     requires room { 252 ≤ length out.old }
     ensures { WritesRowOf bytes.now coming.now.index (coming.now.key, stored_bytes coming.now.stored) i out.old out.new }
@@ -46,8 +47,8 @@ fn write_part_rows(
     count: usize,
     out: &mut [u8],
 )
-    requires index { coming.now.index ≤ 16 }
-    requires within { from + count ≤ 17 }
+    requires index { coming.now.index ≤ MAX_ROWS }
+    requires within { from + count ≤ MAX_ROWS + 1 }
     requires fits { StoredFits coming.now.stored }
     requires room { 252 * count ≤ length out.old }
     ensures { WritesPartAt bytes.now coming.now.index (coming.now.key, stored_bytes coming.now.stored) from count out.old out.new }
@@ -65,9 +66,9 @@ fn write_part(
     count: usize,
     out: &mut [u8; 4096],
 )
-    requires index { coming.now.index ≤ 16 }
-    requires within { from + count ≤ 17 }
-    requires few { count ≤ 16 }
+    requires index { coming.now.index ≤ MAX_ROWS }
+    requires within { from + count ≤ MAX_ROWS + 1 }
+    requires few { count ≤ MAX_ROWS }
     requires fits { StoredFits coming.now.stored }
     requires key { KeyFits coming.now.key }
     ensures { WritesPart bytes.now coming.now.index (coming.now.key, stored_bytes coming.now.stored) from count out.new }
@@ -90,7 +91,7 @@ pub fn split_rows(
     ensures fits { KeyFits key }
     ensures only { SplitsRows result (key, stored_bytes stored.entry) bytes.now left.new right.new }
 {
-    let Some((_, count)) = rows_head(bytes, MAX_RECORDS) else {
+    let Some((_, count)) = rows_head(bytes, MAX_ROWS) else {
         return false;
     };
     let place = key.place();

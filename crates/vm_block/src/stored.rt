@@ -1,18 +1,17 @@
 //! What a leaf has of a value: the value itself, or a link to its block.
 ghost use Rattle.std.specs.Prelude.{◌≡◌, ◌≤◌, ◌<◌, ◌++◌, [], length, drop, IfSome};
+ghost use Rattle.vm_types.specs.Bytes.{longest};
 ghost use Rattle.vm_block.specs.Leaf.{LinkFits, StoredFits, link_bytes, record_bytes, stored_bytes, value_bytes};
 ghost use Rattle.vm_block.specs.Told.{IsInRow, IsLength, IsRowOf};
 
 use crate::keys::write_key;
+use crate::sizes::MAX_SHORT;
 use crate::spelling::{are_zero, put, put_zeros};
 use byteorder::{ByteOrder, LittleEndian};
-use vm_types::Key;
+use vm_types::{Key, Value};
 
-/// The greatest number of bytes of a value that stands in its leaf.
-pub(crate) const MAX_SHORT: u16 = 240;
-
-/// The greatest number of bytes of a value.
-pub(crate) const MAX_LONG: u16 = 4000;
+/// The most bytes of a value.
+const MAX_LONG: u16 = Value::MAX_LEN as u16;
 
 /// Where a long value stands.
 #[derive(Clone, Copy, Debug, PartialEq, Eq)]
@@ -43,7 +42,7 @@ impl Default for Stored<'_> {
 
 /// Writes a short value behind its key, and zero bytes behind it.
 fn write_short(value: &[u8], out: &mut [u8])
-    requires short { length value.now ≤ 240 }
+    requires short { length value.now ≤ MAX_SHORT }
     requires room { 242 ≤ length out.old }
     ensures { out.new ≡ value_bytes value.now ++ drop 242 out.old }
 {
@@ -81,7 +80,7 @@ pub(crate) fn write_row(key: Key, stored: Stored<'_>, out: &mut [u8])
 fn read_short(row: &[u8], len: usize) -> Option<Stored<'_>>
     requires whole { length row.now ≡ 252 }
     requires counted { IsLength row.now len }
-    requires short { len ≤ 240 }
+    requires short { len ≤ MAX_SHORT }
     ensures found { IfSome result (IsInRow row.now) }
     ensures only { IsRowOf row.now result }
 {
@@ -97,8 +96,8 @@ fn read_short(row: &[u8], len: usize) -> Option<Stored<'_>>
 fn read_link<'a>(row: &[u8], len: u16) -> Option<Stored<'a>>
     requires whole { length row.now ≡ 252 }
     requires counted { IsLength row.now len }
-    requires long { 240 < len }
-    requires most { len ≤ 4000 }
+    requires long { MAX_SHORT < len }
+    requires most { len ≤ longest }
     ensures found { IfSome result (IsInRow row.now) }
     ensures only { IsRowOf row.now result }
 {

@@ -7,6 +7,7 @@ ghost use Rattle.vm_block.specs.Head.{IsRowsHead};
 use crate::head::rows_head;
 use crate::keys::read_key;
 use crate::leaf_rows::seal;
+use crate::sizes::MAX_ROWS;
 use crate::spelling::put_zeros;
 use crate::way::choose;
 use vm_types::Key;
@@ -27,7 +28,7 @@ pub enum Taken {
 /// Takes the row at this index out of a leaf of so many.
 fn take_out(bytes: &mut [u8; 4096], count: usize, index: usize)
     requires within { index < count }
-    requires few { count ≤ 16 }
+    requires few { count ≤ MAX_ROWS }
     ensures { TakesOut count index bytes.old bytes.new }
 {
     let last = 16 + 252 * (count - 1);
@@ -39,7 +40,7 @@ fn take_out(bytes: &mut [u8; 4096], count: usize, index: usize)
 /// Takes the key's row out of a leaf of MOST rows at most, where another is left. The letters of
 /// the leaf are those of its rows then.
 pub fn remove_row(bytes: &mut [u8; 4096], most: usize, key: Key) -> Taken
-    requires { most ≤ 16 }
+    requires { most ≤ MAX_ROWS }
     ensures fits { KeyFits key }
     ensures head { (result ≢ Taken.NoLeaf) ↔ ((long : Bool) × (n : ℕ) × IsRowsHead bytes.old most long n) }
     ensures kept { result ≢ Taken.Out → bytes.new ≡ bytes.old }

@@ -5,10 +5,11 @@ ghost use Rattle.vm_block.specs.Leaf.{Row, RowFits, key_bytes, record_bytes};
 ghost use Rattle.vm_block.specs.Node.{lows};
 ghost use Rattle.vm_block.specs.Told.{HaveChildren, HaveRows, IfChildren, IfHasRows, IfLeafRowAt, IfNode, IfRows, IsNodeSize, IsRowOfItsKey, IsRowsSize};
 
-use crate::head::{MAX_RECORDS, node_numbers, rows_head};
+use crate::head::{node_numbers, rows_head};
 use crate::keys::read_key;
 use crate::leaf_rows::is_sealed;
 use crate::node::read_child;
+use crate::sizes::{MAX_CHILDREN, MAX_ROWS};
 use crate::spelling::are_zero;
 use crate::stored::read_stored;
 use vm_types::Key;
@@ -24,7 +25,7 @@ fn is_row(bytes: &[u8]) -> bool
 
 /// Whether the bytes begin with so many rows whose keys rise strictly.
 fn are_rows(bytes: &[u8], count: usize) -> bool
-    requires few { count ≤ 16 }
+    requires few { count ≤ MAX_ROWS }
     requires room { 252 * count ≤ length bytes.now }
     ensures found { IsTrue result → HaveRows bytes.now count }
     ensures only { IfRows bytes.now count (λ ws. RisesFrom 0 (places ws) → IsTrue result) }
@@ -46,7 +47,7 @@ pub fn rows_size(bytes: &[u8; 4096]) -> Option<usize>
     ensures found { IfSome result (IsRowsSize bytes.now) }
     ensures only { IfHasRows bytes.now (λ ws. result ≡ Some (length ws)) }
 {
-    let Some((long, count)) = rows_head(bytes, MAX_RECORDS) else {
+    let Some((long, count)) = rows_head(bytes, MAX_ROWS) else {
         return None;
     };
     if !are_rows(&bytes[16..], count)
@@ -60,7 +61,7 @@ pub fn rows_size(bytes: &[u8; 4096]) -> Option<usize>
 
 /// The key of the row at i, where a leaf has it.
 pub fn record_key(bytes: &[u8; 4096], i: usize) -> Key
-    requires { i < 16 }
+    requires { i < MAX_ROWS }
     ensures fits { KeyFits result }
     ensures spelled { take 10 (drop (16 + 252 * i) bytes.now) ≡ key_bytes result }
     ensures row { IfLeafRowAt bytes.now i (λ w. w.0 ≡ result) }
@@ -70,7 +71,7 @@ pub fn record_key(bytes: &[u8; 4096], i: usize) -> Key
 
 /// Whether the lowest keys of so many children, with which the bytes begin, rise strictly.
 fn are_children(bytes: &[u8], count: usize) -> bool
-    requires few { count ≤ 256 }
+    requires few { count ≤ MAX_CHILDREN }
     requires room { 14 * count ≤ length bytes.now }
     ensures found { IsTrue result → HaveChildren bytes.now count }
     ensures only { IfChildren bytes.now count (λ cs. RisesFrom 0 (lows cs) → IsTrue result) }

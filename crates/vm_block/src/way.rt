@@ -8,11 +8,12 @@ ghost use Rattle.vm_block.specs.Row.{node_row};
 ghost use Rattle.vm_block.specs.Told.{IfHasRows, IfNode, LacksRow, StandsAmong, found_bytes};
 ghost use Rattle.vm_block.specs.Way.{ChoosesAmong, IsWay, IsWayTo, Lowest, TellsHead};
 
-use crate::head::{MAX_RECORDS, node_numbers, rows_head};
+use crate::head::{node_numbers, rows_head};
 use crate::keys::read_key;
 use crate::node::{Child, read_child};
+use crate::sizes::{MAX_CHILDREN, MAX_ROWS};
 use crate::stored::{Stored, read_stored};
-use vm_types::Key;
+use vm_types::{BLOCK_SIZE, Key};
 
 /// Where a descent to a key goes in an inner block.
 #[derive(Clone, Copy, Debug, PartialEq, Eq)]
@@ -32,7 +33,7 @@ pub struct Way {
 pub(crate) fn choose(bytes: &[u8; 4096], size: usize, count: usize, place: u128) -> usize
     requires some { 0 < count }
     requires keyed { 10 ≤ size }
-    requires room { 16 + size * count ≤ 4096 }
+    requires room { 16 + size * count ≤ BLOCK_SIZE }
     ensures within { result < count }
     ensures chosen { ChoosesAmong bytes.now size count place result }
 {
@@ -51,7 +52,7 @@ pub(crate) fn choose(bytes: &[u8; 4096], size: usize, count: usize, place: u128)
 
 /// The child at i, where an inner block has it.
 pub fn child_at(bytes: &[u8; 4096], i: usize) -> Child
-    requires { i < 256 }
+    requires { i < MAX_CHILDREN }
     ensures fits { ChildFits result }
     ensures spelled { node_row bytes.now i ≡ child_bytes result }
     ensures child { IfNode bytes.now (λ level cs. i < length cs → slice_index_or cs i result ≡ result) }
@@ -102,14 +103,14 @@ pub fn lowest_key(bytes: &[u8; 4096]) -> Key
 /// the row that was found is none.
 pub fn find_row(bytes: &[u8; 4096], key: Key) -> Option<Option<Stored<'_>>>
     // On any bytes: None where they begin with the head of no leaf, and else only where a row is none.
-    ensures head { IfSome result (λ found. (long : Bool) × (n : ℕ) × IsRowsHead bytes.now 16 long n) }
-    ensures headed { (long : Bool) (n : ℕ) → IsRowsHead bytes.now 16 long n → result ≡ None → LacksRow bytes.now n }
+    ensures head { IfSome result (λ found. (long : Bool) × (n : ℕ) × IsRowsHead bytes.now MAX_ROWS long n) }
+    ensures headed { (long : Bool) (n : ℕ) → IsRowsHead bytes.now MAX_ROWS long n → result ≡ None → LacksRow bytes.now n }
     ensures stands { IfSome result (λ found. IfSome found (StandsAmong bytes.now)) }
 
     ensures only { IfHasRows bytes.now
         (λ ws. IsSomeAnd result (λ found. found_bytes found ≡ value_at (place key) ws)) }
 {
-    let Some((_, count)) = rows_head(bytes, MAX_RECORDS) else {
+    let Some((_, count)) = rows_head(bytes, MAX_ROWS) else {
         return None;
     };
     let place = key.place();

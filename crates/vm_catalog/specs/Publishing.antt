@@ -1,5 +1,6 @@
 -- What publishing entries does to a disk, at its end and at each moment of it.
 use Rattle.std.specs.Prelude.{◌≡◌, ◌≢◌, ◌⊎◌, ℕ, ◌≤◌, true, false, List, length}
+use Rattle.vm_types.specs.declared.sizes.TheConstants.{FIRST_DATA}
 use Rattle.vm_disk.specs.Disk.{Contents, block, Medium, IsClean}
 use Rattle.vm_block.specs.Header.{IsHeader}
 use Rattle.vm_block.specs.Selector.{other_slot}
@@ -13,7 +14,7 @@ use Rattle.vm_catalog.specs.Catalog.{SlotAt, Names, AtRest}
 pub record IsPublished (slot_name : SlotName) (old new : Medium) (format : SlotFormat) (limit : ℕ) (es : List Entry) : Type 0 where
   pub rest : AtRest slot_name new format limit es
   pub clean : IsClean new
-  pub same : (n : ℕ) → 34 ≤ n → block new.contents n ≡ block old.contents n
+  pub same : (n : ℕ) → FIRST_DATA ≤ n → block new.contents n ≡ block old.contents n
   pub count : length new.contents ≡ length old.contents
 
 -- what a crash in a publish leaves: the old entries with each data block that was clean, or the new ones with all blocks and all data
@@ -21,8 +22,8 @@ abbrev pub PublishLeaves : Medium → SlotFormat → ℕ → List Entry → Slot
 PublishLeaves old format limit es new_format new_limit new left =
     (old.sure ≤ length left)
     × (length left ≤ length old.contents)
-    × ((Names left format limit es × ((n : ℕ) → 34 ≤ n → old.dirty n ≡ false → block left n ≡ block old.contents n))
-    ⊎ (Names left new_format new_limit new × (length left ≡ length old.contents) × ((n : ℕ) → 34 ≤ n → block left n ≡ block old.contents n)))
+    × ((Names left format limit es × ((n : ℕ) → FIRST_DATA ≤ n → old.dirty n ≡ false → block left n ≡ block old.contents n))
+    ⊎ (Names left new_format new_limit new × (length left ≡ length old.contents) × ((n : ℕ) → FIRST_DATA ≤ n → block left n ≡ block old.contents n)))
 
 -- both slots are whole, a crash leaves each block, and none but the selector is dirty: so either slot may be found in use
 pub record IsTurning (slot_name : SlotName) (m : Medium) (format : SlotFormat) (limit : ℕ) (es : List Entry) (new_format : SlotFormat) (new_limit : ℕ) (new : List Entry) : Type 0 where
@@ -38,8 +39,8 @@ pub record IsSafelyPublishing (slot_name : SlotName) (old : Medium) (format : Sl
   -- a crash leaves at least the blocks that it left before
   pub sure : old.sure ≤ m.sure
   -- no data block is written
-  pub same : (n : ℕ) → 34 ≤ n → block m.contents n ≡ block old.contents n
-  pub still_clean : (n : ℕ) → 34 ≤ n → old.dirty n ≡ false → m.dirty n ≡ false
+  pub same : (n : ℕ) → FIRST_DATA ≤ n → block m.contents n ≡ block old.contents n
+  pub still_clean : (n : ℕ) → FIRST_DATA ≤ n → old.dirty n ≡ false → m.dirty n ≡ false
   -- neither the header nor a used block of the slot that was in use is written
   pub spared : (n : ℕ) → n ≢ 1 → is_used slot_name (length es) n ≡ true → (block m.contents n ≡ block old.contents n) × (m.dirty n ≡ false)
   -- while the selector is clean it names the old entries, or the new ones on a clean disk, and each block that names them is clean

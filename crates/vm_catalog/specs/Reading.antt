@@ -1,6 +1,7 @@
 -- What is read of a slot.
 use Rattle.std.specs.Prelude.{◌≡◌, ℕ, ◌+◌, ◌*◌, min, List, ◌++◌, length, take, drop, Result, Ok, Err}
 use Rattle.std.specs.List.{AllByRecursion, flat_map}
+use Rattle.vm_types.specs.declared.sizes.TheConstants.{BLOCK_SIZE}
 use Rattle.vm_block.specs.Slot.{head_bytes, entry_bytes, EntryFits, HeadFits, IsEntry}
 use Rattle.vm_block.specs.declared.slot.Entry.{Entry}
 use Rattle.vm_block.specs.declared.slot.SlotFormat.{SlotFormat}
@@ -41,6 +42,6 @@ pub record FitsSoFar (limit n count : ℕ) (es : List Entry) : Type 0 where
 
 -- the blocks begin with this head and these entries
 pub record BeginsSlot (blocks : List (List ℕ)) (format : SlotFormat) (limit n : ℕ) (es : List Entry) : Type 0 where
-  pub whole : AllByRecursion (λ block. length block ≡ 4096) blocks
+  pub whole : AllByRecursion (λ block. length block ≡ BLOCK_SIZE) blocks
   pub rest : List ℕ
   pub spelled : joined blocks ≡ (head_bytes format limit n ++ flat_map entry_bytes es) ++ rest

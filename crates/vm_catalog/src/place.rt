@@ -4,9 +4,7 @@ ghost use Rattle.vm_block.specs.Slot.{used_blocks};
 ghost use Rattle.vm_catalog.specs.Place.{slot_at};
 
 use vm_block::SlotName;
-
-/// How many entries a slot can have.
-pub const MAX_ENTRIES: usize = vm_block::MAX_ENTRIES as usize;
+use vm_types::MAX_VERSIONS;
 
 /// The number of the first block of a slot.
 pub fn first_block(slot_name: SlotName) -> u32
@@ -20,7 +18,7 @@ pub fn first_block(slot_name: SlotName) -> u32
 
 /// How many blocks of a slot are used where it has so many entries, beside its head.
 pub fn used_blocks(entries: usize) -> u32
-    requires { entries ≤ MAX_ENTRIES }
+    requires { entries ≤ MAX_VERSIONS }
     ensures { result ≡ used_blocks entries }
 {
     (entries as u32 + 32) / 32

@@ -8,10 +8,11 @@ ghost use Rattle.vm_catalog.specs.Calls.{FindsFront, HasFront, LoadsAll, LoadsHe
 ghost use Rattle.vm_catalog.specs.Reading.{cell_of, HasEntry, HasTaken, FitsSoFar};
 
 use crate::ledger::is_ledger;
-use crate::place::{MAX_ENTRIES, first_block, used_blocks};
+use crate::place::{first_block, used_blocks};
 use std::alloc::{Allocator, Global};
 use vm_block::{Entry, SlotFormat, SlotHead, SlotName, read_entry, read_slot_head};
 use vm_disk::Disk;
+use vm_types::{BLOCK_SIZE, FIRST_DATA, MAX_VERSIONS};
 
 /// Why a slot could not be loaded.
 #[derive(Clone, Copy, Debug, PartialEq, Eq)]
@@ -68,9 +69,9 @@ fn read_entries<A: Allocator>(
 
 /// Reads the head of a slot from its first block, and the entries behind it.
 fn read_front(block: &[u8], entries: &mut Vec<Entry>) -> Option<SlotHead>
-    requires whole { length block.now ≡ 4096 }
+    requires whole { length block.now ≡ BLOCK_SIZE }
     requires none { entries.old.items ≡ [] }
-    requires room { MAX_ENTRIES ≤ vec_capacity entries.old }
+    requires room { MAX_VERSIONS ≤ vec_capacity entries.old }
     ensures room { vec_capacity entries.new ≡ vec_capacity entries.old }
     ensures head { IfSome result (λ head. IsHead (take 128 block.now) head.format head.blocks head.entries) }
     ensures found { IfSome result (λ head. HasTaken block.now 1 (min head.entries 31) [] entries.new.items) }
@@ -88,9 +89,9 @@ fn read_first<D: Disk>(
     slot_name: SlotName,
     entries: &mut Vec<Entry>,
 ) -> Result<SlotHead, LoadFault>
-    requires blocks { 34 ≤ (D.state disk.old).blocks }
+    requires blocks { FIRST_DATA ≤ (D.state disk.old).blocks }
     requires none { entries.old.items ≡ [] }
-    requires room { MAX_ENTRIES ≤ vec_capacity entries.old }
+    requires room { MAX_VERSIONS ≤ vec_capacity entries.old }
     ensures any { Goes (result ≡ Err LoadFault.Device) (D.state disk.old) (D.state disk.new) }
     ensures reads { (D.state disk.new).honest ≡ true
         → OnlyReads (D.state disk.old) (D.state disk.new) }
@@ -117,8 +118,8 @@ fn read_others<D: Disk>(
     head: SlotHead,
     entries: &mut Vec<Entry>,
 ) -> Result<(), LoadFault>
-    requires blocks { 34 ≤ (D.state disk.old).blocks }
-    requires room { MAX_ENTRIES ≤ vec_capacity entries.old }
+    requires blocks { FIRST_DATA ≤ (D.state disk.old).blocks }
+    requires room { MAX_VERSIONS ≤ vec_capacity entries.old }
     requires fits { FitsSoFar head.blocks head.entries 1 entries.old.items }
     requires found { HasFront (D.state disk.old) slot_name head entries.old.items }
     ensures any { Goes (result ≡ Err LoadFault.Device) (D.state disk.old) (D.state disk.new) }
@@ -148,7 +149,7 @@ fn read_others<D: Disk>(
 /// Loads the entries of a slot. It reads the used blocks of that slot, each once
 /// and in order, and reserves room for as many entries as a slot can have.
 pub fn load<D: Disk>(alloc: Global, disk: &mut D, slot_name: SlotName) -> Result<Slot, LoadFault>
-    requires { 34 ≤ (D.state disk.old).blocks }
+    requires { FIRST_DATA ≤ (D.state disk.old).blocks }
     ensures any { Goes (result ≡ Err LoadFault.Device) (D.state disk.old) (D.state disk.new) }
     ensures reads { (D.state disk.new).honest ≡ true
         → OnlyReads (D.state disk.old) (D.state disk.new) }
@@ -159,13 +160,13 @@ pub fn load<D: Disk>(alloc: Global, disk: &mut D, slot_name: SlotName) -> Result
 
     // On any disk what is loaded are entries that a slot may have, with room for as many as it can.
     ensures fits { IfOk result (λ slot. SlotFits slot.blocks slot.entries.items) }
-    ensures reserved { IfOk result (λ slot. MAX_ENTRIES ≤ vec_capacity slot.entries) }
+    ensures reserved { IfOk result (λ slot. MAX_VERSIONS ≤ vec_capacity slot.entries) }
 
     // On an honest disk they are exactly those of the slot.
     ensures found { LoadsHeld result (D.state disk.old) (D.state disk.new) slot_name }
     ensures only { LoadsAll result (D.state disk.old) (D.state disk.new) slot_name }
 {
-    let Ok(mut entries) = Vec::with_capacity(alloc, MAX_ENTRIES) else {
+    let Ok(mut entries) = Vec::with_capacity(alloc, MAX_VERSIONS) else {
         return Err(LoadFault::Memory);
     };
     let head = read_first(disk, slot_name, &mut entries)?;

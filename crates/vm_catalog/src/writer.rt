@@ -6,14 +6,15 @@ ghost use Rattle.vm_block.specs.Slot.{used_blocks};
 ghost use Rattle.vm_catalog.specs.Calls.{CrashLeavesOne, Publishes, PublishesSafely, TouchesSlot, WritesSlot};
 ghost use Rattle.vm_catalog.specs.Written.{slot_blocks, cells, joined};
 
-use crate::place::{MAX_ENTRIES, first_block, used_blocks};
+use crate::place::{first_block, used_blocks};
 use crate::selection::select_slot;
 use vm_block::{Entry, SlotFormat, SlotHead, SlotName, write_entry, write_slot_head};
 use vm_disk::{DeviceFault, Disk};
+use vm_types::{FIRST_DATA, MAX_VERSIONS};
 
 /// The head of a slot is its cell 0, and its entries are those from 1 on.
 fn write_cell(format: SlotFormat, blocks: u32, entries: &[Entry], cell: usize, out: &mut [u8])
-    requires few { length entries.now ≤ MAX_ENTRIES }
+    requires few { length entries.now ≤ MAX_VERSIONS }
     requires inside { cell ≤ length entries.now }
     requires room { 128 ≤ length out.old }
     ensures { out.new ≡ slice_index_or (cells format blocks entries.now) cell [] ++ drop 128 out.old }
@@ -39,7 +40,7 @@ fn write_cells(
     count: usize,
     out: &mut [u8],
 )
-    requires few { length entries.now ≤ MAX_ENTRIES }
+    requires few { length entries.now ≤ MAX_VERSIONS }
     requires inside { first + count ≤ length entries.now + 1 }
     requires room { 128 * count ≤ length out.old }
     ensures { out.new
@@ -53,7 +54,7 @@ fn write_cells(
 
 /// Block `index` of the slot with these entries.
 fn write_block(format: SlotFormat, blocks: u32, entries: &[Entry], index: u32, out: &mut [u8; 4096])
-    requires few { length entries.now ≤ MAX_ENTRIES }
+    requires few { length entries.now ≤ MAX_VERSIONS }
     requires used { index < used_blocks (length entries.now) }
     ensures { out.new ≡ slice_index_or (slot_blocks format blocks entries.now) index [] }
 {
@@ -73,8 +74,8 @@ pub fn write_slot<D: Disk>(
     blocks: u32,
     entries: &[Entry],
 ) -> Result<(), DeviceFault>
-    requires few { length entries.now ≤ MAX_ENTRIES }
-    requires room { 34 ≤ (D.state disk.old).blocks }
+    requires few { length entries.now ≤ MAX_VERSIONS }
+    requires room { FIRST_DATA ≤ (D.state disk.old).blocks }
     ensures any { Goes (IsErr result) (D.state disk.old) (D.state disk.new) }
     ensures written { WritesSlot result (D.state disk.new) slot_name format blocks entries.now }
     ensures moments { TouchesSlot (D.state disk.old) (D.state disk.new) slot_name entries.now }
@@ -101,8 +102,8 @@ pub fn publish<D: Disk>(
     blocks: u32,
     entries: &[Entry],
 ) -> Result<(), DeviceFault>
-    requires few { length entries.now ≤ MAX_ENTRIES }
-    requires room { 34 ≤ (D.state disk.old).blocks }
+    requires few { length entries.now ≤ MAX_VERSIONS }
+    requires room { FIRST_DATA ≤ (D.state disk.old).blocks }
     ensures any { Goes (IsErr result) (D.state disk.old) (D.state disk.new) }
 
     // At Ok the new entries alone are named, no block is dirty, and the data blocks are as they were.

@@ -1,6 +1,7 @@
 -- Blocks of a tree, told by their bytes.
 use Rattle.std.specs.Prelude.{◌≡◌, ℕ, ◌<◌, ◌≤◌, true, List, length, Result}
 use Rattle.vm_disk.specs.Disk.{DiskState, block}
+use Rattle.vm_block.specs.declared.sizes.TheConstants.{MAX_ROWS, MAX_CHILDREN}
 use Rattle.vm_block.specs.Leaf.{Row, HasRows}
 use Rattle.vm_block.specs.Node.{IsNode}
 use Rattle.vm_block.specs.declared.node.Child.{Child}
@@ -18,8 +19,8 @@ IsForm bytes (Node level count) = (cs : List Child) × IsNode bytes level cs × 
 
 -- it has rows, or a level above that of leaves and children, and no more than a block has room for
 abbrev pub IsFilled : Form → Type 0
-IsFilled (Leaf count) = (0 < count) × (count ≤ 16)
-IsFilled (Node level count) = (0 < level) × (level ≤ 7) × (0 < count) × (count ≤ 256)
+IsFilled (Leaf count) = (0 < count) × (count ≤ MAX_ROWS)
+IsFilled (Node level count) = (0 < level) × (level ≤ 7) × (0 < count) × (count ≤ MAX_CHILDREN)
 
 -- the answer is Ok, unless the device failed
 abbrev pub OkUnlessDevice : {T : Type 0} → Result T TreeFault → Type 0

@@ -1,6 +1,7 @@
 -- Marks on the blocks of trees.
 use Rattle.std.specs.Prelude.{◌≡◌, ◌⊎◌, ℕ, ◌+◌, ◌≤◌, Bool, true, List, [], ◌∷◌, ◌++◌, length, drop, Contains, Option, None, Some, Result, OnOk, IsOk}
 use Rattle.std.specs.List.{AllByRecursion}
+use Rattle.vm_types.specs.declared.sizes.TheConstants.{FIRST_DATA}
 use Rattle.vm_types.specs.Map.{Map}
 use Rattle.vm_disk.specs.Disk.{Contents, DiskState, block}
 use Rattle.vm_alloc.specs.Held.{HoldsMore, free_count}
@@ -18,7 +19,7 @@ use Rattle.vm_check.specs.Form.{OkUnlessDevice}
 
 -- how many data blocks are not marked
 abbrev pub unmarked : List Bool → ℕ
-unmarked marks = free_count (drop 34 marks)
+unmarked marks = free_count (drop FIRST_DATA marks)
 
 -- each of these has its blocks, and joined they are bs; T tells which blocks one has
 abbrev pub Joined : {X : Type 0} → (X → List ℕ → Type 0) → List X → List ℕ → Type 0

@@ -1,6 +1,7 @@
 -- What `verify` finds under numbers.
 use Rattle.std.specs.Prelude.{◌≡◌, ℕ, ◌+◌, Bool, true, List, [], ◌∷◌, ◌++◌, length, Contains, Result}
 use Rattle.std.specs.List.{AllByRecursion}
+use Rattle.vm_types.specs.declared.sizes.TheConstants.{FIRST_DATA}
 use Rattle.vm_types.specs.Map.{Map}
 use Rattle.vm_disk.specs.Disk.{Contents, DiskState}
 use Rattle.vm_alloc.specs.Marks.{IsMarked}
@@ -41,4 +42,4 @@ AcceptsTrees result long sizes old new limit ns =
 
 -- just as many blocks were read as are marked, of so many in the store
 abbrev pub PaidFor : DiskState → DiskState → ℕ → List Bool → Type 0
-PaidFor old new limit marks = new.reads + unmarked marks + 34 ≡ old.reads + limit
+PaidFor old new limit marks = new.reads + unmarked marks + FIRST_DATA ≡ old.reads + limit

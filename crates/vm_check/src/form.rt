@@ -5,7 +5,7 @@ ghost use Rattle.vm_tree.specs.Calls.{OnlyLooks};
 ghost use Rattle.vm_tree.specs.Reading.{ReadsOne};
 ghost use Rattle.vm_check.specs.Form.{AcceptsLeaf, AcceptsNode, AcceptsNodeAt, HasRead, IsFilled, IsForm};
 
-use vm_block::{node_size, rows_size};
+use vm_block::{MAX_CHILDREN, node_size, rows_size};
 use vm_disk::Disk;
 use vm_tree::{TreeFault, data_at};
 
@@ -59,7 +59,7 @@ pub(crate) fn node_at<D: Disk>(
     ensures deep { result ≢ Err TreeFault.Deep }
     ensures memory { result ≢ Err TreeFault.Memory }
     ensures once { ReadsOne blocks block (D.state disk.old).reads (D.state disk.new).reads }
-    ensures few { IfOk result (λ count. count ≤ 256) }
+    ensures few { IfOk result (λ count. count ≤ MAX_CHILDREN) }
     ensures form { IfOk result (λ count. IsNodeSize bytes.new (level, count)) }
     ensures found { HasRead result (D.state disk.old) (D.state disk.new) block bytes.new }
     ensures only { AcceptsNodeAt result (D.state disk.old) (D.state disk.new) blocks level block }

@@ -11,13 +11,13 @@ ghost use Rattle.vm_check.specs.Notes.{is_noted};
 use crate::form::node_at;
 use crate::noted::NotedDisk;
 use vm_alloc::Marks;
-use vm_block::{Stored, child_at, is_long_leaf, rows_size, stored_at};
+use vm_block::{MAX_ROWS, Stored, child_at, is_long_leaf, rows_size, stored_at};
 use vm_disk::Disk;
 use vm_tree::{Root, TreeFault, data_at, is_data};
 
 /// The block to which the row at i of a leaf links.
 fn link_at(bytes: &[u8; 4096], i: usize) -> Option<u32>
-    requires { i < 16 }
+    requires { i < MAX_ROWS }
     ensures { IfLeafRowAt bytes.now i (TellsLink result) }
 {
     match stored_at(bytes, i) {
@@ -29,7 +29,7 @@ fn link_at(bytes: &[u8; 4096], i: usize) -> Option<u32>
 
 /// Marks the block to which the row at i of a leaf links, if it does.
 fn mark_link(bytes: &[u8; 4096], blocks: u32, i: usize, marks: &mut Marks) -> Result<(), TreeFault>
-    requires row { i < 16 }
+    requires row { i < MAX_ROWS }
     requires bits { length marks.old ≡ blocks }
     ensures device { result ≢ Err TreeFault.Device }
     ensures deep { result ≢ Err TreeFault.Deep }

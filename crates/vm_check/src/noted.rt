@@ -10,6 +10,7 @@ use std::alloc::{AllocError, Global};
 use vm_alloc::Marks;
 use vm_block::is_long_leaf;
 use vm_disk::{DeviceFault, Disk};
+use vm_types::{MAX_BLOCKS, MIN_BLOCKS};
 
 /// Notes of a block whether it is plain, where there is room.
 fn note(notes: &mut Option<Marks>, n: u32, plain: bool)
@@ -51,8 +52,8 @@ fn room(notes: &Option<Marks>) -> u32
 
 /// The same notes, with room for so many blocks.
 fn longer(notes: &Option<Marks>, alloc: Global, blocks: u32) -> Result<Marks, AllocError>
-    requires enough { 64 ≤ blocks }
-    requires few { blocks ≤ 1048576 }
+    requires enough { MIN_BLOCKS ≤ blocks }
+    requires few { blocks ≤ MAX_BLOCKS }
     requires less { room_of notes.now ≤ blocks }
     ensures room { IfOk result (λ marks. length marks ≡ blocks) }
     ensures same { IfOk result (λ marks. (n : ℕ) → is_marked marks n ≡ is_noted notes.now n) }
@@ -88,8 +89,8 @@ impl<D: Disk> NotedDisk<D> {
     /// Takes room for notes of so many blocks, where there is less. What is noted stays, also where no
     /// memory is found.
     pub fn reserve(&mut self, alloc: Global, blocks: u32) -> Result<(), AllocError>
-        requires enough { 64 ≤ blocks }
-        requires few { blocks ≤ 1048576 }
+        requires enough { MIN_BLOCKS ≤ blocks }
+        requires few { blocks ≤ MAX_BLOCKS }
         ensures kept { KeepsNotes self.old self.new }
         ensures room { OnOk result (blocks ≤ room_of (notes_of self.new)) }
         ensures refused { OnErr result (self.new ≡ self.old) }

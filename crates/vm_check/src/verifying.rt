@@ -15,10 +15,12 @@ ghost use Rattle.vm_check.specs.Visiting.{AcceptsChildren, AcceptsLong, AcceptsR
 use crate::form::{Form, form_at};
 use std::alloc::Global;
 use vm_alloc::Marks;
-use vm_block::{Link, Stored, child_at, is_long_leaf, lowest_key, record_key, stored_at};
+use vm_block::{
+    Link, MAX_CHILDREN, MAX_ROWS, Stored, child_at, is_long_leaf, lowest_key, record_key, stored_at,
+};
 use vm_disk::Disk;
 use vm_tree::{Root, TreeFault, is_data, long_at};
-use vm_types::Key;
+use vm_types::{FIRST_DATA, Key, MAX_BLOCKS, MIN_BLOCKS};
 
 /// The level of the blocks of long values, above that of any inner block.
 const LONG: u8 = 8;
@@ -155,7 +157,7 @@ fn suits(long: bool, bytes: &[u8; 4096]) -> bool
 /// What a leaf of so many rows is.
 fn leaf_span(bytes: &[u8; 4096], count: usize) -> Span
     requires some { 0 < count }
-    requires few { count ≤ 16 }
+    requires few { count ≤ MAX_ROWS }
     ensures level { result.level ≡ 0 }
     ensures low { IfHasRows bytes.now (BeginsWith result.low) }
     ensures high { IfHasRows bytes.now (λ ws. length ws ≡ count → IsHighest result.high ws) }
@@ -242,7 +244,7 @@ fn visit_row<D: Disk>(
     marks: &mut Marks,
     spans: &mut [Met],
 ) -> Result<(), TreeFault>
-    requires row { i < 16 }
+    requires row { i < MAX_ROWS }
     requires inside { blocks ≤ (D.state disk.old).blocks }
     requires bits { length marks.old ≡ blocks }
     requires room { length spans.old ≡ blocks }
@@ -274,7 +276,7 @@ fn visit_rows<D: Disk>(
     marks: &mut Marks,
     spans: &mut [Met],
 ) -> Result<(), TreeFault>
-    requires few { count ≤ 16 }
+    requires few { count ≤ MAX_ROWS }
     requires inside { blocks ≤ (D.state disk.old).blocks }
     requires bits { length marks.old ≡ blocks }
     requires room { length spans.old ≡ blocks }
@@ -303,7 +305,7 @@ fn visit_beside<D: Disk>(
     marks: &mut Marks,
     spans: &mut [Met],
 ) -> Result<(), TreeFault>
-    requires few { count ≤ 16 }
+    requires few { count ≤ MAX_ROWS }
     requires inside { blocks ≤ (D.state disk.old).blocks }
     requires bits { length marks.old ≡ blocks }
     requires room { length spans.old ≡ blocks }
@@ -340,7 +342,7 @@ fn visit_children<D: Disk, const LEAF: usize, const FAN: usize>(
     requires inside { blocks ≤ (D.state disk.old).blocks }
     requires bits { length marks.old ≡ blocks }
     requires room { length spans.old ≡ blocks }
-    requires few { count ≤ 256 }
+    requires few { count ≤ MAX_CHILDREN }
     requires low { level ≤ 7 }
     ensures looks { OnlyLooks result (D.state disk.old) (D.state disk.new) }
     ensures deep { result ≢ Err TreeFault.Deep }
@@ -376,7 +378,7 @@ fn visit_children<D: Disk, const LEAF: usize, const FAN: usize>(
 /// Whether a key stands below the lowest key of the child after the one at i, if there is one.
 fn is_below_next(high: Key, bytes: &[u8; 4096], count: usize, i: usize) -> bool
     requires within { i < count }
-    requires few { count ≤ 256 }
+    requires few { count ≤ MAX_CHILDREN }
     ensures { EndsBelowNext high bytes.now count i (IsTrue result) }
 {
     if i + 1 >= count {
@@ -401,8 +403,8 @@ pub fn verify<D: Disk, const LEAF: usize, const FAN: usize, const LEVELS: usize>
     numbers: &[u32],
 ) -> Result<(Vec<Root>, Marks), TreeFault>
     requires sizes { AreSizes LEAF FAN LEVELS }
-    requires enough { 64 ≤ blocks }
-    requires few { blocks ≤ 1048576 }
+    requires enough { MIN_BLOCKS ≤ blocks }
+    requires few { blocks ≤ MAX_BLOCKS }
     requires inside { blocks ≤ (D.state disk.old).blocks }
     ensures looks { OnlyLooks result (D.state disk.old) (D.state disk.new) }
     ensures deep { result ≢ Err TreeFault.Deep }
@@ -414,7 +416,7 @@ pub fn verify<D: Disk, const LEAF: usize, const FAN: usize, const LEVELS: usize>
 
     // No block is read twice, whatever the disk holds and whatever the answer: there are no more reads
     // than data blocks, and where it answers Ok, just as many as blocks that are marked.
-    ensures once { (D.state disk.new).reads + 34 ≤ (D.state disk.old).reads + blocks }
+    ensures once { (D.state disk.new).reads + FIRST_DATA ≤ (D.state disk.old).reads + blocks }
     ensures paid { IfOk result
         (λ found. PaidFor (D.state disk.old) (D.state disk.new) blocks found.1) }
 

@@ -6,6 +6,7 @@ use Rattle.vm_types.specs.declared.answer.Answer.{Answer}
 use Rattle.vm_types.specs.declared.refusal.Refusal.{Refusal}
 use Rattle.vm_types.specs.declared.refusal.Refusal.TheVariants.{Device, Failed, Memory}
 use Rattle.vm_store.specs.declared.store.Store.{Store}
+use Rattle.vm_cli.specs.declared.answers.text.TheConstants.Text.{MAX_LEN}
 use Rattle.vm_cli.specs.Carried.{WritesStart, Carries}
 use Rattle.vm_cli.specs.Lines.{lines_of}
 use Rattle.vm_cli.specs.Replies.{ends_talk, is_error, reply_text}
@@ -141,7 +142,7 @@ module _ {D W : Type 0} {members : _} (contents : W → Option (List ℕ)) where
   -- the words of a line are handled, and of their answer the rest, behind which there is room for a last line, is still to be written.
   -- On any disk the talk ends with it just where the store fails in it, as a device call did; a store that had failed is left as it was
   pub record HandlesInto (words : List (List ℕ)) (result : Result Reply WriteFault) (old new : Store D members) (writer writer' : W) (rest : List ℕ) : Type 0 where
-    pub room : OnOk result (length rest + 1024 ≤ 65536)
+    pub room : OnOk result (length rest + 1024 ≤ MAX_LEN)
     pub goes : GrowsOn ⊥ old new
     pub last : EndsIfFailed result old new
     pub failing : FailsByDevice old new

@@ -1,6 +1,7 @@
 -- What a run of the program does to the files of its place.
 use Rattle.std.specs.Prelude.{◌≡◌, ◌⊎◌, ℕ, List, Option, Some, None, codes, replicate}
 use Rattle.clap.specs.Words.{Text}
+use Rattle.vm_types.specs.declared.sizes.TheConstants.{BLOCK_SIZE}
 use Rattle.vm_types.specs.declared.refusal.Refusal.{Refusal}
 use Rattle.vm_types.specs.State.{Seen, opened}
 use Rattle.vm_disk.specs.Disk.{Contents, IsClean, Medium}
@@ -34,7 +35,7 @@ module _ {D : Type 0} (members : Ghosts D) where
   pub record LaysOut (name : List ℕ) (blocks : ℕ) (exit : Exit) (new : PlaceState) (before after errors errors' : Option (List ℕ)) : Type 0 where
     pub start : D
     pub end : D
-    pub zero : (members.state start).now.contents ≡ replicate blocks (replicate 4096 0)
+    pub zero : (members.state start).now.contents ≡ replicate blocks (replicate BLOCK_SIZE 0)
     pub lent : WasLent name (members.state start) (members.state end) new
     pub moments : Throughout (members.state start) (members.state end) (IsFormatting blocks (members.state start).now)
     pub told : (HasMade (members.state start) (members.state end) blocks × Tells Done exit before after (created_text blocks))

@@ -1,5 +1,6 @@
 -- What is known of a place where disks are found by name, and what its calls do to it.
 use Rattle.std.specs.Prelude.{◌≡◌, ◌≢◌, ℕ, Bool, true, List, [], Option, Some, None, IfSome, option_map, replicate}
+use Rattle.vm_types.specs.declared.sizes.TheConstants.{BLOCK_SIZE}
 use Rattle.vm_disk.specs.Disk.{Contents, DiskState, IsClean}
 
 -- what is known of a place
@@ -18,7 +19,7 @@ KeepsOthers name old new = (other : List ℕ) → other ≢ name → new.files o
 -- a disk of so many zero blocks is made where there was no file of this name, and no moment of it is past; a file that was there stays as it was
 pub record Creates (name : List ℕ) (blocks : ℕ) (made : Option DiskState) (old new : PlaceState) : Type 0 where
   pub absent : IfSome made (λ s. old.files name ≡ None)
-  pub zero : IfSome made (λ s. s.honest ≡ true → (s.blocks ≡ blocks) × (s.now.contents ≡ replicate blocks (replicate 4096 0)))
+  pub zero : IfSome made (λ s. s.honest ≡ true → (s.blocks ≡ blocks) × (s.now.contents ≡ replicate blocks (replicate BLOCK_SIZE 0)))
   pub fresh : IfSome made (λ s. s.past ≡ [])
   pub stays : (contents : Contents) → old.files name ≡ Some contents → new.files name ≡ Some contents
   pub others : KeepsOthers name old new

@@ -1,5 +1,6 @@
 -- A line that is being read.
 use Rattle.std.specs.Prelude.{◌≡◌, ◌<◌, ◌≤◌, ◌-◌, ◌==◌, ◌&&◌, ℕ, Bool, true, false, List, [], ◌∷◌, length, take, nat_lt, slice_index, if◌then◌else◌}
+use Rattle.vm_cli.specs.declared.lines.line.TheConstants.{MAX_BYTES}
 use Rattle.vm_cli.specs.Lines.{IsPart}
 use Rattle.vm_cli.specs.declared.lines.line.LineKind.{LineKind}
 use Rattle.vm_cli.specs.declared.lines.line.LineKind.TheVariants.{Kept, Long, NoMemory}
@@ -12,8 +13,8 @@ is_nil (b ∷ bytes) = false
 
 -- a line's bytes are kept whole, or there are too many, or memory was refused
 abbrev pub KindHolds : LineKind → List ℕ → List ℕ → Type 0
-KindHolds Kept bytes part = (bytes ≡ part) × (length part ≤ 1048576)
-KindHolds Long bytes part = 1048576 < length part
+KindHolds Kept bytes part = (bytes ≡ part) × (length part ≤ MAX_BYTES)
+KindHolds Long bytes part = MAX_BYTES < length part
 KindHolds NoMemory bytes part = Unit {0}
 
 -- the bytes of a line so far

@@ -1,5 +1,6 @@
 -- What the files of the system hold, by what was done with them.
 use Rattle.std.specs.Prelude.{ℕ, ◌+◌, ◌-◌, ◌/◌, ◌^◌, ◌&&◌, min, Bool, true, false, List, [], ◌∷◌, Option, Some, None, if◌then◌else◌, length, reverse, bytes_eq, option_map}
+use Rattle.vm_types.specs.declared.sizes.TheConstants.{BLOCK_SIZE}
 use Rattle.vm_disk.specs.Disk.{Contents, DiskState}
 use Rattle.vm_disk.specs.File.{file_blocks, file_of, file_state}
 use Rattle.vm_disk.specs.Past.{noted}
@@ -15,7 +16,7 @@ use Rattle.vm_cli.specs.declared.program.progress.Watched.{Watched}
 
 -- the whole blocks of these bytes, as many as a disk may have
 abbrev pub whole_blocks : List ℕ → Contents
-whole_blocks bytes = file_blocks (min (length bytes / 4096) (2 ^ 32 - 1)) bytes
+whole_blocks bytes = file_blocks (min (length bytes / BLOCK_SIZE) (2 ^ 32 - 1)) bytes
 
 -- two contents are the same, block by block
 abbrev pub same_contents : Contents → Contents → Bool

@@ -16,6 +16,7 @@ use Rattle.vm_store.specs.Resting.{spare_of}
 use Rattle.vm_store.specs.Running.{CarriesOut}
 use Rattle.vm_store.specs.Store.{GrowsOn, Holds, IsSameButDisk, free_of, has_failed, disk_of}
 use Rattle.vm_store.specs.declared.store.Store.{Store}
+use Rattle.vm_cli.specs.declared.lines.line.TheConstants.{MAX_BYTES}
 use Rattle.vm_cli.specs.Carried.{WritesStart}
 use Rattle.vm_cli.specs.Lines.{lines_of}
 use Rattle.vm_cli.specs.Listings.{alternative_text, change_text, checkpoint_text, conflict_text, record_text}
@@ -163,8 +164,8 @@ module _ {D : Type 0} {members : _} where
   abbrev pub Answered : Store D members → Store D members → State → List ℕ → List ℕ → Bool → Done → Type 0
   Answered old new s line text ends done =
       ((new ≡ old) × (done ≡ None) × (ends ≡ false) × (text ≡ error_text Memory))
-      ⊎ (((1048576 < length line) × (new ≡ old) × (done ≡ None) × (ends ≡ false) × (text ≡ reply_text reply.LongLine))
-      ⊎ ((length line ≤ 1048576) × AnsweredRequest old new s (request_of (words_of (without_return line))) text ends done))
+      ⊎ (((MAX_BYTES < length line) × (new ≡ old) × (done ≡ None) × (ends ≡ false) × (text ≡ reply_text reply.LongLine))
+      ⊎ ((length line ≤ MAX_BYTES) × AnsweredRequest old new s (request_of (words_of (without_return line))) text ends done))
 
   -- something was answered so: a store that hasn't failed stands for what is left, and it fails only where the talk ends
   pub record Handled (old new : Store D members) (s : State) (ends : Bool) (IsAnswer : Done → Type 0) : Type 0 where

@@ -9,6 +9,8 @@ use Rattle.clap.specs.declared.builder.command.Command.{Command}
 use Rattle.clap.specs.declared.builder.command.Command.TheViews.{out-Command}
 use Rattle.clap.specs.declared.builder.action.ArgAction.TheVariants.{Append, SetTrue}
 use Rattle.clap.specs.declared.builder.value_parser.ValueParser.TheVariants as vp
+use Rattle.vm_types.specs.declared.sizes.TheConstants.{MIN_BLOCKS, MAX_BLOCKS}
+use Rattle.vm_cli.specs.declared.program.words.TheConstants.{MAX_CACHE, MAX_BUFFER}
 use Rattle.vm_cli.specs.declared.talk.OnRefusal.{OnRefusal}
 use Rattle.vm_cli.specs.declared.talk.OnRefusal.TheVariants.{Ignore, Stop, Tell}
 use Rattle.vm_cli.specs.declared.program.task.InMemory.{InMemory}
@@ -25,7 +27,7 @@ abbrev pub blocks_rule : Rule
 blocks_rule = record (new_rule (codes "blocks")) {
   required = true;
   value_names = 1;
-  parser = Some (vp.Signed (pos 64) (pos 1048576));
+  parser = Some (vp.Signed (pos MIN_BLOCKS) (pos MAX_BLOCKS));
 }
 
 -- `create FILE BLOCKS`
@@ -38,7 +40,7 @@ cache_rule = record (new_rule (codes "cache")) {
   long = Some (codes "cache");
   value_names = 1;
   defaults = codes "256" ∷ [];
-  parser = Some (vp.Signed (pos 0) (pos 65536));
+  parser = Some (vp.Signed (pos 0) (pos MAX_CACHE));
 }
 
 -- how many written blocks wait in memory: a number in its range, and 16384 where no word says one
@@ -47,7 +49,7 @@ buffer_rule = record (new_rule (codes "buffer")) {
   long = Some (codes "buffer");
   value_names = 1;
   defaults = codes "16384" ∷ [];
-  parser = Some (vp.Signed (pos 0) (pos 65536));
+  parser = Some (vp.Signed (pos 0) (pos MAX_BUFFER));
 }
 
 -- whether a line that is refused ends the talk
@@ -134,11 +136,11 @@ number_by low high name rows = option_and_then (number_in low high) (one_of name
 
 -- how many blocks are kept in memory
 abbrev pub cache_by : List Row → Option ℕ
-cache_by rows = number_by 0 65536 (codes "cache") rows
+cache_by rows = number_by 0 MAX_CACHE (codes "cache") rows
 
 -- how many blocks wait in memory to be written
 abbrev pub buffer_by : List Row → Option ℕ
-buffer_by rows = number_by 0 65536 (codes "buffer") rows
+buffer_by rows = number_by 0 MAX_BUFFER (codes "buffer") rows
 
 -- both
 abbrev pub memory_by : List Row → Option InMemory
@@ -152,7 +154,7 @@ do_by rows file =
 -- what a subcommand with these matches wants of this file
 abbrev pub asked_by : Text → List Row → Text → Option Wanted
 asked_by name rows file =
-    if bytes_eq name (codes "create") then option_map (create file) (number_by 64 1048576 (codes "blocks") rows)
+    if bytes_eq name (codes "create") then option_map (create file) (number_by MIN_BLOCKS MAX_BLOCKS (codes "blocks") rows)
     else (if bytes_eq name (codes "run") then option_map (λ in_memory. run file in_memory (refusal_by Ignore rows)) (memory_by rows)
     else (if bytes_eq name (codes "do") then do_by rows file
     else (if bytes_eq name (codes "check") then Some (check file)

@@ -240,7 +240,7 @@ fn answer<W: Write, D: Disk>(
 
 /// Writes what is left of an answer, with its last line.
 fn send<W: Write>(reply: Reply, text: &mut Text, writer: &mut W) -> Result<(), WriteFault>
-    requires { length text.old + 1024 ≤ 65536 }
+    requires { length text.old + 1024 ≤ Text.MAX_LEN }
     ensures ok { OnOk result (Gains W.contents (text.old ++ reply_text reply) writer.old writer.new) }
     ensures err { OnErr result (Begins W.contents (text.old ++ reply_text reply) writer.old writer.new) }
 {
@@ -260,7 +260,7 @@ fn reply_to<W: Write, D: Disk>(
     store: &mut Store<D>,
 ) -> Result<Reply, WriteFault>
     requires { text.old ≡ [] }
-    ensures room { OnOk result (length text.new + 1024 ≤ 65536) }
+    ensures room { OnOk result (length text.new + 1024 ≤ Text.MAX_LEN) }
     ensures goes { GrowsOn ⊥ store.old store.new }
     ensures last { EndsIfFailed result store.old store.new }
     ensures failing { FailsByDevice store.old store.new }
@@ -285,7 +285,7 @@ fn reply_to_words<W: Write, D: Disk>(
     store: &mut Store<D>,
 ) -> Result<Reply, WriteFault>
     requires { text.old ≡ [] }
-    ensures room { OnOk result (length text.new + 1024 ≤ 65536) }
+    ensures room { OnOk result (length text.new + 1024 ≤ Text.MAX_LEN) }
     ensures goes { GrowsOn ⊥ store.old store.new }
     ensures last { EndsIfFailed result store.old store.new }
     ensures failing { FailsByDevice store.old store.new }

@@ -3,6 +3,7 @@ use Rattle.std.specs.Prelude.{◌≡◌, ◌≢◌, ℕ, ◌-◌, ◌≤◌, tru
 use Rattle.vm_types.specs.declared.key.Key.{Key}
 use Rattle.vm_types.specs.Places.{place}
 use Rattle.vm_disk.specs.Disk.{Contents, DiskState, block}
+use Rattle.vm_block.specs.declared.sizes.TheConstants.{MAX_ROWS, MAX_CHILDREN}
 use Rattle.vm_block.specs.Leaf.{Row, HasRows}
 use Rattle.vm_block.specs.declared.stored.Link.{Link}
 use Rattle.vm_diff.specs.Entry.{Entry}
@@ -63,7 +64,7 @@ OpensNode result old new limit top walk later =
 
 -- it has no more than 16 entries in the place of a leaf
 abbrev pub IsIntoRecords : Walk → Walk → Type 0
-IsIntoRecords walk later = (length later.pending ≤ 16) × (later.tops ≡ drop 1 walk.tops)
+IsIntoRecords walk later = (length later.pending ≤ MAX_ROWS) × (later.tops ≡ drop 1 walk.tops)
 
 -- it has a record in the place of a link
 abbrev pub IsIntoRecord : Walk → Walk → Type 0
@@ -83,7 +84,7 @@ HasLen bytes key link len = (value : List ℕ) → IsLong bytes key value → le
 
 -- it has no more than 256 tops in the place of one of this level
 abbrev pub IsIntoTops : ℕ → Walk → Walk → Type 0
-IsIntoTops level walk later = (cs : List Child) × (length cs ≤ 256) × (later ≡ into_tops (tops_of (level - 1) cs) walk)
+IsIntoTops level walk later = (cs : List Child) × (length cs ≤ MAX_CHILDREN) × (later ≡ into_tops (tops_of (level - 1) cs) walk)
 
 -- a record at the place of this key, before which the walk stands, has this value
 abbrev pub HasValue : Option (List ℕ) → Key → Walk → Type 0

@@ -4,6 +4,7 @@ use Rattle.vm_types.specs.declared.key.Key.{Key}
 use Rattle.byteorder.specs.Endian.{little_number}
 use Rattle.vm_diff.specs.Entry.{Entry}
 use Rattle.vm_diff.specs.Entry.Entry.{Own, Linked}
+use Rattle.vm_block.specs.declared.sizes.TheConstants.{MAX_SHORT}
 use Rattle.vm_block.specs.Row.{key_of, record_of, child_of, leaf_row, node_row}
 use Rattle.vm_block.specs.declared.node.Child.{Child}
 
@@ -15,7 +16,7 @@ rows_from row i (suc n) = row i ∷ rows_from row (suc i) n
 -- the entry in a row whose value has so many bytes: a link to it, where it is long
 unfoldable pub entry_of_length : ℕ → List ℕ → Entry
 entry_of_length len row =
-    if nat_lt 240 len then Linked (key_of row) (record { len = len; block = little_number 4 (drop 12 row) }) else Own (record_of row).0 (record_of row).1
+    if nat_lt MAX_SHORT len then Linked (key_of row) (record { len = len; block = little_number 4 (drop 12 row) }) else Own (record_of row).0 (record_of row).1
 
 -- the entry in a row
 unfoldable pub entry_of : List ℕ → Entry

@@ -7,7 +7,7 @@ ghost use Rattle.vm_diff.specs.Opened.{HoldsNode};
 ghost use Rattle.vm_diff.specs.Rows.{AreSameRows};
 
 use std::marker::Model;
-use vm_block::{Child, child_at, child_row, write_node};
+use vm_block::{Child, MAX_CHILDREN, child_at, child_row, write_node};
 use vm_disk::Disk;
 use vm_tree::{TreeFault, node_into};
 use vm_types::Key;
@@ -27,10 +27,11 @@ impl Model for Children {
     ghost Value = { List Child };
 
     ghost use Rattle.vm_diff.specs.Rows.{children_from};
+    ghost use Rattle.vm_block.specs.declared.sizes.TheConstants.{MAX_CHILDREN};
 
     ghost view = { λ c. children_from c.bytes c.at (c.count - c.at) };
 
-    ghost invariant = { λ c. (c.at ≤ c.count) × (c.count ≤ 256) };
+    ghost invariant = { λ c. (c.at ≤ c.count) × (c.count ≤ MAX_CHILDREN) };
 }
 
 impl Children {
@@ -102,7 +103,7 @@ impl Children {
         ensures deep { result ≢ Err TreeFault.Deep }
         ensures memory { result ≢ Err TreeFault.Memory }
         ensures once { (D.state disk.new).reads ≤ (D.state disk.old).reads + 1 }
-        ensures few { OnOk result (length self.new ≤ 256) }
+        ensures few { OnOk result (length self.new ≤ MAX_CHILDREN) }
         ensures only { HoldsNode result (D.state disk.old) (D.state disk.new)
             blocks level block self.new }
     {
@@ -121,8 +122,8 @@ fn shared_children(
     other_at: usize,
     most: usize,
 ) -> usize
-    requires here { at + most ≤ 256 }
-    requires there { other_at + most ≤ 256 }
+    requires here { at + most ≤ MAX_CHILDREN }
+    requires there { other_at + most ≤ MAX_CHILDREN }
     ensures most { result ≤ most }
     ensures same { AreSameRows (node_row one.now) at (node_row other.now) other_at result }
 {

@@ -12,7 +12,9 @@ ghost use Rattle.vm_diff.specs.Rows.{AreSameRows, entry_of};
 use crate::front::Next;
 use byteorder::{ByteOrder, LittleEndian};
 use std::marker::Model;
-use vm_block::{Link, read_long, record_key, record_row, record_value, rows_size};
+use vm_block::{
+    Link, MAX_ROWS, MAX_SHORT, read_long, record_key, record_row, record_value, rows_size,
+};
 use vm_disk::Disk;
 use vm_tree::{TreeFault, data_at};
 use vm_types::{Key, Value};
@@ -37,10 +39,11 @@ impl Model for Records {
 
     ghost use Rattle.vm_diff.specs.Rows.{entries_from, with_held};
     ghost use Rattle.vm_types.specs.Bytes.{longest};
+    ghost use Rattle.vm_block.specs.declared.sizes.TheConstants.{MAX_ROWS};
 
     ghost view = { λ r. with_held r.held r.long r.len (entries_from r.bytes r.at (r.count - r.at)) };
 
-    ghost invariant = { λ r. (r.at ≤ r.count) × (r.count ≤ 16) × (r.len ≤ longest) };
+    ghost invariant = { λ r. (r.at ≤ r.count) × (r.count ≤ MAX_ROWS) × (r.len ≤ longest) };
 }
 
 impl Records {
@@ -145,7 +148,7 @@ impl Records {
         ensures deep { result ≢ Err TreeFault.Deep }
         ensures memory { result ≢ Err TreeFault.Memory }
         ensures once { (D.state disk.new).reads ≤ (D.state disk.old).reads + 1 }
-        ensures few { OnOk result (length self.new ≤ 16) }
+        ensures few { OnOk result (length self.new ≤ MAX_ROWS) }
         ensures only { HoldsLeaf result (D.state disk.old) (D.state disk.new) blocks block self.new }
     {
         data_at(disk, blocks, block, &mut self.bytes)?;
@@ -191,13 +194,13 @@ impl Records {
 /// What the row at i of a leaf has of its record.
 #[inline(always)]
 fn entry_at(bytes: &[u8; 4096], i: usize) -> Next
-    requires { i < 16 }
+    requires { i < MAX_ROWS }
     ensures { result ≡ next_of (first_of (entry_of (leaf_row bytes.now i) ∷ []) []) }
 {
     let key = record_key(bytes, i);
     let row = record_row(bytes, i);
     let len = LittleEndian::read_u16(&row[10..]);
-    if len <= 240 {
+    if len <= MAX_SHORT {
         return Next::Record(key);
     }
     let block = LittleEndian::read_u32(&row[12..]);
@@ -226,8 +229,8 @@ fn shared_records(
     other_at: usize,
     most: usize,
 ) -> usize
-    requires here { at + most ≤ 16 }
-    requires there { other_at + most ≤ 16 }
+    requires here { at + most ≤ MAX_ROWS }
+    requires there { other_at + most ≤ MAX_ROWS }
     ensures most { result ≤ most }
     ensures same { AreSameRows (leaf_row one.now) at (leaf_row other.now) other_at result }
 {

@@ -5,6 +5,7 @@ use Rattle.std.proofs.Common.{sym, subst}
 use Rattle.std.proofs.Math.Nat.{min-le_right}
 use Rattle.std.proofs.lemmas.Bool.{and_from, or_right, le-leb, lt-ltb}
 use Rattle.std.proofs.lemmas.List.FromFn.{length-map-range_with_len}
+use Rattle.vm_types.specs.declared.sizes.TheConstants.{BLOCK_SIZE}
 use Rattle.vm_disk.specs.declared.file.Earlier.{Earlier}
 use Rattle.vm_disk.specs.declared.file.FileDisk.{FileDisk}
 use Rattle.vm_disk.specs.Disk.{Contents, Medium, DiskState}
@@ -13,7 +14,7 @@ use Rattle.vm_disk.specs.Positional.{FileState}
 
 -- block n of a file is the 4,096 bytes from 4096 n on
 abbrev pub file_block : List ℕ → ℕ → List ℕ
-file_block bytes n = take 4096 (drop (4096 * n) bytes)
+file_block bytes n = take BLOCK_SIZE (drop (BLOCK_SIZE * n) bytes)
 
 -- the first so many blocks of a file
 abbrev pub file_blocks : ℕ → List ℕ → Contents
@@ -21,7 +22,7 @@ file_blocks count bytes = map (file_block bytes) (range_with_len 0 count)
 
 -- a write that begins there, of so many bytes, touches block n
 abbrev pub touches : ℕ × ℕ → ℕ → Bool
-touches write n = nat_lt write.0 (4096 * n + 4096) && nat_lt (4096 * n) (write.0 + write.1)
+touches write n = nat_lt write.0 (BLOCK_SIZE * n + BLOCK_SIZE) && nat_lt (BLOCK_SIZE * n) (write.0 + write.1)
 
 -- one of these writes touches block n
 abbrev pub is_touched : List (ℕ × ℕ) → ℕ → Bool
@@ -31,7 +32,7 @@ is_touched (write ∷ writes) n = touches write n || is_touched writes n
 -- the writes that wait, and one of each of these blocks, which were forgotten
 abbrev pub waits_with : List ℕ → List (ℕ × ℕ) → List (ℕ × ℕ)
 waits_with [] writes = writes
-waits_with (n ∷ forgotten) writes = (4096 * n, 4096) ∷ waits_with forgotten writes
+waits_with (n ∷ forgotten) writes = (BLOCK_SIZE * n, BLOCK_SIZE) ∷ waits_with forgotten writes
 
 -- a file of which these blocks were forgotten: they hold any bytes, as if a write of them waited
 abbrev pub forgetting : List ℕ → FileState → FileState
@@ -73,19 +74,19 @@ file_medium part =
 
 -- zero blocks were written from one block on up to another; those before them stay as they were
 pub record AddsZeros (from to : ℕ) (old new : FileState) : Type 0 where
-  pub long : 4096 * to ≤ length new.bytes
+  pub long : BLOCK_SIZE * to ≤ length new.bytes
   pub same : (n : ℕ) → n < from → file_block new.bytes n ≡ file_block old.bytes n
-  pub zero : (n : ℕ) → from ≤ n → n < to → file_block new.bytes n ≡ replicate 4096 0
+  pub zero : (n : ℕ) → from ≤ n → n < to → file_block new.bytes n ≡ replicate BLOCK_SIZE 0
   pub same_waiting : (n : ℕ) → n < from → is_touched new.waiting n ≡ is_touched old.waiting n
 
 -- the same, in a file that is long enough for the blocks before them
 abbrev pub AddsZerosIn : ℕ → ℕ → FileState → FileState → Type 0
-AddsZerosIn from to old new = 4096 * from ≤ length old.bytes → AddsZeros from to old new
+AddsZerosIn from to old new = BLOCK_SIZE * from ≤ length old.bytes → AddsZeros from to old new
 
 -- at each of these moments the file was long enough for the blocks
 abbrev pub was_whole : List Part → Bool
 was_whole [] = true
-was_whole (part ∷ parts) = nat_le (4096 * part.blocks) (length part.file.bytes) && was_whole parts
+was_whole (part ∷ parts) = nat_le (BLOCK_SIZE * part.blocks) (length part.file.bytes) && was_whole parts
 
 -- a disk of this part of a file, of which no call was made so far
 pub record IsPart (part : Part) (s : DiskState) : Type 0 where
@@ -112,13 +113,13 @@ part_with file count sure = record { file = file; blocks = count; sure = sure }
 pub record IsOpened (file : FileState) (s : DiskState) : Type 0 where
   pub file_honest : file.honest ≡ true
   pub honest : s.honest ≡ true
-  pub blocks : s.blocks ≡ min (length file.bytes / 4096) (2 ^ 32 - 1)
+  pub blocks : s.blocks ≡ min (length file.bytes / BLOCK_SIZE) (2 ^ 32 - 1)
   pub now : s.now ≡ file_medium (record { file = file; blocks = s.blocks; sure = s.blocks })
 
 -- an honest disk of zero blocks
 pub record IsZero (s : DiskState) : Type 0 where
   pub honest : s.honest ≡ true
-  pub zero : s.now.contents ≡ replicate s.blocks (replicate 4096 0)
+  pub zero : s.now.contents ≡ replicate s.blocks (replicate BLOCK_SIZE 0)
 
 module _ {F : Type 0} where
   -- the bytes in its room

@@ -1,5 +1,6 @@
 -- What a `MemDisk` shows.
 use Rattle.std.specs.Prelude.{◌≡◌, ℕ, ◌+◌, ◌<◌, ◌==◌, ◌&&◌, true, false, if◌then◌else◌, List, [], ◌∷◌, length, map, replicate, slice_index_or}
+use Rattle.vm_types.specs.declared.sizes.TheConstants.{BLOCK_SIZE}
 use Rattle.vm_disk.specs.declared.memory.Platter.{Platter}
 use Rattle.vm_disk.specs.declared.memory.MemDisk.{MemDisk}
 use Rattle.vm_disk.specs.Disk.{Medium, DiskState, IsClean, block}
@@ -35,12 +36,12 @@ memory_state m =
 
 -- the block at its place, or zeros where there is none
 abbrev pub memory_hand : MemDisk → List ℕ
-memory_hand m = slice_index_or m.platter.blocks.items m.at (replicate 4096 0)
+memory_hand m = slice_index_or m.platter.blocks.items m.at (replicate BLOCK_SIZE 0)
 
 -- a disk just made: so many blocks of zero bytes, none dirty and all sure, and no call so far
 pub record IsBlank (count : ℕ) (s : DiskState) : Type 0 where
   pub blocks : s.blocks ≡ count
-  pub zero : s.now.contents ≡ replicate count (replicate 4096 0)
+  pub zero : s.now.contents ≡ replicate count (replicate BLOCK_SIZE 0)
   pub clean : IsClean s.now
   pub sure : s.now.sure ≡ count
   pub reads : s.reads ≡ 0
@@ -70,7 +71,7 @@ IsRefilledAt n bytes old new = (k : ℕ) → block new.contents k ≡ (if old.di
 
 -- zero blocks were added until there are so many
 abbrev pub GetsZeros : ℕ → DiskState → DiskState → Type 0
-GetsZeros count old new = new.now.contents ≡ filled_up count (replicate 4096 0) old.now.contents
+GetsZeros count old new = new.now.contents ≡ filled_up count (replicate BLOCK_SIZE 0) old.now.contents
 
 -- all is as it was, but that one more call failed
 abbrev pub JustFails : DiskState → DiskState → Type 0

@@ -17,8 +17,9 @@ use std::snapshot::Snapshot;
 /// before and behind it. A read looks among those that wait first, and then among those that were
 /// written, which stay until their room is needed.
 ///
-/// Memory for a block is taken where one more waits than ever before. Where it is refused, the block
-/// is written at once, and the call is served. A fault of the disk below is answered by the call in
+/// A block waits in the room of one that waits no longer: a spare one, or else that of the block which
+/// was written out first. Where there is none, memory is taken; where that is refused, the block is
+/// written at once, and the call is served. A fault of the disk below is answered by the call in
 /// which it is met, and the blocks that wait then still do, or were written.
 #[derive(Drop)]
 pub struct DelayedDisk<D: Disk> {

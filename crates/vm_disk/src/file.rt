@@ -9,9 +9,10 @@ use crate::disk::{DeviceFault, Disk};
 use crate::history::History;
 use crate::positional::Positional;
 use std::snapshot::Snapshot;
+use vm_types::BLOCK_SIZE;
 
-/// The bytes of a block.
-const BLOCK: u64 = 4096;
+/// How many bytes a block has.
+const BLOCK: u64 = BLOCK_SIZE as u64;
 
 /// How many zero blocks are written at once.
 const AT_ONCE: u32 = 16;
@@ -52,7 +53,7 @@ pub struct FileDisk<F> {
 
 /// Where a block begins.
 fn offset_of(n: u32) -> u64
-    ensures { result ≡ 4096 * n }
+    ensures { result ≡ BLOCK_SIZE * n }
 {
     u64::from(n) * BLOCK
 }
@@ -60,8 +61,8 @@ fn offset_of(n: u32) -> u64
 /// Reads block n of a file into these bytes.
 fn read_block<F: Positional>(file: &mut F, n: u32, into: &mut [u8; 4096]) -> Result<(), DeviceFault>
     ensures any { CountsFailures result (F.state file.old) (F.state file.new) }
-    ensures full { length into.new ≡ 4096 }
-    ensures honest { IfHonestFile F.state (ReadsAt (4096 * n) into.new result) file.old file.new }
+    ensures full { length into.new ≡ BLOCK_SIZE }
+    ensures honest { IfHonestFile F.state (ReadsAt (BLOCK_SIZE * n) into.new result) file.old file.new }
 {
     file.read_at(into, offset_of(n))
 }
@@ -145,7 +146,7 @@ impl<F: Positional> FileDisk<F> {
     {
         while *done < blocks {
             let more = (blocks - *done).min(AT_ONCE);
-            file.write_zeros_at(more as usize * 4096, offset_of(*done))?;
+            file.write_zeros_at(more as usize * BLOCK_SIZE, offset_of(*done))?;
             *done += more;
         }
         Ok(())

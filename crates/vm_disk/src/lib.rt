@@ -3,9 +3,9 @@
 //! over a file, one that fails where a test asks it to, one that keeps the blocks of another which
 //! were used last, and one that writes the blocks of another late.
 //!
-//! It stands on std, and on `lru` for the order of the blocks that are kept, wait or were written. Its one
-//! promise: what an honest disk holds at each moment is known to contracts, and with it everything
-//! that a crash at that moment may leave.
+//! It stands on `vm_types`, of which it has the size of a block, and on `lru` for the order of the
+//! blocks that are kept, wait or were written. Its one promise: what an honest disk holds at each
+//! moment is known to contracts, and with it everything that a crash at that moment may leave.
 #![tactic(auto)]
 
 mod cached;
@@ -29,5 +29,5 @@ pub use file::FileDisk;
 pub use fuse::FuseDisk;
 pub use history::{History, noted_bytes};
 pub use memory::MemDisk;
-pub use positional::Positional;
+pub use positional::{MAX_ZEROS, Positional};
 pub use system::{LAST_STANDARD, SystemFile, World};

@@ -7,6 +7,7 @@ ghost use Rattle.vm_disk.specs.Disk.{block, IsClean, MayLeave, Counts, Reads, Wr
 use crate::disk::{DeviceFault, Disk};
 use crate::history::History;
 use std::alloc::{AllocError, Global};
+use vm_types::BLOCK_SIZE;
 
 /// What each byte of a block is once it was forgotten.
 const FORGOTTEN: u8 = 0xa5;
@@ -72,7 +73,7 @@ impl Platter {
     fn lengthen(&mut self, blocks: u32)
         requires { blocks ≤ self.old.room }
         ensures blocks { self.new.blocks.items
-            ≡ filled_up blocks (replicate 4096 0) self.old.blocks.items }
+            ≡ filled_up blocks (replicate BLOCK_SIZE 0) self.old.blocks.items }
         ensures dirty { self.new.dirty.items
             ≡ self.old.dirty.items ++ replicate (blocks - length self.old.blocks.items) true }
         ensures sure { self.new.sure ≡ self.old.sure }
@@ -304,7 +305,7 @@ impl Disk for MemDisk {
         ensures honest { IfHonest memory_state (Forgets n) self.old self.new }
 
         // Other bytes stand there then, so that a test finds who reads them.
-        ensures other { block (memory_state self.new).now.contents n ≡ replicate 4096 165 }
+        ensures other { block (memory_state self.new).now.contents n ≡ replicate BLOCK_SIZE FORGOTTEN }
         ensures room { room_of self.new ≡ room_of self.old }
     {
         self.past.note(&self.platter);

@@ -4,6 +4,9 @@ ghost use Rattle.vm_disk.specs.Positional.{FileState, IfHonestFile, joined, zero
 
 use crate::disk::DeviceFault;
 
+/// How many zeros are written at once at most.
+pub const MAX_ZEROS: usize = 65536;
+
 /// A file that is read and written at places. An offset counts bytes from the file's start.
 ///
 /// Of a file that is not honest only the clauses `any` say something: what it holds is then unknown.
@@ -32,9 +35,9 @@ pub trait Positional {
         ensures any { CountsFailures result (state self.old) (state self.new) }
         ensures honest { IfHonestFile state (WritesIn offset (joined from.now) result) self.old self.new };
 
-    /// Writes so many zeros as `write_at` writes bytes, at most 65,536.
+    /// Writes so many zeros as `write_at` writes bytes.
     fn write_zeros_at(&mut self, count: usize, offset: u64) -> Result<(), DeviceFault>
-        requires { count ≤ 65536 }
+        requires { count ≤ MAX_ZEROS }
         ensures any { CountsFailures result (state self.old) (state self.new) }
         ensures honest { IfHonestFile state (WritesIn offset (zeros count) result) self.old self.new };
 

@@ -9,7 +9,7 @@ ghost use Rattle.vm_disk.specs.Syncing.{counts_as_synced};
 
 use crate::disk::DeviceFault;
 use crate::history::{History, noted_blocks, noted_bytes};
-use crate::positional::Positional;
+use crate::positional::{MAX_ZEROS, Positional};
 use std::fs::{self, File, Metadata, OpenOptions};
 use std::io::{self, Seek, SeekFrom};
 use std::marker::{Brand, PhantomData};
@@ -17,6 +17,7 @@ use std::os::fd::{AsRawFd, RawFd};
 use std::os::unix::fs::{FileExt, FileTypeExt};
 use std::rt::Files;
 use std::snapshot::Snapshot;
+use vm_types::BLOCK_SIZE;
 
 /// The standard input, output and error have the descriptors 0, 1 and 2.
 pub const LAST_STANDARD: RawFd = 2;
@@ -249,11 +250,11 @@ impl<W: World> Positional for SystemFile<W> {
         ensures withheld { Withholds W.held W.torn result self.old self.new }
     {
         if self.reads_alone {
-            self.calls.note(&Call::Withheld(offset, 4096));
+            self.calls.note(&Call::Withheld(offset, BLOCK_SIZE));
             return Err(DeviceFault);
         }
         if self.file.write_all_at(from, offset).is_err() {
-            self.calls.note(&Call::Torn(offset, 4096));
+            self.calls.note(&Call::Torn(offset, BLOCK_SIZE));
             return Err(DeviceFault);
         }
         self.calls.note(&Call::Written(offset, Snapshot::of(from)));
@@ -282,7 +283,7 @@ impl<W: World> Positional for SystemFile<W> {
     }
 
     fn write_zeros_at(&mut self, count: usize, offset: u64) -> Result<(), DeviceFault>
-        requires { count ≤ 65536 }
+        requires { count ≤ MAX_ZEROS }
         ensures any { Between (system_state W.held W.torn) (CountsFailures result) self.old self.new }
         ensures honest { IfHonestIn W.held W.torn (WritesIn offset (zeros count) result) self.old self.new }
 
@@ -293,7 +294,7 @@ impl<W: World> Positional for SystemFile<W> {
             self.calls.note(&Call::Withheld(offset, count));
             return Err(DeviceFault);
         }
-        let zeros = [0; 65536];
+        let zeros = [0; MAX_ZEROS];
         if self.file.write_all_at(&zeros[..count], offset).is_err() {
             self.calls.note(&Call::Torn(offset, count));
             return Err(DeviceFault);

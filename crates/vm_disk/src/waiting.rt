@@ -14,9 +14,9 @@ use std::num::NonZeroUsize;
 /// How many blocks in a row are written with one call at most.
 const AT_ONCE: u32 = 64;
 
-/// Blocks with their bytes, in the order in which they were written or got to hand last. Memory for a
-/// block is taken where one more waits than ever before. The room of one that waits no longer is used
-/// again: where nothing is spare, that of the block which was written out first.
+/// Blocks with their bytes, in the order in which they were written or got to hand last. The room of
+/// one that waits no longer is used again: where nothing is spare, that of the block which was written
+/// out first. Memory is taken where there is none.
 #[derive(Drop)]
 pub(crate) struct Waiting {
     alloc: Global,

@@ -1,5 +1,6 @@
 -- What a formatting leaves.
 use Rattle.std.specs.Prelude.{◌≡◌, ◌⊎◌, ◌↔◌, ℕ, ◌<◌, ◌≤◌, ◌^◌, Bool, true, [], ◌∷◌, None, Result, Ok, Err, IfOk, IsErr, IsErrAnd, IsTrue, OnOk, codes}
+use Rattle.vm_types.specs.declared.sizes.TheConstants.{MIN_BLOCKS, MAX_BLOCKS}
 use Rattle.vm_types.specs.declared.refusal.Refusal.{Refusal}
 use Rattle.vm_types.specs.declared.refusal.Refusal.TheVariants.{AlreadyAStore, BadSize, Device}
 use Rattle.vm_disk.specs.Disk.{DiskState, Medium, IsClean, block}
@@ -20,7 +21,7 @@ fresh_entry = record { kind = kind.Alternative; name = codes "top"; owner = None
 
 -- a count of blocks that a store can't have, or that the disk lacks
 abbrev pub IsBadSize : ℕ → ℕ → Type 0
-IsBadSize blocks available = (blocks < 64) ⊎ ((2 ^ 20 < blocks) ⊎ (available < blocks))
+IsBadSize blocks available = (blocks < MIN_BLOCKS) ⊎ ((MAX_BLOCKS < blocks) ⊎ (available < blocks))
 
 -- the selector names slot A with the one entry of a new store of so many blocks, and all is synced
 pub record IsLaidOut (blocks : ℕ) (m : Medium) : Type 0 where

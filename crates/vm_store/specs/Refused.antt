@@ -1,5 +1,6 @@
 -- Why an opening refuses what a disk holds.
 use Rattle.std.specs.Prelude.{◌≡◌, ◌⊎◌, ℕ, ◌<◌, ◌≤◌, true, List, Result, length, OnOk}
+use Rattle.vm_types.specs.declared.sizes.TheConstants.{MIN_BLOCKS}
 use Rattle.vm_types.specs.declared.refusal.Refusal.{Refusal}
 use Rattle.vm_types.specs.declared.refusal.Refusal.TheVariants.{Device, Memory, Damaged, NotAStore, BadSize}
 use Rattle.vm_disk.specs.Disk.{Contents, DiskState, Medium, IsClean, block}
@@ -17,7 +18,7 @@ use Rattle.vm_store.specs.declared.version.Version.{Version}
 
 -- there are blocks enough for a store, and the first one is a header
 pub record IsStore (x : Contents) : Type 0 where
-  pub least : 64 ≤ length x
+  pub least : MIN_BLOCKS ≤ length x
   pub header : IsHeader (block x 0)
 
 abbrev pub IsNoStore : Contents → Type 0

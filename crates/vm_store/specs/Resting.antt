@@ -1,5 +1,6 @@
 -- What a store stands for, between two calls.
 use Rattle.std.specs.Prelude.{◌≡◌, ℕ, ◌<◌, ◌≤◌, ◌++◌, Bool, false, List, [], length, Option, Some, None}
+use Rattle.vm_types.specs.declared.sizes.TheConstants.{FIRST_DATA}
 use Rattle.vm_types.specs.Firsts.{change_first}
 use Rattle.vm_types.specs.State.{State}
 use Rattle.vm_types.specs.Tree.{changed}
@@ -33,7 +34,7 @@ pub record Rests (m : Medium) (limit : ℕ) (slot_name : SlotName) (bits : List 
   pub fewer : s.kept ≤ limit
   pub inside : limit ≤ length m.contents
   pub sure : s.kept ≤ m.sure
-  pub system : (n : ℕ) → n < 34 → IsHeld bits n
+  pub system : (n : ℕ) → n < FIRST_DATA → IsHeld bits n
   pub rest : AtRest slot_name m format s.kept (slot_entries committed)
   pub fits : SlotFits limit (slot_entries working)
   pub safe : Standing (IsSafe format bits m) m.contents s.kept committed old

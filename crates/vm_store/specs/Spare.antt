@@ -1,10 +1,11 @@
 -- Spare blocks: those for data that no version needs.
 use Rattle.std.specs.Prelude.{ℕ, zero, suc, ◌+◌, ◌==◌, ◌&&◌, not, nat_le, Bool, List, if◌then◌else◌}
 use Rattle.std.specs.List.{list_any}
+use Rattle.vm_types.specs.declared.sizes.TheConstants.{FIRST_DATA}
 
 -- whether block n is for data, and is none of these
 abbrev pub is_spare : List ℕ → ℕ → Bool
-is_spare reached n = nat_le 34 n && not (list_any (λ b. b == n) reached)
+is_spare reached n = nat_le FIRST_DATA n && not (list_any (λ b. b == n) reached)
 
 -- how many of the numbers below n pass
 unfoldable pub count_below : (ℕ → Bool) → ℕ → ℕ

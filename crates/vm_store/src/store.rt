@@ -2,6 +2,7 @@
 ghost use Rattle.std.specs.Prelude.{◌≡◌, ◌≢◌, ◌↔◌, ◌≤◌, ◌^◌, true, false, length, vec_capacity, OnErr, IsTrue};
 ghost use Rattle.vm_types.specs.Bytes.{longest};
 ghost use Rattle.vm_types.specs.declared.command.Command.TheVariants.{Put};
+ghost use Rattle.vm_types.specs.declared.sizes.TheConstants.{MAX_BLOCKS, MAX_VERSIONS, MIN_BLOCKS};
 ghost use Rattle.vm_check.specs.Noted.{inner_of};
 ghost use Rattle.vm_disk.specs.Moments.{Leaves};
 ghost use Rattle.vm_store.specs.Answers.{ChangesEntriesAlone, IsGrow, TakesMemory};
@@ -53,13 +54,13 @@ pub struct Store<D: Disk> {
     // How many changes were made outside a series since the held blocks were copied last.
     changes: u32,
     failed: bool,
-    ghost least: { 64 ≤ blocks },
-    ghost most: { blocks ≤ 2 ^ 20 },
+    ghost least: { MIN_BLOCKS ≤ blocks },
+    ghost most: { blocks ≤ MAX_BLOCKS },
     ghost inside: { blocks ≤ (D.state (inner_of disk)).blocks },
     ghost bits: { length held ≡ blocks },
     ghost mark_bits: { length marks ≡ blocks },
     ghost before_bits: { length before ≡ blocks },
-    ghost room_entries: { 511 ≤ vec_capacity entries },
+    ghost room_entries: { MAX_VERSIONS ≤ vec_capacity entries },
 }
 
 impl<D: Disk> Store<D> {

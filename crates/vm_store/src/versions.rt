@@ -17,9 +17,8 @@ pub use checkpoints::checkpoints_among;
 use std::alloc::{AllocError, Global};
 use std::marker::Model;
 use vm_block::Entry;
-use vm_catalog::MAX_ENTRIES;
 use vm_tree::Root;
-use vm_types::{Answer, Command, Name, Refusal};
+use vm_types::{Answer, Command, MAX_VERSIONS, Name, Refusal};
 
 /// Alternatives and checkpoints, in order of creation. There is room for as many as a slot may have, so no
 /// call but `of_entries` takes memory.
@@ -30,13 +29,14 @@ pub struct Versions {
 
 impl Model for Versions {
     ghost use Rattle.std.specs.Prelude.{◌≤◌, List, length, vec_capacity};
+    ghost use Rattle.vm_types.specs.declared.sizes.TheConstants.{MAX_VERSIONS};
     ghost use Rattle.vm_store.specs.declared.version.Version.{Version};
 
     ghost Value = { List Version };
 
     ghost view = { λ a. a.list.items };
 
-    ghost invariant = { λ a. (length a.list.items ≤ 511) × (511 ≤ vec_capacity a.list) };
+    ghost invariant = { λ a. (length a.list.items ≤ MAX_VERSIONS) × (MAX_VERSIONS ≤ vec_capacity a.list) };
 }
 
 /// Where the alternative of this name stands.
@@ -94,11 +94,11 @@ impl Versions {
         entries: &[Entry],
         roots: &[Root],
     ) -> Result<Versions, AllocError>
-        requires few { length entries.now ≤ 511 }
+        requires few { length entries.now ≤ MAX_VERSIONS }
         requires roots { length roots.now ≡ 2 * length entries.now }
         ensures items { IfOk result (λ versions. versions ≡ versions_of entries.now roots.now) }
     {
-        let mut list = Vec::with_capacity(alloc, MAX_ENTRIES)?;
+        let mut list = Vec::with_capacity(alloc, MAX_VERSIONS)?;
         add_versions(&mut list, entries, roots);
         Ok(Versions { list })
     }
@@ -116,7 +116,7 @@ impl Versions {
     /// All of them.
     pub fn as_slice(&self) -> &[Version]
         ensures items { result.now ≡ self.now }
-        ensures few { length self.now ≤ 511 }
+        ensures few { length self.now ≤ MAX_VERSIONS }
     {
         &self.list
     }
@@ -205,9 +205,9 @@ impl Versions {
 
     /// Whether there are as many as a slot may have.
     fn are_full(&self) -> bool
-        ensures { IsTrue result ↔ (511 ≤ length self.now) }
+        ensures { IsTrue result ↔ (MAX_VERSIONS ≤ length self.now) }
     {
-        self.list.len() >= MAX_ENTRIES
+        self.list.len() >= MAX_VERSIONS
     }
 
     /// Whether some alternative has this one as its parent.
@@ -219,7 +219,7 @@ impl Versions {
 
     /// Adds one at the end.
     fn add(&mut self, version: Version)
-        requires { length self.old < 511 }
+        requires { length self.old < MAX_VERSIONS }
         ensures items { self.new ≡ self.old ++ version ∷ [] }
         ensures name { IsName version.name }
     {

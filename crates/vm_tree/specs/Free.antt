@@ -1,7 +1,9 @@
 -- Blocks that may be written.
 use Rattle.std.specs.Prelude.{ℕ, ◌+◌, ◌<◌, ◌≤◌, nat_lt, if◌then◌else◌, Bool, not, List, length}
 use Rattle.std.specs.List.{AllByRecursion}
+use Rattle.vm_types.specs.declared.sizes.TheConstants.{FIRST_DATA}
 use Rattle.vm_alloc.specs.Held.{is_held, IsHeld, free_count}
+use Rattle.vm_block.specs.declared.sizes.TheConstants.{MAX_SHORT}
 use Rattle.vm_block.specs.declared.node.Child.{Child}
 
 -- is this block free?
@@ -10,7 +12,7 @@ is_free held n = not (is_held held n)
 
 -- a block for data, which is held now
 pub record IsTaken (held : List Bool) (n : ℕ) : Type 0 where
-  pub above : 34 ≤ n
+  pub above : FIRST_DATA ≤ n
   pub inside : n < length held
   pub held_now : IsHeld held n
 
@@ -20,7 +22,7 @@ AreTaken held cs = AllByRecursion (λ c. IsTaken held c.block) cs
 
 -- how many blocks a value has for itself alone: one, where it has more than 240 bytes
 abbrev pub long_blocks : List ℕ → ℕ
-long_blocks value = if nat_lt 240 (length value) then 1 else 0
+long_blocks value = if nat_lt MAX_SHORT (length value) then 1 else 0
 
 -- of the free blocks so many are taken at most
 abbrev pub TakesAtMost : ℕ → List Bool → List Bool → Type 0

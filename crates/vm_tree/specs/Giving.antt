@@ -5,6 +5,7 @@ use Rattle.vm_types.specs.declared.key.Key.{Key}
 use Rattle.vm_types.specs.Map.{Map, get}
 use Rattle.vm_types.specs.Places.{RisesFrom, place, places, value_at}
 use Rattle.vm_disk.specs.Disk.{Contents, DiskState}
+use Rattle.vm_block.specs.declared.sizes.TheConstants.{MAX_SHORT}
 use Rattle.vm_block.specs.Leaf.{BeginsWith, Record, Row, link_bytes}
 use Rattle.vm_block.specs.declared.node.Child.{Child}
 use Rattle.vm_block.specs.declared.stored.Link.{Link}
@@ -52,7 +53,7 @@ GivesLeaf result old new limit level top key =
 
 -- this is the link that was found, or none, where nothing was found but the bytes of a short value
 abbrev pub IsLinkOf : Option Link → Option (List ℕ) → Type 0
-IsLinkOf None found = (stored : List ℕ) → found ≡ Some stored → length stored ≤ 240
+IsLinkOf None found = (stored : List ℕ) → found ≡ Some stored → length stored ≤ MAX_SHORT
 IsLinkOf (Some link) found = found ≡ Some (link_bytes link)
 
 -- the long value of this key in the block that the link names

@@ -4,6 +4,7 @@ use Rattle.std.specs.List.{AllByRecursion}
 use Rattle.vm_types.specs.Places.{place, RisesFrom, places, value_at, with_record}
 use Rattle.vm_disk.specs.Disk.{Contents, DiskState, block}
 use Rattle.vm_alloc.specs.Held.{HoldsMore}
+use Rattle.vm_block.specs.declared.sizes.TheConstants.{MAX_CHILDREN, MAX_SHORT}
 use Rattle.vm_block.specs.Leaf.{Record, Row, HasRows, link_bytes, stored_bytes}
 use Rattle.vm_block.specs.Changed.{without_place}
 use Rattle.vm_block.specs.Node.{ChildFits, IsNode, node_bytes}
@@ -95,7 +96,7 @@ abbrev pub WritesPut : Result Child TreeFault → ℕ → List Bool → List Boo
 WritesPut result most held later old new bytes r =
     new.honest ≡ true → (before : List Bool) (keep : ℕ → Bool) → HoldsMore before held → (sizes : Sizes) (ws : List Row) (rs : List Record) (first : List ℕ)
     → HasRows bytes (with_record (r.0, first) ws) → length (with_record (r.0, first) ws) ≤ most → most ≤ sizes.leaf
-    → (length r.1 ≤ 240 → first ≡ r.1) → RisesFrom 0 (places ws) → RisesFrom 0 (places rs)
+    → (length r.1 ≤ MAX_SHORT → first ≡ r.1) → RisesFrom 0 (places ws) → RisesFrom 0 (places rs)
     → StandIn (IsRenewed before held keep) old.now.contents (length held) (without_place (place r.0) ws) (without_place (place r.0) rs)
     → AllByRecursion (IsWithin longest) rs
     → IfOk result (λ child. Made (IsRenewed before later keep) sizes new.now.contents (length held) 0 (child ∷ []) (with_record r rs))
@@ -123,7 +124,7 @@ WritesLeaf result held later old new bytes =
 abbrev pub WritesNode : Result Child TreeFault → List Bool → List Bool → DiskState → DiskState → List ℕ → Type 0
 WritesNode result held later old new bytes =
     new.honest ≡ true → (before : List Bool) (keep : ℕ → Bool) → HoldsMore before held → (sizes : Sizes) (level : ℕ) (cs : List Child) (rs : List Record)
-    → bytes ≡ node_bytes level cs → 0 < level → level ≤ 7 → 0 < length cs → length cs ≤ 256 → length cs ≤ sizes.fan → RisesFrom 0 (places rs)
+    → bytes ≡ node_bytes level cs → 0 < level → level ≤ 7 → 0 < length cs → length cs ≤ MAX_CHILDREN → length cs ≤ sizes.fan → RisesFrom 0 (places rs)
     → Made (IsRenewed before held keep) sizes old.now.contents (length held) (level - 1) cs rs
     → IfOk result (λ child. Made (IsRenewed before later keep) sizes new.now.contents (length held) level (child ∷ []) rs)
 

@@ -4,6 +4,7 @@ use Rattle.std.specs.Prelude.{◌≡◌, ℕ, zero, suc, ◌+◌, ◌*◌, ◌<�
 use Rattle.vm_types.specs.declared.key.Key.{Key}
 use Rattle.arrayvec.specs.ArrayVec.{ArrayVec}
 use Rattle.vm_disk.specs.Disk.{Contents, DiskState, block}
+use Rattle.vm_block.specs.declared.sizes.TheConstants.{MAX_ROWS, MAX_CHILDREN}
 use Rattle.vm_block.specs.Head.{IsNodeHead, IsRowsHead}
 use Rattle.vm_block.specs.Leaf.{Row, BeginsWith, HasRows, key_bytes}
 use Rattle.vm_block.specs.Long.{IsLong}
@@ -60,7 +61,7 @@ pub record EndsAt (x : Contents) (limit b : ℕ) (low : Key) : Type 0 where
   pub long : Bool
   pub count : ℕ
   pub inside : IsData limit b
-  pub head : IsRowsHead (block x b) 16 long count
+  pub head : IsRowsHead (block x b) MAX_ROWS long count
   pub first : take 10 (drop 16 (block x b)) ≡ key_bytes low
 
 -- this block is for data, has the head of an inner block of this level, begins with this key, and has this child
@@ -85,7 +86,7 @@ IsCount most n = (0 < n) × (n ≤ most)
 
 -- a way in an inner block with so many children at most
 abbrev pub IsWayAmong : ℕ → Way → Type 0
-IsWayAmong most way = (way.index < way.count) × (way.count ≤ most) × (way.count ≤ 256)
+IsWayAmong most way = (way.index < way.count) × (way.count ≤ most) × (way.count ≤ MAX_CHILDREN)
 
 -- # What a call found, where the disk is honest after it, of the contents before it
 

@@ -4,6 +4,7 @@ use Rattle.std.specs.List.{AllByRecursion}
 use Rattle.vm_types.specs.Map.{Map}
 use Rattle.vm_types.specs.Places.{RisesFrom, places}
 use Rattle.vm_disk.specs.Disk.{Contents, DiskState}
+use Rattle.vm_block.specs.declared.sizes.TheConstants.{MAX_ROWS, MAX_CHILDREN}
 use Rattle.vm_block.specs.Leaf.{Record, BeginsWith}
 use Rattle.vm_block.specs.declared.node.Child.{Child}
 use Rattle.vm_tree.specs.Tree.{Sizes, Subtree}
@@ -16,9 +17,9 @@ sizes_of leaf fan levels = record { leaf = leaf; fan = fan; levels = levels }
 -- sizes that trees may have
 pub record AreSizes (leaf fan levels : ℕ) : Type 0 where
   pub leaf_least : 2 ≤ leaf
-  pub leaf_most : leaf ≤ 16
+  pub leaf_most : leaf ≤ MAX_ROWS
   pub fan_least : 2 ≤ fan
-  pub fan_most : fan ≤ 256
+  pub fan_most : fan ≤ MAX_CHILDREN
   pub levels_least : 1 ≤ levels
   pub levels_most : levels ≤ 8
 

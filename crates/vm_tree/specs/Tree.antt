@@ -1,9 +1,11 @@
 -- Trees in blocks: what map lies under a root, and in which blocks.
 use Rattle.std.specs.Prelude.{◌≡◌, ◌⊎◌, ℕ, zero, suc, ◌<◌, ◌≤◌, List, [], ◌∷◌, ◌++◌, length}
 use Rattle.std.specs.List.{AllByRecursion}
+use Rattle.vm_types.specs.declared.sizes.TheConstants.{FIRST_DATA}
 use Rattle.vm_types.specs.Bytes.{longest}
 use Rattle.vm_types.specs.Places.{KeyFits, RisesFrom, places}
 use Rattle.vm_disk.specs.Disk.{Contents, block}
+use Rattle.vm_block.specs.declared.sizes.TheConstants.{MAX_SHORT}
 use Rattle.vm_block.specs.Leaf.{Record, Row, BeginsWith, HasRows, LinkFits, link_bytes}
 use Rattle.vm_block.specs.Long.{IsLong}
 use Rattle.vm_block.specs.Node.{IsNode}
@@ -18,7 +20,7 @@ pub record Sizes : Type 0 where
 
 -- a block for data, in a store of so many blocks
 abbrev pub IsData : ℕ → ℕ → Type 0
-IsData limit b = (34 ≤ b) × (b < limit)
+IsData limit b = (FIRST_DATA ≤ b) × (b < limit)
 
 -- under these children lie these records, joined, in these blocks; T tells what lies under one of them
 abbrev pub Children : (ℕ → List Record → List ℕ → Type 0) → List Child → List Record → List ℕ → Type 0
@@ -30,7 +32,7 @@ Children T (c ∷ cs) rs bs =
 
 -- this row of a leaf is the record itself
 pub record IsItself (w : Row) (r : Record) (bs : List ℕ) : Type 0 where
-  pub short : length w.1 ≤ 240
+  pub short : length w.1 ≤ MAX_SHORT
   pub same : r ≡ w
   pub none : bs ≡ []
 

@@ -12,9 +12,9 @@ ghost use Rattle.vm_tree.specs.Reading.{FindsEnd, FindsLeaf, FindsPathFrom};
 use crate::long::long_at;
 use crate::reading::{load_block, load_way};
 use crate::root::{Root, TreeFault};
-use vm_block::{Child, Link, Stored, find_row, is_long_leaf};
+use vm_block::{Child, Link, MAX_ROWS, Stored, find_row, is_long_leaf};
 use vm_disk::Disk;
-use vm_types::Key;
+use vm_types::{BLOCK_SIZE, Key};
 
 /// The value to which a row of a leaf links, read into these bytes.
 fn get_long<'a, D: Disk>(
@@ -38,7 +38,7 @@ fn get_long<'a, D: Disk>(
 /// The link to the key's value in a leaf: None, where it has the value itself, or none.
 pub(crate) fn long_link(bytes: &[u8; 4096], key: Key) -> Option<Link>
     ensures fits { IfSome result LinkFits }
-    ensures headed { IfSome result (λ link. (long : Bool) × (n : ℕ) × IsRowsHead bytes.now 16 long n) }
+    ensures headed { IfSome result (λ link. (long : Bool) × (n : ℕ) × IsRowsHead bytes.now MAX_ROWS long n) }
     ensures only { IfHasRows bytes.now (λ ws. IsLinkOf result (value_at (place key) ws)) }
 {
     if !is_long_leaf(bytes) {
@@ -54,7 +54,7 @@ pub(crate) fn long_link(bytes: &[u8; 4096], key: Key) -> Option<Link>
 
 /// The same bytes, at the start of this room.
 fn copied<'a>(value: &[u8], room: &'a mut [u8; 4096]) -> &'a [u8]
-    requires { length value.now ≤ 4096 }
+    requires { length value.now ≤ BLOCK_SIZE }
     ensures { result.now ≡ value.now }
 {
     let start = &mut room[..value.len()];

@@ -19,8 +19,8 @@ use vm_block::{Link, Stored, write_long};
 use vm_disk::Disk;
 use vm_types::Key;
 
-/// The greatest number of bytes of a value that stands in its leaf.
-pub(crate) const MAX_SHORT: usize = 240;
+/// The most bytes of a value that stands in its leaf.
+pub(crate) const MAX_SHORT: usize = vm_block::MAX_SHORT as usize;
 
 /// The block of the long value that the key has by a leaf of these bytes: 0 where it has none.
 pub(crate) fn linked(bytes: &[u8; 4096], key: Key) -> u32
@@ -42,8 +42,8 @@ pub(crate) fn write_long_block<D: Disk>(
     value: &[u8],
 ) -> Result<Link, TreeFault>
     requires inside { length held.old ≤ (D.state disk.old).blocks }
-    requires long { 240 < length value.now }
-    requires most { length value.now ≤ 4000 }
+    requires long { MAX_SHORT < length value.now }
+    requires most { length value.now ≤ longest }
     requires free { 0 < free_count held.old }
     ensures writes { WritesFree result held.old held.new (D.state disk.old) (D.state disk.new) }
     ensures device { OkOrDevice result LinkFits }

@@ -20,8 +20,8 @@ use crate::splicing::spliced;
 use crate::writing::{Copied, write_bytes, write_node_block, write_nodes};
 use vm_alloc::Held;
 use vm_block::{
-    Child, Placed, Stored, Way, put_row, rows_size, set_child, spelled_children, split_rows,
-    write_leaf,
+    Child, MAX_CHILDREN, MAX_ROWS, Placed, Stored, Way, put_row, rows_size, set_child,
+    spelled_children, split_rows, write_leaf,
 };
 use vm_disk::Disk;
 use vm_types::Key;
@@ -41,7 +41,7 @@ fn write_divided<D: Disk, const FAN: usize>(
 ) -> Result<Copied, TreeFault>
     requires inside { length held.old ≤ (D.state disk.old).blocks }
     requires least { 2 ≤ FAN }
-    requires most { FAN ≤ 256 }
+    requires most { FAN ≤ MAX_CHILDREN }
     requires within { way.index < way.count }
     requires few { way.count ≤ FAN }
     requires free { 0 < free_count held.old }
@@ -73,7 +73,7 @@ fn write_replaced<D: Disk, const FAN: usize>(
 ) -> Result<Copied, TreeFault>
     requires inside { length held.old ≤ (D.state disk.old).blocks }
     requires least { 2 ≤ FAN }
-    requires most { FAN ≤ 256 }
+    requires most { FAN ≤ MAX_CHILDREN }
     requires within { way.index < way.count }
     requires few { way.count ≤ FAN }
     requires free { 0 < free_count held.old }
@@ -132,7 +132,7 @@ fn split_leaf<D: Disk, const LEAF: usize>(
     value: &[u8],
 ) -> Result<Copied, TreeFault>
     requires inside { length held.old ≤ (D.state disk.old).blocks }
-    requires most { LEAF ≤ 16 }
+    requires most { LEAF ≤ MAX_ROWS }
     requires short { length value.now ≤ longest }
     requires free { 2 + long_blocks value.now ≤ free_count held.old }
     ensures writes { WritesFree result held.old held.new (D.state disk.old) (D.state disk.new) }
@@ -160,8 +160,8 @@ fn split_leaf<D: Disk, const LEAF: usize>(
 
 /// What stands for a value in a leaf at first: the value, where it is short, and else no bytes.
 fn first_stored(value: &[u8]) -> &[u8]
-    ensures short { length result.now ≤ 240 }
-    ensures same { length value.now ≤ 240 → result.now ≡ value.now }
+    ensures short { length result.now ≤ MAX_SHORT }
+    ensures same { length value.now ≤ MAX_SHORT → result.now ≡ value.now }
 {
     if value.len() <= MAX_SHORT {
         value
@@ -180,7 +180,7 @@ fn write_put<D: Disk, const LEAF: usize>(
     value: &[u8],
 ) -> Result<Child, TreeFault>
     requires inside { length held.old ≤ (D.state disk.old).blocks }
-    requires most { LEAF ≤ 16 }
+    requires most { LEAF ≤ MAX_ROWS }
     requires short { length value.now ≤ longest }
     requires free { 1 + long_blocks value.now ≤ free_count held.old }
     ensures writes { WritesFree result held.old held.new (D.state disk.old) (D.state disk.new) }
@@ -211,7 +211,7 @@ fn put_in_leaf<D: Disk, const LEAF: usize>(
 ) -> Result<Copied, TreeFault>
     requires inside { length held.old ≤ (D.state disk.old).blocks }
     requires least { 2 ≤ LEAF }
-    requires most { LEAF ≤ 16 }
+    requires most { LEAF ≤ MAX_ROWS }
     requires short { length value.now ≤ longest }
     requires free { 1 + long_blocks value.now ≤ free_count held.old }
     requires free_two { room ≡ true → 2 + long_blocks value.now ≤ free_count held.old }
@@ -261,9 +261,9 @@ fn put_below<D: Disk, const LEAF: usize, const FAN: usize>(
 ) -> Result<Copied, TreeFault>
     requires inside { length held.old ≤ (D.state disk.old).blocks }
     requires leaf_least { 2 ≤ LEAF }
-    requires leaf_most { LEAF ≤ 16 }
+    requires leaf_most { LEAF ≤ MAX_ROWS }
     requires fan_least { 2 ≤ FAN }
-    requires fan_most { FAN ≤ 256 }
+    requires fan_most { FAN ≤ MAX_CHILDREN }
     requires low { level ≤ 7 }
     requires short { length value.now ≤ longest }
     requires free { 2 * level + 1 + long_blocks value.now ≤ free_count held.old }

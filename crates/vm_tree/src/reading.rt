@@ -8,10 +8,9 @@ ghost use Rattle.vm_tree.specs.Reading.{FindsBlock, FindsData, FindsNode, FindsS
 
 use crate::root::TreeFault;
 use arrayvec::ArrayVec;
-use vm_alloc::FIRST_DATA;
-use vm_block::{Child, Way, find_child, lowest_key, node_size, read_node, rows_size};
+use vm_block::{Child, MAX_CHILDREN, Way, find_child, lowest_key, node_size, read_node, rows_size};
 use vm_disk::Disk;
-use vm_types::Key;
+use vm_types::{FIRST_DATA, Key};
 
 /// Whether the block is for data, in a store of so many blocks.
 pub fn is_data(blocks: u32, block: u32) -> bool
@@ -122,7 +121,7 @@ pub fn node_at<D: Disk>(
     ensures deep { result ≢ Err TreeFault.Deep }
     ensures memory { result ≢ Err TreeFault.Memory }
     ensures once { ReadsOne blocks block (D.state disk.old).reads (D.state disk.new).reads }
-    ensures count { IfOk result (λ children. IsCount 256 (length children.items)) }
+    ensures count { IfOk result (λ children. IsCount MAX_CHILDREN (length children.items)) }
     ensures low { IfOk result (λ children. level ≤ 7) }
     ensures found { FindsNode result (D.state disk.old) (D.state disk.new) blocks level block }
     ensures only { GivesNode result (D.state disk.old) (D.state disk.new) blocks level block }

@@ -17,7 +17,9 @@ use crate::splicing::spliced;
 use crate::writing::{write_bytes, write_node_block};
 use arrayvec::ArrayVec;
 use vm_alloc::Held;
-use vm_block::{Child, Taken, Way, read_node, remove_row, rows_size, set_child};
+use vm_block::{
+    Child, MAX_CHILDREN, MAX_ROWS, Taken, Way, read_node, remove_row, rows_size, set_child,
+};
 use vm_disk::Disk;
 use vm_types::Key;
 
@@ -45,7 +47,7 @@ fn child_of(root: Root) -> Child
 /// The children of an inner block of these bytes without the one that was taken.
 fn without_child(bytes: &[u8; 4096], way: Way) -> Option<ArrayVec<Child, 257>>
     requires within { way.index < way.count }
-    requires few { way.count ≤ 256 }
+    requires few { way.count ≤ MAX_CHILDREN }
     ensures count { IfSome result (λ rest. length rest.items ≤ way.count) }
     ensures only { LeavesOut result way bytes.now }
 {
@@ -88,7 +90,7 @@ fn remove_from_leaf<D: Disk, const LEAF: usize>(
     long: &mut u32,
 ) -> Result<Left, TreeFault>
     requires inside { length held.old ≤ (D.state disk.old).blocks }
-    requires most { LEAF ≤ 16 }
+    requires most { LEAF ≤ MAX_ROWS }
     requires free { 1 ≤ free_count held.old }
     ensures writes { WritesFree result held.old held.new (D.state disk.old) (D.state disk.new) }
     ensures deep { result ≢ Err TreeFault.Deep }
@@ -157,7 +159,7 @@ fn write_rest<D: Disk, const FAN: usize>(
     requires above { 0 < level }
     requires low { level ≤ 7 }
     requires few { length children.now ≤ FAN }
-    requires most { FAN ≤ 256 }
+    requires most { FAN ≤ MAX_CHILDREN }
     requires free { 1 ≤ free_count held.old }
     ensures writes { WritesFree result held.old held.new (D.state disk.old) (D.state disk.new) }
     ensures deep { result ≢ Err TreeFault.Deep }
@@ -195,8 +197,8 @@ fn remove_below<D: Disk, const LEAF: usize, const FAN: usize>(
     path: &mut [u32; 9],
 ) -> Result<Left, TreeFault>
     requires inside { length held.old ≤ (D.state disk.old).blocks }
-    requires leaf_most { LEAF ≤ 16 }
-    requires fan_most { FAN ≤ 256 }
+    requires leaf_most { LEAF ≤ MAX_ROWS }
+    requires fan_most { FAN ≤ MAX_CHILDREN }
     requires low { level ≤ 7 }
     requires free { level + 1 ≤ free_count held.old }
     ensures writes { WritesFree result held.old held.new (D.state disk.old) (D.state disk.new) }

@@ -10,7 +10,7 @@ use crate::long::long_at;
 use crate::reading::{node_at, rows_into};
 use crate::root::{Root, TreeFault};
 use std::alloc::Global;
-use vm_block::{Link, Stored, record_key, stored_at};
+use vm_block::{Link, MAX_ROWS, Stored, record_key, stored_at};
 use vm_disk::Disk;
 use vm_types::{Key, Records};
 
@@ -59,7 +59,7 @@ fn push_row<D: Disk>(
     into: &mut Records,
 ) -> Result<(), TreeFault>
     requires inside { blocks ≤ (D.state disk.old).blocks }
-    requires few { i < 16 }
+    requires few { i < MAX_ROWS }
     ensures looks { OnlyLooks result (D.state disk.old) (D.state disk.new) }
     ensures deep { result ≢ Err TreeFault.Deep }
     ensures added { IfLeafRowAt bytes.now i
@@ -83,7 +83,7 @@ fn push_rows<D: Disk>(
     into: &mut Records,
 ) -> Result<(), TreeFault>
     requires inside { blocks ≤ (D.state disk.old).blocks }
-    requires few { count ≤ 16 }
+    requires few { count ≤ MAX_ROWS }
     ensures looks { OnlyLooks result (D.state disk.old) (D.state disk.new) }
     ensures deep { result ≢ Err TreeFault.Deep }
     ensures added { AddsLeaf result (D.state disk.old) (D.state disk.new)

@@ -2,7 +2,7 @@
 ghost use Rattle.std.specs.Prelude.{◌≡◌, ◌+◌, ◌<◌, ◌≤◌, ◌++◌, length, take, drop};
 
 use arrayvec::ArrayVec;
-use vm_block::Child;
+use vm_block::{Child, MAX_CHILDREN};
 
 pub(crate) fn push_all<T: Copy, const CAP: usize>(items: &[T], into: &mut ArrayVec<T, CAP>)
     requires { length into.old.items + length items.now ≤ CAP }
@@ -15,7 +15,7 @@ pub(crate) fn push_all<T: Copy, const CAP: usize>(items: &[T], into: &mut ArrayV
 
 /// The children with these in the place of the one at i.
 pub(crate) fn spliced(children: &[Child], i: usize, now: &[Child]) -> ArrayVec<Child, 257>
-    requires few { length children.now ≤ 256 }
+    requires few { length children.now ≤ MAX_CHILDREN }
     requires within { i < length children.now }
     requires room { length now.now ≤ 2 }
     ensures { result.items ≡ take i children.now ++ (now.now ++ drop (i + 1) children.now) }

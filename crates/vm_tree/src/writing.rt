@@ -8,7 +8,7 @@ ghost use Rattle.vm_tree.specs.Making.{HasWritten, IfOne, MakesNode, MakesNodes,
 
 use crate::root::TreeFault;
 use vm_alloc::Held;
-use vm_block::{Child, lowest_key, write_node};
+use vm_block::{Child, MAX_CHILDREN, lowest_key, write_node};
 use vm_disk::Disk;
 
 /// What a block was written anew as: one block, or two where it was split.
@@ -72,7 +72,7 @@ pub(crate) fn write_node_block<D: Disk>(
     requires inside { length held.old ≤ (D.state disk.old).blocks }
     requires room { 0 < free_count held.old }
     requires some { 0 < length children.now }
-    requires few { length children.now ≤ 256 }
+    requires few { length children.now ≤ MAX_CHILDREN }
     ensures writes { WritesFree result held.old held.new (D.state disk.old) (D.state disk.new) }
     ensures device { OkOrDevice result (λ child. IsTaken held.new child.block) }
     ensures taken { TakesAtMost 1 held.old held.new }
@@ -94,7 +94,7 @@ pub(crate) fn write_nodes<D: Disk, const FAN: usize>(
 ) -> Result<Copied, TreeFault>
     requires inside { length held.old ≤ (D.state disk.old).blocks }
     requires least { 2 ≤ FAN }
-    requires most { FAN ≤ 256 }
+    requires most { FAN ≤ MAX_CHILDREN }
     requires some { 0 < length children.now }
     requires few { length children.now ≤ FAN + 1 }
     requires room { 0 < free_count held.old }

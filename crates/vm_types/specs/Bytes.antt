@@ -2,10 +2,11 @@
 use Rattle.std.specs.Prelude.{◌≡◌, ℕ, ◌-◌, ◌≤◌, List, ◌++◌, length, take, drop, replicate}
 use Rattle.std.proofs.Common.{ap, sym, ◌∙◌, arith}
 use Rattle.std.proofs.lemmas.List.{take-append-drop, length-take-le}
+use Rattle.vm_types.specs.declared.value.TheConstants.Value.{MAX_LEN}
 
 -- the greatest number of bytes of a value
 abbrev pub longest : ℕ
-longest = 4000
+longest = MAX_LEN
 
 -- the array has n bytes, of which the first len count and the others are zero
 pub record IsPadded (n len : ℕ) (bytes : List ℕ) : Type 0 where

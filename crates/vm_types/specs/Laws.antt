@@ -5,6 +5,7 @@ use Rattle.vm_types.specs.declared.answer.Answer.{Answer}
 use Rattle.vm_types.specs.declared.command.Side.{Side}
 use Rattle.vm_types.specs.declared.command.Command.{Command}
 use Rattle.vm_types.specs.declared.refusal.Refusal.{Refusal}
+use Rattle.vm_types.specs.declared.sizes.TheConstants.{MIN_BLOCKS, MAX_BLOCKS}
 use Rattle.vm_types.specs.Map.{Map, IsMap, get, delta, merged_at, merge}
 use Rattle.vm_types.specs.Tree.{Tree, fresh, named}
 use Rattle.vm_types.specs.Shape.{IsWellFormed}
@@ -27,9 +28,9 @@ DeltasTellEquality = (m n : Map) → IsMap m → IsMap n → (delta m n ≡ []) 
 
 -- a store has 64 to 1,048,576 blocks, and no more of them are committed than commands work on
 pub record HasSizes (s : State) : Type 0 where
-  pub enough : 64 ≤ s.kept
+  pub enough : MIN_BLOCKS ≤ s.kept
   pub fewer : s.kept ≤ s.blocks
-  pub few : s.blocks ≤ 1048576
+  pub few : s.blocks ≤ MAX_BLOCKS
 
 -- no command takes blocks from a store, or gives it too many, as long as none is answered Ok that the model refuses
 abbrev pub StoresOnlyGrow : Type 0

@@ -5,6 +5,7 @@ use Rattle.vm_types.specs.declared.command.Command.{Command}
 use Rattle.vm_types.specs.declared.command.Command.TheVariants.{Put, Remove, Merge, Commit, Grow}
 use Rattle.vm_types.specs.declared.refusal.Refusal.{Refusal}
 use Rattle.vm_types.specs.declared.refusal.Refusal.TheVariants.{BadSize}
+use Rattle.vm_types.specs.declared.sizes.TheConstants.{MAX_BLOCKS}
 use Rattle.vm_types.specs.Map.{delta}
 use Rattle.vm_types.specs.Tree.{Tree, current_of}
 use Rattle.vm_types.specs.Step.{Outcome, refuse_if, step}
@@ -51,7 +52,7 @@ answer_of (Err refusal) = Err refusal
 
 -- whether a store of so many blocks can't grow to so many: they are no more, or more than a store may have
 abbrev pub is_bad_size : ℕ → ℕ → Bool
-is_bad_size blocks more = nat_le more blocks || nat_lt 1048576 more
+is_bad_size blocks more = nat_le more blocks || nat_lt MAX_BLOCKS more
 
 -- what a command comes to: a Grow is refused where its size is bad, and all else is as the step says
 abbrev pub outcome : State → Command → Outcome

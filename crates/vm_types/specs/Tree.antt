@@ -2,6 +2,7 @@
 use Rattle.std.specs.Prelude.{ℕ, ◌+◌, Bool, List, length, find, sum_by, Option, Some, option_map, unwrap_or, nat_le, bytes_eq, [], codes, ◌∷◌, None}
 use Rattle.std.specs.List.{list_any}
 use Rattle.std.specs.Option.{option_eq}
+use Rattle.vm_types.specs.declared.sizes.TheConstants.{MAX_VERSIONS}
 use Rattle.vm_types.specs.Map.{Map}
 use Rattle.vm_types.specs.Firsts.{change_first}
 
@@ -51,9 +52,9 @@ has_children tree name = list_any (λ a. option_eq bytes_eq a.parent (Some name)
 abbrev pub entry_count : Tree → ℕ
 entry_count tree = sum_by (λ a. 1 + length a.saved) tree
 
--- whether all 511 entries are taken
+-- whether there are as many alternatives and checkpoints as may be
 abbrev pub is_full : Tree → Bool
-is_full tree = nat_le 511 (entry_count tree)
+is_full tree = nat_le MAX_VERSIONS (entry_count tree)
 
 -- the tree in which the alternative of this name is changed so
 abbrev pub changed : Tree → List ℕ → (Alternative → Alternative) → Tree

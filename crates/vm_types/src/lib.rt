@@ -1,8 +1,9 @@
 //! The words of the store: keys, values, names, commands, answers and refusals, the model that
-//! every crate above is proved against, and what a merge makes of two lists of changes.
+//! every crate above is proved against, what a merge makes of two lists of changes, and the sizes that
+//! all keep to.
 //!
-//! It stands on the standard library alone and knows nothing of blocks or disks. Its one promise:
-//! the limits of a value and of a name hold exactly, and keys are ordered by table, then by number.
+//! It stands on the standard library alone and knows nothing of disks. Its one promise: the limits of
+//! a value and of a name hold exactly, and keys are ordered by table, then by number.
 #![tactic(auto)]
 
 mod answer;
@@ -17,6 +18,7 @@ mod name;
 mod records;
 mod refusal;
 mod settling;
+mod sizes;
 mod value;
 mod values;
 
@@ -31,4 +33,5 @@ pub use name::Name;
 pub use records::{Records, RecordsIter};
 pub use refusal::Refusal;
 pub use settling::settled_refusal;
+pub use sizes::{BLOCK_SIZE, FIRST_DATA, MAX_BLOCKS, MAX_VERSIONS, MIN_BLOCKS};
 pub use value::Value;

@@ -3,11 +3,9 @@ use std::alloc::Global;
 use std::process::Abort;
 use std::test::Fail;
 use vm_block::{Entry, Kind, SlotFormat, SlotName, write_header};
-use vm_catalog::{
-    LoadFault, MAX_ENTRIES, Slot, load, publish, select_slot, slot_in_use, write_slot,
-};
+use vm_catalog::{LoadFault, Slot, load, publish, select_slot, slot_in_use, write_slot};
 use vm_disk::{DeviceFault, Disk, FuseDisk, MemDisk};
-use vm_types::Name;
+use vm_types::{MAX_VERSIONS, Name};
 
 /// The name `n` and four digits.
 fn numbered(n: usize) -> Option<Name> {
@@ -44,7 +42,7 @@ fn family(alloc: Global, count: usize) -> Option<Vec<Entry>> {
 
 /// The calls under test, on a disk that is large enough.
 fn put<D: Disk>(disk: &mut D, in_use: SlotName, entries: &[Entry]) -> Result<(), DeviceFault> {
-    if disk.blocks() < 34 || entries.len() > MAX_ENTRIES {
+    if disk.blocks() < 34 || entries.len() > MAX_VERSIONS {
         return Err(DeviceFault);
     }
     publish(disk, in_use, SlotFormat::One, 64, entries)
@@ -55,7 +53,7 @@ fn put_alone<D: Disk>(
     slot_name: SlotName,
     entries: &[Entry],
 ) -> Result<(), DeviceFault> {
-    if disk.blocks() < 34 || entries.len() > MAX_ENTRIES {
+    if disk.blocks() < 34 || entries.len() > MAX_VERSIONS {
         return Err(DeviceFault);
     }
     write_slot(disk, slot_name, SlotFormat::One, 64, entries)

@@ -7,12 +7,12 @@ use rand_xoshiro::Xoshiro256PlusPlus;
 use std::alloc::{AllocError, Global};
 use std::collections::BTreeMap;
 use std::test::Fail;
-use vm_alloc::{FIRST_DATA, Held, Marks};
+use vm_alloc::{Held, Marks};
 use vm_block::{Child, Stored, is_long_leaf, read_leaf, read_node};
 use vm_check::{NotedDisk, mark};
 use vm_disk::{Disk, MemDisk};
 use vm_tree::{Root, TreeFault, get, put, remove, scan};
-use vm_types::{Key, Value};
+use vm_types::{FIRST_DATA, Key, Value};
 
 const BLOCKS: u32 = 16_384;
 

@@ -3,6 +3,7 @@ ghost use Rattle.std.specs.Prelude.{◌≡◌, ◌+◌, ◌<◌, ◌≤◌, ◌+
 ghost use Rattle.vm_types.specs.Bytes.{longest};
 ghost use Rattle.vm_cli.specs.Listings.{alternative_text, change_text, checkpoint_text, conflict_text, key_words, optional_text, record_text};
 
+use crate::answers::lists::LONGEST_LINE;
 use crate::answers::text::Text;
 use crate::lines::escape;
 use vm_types::{Changes, Conflicts, Key, Name, Records};
@@ -21,7 +22,7 @@ pub trait Listing {
     /// Writes the line at i.
     fn push_line(&self, i: usize, text: &mut Text)
         requires within { i < length (lines self.now) }
-        requires room { length text.old + 36096 ≤ 65536 }
+        requires room { length text.old + LONGEST_LINE ≤ Text.MAX_LEN }
         ensures { text.new ≡ text.old ++ slice_index_or (lines self.now) i [] };
 }
 
@@ -91,7 +92,7 @@ pub trait Listed {
 
     /// Writes its line.
     fn push_onto(&self, text: &mut Text)
-        requires { length text.old + 36096 ≤ 65536 }
+        requires { length text.old + LONGEST_LINE ≤ Text.MAX_LEN }
         ensures { text.new ≡ text.old ++ line self.now };
 }
 
@@ -113,7 +114,7 @@ impl Listed for Name {
 
 /// Writes the line of a record.
 fn push_record(text: &mut Text, key: Key, value: &[u8])
-    requires room { length text.old + 12288 ≤ 65536 }
+    requires room { length text.old + 12288 ≤ Text.MAX_LEN }
     requires short { length value.now ≤ longest }
     ensures { text.new ≡ text.old ++ record_text key value.now }
 {
@@ -125,7 +126,7 @@ fn push_record(text: &mut Text, key: Key, value: &[u8])
 
 /// Writes the line of an alternative, with its parent.
 fn push_alternative(text: &mut Text, name: &Name, parent: Option<Name>)
-    requires { length text.old + 1024 ≤ 65536 }
+    requires { length text.old + 1024 ≤ Text.MAX_LEN }
     ensures { text.new ≡ text.old ++ alternative_text name.now parent }
 {
     text.push_bytes(b"alternative ");
@@ -140,7 +141,7 @@ fn push_alternative(text: &mut Text, name: &Name, parent: Option<Name>)
 
 /// Writes the line of a checkpoint.
 fn push_checkpoint(text: &mut Text, name: &Name)
-    requires { length text.old + 1024 ≤ 65536 }
+    requires { length text.old + 1024 ≤ Text.MAX_LEN }
     ensures { text.new ≡ text.old ++ checkpoint_text name.now }
 {
     text.push_bytes(b"checkpoint ");
@@ -150,7 +151,7 @@ fn push_checkpoint(text: &mut Text, name: &Name)
 
 /// Writes the line of a change.
 fn push_change(text: &mut Text, key: Key, before: Option<&[u8]>, after: Option<&[u8]>)
-    requires room { length text.old + 36096 ≤ 65536 }
+    requires room { length text.old + LONGEST_LINE ≤ Text.MAX_LEN }
     requires before { IfSome before (λ value. length value.now ≤ longest) }
     requires after { IfSome after (λ value. length value.now ≤ longest) }
     ensures { text.new ≡ text.old ++ change_text (record {
@@ -175,7 +176,7 @@ fn push_conflict(
     parent: Option<&[u8]>,
     mine: Option<&[u8]>,
 )
-    requires room { length text.old + 36096 ≤ 65536 }
+    requires room { length text.old + LONGEST_LINE ≤ Text.MAX_LEN }
     requires base { IfSome base (λ value. length value.now ≤ longest) }
     requires parent { IfSome parent (λ value. length value.now ≤ longest) }
     requires mine { IfSome mine (λ value. length value.now ≤ longest) }
@@ -198,7 +199,7 @@ fn push_conflict(
 
 /// Writes a key, with a space behind it.
 fn push_key(text: &mut Text, key: Key)
-    requires room { length text.old + 42 ≤ 65536 }
+    requires room { length text.old + 42 ≤ Text.MAX_LEN }
     ensures written { text.new ≡ text.old ++ key_words key }
     ensures short { length text.new ≤ length text.old + 42 }
 {
@@ -210,7 +211,7 @@ fn push_key(text: &mut Text, key: Key)
 
 /// Writes a value, or `~` for absence.
 fn push_optional(text: &mut Text, value: Option<&[u8]>)
-    requires room { length text.old + 12000 ≤ 65536 }
+    requires room { length text.old + 12000 ≤ Text.MAX_LEN }
     requires short { IfSome value (λ bytes. length bytes.now ≤ longest) }
     ensures written { text.new ≡ text.old ++ optional_text (option_copied value.entry) }
     ensures short { length text.new ≤ length text.old + 12000 }

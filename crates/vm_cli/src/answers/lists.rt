@@ -11,7 +11,7 @@ use std::io::Write;
 use vm_types::Refusal;
 
 /// No line of an answer has more bytes.
-const LONGEST_LINE: usize = 36_096;
+pub(crate) const LONGEST_LINE: usize = 36_096;
 
 /// Answers a query for a list with its lines, or with why there is none. The text takes the lines but
 /// for the last, and what doesn't fit is written; the last line of the answer is given back.
@@ -21,7 +21,7 @@ pub(crate) fn reply_with_list<L: Listing + Drop, W: Write>(
     writer: &mut W,
 ) -> Result<Reply, WriteFault>
     requires { text.old ≡ [] }
-    ensures room { OnOk result (length text.new + 1024 ≤ 65536) }
+    ensures room { OnOk result (length text.new + 1024 ≤ Text.MAX_LEN) }
     ensures list { RepliesWithList L.lines W.contents list result writer.old writer.new text.new }
 {
     match list {
@@ -37,7 +37,7 @@ fn write_list<L: Listing, W: Write>(
     writer: &mut W,
 ) -> Result<Reply, WriteFault>
     requires { text.old ≡ [] }
-    ensures room { OnOk result (length text.new + 1024 ≤ 65536) }
+    ensures room { OnOk result (length text.new + 1024 ≤ Text.MAX_LEN) }
     ensures reply { IfOk result (λ reply. reply ≡ Reply.End (length (L.lines list.now))) }
     ensures ok { OnOk result (GainsBut W.contents text.new (joined (L.lines list.now)) writer.old writer.new) }
     ensures err { OnErr result (Begins W.contents (joined (L.lines list.now)) writer.old writer.new) }
@@ -53,7 +53,7 @@ fn write_list<L: Listing, W: Write>(
 
 /// Makes room for one more line, and writes what there is where that is too much.
 fn make_room<W: Write>(text: &mut Text, writer: &mut W) -> Result<(), WriteFault>
-    ensures room { OnOk result (length text.new + 36096 ≤ 65536) }
+    ensures room { OnOk result (length text.new + LONGEST_LINE ≤ Text.MAX_LEN) }
     ensures ok { OnOk result (GainsBut W.contents text.new text.old writer.old writer.new) }
     ensures err { OnErr result (Begins W.contents text.old writer.old writer.new) }
 {

@@ -30,7 +30,7 @@ impl Reply {
 
     /// Writes the answer as one line, or as none.
     pub(crate) fn push_onto(&self, text: &mut Text)
-        requires { length text.old + 1024 ≤ 65536 }
+        requires { length text.old + 1024 ≤ Text.MAX_LEN }
         ensures { text.new ≡ text.old ++ reply_text self.now }
     {
         match self {
@@ -105,7 +105,7 @@ ghost use Rattle.vm_cli.specs.Replies.{found_text};
 
 /// Writes the line of a record's value, or that there is none.
 pub(crate) fn push_found(text: &mut Text, found: Option<&[u8]>)
-    requires room { length text.old + 12007 ≤ 65536 }
+    requires room { length text.old + 12007 ≤ Text.MAX_LEN }
     requires small { IfSome found (λ value. length value.now ≤ longest) }
     ensures written { text.new ≡ text.old ++ found_text (option_copied found.entry) }
     ensures short { length text.new ≤ length text.old + 12007 }
@@ -122,7 +122,7 @@ pub(crate) fn push_found(text: &mut Text, found: Option<&[u8]>)
 
 /// Writes the line of a refusal.
 fn push_error(text: &mut Text, refusal: &Refusal)
-    requires { length text.old + 200 ≤ 65536 }
+    requires { length text.old + 200 ≤ Text.MAX_LEN }
     ensures { text.new ≡ text.old ++ (codes "error " ++ (refusal_text refusal.now ++ 10 ∷ [])) }
 {
     text.push_bytes(b"error ");
@@ -132,7 +132,7 @@ fn push_error(text: &mut Text, refusal: &Refusal)
 
 /// Writes a refusal: its number, its name, and what it has beside them.
 pub(crate) fn push_refusal(text: &mut Text, refusal: &Refusal)
-    requires room { length text.old + 120 ≤ 65536 }
+    requires room { length text.old + 120 ≤ Text.MAX_LEN }
     ensures written { text.new ≡ text.old ++ refusal_text refusal.now }
     ensures short { length text.new ≤ length text.old + 120 }
 {
@@ -144,7 +144,7 @@ pub(crate) fn push_refusal(text: &mut Text, refusal: &Refusal)
 
 /// Writes what a refusal has beside its number and name.
 fn push_detail(text: &mut Text, refusal: &Refusal)
-    requires room { length text.old + 50 ≤ 65536 }
+    requires room { length text.old + 50 ≤ Text.MAX_LEN }
     ensures written { text.new ≡ text.old ++ detail_text refusal.now }
     ensures short { length text.new ≤ length text.old + 50 }
 {
@@ -171,7 +171,7 @@ fn push_detail(text: &mut Text, refusal: &Refusal)
 
 /// Writes a key.
 fn push_key(text: &mut Text, key: Key)
-    requires room { length text.old + 41 ≤ 65536 }
+    requires room { length text.old + 41 ≤ Text.MAX_LEN }
     ensures written { text.new ≡ text.old ++ key_text key }
     ensures short { length text.new ≤ length text.old + 41 }
 {

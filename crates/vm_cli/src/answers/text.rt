@@ -7,18 +7,19 @@ use std::marker::Model;
 /// The text of an answer, or a part of it, of at most `MAX_LEN` bytes, which it holds in place.
 #[derive(Drop)]
 pub struct Text {
-    bytes: [u8; 65536],
+    bytes: [u8; Text::MAX_LEN],
     len: usize,
 }
 
 impl Model for Text {
     ghost use Rattle.std.specs.Prelude.{ℕ, List, take, ◌≤◌};
+    ghost use Rattle.vm_cli.specs.declared.answers.text.TheConstants.Text.{MAX_LEN};
 
     ghost Value = { List ℕ };
 
     ghost view = { λ t. take t.len t.bytes };
 
-    ghost invariant = { λ t. t.len ≤ 65536 };
+    ghost invariant = { λ t. t.len ≤ MAX_LEN };
 }
 
 impl Text {
@@ -37,7 +38,7 @@ impl Text {
 
     /// Takes one more byte.
     pub(crate) fn push(&mut self, byte: u8)
-        requires { length self.old < 65536 }
+        requires { length self.old < Text.MAX_LEN }
         ensures { self.new ≡ self.old ++ byte ∷ [] }
     {
         self.bytes[self.len] = byte;
@@ -46,7 +47,7 @@ impl Text {
 
     /// Takes more bytes.
     pub(crate) fn push_bytes(&mut self, bytes: &[u8])
-        requires { length self.old + length bytes.now ≤ 65536 }
+        requires { length self.old + length bytes.now ≤ Text.MAX_LEN }
         ensures { self.new ≡ self.old ++ bytes.now }
     {
         let end = self.len + bytes.len();
@@ -56,7 +57,7 @@ impl Text {
 
     /// Takes a number, in decimal digits.
     pub(crate) fn push_number(&mut self, number: u64)
-        requires { length self.old + 20 ≤ 65536 }
+        requires { length self.old + 20 ≤ Text.MAX_LEN }
         ensures written { self.new ≡ self.old ++ decimal number }
         ensures short { length self.new ≤ length self.old + 20 }
     {

@@ -80,7 +80,7 @@ fn hex(digit: u8) -> Option<u8>
 /// Writes the bytes of a value: none as `-`, each byte from 0x21 to 0x7D but `%` as itself, each
 /// other byte as `%` and two upper case hexadecimal digits, and so the value `-`.
 pub(crate) fn push_spelled(text: &mut Text, bytes: &[u8])
-    requires room { length text.old + 12000 ≤ 65536 }
+    requires room { length text.old + 12000 ≤ Text.MAX_LEN }
     requires short { length bytes.now ≤ longest }
     ensures written { text.new ≡ text.old ++ value_text bytes.now }
     ensures size { length text.new ≤ length text.old + 12000 }
@@ -123,7 +123,7 @@ fn is_plain(byte: u8) -> bool
 
 /// Writes one byte of a value.
 fn push_escaped(text: &mut Text, byte: u8)
-    requires { length text.old + 3 ≤ 65536 }
+    requires { length text.old + 3 ≤ Text.MAX_LEN }
     ensures { text.new ≡ text.old ++ byte_text byte }
 {
     if is_plain(byte) {

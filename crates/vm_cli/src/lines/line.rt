@@ -2,7 +2,7 @@
 use std::alloc::Global;
 
 /// The most bytes of a line. The line feed at its end does not count, a carriage return does.
-pub const MOST_BYTES: usize = 1_048_576;
+pub const MAX_BYTES: usize = 1_048_576;
 
 /// What became of the bytes of a line.
 #[derive(Clone, Copy, Debug)]
@@ -50,7 +50,7 @@ impl Line {
         self.is_empty = false;
         match self.kind {
             LineKind::Kept => {
-                if self.bytes.len() + bytes.len() > MOST_BYTES {
+                if self.bytes.len() + bytes.len() > MAX_BYTES {
                     self.kind = LineKind::Long;
                 } else if self.bytes.extend_from_slice(bytes).is_err() {
                     self.kind = LineKind::NoMemory;

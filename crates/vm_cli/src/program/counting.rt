@@ -22,7 +22,7 @@ pub struct Counts {
 impl Counts {
     /// Writes them, a line each.
     pub(crate) fn push_onto(&self, text: &mut Text)
-        requires { length text.old + 200 ≤ 65536 }
+        requires { length text.old + 200 ≤ Text.MAX_LEN }
         ensures { text.new ≡ text.old ++ counts_text self.now }
     {
         text.push_bytes(b"alternatives ");

@@ -10,18 +10,13 @@ use crate::program::task::{InMemory, Job};
 use crate::talk::OnRefusal;
 use clap::{Arg, ArgAction, ArgMatches, Command, Error, value_parser};
 use std::alloc::{AllocError, Global};
-
-/// The fewest blocks of a store.
-pub const LEAST_BLOCKS: u32 = 64;
-
-/// The most blocks of a store.
-pub const MOST_BLOCKS: u32 = 1_048_576;
+use vm_types::{MAX_BLOCKS, MIN_BLOCKS};
 
 /// The most blocks that are kept in memory.
-pub const MOST_CACHE: u32 = 65_536;
+pub const MAX_CACHE: u32 = 65_536;
 
 /// The most blocks that wait to be written.
-pub const MOST_BUFFER: u32 = 65_536;
+pub const MAX_BUFFER: u32 = 65_536;
 
 /// Reads the program's words, of which the first is its name. An `Err` has the text to show, help
 /// included.
@@ -61,7 +56,7 @@ fn asked<'a>(alloc: Global, matches: &ArgMatches<'a>) -> Result<Option<Job<'a>>,
 fn asked_create<'a>(matches: &ArgMatches<'a>, file: &'a str) -> Option<Job<'a>>
     ensures { IsAsked (codes "create") (rows_of (found_of matches.now)) file.now result }
 {
-    let blocks = number_of(matches, "blocks", LEAST_BLOCKS, MOST_BLOCKS)?;
+    let blocks = number_of(matches, "blocks", MIN_BLOCKS, MAX_BLOCKS)?;
     Some(Job::Create { file, blocks })
 }
 
@@ -106,8 +101,8 @@ fn asked_do<'a>(
 fn in_memory(matches: &ArgMatches<'_>) -> Option<InMemory>
     ensures { result ≡ memory_by (rows_of (found_of matches.now)) }
 {
-    let cache = number_of(matches, "cache", 0, MOST_CACHE)?;
-    let buffer = number_of(matches, "buffer", 0, MOST_BUFFER)?;
+    let cache = number_of(matches, "cache", 0, MAX_CACHE)?;
+    let buffer = number_of(matches, "buffer", 0, MAX_BUFFER)?;
     Some(InMemory { cache, buffer })
 }
 

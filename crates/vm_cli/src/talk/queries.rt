@@ -29,7 +29,7 @@ pub(crate) fn reply_to_get<D: Disk>(
     store: &mut Store<D>,
 ) -> Reply
     requires { text.old ≡ [] }
-    ensures room { length text.new + 1024 ≤ 65536 }
+    ensures room { length text.new + 1024 ≤ Text.MAX_LEN }
     ensures goes { GoesOn ⊥ store.old store.new }
     ensures failed { has_failed store.new ≡ has_failed store.old }
     ensures last { has_failed store.old ≡ false → ends_talk result ≡ false }
@@ -52,7 +52,7 @@ fn get<D: Disk>(
     store: &mut Store<D>,
 ) -> Reply
     requires { text.old ≡ [] }
-    ensures room { length text.new + 1024 ≤ 65536 }
+    ensures room { length text.new + 1024 ≤ Text.MAX_LEN }
     ensures goes { GoesOn ⊥ store.old store.new }
     ensures failed { has_failed store.new ≡ has_failed store.old }
     ensures last { has_failed store.old ≡ false → ends_talk result ≡ false }

@@ -7,13 +7,7 @@ ghost use Rattle.vm_store.specs.Refused.{SyncsAll, SyncsAtMost};
 use vm_block::{Entry, Kind, SlotFormat, SlotName, is_header, write_header};
 use vm_catalog::{select_slot, write_slot};
 use vm_disk::{DeviceFault, Disk};
-use vm_types::{Name, Refusal};
-
-/// How many blocks a store has at least.
-const LEAST_BLOCKS: u32 = 64;
-
-/// How many blocks a store has at most.
-pub(super) const MOST_BLOCKS: u32 = 1_048_576;
+use vm_types::{MAX_BLOCKS, MIN_BLOCKS, Name, Refusal};
 
 /// The one entry of a new store.
 fn fresh_entry() -> Entry
@@ -33,7 +27,7 @@ fn fresh_entry() -> Entry
 
 /// Syncs, and tells whether block 0 is a header.
 fn has_header<D: Disk>(disk: &mut D) -> Result<bool, DeviceFault>
-    requires { 64 ≤ (D.state disk.old).blocks }
+    requires { MIN_BLOCKS ≤ (D.state disk.old).blocks }
     ensures any { Goes (IsErr result) (D.state disk.old) (D.state disk.new) }
     ensures moments { SyncsAtMost (D.state disk.old) (D.state disk.new) }
     ensures synced { SyncsAll result (D.state disk.old) (D.state disk.new) }
@@ -51,9 +45,9 @@ fn has_header<D: Disk>(disk: &mut D) -> Result<bool, DeviceFault>
 
 /// Writes slot A with `top` alone, and the selector that names it, and syncs.
 fn lay_out<D: Disk>(disk: &mut D, blocks: u32) -> Result<(), DeviceFault>
-    requires room { 64 ≤ (D.state disk.old).blocks }
-    requires least { 64 ≤ blocks }
-    requires most { blocks ≤ 2 ^ 20 }
+    requires room { MIN_BLOCKS ≤ (D.state disk.old).blocks }
+    requires least { MIN_BLOCKS ≤ blocks }
+    requires most { blocks ≤ MAX_BLOCKS }
     ensures any { Goes (IsErr result) (D.state disk.old) (D.state disk.new) }
     ensures moments { LaysOut (D.state disk.old) (D.state disk.new) blocks }
     ensures laid { (D.state disk.new).honest ≡ true
@@ -70,7 +64,7 @@ fn lay_out<D: Disk>(disk: &mut D, blocks: u32) -> Result<(), DeviceFault>
 
 /// Writes the header, and syncs.
 fn put_header<D: Disk>(disk: &mut D) -> Result<(), DeviceFault>
-    requires { 64 ≤ (D.state disk.old).blocks }
+    requires { MIN_BLOCKS ≤ (D.state disk.old).blocks }
     ensures any { Goes (IsErr result) (D.state disk.old) (D.state disk.new) }
     ensures moments { ShowsAtMostLaidOut (D.state disk.old) (D.state disk.new) }
     ensures formatted { FormatsLaidOut (D.state disk.old) (D.state disk.new) result }
@@ -86,8 +80,8 @@ fn put_header<D: Disk>(disk: &mut D) -> Result<(), DeviceFault>
 /// Makes a new store on a disk, where there is none.
 fn make_store<D: Disk>(disk: &mut D, blocks: u32) -> Result<(), Refusal>
     requires room { blocks ≤ (D.state disk.old).blocks }
-    requires least { 64 ≤ blocks }
-    requires most { blocks ≤ 2 ^ 20 }
+    requires least { MIN_BLOCKS ≤ blocks }
+    requires most { blocks ≤ MAX_BLOCKS }
     ensures any { Goes (result ≡ Err Refusal.Device) (D.state disk.old) (D.state disk.new) }
     ensures refusals { IfErr result (λ r. (r ≡ Refusal.AlreadyAStore) ⊎ (r ≡ Refusal.Device)) }
     ensures already { HadHeader (D.state disk.old) (D.state disk.new) (result ≡ Err Refusal.AlreadyAStore) }
@@ -128,7 +122,7 @@ pub fn format<D: Disk>(mut disk: D, blocks: u32) -> Result<D, (D, Refusal)>
     ensures formatted { Formats blocks result (D.state (given_back result)) }
     ensures moments { FormatsAtMost (D.state disk) (D.state (given_back result)) blocks }
 {
-    if blocks < LEAST_BLOCKS || blocks > MOST_BLOCKS || blocks > disk.blocks() {
+    if blocks < MIN_BLOCKS || blocks > MAX_BLOCKS || blocks > disk.blocks() {
         return Err((disk, Refusal::BadSize));
     }
     match make_store(&mut disk, blocks) {

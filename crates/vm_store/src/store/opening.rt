@@ -22,15 +22,12 @@ use vm_catalog::{LoadFault, Slot, first_block, load, slot_in_use};
 use vm_check::{NotedDisk, verify};
 use vm_disk::Disk;
 use vm_tree::Root;
-use vm_types::Refusal;
-
-/// How many blocks a store has at least.
-const LEAST_BLOCKS: u32 = 64;
+use vm_types::{MAX_VERSIONS, MIN_BLOCKS, Refusal};
 
 /// Syncs, and tells whether there is a store, and which slot its selector names.
 fn find_slot<D: Disk>(disk: &mut D) -> Result<SlotName, Refusal>
     ensures any { Goes (result ≡ Err Refusal.Device) (D.state disk.old) (D.state disk.new) }
-    ensures room { OnOk result (64 ≤ (D.state disk.old).blocks) }
+    ensures room { OnOk result (MIN_BLOCKS ≤ (D.state disk.old).blocks) }
     ensures moments { SyncsAtMost (D.state disk.old) (D.state disk.new) }
     ensures synced { SyncsUnlessDevice (D.state disk.old) (D.state disk.new) result }
     ensures found { FindsSlot (D.state disk.old) (D.state disk.new) result }
@@ -40,7 +37,7 @@ fn find_slot<D: Disk>(disk: &mut D) -> Result<SlotName, Refusal>
     let Ok(()) = disk.sync() else {
         return Err(Refusal::Device);
     };
-    if disk.blocks() < LEAST_BLOCKS {
+    if disk.blocks() < MIN_BLOCKS {
         return Err(Refusal::NotAStore);
     }
     match slot_in_use(disk) {
@@ -52,12 +49,12 @@ fn find_slot<D: Disk>(disk: &mut D) -> Result<SlotName, Refusal>
 
 /// The entries of that slot, where the store lies within the disk.
 fn load_slot<D: Disk>(alloc: Global, disk: &mut D, slot_name: SlotName) -> Result<Slot, Refusal>
-    requires { 64 ≤ (D.state disk.old).blocks }
+    requires { MIN_BLOCKS ≤ (D.state disk.old).blocks }
     ensures any { Goes (result ≡ Err Refusal.Device) (D.state disk.old) (D.state disk.new) }
     ensures reads { (D.state disk.new).honest ≡ true
         → OnlyReads (D.state disk.old) (D.state disk.new) }
     ensures fits { IfOk result (λ slot. SlotFits slot.blocks slot.entries.items) }
-    ensures reserved { IfOk result (λ slot. 511 ≤ vec_capacity slot.entries) }
+    ensures reserved { IfOk result (λ slot. MAX_VERSIONS ≤ vec_capacity slot.entries) }
     ensures inside { IfOk result (λ slot. slot.blocks ≤ (D.state disk.old).blocks) }
     ensures found { LoadsHeld result (D.state disk.old) (D.state disk.new) slot_name }
     ensures refused { RefusesSlot (D.state disk.old) (D.state disk.new) result slot_name }
@@ -92,7 +89,7 @@ fn root_numbers(alloc: Global, entries: &[Entry]) -> Option<Vec<u32>>
 /// The versions of entries whose roots these are, and the same again: none where no memory was
 /// found for them.
 fn versions_twice(alloc: Global, entries: &[Entry], roots: &[Root]) -> Option<(Versions, Versions)>
-    requires few { length entries.now ≤ 511 }
+    requires few { length entries.now ≤ MAX_VERSIONS }
     requires roots { length roots.now ≡ 2 * length entries.now }
     ensures { IfSome result (IsTwice (versions_of entries.now roots.now)) }
 {
@@ -114,7 +111,7 @@ fn read_maps<D: Disk>(
 ) -> Result<Parts, Refusal>
     requires inside { slot.blocks ≤ (D.state (inner_of disk.old)).blocks }
     requires fits { SlotFits slot.blocks slot.entries.items }
-    requires reserved { 511 ≤ vec_capacity slot.entries }
+    requires reserved { MAX_VERSIONS ≤ vec_capacity slot.entries }
     ensures any { Goes (result ≡ Err Refusal.Device) (D.state (inner_of disk.old)) (D.state (inner_of disk.new)) }
     ensures reads { (D.state (inner_of disk.new)).honest ≡ true
         → OnlyReads (D.state (inner_of disk.old)) (D.state (inner_of disk.new)) }

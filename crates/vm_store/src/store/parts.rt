@@ -1,5 +1,6 @@
 //! A store without its disk.
 ghost use Rattle.std.specs.Prelude.{◌≡◌, ◌<◌, ◌≤◌, ◌^◌, length, vec_capacity};
+ghost use Rattle.vm_types.specs.declared.sizes.TheConstants.{MAX_BLOCKS, MAX_VERSIONS, MIN_BLOCKS};
 
 use crate::versions::Versions;
 use vm_alloc::{Baseline, Held, Marks};
@@ -16,10 +17,10 @@ pub struct Parts {
     pub held: Held,
     pub marks: Marks,
     pub before: Baseline,
-    ghost least: { 64 ≤ blocks },
-    ghost most: { blocks ≤ 2 ^ 20 },
+    ghost least: { MIN_BLOCKS ≤ blocks },
+    ghost most: { blocks ≤ MAX_BLOCKS },
     ghost bits: { length held ≡ blocks },
     ghost mark_bits: { length marks ≡ blocks },
     ghost before_bits: { length before ≡ blocks },
-    ghost room_entries: { 511 ≤ vec_capacity entries },
+    ghost room_entries: { MAX_VERSIONS ≤ vec_capacity entries },
 }

@@ -10,8 +10,8 @@ use Rattle.vm_diff.specs.declared.front.Next.TheVariants.{Long, Record as OneRec
 use Rattle.vm_diff.proofs.RowLemmas.{entry_long, entry_short}
 use Rattle.vm_diff.proofs.records.entry_at.Goals as goal
 
-pub returns-then-len-le240 : goal.returns-then-len-le240
-returns-then-len-le240 c =
+pub returns-then-len-le-MAX_SHORT : goal.returns-then-len-le-MAX_SHORT
+returns-then-len-le-MAX_SHORT c =
     let row = leaf_row c.args.bytes.now c.args.i in
     let found = c.record_row-row.result.now in
     let counted : c.read_u16-len.result ≡ little_number 2 (drop 10 row) =
@@ -19,7 +19,7 @@ returns-then-len-le240 c =
     let key : (record_of row).0 ≡ c.record_key-key.result =
     record_of_key row c.record_key-key.result c.record_key-key.ensures.fits (take-take 10 252 (drop (16 + 252 * c.args.i) c.args.bytes.now) (omega arith) ∙ c.record_key-key.ensures.spelled) in
     ap (λ (k : Key). OneRecord k) (sym key)
-    ∙ ap (λ (e : Entry). next_of (first_of (e ∷ []) [])) (sym (entry_short row c.read_u16-len.result counted c.if-len-le240.true))
+    ∙ ap (λ (e : Entry). next_of (first_of (e ∷ []) [])) (sym (entry_short row c.read_u16-len.result counted c.if-len-le-MAX_SHORT.true))
 
 pub returns : goal.returns
 returns c =
@@ -32,4 +32,4 @@ returns c =
     let key : key_of row ≡ c.record_key-key.result =
     row_key row c.record_key-key.result c.record_key-key.ensures.fits (take-take 10 252 (drop (16 + 252 * c.args.i) c.args.bytes.now) (omega arith) ∙ c.record_key-key.ensures.spelled) in
     ap₂ (λ (k : Key) n. Long k (record { len = c.read_u16-len.result; block = n })) (sym key) block
-    ∙ ap (λ (e : Entry). next_of (first_of (e ∷ []) [])) (sym (entry_long row c.read_u16-len.result counted (omega (arith, c.if-len-le240.false))))
+    ∙ ap (λ (e : Entry). next_of (first_of (e ∷ []) [])) (sym (entry_long row c.read_u16-len.result counted (omega (arith, c.if-len-le-MAX_SHORT.false))))

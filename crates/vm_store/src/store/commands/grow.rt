@@ -5,10 +5,9 @@ ghost use Rattle.vm_disk.specs.Disk.{Enlarges};
 ghost use Rattle.vm_types.specs.declared.command.Command.TheVariants.{Grow};
 
 use crate::store::Store;
-use crate::store::formatting::MOST_BLOCKS;
 use vm_alloc::{Baseline, Marks};
 use vm_disk::Disk;
-use vm_types::{Answer, Refusal};
+use vm_types::{Answer, MAX_BLOCKS, Refusal};
 
 impl<D: Disk> Store<D> {
     ghost use Rattle.vm_store.specs.Store.{disk_of, has_failed, entries_of, EarlySpares, IsCarriedOut, NewAreFree, Holds, IsHonest, IsSameButDisk, GrowsOn, EarlyKeeps};
@@ -39,7 +38,7 @@ impl<D: Disk> Store<D> {
         ensures carried { IsCarriedOut self.old self.new (Grow blocks) result }
         ensures grown { NewAreFree result self.old self.new blocks }
     {
-        if blocks <= self.blocks || blocks > MOST_BLOCKS {
+        if blocks <= self.blocks || blocks > MAX_BLOCKS {
             return Err(Refusal::BadSize);
         }
         let Ok(held) = self.held.extended(self.alloc, blocks) else {

@@ -11,29 +11,29 @@ use Rattle.vm_store.proofs.LongerLemmas.{grow_is_accepted, grow_is_refused, long
 use Rattle.vm_store.proofs.CarryLemmas.{looked, stayed}
 use Rattle.vm_store.proofs.SeriesLemmas.{holds_alone}
 use Rattle.vm_store.proofs.store.Store.grow.Goals as goal
-use Rattle.vm_store.proofs.store.Store.grow.Goals.{then-blocks-self-via-then-blocks-self, then-blocks-self-via-else-blocks-self+then-blocks-gt-MOST_BLOCKS}
+use Rattle.vm_store.proofs.store.Store.grow.Goals.{then-blocks-self-via-then-blocks-self, then-blocks-self-via-else-blocks-self+then-blocks-gt-MAX_BLOCKS}
 
 pub returns-then-blocks-self-clause-carried : goal.returns-then-blocks-self-clause-carried
 returns-then-blocks-self-clause-carried g c honest s holds =
     stayed _ s holds (Grow c.args.blocks) _
     (elim c.then-blocks-self.branch [
       | then-blocks-self-via-then-blocks-self w ↦ grow_is_refused s c.args.blocks (no_more_is_bad s.blocks c.args.blocks (omega (arith, w.if-blocks-self.true, holds.rests.blocks)))
-      | then-blocks-self-via-else-blocks-self+then-blocks-gt-MOST_BLOCKS w ↦ grow_is_refused s c.args.blocks (too_many_is_bad s.blocks c.args.blocks (omega (arith, w.if-blocks-gt-MOST_BLOCKS.true)))
+      | then-blocks-self-via-else-blocks-self+then-blocks-gt-MAX_BLOCKS w ↦ grow_is_refused s c.args.blocks (too_many_is_bad s.blocks c.args.blocks (omega (arith, w.if-blocks-gt-MAX_BLOCKS.true)))
     ])
 
 pub returns-in_default-clause-carried : goal.returns-in_default-clause-carried
 returns-in_default-clause-carried g c honest s holds =
-    looked _ _ s holds (Grow c.args.blocks) _ (grow_is_accepted s c.args.blocks _ (good_size s.blocks c.args.blocks (omega (arith, c.if-blocks-self.false, holds.rests.blocks)) (omega (arith, c.if-blocks-gt-MOST_BLOCKS.false))) (inr (inl refl)))
+    looked _ _ s holds (Grow c.args.blocks) _ (grow_is_accepted s c.args.blocks _ (good_size s.blocks c.args.blocks (omega (arith, c.if-blocks-self.false, holds.rests.blocks)) (omega (arith, c.if-blocks-gt-MAX_BLOCKS.false))) (inr (inl refl)))
     (started _ _ refl) holds.rests (λ _. holds)
 
 pub returns-in_default-new-clause-carried : goal.returns-in_default-new-clause-carried
 returns-in_default-new-clause-carried g c honest s holds =
-    looked _ _ s holds (Grow c.args.blocks) _ (grow_is_accepted s c.args.blocks _ (good_size s.blocks c.args.blocks (omega (arith, c.if-blocks-self.false, holds.rests.blocks)) (omega (arith, c.if-blocks-gt-MOST_BLOCKS.false))) (inr (inl refl)))
+    looked _ _ s holds (Grow c.args.blocks) _ (grow_is_accepted s c.args.blocks _ (good_size s.blocks c.args.blocks (omega (arith, c.if-blocks-self.false, holds.rests.blocks)) (omega (arith, c.if-blocks-gt-MAX_BLOCKS.false))) (inr (inl refl)))
     (started _ _ refl) holds.rests (λ _. holds)
 
 pub returns-in_default-new-2-clause-carried : goal.returns-in_default-new-2-clause-carried
 returns-in_default-new-2-clause-carried g c honest s holds =
-    looked _ _ s holds (Grow c.args.blocks) _ (grow_is_accepted s c.args.blocks _ (good_size s.blocks c.args.blocks (omega (arith, c.if-blocks-self.false, holds.rests.blocks)) (omega (arith, c.if-blocks-gt-MOST_BLOCKS.false))) (inr (inl refl)))
+    looked _ _ s holds (Grow c.args.blocks) _ (grow_is_accepted s c.args.blocks _ (good_size s.blocks c.args.blocks (omega (arith, c.if-blocks-self.false, holds.rests.blocks)) (omega (arith, c.if-blocks-gt-MAX_BLOCKS.false))) (inr (inl refl)))
     (started _ _ refl) holds.rests (λ _. holds)
 
 pub returns-in_default-reserve-clause-carried : goal.returns-in_default-reserve-clause-carried
@@ -41,7 +41,7 @@ returns-in_default-reserve-clause-carried g c honest s holds =
     let self = c.args.self.now in
     let is = sym c.reserve.ensures.kept.inner in
     let holds' = subst (λ d. HoldsWith (g.D.Disk.state d).now self.blocks self.slot_name self.held self.before self.series self.committed self.working s) is holds in
-    looked _ _ s holds (Grow c.args.blocks) _ (grow_is_accepted s c.args.blocks _ (good_size s.blocks c.args.blocks (omega (arith, c.if-blocks-self.false, holds.rests.blocks)) (omega (arith, c.if-blocks-gt-MOST_BLOCKS.false))) (inr (inl refl)))
+    looked _ _ s holds (Grow c.args.blocks) _ (grow_is_accepted s c.args.blocks _ (good_size s.blocks c.args.blocks (omega (arith, c.if-blocks-self.false, holds.rests.blocks)) (omega (arith, c.if-blocks-gt-MAX_BLOCKS.false))) (inr (inl refl)))
     (subst (λ d. OnlyReads (g.D.Disk.state self.disk.inner) (g.D.Disk.state d)) is (started _ _ refl)) holds'.rests (λ _. holds')
 
 pub returns-in_err-lengthen-clause-carried : goal.returns-in_err-lengthen-clause-carried
@@ -49,7 +49,7 @@ returns-in_err-lengthen-clause-carried g c honest s holds =
     let longer : Enlarges (g.D.Disk.state c.args.self.now.disk.inner) (g.D.Disk.state c.lengthen.new.self.disk.inner) =
     subst (λ d. Enlarges (g.D.Disk.state d) (g.D.Disk.state c.lengthen.new.self.disk.inner)) c.reserve.ensures.kept.inner (c.lengthen.ensures.longer honest) in
     record {
-      answers = grow_is_accepted s c.args.blocks _ (good_size s.blocks c.args.blocks (omega (arith, c.if-blocks-self.false, holds.rests.blocks)) (omega (arith, c.if-blocks-gt-MOST_BLOCKS.false))) (inl (search rules));
+      answers = grow_is_accepted s c.args.blocks _ (good_size s.blocks c.args.blocks (omega (arith, c.if-blocks-self.false, holds.rests.blocks)) (omega (arith, c.if-blocks-gt-MAX_BLOCKS.false))) (inl (search rules));
       state = λ fine. absurd (fine (search rules));
       crash = longer_crash _ _ longer _ _ _ _ _ s holds.rests (Grow c.args.blocks);
       guarded = subst (λ (bits : List Bool). Throughout (g.D.Disk.state c.args.self.now.disk.inner) (g.D.Disk.state c.lengthen.new.self.disk.inner) (IsGuarded bits)) (sym c.lengthen.ensures.same.held) (longer_guarded _ _ longer _ _ _ _ _ s holds.rests c.args.self.now.held (λ n held. held));
@@ -66,8 +66,8 @@ returns-clause-carried g c honest s holds =
     let inside : c.args.blocks ≤ length new.contents = omega (arith, whole, c.in_ok-lengthen.ensures.all) in
     let still : (n : ℕ) → IsHeld c.args.self.now.held n → IsHeld c.in-Ok.held n = λ n held. subst (λ (bits : List Bool). IsHeld bits n) (sym c.in-Ok.ensures.blocks) (still_held c.args.self.now.held _ n held) in
     record {
-      answers = grow_is_accepted s c.args.blocks _ (good_size s.blocks c.args.blocks (omega (arith, c.if-blocks-self.false, holds.rests.blocks)) (omega (arith, c.if-blocks-gt-MOST_BLOCKS.false))) (inr (inr refl));
-      state = λ fine. holds_alone (rests_renamed new c.args.blocks c.args.self.now.slot_name c.lengthen.new.self.slot_name c.in-Ok.held c.args.self.now.committed c.args.self.now.working c.lengthen.new.self.committed c.lengthen.new.self.working (record s { blocks = c.args.blocks }) same.slot_name same.committed same.working (rests_longer old new longer.longer c.args.self.now.blocks c.args.blocks c.args.self.now.slot_name c.args.self.now.held c.in-Ok.held c.args.self.now.committed c.args.self.now.working s holds.rests still (omega (arith, c.if-blocks-self.false)) inside (omega (arith, c.if-blocks-gt-MOST_BLOCKS.false))));
+      answers = grow_is_accepted s c.args.blocks _ (good_size s.blocks c.args.blocks (omega (arith, c.if-blocks-self.false, holds.rests.blocks)) (omega (arith, c.if-blocks-gt-MAX_BLOCKS.false))) (inr (inr refl));
+      state = λ fine. holds_alone (rests_renamed new c.args.blocks c.args.self.now.slot_name c.lengthen.new.self.slot_name c.in-Ok.held c.args.self.now.committed c.args.self.now.working c.lengthen.new.self.committed c.lengthen.new.self.working (record s { blocks = c.args.blocks }) same.slot_name same.committed same.working (rests_longer old new longer.longer c.args.self.now.blocks c.args.blocks c.args.self.now.slot_name c.args.self.now.held c.in-Ok.held c.args.self.now.committed c.args.self.now.working s holds.rests still (omega (arith, c.if-blocks-self.false)) inside (omega (arith, c.if-blocks-gt-MAX_BLOCKS.false))));
       crash = longer_crash _ _ longer _ _ _ _ _ s holds.rests (Grow c.args.blocks);
       guarded = longer_guarded _ _ longer _ _ _ _ _ s holds.rests c.in-Ok.held still;
     }

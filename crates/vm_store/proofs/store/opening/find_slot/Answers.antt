@@ -5,8 +5,8 @@ use Rattle.vm_store.proofs.store.opening.find_slot.Goals as goal
 pub returns-in_default-clause-moments : goal.returns-in_default-clause-moments
 returns-in_default-clause-moments g c honest = settles _ _ _ (c.sync.ensures.honest honest)
 
-pub returns-then-blocks-lt-LEAST_BLOCKS-clause-moments : goal.returns-then-blocks-lt-LEAST_BLOCKS-clause-moments
-returns-then-blocks-lt-LEAST_BLOCKS-clause-moments g c honest = settles _ _ _ (c.sync.ensures.honest honest)
+pub returns-then-blocks-lt-MIN_BLOCKS-clause-moments : goal.returns-then-blocks-lt-MIN_BLOCKS-clause-moments
+returns-then-blocks-lt-MIN_BLOCKS-clause-moments g c honest = settles _ _ _ (c.sync.ensures.honest honest)
 
 pub returns-in-Ok-Some-clause-moments : goal.returns-in-Ok-Some-clause-moments
 returns-in-Ok-Some-clause-moments g c honest =

@@ -5,8 +5,8 @@ use Rattle.vm_cli.proofs.lines.line.Line.extend.Goals as goal
 pub returns-then-is_empty : goal.returns-then-is_empty
 returns-then-is_empty c = λ part h. holds-none part c.args.bytes.now c.args.self.now (search rules) h
 
-pub returns-then-len-bytes-gt-MOST_BYTES : goal.returns-then-len-bytes-gt-MOST_BYTES
-returns-then-len-bytes-gt-MOST_BYTES c = λ part h.
+pub returns-then-len-bytes-gt-MAX_BYTES : goal.returns-then-len-bytes-gt-MAX_BYTES
+returns-then-len-bytes-gt-MAX_BYTES c = λ part h.
     let some : 0 < length c.args.bytes.now = search rules in
     let full : 1048576 < length c.args.self.now.bytes.items + length c.args.bytes.now = search rules in
     holds-long part c.args.bytes.now c.args.self.now _ c.requires some h refl c.in-Kept.is full refl
