@@ -1,4 +1,5 @@
 pub mod ChangingLemmas
+pub mod DividingLemmas
 pub mod EachLemmas
 pub mod FormLemmas
 pub mod HeadLemmas

@@ -7,7 +7,7 @@ use Rattle.vm_types.specs.Places.{KeyFits, place, value_at, with_record}
 use Rattle.vm_block.specs.Padding.{zeros}
 use Rattle.vm_block.specs.Leaf.{Record, Row, RowFits, HasRows, StoredFits, leaf_bytes, record_bytes, stored_bytes}
 use Rattle.vm_block.specs.declared.stored.Stored.{Stored}
-use Rattle.vm_block.specs.Node.{IsNode, node_bytes}
+use Rattle.vm_block.specs.Node.{ChildFits, IsNode, node_bytes}
 use Rattle.vm_block.specs.declared.node.Child.{Child}
 use Rattle.vm_block.specs.declared.changing.Placed.{Placed}
 use Rattle.vm_block.specs.declared.changing.Placed.TheVariants.{Put, Full, NoLeaf}
@@ -25,6 +25,16 @@ with_before i x xs = take i xs ++ x ∷ drop i xs
 -- an inner block that has a child at i has this one there
 abbrev pub SetsChild : ℕ → Child → List ℕ → List ℕ → Type 0
 SetsChild i child old new = (level : ℕ) (cs : List Child) → IsNode old level cs → i < length cs → new ≡ node_bytes level (with_at i child cs)
+
+-- an inner block of so many children has this one more, before what stood at i
+abbrev pub InsertsChild : ℕ → ℕ → Child → List ℕ → List ℕ → Type 0
+InsertsChild count i child old new =
+    (level : ℕ) (cs : List Child) → old ≡ node_bytes level cs → AllByRecursion ChildFits cs → count ≡ length cs → new ≡ node_bytes level (with_before i child cs)
+
+-- an inner block of so many children has these two in the place of the one at i
+abbrev pub DividesChild : ℕ → ℕ → Child → Child → List ℕ → List ℕ → Type 0
+DividesChild count i left right old new =
+    (level : ℕ) (cs : List Child) → IsNode old level cs → count ≡ length cs → new ≡ node_bytes level (take i cs ++ left ∷ right ∷ drop (i + 1) cs)
 
 -- a list without what stands at i
 abbrev pub leave_out : {X : Type 0} → ℕ → List X → List X

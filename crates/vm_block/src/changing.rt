@@ -1,6 +1,6 @@
 //! One child or one row put in the bytes of a block, which is not written anew for it.
 ghost use Rattle.std.specs.Prelude.{◌≡◌, ◌≢◌, ◌↔◌, ℕ, Bool, ◌<◌, ◌≤◌};
-ghost use Rattle.vm_block.specs.Changed.{InsertsRow, PutsRow, SetsChild, SetsRow};
+ghost use Rattle.vm_block.specs.Changed.{DividesChild, InsertsChild, InsertsRow, PutsRow, SetsChild, SetsRow};
 ghost use Rattle.vm_block.specs.Head.{IsRowsHead};
 ghost use Rattle.vm_block.specs.Leaf.{RowFits, StoredFits, stored_bytes};
 
@@ -11,6 +11,7 @@ use crate::node::{Child, write_child};
 use crate::sizes::{MAX_CHILDREN, MAX_ROWS};
 use crate::stored::{Stored, write_row};
 use crate::way::choose;
+use byteorder::{ByteOrder, LittleEndian};
 use vm_types::Key;
 
 /// What came of a row that was to be put in a leaf.
@@ -30,6 +31,28 @@ pub fn set_child(bytes: &mut [u8; 4096], index: usize, child: Child)
     ensures { SetsChild index child bytes.old bytes.new }
 {
     write_child(child, &mut bytes[16 + 14 * index..]);
+}
+
+/// Puts the child at this index of an inner block of so many, before those that stand there.
+fn insert_child(bytes: &mut [u8; 4096], count: usize, index: usize, child: Child)
+    requires within { index ≤ count }
+    requires room { count < MAX_CHILDREN }
+    ensures { InsertsChild count index child bytes.old bytes.new }
+{
+    let at = 16 + 14 * index;
+    bytes.copy_within(at..16 + 14 * count, 16 + 14 * (index + 1));
+    write_child(child, &mut bytes[at..]);
+    LittleEndian::write_u32(&mut bytes[8..], count as u32 + 1);
+}
+
+/// Puts both children in the place of the one at this index of an inner block of so many.
+pub fn divide_child(bytes: &mut [u8; 4096], count: usize, index: usize, left: Child, right: Child)
+    requires within { index < count }
+    requires room { count < MAX_CHILDREN }
+    ensures { DividesChild count index left right bytes.old bytes.new }
+{
+    set_child(bytes, index, left);
+    insert_child(bytes, count, index + 1, right);
 }
 
 /// Writes the row over the one at this index of a leaf of so many.

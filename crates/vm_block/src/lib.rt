@@ -32,7 +32,7 @@ mod taking;
 mod telling;
 mod way;
 
-pub use changing::{Placed, put_row, set_child};
+pub use changing::{Placed, divide_child, put_row, set_child};
 pub use head::is_long_leaf;
 pub use header::{is_header, write_header};
 pub use laws::{one_form, written_is_a_form};

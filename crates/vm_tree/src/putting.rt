@@ -20,8 +20,8 @@ use crate::splicing::spliced;
 use crate::writing::{Copied, write_bytes, write_node_block, write_nodes};
 use vm_alloc::Held;
 use vm_block::{
-    Child, MAX_CHILDREN, MAX_ROWS, Placed, Stored, Way, put_row, rows_size, set_child,
-    spelled_children, split_rows, write_leaf,
+    Child, MAX_CHILDREN, MAX_ROWS, Placed, Stored, Way, divide_child, put_row, rows_size,
+    set_child, spelled_children, split_rows, write_leaf,
 };
 use vm_disk::Disk;
 use vm_types::Key;
@@ -90,15 +90,16 @@ fn write_replaced<D: Disk, const FAN: usize>(
         held.old held.new (D.state disk.old) (D.state disk.new) }
 {
     match copied {
-        Copied::One(child) => {
-            set_child(bytes, way.index, child);
-            let node = write_bytes(disk, held, bytes)?;
-            Ok(Copied::One(node))
+        Copied::One(child) => set_child(bytes, way.index, child),
+        Copied::Two(left, right) if way.count < FAN => {
+            divide_child(bytes, way.count, way.index, left, right);
         }
         Copied::Two(left, right) => {
-            write_divided::<D, FAN>(disk, held, level, way, bytes, left, right)
+            return write_divided::<D, FAN>(disk, held, level, way, bytes, left, right);
         }
     }
+    let node = write_bytes(disk, held, bytes)?;
+    Ok(Copied::One(node))
 }
 
 /// Writes two leaves, the left one first.

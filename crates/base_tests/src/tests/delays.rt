@@ -226,6 +226,26 @@ fn what_was_written_out_stays_while_its_room_is_not_needed(rt: HostRuntime) -> R
 }
 
 #[test]
+fn a_row_goes_through_a_cache_and_stays_in_it(rt: HostRuntime) -> Result<(), Fail> {
+    let fuse = FuseDisk::once(memory(rt.alloc(), 8)?, 99, [0; 4096]);
+    let row = "
+        fill 2 3
+        fill 3 4
+        sync
+        calls -> 3
+        # These two take the room of those that were written out, so the cache is asked for them.
+        fill 5 6
+        fill 7 8
+        holds 2 3 -> 3 4
+        calls -> 3";
+    let below = "
+        dirty 2 3 5 7 -> no no no no
+        holds 2 3 5 7 -> 3 4 0 0";
+    on_a_late_disk(&rt, cached(rt.alloc(), fuse, 2)?, 2, row, below);
+    Ok(())
+}
+
+#[test]
 fn a_forgotten_block_is_not_kept_after_it_was_written(rt: HostRuntime) -> Result<(), Fail> {
     let fuse = FuseDisk::once(memory(rt.alloc(), 8)?, 99, [0; 4096]);
     let row = "

@@ -2,8 +2,8 @@
 use super::spelled::{is_block, key};
 use std::process::Abort;
 use vm_block::{
-    Child, Way, child_at, find_child, lowest_key, node_size, read_leaf, read_node, rows_size,
-    set_child, write_node,
+    Child, Way, child_at, divide_child, find_child, lowest_key, node_size, read_leaf, read_node,
+    rows_size, set_child, write_node,
 };
 
 fn child(table: u16, number: u64, block: u32) -> Child {
@@ -113,5 +113,38 @@ fn child_is_replaced_where_it_stands(rt: HostRuntime) {
     write_node(1, &[old, old, old], &mut block);
     write_node(1, &[old, new, old], &mut written);
     set_child(&mut block, 1, new);
+    assert!(rt; block == written);
+}
+
+#[test]
+fn child_becomes_two_where_it_stands(rt: HostRuntime) {
+    let old = child(1, 5, 35);
+    let left = child(1, 4, 99);
+    let right = child(1, 6, 100);
+    for (index, wanted) in [
+        (0, [left, right, old, old]),
+        (1, [old, left, right, old]),
+        (2, [old, old, left, right]),
+    ] {
+        let mut block = [0; 4096];
+        let mut written = [7; 4096];
+        write_node(7, &[old, old, old], &mut block);
+        write_node(7, &wanted, &mut written);
+        divide_child(&mut block, 3, index, left, right);
+        assert!(rt; block == written);
+    }
+}
+
+#[test]
+fn last_of_255_children_becomes_two(rt: HostRuntime) {
+    let old = child(1, 5, 35);
+    let new = child(1, 6, 100);
+    let mut children = [old; 256];
+    let mut block = [0; 4096];
+    let mut written = [7; 4096];
+    write_node(1, &children[..255], &mut block);
+    children[255] = new;
+    write_node(1, &children, &mut written);
+    divide_child(&mut block, 255, 254, old, new);
     assert!(rt; block == written);
 }
