@@ -7,7 +7,7 @@ ghost use Rattle.vm_check.specs.Form.{AcceptsLeaf, AcceptsNode, AcceptsNodeAt, H
 
 use vm_block::{MAX_CHILDREN, node_size, rows_size};
 use vm_disk::Disk;
-use vm_tree::{TreeFault, data_at};
+use vm_tree::{TreeFault, data_at, load_data};
 
 /// What a block of a tree is.
 #[derive(Clone, Copy, Debug)]
@@ -18,25 +18,21 @@ pub(crate) enum Form {
     Node(u8, usize),
 }
 
-/// Reads a block into these bytes, and tells whether it is a leaf or an inner block.
-pub(crate) fn form_at<D: Disk>(
-    disk: &mut D,
-    blocks: u32,
-    block: u32,
-    bytes: &mut [u8; 4096],
-) -> Result<Form, TreeFault>
+/// Gets a block to hand, and tells whether it is a leaf or an inner block.
+pub(crate) fn form_at<D: Disk>(disk: &mut D, blocks: u32, block: u32) -> Result<Form, TreeFault>
     requires { blocks ≤ (D.state disk.old).blocks }
     ensures looks { OnlyLooks result (D.state disk.old) (D.state disk.new) }
     ensures deep { result ≢ Err TreeFault.Deep }
     ensures memory { result ≢ Err TreeFault.Memory }
     ensures once { ReadsOne blocks block (D.state disk.old).reads (D.state disk.new).reads }
     ensures some { IfOk result IsFilled }
-    ensures form { IfOk result (IsForm bytes.new) }
-    ensures found { HasRead result (D.state disk.old) (D.state disk.new) block bytes.new }
+    ensures form { IfOk result (IsForm (D.hand disk.new)) }
+    ensures found { HasRead result (D.state disk.old) (D.state disk.new) block (D.hand disk.new) }
     ensures leaf { AcceptsLeaf result (D.state disk.old) (D.state disk.new) blocks block }
     ensures node { AcceptsNode result (D.state disk.old) (D.state disk.new) blocks block }
 {
-    data_at(disk, blocks, block, bytes)?;
+    load_data(disk, blocks, block)?;
+    let bytes = disk.at_hand();
     match rows_size(bytes) {
         Some(count) => Ok(Form::Leaf(count)),
         None => match node_size(bytes) {

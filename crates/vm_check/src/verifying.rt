@@ -118,16 +118,16 @@ fn visit<D: Disk, const LEAF: usize, const FAN: usize>(
         return Ok(span);
     }
     marks.set(block);
-    let mut bytes = [0; 4096];
-    let form = form_at(disk, blocks, block, &mut bytes)?;
+    let form = form_at(disk, blocks, block)?;
     match form {
         Form::Leaf(count) => {
-            if least > 0 || count > LEAF || !suits(long, &bytes) {
+            let bytes = disk.at_hand();
+            if least > 0 || count > LEAF || !suits(long, bytes) {
                 return Err(TreeFault::Damaged(block));
             }
-            let span = leaf_span(&bytes, count);
+            let span = leaf_span(bytes, count);
             spans[at] = keep(span);
-            visit_beside(disk, blocks, &bytes, count, marks, spans)?;
+            visit_beside(disk, blocks, count, marks, spans)?;
             Ok(span)
         }
         Form::Node(level, count) => {
@@ -135,6 +135,7 @@ fn visit<D: Disk, const LEAF: usize, const FAN: usize>(
                 return Err(TreeFault::Damaged(block));
             }
             spans[at].level = level;
+            let bytes = *disk.at_hand();
             let below = level - 1;
             let high = visit_children::<D, LEAF, FAN>(
                 disk, blocks, long, below, &bytes, count, marks, spans,
@@ -296,11 +297,12 @@ fn visit_rows<D: Disk>(
     Ok(())
 }
 
-/// Visits the blocks of the long values of a leaf of so many rows.
+/// Visits the blocks of the long values of the leaf at hand, which has so many rows. It stands alone,
+/// so that the bytes of a leaf are on the stack only where it has such values.
+#[inline(never)]
 fn visit_beside<D: Disk>(
     disk: &mut D,
     blocks: u32,
-    bytes: &[u8; 4096],
     count: usize,
     marks: &mut Marks,
     spans: &mut [Met],
@@ -315,14 +317,15 @@ fn visit_beside<D: Disk>(
     ensures once { PaysJustReads (D.state disk.old) (D.state disk.new) marks.old marks.new }
     ensures growing { HoldsMore marks.old marks.new }
     ensures found { VisitsRows result (D.state disk.old) (D.state disk.new)
-        blocks bytes.now count marks.old spans.old marks.new spans.new }
+        blocks (D.hand disk.old) count marks.old spans.old marks.new spans.new }
     ensures only { AcceptsRows result (D.state disk.old) (D.state disk.new)
-        blocks bytes.now count marks.old spans.old }
+        blocks (D.hand disk.old) count marks.old spans.old }
 {
-    if !is_long_leaf(bytes) {
+    if !is_long_leaf(disk.at_hand()) {
         return Ok(());
     }
-    visit_rows(disk, blocks, bytes, count, marks, spans)
+    let bytes = *disk.at_hand();
+    visit_rows(disk, blocks, &bytes, count, marks, spans)
 }
 
 /// Visits the children of an inner block, which are of this level, in their order, and gives the

@@ -30,7 +30,7 @@ pub use getting::{get, has};
 pub use laws::one_tree;
 pub use long::long_at;
 pub use putting::put;
-pub use reading::{data_at, is_data, node_at, node_into, rows_into};
+pub use reading::{data_at, is_data, load_data, node_at, node_into, rows_into};
 pub use removing::remove;
 pub use root::{Root, TreeFault};
 pub use scanning::scan;

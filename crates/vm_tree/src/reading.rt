@@ -44,11 +44,12 @@ pub fn data_at<D: Disk>(
 }
 
 /// Gets a block, which is to be for data, to hand: Damaged, where it is not for data.
-fn load_data<D: Disk>(disk: &mut D, blocks: u32, block: u32) -> Result<(), TreeFault>
+pub fn load_data<D: Disk>(disk: &mut D, blocks: u32, block: u32) -> Result<(), TreeFault>
     requires { blocks ≤ (D.state disk.old).blocks }
     ensures looks { OnlyLooks result (D.state disk.old) (D.state disk.new) }
     ensures deep { result ≢ Err TreeFault.Deep }
     ensures memory { result ≢ Err TreeFault.Memory }
+    ensures once { ReadsOne blocks block (D.state disk.old).reads (D.state disk.new).reads }
     ensures found { FindsData result (D.state disk.old) (D.state disk.new)
         blocks block (D.hand disk.new) }
     ensures only { GivesData result (D.state disk.old) (D.state disk.new)

@@ -3,6 +3,7 @@ use Rattle.std.proofs.Math.ListN.{length-set}
 use Rattle.std.proofs.lemmas.Bool.{false≢true}
 use Rattle.vm_disk.proofs.MomentLemmas.{same_medium}
 use Rattle.vm_tree.proofs.Descent.{subtree_top}
+use Rattle.vm_tree.proofs.HandLemmas.{hand_node, hand_rows}
 use Rattle.vm_tree.proofs.Looking.{looks_none, looks_on, passed_on}
 use Rattle.vm_check.specs.Suits.{Suits}
 use Rattle.vm_check.specs.Visiting.{span_at, met_of}
@@ -68,7 +69,7 @@ visit-returns-then-least-gt0-clause-only g t c honest levels l rs bs known least
       | visit-then-least-gt0-via-then-least-gt0 w ↦ absurd (omega (arith, top.level, w.if-least-gt0.true, least))
       | visit-then-least-gt0-via-else-least-gt0+then-count w ↦ absurd (omega (arith, top.few, w.if-count.true, form.2))
       | visit-then-least-gt0-via-else-least-gt0+else-count+then-not-suits w ↦
-          let here = subst (λ (z : List ℕ). Suits c.args.long z) (sym (c.in_ok-form.ensures.found honest)) (top_part _ _ _ _ l _ rs bs tree suit) in
+          let here = subst (λ (z : List ℕ). Suits c.args.long z) (sym (c.at_hand-bytes.ensures ∙ c.in_ok-form.ensures.found honest)) (top_part _ _ _ _ l _ rs bs tree suit) in
           absurd (false≢true (sym w.if-not-suits.true ∙ w.suits.ensures.1 here))
     ]
 
@@ -103,10 +104,10 @@ visit-returns-in_ok-visit_beside-in-Leaf-clause-found g t c honest levels known 
         leaf = leaf_as _ _ form.0 (c.in_ok-form.ensures.found earlier) form.1;
         few = omega (arith, c.if-count.false, form.2);
         level = c.leaf_span-span.ensures.level;
-        lowest = c.leaf_span-span.ensures.low form.0 form.1;
-        highest = c.leaf_span-span.ensures.high form.0 form.1 form.2;
+        lowest = c.leaf_span-span.ensures.low form.0 (hand_rows (sym c.at_hand-bytes.ensures) form.1);
+        highest = c.leaf_span-span.ensures.high form.0 (hand_rows (sym c.at_hand-bytes.ensures) form.1) form.2;
       };
-      suits = subst (λ (z : List ℕ). Suits c.args.long z) (c.in_ok-form.ensures.found earlier) (c.suits.ensures.0 c.if-not-suits.false);
+      suits = subst (λ (z : List ℕ). Suits c.args.long z) (c.at_hand-bytes.ensures ∙ c.in_ok-form.ensures.found earlier) (c.suits.ensures.0 c.if-not-suits.false);
     })
     (omega (arith, c.if-least-gt0.false)) (λ here. c.in_ok-visit_beside-in-Leaf.ensures.found honest _ form.0 form.1 form.2 here) known
 
@@ -127,10 +128,10 @@ visit-returns-in_err-visit_beside-in-Leaf-clause-only g t c honest levels l rs b
         leaf = leaf_as _ _ form.0 (c.in_ok-form.ensures.found earlier) form.1;
         few = omega (arith, c.if-count.false, form.2);
         level = c.leaf_span-span.ensures.level;
-        lowest = c.leaf_span-span.ensures.low form.0 form.1;
-        highest = c.leaf_span-span.ensures.high form.0 form.1 form.2;
+        lowest = c.leaf_span-span.ensures.low form.0 (hand_rows (sym c.at_hand-bytes.ensures) form.1);
+        highest = c.leaf_span-span.ensures.high form.0 (hand_rows (sym c.at_hand-bytes.ensures) form.1) form.2;
       };
-      suits = subst (λ (z : List ℕ). Suits c.args.long z) (c.in_ok-form.ensures.found earlier) (c.suits.ensures.0 c.if-not-suits.false);
+      suits = subst (λ (z : List ℕ). Suits c.args.long z) (c.at_hand-bytes.ensures ∙ c.in_ok-form.ensures.found earlier) (c.suits.ensures.0 c.if-not-suits.false);
     })
     known.formed tree (λ ds here stand. c.in_err-visit_beside-in-Leaf.ensures.only honest _ form.0 rs ds form.1 form.2 here stand))
 
@@ -158,7 +159,7 @@ visit-returns-in_ok-high-in-Node-clause-found g t c honest levels known =
       at_least = c.if-level-least.false;
       at_most = c.if-level-most.false;
     })
-    (c.visit_children.auto.spans ∙ length-set c.args.spans.now c.args.block (met_of first)) refl (lowest_first _ form.0 lowest (c.lowest_key-low.ensures.node _ form.0 form.1)) (λ here. c.in_ok-high-in-Node.ensures.found honest levels _ form.0 form.1 form.2 here) known)
+    (c.visit_children.auto.spans ∙ length-set c.args.spans.now c.args.block (met_of first)) refl (lowest_first _ form.0 lowest (c.lowest_key-low.ensures.node _ form.0 (hand_node (sym c.at_hand.ensures) form.1))) (λ here. c.in_ok-high-in-Node.ensures.found honest levels _ form.0 (hand_node (sym c.at_hand.ensures) form.1) form.2 here) known)
 
 pub visit-returns-in_err-high-in-Node-clause-only : goal.visit-returns-in_err-high-in-Node-clause-only
 visit-returns-in_err-high-in-Node-clause-only g t c honest levels l rs bs known least most tree rises suit =
@@ -177,7 +178,7 @@ visit-returns-in_err-high-in-Node-clause-only g t c honest levels l rs bs known 
       at_least = c.if-level-least.false;
       at_most = c.if-level-most.false;
     })
-    known tree suit (λ ds here under below. c.in_err-high-in-Node.ensures.only honest levels _ form.0 rs ds form.1 form.2 here under rises below))
+    known tree suit (λ ds here under below. c.in_err-high-in-Node.ensures.only honest levels _ form.0 rs ds (hand_node (sym c.at_hand.ensures) form.1) form.2 here under rises below))
 
 pub visit-returns-in_err-form-clause-only : goal.visit-returns-in_err-form-clause-only
 visit-returns-in_err-form-clause-only g t c honest levels l rs bs known least most tree rises suit =
