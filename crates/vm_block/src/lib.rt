@@ -1,15 +1,16 @@
 //! The forms of a store's blocks: the header, the selector, leaves and inner blocks of trees, the
-//! slots with their entries, and blocks of long values. Nothing else in the store knows how a block
-//! is spelled.
+//! slots with their entries, and blocks of long values. Nothing else in the store writes or tests
+//! one; `vm_catalog` knows the cells of a slot besides, and `vm_diff` the fields of a row.
 //!
-//! It stands on `vm_types` for keys, values and names, and on no disk. Its one promise: a block is
-//! read exactly where its bytes are the form, every zero byte included, and then as the one thing
-//! that it spells; and what is written is read again. A descent to a key, and a change of one child
-//! or row, go by the bytes alone: of a block that is of its form they say and make what reading,
-//! changing and writing it would. Of other bytes they answer that they are none where their first
-//! sixteen are no head, and behind a head they take what stands there. Whether a block is a leaf or
-//! an inner block is told by its bytes, each of which counts, and nothing is copied out for it. No
-//! call takes memory.
+//! It stands on `vm_types` for keys, values and names, on `byteorder` for numbers as bytes, on
+//! `arrayvec` for lists in place, and on no disk. Its one promise: a block is read exactly where
+//! its bytes are the form, every zero byte included, and then as the one thing that it spells; and
+//! what is written is read again. A descent to a key, and a change of one child or row, go by the
+//! bytes alone: of a block that is of its form they say and make what reading, changing and writing
+//! it would. Of other bytes they answer that they are none where their first sixteen are no head,
+//! and behind a head they take what stands there, but that a row which is looked up has to be one.
+//! Whether a block is a leaf or an inner block is told by its bytes, each of which counts, and
+//! nothing is copied out for it. No call takes memory.
 #![tactic(auto)]
 
 mod changing;

@@ -83,11 +83,11 @@ module _ {D : Type 0} {members : _} where
     abbrev pub StandsAfterAll : Type 0
     StandsAfterAll = IsHonest new → has_failed new ≡ false → (s : State) → Holds old s → Holds new (after s (answered commands answers) answers)
 
-    -- an alternative on which none of them works stays as it is
+    -- a store that has not failed stands for a state in which an alternative is as before, where none of them works on it
     abbrev pub IsolatesOthers : Type 0
     IsolatesOthers =
-        IsHonest new → (s : State) (name : List ℕ) → LeavesAlone s (answered commands answers) answers name
-        → named (after s (answered commands answers) answers).working name ≡ named s.working name
+        IsHonest new → has_failed new ≡ false → (s : State) → Holds old s → (name : List ℕ) → LeavesAlone s (answered commands answers) answers name
+        → (t : State) × Holds new t × (named t.working name ≡ named s.working name)
 
     -- a crash at any moment shows the committed tree after a beginning of them that is empty or ends with a commit, and this beginning
     -- holds every commit that was acknowledged

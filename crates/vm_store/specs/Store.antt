@@ -56,6 +56,7 @@ module _ {D : Type 0} {members : _} where
     pub marks : new.marks ≡ old.marks
     pub before : new.before ≡ old.before
     pub series : new.series ≡ old.series
+    pub changes : new.changes ≡ old.changes
     pub failed : new.failed ≡ old.failed
 
   -- the disk has kept the rules of a disk in every call so far

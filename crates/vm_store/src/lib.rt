@@ -1,9 +1,10 @@
 //! The store: commands and queries over any disk of blocks.
 //!
-//! It stands on vm_catalog for the entries and their slots, on vm_tree, vm_diff and vm_check for the maps,
-//! and on vm_alloc for the blocks that are held. Its one promise: commands answer and change what the model says,
-//! and a crash at any moment of them shows the model after a beginning of the commands that is empty
-//! or ends with a commit, and that holds every commit that was acknowledged.
+//! It stands on vm_types for its words, on vm_disk and vm_block for disks and what lies in their blocks,
+//! on vm_catalog for the entries and their slots, on vm_tree, vm_diff and vm_check for the maps, and on
+//! vm_alloc for the blocks that are held. Its one promise: commands answer and change what the model
+//! says, and a crash at any moment of them shows the model after a beginning of the commands that is
+//! empty or ends with a commit, and that holds every commit that was acknowledged.
 #![tactic(auto)]
 
 mod changing;

@@ -38,7 +38,7 @@ const BLOCKS_COPIED_A_CHANGE: u32 = 16_384;
 
 /// Goes on with the series of this alternative. Else it begins one after the blocks that are held now,
 /// where enough changes came since they were copied last, and otherwise none goes on: so on the whole a
-/// change copies the same at most, however large the store is.
+/// Put or a Remove copies the same at most, however large the store is. A Merge copies them by itself.
 pub fn go_on(
     series: &mut Option<Name>,
     changes: &mut u32,

@@ -51,7 +51,7 @@ pub struct Store<D: Disk> {
     before: Baseline,
     // The alternative of which the commands since then changed records, and no other command came.
     series: Option<Name>,
-    // How many changes were made outside a series since the held blocks were copied last.
+    // How many changes were made outside a series since the last one began.
     changes: u32,
     failed: bool,
     ghost least: { MIN_BLOCKS ≤ blocks },

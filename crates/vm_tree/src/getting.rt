@@ -130,7 +130,8 @@ fn leaf_of<D: Disk>(
 }
 
 /// The value of a key in the map under a root, in these bytes. The blocks on the path are looked at
-/// where the disk has them at hand, and only the value is copied.
+/// where the disk has them at hand, and of them only a short value is copied; the block of a long one is
+/// read into the bytes.
 pub fn get<'a, D: Disk>(
     disk: &mut D,
     blocks: u32,

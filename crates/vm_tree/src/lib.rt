@@ -1,17 +1,19 @@
 //! Maps in trees of blocks: a map is a root, and under it lie inner blocks, and leaves with the
 //! records. A change copies the blocks of one path, and leaves all others as they are.
 //!
-//! It stands on `vm_disk`, `vm_alloc` and `vm_block`. Its one promise: the new root has the map
-//! changed at one key, and at no moment has a block that was held other bytes than before. What map
-//! lies under a root, and in which blocks of a disk, is defined here (`specs/Tree.antt`).
+//! It stands on `vm_types`, `vm_disk`, `vm_alloc`, `vm_block` and `arrayvec`. Its one promise: the
+//! new root has the map changed at one key, and at no moment has a block that was held other bytes
+//! than before. What map lies under a root, and in which blocks of a disk, is defined here
+//! (`specs/Tree.antt`).
 //!
 //! A descent goes by the bytes of blocks. It compares the head and the first key of each with what
 //! stands above it, before any block is taken, and a block that differs there is refused and never
 //! copied. A change of one child is made in the bytes; `get`, `has` and `put` decode no block but a
-//! leaf that splits, and `scan` no leaf. A long value has a block of its own, which `get` and `scan`
-//! read behind its leaf, by the link that the leaf has; `has` reads none. For the walks of the crates
-//! above `data_at`, `rows_into`, `node_into` and `node_at` read single blocks: one that is for data by
-//! one read, and another not at all.
+//! full inner block that splits, and `scan` no leaf. A long value has a block of its own, which
+//! `get` and `scan` read behind its leaf, by the link that the leaf has; `has` reads none. For the
+//! walks of the crates above `data_at`, `load_data`, `node_into` and `long_at` read single blocks,
+//! and for `scan` `rows_into` and `node_at`: one that is for data by one read, and another not at
+//! all.
 #![tactic(auto)]
 
 mod getting;

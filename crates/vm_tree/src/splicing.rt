@@ -1,4 +1,4 @@
-//! Lists of records and children in place, with some of them replaced.
+//! Lists of children in place, with some of them replaced or left out.
 ghost use Rattle.std.specs.Prelude.{◌≡◌, ◌+◌, ◌<◌, ◌≤◌, ◌++◌, length, take, drop};
 
 use arrayvec::ArrayVec;

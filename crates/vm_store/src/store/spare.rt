@@ -19,7 +19,7 @@ use vm_disk::Disk;
 use vm_tree::TreeFault;
 use vm_types::Refusal;
 
-/// How many blocks one record change may take.
+/// How many blocks have to be spare for a record change: one more than it takes at most.
 const BLOCKS_A_CHANGE: u32 = 17;
 
 /// Marks all blocks under the trees of the versions, without memory.
@@ -104,14 +104,14 @@ impl<D: Disk> Store<D> {
         Ok(())
     }
 
-    /// Whether as many blocks are free as so many record changes may take.
+    /// Whether as many blocks are free as so many record changes ask for.
     pub(super) fn has_free(&self, changes: usize) -> bool
         ensures { IsTrue result ↔ (blocks_a_change * changes ≤ free_of self.now) }
     {
         changes <= (self.held.free_count() / BLOCKS_A_CHANGE) as usize
     }
 
-    /// Whether as many blocks are spare as so many record changes may take. Where fewer are free,
+    /// Whether as many blocks are spare as so many record changes ask for. Where fewer are free,
     /// it marks what the entries reach.
     pub(super) fn has_spare(&mut self, changes: usize) -> Result<bool, Refusal>
         ensures any { GoesOn (result ≡ Err Refusal.Device) self.old self.new }

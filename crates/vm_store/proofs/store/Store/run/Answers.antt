@@ -1,4 +1,5 @@
-use Rattle.std.proofs.Common.{◌≡◌, ◌≢◌, ◌+◌, [], ◌∷◌, ◌++◌, length, Result, Err, ap, refl, sym, subst, arith}
+use Rattle.std.proofs.Common.{◌≡◌, ◌≢◌, ◌+◌, [], ◌∷◌, ◌++◌, length, Result, Err, ap, refl, sym, ◌∙◌, subst, arith}
+use Rattle.std.proofs.lemmas.Bool.{false≢true}
 use Rattle.std.proofs.lemmas.Grind.{common_steps}
 use Rattle.std.proofs.lemmas.List.Elements.{All-nil, All-push}
 use Rattle.vm_types.specs.State.{State}
@@ -83,10 +84,17 @@ returns-then-failed-clause-answers g c sound s =
     (in_turn_more c.args.self.now c.loop-command.self c.apply-answer.new.self s _ _ c.command-item.result c.apply-answer.result (before.told s) (carried_out c.loop-command.self c.apply-answer.new.self _ c.command-item.result c.apply-answer.result (λ honest. e.answer honest before.sound _) e.any e.as_long e.untouched (e.failed before.sound) (e.only_then before.sound) e.memory e.same e.unchanged e.blocks (λ honest holds fine. e.state honest before.sound fine _ holds) (λ honest holds. e.crash honest before.sound _ holds) (λ honest holds. e.guarded honest before.sound _ holds) (λ honest is. e.reclaimed honest before.sound is _) (λ blocks is. e.grown before.sound blocks is _)))
 
 pub returns-then-failed-clause-isolated : goal.returns-then-failed-clause-isolated
-returns-then-failed-clause-isolated g c honest s name apart = isolated name s _ _ apart
+returns-then-failed-clause-isolated g c honest fine s holds name apart =
+    let is = c.is_device-failed.ensures.0 c.if-failed.true in
+    absurd (false≢true (sym fine ∙ (c.apply-answer.ensures.failed c.loop-command.invariant.sound).1 is))
 
 pub returns-clause-isolated : goal.returns-clause-isolated
-returns-clause-isolated g c honest s name apart = isolated name s _ _ apart
+returns-clause-isolated g c honest fine s holds name apart =
+    let after = c.loop-command.invariant in
+    (_, after.holds honest s holds, isolated name s _ _ (rw (after.many) at apart))
+
+pub returns-in_default-clause-isolated : goal.returns-in_default-clause-isolated
+returns-in_default-clause-isolated g c honest fine s holds name apart = (s, holds, refl)
 
 pub returns-clause-kept : goal.returns-clause-kept
 returns-clause-kept g c honest sound s holds =
