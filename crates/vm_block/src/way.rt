@@ -68,10 +68,11 @@ pub fn find_child(bytes: &[u8; 4096], key: Key) -> Option<Way>
     ensures fits { IfSome result (λ way. ChildFits way.child) }
 
     // On any bytes: Some just where they begin with the head of an inner block, whose level and count it tells; and
-    // the child is what is spelled at its index.
+    // the child is what is spelled at its index, which is the one that the keys of the children lead to.
     ensures head { IfSome result (λ way. IsNodeHead bytes.now way.level way.count) }
     ensures headed { TellsHead bytes.now result }
     ensures spelled { IfSome result (λ way. node_row bytes.now way.index ≡ child_bytes way.child) }
+    ensures chosen { IfSome result (λ way. ChoosesAmong bytes.now 14 way.count (place key) way.index) }
 
     ensures only { IfNode bytes.now (λ level cs. IsSomeAnd result (IsWayTo (place key) level cs)) }
 {

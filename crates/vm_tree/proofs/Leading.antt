@@ -5,6 +5,7 @@ use Rattle.vm_disk.specs.Disk.{Contents, block, Medium}
 use Rattle.vm_block.specs.Head.{IsNodeHead, IsRowsHead}
 use Rattle.vm_block.specs.Node.{child_bytes}
 use Rattle.vm_block.specs.declared.node.Child.{Child}
+use Rattle.vm_block.specs.Way.{ChoosesAmong}
 use Rattle.vm_tree.specs.Reading.{EndsAt, IsBlockAt, LeadsDown, StepsTo}
 use Rattle.vm_tree.specs.declared.root.TreeFault.{TreeFault}
 
@@ -21,9 +22,9 @@ ends_at x limit b low bytes most long n few at head =
     }
 
 -- the block that was read has the head of an inner block, and this child
-pub steps_to : (x : Contents) (limit level b : ℕ) (low : Key) (bytes : List ℕ) (l n i : ℕ) (c : Child) → l ≡ level → IsBlockAt x limit b low bytes → IsNodeHead bytes l n → i < n → take 14 (drop (16 + 14 * i) bytes) ≡ child_bytes c
-    → StepsTo x limit level b low c
-steps_to x limit level b low bytes l n i c is at head lt spelled = record {
+pub steps_to : {p : ℕ} (x : Contents) (limit level b : ℕ) (low : Key) (bytes : List ℕ) (l n i : ℕ) (c : Child) → l ≡ level → IsBlockAt x limit b low bytes → IsNodeHead bytes l n → i < n → take 14 (drop (16 + 14 * i) bytes) ≡ child_bytes c → ChoosesAmong bytes 14 n p i
+    → StepsTo x limit p level b low c
+steps_to {p} x limit level b low bytes l n i c is at head lt spelled chosen = record {
   count = n;
   index = i;
   inside = at.inside;
@@ -31,27 +32,28 @@ steps_to x limit level b low bytes l n i c is at head lt spelled = record {
   first = ap (λ (z : List ℕ). take 10 (drop 16 z)) (sym at.bytes_are) ∙ at.first;
   within = lt;
   spelled = ap (λ (z : List ℕ). take 14 (drop (16 + 14 * i) z)) (sym at.bytes_are) ∙ spelled;
+  chosen = subst (λ (z : List ℕ). ChoosesAmong z 14 n p i) at.bytes_are chosen;
 }
 
 -- a descent that ends in a leaf
-pub leads_end : (x : Contents) (most limit l b : ℕ) (low : Key) → l ≡ 0 → most ≡ limit → EndsAt x most b low → LeadsDown x limit l b low
+pub leads_end : (p : ℕ) (x : Contents) (most limit l b : ℕ) (low : Key) → l ≡ 0 → most ≡ limit → EndsAt x most b low → LeadsDown x limit p l b low
 unfolding LeadsDown
-leads_end x most limit zero b low none is end = subst (λ n. EndsAt x n b low) is end
-leads_end x most limit (suc l) b low none is end = absurd (omega (arith, none))
+leads_end p x most limit zero b low none is end = subst (λ n. EndsAt x n b low) is end
+leads_end p x most limit (suc l) b low none is end = absurd (omega (arith, none))
 
 -- a descent that goes on from one step
-pub leads_on : (x y : Medium) (most limit l b : ℕ) (low : Key) (c : Child) → 0 < l → most ≡ limit → y ≡ x → StepsTo x.contents most l b low c → LeadsDown y.contents limit (l - 1) c.block c.low → LeadsDown x.contents limit l b low
+pub leads_on : {p : ℕ} (x y : Medium) (most limit l b : ℕ) (low : Key) (c : Child) → 0 < l → most ≡ limit → y ≡ x → StepsTo x.contents most p l b low c → LeadsDown y.contents limit p (l - 1) c.block c.low → LeadsDown x.contents limit p l b low
 unfolding LeadsDown
-leads_on x y most limit zero b low c above is still step rest = absurd (omega (arith, above))
-leads_on x y most limit (suc l) b low c above is still step rest =
+leads_on {p} x y most limit zero b low c above is still step rest = absurd (omega (arith, above))
+leads_on {p} x y most limit (suc l) b low c above is still step rest =
     let same : suc l - 1 ≡ l = omega arith in
-    let there = subst (λ (m : Medium). LeadsDown m.contents limit (suc l - 1) c.block c.low) still rest in
-    (c, subst (λ n. StepsTo x.contents n (suc l) b low c) is step, subst (λ n. LeadsDown x.contents limit n c.block c.low) same there)
+    let there = subst (λ (m : Medium). LeadsDown m.contents limit p (suc l - 1) c.block c.low) still rest in
+    (c, subst (λ n. StepsTo x.contents n p (suc l) b low c) is step, subst (λ n. LeadsDown x.contents limit p n c.block c.low) same there)
 
 -- a leaf to which the descent leads after one step
-pub finds_leaf_on : (result : Result Child TreeFault) (x y : Medium) (limit l b : ℕ) (low : Key) (c : Child) → 0 < l → y ≡ x → StepsTo x.contents limit l b low c
-    → IfOk result (λ leaf. EndsAt y.contents limit leaf.block leaf.low → LeadsDown y.contents limit (l - 1) c.block c.low)
-    → IfOk result (λ leaf. EndsAt x.contents limit leaf.block leaf.low → LeadsDown x.contents limit l b low)
+pub finds_leaf_on : {p : ℕ} (result : Result Child TreeFault) (x y : Medium) (limit l b : ℕ) (low : Key) (c : Child) → 0 < l → y ≡ x → StepsTo x.contents limit p l b low c
+    → IfOk result (λ leaf. EndsAt y.contents limit leaf.block leaf.low → LeadsDown y.contents limit p (l - 1) c.block c.low)
+    → IfOk result (λ leaf. EndsAt x.contents limit leaf.block leaf.low → LeadsDown x.contents limit p l b low)
 finds_leaf_on (Ok leaf) x y limit l b low c above still step rest = λ ends.
     leads_on x y limit limit l b low c above refl still step (rest (subst (λ (m : Medium). EndsAt m.contents limit leaf.block leaf.low) (sym still) ends))
 finds_leaf_on (Err e) x y limit l b low c above still step rest = tt

@@ -13,7 +13,7 @@ use Rattle.vm_block.specs.declared.node.Child.{Child}
 use Rattle.vm_block.specs.declared.stored.Link.{Link}
 use Rattle.vm_tree.specs.declared.root.Root.{Root}
 use Rattle.vm_tree.specs.declared.root.TreeFault.{TreeFault}
-use Rattle.vm_block.specs.Way.{Lowest, Takes}
+use Rattle.vm_block.specs.Way.{ChoosesAmong, Lowest, Takes}
 use Rattle.vm_block.specs.declared.way.Way.{Way}
 use Rattle.vm_tree.specs.Tree.{IsData}
 use Rattle.vm_tree.specs.Answers.{OkOrDevice}
@@ -64,8 +64,9 @@ pub record EndsAt (x : Contents) (limit b : ℕ) (low : Key) : Type 0 where
   pub head : IsRowsHead (block x b) MAX_ROWS long count
   pub first : take 10 (drop 16 (block x b)) ≡ key_bytes low
 
--- this block is for data, has the head of an inner block of this level, begins with this key, and has this child
-pub record StepsTo (x : Contents) (limit level b : ℕ) (low : Key) (child : Child) : Type 0 where
+-- this block is for data, has the head of an inner block of this level, begins with this key, and has this child where a
+-- descent to place p goes
+pub record StepsTo (x : Contents) (limit p level b : ℕ) (low : Key) (child : Child) : Type 0 where
   pub count : ℕ
   pub index : ℕ
   pub inside : IsData limit b
@@ -73,12 +74,13 @@ pub record StepsTo (x : Contents) (limit level b : ℕ) (low : Key) (child : Chi
   pub first : take 10 (drop 16 (block x b)) ≡ key_bytes low
   pub within : index < count
   pub spelled : take 14 (drop (16 + 14 * index) (block x b)) ≡ child_bytes child
+  pub chosen : ChoosesAmong (block x b) 14 count p index
 
--- from block b, so many levels above the leaves, a descent leads to a leaf: each block on it has the head of its
--- level, and begins with the key that was said of it
-unfoldable pub LeadsDown : Contents → ℕ → ℕ → ℕ → Key → Type 0
-LeadsDown x limit zero b low = EndsAt x limit b low
-LeadsDown x limit (suc l) b low = (child : Child) × StepsTo x limit (suc l) b low child × LeadsDown x limit l child.block child.low
+-- from block b, so many levels above the leaves, the descent to place p leads to a leaf: each block on it has the head of
+-- its level, and begins with the key that was said of it
+unfoldable pub LeadsDown : Contents → ℕ → ℕ → ℕ → ℕ → Key → Type 0
+LeadsDown x limit p zero b low = EndsAt x limit b low
+LeadsDown x limit p (suc l) b low = (child : Child) × StepsTo x limit p (suc l) b low child × LeadsDown x limit p l child.block child.low
 
 -- from one to so many
 abbrev pub IsCount : ℕ → ℕ → Type 0
@@ -115,22 +117,22 @@ abbrev pub FindsEnd : {T : Type 0} → Result T TreeFault → DiskState → Disk
 FindsEnd result old new limit top = Finds result old new (λ x answer. EndsAt x limit top.block top.low)
 
 -- this child's block has the head of an inner block of this level, begins with its key, and has the child that is answered
-abbrev pub FindsStep : Result Way TreeFault → DiskState → DiskState → ℕ → ℕ → Child → Type 0
-FindsStep result old new limit level top = Finds result old new (λ x way. StepsTo x limit level top.block top.low way.child)
+abbrev pub FindsStep : Result Way TreeFault → DiskState → DiskState → ℕ → ℕ → ℕ → Child → Type 0
+FindsStep result old new limit p level top = Finds result old new (λ x way. StepsTo x limit p level top.block top.low way.child)
 
 -- this child's block, of this level, leads down where the child that is answered ends a descent
-abbrev pub FindsLeaf : Result Child TreeFault → DiskState → DiskState → ℕ → ℕ → Child → Type 0
-FindsLeaf result old new limit level top =
-    Finds result old new (λ x leaf. EndsAt x limit leaf.block leaf.low → LeadsDown x limit level top.block top.low)
+abbrev pub FindsLeaf : Result Child TreeFault → DiskState → DiskState → ℕ → ℕ → ℕ → Child → Type 0
+FindsLeaf result old new limit p level top =
+    Finds result old new (λ x leaf. EndsAt x limit leaf.block leaf.low → LeadsDown x limit p level top.block top.low)
 
--- from this child's block, of this level, a descent leads to a leaf
-abbrev pub FindsPath : {T : Type 0} → Result T TreeFault → DiskState → DiskState → ℕ → ℕ → Child → Type 0
-FindsPath result old new limit level top = Finds result old new (λ x answer. LeadsDown x limit level top.block top.low)
+-- from this child's block, of this level, the descent to place p leads to a leaf
+abbrev pub FindsPath : {T : Type 0} → Result T TreeFault → DiskState → DiskState → ℕ → ℕ → ℕ → Child → Type 0
+FindsPath result old new limit p level top = Finds result old new (λ x answer. LeadsDown x limit p level top.block top.low)
 
--- from a root that has a block a descent leads to a leaf
-abbrev pub FindsPathFrom : {T : Type 0} → Root → Result T TreeFault → DiskState → DiskState → ℕ → Type 0
-FindsPathFrom root result old new limit =
-    Finds result old new (λ x answer. 0 < root.block → LeadsDown x limit root.level root.block root.low)
+-- from a root that has a block the descent to place p leads to a leaf
+abbrev pub FindsPathFrom : {T : Type 0} → Root → Result T TreeFault → DiskState → DiskState → ℕ → ℕ → Type 0
+FindsPathFrom root result old new limit p =
+    Finds result old new (λ x answer. 0 < root.block → LeadsDown x limit p root.level root.block root.low)
 
 -- # What a call gives, where the disk is honest after it, unless the device fails
 

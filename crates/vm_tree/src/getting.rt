@@ -119,7 +119,7 @@ fn leaf_of<D: Disk>(
     ensures looks { OnlyLooks result (D.state disk.old) (D.state disk.new) }
     ensures deep { result ≢ Err TreeFault.Deep }
     ensures memory { result ≢ Err TreeFault.Memory }
-    ensures path { FindsLeaf result (D.state disk.old) (D.state disk.new) blocks level top }
+    ensures path { FindsLeaf result (D.state disk.old) (D.state disk.new) blocks (place key) level top }
     ensures leaf { GivesLeaf result (D.state disk.old) (D.state disk.new) blocks level top key }
 {
     if level == 0 {
@@ -147,7 +147,7 @@ pub fn get<'a, D: Disk>(
 
     // A value, or that there is none, is told only where each block on the path has the head of its level and begins
     // with the key that its parent says, the first with the lowest key of the root.
-    ensures path { FindsPathFrom root result (D.state disk.old) (D.state disk.new) blocks }
+    ensures path { FindsPathFrom root result (D.state disk.old) (D.state disk.new) blocks (place key) }
 
     // On a tree it is the value of its map, whatever the sizes of its blocks, unless the device fails.
     ensures value { GivesValue result (D.state disk.old) (D.state disk.new) blocks root key }
@@ -171,7 +171,7 @@ pub fn has<D: Disk>(disk: &mut D, blocks: u32, root: Root, key: Key) -> Result<b
     ensures memory { result ≢ Err TreeFault.Memory }
 
     // It is told only where the blocks on the path are such as `get` asks for.
-    ensures path { FindsPathFrom root result (D.state disk.old) (D.state disk.new) blocks }
+    ensures path { FindsPathFrom root result (D.state disk.old) (D.state disk.new) blocks (place key) }
 
     // On a tree it is told of its map, whatever the sizes of its blocks, unless the device fails.
     ensures found { TellsRecord result (D.state disk.old) (D.state disk.new) blocks root key }

@@ -1,6 +1,6 @@
 //! A record more, or another value of a key.
 ghost use Rattle.std.specs.Prelude.{◌≡◌, ◌≢◌, ◌+◌, ◌*◌, ◌<◌, ◌≤◌, true, false, [], ◌∷◌, ◌++◌, length, IfOk};
-ghost use Rattle.vm_types.specs.Places.{KeyFits};
+ghost use Rattle.vm_types.specs.Places.{KeyFits, place};
 ghost use Rattle.vm_alloc.specs.Held.{free_count};
 ghost use Rattle.vm_tree.specs.Answers.{OkOrDevice};
 ghost use Rattle.vm_tree.specs.Calls.{LooksIfDamaged, WritesFree};
@@ -225,7 +225,7 @@ fn put_in_leaf<D: Disk, const LEAF: usize>(
     ensures one { room ≡ false → TakesAtMost (1 + long_blocks value.now) held.old held.new }
     ensures single { IfOne result (TakesAtMost (1 + long_blocks value.now) held.old held.new) }
     ensures taken { TakesAtMost (2 + long_blocks value.now) held.old held.new }
-    ensures path { FindsPath result (D.state disk.old) (D.state disk.new) (length held.old) 0 top }
+    ensures path { FindsPath result (D.state disk.old) (D.state disk.new) (length held.old) (place key) 0 top }
     ensures replaced { ReplacesInLeaf result LEAF held.old held.new
         (D.state disk.old) (D.state disk.new) top (key, value.now) }
     ensures put { PutsUnderLeaf result LEAF held.old held.new
@@ -279,7 +279,7 @@ fn put_below<D: Disk, const LEAF: usize, const FAN: usize>(
     ensures one { room ≡ false → TakesAtMost (2 * level + 1 + long_blocks value.now) held.old held.new }
     ensures single { IfOne result (TakesAtMost (2 * level + 1 + long_blocks value.now) held.old held.new) }
     ensures taken { TakesAtMost (2 * level + 2 + long_blocks value.now) held.old held.new }
-    ensures path { FindsPath result (D.state disk.old) (D.state disk.new) (length held.old) level top }
+    ensures path { FindsPath result (D.state disk.old) (D.state disk.new) (length held.old) (place key) level top }
     ensures replaced { ReplacesUnder result LEAF FAN held.old held.new
         (D.state disk.old) (D.state disk.new) level top (key, value.now) }
     ensures put { PutsUnder result LEAF FAN held.old held.new
@@ -377,7 +377,7 @@ pub fn put<D: Disk, const LEAF: usize, const FAN: usize, const LEVELS: usize>(
 
     // A root is made only where each block on the path has the head of its level and begins with the key that its
     // parent says, the first with the lowest key of the old root.
-    ensures path { FindsPathFrom root result (D.state disk.old) (D.state disk.new) (length held.old) }
+    ensures path { FindsPathFrom root result (D.state disk.old) (D.state disk.new) (length held.old) (place key) }
 
     // On a tree the answer is a root, or Deep just where there is no room, unless the device fails; and where the
     // blocks of the tree are held, the root has the map with the value, in blocks that are none of the old path.

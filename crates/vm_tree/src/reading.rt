@@ -99,7 +99,7 @@ pub(crate) fn load_way<D: Disk, const MOST: usize>(
     ensures memory { result ≢ Err TreeFault.Memory }
     ensures level { IfOk result (λ way. (way.level ≡ level) × (level ≤ 7)) }
     ensures within { IfOk result (IsWayAmong MOST) }
-    ensures step { FindsStep result (D.state disk.old) (D.state disk.new) blocks level top }
+    ensures step { FindsStep result (D.state disk.old) (D.state disk.new) blocks (place key) level top }
     ensures only { GivesWay result (D.state disk.old) (D.state disk.new)
         blocks level top MOST (place key) (D.hand disk.new) }
 {

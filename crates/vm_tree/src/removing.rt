@@ -100,7 +100,7 @@ fn remove_from_leaf<D: Disk, const LEAF: usize>(
     ensures same { LooksIfSame result held.old held.new (D.state disk.old) (D.state disk.new) }
     ensures nothing { LooksIfNothing result held.old held.new (D.state disk.old) (D.state disk.new) }
     ensures looks { LooksIfDamaged result held.old held.new (D.state disk.old) (D.state disk.new) }
-    ensures path { FindsPath result (D.state disk.old) (D.state disk.new) (length held.old) 0 top }
+    ensures path { FindsPath result (D.state disk.old) (D.state disk.new) (length held.old) (place key) 0 top }
     ensures remove { RemovesFromLeaf result LEAF held.old held.new
         (D.state disk.old) (D.state disk.new) top (place key) (long_of long.new ++ (top.block ∷ [])) }
     ensures path_in { NamesLong result LEAF (D.state disk.old) (D.state disk.new)
@@ -211,7 +211,7 @@ fn remove_below<D: Disk, const LEAF: usize, const FAN: usize>(
     ensures same { LooksIfSame result held.old held.new (D.state disk.old) (D.state disk.new) }
     ensures nothing { LooksIfNothing result held.old held.new (D.state disk.old) (D.state disk.new) }
     ensures looks { LooksIfDamaged result held.old held.new (D.state disk.old) (D.state disk.new) }
-    ensures path { FindsPath result (D.state disk.old) (D.state disk.new) (length held.old) level top }
+    ensures path { FindsPath result (D.state disk.old) (D.state disk.new) (length held.old) (place key) level top }
     ensures remove { RemovesUnder result LEAF FAN held.old held.new
         (D.state disk.old) (D.state disk.new) level top (place key) path.new }
     ensures path_size { length path.new ≡ length path.old }
@@ -280,7 +280,7 @@ pub fn remove<D: Disk, const LEAF: usize, const FAN: usize, const LEVELS: usize>
 
     // What is left, or that the key is absent, is told only where each block on the path has the head of its level and
     // begins with the key that its parent says, the first with the lowest key of the old root.
-    ensures path { FindsPathFrom root result (D.state disk.old) (D.state disk.new) (length held.old) }
+    ensures path { FindsPathFrom root result (D.state disk.old) (D.state disk.new) (length held.old) (place key) }
 
     // On a tree the answer is None just where the key is absent, and else a root, unless the device fails; and where
     // the blocks of the tree are held, the root has the map without the key, in blocks that are none of the old path.

@@ -12,7 +12,7 @@ use Rattle.vm_tree.proofs.getting.+leaf_of.Goals as goal
 
 pub returns-then-level-eq0-clause-path : goal.returns-then-level-eq0-clause-path
 returns-then-level-eq0-clause-path g t c honest ends =
-    leads_end _ c.args.blocks c.args.blocks c.args.level c.args.top.block c.args.top.low c.if-level-eq0.true refl ends
+    leads_end _ _ c.args.blocks c.args.blocks c.args.level c.args.top.block c.args.top.low c.if-level-eq0.true refl ends
 
 pub returns-then-level-eq0-clause-leaf : goal.returns-then-level-eq0-clause-leaf
 returns-then-level-eq0-clause-leaf g t c sizes honest rs bs tree begins rises = record {

@@ -121,12 +121,12 @@ returns-in_err-load_block-clause-put g c fan levels honest rs bs tree begins ris
 pub returns-in_ok-leaf-in-Put-clause-path : goal.returns-in_ok-leaf-in-Put-clause-path
 returns-in_ok-leaf-in-Put-clause-path g c honest =
     let head = c.in-Put.ensures.head.0 (λ e. cc e) in
-    leads_end _ _ (length c.args.held.now) 0 c.args.top.block c.args.top.low refl c.blocks-2.ensures.count (ends_at _ _ c.args.top.block c.args.top.low _ g.row.LEAF head.0 head.1 c.requires.most (hand_block (sym c.at_hand.ensures) (c.in_ok-load_block.ensures.found (c.write_put.ensures.writes.goes.earlier honest))) head.2)
+    leads_end _ _ _ (length c.args.held.now) 0 c.args.top.block c.args.top.low refl c.blocks-2.ensures.count (ends_at _ _ c.args.top.block c.args.top.low _ g.row.LEAF head.0 head.1 c.requires.most (hand_block (sym c.at_hand.ensures) (c.in_ok-load_block.ensures.found (c.write_put.ensures.writes.goes.earlier honest))) head.2)
 
 pub returns-in-Full-2-clause-path : goal.returns-in-Full-2-clause-path
 returns-in-Full-2-clause-path g c honest =
     let head = c.in-Full-2.ensures.head.0 (λ e. cc e) in
-    if_ok_is c.split_leaf.result _ (leads_end _ _ (length c.args.held.now) 0 c.args.top.block c.args.top.low refl c.blocks-2.ensures.count (ends_at _ _ c.args.top.block c.args.top.low _ g.row.LEAF head.0 head.1 c.requires.most (hand_block (sym c.at_hand.ensures) (c.in_ok-load_block.ensures.found (c.split_leaf.ensures.writes.goes.earlier honest))) head.2))
+    if_ok_is c.split_leaf.result _ (leads_end _ _ _ (length c.args.held.now) 0 c.args.top.block c.args.top.low refl c.blocks-2.ensures.count (ends_at _ _ c.args.top.block c.args.top.low _ g.row.LEAF head.0 head.1 c.requires.most (hand_block (sym c.at_hand.ensures) (c.in_ok-load_block.ensures.found (c.split_leaf.ensures.writes.goes.earlier honest))) head.2))
 
 pub returns-in-Full-2-clause-replaced : goal.returns-in-Full-2-clause-replaced
 returns-in-Full-2-clause-replaced g c fan levels honest rs bs tree begins rises there =

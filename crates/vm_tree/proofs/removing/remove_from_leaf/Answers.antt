@@ -89,13 +89,13 @@ returns-in_err-load_rows-clause-remove g c fan levels honest rs bs tree begins r
     rw (passed_on _ c.from_residual.ensures.1) (c.in_err-load_rows.ensures.only honest read.rows read.at read.begins read.few)
 
 pub returns-in-Absent-clause-path : goal.returns-in-Absent-clause-path
-returns-in-Absent-clause-path g c honest = leads_end _ _ (length c.args.held.now) 0 c.args.top.block c.args.top.low refl c.blocks-2.ensures.count (c.in_ok-load_rows.ensures.end honest)
+returns-in-Absent-clause-path g c honest = leads_end _ _ _ (length c.args.held.now) 0 c.args.top.block c.args.top.low refl c.blocks-2.ensures.count (c.in_ok-load_rows.ensures.end honest)
 
 pub returns-in-Last-clause-path : goal.returns-in-Last-clause-path
-returns-in-Last-clause-path g c honest = leads_end _ _ (length c.args.held.now) 0 c.args.top.block c.args.top.low refl c.blocks-2.ensures.count (c.in_ok-load_rows.ensures.end honest)
+returns-in-Last-clause-path g c honest = leads_end _ _ _ (length c.args.held.now) 0 c.args.top.block c.args.top.low refl c.blocks-2.ensures.count (c.in_ok-load_rows.ensures.end honest)
 
 pub returns-in_ok-leaf-in-Out-clause-path : goal.returns-in_ok-leaf-in-Out-clause-path
-returns-in_ok-leaf-in-Out-clause-path g c honest = leads_end _ _ (length c.args.held.now) 0 c.args.top.block c.args.top.low refl c.blocks-2.ensures.count (c.in_ok-load_rows.ensures.end (c.write_bytes.ensures.writes.goes.earlier honest))
+returns-in_ok-leaf-in-Out-clause-path g c honest = leads_end _ _ _ (length c.args.held.now) 0 c.args.top.block c.args.top.low refl c.blocks-2.ensures.count (c.in_ok-load_rows.ensures.end (c.write_bytes.ensures.writes.goes.earlier honest))
 
 pub returns-in-Absent-clause-writes : goal.returns-in-Absent-clause-writes
 returns-in-Absent-clause-writes g c = looks_free c.in_ok-load_rows.ensures.looks (λ is. cc)
