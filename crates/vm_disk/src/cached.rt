@@ -17,8 +17,8 @@ use std::num::NonZeroUsize;
 /// disk below; each write does, and each sync.
 ///
 /// Memory for the bytes of a block is taken when it is kept, until the cache is full. From there a block
-/// that is new takes the room of the one that goes. Where memory is refused, the block is not kept,
-/// and the call is served.
+/// that is new takes the spare room, and that of the one that goes is spare then. Where memory is
+/// refused, the block is not kept, and the call is served.
 ///
 /// A block that comes from below is read onto the desk, a room that is kept with it then, for another
 /// one that takes its place. At hand is the block that was used last, or the one on the desk, where it

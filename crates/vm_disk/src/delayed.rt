@@ -15,7 +15,8 @@ use std::snapshot::Snapshot;
 /// Has written blocks wait, and writes them to the disk below at a sync, or where too many would wait:
 /// then the one goes out that was written, or got to hand, the longest ago, with those that wait right
 /// before and behind it. A read looks among those that wait first, and then among those that were
-/// written, which stay until their room is needed.
+/// written. These stay until their room is needed, or all go, where a write below fails or memory for
+/// one more to wait is refused; and one that is forgotten goes.
 ///
 /// A block waits in the room of one that waits no longer: a spare one, or else that of the block which
 /// was written out first. Where there is none, memory is taken; where that is refused, the block is

@@ -106,8 +106,8 @@ impl<D: Disk> Layers<D> {
         }
     }
 
-    /// Writes the block out whose last write is the longest ago, with its neighbours, unless one
-    /// more may wait without that.
+    /// Writes the block out that was not used for the longest time, with its neighbours, unless one more
+    /// may wait without that.
     fn make_place(&mut self) -> Result<(), DeviceFault>
         ensures any { Between (layers_state D.state) (Counts 0 result) self.old self.new }
         ensures honest { (D.state (lower_of self.new)).honest ≡ true → Sends D.state self.old self.new }
