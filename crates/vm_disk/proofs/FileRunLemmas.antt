@@ -1,17 +1,18 @@
 -- How one write of blocks in a row to a file shows as one to a disk over it.
-use Rattle.std.proofs.Common.{◌≡◌, ◌⊎◌, inl, inr, ℕ, zero, suc, ◌+◌, ◌*◌, ◌<◌, ◌≤◌, ◌||◌, true, false, List, [], ◌∷◌, ◌++◌, length, take, drop, slice_index_or, Result, Ok, Err, OnOk, refl, sym, ◌∙◌, ap, subst, arith, length-append}
-use Rattle.std.proofs.lemmas.Bool.{and_from, and_left, and_right, or_left, or_right, lt-ltb, le-ltb, cases_lt}
+use Rattle.std.proofs.Common.{◌≡◌, ◌⊎◌, inl, inr, ℕ, zero, suc, ◌+◌, ◌-◌, ◌*◌, ◌<◌, ◌≤◌, ◌||◌, nat_le, nat_lt, Bool, true, false, List, [], ◌∷◌, ◌++◌, length, take, drop, slice_index_or, Result, Ok, Err, OnOk, refl, sym, ◌∙◌, ap, subst, arith, length-append}
+use Rattle.std.proofs.lemmas.Bool.{and_from, and_parts, and_left, and_right, or_left, or_right, lt-ltb, le-ltb, leb-true, ltb-true, cases_lt}
 use Rattle.std.proofs.lemmas.List.{take_at, drop_at, drop-drop}
 use Rattle.std.proofs.lemmas.List.Concat.{flat_map-cons}
 use Rattle.std.proofs.lemmas.List.FromFn.{length-map-range_with_len}
 use Rattle.vm_disk.specs.declared.disk.DeviceFault.{DeviceFault}
 use Rattle.vm_disk.specs.declared.file.FileDisk.{FileDisk}
-use Rattle.vm_disk.specs.Disk.{block, Medium}
-use Rattle.vm_disk.specs.Moments.{TouchesOnly, in_run, WritesRun}
+use Rattle.vm_disk.specs.Disk.{block, Medium, Elapses}
+use Rattle.vm_disk.specs.Moments.{TouchesOnly, CleanAsBefore, in_run, WritesRun}
 use Rattle.vm_disk.specs.Positional.{FileState, joined, overwritten, IsTorn, WritesAt}
 use Rattle.vm_disk.specs.File.{file_state, file_block, touches, is_touched, is_unsure, waits_with, forgotten_of}
 use Rattle.vm_disk.proofs.OverwrittenLemmas.{overwritten_inside, overwritten_before, overwritten_after}
-use Rattle.vm_disk.proofs.MomentLemmas.{started, goes_on, spares_itself}
+use Rattle.vm_disk.proofs.KeptLemmas.{by_answer}
+use Rattle.vm_disk.proofs.MomentLemmas.{started, goes_on, spares_itself, as_itself}
 use Rattle.vm_disk.proofs.RunLemmas.{run_has}
 use Rattle.vm_disk.proofs.FileLemmas.{block_is, same_block, some_written, touched_with, IsCalled, same_part, now_shown, past_shown, good_file, long_file}
 
@@ -51,6 +52,17 @@ out_of_run first count k out = before (cases_lt k first)
     before : (k < first) ⊎ (first ≤ k) → (k < first) ⊎ (first + count ≤ k)
     before (inl less) = inl less
     before (inr from) = after from (cases_lt k (first + count))
+
+-- a clean one, where each in the row is dirty
+clean_is_out : (first count : ℕ) (dirty : ℕ → Bool) → ((i : ℕ) → i < count → dirty (first + i) ≡ true) → (k : ℕ) → dirty k ≡ false → in_run first count k ≡ false
+clean_is_out first count dirty are k clean = by_answer (in_run first count k)
+    (λ y.
+    let parts = and_parts (nat_le first k) (nat_lt k (first + count)) y in
+    let from = leb-true first k parts.0 in
+    let before = ltb-true k (first + count) parts.1 in
+    let place : first + (k - first) ≡ k = omega (arith, from) in
+    let clash : true ≡ false = sym (are (k - first) (omega (arith, from, before))) ∙ ap dirty place ∙ clean in cc)
+    (λ z. z)
 
 -- stays as it was
 others_stay : (n count k offset : ℕ) (old new : List ℕ) → offset ≡ 4096 * n → offset ≤ length old → in_run n count k ≡ false → IsTorn offset (4096 * count) old new → file_block new k ≡ file_block old k
@@ -113,6 +125,13 @@ module _ {F : Type 0} (state : F → FileState) where
       let same = touched_with gone new.waiting k ∙ ap (λ t. is_touched (waits_with gone []) k || t) one ∙ sym (touched_with gone old.waiting k) in
       ap (λ m. m.dirty k) is ∙ ap (λ t. t || is_unsure was.sure count k) same in
       let sure = ap (λ m. m.sure) is in
+      let time : Elapses (file_state state was) (file_state state now) = record { step = inl (past_shown state was now part called) } in
+      let dirty : (i : ℕ) → i < size → (file_state state now).now.dirty (n + i) ≡ true =
+      λ i before.
+      ap (λ m. m.dirty (n + i)) is
+      ∙ or_left _ _ (touched_with gone new.waiting (n + i) ∙ or_right _ _ (ap (λ ws. is_touched ws (n + i)) writes.waiting ∙ run_waits n size i offset (length (joined blocks)) old.waiting at many before)) in
+      let out : (k : ℕ) → (file_state state now).now.dirty k ≡ false → in_run n size k ≡ false =
+      λ k clean. clean_is_out n size (file_state state now).now.dirty dirty k clean in
       record {
         written = on_success answer (λ done i before.
             ap (λ m. block m.contents (n + i)) is ∙ block_is count (n + i) new.bytes (omega (arith, inside, before))
@@ -120,15 +139,19 @@ module _ {F : Type 0} (state : F → FileState) where
             ∙ ap (λ k. take 4096 (drop k (overwritten offset (joined blocks) old.bytes))) (omega (arith, at))
             ∙ overwritten_inside offset (4096 * i) 4096 (joined blocks) old.bytes within (omega (arith, many, before))
             ∙ joined_block blocks full i before) writes.written;
-        dirty = always answer (λ i before.
-            ap (λ m. m.dirty (n + i)) is
-            ∙ or_left _ _ (touched_with gone new.waiting (n + i) ∙ or_right _ _ (ap (λ ws. is_touched ws (n + i)) writes.waiting ∙ run_waits n size i offset (length (joined blocks)) old.waiting at many before)));
+        dirty = always answer dirty;
         others_dirty = others_dirty;
         sure = sure;
         moments =
             let Q : Medium → Type 0 = TouchesOnly (in_run n size) (file_state state was).now in
             goes_on (file_state state was) (file_state state was) (file_state state now) Q
             (started (file_state state was) Q (spares_itself (in_run n size) (file_state state was).now))
-            (record { step = inl (past_shown state was now part called) })
+            time
             (record { count = lengths; same = others; clean = λ k out clean. others_dirty k out ∙ clean; sure = omega (arith, sure) });
+        clean =
+            let Q : Medium → Type 0 = CleanAsBefore (file_state state was).now in
+            goes_on (file_state state was) (file_state state was) (file_state state now) Q
+            (started (file_state state was) Q (as_itself (file_state state was).now))
+            time
+            (record { same = λ k clean. others k (out k clean); clean = λ k clean. sym (others_dirty k (out k clean)) ∙ clean });
       }

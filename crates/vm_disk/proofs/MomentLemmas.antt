@@ -3,7 +3,7 @@ use Rattle.std.proofs.Common.{◌≡◌, ◌≢◌, ℕ, ◌<◌, ◌≤◌, ◌
 use Rattle.std.proofs.lemmas.Bool.{cases_lt, false≢true}
 use Rattle.vm_disk.specs.declared.disk.DeviceFault.{DeviceFault}
 use Rattle.vm_disk.specs.Disk.{Contents, block, Medium, DiskState, MayLeave, IsClean, moment, LeftPast, LeftAt, NoCalls, Elapses, Reads, Writes, Syncs}
-use Rattle.vm_disk.specs.Moments.{AtEach, Throughout, OnlyReads, Leaves, LeavesOnly, TouchesOnly}
+use Rattle.vm_disk.specs.Moments.{AtEach, Throughout, OnlyReads, Leaves, LeavesOnly, TouchesOnly, CleanAsBefore}
 
 -- before the first call
 pub started : (s : DiskState) (Q : Medium → Type 0) → Q s.now → Throughout s s Q
@@ -137,6 +137,27 @@ write_on n bytes result touched old mid new inside so_far writes =
       clean = λ k out clean. writes.others_dirty k (apart touched k n inside out) ∙ before.clean k out clean;
       sure = omega (arith, writes.sure, before.sure);
     }
+
+-- a medium is as it was where nothing was done
+pub as_itself : (m : Medium) → CleanAsBefore m m
+as_itself m = record { same = λ n clean. refl; clean = λ n clean. clean }
+
+-- one write more leaves its block dirty
+pub dirt_on : {T : Type 0} (n : ℕ) (bytes : List ℕ) (result : Result T DeviceFault) (old mid new : DiskState) → Throughout old mid (CleanAsBefore old.now) → Writes n bytes result mid new → Throughout old new (CleanAsBefore old.now)
+dirt_on n bytes result old mid new so_far writes =
+    goes_on old mid new (CleanAsBefore old.now) so_far writes.time record {
+      same = λ k clean. writes.others k (other k clean) ∙ before.same k (was k clean);
+      clean = λ k clean. before.clean k (was k clean);
+    }
+  where
+    before : CleanAsBefore old.now mid.now
+    before = at_end old mid (CleanAsBefore old.now) so_far
+
+    other : (k : ℕ) → new.now.dirty k ≡ false → k ≢ n
+    other k clean same = let e : true ≡ false = sym writes.dirty ∙ ap new.now.dirty (sym same) ∙ clean in cc
+
+    was : (k : ℕ) → new.now.dirty k ≡ false → mid.now.dirty k ≡ false
+    was k clean = sym (writes.others_dirty k (other k clean)) ∙ clean
 
 -- a sync spares what was spared before it
 pub sync_spares : {T : Type 0} (result : Result T DeviceFault) (touched : ℕ → Bool) (old : Medium) (mid new : DiskState) → Syncs result mid new → TouchesOnly touched old mid.now → TouchesOnly touched old new.now

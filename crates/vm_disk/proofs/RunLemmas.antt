@@ -3,8 +3,8 @@ use Rattle.std.proofs.Common.{◌≡◌, ◌≢◌, ◌⊎◌, inl, inr, ℕ, �
 use Rattle.std.proofs.lemmas.Bool.{and_from, le-leb, lt-ltb, cases_lt}
 use Rattle.vm_disk.specs.declared.disk.DeviceFault.{DeviceFault}
 use Rattle.vm_disk.specs.Disk.{block, DiskState, Writes}
-use Rattle.vm_disk.specs.Moments.{Throughout, TouchesOnly, in_run, WritesRun}
-use Rattle.vm_disk.proofs.MomentLemmas.{write_on}
+use Rattle.vm_disk.specs.Moments.{Throughout, TouchesOnly, CleanAsBefore, in_run, WritesRun}
+use Rattle.vm_disk.proofs.MomentLemmas.{write_on, dirt_on}
 
 -- a block of the row is in it
 pub run_has : (first count k : ℕ) → first ≤ k → k < first + count → in_run first count k ≡ true
@@ -20,6 +20,7 @@ pub record IsBegun (first : ℕ) (blocks : List (List ℕ)) (count : ℕ) (old n
   pub others_dirty : (k : ℕ) → in_run first (length blocks) k ≡ false → new.now.dirty k ≡ old.now.dirty k
   pub sure : new.now.sure ≡ old.now.sure
   pub moments : Throughout old new (TouchesOnly (in_run first (length blocks)) old.now)
+  pub clean : Throughout old new (CleanAsBefore old.now)
 
 -- one more
 pub run_on : {T : Type 0} (x : T) (first count at : ℕ) (bytes : List ℕ) (blocks : List (List ℕ)) (old mid new : DiskState)
@@ -32,6 +33,7 @@ run_on x first count at bytes blocks old mid new so_far inside here is writes =
       others_dirty = λ k out. writes.others_dirty k (apart first (length blocks) k at out there) ∙ so_far.others_dirty k out;
       sure = writes.sure ∙ so_far.sure;
       moments = write_on at bytes (Ok x) (in_run first (length blocks)) old mid new there so_far.moments writes;
+      clean = dirt_on at bytes (Ok x) old mid new so_far.clean writes;
     }
   where
     there : in_run first (length blocks) at ≡ true
@@ -59,6 +61,7 @@ run_failed (Err e) result first count at bytes blocks old mid new failed so_far 
       others_dirty = λ k out. writes.others_dirty k (apart first (length blocks) k at out there) ∙ so_far.others_dirty k out;
       sure = writes.sure ∙ so_far.sure;
       moments = write_on at bytes result (in_run first (length blocks)) old mid new there so_far.moments writes;
+      clean = dirt_on at bytes result old mid new so_far.clean writes;
     }
   where
     there : in_run first (length blocks) at ≡ true

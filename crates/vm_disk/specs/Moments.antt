@@ -39,11 +39,17 @@ pub record TouchesOnly (touched : ℕ → Bool) (old new : Medium) : Type 0 wher
 abbrev pub in_run : ℕ → ℕ → ℕ → Bool
 in_run first count k = nat_le first k && nat_lt k (first + count)
 
--- what a write of blocks in a row does, on a disk that is honest after it: at no moment another block is touched, and where it
--- fails, each of them holds any bytes
+-- each block that is clean was so before, and has kept its bytes
+pub record CleanAsBefore (old new : Medium) : Type 0 where
+  pub same : (n : ℕ) → new.dirty n ≡ false → block new.contents n ≡ block old.contents n
+  pub clean : (n : ℕ) → new.dirty n ≡ false → old.dirty n ≡ false
+
+-- what a write of blocks in a row does, on a disk that is honest after it: at no moment another block is touched, and at each
+-- every block that is clean is as it was; where it fails, each of the row that is dirty then holds any bytes
 pub record WritesRun {T : Type 0} (first : ℕ) (blocks : List (List ℕ)) (result : Result T DeviceFault) (old new : DiskState) : Type 0 where
   pub written : OnOk result ((i : ℕ) → i < length blocks → block new.now.contents (first + i) ≡ slice_index_or blocks i [])
   pub dirty : OnOk result ((i : ℕ) → i < length blocks → new.now.dirty (first + i) ≡ true)
   pub others_dirty : (k : ℕ) → in_run first (length blocks) k ≡ false → new.now.dirty k ≡ old.now.dirty k
   pub sure : new.now.sure ≡ old.now.sure
   pub moments : Throughout old new (TouchesOnly (in_run first (length blocks)) old.now)
+  pub clean : Throughout old new (CleanAsBefore old.now)
