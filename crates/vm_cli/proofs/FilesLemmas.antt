@@ -24,6 +24,7 @@ use Rattle.vm_cli.specs.Exits.{IsJob, Tells}
 use Rattle.vm_cli.specs.Keeps.{Keeps, answers_of, commands_of}
 use Rattle.vm_cli.specs.Files.{Answers, Counts, Draws, Declines, Does, KeepsAll, Makes}
 use Rattle.vm_cli.specs.Places.{KeepsOthers, PlaceState}
+use Rattle.vm_cli.specs.Runs.{LooksOnly}
 use Rattle.vm_cli.specs.Sessions.{HasRefused}
 use Rattle.vm_cli.specs.Words.{Wanted, altctl}
 use Rattle.vm_cli.specs.Words.Wanted.{check, create, do_lines, draw, run}
@@ -68,6 +69,17 @@ keeps_all name old new others same other = go (bytes_eq other name) refl
 -- words ask for one job
 pub one_job : (words : List Text) (job other : Wanted) → IsJob words job → IsJob words other → other ≡ job
 one_job words job other is also = let same : Some other ≡ Some job = sym also.1 ∙ is.1 in cc
+
+-- words ask for this job, and where it is a check or a drawing no file was asked for to be written
+pub looks_for : {P : Type 0} (to_write : P → ℕ) (place place' : P) (words : List Text) (job : Wanted) → IsJob words job
+    → ((name : Text) → (check name ≡ job) ⊎ (draw name ≡ job) → to_write place' ≡ to_write place) → LooksOnly to_write place place' words
+looks_for to_write place place' words job asked reads = (
+  (λ name looks. elim looks [
+    | inl is ↦ reads name (inl (one_job words job (check name) asked is))
+    | inr is ↦ reads name (inr (one_job words job (draw name) asked is))
+  ]),
+  (λ no. absurd (no job asked)),
+)
 
 -- words that ask for a job have no fault
 pub no_fault : (kind : ErrorKind) (words : List Text) (job : Wanted) → IsJob words job → IsAmong kind (fault_of altctl words) → ⊥

@@ -6,9 +6,12 @@ use Rattle.vm_disk.specs.declared.cached.CachedDisk.{CachedDisk}
 use Rattle.vm_disk.specs.declared.delayed.DelayedDisk.{DelayedDisk}
 use Rattle.vm_disk.specs.declared.disk.Disk.{Ghosts}
 use Rattle.vm_cli.specs.Caching.{IsNotServed, IsServed}
-use Rattle.vm_cli.specs.Exits.{TellsOn, refused_text, status_of}
+use Rattle.vm_cli.specs.Carried.{WritesStart}
+use Rattle.vm_cli.specs.Exits.{IsJob, TellsOn, refused_text, status_of, stopped_text}
 use Rattle.vm_cli.specs.Files.{Answers, Counts, Declines, Does, Draws, Makes}
 use Rattle.vm_cli.specs.Places.{PlaceState}
+use Rattle.vm_cli.specs.Words.{Wanted}
+use Rattle.vm_cli.specs.Words.Wanted.{check, draw}
 use Rattle.vm_cli.specs.declared.program.Exit.{Exit}
 use Rattle.vm_cli.specs.declared.program.Exit.TheVariants.{Refused, Stopped}
 use Rattle.vm_cli.specs.declared.program.task.InMemory.{InMemory}
@@ -77,9 +80,16 @@ module _ {P D : Type 0} (over : Disks D) (state : P → PlaceState) (denied : P 
       words exit (state place) (state place') input before after errors errors'
 
   -- a run of the program with these words gave this status: by the end that it came to, and what was said to the errors by then, which is
-  -- all but where the program stopped
+  -- all but where the program stopped: behind it, then, it was begun to say so
   abbrev pub RunsIn : {F : Type 0} → (P → ℕ) → List Text → ℕ → Option (List ℕ) → Option (List ℕ) → Option (List ℕ) → (F → Option (List ℕ)) → F → F → Type 0
   RunsIn {F} to_write words status input before after in_errors errors errors' =
       (state place').honest ≡ true
       → ((exit : Exit) × (said : F) × (status ≡ status_of exit) × (exit ≢ Stopped → said ≡ errors')
+      × (exit ≡ Stopped → WritesStart (in_errors said) (in_errors errors') stopped_text)
       × DoesIn to_write words exit input before after (in_errors errors) (in_errors said))
+
+-- on any place: words that ask for a check or a drawing have no file made or opened to be written, and words that ask for no job touch no file
+abbrev pub LooksOnly : {P : Type 0} → (P → ℕ) → P → P → List Text → Type 0
+LooksOnly to_write place place' words =
+    ((name : Text) → IsJob words (check name) ⊎ IsJob words (draw name) → to_write place' ≡ to_write place)
+    × (((job : Wanted) → IsJob words job → ⊥) → place' ≡ place)

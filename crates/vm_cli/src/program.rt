@@ -37,7 +37,7 @@ use words::job;
 pub enum Exit {
     /// All was done, though the store may have refused single lines.
     Done,
-    /// The file could not be made or opened, or is no store.
+    /// The file could not be made or opened, or its disk is refused.
     Refused,
     /// The words name no task.
     WrongWords,
@@ -69,7 +69,7 @@ ghost use Rattle.vm_cli.specs.Carried.{Begins, Gains};
 ghost use Rattle.vm_types.specs.declared.refusal.Refusal.{Refusal as RefusalValue};
 ghost use Rattle.vm_disk.specs.Between.{IfHonest};
 ghost use Rattle.vm_cli.specs.Told.{AnswersOver, FormatsOnly, MakesStore, TellsCount, TellsRefusal};
-ghost use Rattle.vm_cli.specs.Runs.{AnswersIn, CountsIn, DoesIn, MakesIn, RunsIn, disks};
+ghost use Rattle.vm_cli.specs.Runs.{AnswersIn, CountsIn, DoesIn, LooksOnly, MakesIn, RunsIn, disks};
 ghost use Rattle.vm_cli.specs.Sessions.{end_of as end_of_talk};
 ghost use Rattle.vm_cli.specs.Exits.{Blames, Checks, Ends, Helps, IsDone, IsLineRefused, IsRefused, IsStopped, IsWrong, JobEnds, RefusesOn, RefusesWords, StopsUnsaid, TalkEnds, TellsOn, counts_text, created_text, file_text, refused_text, status_of, stopped_text};
 ghost use Rattle.vm_cli.specs.Words.Wanted.{check as check_wanted, create as create_wanted, run as run_wanted};
@@ -91,6 +91,7 @@ pub fn run_words<P: Place, R: Read, W: Write, F: Write>(
     ensures stopped { result ≡ 3 → IsStopped W.contents F.contents (map string_bytes words.now) output.old output.new errors.old errors.new }
     ensures line_refused { result ≡ 4
         → IsLineRefused W.contents F.contents (map string_bytes words.now) errors.old errors.new }
+    ensures looks { LooksOnly P.to_write place.old place.new (map string_bytes words.now) }
     // As long as the place has kept its rules, and its disks theirs, the files are what the job makes of them. Where the program stopped
     // that is said to the errors behind what the job said.
     ensures files { RunsIn (disks P.D.Disk ⟦<CachedDisk<P::D> as Disk>⟧ ⟦<DelayedDisk<P::D> as Disk>⟧ ⟦<DelayedDisk<CachedDisk<P::D>> as Disk>⟧)
@@ -133,6 +134,7 @@ fn do_job<P: Place, R: Read, W: Write, F: Write>(
     errors: &mut F,
 ) -> Exit
     ensures ends { Ends W.contents F.contents result (map string_bytes words.now) output.old output.new errors.old errors.new }
+    ensures looks { LooksOnly P.to_write place.old place.new (map string_bytes words.now) }
     ensures files { (P.state place.new).honest ≡ true
         → DoesIn (disks P.D.Disk ⟦<CachedDisk<P::D> as Disk>⟧ ⟦<DelayedDisk<P::D> as Disk>⟧ ⟦<DelayedDisk<CachedDisk<P::D>> as Disk>⟧)
         P.state P.denied place.old place.new P.to_write (map string_bytes words.now) result

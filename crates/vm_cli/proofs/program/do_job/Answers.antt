@@ -4,7 +4,7 @@ use Rattle.clap.specs.Words.{kind_of}
 use Rattle.vm_cli.specs.Exits.{IsJob}
 use Rattle.vm_cli.specs.Words.Wanted.{check, create, do_lines, draw, run}
 use Rattle.vm_cli.proofs.ExitLemmas.{checked, drawn, help_or_mistake, helped, made, mistaken, no_memory, talked}
-use Rattle.vm_cli.proofs.FilesLemmas.{did_check, did_create, did_draw, did_lines, did_nothing, did_run, no_fault}
+use Rattle.vm_cli.proofs.FilesLemmas.{did_check, did_create, did_draw, did_lines, did_nothing, did_run, looks_for, no_fault}
 use Rattle.vm_cli.proofs.program.do_job.Goals as goal
 
 pub returns-in-Ok-Create-clause-ends : goal.returns-in-Ok-Create-clause-ends
@@ -96,3 +96,41 @@ returns-in-Err-clause-files g c honest =
       | inl memory ↦ (c.explain.ensures.memory memory).0
       | inr among ↦ absurd (no_fault (kind_of c.in-Err.error) words job asked among)
     ])
+
+pub returns-in-Ok-Create-clause-looks : goal.returns-in-Ok-Create-clause-looks
+returns-in-Ok-Create-clause-looks g c =
+    let words = map string_bytes c.args.words.now in
+    let e = rw c.in-Ok-Create.field-0-is at c.in-Ok-Create.ensures in
+    let job : IsJob words (create c.in-Ok-Create.file.now c.in-Ok-Create.blocks) = (e.faults, e.ok) in
+    looks_for g.P.Place.to_write _ _ words (create c.in-Ok-Create.file.now c.in-Ok-Create.blocks) job (λ name is. elim is [ inl same ↦ absurd cc | inr same ↦ absurd cc ])
+
+pub returns-in-Ok-Run-clause-looks : goal.returns-in-Ok-Run-clause-looks
+returns-in-Ok-Run-clause-looks g c =
+    let words = map string_bytes c.args.words.now in
+    let e = rw c.in-Ok-Run.field-0-is at c.in-Ok-Run.ensures in
+    let job : IsJob words (run c.in-Ok-Run.file.now c.in-Ok-Run.in_memory c.in-Ok-Run.on_refusal) = (e.faults, e.ok) in
+    looks_for g.P.Place.to_write _ _ words (run c.in-Ok-Run.file.now c.in-Ok-Run.in_memory c.in-Ok-Run.on_refusal) job (λ name is. elim is [ inl same ↦ absurd cc | inr same ↦ absurd cc ])
+
+pub returns-in-Ok-Do-clause-looks : goal.returns-in-Ok-Do-clause-looks
+returns-in-Ok-Do-clause-looks g c =
+    let words = map string_bytes c.args.words.now in
+    let e = rw c.in-Ok-Do.field-0-is at c.in-Ok-Do.ensures in
+    let job : IsJob words (do_lines c.in-Ok-Do.file.now c.in-Ok-Do.input.items c.in-Ok-Do.in_memory c.in-Ok-Do.on_refusal) = (e.faults, e.ok) in
+    looks_for g.P.Place.to_write _ _ words (do_lines c.in-Ok-Do.file.now c.in-Ok-Do.input.items c.in-Ok-Do.in_memory c.in-Ok-Do.on_refusal) job (λ name is. elim is [ inl same ↦ absurd cc | inr same ↦ absurd cc ])
+
+pub returns-in-Ok-Check-clause-looks : goal.returns-in-Ok-Check-clause-looks
+returns-in-Ok-Check-clause-looks g c =
+    let words = map string_bytes c.args.words.now in
+    let e = rw c.in-Ok-Check.field-0-is at c.in-Ok-Check.ensures in
+    let job : IsJob words (check c.in-Ok-Check.file.now) = (e.faults, e.ok) in
+    looks_for g.P.Place.to_write _ _ words (check c.in-Ok-Check.file.now) job (λ name is. c.check.ensures.reads)
+
+pub returns-in-Ok-Tree-clause-looks : goal.returns-in-Ok-Tree-clause-looks
+returns-in-Ok-Tree-clause-looks g c =
+    let words = map string_bytes c.args.words.now in
+    let e = rw c.in-Ok-Tree.field-0-is at c.in-Ok-Tree.ensures in
+    let job : IsJob words (draw c.in-Ok-Tree.file.now) = (e.faults, e.ok) in
+    looks_for g.P.Place.to_write _ _ words (draw c.in-Ok-Tree.file.now) job (λ name is. c.tree.ensures.reads)
+
+pub returns-in-Err-clause-looks : goal.returns-in-Err-clause-looks
+returns-in-Err-clause-looks g c = ((λ name looks. refl), (λ no. refl))

@@ -19,5 +19,6 @@ returns-in_default g c =
       wrong = λ is. subst (λ e. Ends g.W.Write.contents g.F.Write.contents e words c.args.output.now c.do_job.new.output c.args.errors.now c.do_job.new.errors) (is_wrong exit (sym status ∙ is)) ends;
       stopped = λ is. absurd (goes_on (is_stopped exit (sym status ∙ is)));
       line_refused = λ is. subst (λ e. Ends g.W.Write.contents g.F.Write.contents e words c.args.output.now c.do_job.new.output c.args.errors.now c.do_job.new.errors) (is_line_refused exit (sym status ∙ is)) ends;
-      files = λ honest. (exit, c.do_job.new.errors, status, (λ going. refl), c.do_job.ensures.files honest);
+      looks = c.do_job.ensures.looks;
+      files = λ honest. (exit, c.do_job.new.errors, status, (λ going. refl), (λ is. absurd (goes_on is)), c.do_job.ensures.files honest);
     }
