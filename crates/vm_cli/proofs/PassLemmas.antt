@@ -64,6 +64,7 @@ module _ {D : Type 0} {members : _} where
     marks = refl;
     before = refl;
     series = refl;
+    changes = refl;
     failed = refl;
   }
 

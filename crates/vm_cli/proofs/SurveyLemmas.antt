@@ -36,6 +36,7 @@ module _ {D : Type 0} {members : _} where
           marks = b.marks ∙ a.marks;
           before = b.before ∙ a.before;
           series = b.series ∙ a.series;
+          changes = b.changes ∙ a.changes;
           failed = b.failed ∙ a.failed;
         };
   }
