@@ -10,7 +10,7 @@ use Rattle.vm_alloc.proofs.HeldLemmas.{holds_same, taken_is_held}
 use Rattle.vm_block.specs.Leaf.{Record, Row, HasRows, IsShort, LinkFits, StoredFits, is_long, link_bytes, stored_bytes}
 use Rattle.vm_block.specs.declared.stored.Stored.{Stored}
 use Rattle.vm_block.specs.declared.stored.Stored.TheVariants.{Long}
-use Rattle.vm_tree.specs.declared.root.TreeFault.{TreeFault}
+use Rattle.vm_tree.specs.declared.faults.TreeFault.{TreeFault}
 use Rattle.vm_block.specs.Long.{IsLong}
 use Rattle.vm_block.specs.declared.stored.Link.{Link}
 use Rattle.vm_block.proofs.EachLemmas.{each_so, each_join}

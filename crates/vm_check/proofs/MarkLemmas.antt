@@ -24,7 +24,7 @@ use Rattle.vm_tree.specs.Reading.{IsNodeAt}
 use Rattle.vm_check.specs.Marking.{Joined, MarksMore, MarksOnly, ClosedTo, EachLink, LinkedBy, LinksTo, SparesLink, SparesLinks, unmarked}
 use Rattle.vm_check.specs.Form.{OkUnlessDevice}
 use Rattle.vm_tree.specs.Answers.{OkOrDevice}
-use Rattle.vm_tree.specs.declared.root.TreeFault.{TreeFault}
+use Rattle.vm_tree.specs.declared.faults.TreeFault.{TreeFault}
 use Rattle.vm_check.proofs.LinkLemmas.{beside_each, linked_at, links_so, links_within}
 use Rattle.vm_check.proofs.JoinLemmas.{LastOf, last_of, joined_front}
 

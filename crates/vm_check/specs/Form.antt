@@ -8,7 +8,7 @@ use Rattle.vm_block.specs.declared.node.Child.{Child}
 use Rattle.vm_tree.specs.Answers.{OkOrDevice}
 use Rattle.vm_tree.specs.Reading.{Finds, IsNodeAt}
 use Rattle.vm_tree.specs.Tree.{IsData}
-use Rattle.vm_tree.specs.declared.root.TreeFault.{TreeFault}
+use Rattle.vm_tree.specs.declared.faults.TreeFault.{TreeFault}
 use Rattle.vm_check.specs.declared.form.Form.{Form}
 use Rattle.vm_check.specs.declared.form.Form.TheVariants.{Leaf, Node}
 

@@ -9,7 +9,7 @@ use Rattle.vm_tree.specs.Tree.{Sizes, IsTree}
 use Rattle.vm_tree.specs.Answers.{Lists}
 use Rattle.vm_tree.specs.Root.{IsRooted}
 use Rattle.vm_tree.specs.declared.root.Root.{Root}
-use Rattle.vm_tree.specs.declared.root.TreeFault.{TreeFault}
+use Rattle.vm_tree.specs.declared.faults.ListFault.{ListFault}
 use Rattle.vm_check.specs.Marking.{unmarked}
 use Rattle.vm_check.specs.Suits.{SuitsAt}
 
@@ -36,7 +36,7 @@ pub record Found (long : Bool) (sizes : Sizes) (x : Contents) (limit : ℕ) (ns 
 
 -- where the disk is honest after the call, and each of the numbers has a tree, in blocks that a store may have, it is Ok,
 -- unless the device fails or no memory is found
-abbrev pub AcceptsTrees : {T : Type 0} → Result T TreeFault → Bool → Sizes → DiskState → DiskState → ℕ → List ℕ → Type 0
+abbrev pub AcceptsTrees : {T : Type 0} → Result T ListFault → Bool → Sizes → DiskState → DiskState → ℕ → List ℕ → Type 0
 AcceptsTrees result long sizes old new limit ns =
     new.honest ≡ true → HaveTrees (SuitsAt long old.now.contents) sizes old.now.contents limit ns → Lists result (λ _. Unit {0})
 

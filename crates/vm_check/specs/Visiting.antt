@@ -16,7 +16,7 @@ use Rattle.vm_tree.specs.Reading.{IsLongAt}
 use Rattle.vm_tree.specs.Tree.{Sizes, Children, IsTree, StandForAll, StandsFor, Subtree}
 use Rattle.vm_tree.specs.Root.{IsRooted, sizes_of}
 use Rattle.vm_tree.specs.declared.root.Root.{Root}
-use Rattle.vm_tree.specs.declared.root.TreeFault.{TreeFault}
+use Rattle.vm_tree.specs.declared.faults.TreeFault.{TreeFault}
 use Rattle.vm_check.specs.Form.{OkUnlessDevice}
 use Rattle.vm_check.specs.Suits.{Suits, SuitsAt}
 use Rattle.vm_check.specs.declared.verifying.Span.{Span}

@@ -22,8 +22,6 @@ pub(crate) enum Form {
 pub(crate) fn form_at<D: Disk>(disk: &mut D, blocks: u32, block: u32) -> Result<Form, TreeFault>
     requires { blocks ≤ (D.state disk.old).blocks }
     ensures looks { OnlyLooks result (D.state disk.old) (D.state disk.new) }
-    ensures deep { result ≢ Err TreeFault.Deep }
-    ensures memory { result ≢ Err TreeFault.Memory }
     ensures once { ReadsOne blocks block (D.state disk.old).reads (D.state disk.new).reads }
     ensures some { IfOk result IsFilled }
     ensures form { IfOk result (IsForm (D.hand disk.new)) }
@@ -52,8 +50,6 @@ pub(crate) fn node_at<D: Disk>(
 ) -> Result<usize, TreeFault>
     requires { blocks ≤ (D.state disk.old).blocks }
     ensures looks { OnlyLooks result (D.state disk.old) (D.state disk.new) }
-    ensures deep { result ≢ Err TreeFault.Deep }
-    ensures memory { result ≢ Err TreeFault.Memory }
     ensures once { ReadsOne blocks block (D.state disk.old).reads (D.state disk.new).reads }
     ensures few { IfOk result (λ count. count ≤ MAX_CHILDREN) }
     ensures form { IfOk result (λ count. IsNodeSize bytes.new (level, count)) }

@@ -32,8 +32,6 @@ fn mark_link(bytes: &[u8; 4096], blocks: u32, i: usize, marks: &mut Marks) -> Re
     requires row { i < MAX_ROWS }
     requires bits { length marks.old ≡ blocks }
     ensures device { result ≢ Err TreeFault.Device }
-    ensures deep { result ≢ Err TreeFault.Deep }
-    ensures memory { result ≢ Err TreeFault.Memory }
     ensures growing { HoldsMore marks.old marks.new }
     ensures fewer { unmarked marks.new ≤ unmarked marks.old }
     ensures marked { IfLeafRowAt bytes.now i (MarksLink result marks.new) }
@@ -60,8 +58,6 @@ fn mark_links(
 ) -> Result<(), TreeFault>
     requires bits { length marks.old ≡ blocks }
     ensures device { result ≢ Err TreeFault.Device }
-    ensures deep { result ≢ Err TreeFault.Deep }
-    ensures memory { result ≢ Err TreeFault.Memory }
     ensures growing { HoldsMore marks.old marks.new }
     ensures fewer { unmarked marks.new ≤ unmarked marks.old }
     ensures marked { IfHasRows bytes.now (MarksLinks result marks.new) }
@@ -88,8 +84,6 @@ fn mark_links_at<D: Disk>(
     requires inside { blocks ≤ (D.state (inner_of disk.old)).blocks }
     requires bits { length marks.old ≡ blocks }
     ensures looks { OnlyLooks result (D.state (inner_of disk.old)) (D.state (inner_of disk.new)) }
-    ensures deep { result ≢ Err TreeFault.Deep }
-    ensures memory { result ≢ Err TreeFault.Memory }
     ensures once { (D.state (inner_of disk.new)).reads ≤ (D.state (inner_of disk.old)).reads + 1 }
     ensures growing { HoldsMore marks.old marks.new }
     ensures fewer { unmarked marks.new ≤ unmarked marks.old }
@@ -121,8 +115,6 @@ fn mark_beside<D: Disk>(
     requires inside { blocks ≤ (D.state (inner_of disk.old)).blocks }
     requires bits { length marks.old ≡ blocks }
     ensures looks { OnlyLooks result (D.state (inner_of disk.old)) (D.state (inner_of disk.new)) }
-    ensures deep { result ≢ Err TreeFault.Deep }
-    ensures memory { result ≢ Err TreeFault.Memory }
     ensures once { (D.state (inner_of disk.new)).reads ≤ (D.state (inner_of disk.old)).reads + 1 }
     ensures unread { is_noted (notes_of disk.old) block ≡ true → disk.new ≡ disk.old }
     ensures growing { HoldsMore marks.old marks.new }
@@ -152,8 +144,6 @@ fn mark_leaf<D: Disk>(
     requires inside { blocks ≤ (D.state (inner_of disk.old)).blocks }
     requires bits { length marks.old ≡ blocks }
     ensures looks { OnlyLooks result (D.state (inner_of disk.old)) (D.state (inner_of disk.new)) }
-    ensures deep { result ≢ Err TreeFault.Deep }
-    ensures memory { result ≢ Err TreeFault.Memory }
     ensures once { PaysReads (D.state (inner_of disk.old))
         (D.state (inner_of disk.new)) marks.old marks.new }
     ensures growing { HoldsMore marks.old marks.new }
@@ -187,8 +177,6 @@ fn mark_node<D: Disk>(
     requires inner { 0 < level }
     requires bits { length marks.old ≡ blocks }
     ensures looks { OnlyLooks result (D.state (inner_of disk.old)) (D.state (inner_of disk.new)) }
-    ensures deep { result ≢ Err TreeFault.Deep }
-    ensures memory { result ≢ Err TreeFault.Memory }
     ensures once { PaysReads (D.state (inner_of disk.old))
         (D.state (inner_of disk.new)) marks.old marks.new }
     ensures growing { HoldsMore marks.old marks.new }
@@ -229,8 +217,6 @@ fn mark_below<D: Disk>(
     requires inside { blocks ≤ (D.state (inner_of disk.old)).blocks }
     requires bits { length marks.old ≡ blocks }
     ensures looks { OnlyLooks result (D.state (inner_of disk.old)) (D.state (inner_of disk.new)) }
-    ensures deep { result ≢ Err TreeFault.Deep }
-    ensures memory { result ≢ Err TreeFault.Memory }
     ensures once { PaysReads (D.state (inner_of disk.old))
         (D.state (inner_of disk.new)) marks.old marks.new }
     ensures growing { HoldsMore marks.old marks.new }
@@ -258,8 +244,6 @@ fn mark_root<D: Disk>(
     requires inside { blocks ≤ (D.state (inner_of disk.old)).blocks }
     requires bits { length marks.old ≡ blocks }
     ensures looks { OnlyLooks result (D.state (inner_of disk.old)) (D.state (inner_of disk.new)) }
-    ensures deep { result ≢ Err TreeFault.Deep }
-    ensures memory { result ≢ Err TreeFault.Memory }
     ensures once { PaysReads (D.state (inner_of disk.old))
         (D.state (inner_of disk.new)) marks.old marks.new }
     ensures growing { HoldsMore marks.old marks.new }
@@ -280,8 +264,7 @@ fn mark_root<D: Disk>(
 /// is not walked again, so for all to be marked the marks have to be closed: clear, or left by
 /// earlier calls.
 ///
-/// On trees it answers neither Damaged nor Deep nor Memory. Where the device fails, some of the
-/// blocks are marked.
+/// On trees it never answers Damaged. Where the device fails, some of the blocks are marked.
 pub fn mark<D: Disk>(
     disk: &mut NotedDisk<D>,
     roots: &[Root],
@@ -289,8 +272,6 @@ pub fn mark<D: Disk>(
 ) -> Result<(), TreeFault>
     requires { length marks.old ≤ (D.state (inner_of disk.old)).blocks }
     ensures looks { OnlyLooks result (D.state (inner_of disk.old)) (D.state (inner_of disk.new)) }
-    ensures deep { result ≢ Err TreeFault.Deep }
-    ensures memory { result ≢ Err TreeFault.Memory }
     ensures growing { HoldsMore marks.old marks.new }
 
     // For each block that it reads it marks a data block that was not marked.

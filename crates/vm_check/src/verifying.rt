@@ -4,7 +4,7 @@ ghost use Rattle.vm_alloc.specs.Held.{HoldsMore};
 ghost use Rattle.std.specs.List.{AllByRecursion};
 ghost use Rattle.vm_block.specs.Leaf.{BeginsWith};
 ghost use Rattle.vm_block.specs.Told.{IfHasRows, IfLeafRowAt};
-ghost use Rattle.vm_tree.specs.Calls.{OnlyLooks};
+ghost use Rattle.vm_tree.specs.Calls.{OnlyLists, OnlyLooks};
 ghost use Rattle.vm_tree.specs.Reading.{Finds};
 ghost use Rattle.vm_tree.specs.Root.{AreSizes, sizes_of};
 ghost use Rattle.vm_check.specs.Marking.{PaysJustReads};
@@ -19,7 +19,7 @@ use vm_block::{
     Link, MAX_CHILDREN, MAX_ROWS, Stored, child_at, is_long_leaf, lowest_key, record_key, stored_at,
 };
 use vm_disk::Disk;
-use vm_tree::{Root, TreeFault, is_data, long_at};
+use vm_tree::{ListFault, Root, TreeFault, is_data, long_at};
 use vm_types::{FIRST_DATA, Key, MAX_BLOCKS, MIN_BLOCKS};
 
 /// The level of the blocks of long values, above that of any inner block.
@@ -97,8 +97,6 @@ fn visit<D: Disk, const LEAF: usize, const FAN: usize>(
     requires room { length spans.old ≡ blocks }
     requires low { most ≤ 7 }
     ensures looks { OnlyLooks result (D.state disk.old) (D.state disk.new) }
-    ensures deep { result ≢ Err TreeFault.Deep }
-    ensures memory { result ≢ Err TreeFault.Memory }
     ensures once { PaysJustReads (D.state disk.old) (D.state disk.new) marks.old marks.new }
     ensures growing { HoldsMore marks.old marks.new }
     ensures found { Visits result long LEAF FAN (D.state disk.old) (D.state disk.new)
@@ -204,8 +202,6 @@ fn visit_long<D: Disk>(
     requires bits { length marks.old ≡ blocks }
     requires room { length spans.old ≡ blocks }
     ensures looks { OnlyLooks result (D.state disk.old) (D.state disk.new) }
-    ensures deep { result ≢ Err TreeFault.Deep }
-    ensures memory { result ≢ Err TreeFault.Memory }
     ensures once { PaysJustReads (D.state disk.old) (D.state disk.new) marks.old marks.new }
     ensures growing { HoldsMore marks.old marks.new }
     ensures found { VisitsLong result (D.state disk.old) (D.state disk.new)
@@ -250,8 +246,6 @@ fn visit_row<D: Disk>(
     requires bits { length marks.old ≡ blocks }
     requires room { length spans.old ≡ blocks }
     ensures looks { OnlyLooks result (D.state disk.old) (D.state disk.new) }
-    ensures deep { result ≢ Err TreeFault.Deep }
-    ensures memory { result ≢ Err TreeFault.Memory }
     ensures once { PaysJustReads (D.state disk.old) (D.state disk.new) marks.old marks.new }
     ensures growing { HoldsMore marks.old marks.new }
     ensures found { IfLeafRowAt bytes.now i (VisitsRow result (D.state disk.old) (D.state disk.new)
@@ -282,8 +276,6 @@ fn visit_rows<D: Disk>(
     requires bits { length marks.old ≡ blocks }
     requires room { length spans.old ≡ blocks }
     ensures looks { OnlyLooks result (D.state disk.old) (D.state disk.new) }
-    ensures deep { result ≢ Err TreeFault.Deep }
-    ensures memory { result ≢ Err TreeFault.Memory }
     ensures once { PaysJustReads (D.state disk.old) (D.state disk.new) marks.old marks.new }
     ensures growing { HoldsMore marks.old marks.new }
     ensures found { VisitsRows result (D.state disk.old) (D.state disk.new)
@@ -312,8 +304,6 @@ fn visit_beside<D: Disk>(
     requires bits { length marks.old ≡ blocks }
     requires room { length spans.old ≡ blocks }
     ensures looks { OnlyLooks result (D.state disk.old) (D.state disk.new) }
-    ensures deep { result ≢ Err TreeFault.Deep }
-    ensures memory { result ≢ Err TreeFault.Memory }
     ensures once { PaysJustReads (D.state disk.old) (D.state disk.new) marks.old marks.new }
     ensures growing { HoldsMore marks.old marks.new }
     ensures found { VisitsRows result (D.state disk.old) (D.state disk.new)
@@ -348,8 +338,6 @@ fn visit_children<D: Disk, const LEAF: usize, const FAN: usize>(
     requires few { count ≤ MAX_CHILDREN }
     requires low { level ≤ 7 }
     ensures looks { OnlyLooks result (D.state disk.old) (D.state disk.new) }
-    ensures deep { result ≢ Err TreeFault.Deep }
-    ensures memory { result ≢ Err TreeFault.Memory }
     ensures once { PaysJustReads (D.state disk.old) (D.state disk.new) marks.old marks.new }
     ensures growing { HoldsMore marks.old marks.new }
     ensures found { VisitsChildren result long LEAF FAN (D.state disk.old) (D.state disk.new)
@@ -397,20 +385,19 @@ fn is_below_next(high: Key, bytes: &[u8; 4096], count: usize, i: usize) -> bool
 /// Where a number has no tree, or a tree has a leaf that is not allowed, it answers Damaged, with
 /// the first block of the walk that is wrong: for such a leaf its own number, and not that of a
 /// long value. It answers Device, where the device failed; and Memory, where none was found for the
-/// roots, the marks, and 24 bytes for each block of the store. It never answers Deep.
+/// roots, the marks, and 24 bytes for each block of the store.
 pub fn verify<D: Disk, const LEAF: usize, const FAN: usize, const LEVELS: usize>(
     alloc: Global,
     disk: &mut D,
     blocks: u32,
     long: bool,
     numbers: &[u32],
-) -> Result<(Vec<Root>, Marks), TreeFault>
+) -> Result<(Vec<Root>, Marks), ListFault>
     requires sizes { AreSizes LEAF FAN LEVELS }
     requires enough { MIN_BLOCKS ≤ blocks }
     requires few { blocks ≤ MAX_BLOCKS }
     requires inside { blocks ≤ (D.state disk.old).blocks }
-    ensures looks { OnlyLooks result (D.state disk.old) (D.state disk.new) }
-    ensures deep { result ≢ Err TreeFault.Deep }
+    ensures looks { OnlyLists result (D.state disk.old) (D.state disk.new) }
 
     // On any disk there is a flag for each block, and a root for each number.
     ensures count { IfOk result (λ found. length found.1 ≡ blocks) }
@@ -434,7 +421,7 @@ pub fn verify<D: Disk, const LEAF: usize, const FAN: usize, const LEVELS: usize>
         Marks::new(alloc, blocks),
         vec![in alloc; Met::default(); blocks as usize],
     ) else {
-        return Err(TreeFault::Memory);
+        return Err(ListFault::Memory);
     };
     let spans = spans.as_mut_slice();
     let mut roots = Vec::new(alloc);
@@ -444,7 +431,7 @@ pub fn verify<D: Disk, const LEAF: usize, const FAN: usize, const LEVELS: usize>
         )?;
         match roots.push(root) {
             Ok(()) => {}
-            Err(_) => return Err(TreeFault::Memory),
+            Err(_) => return Err(ListFault::Memory),
         }
     }
     Ok((roots, marks))
@@ -464,8 +451,6 @@ fn visit_root<D: Disk, const LEAF: usize, const FAN: usize, const LEVELS: usize>
     requires bits { length marks.old ≡ blocks }
     requires room { length spans.old ≡ blocks }
     ensures looks { OnlyLooks result (D.state disk.old) (D.state disk.new) }
-    ensures deep { result ≢ Err TreeFault.Deep }
-    ensures memory { result ≢ Err TreeFault.Memory }
     ensures once { PaysJustReads (D.state disk.old) (D.state disk.new) marks.old marks.new }
     ensures count { length marks.new ≡ blocks }
     ensures named { IfOk result (λ root. root.block ≡ number) }

@@ -6,13 +6,13 @@ use Rattle.vm_types.specs.Map.{Map, delta}
 use Rattle.vm_disk.specs.Disk.{DiskState, Contents, Medium}
 use Rattle.vm_disk.proofs.MomentLemmas.{same_medium}
 use Rattle.vm_tree.specs.Tree.{Sizes, Subtree}
-use Rattle.vm_tree.specs.Calls.{OnlyLooks}
+use Rattle.vm_tree.specs.Calls.{Looks}
 use Rattle.vm_tree.proofs.TreeLemmas.{subtree_one}
 use Rattle.vm_tree.proofs.Looking.{looks_on}
 use Rattle.vm_tree.specs.Root.{IsRooted}
 use Rattle.vm_tree.specs.declared.root.Root.{Root}
-use Rattle.vm_tree.specs.declared.root.TreeFault.{TreeFault}
-use Rattle.vm_tree.specs.declared.root.TreeFault.TheVariants.{Device}
+use Rattle.vm_tree.specs.declared.faults.TreeFault.{TreeFault}
+use Rattle.vm_tree.specs.declared.faults.TreeFault.TheVariants.{Device}
 use Rattle.vm_tree.proofs.Descent.{subtree_top, node_read}
 use Rattle.vm_tree.proofs.RootLemmas.{subtree_keys}
 use Rattle.vm_diff.specs.Walk.{Walk, IsAhead}
@@ -74,7 +74,7 @@ none_left (x ∷ xs) ys e = cc
 
 -- so many differences were found on the way from two walks to two others, by reads alone
 pub record Compares (old new : DiskState) (limit : ℕ) (one_first other_first one other : Walk) (found : List Change) : Type 0 where
-  pub looks : OnlyLooks {T = Unit {0}} (Ok tt) old new
+  pub looks : Looks ⊥ old new
   pub left : new.honest ≡ true → (sizes : Sizes) (most : ℕ) (changes : List Change) → Differ sizes old.now.contents limit one_first other_first old.reads most changes
       → (rest : List Change) × (changes ≡ found ++ rest) × Differ sizes old.now.contents limit one other new.reads most rest
 
@@ -107,18 +107,18 @@ module _ (old mid new : DiskState) (back : new.honest ≡ true → mid.honest �
   step_is : (step is_step : Step) (one_now other_now : Walk) (reads : ℕ) → step ≡ is_step → Steps (Ok step) one_now other_now reads → Steps (Ok is_step) one_now other_now reads
   step_is step is_step one_now other_now reads is steps = subst (λ (s : Step). Steps (Ok s) one_now other_now reads) is steps
 
-  pub compares_more : {T : Type 0} {answer : Result T TreeFault} (one_now other_now : Walk) (step : Step) → step ≡ Moved → OnlyLooks answer mid new → Steps (Ok step) one_now other_now new.reads
+  pub compares_more : {fails : Type 0} (one_now other_now : Walk) (step : Step) → step ≡ Moved → Looks fails mid new → Steps (Ok step) one_now other_now new.reads
       → Compares old new limit one_first other_first one_now other_now found
   compares_more one_now other_now step is looks steps = record {
-    looks = looks_on so_far.looks looks (λ is. cc);
+    looks = looks_on so_far.looks looks (λ is. absurd is);
     left = next_step (Ok Moved) one_now other_now new.reads (step_is step Moved one_now other_now new.reads is steps);
   }
 
-  pub compares_found : {T : Type 0} {answer : Result T TreeFault} (one_mid other_mid one_now other_now : Walk) (step : Step) (key : Key) (change : Change) → step ≡ Found key → OnlyLooks answer mid new → Steps (Ok step) one_mid other_mid new.reads
+  pub compares_found : {fails : Type 0} (one_mid other_mid one_now other_now : Walk) (step : Step) (key : Key) (change : Change) → step ≡ Found key → Looks fails mid new → Steps (Ok step) one_mid other_mid new.reads
       → ((sizes : Sizes) (x : Contents) (limit reads most : ℕ) (changes : List Change) → Differ sizes x limit one_mid other_mid reads most changes → (rest : List Change) × (changes ≡ change ∷ rest) × Differ sizes x limit one_now other_now reads most rest)
       → Compares old new limit one_first other_first one_now other_now (found ++ change ∷ [])
   compares_found one_mid other_mid one_now other_now step key change is looks steps takes = record {
-    looks = looks_on so_far.looks looks (λ is. cc);
+    looks = looks_on so_far.looks looks (λ is. absurd is);
     left = λ honest sizes most changes d.
         let n = next_step (Ok (Found key)) one_mid other_mid new.reads (step_is step (Found key) one_mid other_mid new.reads is steps) honest sizes most changes d in
         let t = takes sizes old.now.contents limit new.reads most n.0 n.2 in

@@ -8,11 +8,10 @@ use Rattle.vm_block.specs.declared.stored.Link.{Link}
 use Rattle.vm_block.specs.Node.{IsNode}
 use Rattle.vm_block.specs.declared.node.Child.{Child}
 use Rattle.vm_tree.specs.Tree.{Sizes, Children, Subtree}
-use Rattle.vm_types.specs.Bytes.{longest}
 use Rattle.vm_tree.specs.Reading.{IsLongAt, IsNodeAt}
 use Rattle.vm_tree.specs.Answers.{OkOrDevice}
 use Rattle.vm_tree.specs.declared.root.Root.{Root}
-use Rattle.vm_tree.specs.declared.root.TreeFault.{TreeFault}
+use Rattle.vm_tree.specs.declared.faults.TreeFault.{TreeFault}
 use Rattle.vm_tree.proofs.TreeLemmas.{leaf_opens, node_opens}
 use Rattle.vm_diff.specs.Walk.{Walk, IsAhead, Under, size, tops_of, weight, weight_of}
 use Rattle.vm_diff.specs.Front.{first_of, front_of}

@@ -16,7 +16,7 @@ use Rattle.vm_block.proofs.LongLemmas.{long_one}
 use Rattle.vm_tree.specs.Tree.{Sizes, Subtree as LiesUnder}
 use Rattle.vm_tree.specs.Answers.{OkOrDevice}
 use Rattle.vm_tree.specs.declared.root.Root.{Root}
-use Rattle.vm_tree.specs.declared.root.TreeFault.{TreeFault}
+use Rattle.vm_tree.specs.declared.faults.TreeFault.{TreeFault}
 use Rattle.vm_tree.specs.Replacing.{Lacks}
 use Rattle.vm_tree.proofs.TreeLemmas.{subtree_one}
 use Rattle.vm_tree.proofs.ApartLemmas.{all_above}

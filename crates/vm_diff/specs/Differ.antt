@@ -10,7 +10,8 @@ use Rattle.vm_tree.specs.Tree.{Sizes}
 use Rattle.vm_tree.specs.Answers.{Lists, OkOrDevice}
 use Rattle.vm_tree.specs.Root.{IsRooted}
 use Rattle.vm_tree.specs.declared.root.Root.{Root}
-use Rattle.vm_tree.specs.declared.root.TreeFault.{TreeFault}
+use Rattle.vm_tree.specs.declared.faults.ListFault.{ListFault}
+use Rattle.vm_tree.specs.declared.faults.TreeFault.{TreeFault}
 use Rattle.vm_diff.specs.Front.{Front, opened_at}
 use Rattle.vm_diff.specs.Opened.{HasNoValue, HasValue}
 use Rattle.vm_diff.specs.Shared.{unshared}
@@ -58,7 +59,7 @@ IfDiffer old new limit one other P =
     new.honest ≡ true → (sizes : Sizes) (most : ℕ) (changes : List Change) → Differ sizes old.now.contents limit one other old.reads most changes → P sizes most changes
 
 -- the differences of both maps are given, unless the device fails or no memory is found
-abbrev pub GivesChanges : Result (List Change) TreeFault → DiskState → DiskState → ℕ → Root → Root → Type 0
+abbrev pub GivesChanges : Result (List Change) ListFault → DiskState → DiskState → ℕ → Root → Root → Type 0
 GivesChanges result old new limit first second = OnMaps old new limit first second (λ m n bs cs. Lists result (λ changes. changes ≡ delta m n))
 
 -- whether both maps are equal is told, unless the device fails

@@ -13,9 +13,8 @@ use Rattle.vm_block.specs.declared.node.Child.{Child}
 use Rattle.vm_tree.specs.Answers.{OkOrDevice}
 use Rattle.vm_tree.specs.Reading.{IsLongAt, IsNodeAt}
 use Rattle.vm_tree.specs.Tree.{IsData}
-use Rattle.vm_types.specs.Bytes.{longest}
 use Rattle.vm_tree.specs.declared.root.Root.{Root}
-use Rattle.vm_tree.specs.declared.root.TreeFault.{TreeFault}
+use Rattle.vm_tree.specs.declared.faults.TreeFault.{TreeFault}
 use Rattle.vm_block.specs.Long.{IsLong}
 use Rattle.vm_diff.specs.Front.{first_of, front_of, next_of}
 use Rattle.vm_diff.specs.Front.Front.{Pair}

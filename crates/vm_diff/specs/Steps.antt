@@ -4,8 +4,8 @@ use Rattle.std.specs.Str.{bytes_eq}
 use Rattle.vm_types.specs.declared.key.Key.{Key}
 use Rattle.vm_types.specs.Places.{place}
 use Rattle.vm_types.specs.declared.change.Change.{Change}
-use Rattle.vm_tree.specs.declared.root.TreeFault.{TreeFault}
-use Rattle.vm_tree.specs.declared.root.TreeFault.TheVariants.{Device}
+use Rattle.vm_tree.specs.declared.faults.TreeFault.{TreeFault}
+use Rattle.vm_tree.specs.declared.faults.TreeFault.TheVariants.{Device}
 use Rattle.vm_diff.specs.Front.{Front, place_of}
 use Rattle.vm_diff.specs.Front.Front.{Pair}
 use Rattle.vm_diff.specs.declared.front.Step.{Step}

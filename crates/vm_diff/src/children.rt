@@ -100,8 +100,6 @@ impl Children {
     ) -> Result<(), TreeFault>
         requires { blocks ≤ (D.state disk.old).blocks }
         ensures looks { OnlyLooks result (D.state disk.old) (D.state disk.new) }
-        ensures deep { result ≢ Err TreeFault.Deep }
-        ensures memory { result ≢ Err TreeFault.Memory }
         ensures once { (D.state disk.new).reads ≤ (D.state disk.old).reads + 1 }
         ensures few { OnOk result (length self.new ≤ MAX_CHILDREN) }
         ensures only { HoldsNode result (D.state disk.old) (D.state disk.new)

@@ -1,6 +1,6 @@
 //! Where two maps differ.
 ghost use Rattle.std.specs.Prelude.{◌≡◌, ◌≢◌, ◌≤◌};
-ghost use Rattle.vm_tree.specs.Calls.{OnlyLooks};
+ghost use Rattle.vm_tree.specs.Calls.{OnlyLists, OnlyLooks};
 ghost use Rattle.vm_diff.specs.Differ.{GivesChanges, ReadsUnshared, TellsEqual};
 
 use crate::cursor::Cursor;
@@ -8,7 +8,7 @@ use crate::front::Step;
 use crate::stepping::{pass_change, step};
 use std::alloc::Global;
 use vm_disk::Disk;
-use vm_tree::{Root, TreeFault};
+use vm_tree::{ListFault, Root, TreeFault};
 use vm_types::Changes;
 
 /// Where the map under the second root differs from the one under the first: each such key once, in
@@ -19,10 +19,9 @@ pub fn changed<D: Disk>(
     blocks: u32,
     first: Root,
     second: Root,
-) -> Result<Changes, TreeFault>
+) -> Result<Changes, ListFault>
     requires { blocks ≤ (D.state disk.old).blocks }
-    ensures looks { OnlyLooks result (D.state disk.old) (D.state disk.new) }
-    ensures deep { result ≢ Err TreeFault.Deep }
+    ensures looks { OnlyLists result (D.state disk.old) (D.state disk.new) }
 
     // On trees it is just the differences of their maps, whatever the sizes of their blocks, unless
     // the device fails or no memory is found.
@@ -47,21 +46,20 @@ fn changed_between<D: Disk>(
     blocks: u32,
     first: Root,
     second: Root,
-) -> Result<Changes, TreeFault>
+) -> Result<Changes, ListFault>
     requires { blocks ≤ (D.state disk.old).blocks }
-    ensures looks { OnlyLooks result (D.state disk.old) (D.state disk.new) }
-    ensures deep { result ≢ Err TreeFault.Deep }
+    ensures looks { OnlyLists result (D.state disk.old) (D.state disk.new) }
     ensures changes { GivesChanges result (D.state disk.old) (D.state disk.new)
         blocks first second }
     ensures bound { ReadsUnshared (D.state disk.old) (D.state disk.new) blocks first second }
 {
     let mut one = Cursor::empty();
     if !one.begin(first) {
-        return Err(TreeFault::Damaged(first.block));
+        return Err(ListFault::Tree(TreeFault::Damaged(first.block)));
     }
     let mut other = Cursor::empty();
     if !other.begin(second) {
-        return Err(TreeFault::Damaged(second.block));
+        return Err(ListFault::Tree(TreeFault::Damaged(second.block)));
     }
     let mut changes = Changes::new(alloc);
     'steps: loop {
@@ -70,10 +68,7 @@ fn changed_between<D: Disk>(
             Step::Done => return Ok(changes),
             Step::Moved => {}
             Step::Found(key) => {
-                match changes.push(key, one.value_at(key), other.value_at(key)) {
-                    Ok(()) => {}
-                    Err(_) => return Err(TreeFault::Memory),
-                }
+                changes.push(key, one.value_at(key), other.value_at(key))?;
                 pass_change(&mut one, &mut other, key);
             }
         }
@@ -89,8 +84,6 @@ pub fn same<D: Disk>(
 ) -> Result<bool, TreeFault>
     requires { blocks ≤ (D.state disk.old).blocks }
     ensures looks { OnlyLooks result (D.state disk.old) (D.state disk.new) }
-    ensures deep { result ≢ Err TreeFault.Deep }
-    ensures memory { result ≢ Err TreeFault.Memory }
 
     // On trees it tells whether their maps differ nowhere, whatever the sizes of their blocks, unless
     // the device fails.
@@ -115,8 +108,6 @@ fn same_between<D: Disk>(
 ) -> Result<bool, TreeFault>
     requires { blocks ≤ (D.state disk.old).blocks }
     ensures looks { OnlyLooks result (D.state disk.old) (D.state disk.new) }
-    ensures deep { result ≢ Err TreeFault.Deep }
-    ensures memory { result ≢ Err TreeFault.Memory }
     ensures equal { TellsEqual result (D.state disk.old) (D.state disk.new) blocks first second }
     ensures bound { ReadsUnshared (D.state disk.old) (D.state disk.new) blocks first second }
 {

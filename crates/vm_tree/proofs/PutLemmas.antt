@@ -16,13 +16,15 @@ use Rattle.vm_tree.specs.Tree.{Sizes, Children, Subtree}
 use Rattle.vm_tree.specs.Answers.{OkOrDevice}
 use Rattle.vm_tree.specs.Making.{Made, PutsBelow, Splits, children_of, is_split}
 use Rattle.vm_tree.specs.Reading.{IsNodeAt}
-use Rattle.vm_tree.specs.declared.root.TreeFault.{TreeFault}
-use Rattle.vm_tree.specs.declared.root.TreeFault.TheVariants.{Device, Damaged, Deep, Memory}
+use Rattle.vm_tree.specs.declared.faults.TreeFault.{TreeFault}
+use Rattle.vm_tree.specs.declared.faults.TreeFault.TheVariants.{Device, Damaged}
+use Rattle.vm_tree.specs.declared.faults.PutFault.{PutFault}
+use Rattle.vm_tree.specs.declared.faults.PutFault.TheVariants as put
 use Rattle.vm_tree.specs.declared.writing.Copied.{Copied}
 use Rattle.vm_tree.specs.declared.writing.Copied.TheVariants.{One, Two}
-use Rattle.vm_tree.specs.Replacing.{IsPathIn, IsRenewed, KeepsBeside, Replaces}
+use Rattle.vm_tree.specs.Replacing.{IsPathIn, IsRenewed, Replaces}
 use Rattle.vm_tree.proofs.TreeLemmas.{subtree_in, LeafAt}
-use Rattle.vm_tree.proofs.Beside.{if_ok_where, left_renewed, own_held, own_keeps, right_renewed}
+use Rattle.vm_tree.proofs.Beside.{left_renewed, own_held, own_keeps, right_renewed}
 use Rattle.vm_tree.proofs.Descent.{Opened, opens}
 use Rattle.vm_tree.proofs.FullPaths.{leaf_splits, splits_leaf, node_splits, splits_node}
 use Rattle.vm_tree.proofs.Growing.{made_join, made_moved}
@@ -37,27 +39,19 @@ not_split copied sizes x p l b rs splits there =
     elim (cases_Bool (is_split copied)) [ inl two ↦ absurd (there (splits two).absent) | inr one ↦ one ]
 
 -- what was written is answered, where it was split just where it should
-pub below_answers : (result : Result Copied TreeFault) (splits over : Type 0) (Q : Copied → Type 0) (P : List Child → Type 0)
-    → OkOrDevice result Q → IfOk result (λ copied. (is_split copied ≡ true) ↔ over) → over ↔ splits → IfOk result (λ copied. P (children_of copied)) → PutsBelow result splits P
-below_answers (Ok copied) splits over Q P fine split both made = (made, (λ is. both.0 (split.0 is), λ s. split.1 (both.1 s)))
-below_answers (Err Device) splits over Q P fine split both made = tt
-below_answers (Err (Damaged b)) splits over Q P fine split both made = cc
-below_answers (Err Deep) splits over Q P fine split both made = cc
-below_answers (Err Memory) splits over Q P fine split both made = cc
+pub below_answers : (copied : Copied) (splits over : Type 0) (P : List Child → Type 0) → (is_split copied ≡ true) ↔ over → over ↔ splits → P (children_of copied) → PutsBelow (Ok copied) splits P
+below_answers copied splits over P split both made = (made, (λ is. both.0 (split.0 is), λ s. split.1 (both.1 s)))
 
 -- the device failed
-pub device_below : (e : TreeFault) (splits : Type 0) (P : List Child → Type 0) → e ≡ Device → PutsBelow (Err e) splits P
+pub device_below : (e : TreeFault) (splits : Type 0) (P : List Child → Type 0) → e ≡ Device → PutsBelow (Err (put.Tree e)) splits P
 device_below Device splits P is = tt
 device_below (Damaged b) splits P is = cc
-device_below Deep splits P is = cc
-device_below Memory splits P is = cc
 
 -- a fault is passed on
-pub fault_below : (e : TreeFault) (splits above : Type 0) (P Q : List Child → Type 0) → PutsBelow (Err e) splits P → (e ≡ Deep → splits → above) → PutsBelow (Err e) above Q
-fault_below Device splits above P Q fault so = tt
-fault_below (Damaged b) splits above P Q fault so = fault
-fault_below Deep splits above P Q fault so = so refl fault
-fault_below Memory splits above P Q fault so = fault
+pub fault_below : (e : PutFault) (splits above : Type 0) (P Q : List Child → Type 0) → PutsBelow (Err e) splits P → (e ≡ put.Deep → splits → above) → PutsBelow (Err e) above Q
+fault_below (put.Tree Device) splits above P Q fault so = tt
+fault_below (put.Tree (Damaged b)) splits above P Q fault so = fault
+fault_below put.Deep splits above P Q fault so = so refl fault
 
 -- a value was answered, or the device failed
 pub ok_if : {T : Type 0} (result : Result T TreeFault) (Q : T → Type 0) → OkOrDevice result Q → IfOk result Q
@@ -69,13 +63,13 @@ pub only_one : (x : Contents) (limit level b most : ℕ) (cs : List Child) → I
 only_one x limit level b most cs at ds other few = (node_one (block x b) level level cs ds at.node other.node).1
 
 -- a leaf, with one record more
-pub leaf_put : (sizes : Sizes) (x : Contents) (limit b : ℕ) (r : Record) (rs : List Record) (bs : List ℕ) (lent : List Record) (result : Result Copied TreeFault) (Q : Copied → Type 0) (P : List Child → List Record → Type 0)
-    → LeafAt sizes x limit b rs bs → RisesFrom 0 (places rs) → lent ≡ with_record r rs → OkOrDevice result Q → IfOk result (λ copied. (is_split copied ≡ true) ↔ (sizes.leaf < length lent))
-    → IfOk result (λ copied. P (children_of copied) lent) → PutsBelow result (Splits sizes x (place r.0) 0 b rs) (λ cs. P cs (with_record r rs))
-leaf_put sizes x limit b r rs bs lent result Q P at rises is fine split made =
-    below_answers result (Splits sizes x (place r.0) 0 b rs) (sizes.leaf < length lent) Q (λ cs. P cs (with_record r rs)) fine split
+pub leaf_put : (sizes : Sizes) (x : Contents) (limit b : ℕ) (r : Record) (rs : List Record) (bs : List ℕ) (lent : List Record) (copied : Copied) (P : List Child → List Record → Type 0)
+    → LeafAt sizes x limit b rs bs → RisesFrom 0 (places rs) → lent ≡ with_record r rs → (is_split copied ≡ true) ↔ (sizes.leaf < length lent)
+    → P (children_of copied) lent → PutsBelow (Ok copied) (Splits sizes x (place r.0) 0 b rs) (λ cs. P cs (with_record r rs))
+leaf_put sizes x limit b r rs bs lent copied P at rises is split made =
+    below_answers copied (Splits sizes x (place r.0) 0 b rs) (sizes.leaf < length lent) (λ cs. P cs (with_record r rs)) split
     (λ over. leaf_splits sizes x limit b r rs bs at rises (omega (arith, ap length is)), λ splits. let over = splits_leaf sizes x limit b r rs bs at splits in omega (arith, ap length is, over))
-    (subst (λ (qs : List Record). IfOk result (λ copied. P (children_of copied) qs)) is made)
+    (subst (P (children_of copied)) is made)
 
 -- the chosen child replaced by what was made in its place
 pub replaced_made : (P Q : ℕ → Type 0) (sizes : Sizes) (x y : Contents) (limit level b p : ℕ) (rs : List Record) (bs : List ℕ) (cs : List Child) (i : ℕ) (d : Child) → ((n : ℕ) → P n → block y n ≡ block x n) → ((n : ℕ) → P n → Q n)
@@ -107,12 +101,12 @@ replaced_length cs now i lt =
 module _ (sizes : Sizes) (old mid : Medium) (limit level b : ℕ) (r : Record) (rs : List Record) (bs : List ℕ) (cs : List Child) (i : ℕ) (d : Child) (still : mid ≡ old) (above : 0 < level)
     (tree : Subtree sizes old.contents limit level b rs bs) (rises : RisesFrom 0 (places rs)) (only : (ds : List Child) → IsNodeAt old.contents limit level b ds → length ds ≤ sizes.fan → cs ≡ ds) (chosen : IsChosen (lows cs) (place r.0) i) where
   -- what is asked of a Put under the chosen child
-  abbrev pub Asked : Result Copied TreeFault → (List Child → List Record → List ℕ → Type 0) → Type 0
+  abbrev pub Asked : Result Copied PutFault → (List Child → List Record → List ℕ → Type 0) → Type 0
   Asked result M = (sub : List Record) (own : List ℕ) → Subtree sizes mid.contents limit (level - 1) (get_or cs i d).block sub own → BeginsWith (get_or cs i d).low sub → RisesFrom 0 (places sub)
       → PutsBelow result (Splits sizes mid.contents (place r.0) (level - 1) (get_or cs i d).block sub) (λ ds. M ds (with_record r sub) own)
 
   -- what is answered of a child is asked where a descent takes that child
-  pub asked_of : (c : Child) (result : Result Copied TreeFault) (M : List Child → List Record → List ℕ → Type 0) → get_or cs i d ≡ c
+  pub asked_of : (c : Child) (result : Result Copied PutFault) (M : List Child → List Record → List ℕ → Type 0) → get_or cs i d ≡ c
       → ((sub : List Record) (own : List ℕ) → Subtree sizes mid.contents limit (level - 1) c.block sub own → BeginsWith c.low sub → RisesFrom 0 (places sub)
       → PutsBelow result (Splits sizes mid.contents (place r.0) (level - 1) c.block sub) (λ ds. M ds (with_record r sub) own))
       → Asked result M
@@ -132,18 +126,18 @@ module _ (sizes : Sizes) (old mid : Medium) (limit level b : ℕ) (r : Record) (
       below s.sub s.own (subst (λ (e : Child). Subtree sizes mid.contents limit (level - 1) e.block s.sub s.own) is child) (subst (λ (e : Child). BeginsWith e.low s.sub) is s.begins) at.way.rising (λ none. there (value ∙ none))
 
   -- an inner block, with the chosen child written anew
-  pub node_put : (before between later : List Bool) (path under : List ℕ) (x2 x3 : Contents) (other : ℕ) (copied : Copied) (lent : List Child) (result : Result Copied TreeFault) (Q : Copied → Type 0)
+  pub node_put : (before between later : List Bool) (path under : List ℕ) (x2 x3 : Contents) (other : ℕ) (copied : Copied) (lent : List Child) (done : Copied)
       → other ≡ limit → path ≡ under ++ (b ∷ [])
       → (e : Child) → get_or cs i d ≡ e
       → ((sub : List Record) (own : List ℕ) → Subtree sizes mid.contents limit (level - 1) e.block sub own → BeginsWith e.low sub → RisesFrom 0 (places sub) → IsPathIn under own)
       → Asked (Ok copied) (λ ds qs own. Replaces before between under own (λ P. Made P sizes x2 limit (level - 1) ds qs))
       → ((n : ℕ) → IsHeld before n → block x2 n ≡ block mid.contents n) → HoldsMore before between
       → lent ≡ take i cs ++ (children_of copied ++ drop (i + 1) cs)
-      → OkOrDevice result Q → IfOk result (λ c. (is_split c ≡ true) ↔ (sizes.fan < length lent))
+      → (is_split done ≡ true) ↔ (sizes.fan < length lent)
       → ((keep : ℕ → Bool) (qs : List Record) → RisesFrom 0 (places qs) → Made (IsRenewed before between keep) sizes x2 other (level - 1) lent qs
-      → IfOk result (λ c. Made (IsRenewed before later keep) sizes x3 other level (children_of c) qs))
-      → PutsBelow result (Splits sizes old.contents (place r.0) level b rs) (λ ds. Replaces before later path bs (λ P. Made P sizes x3 limit level ds (with_record r rs)))
-  node_put before between later path under x2 x3 other copied lent result Q limits grown e taken inside below same more is fine split made =
+      → Made (IsRenewed before later keep) sizes x3 other level (children_of done) qs)
+      → PutsBelow (Ok done) (Splits sizes old.contents (place r.0) level b rs) (λ ds. Replaces before later path bs (λ P. Made P sizes x3 limit level ds (with_record r rs)))
+  node_put before between later path under x2 x3 other copied lent done limits grown e taken inside below same more is split made =
       let p = place r.0 in
       let at = opens sizes old.contents limit level b p rs bs cs i d above tree rises only chosen in
       let s = at.way.split in
@@ -153,7 +147,7 @@ module _ (sizes : Sizes) (old mid : Medium) (limit level b : ℕ) (r : Record) (
       let there = λ (splits : Splits sizes old.contents p (level - 1) (get_or cs i d).block s.sub). subst (λ (m : Medium). Splits sizes m.contents p (level - 1) (get_or cs i d).block s.sub) (sym still) splits in
       let within : i < length cs = omega (arith, chosen.within, length-map cs (λ (c : Child). place c.low)) in
       let count = replaced_length cs (children_of copied) i within in
-      below_answers result (Splits sizes old.contents p level b rs) (sizes.fan < length lent) Q (λ ds. Replaces before later path bs (λ P. Made P sizes x3 limit level ds (with_record r rs))) fine split (
+      below_answers done (Splits sizes old.contents p level b rs) (sizes.fan < length lent) (λ ds. Replaces before later path bs (λ P. Made P sizes x3 limit level ds (with_record r rs))) split (
         λ over. elim (cases_Bool (is_split copied)) [
           | inl two ↦ node_splits sizes old.contents limit level b p rs bs cs i d above at chosen (omega (arith, count, ap length is, (count_of copied).0 two)) (here (got.1.0 two))
           | inr one ↦ absurd (omega (arith, count, ap length is, (count_of copied).1 one, at.few))
@@ -161,7 +155,6 @@ module _ (sizes : Sizes) (old mid : Medium) (limit level b : ℕ) (r : Record) (
         λ splits. let parts = splits_node sizes old.contents limit level b p rs bs cs i d above at chosen splits in
             omega (arith, count, ap length is, (count_of copied).0 (got.1.1 (there parts.1)), parts.0),
       )
-      (if_ok_where result (λ keep. AllByRecursion (IsHeld before) bs) (λ keep. KeepsBeside path keep bs) (λ c keep. Made (IsRenewed before later keep) sizes x3 limit level (children_of c) (with_record r rs))
       (λ keep all keeps.
       let within = inside s.sub s.own (subst (λ (z : Child). Subtree sizes mid.contents limit (level - 1) z.block s.sub s.own) taken child) (subst (λ (z : Child). BeginsWith z.low s.sub) taken s.begins) at.way.rising in
       let P1 = IsRenewed before between keep in
@@ -174,10 +167,10 @@ module _ (sizes : Sizes) (old mid : Medium) (limit level b : ℕ) (r : Record) (
       let records = ap (with_record r) s.records ∙ with_between r s.before s.sub s.after at.way.below at.way.above in
       let whole = subst (λ (qs : List Record). Made P1 sizes x2 limit (level - 1) (take i cs ++ (children_of copied ++ drop (i + 1) cs)) qs) (sym records) now in
       let asked = made_moved P1 P1 sizes x2 x2 limit other (level - 1) (λ n has. refl) (λ n has. has) limits (take i cs ++ (children_of copied ++ drop (i + 1) cs)) lent (with_record r rs) is whole in
-      subst (λ n. IfOk result (λ c. Made (IsRenewed before later keep) sizes x3 n level (children_of c) (with_record r rs))) limits (made keep (with_record r rs) (with_rises r 0 rs (omega arith) rises) asked)))
+      subst (λ n. Made (IsRenewed before later keep) sizes x3 n level (children_of done) (with_record r rs)) limits (made keep (with_record r rs) (with_rises r 0 rs (omega arith) rises) asked))
 
   -- an inner block, where a fault came from below: Deep only where no block above has room, so that this one is full
-  pub node_fault : (M : List Child → List Record → List ℕ → Type 0) (Q : List Child → Type 0) (e : TreeFault) → Asked (Err e) M → (e ≡ Deep → sizes.fan ≤ length cs)
+  pub node_fault : (M : List Child → List Record → List ℕ → Type 0) (Q : List Child → Type 0) (e : PutFault) → Asked (Err e) M → (e ≡ put.Deep → sizes.fan ≤ length cs)
       → PutsBelow (Err e) (Splits sizes old.contents (place r.0) level b rs) Q
   node_fault M Q e below full =
       let p = place r.0 in

@@ -18,7 +18,7 @@ use Rattle.vm_block.specs.Changed.{without_place}
 use Rattle.vm_tree.specs.Removing.{Narrows, IsLeft, RemovesBelow, child_of}
 use Rattle.vm_tree.specs.Replacing.{IsPathIn, IsRenewed, KeepsBeside, Replaces}
 use Rattle.vm_tree.specs.declared.root.Root.{Root}
-use Rattle.vm_tree.specs.declared.root.TreeFault.{TreeFault}
+use Rattle.vm_tree.specs.declared.faults.TreeFault.{TreeFault}
 use Rattle.vm_tree.specs.declared.removing.Left.{Left}
 use Rattle.vm_tree.specs.declared.removing.Left.TheVariants.{Same, Nothing, Rest}
 use Rattle.vm_tree.proofs.TreeLemmas.{node_opens}

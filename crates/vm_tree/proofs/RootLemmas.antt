@@ -1,5 +1,5 @@
 -- Roots: the top of what was made, and what a Put at a root answers.
-use Rattle.std.proofs.Common.{◌≡◌, ℕ, zero, suc, ◌+◌, ◌-◌, ◌<◌, true, List, [], ◌∷◌, ◌++◌, Result, Ok, Err, IfOk, refl, sym, ap, ◌∙◌, subst, arith, inr, append-nil}
+use Rattle.std.proofs.Common.{◌≡◌, ℕ, zero, suc, ◌+◌, ◌-◌, ◌<◌, true, List, [], ◌∷◌, ◌++◌, Ok, Err, refl, sym, ap, ◌∙◌, subst, arith, inr, append-nil}
 use Rattle.std.proofs.lemmas.Bool.{false≢true}
 use Rattle.vm_types.specs.declared.key.Key.{Key}
 use Rattle.vm_types.specs.Map.{Map, get, with_value}
@@ -14,14 +14,16 @@ use Rattle.vm_block.proofs.NodeLemmas.{node_one}
 use Rattle.vm_tree.specs.FullPath.{FullBelow}
 use Rattle.vm_tree.specs.Tree.{Sizes, IsWithin, Subtree}
 use Rattle.vm_types.specs.Bytes.{longest}
-use Rattle.vm_tree.specs.Answers.{LacksRoom, OkOrDevice, Puts}
+use Rattle.vm_tree.specs.Answers.{LacksRoom, Puts}
 use Rattle.vm_tree.specs.Making.{Made, PutsBelow, Splits, children_of, is_split}
 use Rattle.vm_tree.specs.declared.writing.Copied.{Copied}
 use Rattle.vm_tree.specs.declared.writing.Copied.TheVariants.{One, Two}
 use Rattle.vm_tree.specs.Root.{IsTop, IsRootedIn}
 use Rattle.vm_tree.specs.declared.root.Root.{Root}
-use Rattle.vm_tree.specs.declared.root.TreeFault.{TreeFault}
-use Rattle.vm_tree.specs.declared.root.TreeFault.TheVariants.{Device, Damaged, Deep, Memory}
+use Rattle.vm_tree.specs.declared.faults.TreeFault.{TreeFault}
+use Rattle.vm_tree.specs.declared.faults.PutFault.{PutFault}
+use Rattle.vm_tree.specs.declared.faults.PutFault.TheVariants as put
+use Rattle.vm_tree.specs.declared.faults.TreeFault.TheVariants.{Device, Damaged}
 use Rattle.vm_tree.proofs.TreeLemmas.{subtree_fit}
 use Rattle.vm_tree.proofs.HoldingLemmas.{holds_or_node}
 use Rattle.vm_tree.proofs.Descent.{subtree_top}
@@ -101,16 +103,12 @@ module _ (sizes : Sizes) (x : Contents) (limit : ℕ) (root : Root) (m : Map) (b
       )
 
 -- a fault from below is the answer
-pub fault_puts : {T : Type 0} (e : TreeFault) (splits deep : Type 0) (P : List Child → Type 0) (Q : T → Type 0) → PutsBelow (Err e) splits P → (e ≡ Deep → splits → deep) → Puts (Err e) deep Q
-fault_puts Device splits deep P Q fault so = tt
-fault_puts (Damaged b) splits deep P Q fault so = fault
-fault_puts Deep splits deep P Q fault so = so refl fault
-fault_puts Memory splits deep P Q fault so = fault
+pub fault_puts : {T : Type 0} (e : PutFault) (splits deep : Type 0) (P : List Child → Type 0) (Q : T → Type 0) → PutsBelow (Err e) splits P → (e ≡ put.Deep → splits → deep) → Puts (Err e) deep Q
+fault_puts (put.Tree Device) splits deep P Q fault so = tt
+fault_puts (put.Tree (Damaged b)) splits deep P Q fault so = fault
+fault_puts put.Deep splits deep P Q fault so = so refl fault
 
--- the first leaf of an empty map is the answer
-pub first_puts : {T : Type 0} (result : Result T TreeFault) (deep H : Type 0) (P Q : T → Type 0) → OkOrDevice result P → (deep → ⊥) → IfOk result Q → Puts result deep (λ x. H → Q x)
-first_puts (Ok x) deep H P Q fine room made = (λ h. made, room)
-first_puts (Err Device) deep H P Q fine room made = tt
-first_puts (Err (Damaged b)) deep H P Q fine room made = cc
-first_puts (Err Deep) deep H P Q fine room made = cc
-first_puts (Err Memory) deep H P Q fine room made = cc
+-- the device failed
+pub device_puts : {T : Type 0} (e : TreeFault) (deep : Type 0) (P : T → Type 0) → e ≡ Device → Puts (Err (put.Tree e)) deep P
+device_puts Device deep P is = tt
+device_puts (Damaged b) deep P is = cc

@@ -7,8 +7,12 @@ use Rattle.vm_disk.specs.Disk.{Contents}
 use Rattle.vm_tree.specs.FullPath.{FullPath}
 use Rattle.vm_tree.specs.Tree.{Sizes}
 use Rattle.vm_tree.specs.declared.root.Root.{Root}
-use Rattle.vm_tree.specs.declared.root.TreeFault.{TreeFault}
-use Rattle.vm_tree.specs.declared.root.TreeFault.TheVariants.{Device, Damaged, Deep, Memory}
+use Rattle.vm_tree.specs.declared.faults.ListFault.{ListFault}
+use Rattle.vm_tree.specs.declared.faults.ListFault.TheVariants as list
+use Rattle.vm_tree.specs.declared.faults.PutFault.{PutFault}
+use Rattle.vm_tree.specs.declared.faults.PutFault.TheVariants as put
+use Rattle.vm_tree.specs.declared.faults.TreeFault.{TreeFault}
+use Rattle.vm_tree.specs.declared.faults.TreeFault.TheVariants.{Device, Damaged}
 
 -- the key is absent from the map, and the tree under the root has no room for one more record where it belongs
 pub record LacksRoom (sizes : Sizes) (x : Contents) (root : Root) (m : Map) (key : Key) : Type 0 where
@@ -22,20 +26,18 @@ OkOrDevice (Ok x) P = P x
 OkOrDevice (Err e) P = e ≡ Device
 
 -- what a listing answers on a tree: a value with P, that the device failed, or that no memory was found
-abbrev pub Lists : {T : Type 0} → Result T TreeFault → (T → Type 0) → Type 0
+abbrev pub Lists : {T : Type 0} → Result T ListFault → (T → Type 0) → Type 0
 Lists (Ok x) P = P x
-Lists (Err Device) P = Unit {0}
-Lists (Err (Damaged b)) P = ⊥
-Lists (Err Deep) P = ⊥
-Lists (Err Memory) P = Unit {0}
+Lists (Err (list.Tree Device)) P = Unit {0}
+Lists (Err (list.Tree (Damaged b))) P = ⊥
+Lists (Err list.Memory) P = Unit {0}
 
 -- what a Put answers on a tree: a root with P, where there is room; Deep, where `deep` holds; or that the device failed
-abbrev pub Puts : {T : Type 0} → Result T TreeFault → Type 0 → (T → Type 0) → Type 0
+abbrev pub Puts : {T : Type 0} → Result T PutFault → Type 0 → (T → Type 0) → Type 0
 Puts (Ok x) deep P = P x × (deep → ⊥)
-Puts (Err Device) deep P = Unit {0}
-Puts (Err (Damaged b)) deep P = ⊥
-Puts (Err Deep) deep P = deep
-Puts (Err Memory) deep P = ⊥
+Puts (Err (put.Tree Device)) deep P = Unit {0}
+Puts (Err (put.Tree (Damaged b))) deep P = ⊥
+Puts (Err put.Deep) deep P = deep
 
 -- what a Remove answers on a tree: None, where the key is absent; else a root with P; or that the device failed
 abbrev pub Removes : {T : Type 0} → Result (Option T) TreeFault → Type 0 → (T → Type 0) → Type 0

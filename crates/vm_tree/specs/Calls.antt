@@ -4,14 +4,26 @@ use Rattle.vm_disk.specs.Disk.{DiskState, Goes}
 use Rattle.vm_disk.specs.Moments.{Throughout, OnlyReads, TouchesOnly}
 use Rattle.vm_alloc.specs.Held.{HoldsMore}
 use Rattle.vm_tree.specs.Free.{is_free}
-use Rattle.vm_tree.specs.declared.root.TreeFault.{TreeFault}
-use Rattle.vm_tree.specs.declared.root.TreeFault.TheVariants.{Device, Damaged}
+use Rattle.vm_tree.specs.declared.faults.ListFault.{ListFault}
+use Rattle.vm_tree.specs.declared.faults.ListFault.TheVariants as list
+use Rattle.vm_tree.specs.declared.faults.PutFault.{PutFault}
+use Rattle.vm_tree.specs.declared.faults.PutFault.TheVariants as put
+use Rattle.vm_tree.specs.declared.faults.TreeFault.{TreeFault}
+use Rattle.vm_tree.specs.declared.faults.TreeFault.TheVariants.{Device, Damaged}
 
--- a call with this result only looked at the disk: it counts the calls of the device, and an honest disk held at each moment what it
--- held before
-pub record OnlyLooks {T : Type 0} (result : Result T TreeFault) (old new : DiskState) : Type 0 where
-  pub goes : Goes (result ≡ Err Device) old new
+-- a call that answers that the device failed just where `fails` holds only looked at the disk: it counts the calls of the device, and an
+-- honest disk held at each moment what it held before
+pub record Looks (fails : Type 0) (old new : DiskState) : Type 0 where
+  pub goes : Goes fails old new
   pub reads : new.honest ≡ true → OnlyReads old new
+
+-- a call with this result only looked
+abbrev pub OnlyLooks : {T : Type 0} → Result T TreeFault → DiskState → DiskState → Type 0
+OnlyLooks result old new = Looks (result ≡ Err Device) old new
+
+-- the same of a call that makes a list
+abbrev pub OnlyLists : {T : Type 0} → Result T ListFault → DiskState → DiskState → Type 0
+OnlyLists result old new = Looks (result ≡ Err (list.Tree Device)) old new
 
 -- where `when` holds, the same blocks are held as before, and the disk was only looked at
 pub record LooksIf (when : Type 0) (held later : List Bool) (old new : DiskState) : Type 0 where
@@ -22,9 +34,21 @@ pub record LooksIf (when : Type 0) (held later : List Bool) (old new : DiskState
 abbrev pub LooksIfDamaged : {T : Type 0} → Result T TreeFault → List Bool → List Bool → DiskState → DiskState → Type 0
 LooksIfDamaged result held later old new = (b : ℕ) → LooksIf (result ≡ Err (Damaged b)) held later old new
 
--- a call with this result wrote free blocks alone: it counts the calls of the device, what was held stays held, and at no moment had a
--- held block of an honest disk other bytes than before
-pub record WritesFree {T : Type 0} (result : Result T TreeFault) (held later : List Bool) (old new : DiskState) : Type 0 where
-  pub goes : Goes (result ≡ Err Device) old new
+-- the same of a Put
+abbrev pub PutsIfDamaged : {T : Type 0} → Result T PutFault → List Bool → List Bool → DiskState → DiskState → Type 0
+PutsIfDamaged result held later old new = (b : ℕ) → LooksIf (result ≡ Err (put.Tree (Damaged b))) held later old new
+
+-- a call that answers that the device failed just where `fails` holds wrote free blocks alone: it counts the calls of the device, what was
+-- held stays held, and at no moment had a held block of an honest disk other bytes than before
+pub record Writes (fails : Type 0) (held later : List Bool) (old new : DiskState) : Type 0 where
+  pub goes : Goes fails old new
   pub still : HoldsMore held later
   pub moments : new.honest ≡ true → Throughout old new (TouchesOnly (is_free held) old.now)
+
+-- a call with this result wrote free blocks alone
+abbrev pub WritesFree : {T : Type 0} → Result T TreeFault → List Bool → List Bool → DiskState → DiskState → Type 0
+WritesFree result held later old new = Writes (result ≡ Err Device) held later old new
+
+-- the same of a Put
+abbrev pub PutsFree : {T : Type 0} → Result T PutFault → List Bool → List Bool → DiskState → DiskState → Type 0
+PutsFree result held later old new = Writes (result ≡ Err (put.Tree Device)) held later old new

@@ -15,7 +15,8 @@ use Rattle.vm_tree.specs.Answers.{Lists, OkOrDevice}
 use Rattle.vm_tree.specs.Reading.{IsLongAt}
 use Rattle.vm_tree.specs.Root.{IfUnder, IfWhole}
 use Rattle.vm_tree.specs.declared.root.Root.{Root}
-use Rattle.vm_tree.specs.declared.root.TreeFault.{TreeFault}
+use Rattle.vm_tree.specs.declared.faults.ListFault.{ListFault}
+use Rattle.vm_tree.specs.declared.faults.TreeFault.{TreeFault}
 
 -- the value of the key in the map, which is lent, whatever the sizes of the tree's blocks, unless the device fails
 abbrev pub GivesValue : Result (Option (Bor (List ℕ))) TreeFault → DiskState → DiskState → ℕ → Root → Key → Type 0
@@ -63,29 +64,29 @@ GivesLinked result old new limit key link =
     → OkOrDevice result (λ found. option_copied found ≡ Some value)
 
 -- the whole map, whatever the sizes of the tree's blocks, unless the device fails or no memory is found
-abbrev pub GivesMap : Result Map TreeFault → DiskState → DiskState → ℕ → Root → Type 0
+abbrev pub GivesMap : Result Map ListFault → DiskState → DiskState → ℕ → Root → Type 0
 GivesMap result old new limit root = (sizes : Sizes) → IfWhole old new sizes limit root (λ m bs. Lists result (λ records. records ≡ m))
 
 -- the records under block b, of this level, behind those that were there before
-abbrev pub Adds : {T : Type 0} → Result T TreeFault → DiskState → DiskState → ℕ → ℕ → ℕ → Map → Map → Type 0
+abbrev pub Adds : {T : Type 0} → Result T ListFault → DiskState → DiskState → ℕ → ℕ → ℕ → Map → Map → Type 0
 Adds result old new limit level b before after =
     new.honest ≡ true → (sizes : Sizes) (rs : List Record) (bs : List ℕ) → Subtree sizes old.now.contents limit level b rs bs
     → Lists result (λ _. after ≡ before ++ rs)
 
 -- the records of a leaf of so many, behind those that were there before
-abbrev pub AddsLeaf : {T : Type 0} → Result T TreeFault → DiskState → DiskState → ℕ → List ℕ → ℕ → Map → Map → Type 0
+abbrev pub AddsLeaf : {T : Type 0} → Result T ListFault → DiskState → DiskState → ℕ → List ℕ → ℕ → Map → Map → Type 0
 AddsLeaf result old new limit bytes count before after =
     new.honest ≡ true → (rs : List Record) (under : List ℕ) → LeafHolds old.now.contents limit longest bytes rs under → count ≡ length rs
     → Lists result (λ _. after ≡ before ++ rs)
 
 -- the record for which a row stands, behind those that were there before
-abbrev pub AddsRow : {T : Type 0} → Result T TreeFault → DiskState → DiskState → ℕ → Map → Map → Row → Type 0
+abbrev pub AddsRow : {T : Type 0} → Result T ListFault → DiskState → DiskState → ℕ → Map → Map → Row → Type 0
 AddsRow result old new limit before after w =
     new.honest ≡ true → (r : Record) (under : List ℕ) → StandsFor old.now.contents limit w r under → IsWithin longest r
     → Lists result (λ _. after ≡ before ++ r ∷ [])
 
 -- the long value of this key in the block that the link names, behind those that were there before
-abbrev pub AddsLinked : {T : Type 0} → Result T TreeFault → DiskState → DiskState → ℕ → Key → Link → Map → Map → Type 0
+abbrev pub AddsLinked : {T : Type 0} → Result T ListFault → DiskState → DiskState → ℕ → Key → Link → Map → Map → Type 0
 AddsLinked result old new limit key link before after =
     new.honest ≡ true → (value : List ℕ) → IsLongAt old.now.contents limit link.block key value → length value ≡ link.len
     → Lists result (λ _. after ≡ before ++ (key, value) ∷ [])

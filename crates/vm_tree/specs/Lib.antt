@@ -3,6 +3,7 @@ pub mod FullPath
 pub mod Free
 pub mod Giving
 pub mod Calls
+pub mod Faults
 pub mod Laws
 pub mod Making
 pub mod Paths

@@ -19,8 +19,10 @@ use Rattle.vm_tree.specs.Rows.{IsLeafIn, IsRowIn, StandIn}
 use Rattle.vm_tree.specs.Answers.{OkOrDevice}
 use Rattle.vm_tree.specs.Free.{AreTaken}
 use Rattle.vm_tree.specs.Replacing.{IsRenewed}
-use Rattle.vm_tree.specs.declared.root.TreeFault.{TreeFault}
-use Rattle.vm_tree.specs.declared.root.TreeFault.TheVariants.{Device, Damaged, Deep, Memory}
+use Rattle.vm_tree.specs.declared.faults.PutFault.{PutFault}
+use Rattle.vm_tree.specs.declared.faults.PutFault.TheVariants as put
+use Rattle.vm_tree.specs.declared.faults.TreeFault.{TreeFault}
+use Rattle.vm_tree.specs.declared.faults.TreeFault.TheVariants.{Device, Damaged}
 use Rattle.vm_tree.specs.declared.writing.Copied.{Copied}
 use Rattle.vm_tree.specs.declared.writing.Copied.TheVariants.{One, Two}
 
@@ -51,12 +53,11 @@ pub record Splits (sizes : Sizes) (x : Contents) (p l b : ℕ) (rs : List Record
   pub full : FullBelow sizes x p l b
 
 -- what a Put under a block answers on a tree: blocks with P, two where it splits; Deep, where it would split; or that the device failed
-abbrev pub PutsBelow : Result Copied TreeFault → Type 0 → (List Child → Type 0) → Type 0
+abbrev pub PutsBelow : Result Copied PutFault → Type 0 → (List Child → Type 0) → Type 0
 PutsBelow (Ok copied) splits P = P (children_of copied) × ((is_split copied ≡ true) ↔ splits)
-PutsBelow (Err Device) splits P = Unit {0}
-PutsBelow (Err (Damaged b)) splits P = ⊥
-PutsBelow (Err Deep) splits P = splits
-PutsBelow (Err Memory) splits P = ⊥
+PutsBelow (Err (put.Tree Device)) splits P = Unit {0}
+PutsBelow (Err (put.Tree (Damaged b))) splits P = ⊥
+PutsBelow (Err put.Deep) splits P = splits
 
 -- where a block was written anew as one, P
 abbrev pub IfOne : {E : Type 0} → Result Copied E → Type 0 → Type 0

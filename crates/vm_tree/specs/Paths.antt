@@ -6,19 +6,18 @@ use Rattle.vm_tree.specs.Tree.{Sizes}
 use Rattle.vm_tree.specs.Replacing.{IsPathIn, long_of, path_from, path_under}
 use Rattle.vm_tree.specs.Root.{IfUnder, IfWhole, sizes_of}
 use Rattle.vm_tree.specs.declared.root.Root.{Root}
-use Rattle.vm_tree.specs.declared.root.TreeFault.{TreeFault}
 
 -- the path under the root is of blocks of its tree
-abbrev pub NamesPath : {T : Type 0} → Result T TreeFault → Sizes → DiskState → DiskState → ℕ → Root → List ℕ → Type 0
+abbrev pub NamesPath : {T E : Type 0} → Result T E → Sizes → DiskState → DiskState → ℕ → Root → List ℕ → Type 0
 NamesPath result sizes old new limit root path =
     IfWhole old new sizes limit root (λ m bs. IfOk result (λ answer. IsPathIn (path_under root path) bs))
 
 -- the path from this level down is of blocks of the tree under this child
-abbrev pub NamesPathUnder : {T : Type 0} → Result T TreeFault → ℕ → ℕ → DiskState → DiskState → ℕ → ℕ → Child → List ℕ → Type 0
+abbrev pub NamesPathUnder : {T E : Type 0} → Result T E → ℕ → ℕ → DiskState → DiskState → ℕ → ℕ → Child → List ℕ → Type 0
 NamesPathUnder result leaf fan old new limit level top path =
     (levels : ℕ) → IfUnder old new (sizes_of leaf fan levels) limit level top (λ rs bs. IfOk result (λ answer. IsPathIn (path_from level path) bs))
 
 -- this block of a long value, if it is not 0, is one of the tree under this child, a leaf
-abbrev pub NamesLong : {T : Type 0} → Result T TreeFault → ℕ → DiskState → DiskState → ℕ → Child → ℕ → Type 0
+abbrev pub NamesLong : {T E : Type 0} → Result T E → ℕ → DiskState → DiskState → ℕ → Child → ℕ → Type 0
 NamesLong result leaf old new limit top long =
     (fan levels : ℕ) → IfUnder old new (sizes_of leaf fan levels) limit 0 top (λ rs bs. IfOk result (λ answer. IsPathIn (long_of long) bs))

@@ -15,7 +15,8 @@ use Rattle.vm_tree.specs.Making.{Made, PutsBelow, Splits, is_split}
 use Rattle.vm_tree.specs.Replacing.{IsHeldBeside, IsRenewed, Replaces, path_from, path_under}
 use Rattle.vm_tree.specs.Root.{IsRootedIn, IfUnder, IfWhole, sizes_of}
 use Rattle.vm_tree.specs.declared.root.Root.{Root}
-use Rattle.vm_tree.specs.declared.root.TreeFault.{TreeFault}
+use Rattle.vm_tree.specs.declared.faults.PutFault.{PutFault}
+use Rattle.vm_tree.specs.declared.faults.TreeFault.{TreeFault}
 use Rattle.vm_tree.specs.declared.writing.Copied.{Copied}
 
 -- a block above is split only where the one below was, and it has so many children
@@ -23,24 +24,24 @@ abbrev pub SplitsOnly : {E : Type 0} → Result Copied E → Copied → ℕ → 
 SplitsOnly result copied most count = IfOk result (λ done. is_split done ≡ true → (is_split copied ≡ true) × (most ≤ count))
 
 -- where the key is in the leaf under a child, one block is taken at most, and that of the value
-abbrev pub ReplacesInLeaf : Result Copied TreeFault → ℕ → List Bool → List Bool → DiskState → DiskState → Child → Record → Type 0
+abbrev pub ReplacesInLeaf : Result Copied PutFault → ℕ → List Bool → List Bool → DiskState → DiskState → Child → Record → Type 0
 ReplacesInLeaf result leaf held later old new top r =
     (fan levels : ℕ) → IfUnder old new (sizes_of leaf fan levels) (length held) 0 top
     (λ rs bs. value_at (place r.0) rs ≢ None → IfOk result (λ copied. TakesAtMost (1 + long_blocks r.1) held later))
 
 -- where the key is under a child of this level, one block a level is taken at most, and that of the value
-abbrev pub ReplacesUnder : Result Copied TreeFault → ℕ → ℕ → List Bool → List Bool → DiskState → DiskState → ℕ → Child → Record → Type 0
+abbrev pub ReplacesUnder : Result Copied PutFault → ℕ → ℕ → List Bool → List Bool → DiskState → DiskState → ℕ → Child → Record → Type 0
 ReplacesUnder result leaf fan held later old new level top r =
     (levels : ℕ) → IfUnder old new (sizes_of leaf fan levels) (length held) level top
     (λ rs bs. value_at (place r.0) rs ≢ None → IfOk result (λ copied. TakesAtMost (level + 1 + long_blocks r.1) held later))
 
 -- where the key is under the root, one block a level is taken at most, and that of the value
-abbrev pub ReplacesFrom : Result Root TreeFault → Sizes → List Bool → List Bool → DiskState → DiskState → Root → Key → List ℕ → Type 0
+abbrev pub ReplacesFrom : Result Root PutFault → Sizes → List Bool → List Bool → DiskState → DiskState → Root → Key → List ℕ → Type 0
 ReplacesFrom result sizes held later old new root key value =
     IfWhole old new sizes (length held) root (λ m bs. get m key ≢ None → IfOk result (λ r. TakesAtMost (root.level + 1 + long_blocks value) held later))
 
 -- the leaf under a child has the record, in one or two blocks, and beside them blocks that replace those of the path
-abbrev pub PutsUnderLeaf : Result Copied TreeFault → ℕ → List Bool → List Bool → DiskState → DiskState → Child → Record → List ℕ → Type 0
+abbrev pub PutsUnderLeaf : Result Copied PutFault → ℕ → List Bool → List Bool → DiskState → DiskState → Child → Record → List ℕ → Type 0
 PutsUnderLeaf result leaf held later old new top r path =
     (fan levels : ℕ) → IfUnder old new (sizes_of leaf fan levels) (length held) 0 top
     (λ rs bs. PutsBelow result (Splits (sizes_of leaf fan levels) old.now.contents (place r.0) 0 top.block rs)
@@ -48,7 +49,7 @@ PutsUnderLeaf result leaf held later old new top r path =
     (λ P. Made P (sizes_of leaf fan levels) new.now.contents (length held) 0 cs (with_record r rs))))
 
 -- the records under a child of this level have this one, in blocks that replace those of the path
-abbrev pub PutsUnder : Result Copied TreeFault → ℕ → ℕ → List Bool → List Bool → DiskState → DiskState → ℕ → Child → Record → List ℕ → Type 0
+abbrev pub PutsUnder : Result Copied PutFault → ℕ → ℕ → List Bool → List Bool → DiskState → DiskState → ℕ → Child → Record → List ℕ → Type 0
 PutsUnder result leaf fan held later old new level top r path =
     (levels : ℕ) → IfUnder old new (sizes_of leaf fan levels) (length held) level top
     (λ rs bs. PutsBelow result (Splits (sizes_of leaf fan levels) old.now.contents (place r.0) level top.block rs)
@@ -63,7 +64,7 @@ PutsFirst result held later new r =
 
 -- the answer is a root, or Deep just where there is no room, unless the device fails; and where the blocks of the tree are held, the root has
 -- the map with the value, in blocks that are none of this path
-abbrev pub PutsFrom : Result Root TreeFault → Sizes → List Bool → List Bool → DiskState → DiskState → Root → Key → List ℕ → List ℕ → Type 0
+abbrev pub PutsFrom : Result Root PutFault → Sizes → List Bool → List Bool → DiskState → DiskState → Root → Key → List ℕ → List ℕ → Type 0
 PutsFrom result sizes held later old new root key value path =
     IfWhole old new sizes (length held) root (λ m bs. Puts result (LacksRoom sizes old.now.contents root m key)
     (λ r. AllByRecursion (IsHeld held) bs

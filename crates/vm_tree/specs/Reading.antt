@@ -12,7 +12,7 @@ use Rattle.vm_block.specs.Node.{IsNode, child_bytes}
 use Rattle.vm_block.specs.declared.node.Child.{Child}
 use Rattle.vm_block.specs.declared.stored.Link.{Link}
 use Rattle.vm_tree.specs.declared.root.Root.{Root}
-use Rattle.vm_tree.specs.declared.root.TreeFault.{TreeFault}
+use Rattle.vm_tree.specs.declared.faults.TreeFault.{TreeFault}
 use Rattle.vm_block.specs.Way.{ChoosesAmong, Lowest, Takes}
 use Rattle.vm_block.specs.declared.way.Way.{Way}
 use Rattle.vm_tree.specs.Tree.{IsData}
@@ -93,7 +93,7 @@ IsWayAmong most way = (way.index < way.count) × (way.count ≤ most) × (way.co
 -- # What a call found, where the disk is honest after it, of the contents before it
 
 -- a value was answered, and P holds of it and of these contents
-abbrev pub Finds : {T : Type 0} → Result T TreeFault → DiskState → DiskState → (Contents → T → Type 0) → Type 0
+abbrev pub Finds : {T E : Type 0} → Result T E → DiskState → DiskState → (Contents → T → Type 0) → Type 0
 Finds result old new P = new.honest ≡ true → IfOk result (P old.now.contents)
 
 -- the block is for data, and has these bytes
@@ -126,11 +126,11 @@ FindsLeaf result old new limit p level top =
     Finds result old new (λ x leaf. EndsAt x limit leaf.block leaf.low → LeadsDown x limit p level top.block top.low)
 
 -- from this child's block, of this level, the descent to place p leads to a leaf
-abbrev pub FindsPath : {T : Type 0} → Result T TreeFault → DiskState → DiskState → ℕ → ℕ → ℕ → Child → Type 0
+abbrev pub FindsPath : {T E : Type 0} → Result T E → DiskState → DiskState → ℕ → ℕ → ℕ → Child → Type 0
 FindsPath result old new limit p level top = Finds result old new (λ x answer. LeadsDown x limit p level top.block top.low)
 
 -- from a root that has a block the descent to place p leads to a leaf
-abbrev pub FindsPathFrom : {T : Type 0} → Root → Result T TreeFault → DiskState → DiskState → ℕ → ℕ → Type 0
+abbrev pub FindsPathFrom : {T E : Type 0} → Root → Result T E → DiskState → DiskState → ℕ → ℕ → Type 0
 FindsPathFrom root result old new limit p =
     Finds result old new (λ x answer. 0 < root.block → LeadsDown x limit p root.level root.block root.low)
 

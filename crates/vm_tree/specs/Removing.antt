@@ -19,8 +19,8 @@ use Rattle.vm_tree.specs.Making.{Made}
 use Rattle.vm_tree.specs.Replacing.{IsHeldBeside, IsRenewed, Replaces, path_from, path_under}
 use Rattle.vm_tree.specs.Root.{IsRootedIn, IfUnder, IfWhole, sizes_of}
 use Rattle.vm_tree.specs.declared.root.Root.{Root}
-use Rattle.vm_tree.specs.declared.root.TreeFault.{TreeFault}
-use Rattle.vm_tree.specs.declared.root.TreeFault.TheVariants.{Device}
+use Rattle.vm_tree.specs.declared.faults.TreeFault.{TreeFault}
+use Rattle.vm_tree.specs.declared.faults.TreeFault.TheVariants.{Device}
 use Rattle.vm_tree.specs.declared.removing.Left.{Left}
 use Rattle.vm_tree.specs.declared.removing.Left.TheVariants.{Same, Nothing, Rest}
 

@@ -9,9 +9,10 @@ ghost use Rattle.vm_tree.specs.Calls.{OnlyLooks};
 ghost use Rattle.vm_tree.specs.Giving.{GivesLeaf, GivesLinked, GivesValue, GivesValueUnder, IsLinkOf, TellsRecord, TellsRecordUnder};
 ghost use Rattle.vm_tree.specs.Reading.{FindsEnd, FindsLeaf, FindsPathFrom};
 
+use crate::faults::TreeFault;
 use crate::long::long_at;
 use crate::reading::{load_block, load_way};
-use crate::root::{Root, TreeFault};
+use crate::root::Root;
 use vm_block::{Child, Link, MAX_ROWS, Stored, find_row, is_long_leaf};
 use vm_disk::Disk;
 use vm_types::{BLOCK_SIZE, Key};
@@ -26,8 +27,6 @@ fn get_long<'a, D: Disk>(
 ) -> Result<Option<&'a [u8]>, TreeFault>
     requires { blocks ≤ (D.state disk.old).blocks }
     ensures looks { OnlyLooks result (D.state disk.old) (D.state disk.new) }
-    ensures deep { result ≢ Err TreeFault.Deep }
-    ensures memory { result ≢ Err TreeFault.Memory }
     ensures short { IfOk result (λ value. IfSome value (λ found. length found.now ≤ longest)) }
     ensures value { GivesLinked result (D.state disk.old) (D.state disk.new) blocks key link }
 {
@@ -72,8 +71,6 @@ fn get_in_leaf<'a, D: Disk>(
 ) -> Result<Option<&'a [u8]>, TreeFault>
     requires { blocks ≤ (D.state disk.old).blocks }
     ensures looks { OnlyLooks result (D.state disk.old) (D.state disk.new) }
-    ensures deep { result ≢ Err TreeFault.Deep }
-    ensures memory { result ≢ Err TreeFault.Memory }
     ensures short { IfOk result (λ value. IfSome value (λ found. length found.now ≤ longest)) }
     ensures path { FindsEnd result (D.state disk.old) (D.state disk.new) blocks top }
     ensures value { GivesValueUnder result (D.state disk.old) (D.state disk.new) blocks top key }
@@ -94,8 +91,6 @@ fn get_in_leaf<'a, D: Disk>(
 fn has_in_leaf<D: Disk>(disk: &mut D, blocks: u32, top: Child, key: Key) -> Result<bool, TreeFault>
     requires { blocks ≤ (D.state disk.old).blocks }
     ensures looks { OnlyLooks result (D.state disk.old) (D.state disk.new) }
-    ensures deep { result ≢ Err TreeFault.Deep }
-    ensures memory { result ≢ Err TreeFault.Memory }
     ensures path { FindsEnd result (D.state disk.old) (D.state disk.new) blocks top }
     ensures found { TellsRecordUnder result (D.state disk.old) (D.state disk.new) blocks top key }
 {
@@ -117,8 +112,6 @@ fn leaf_of<D: Disk>(
 ) -> Result<Child, TreeFault>
     requires { blocks ≤ (D.state disk.old).blocks }
     ensures looks { OnlyLooks result (D.state disk.old) (D.state disk.new) }
-    ensures deep { result ≢ Err TreeFault.Deep }
-    ensures memory { result ≢ Err TreeFault.Memory }
     ensures path { FindsLeaf result (D.state disk.old) (D.state disk.new) blocks (place key) level top }
     ensures leaf { GivesLeaf result (D.state disk.old) (D.state disk.new) blocks level top key }
 {
@@ -141,8 +134,6 @@ pub fn get<'a, D: Disk>(
 ) -> Result<Option<&'a [u8]>, TreeFault>
     requires { blocks ≤ (D.state disk.old).blocks }
     ensures looks { OnlyLooks result (D.state disk.old) (D.state disk.new) }
-    ensures deep { result ≢ Err TreeFault.Deep }
-    ensures memory { result ≢ Err TreeFault.Memory }
     ensures short { IfOk result (λ value. IfSome value (λ found. length found.now ≤ longest)) }
 
     // A value, or that there is none, is told only where each block on the path has the head of its level and begins
@@ -167,8 +158,6 @@ pub fn get<'a, D: Disk>(
 pub fn has<D: Disk>(disk: &mut D, blocks: u32, root: Root, key: Key) -> Result<bool, TreeFault>
     requires { blocks ≤ (D.state disk.old).blocks }
     ensures looks { OnlyLooks result (D.state disk.old) (D.state disk.new) }
-    ensures deep { result ≢ Err TreeFault.Deep }
-    ensures memory { result ≢ Err TreeFault.Memory }
 
     // It is told only where the blocks on the path are such as `get` asks for.
     ensures path { FindsPathFrom root result (D.state disk.old) (D.state disk.new) blocks (place key) }

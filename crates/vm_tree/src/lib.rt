@@ -16,6 +16,7 @@
 //! all.
 #![tactic(auto)]
 
+mod faults;
 mod getting;
 mod laws;
 mod linking;
@@ -28,11 +29,12 @@ mod scanning;
 mod splicing;
 mod writing;
 
+pub use faults::{ListFault, PutFault, TreeFault};
 pub use getting::{get, has};
 pub use laws::one_tree;
 pub use long::long_at;
 pub use putting::put;
 pub use reading::{data_at, is_data, load_data, node_at, node_into, rows_into};
 pub use removing::remove;
-pub use root::{Root, TreeFault};
+pub use root::Root;
 pub use scanning::scan;

@@ -11,8 +11,8 @@ ghost use Rattle.vm_tree.specs.Making.{StoresValue, WritesLong};
 ghost use Rattle.vm_tree.specs.Rows.{IsLinkAt};
 ghost use Rattle.vm_types.specs.Bytes.{longest};
 
+use crate::faults::TreeFault;
 use crate::getting::long_link;
-use crate::root::TreeFault;
 use crate::writing::write_free;
 use vm_alloc::Held;
 use vm_block::{Link, Stored, write_long};

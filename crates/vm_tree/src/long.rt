@@ -4,8 +4,8 @@ ghost use Rattle.vm_types.specs.Bytes.{longest};
 ghost use Rattle.vm_tree.specs.Calls.{OnlyLooks};
 ghost use Rattle.vm_tree.specs.Reading.{FindsLong, GivesLong, ReadsOne};
 
+use crate::faults::TreeFault;
 use crate::reading::data_at;
-use crate::root::TreeFault;
 use vm_block::{Link, read_long};
 use vm_disk::Disk;
 use vm_types::Key;
@@ -21,8 +21,6 @@ pub fn long_at<'a, D: Disk>(
 ) -> Result<&'a [u8], TreeFault>
     requires { blocks ≤ (D.state disk.old).blocks }
     ensures looks { OnlyLooks result (D.state disk.old) (D.state disk.new) }
-    ensures deep { result ≢ Err TreeFault.Deep }
-    ensures memory { result ≢ Err TreeFault.Memory }
     ensures once { ReadsOne blocks link.block (D.state disk.old).reads (D.state disk.new).reads }
     ensures len { IfOk result (λ value. length value.now ≡ link.len) }
     ensures short { IfOk result (λ value. length value.now ≤ longest) }

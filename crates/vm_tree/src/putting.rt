@@ -3,7 +3,7 @@ ghost use Rattle.std.specs.Prelude.{◌≡◌, ◌≢◌, ◌+◌, ◌*◌, ◌<
 ghost use Rattle.vm_types.specs.Places.{KeyFits, place};
 ghost use Rattle.vm_alloc.specs.Held.{free_count};
 ghost use Rattle.vm_tree.specs.Answers.{OkOrDevice};
-ghost use Rattle.vm_tree.specs.Calls.{LooksIfDamaged, WritesFree};
+ghost use Rattle.vm_tree.specs.Calls.{LooksIfDamaged, PutsFree, PutsIfDamaged, WritesFree};
 ghost use Rattle.vm_tree.specs.Free.{IsTaken, AreTaken, TakesAtMost, long_blocks};
 ghost use Rattle.vm_tree.specs.Making.{HasTaken, IfOne, MakesHalves, MakesNodesWith, PutsInLeaf, SplitsLeafOver, SplitsNodeOver, WritesPut, children_of, is_split};
 ghost use Rattle.vm_types.specs.Bytes.{longest};
@@ -13,9 +13,10 @@ ghost use Rattle.vm_tree.specs.Reading.{FindsPath, FindsPathFrom};
 ghost use Rattle.vm_tree.specs.Replacing.{KeepsAbove, long_of};
 ghost use Rattle.vm_tree.specs.Root.{AreSizes, sizes_of};
 
+use crate::faults::{PutFault, TreeFault};
 use crate::linking::{MAX_SHORT, linked, store, write_long_block};
 use crate::reading::{load_block, load_way};
-use crate::root::{Root, TreeFault, root_at};
+use crate::root::{Root, root_at};
 use crate::splicing::spliced;
 use crate::writing::{Copied, write_bytes, write_node_block, write_nodes};
 use vm_alloc::Held;
@@ -137,8 +138,6 @@ fn split_leaf<D: Disk, const LEAF: usize>(
     requires short { length value.now ≤ longest }
     requires free { 2 + long_blocks value.now ≤ free_count held.old }
     ensures writes { WritesFree result held.old held.new (D.state disk.old) (D.state disk.new) }
-    ensures deep { result ≢ Err TreeFault.Deep }
-    ensures memory { result ≢ Err TreeFault.Memory }
     ensures device { HasTaken result held.new }
     ensures looks { LooksIfDamaged result held.old held.new (D.state disk.old) (D.state disk.new) }
     ensures single { IfOne result (TakesAtMost (1 + long_blocks value.now) held.old held.new) }
@@ -209,19 +208,18 @@ fn put_in_leaf<D: Disk, const LEAF: usize>(
     key: Key,
     value: &[u8],
     long: &mut u32,
-) -> Result<Copied, TreeFault>
+) -> Result<Copied, PutFault>
     requires inside { length held.old ≤ (D.state disk.old).blocks }
     requires least { 2 ≤ LEAF }
     requires most { LEAF ≤ MAX_ROWS }
     requires short { length value.now ≤ longest }
     requires free { 1 + long_blocks value.now ≤ free_count held.old }
     requires free_two { room ≡ true → 2 + long_blocks value.now ≤ free_count held.old }
-    ensures writes { WritesFree result held.old held.new (D.state disk.old) (D.state disk.new) }
-    ensures memory { result ≢ Err TreeFault.Memory }
+    ensures writes { PutsFree result held.old held.new (D.state disk.old) (D.state disk.new) }
     ensures device { HasTaken result held.new }
     ensures split { IfOk result (λ copied. is_split copied ≡ true → room ≡ true) }
-    ensures deep { result ≡ Err TreeFault.Deep → (room ≡ false) × (held.new ≡ held.old) }
-    ensures looks { LooksIfDamaged result held.old held.new (D.state disk.old) (D.state disk.new) }
+    ensures deep { result ≡ Err PutFault.Deep → (room ≡ false) × (held.new ≡ held.old) }
+    ensures looks { PutsIfDamaged result held.old held.new (D.state disk.old) (D.state disk.new) }
     ensures one { room ≡ false → TakesAtMost (1 + long_blocks value.now) held.old held.new }
     ensures single { IfOne result (TakesAtMost (1 + long_blocks value.now) held.old held.new) }
     ensures taken { TakesAtMost (2 + long_blocks value.now) held.old held.new }
@@ -241,9 +239,9 @@ fn put_in_leaf<D: Disk, const LEAF: usize>(
             let leaf = write_put::<D, LEAF>(disk, held, &mut bytes, key, value)?;
             Ok(Copied::One(leaf))
         }
-        Placed::Full if !room => Err(TreeFault::Deep),
-        Placed::Full => split_leaf::<D, LEAF>(disk, held, top.block, &bytes, key, value),
-        Placed::NoLeaf => Err(TreeFault::Damaged(top.block)),
+        Placed::Full if !room => Err(PutFault::Deep),
+        Placed::Full => Ok(split_leaf::<D, LEAF>(disk, held, top.block, &bytes, key, value)?),
+        Placed::NoLeaf => Err(PutFault::Tree(TreeFault::Damaged(top.block))),
     }
 }
 
@@ -259,7 +257,7 @@ fn put_below<D: Disk, const LEAF: usize, const FAN: usize>(
     key: Key,
     value: &[u8],
     path: &mut [u32; 9],
-) -> Result<Copied, TreeFault>
+) -> Result<Copied, PutFault>
     requires inside { length held.old ≤ (D.state disk.old).blocks }
     requires leaf_least { 2 ≤ LEAF }
     requires leaf_most { LEAF ≤ MAX_ROWS }
@@ -269,13 +267,12 @@ fn put_below<D: Disk, const LEAF: usize, const FAN: usize>(
     requires short { length value.now ≤ longest }
     requires free { 2 * level + 1 + long_blocks value.now ≤ free_count held.old }
     requires free_two { room ≡ true → 2 * level + 2 + long_blocks value.now ≤ free_count held.old }
-    ensures writes { WritesFree result held.old held.new (D.state disk.old) (D.state disk.new) }
-    ensures memory { result ≢ Err TreeFault.Memory }
+    ensures writes { PutsFree result held.old held.new (D.state disk.old) (D.state disk.new) }
     ensures fits { KeyFits key }
     ensures device { HasTaken result held.new }
     ensures split { IfOk result (λ copied. is_split copied ≡ true → room ≡ true) }
-    ensures deep { result ≡ Err TreeFault.Deep → (room ≡ false) × (held.new ≡ held.old) }
-    ensures looks { LooksIfDamaged result held.old held.new (D.state disk.old) (D.state disk.new) }
+    ensures deep { result ≡ Err PutFault.Deep → (room ≡ false) × (held.new ≡ held.old) }
+    ensures looks { PutsIfDamaged result held.old held.new (D.state disk.old) (D.state disk.new) }
     ensures one { room ≡ false → TakesAtMost (2 * level + 1 + long_blocks value.now) held.old held.new }
     ensures single { IfOne result (TakesAtMost (2 * level + 1 + long_blocks value.now) held.old held.new) }
     ensures taken { TakesAtMost (2 * level + 2 + long_blocks value.now) held.old held.new }
@@ -306,7 +303,7 @@ fn put_below<D: Disk, const LEAF: usize, const FAN: usize>(
         value,
         path,
     )?;
-    write_replaced::<D, FAN>(disk, held, level, way, &mut bytes, copied)
+    Ok(write_replaced::<D, FAN>(disk, held, level, way, &mut bytes, copied)?)
 }
 
 /// Gives the key this value in the empty map: writes its one leaf.
@@ -342,22 +339,21 @@ pub fn put<D: Disk, const LEAF: usize, const FAN: usize, const LEVELS: usize>(
     key: Key,
     value: &[u8],
     path: &mut [u32; 9],
-) -> Result<Root, TreeFault>
+) -> Result<Root, PutFault>
     requires sizes { AreSizes LEAF FAN LEVELS }
     requires inside { length held.old ≤ (D.state disk.old).blocks }
     requires room { 16 ≤ free_count held.old }
     requires short { length value.now ≤ longest }
-    ensures memory { result ≢ Err TreeFault.Memory }
 
     // What is held stays held, and at no moment has a block that was held other bytes than before.
-    ensures writes { WritesFree result held.old held.new (D.state disk.old) (D.state disk.new) }
+    ensures writes { PutsFree result held.old held.new (D.state disk.old) (D.state disk.new) }
 
     // The root is that of a block for data, which is held now.
     ensures root { IfOk result (λ r. IsTaken held.new r.block × (r.level < LEVELS)) }
 
     // No more than 15 blocks are taken, and that of a long value; none of them where the tree has no room.
     ensures taken { TakesAtMost (15 + long_blocks value.now) held.old held.new }
-    ensures deep { result ≡ Err TreeFault.Deep → held.new ≡ held.old }
+    ensures deep { result ≡ Err PutFault.Deep → held.new ≡ held.old }
 
     // It takes the blocks of one path alone: two a level at most and a new root, or two a level but one at the top
     // where the tree stays as high, and one for the empty map; and that of a long value.
@@ -373,7 +369,7 @@ pub fn put<D: Disk, const LEAF: usize, const FAN: usize, const LEVELS: usize>(
         (D.state disk.old) (D.state disk.new) root key value.now }
 
     // A block is found damaged before any is taken or written.
-    ensures looks { LooksIfDamaged result held.old held.new (D.state disk.old) (D.state disk.new) }
+    ensures looks { PutsIfDamaged result held.old held.new (D.state disk.old) (D.state disk.new) }
 
     // A root is made only where each block on the path has the head of its level and begins with the key that its
     // parent says, the first with the lowest key of the old root.
@@ -390,11 +386,11 @@ pub fn put<D: Disk, const LEAF: usize, const FAN: usize, const LEVELS: usize>(
 {
     if root.block == 0 {
         path[8] = 0;
-        return put_first(disk, held, key, value);
+        return Ok(put_first(disk, held, key, value)?);
     }
     let level = root.level;
     if usize::from(level) >= LEVELS {
-        return Err(TreeFault::Damaged(root.block));
+        return Err(PutFault::Tree(TreeFault::Damaged(root.block)));
     }
     let room = usize::from(level) + 1 < LEVELS;
     let top = Child {

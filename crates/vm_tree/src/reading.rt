@@ -6,7 +6,7 @@ ghost use Rattle.vm_tree.specs.Tree.{IsData};
 ghost use Rattle.vm_tree.specs.Calls.{OnlyLooks};
 ghost use Rattle.vm_tree.specs.Reading.{FindsBlock, FindsData, FindsNode, FindsStep, GivesData, GivesNode, GivesNodeUnder, GivesRowsUnder, GivesWay, IsCount, IsNodeOf, IsWayAmong, ReadsNode, ReadsOne, ReadsRows};
 
-use crate::root::TreeFault;
+use crate::faults::TreeFault;
 use arrayvec::ArrayVec;
 use vm_block::{Child, MAX_CHILDREN, Way, find_child, lowest_key, node_size, read_node, rows_size};
 use vm_disk::Disk;
@@ -28,8 +28,6 @@ pub fn data_at<D: Disk>(
 ) -> Result<(), TreeFault>
     requires { blocks ≤ (D.state disk.old).blocks }
     ensures looks { OnlyLooks result (D.state disk.old) (D.state disk.new) }
-    ensures deep { result ≢ Err TreeFault.Deep }
-    ensures memory { result ≢ Err TreeFault.Memory }
     ensures once { ReadsOne blocks block (D.state disk.old).reads (D.state disk.new).reads }
     ensures found { FindsData result (D.state disk.old) (D.state disk.new) blocks block bytes.new }
     ensures only { GivesData result (D.state disk.old) (D.state disk.new) blocks block bytes.new }
@@ -47,8 +45,6 @@ pub fn data_at<D: Disk>(
 pub fn load_data<D: Disk>(disk: &mut D, blocks: u32, block: u32) -> Result<(), TreeFault>
     requires { blocks ≤ (D.state disk.old).blocks }
     ensures looks { OnlyLooks result (D.state disk.old) (D.state disk.new) }
-    ensures deep { result ≢ Err TreeFault.Deep }
-    ensures memory { result ≢ Err TreeFault.Memory }
     ensures once { ReadsOne blocks block (D.state disk.old).reads (D.state disk.new).reads }
     ensures found { FindsData result (D.state disk.old) (D.state disk.new)
         blocks block (D.hand disk.new) }
@@ -68,8 +64,6 @@ pub fn load_data<D: Disk>(disk: &mut D, blocks: u32, block: u32) -> Result<(), T
 pub(crate) fn load_block<D: Disk>(disk: &mut D, blocks: u32, top: Child) -> Result<(), TreeFault>
     requires { blocks ≤ (D.state disk.old).blocks }
     ensures looks { OnlyLooks result (D.state disk.old) (D.state disk.new) }
-    ensures deep { result ≢ Err TreeFault.Deep }
-    ensures memory { result ≢ Err TreeFault.Memory }
     ensures found { FindsBlock result (D.state disk.old) (D.state disk.new)
         blocks top (D.hand disk.new) }
     ensures rows { GivesRowsUnder result (D.state disk.old) (D.state disk.new)
@@ -95,8 +89,6 @@ pub(crate) fn load_way<D: Disk, const MOST: usize>(
 ) -> Result<Way, TreeFault>
     requires { blocks ≤ (D.state disk.old).blocks }
     ensures looks { OnlyLooks result (D.state disk.old) (D.state disk.new) }
-    ensures deep { result ≢ Err TreeFault.Deep }
-    ensures memory { result ≢ Err TreeFault.Memory }
     ensures level { IfOk result (λ way. (way.level ≡ level) × (level ≤ 7)) }
     ensures within { IfOk result (IsWayAmong MOST) }
     ensures step { FindsStep result (D.state disk.old) (D.state disk.new) blocks (place key) level top }
@@ -119,8 +111,6 @@ pub fn node_at<D: Disk>(
 ) -> Result<ArrayVec<Child, 256>, TreeFault>
     requires { blocks ≤ (D.state disk.old).blocks }
     ensures looks { OnlyLooks result (D.state disk.old) (D.state disk.new) }
-    ensures deep { result ≢ Err TreeFault.Deep }
-    ensures memory { result ≢ Err TreeFault.Memory }
     ensures once { ReadsOne blocks block (D.state disk.old).reads (D.state disk.new).reads }
     ensures count { IfOk result (λ children. IsCount MAX_CHILDREN (length children.items)) }
     ensures low { IfOk result (λ children. level ≤ 7) }
@@ -144,8 +134,6 @@ pub fn rows_into<D: Disk>(
 ) -> Result<usize, TreeFault>
     requires { blocks ≤ (D.state disk.old).blocks }
     ensures looks { OnlyLooks result (D.state disk.old) (D.state disk.new) }
-    ensures deep { result ≢ Err TreeFault.Deep }
-    ensures memory { result ≢ Err TreeFault.Memory }
     ensures once { ReadsOne blocks block (D.state disk.old).reads (D.state disk.new).reads }
     ensures count { IfOk result (IsRowsSize bytes.new) }
     ensures found { FindsData result (D.state disk.old) (D.state disk.new) blocks block bytes.new }
@@ -168,8 +156,6 @@ pub fn node_into<D: Disk>(
 ) -> Result<usize, TreeFault>
     requires { blocks ≤ (D.state disk.old).blocks }
     ensures looks { OnlyLooks result (D.state disk.old) (D.state disk.new) }
-    ensures deep { result ≢ Err TreeFault.Deep }
-    ensures memory { result ≢ Err TreeFault.Memory }
     ensures once { ReadsOne blocks block (D.state disk.old).reads (D.state disk.new).reads }
     ensures count { IfOk result (λ count. IsNodeOf bytes.new level count) }
     ensures found { FindsData result (D.state disk.old) (D.state disk.new) blocks block bytes.new }

@@ -10,9 +10,10 @@ ghost use Rattle.vm_tree.specs.Removing.{LeavesOut, LeavesRest, LooksIfNothing, 
 ghost use Rattle.vm_tree.specs.Replacing.{KeepsAbove, long_of};
 ghost use Rattle.vm_tree.specs.Root.{AreSizes, sizes_of};
 
+use crate::faults::TreeFault;
 use crate::linking::linked;
 use crate::reading::{load_block, load_way};
-use crate::root::{Root, TreeFault, root_at};
+use crate::root::{Root, root_at};
 use crate::splicing::spliced;
 use crate::writing::{write_bytes, write_node_block};
 use arrayvec::ArrayVec;
@@ -67,8 +68,6 @@ fn load_rows<D: Disk, const MOST: usize>(
 ) -> Result<(), TreeFault>
     requires { blocks ≤ (D.state disk.old).blocks }
     ensures looks { OnlyLooks result (D.state disk.old) (D.state disk.new) }
-    ensures deep { result ≢ Err TreeFault.Deep }
-    ensures memory { result ≢ Err TreeFault.Memory }
     ensures end { FindsEnd result (D.state disk.old) (D.state disk.new) blocks top }
     ensures only { GivesRowsAmong result (D.state disk.old) (D.state disk.new)
         blocks top MOST (D.hand disk.new) }
@@ -93,8 +92,6 @@ fn remove_from_leaf<D: Disk, const LEAF: usize>(
     requires most { LEAF ≤ MAX_ROWS }
     requires free { 1 ≤ free_count held.old }
     ensures writes { WritesFree result held.old held.new (D.state disk.old) (D.state disk.new) }
-    ensures deep { result ≢ Err TreeFault.Deep }
-    ensures memory { result ≢ Err TreeFault.Memory }
     ensures level { IfOk result (λ left. level_of left 0 ≡ 0) }
     ensures taken { TakesAtMost 1 held.old held.new }
     ensures same { LooksIfSame result held.old held.new (D.state disk.old) (D.state disk.new) }
@@ -129,8 +126,6 @@ fn narrowed<D: Disk, const FAN: usize>(
 ) -> Result<Root, TreeFault>
     requires { blocks ≤ (D.state disk.old).blocks }
     ensures looks { OnlyLooks result (D.state disk.old) (D.state disk.new) }
-    ensures deep { result ≢ Err TreeFault.Deep }
-    ensures memory { result ≢ Err TreeFault.Memory }
     ensures level { IfOk result (λ root. root.level ≤ level) }
     ensures narrow { NarrowsTo result FAN (D.state disk.old) (D.state disk.new) blocks level top }
 {
@@ -162,8 +157,6 @@ fn write_rest<D: Disk, const FAN: usize>(
     requires most { FAN ≤ MAX_CHILDREN }
     requires free { 1 ≤ free_count held.old }
     ensures writes { WritesFree result held.old held.new (D.state disk.old) (D.state disk.new) }
-    ensures deep { result ≢ Err TreeFault.Deep }
-    ensures memory { result ≢ Err TreeFault.Memory }
     ensures changed { result ≢ Ok Left.Same }
     ensures level { IfOk result (λ left. level_of left level ≤ level) }
     ensures same_level { is_root ≡ false → IfOk result (λ left. level_of left level ≡ level) }
@@ -202,8 +195,6 @@ fn remove_below<D: Disk, const LEAF: usize, const FAN: usize>(
     requires low { level ≤ 7 }
     requires free { level + 1 ≤ free_count held.old }
     ensures writes { WritesFree result held.old held.new (D.state disk.old) (D.state disk.new) }
-    ensures deep { result ≢ Err TreeFault.Deep }
-    ensures memory { result ≢ Err TreeFault.Memory }
     ensures fits { KeyFits key }
     ensures level { IfOk result (λ left. level_of left level ≤ level) }
     ensures same_level { is_root ≡ false → IfOk result (λ left. level_of left level ≡ level) }
@@ -258,8 +249,6 @@ pub fn remove<D: Disk, const LEAF: usize, const FAN: usize, const LEVELS: usize>
     requires sizes { AreSizes LEAF FAN LEVELS }
     requires inside { length held.old ≤ (D.state disk.old).blocks }
     requires room { 16 ≤ free_count held.old }
-    ensures deep { result ≢ Err TreeFault.Deep }
-    ensures memory { result ≢ Err TreeFault.Memory }
     ensures level { IfOk result (λ rest. IfSome rest (λ r. r.level < LEVELS)) }
 
     // What is held stays held, and at no moment has a block that was held other bytes than before.

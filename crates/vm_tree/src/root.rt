@@ -1,4 +1,4 @@
-//! Where a map stands, and what a call on it answers where it gives no map.
+//! Where a map stands.
 ghost use Rattle.std.specs.Prelude.{◌≡◌};
 
 use vm_block::Child;
@@ -11,19 +11,6 @@ pub struct Root {
     pub block: u32,
     pub level: u8,
     pub low: Key,
-}
-
-/// Why a call on a tree gave no answer.
-#[derive(Clone, Copy, Debug, PartialEq, Eq)]
-pub enum TreeFault {
-    /// The device failed in this call.
-    Device,
-    /// This block is not what a tree has there.
-    Damaged(u32),
-    /// The tree has no room for one more record where it belongs.
-    Deep,
-    /// No memory was found for the records of a tree.
-    Memory,
 }
 
 /// The root that is the top of a subtree of this level.

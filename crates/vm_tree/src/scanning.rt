@@ -3,28 +3,26 @@ ghost use Rattle.std.specs.Prelude.{◌≡◌, ◌≢◌, ◌<◌, ◌≤◌, []
 ghost use Rattle.vm_types.specs.Bytes.{longest};
 ghost use Rattle.vm_block.specs.Told.{IfLeafRowAt};
 ghost use Rattle.vm_tree.specs.Answers.{Lists};
-ghost use Rattle.vm_tree.specs.Calls.{OnlyLooks};
+ghost use Rattle.vm_tree.specs.Calls.{OnlyLists};
 ghost use Rattle.vm_tree.specs.Giving.{Adds, AddsLeaf, AddsLinked, AddsRow, GivesMap};
 
+use crate::faults::{ListFault, TreeFault};
 use crate::long::long_at;
 use crate::reading::{node_at, rows_into};
-use crate::root::{Root, TreeFault};
+use crate::root::Root;
 use std::alloc::Global;
 use vm_block::{Link, MAX_ROWS, Stored, record_key, stored_at};
 use vm_disk::Disk;
 use vm_types::{Key, Records};
 
 /// Adds a record. Where no memory is found, it changes nothing.
-fn push_value(key: Key, value: &[u8], into: &mut Records) -> Result<(), TreeFault>
+fn push_value(key: Key, value: &[u8], into: &mut Records) -> Result<(), ListFault>
     requires { length value.now ≤ longest }
-    ensures looks { result ≢ Err TreeFault.Device }
-    ensures deep { result ≢ Err TreeFault.Deep }
+    ensures looks { result ≢ Err (ListFault.Tree TreeFault.Device) }
     ensures added { Lists result (λ _. into.new ≡ into.old ++ (key, value.now) ∷ []) }
 {
-    match into.push(key, value) {
-        Ok(()) => Ok(()),
-        Err(_) => Err(TreeFault::Memory),
-    }
+    into.push(key, value)?;
+    Ok(())
 }
 
 /// Adds the record with the long value to which a row of a leaf links. It stands alone, and is
@@ -36,10 +34,9 @@ fn push_long<D: Disk>(
     key: Key,
     link: Link,
     into: &mut Records,
-) -> Result<(), TreeFault>
+) -> Result<(), ListFault>
     requires { blocks ≤ (D.state disk.old).blocks }
-    ensures looks { OnlyLooks result (D.state disk.old) (D.state disk.new) }
-    ensures deep { result ≢ Err TreeFault.Deep }
+    ensures looks { OnlyLists result (D.state disk.old) (D.state disk.new) }
     ensures added { AddsLinked result (D.state disk.old) (D.state disk.new)
         blocks key link into.old into.new }
 {
@@ -57,11 +54,10 @@ fn push_row<D: Disk>(
     bytes: &[u8; 4096],
     i: usize,
     into: &mut Records,
-) -> Result<(), TreeFault>
+) -> Result<(), ListFault>
     requires inside { blocks ≤ (D.state disk.old).blocks }
     requires few { i < MAX_ROWS }
-    ensures looks { OnlyLooks result (D.state disk.old) (D.state disk.new) }
-    ensures deep { result ≢ Err TreeFault.Deep }
+    ensures looks { OnlyLists result (D.state disk.old) (D.state disk.new) }
     ensures added { IfLeafRowAt bytes.now i
         (AddsRow result (D.state disk.old) (D.state disk.new) blocks into.old into.new) }
 {
@@ -69,7 +65,7 @@ fn push_row<D: Disk>(
     match stored_at(bytes, i) {
         Some(Stored::Short(value)) => push_value(key, value, into),
         Some(Stored::Long(link)) => push_long(disk, blocks, key, link, into),
-        None => Err(TreeFault::Damaged(leaf)),
+        None => Err(ListFault::Tree(TreeFault::Damaged(leaf))),
     }
 }
 
@@ -81,11 +77,10 @@ fn push_rows<D: Disk>(
     bytes: &[u8; 4096],
     count: usize,
     into: &mut Records,
-) -> Result<(), TreeFault>
+) -> Result<(), ListFault>
     requires inside { blocks ≤ (D.state disk.old).blocks }
     requires few { count ≤ MAX_ROWS }
-    ensures looks { OnlyLooks result (D.state disk.old) (D.state disk.new) }
-    ensures deep { result ≢ Err TreeFault.Deep }
+    ensures looks { OnlyLists result (D.state disk.old) (D.state disk.new) }
     ensures added { AddsLeaf result (D.state disk.old) (D.state disk.new)
         blocks bytes.now count into.old into.new }
 {
@@ -101,10 +96,9 @@ fn scan_leaf<D: Disk>(
     blocks: u32,
     block: u32,
     into: &mut Records,
-) -> Result<(), TreeFault>
+) -> Result<(), ListFault>
     requires { blocks ≤ (D.state disk.old).blocks }
-    ensures looks { OnlyLooks result (D.state disk.old) (D.state disk.new) }
-    ensures deep { result ≢ Err TreeFault.Deep }
+    ensures looks { OnlyLists result (D.state disk.old) (D.state disk.new) }
     ensures added { Adds result (D.state disk.old) (D.state disk.new) blocks 0 block into.old into.new }
 {
     let mut bytes = [0; 4096];
@@ -119,10 +113,9 @@ fn scan_below<D: Disk>(
     level: u8,
     block: u32,
     into: &mut Records,
-) -> Result<(), TreeFault>
+) -> Result<(), ListFault>
     requires { blocks ≤ (D.state disk.old).blocks }
-    ensures looks { OnlyLooks result (D.state disk.old) (D.state disk.new) }
-    ensures deep { result ≢ Err TreeFault.Deep }
+    ensures looks { OnlyLists result (D.state disk.old) (D.state disk.new) }
     ensures added { Adds result (D.state disk.old) (D.state disk.new)
         blocks level block into.old into.new }
 {
@@ -142,10 +135,9 @@ pub fn scan<D: Disk>(
     disk: &mut D,
     blocks: u32,
     root: Root,
-) -> Result<Records, TreeFault>
+) -> Result<Records, ListFault>
     requires { blocks ≤ (D.state disk.old).blocks }
-    ensures looks { OnlyLooks result (D.state disk.old) (D.state disk.new) }
-    ensures deep { result ≢ Err TreeFault.Deep }
+    ensures looks { OnlyLists result (D.state disk.old) (D.state disk.new) }
 
     // On a tree it is the whole map, whatever the sizes of its blocks, unless the device fails or no memory is found.
     ensures records { GivesMap result (D.state disk.old) (D.state disk.new) blocks root }

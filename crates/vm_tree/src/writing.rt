@@ -6,7 +6,7 @@ ghost use Rattle.vm_tree.specs.Calls.{WritesFree};
 ghost use Rattle.vm_tree.specs.Free.{IsTaken, AreTaken, TakesAtMost, is_free};
 ghost use Rattle.vm_tree.specs.Making.{HasWritten, IfOne, MakesNode, MakesNodes, WritesLeaf, WritesNode, children_of, is_split};
 
-use crate::root::TreeFault;
+use crate::faults::TreeFault;
 use vm_alloc::Held;
 use vm_block::{Child, MAX_CHILDREN, lowest_key, write_node};
 use vm_disk::Disk;

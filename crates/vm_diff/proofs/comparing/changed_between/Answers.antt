@@ -28,7 +28,7 @@ pub steps-preserved : goal.steps-preserved
 steps-preserved g c =
     let R : List Change → Type 0 = λ cs. Compares (g.D.Disk.state c.args.disk.now) (g.D.Disk.state c.step.new.disk) c.args.blocks c.begin.new.self c.begin-2.new.self c.pass_change.new.one c.pass_change.new.other cs in
     let found : Change = record { key = c.in-Found.key; before = option_copied c.value_at.result; after = option_copied c.value_at-in-Found.result } in
-    let is : c.push.new.self ≡ c.steps.changes ++ found ∷ [] = c.in-Ok.ensures.ok in
+    let is : c.push.new.self ≡ c.steps.changes ++ found ∷ [] = c.in_ok-push-in-Found.ensures.ok in
     subst R (sym is)
     (compares_found (g.D.Disk.state c.args.disk.now) (g.D.Disk.state c.steps.disk) (g.D.Disk.state c.step.new.disk) c.step.ensures.looks.goes.earlier c.args.blocks c.begin.new.self c.begin-2.new.self c.steps.one c.steps.other c.steps.changes c.steps.invariant c.step.new.one c.step.new.other c.pass_change.new.one c.pass_change.new.other c.in_ok-next.next c.in-Found.key found c.in-Found.is c.in_ok-next.ensures.looks c.in_ok-next.ensures.steps
     (c.pass_change.ensures.change found.before found.after (c.value_at.ensures.there, c.value_at.ensures.none) (c.value_at-in-Found.ensures.there, c.value_at-in-Found.ensures.none)))
@@ -51,8 +51,8 @@ returns-in_err-next-clause-bound g c honest sizes m n bs cs first second =
     (λ none. c.if-not-begin.ensures.empty none refl) (λ some. c.if-not-begin.ensures.some some refl) (λ none. c.if-not-begin-2.ensures.empty none refl) (λ some. c.if-not-begin-2.ensures.some some refl) first second in
     compares_bound (g.D.Disk.state c.args.disk.now) (g.D.Disk.state c.steps.disk) (g.D.Disk.state c.step.new.disk) c.step.ensures.looks.goes.earlier c.args.blocks c.begin.new.self c.begin-2.new.self c.steps.one c.steps.other c.steps.changes c.steps.invariant (g.D.Disk.state c.step.new.disk).reads c.in_err-next.ensures.bound honest sizes _ (delta m n) differ
 
-pub returns-in-Err-clause-bound : goal.returns-in-Err-clause-bound
-returns-in-Err-clause-bound g c honest sizes m n bs cs first second =
+pub returns-in_err-push-in-Found-clause-bound : goal.returns-in_err-push-in-Found-clause-bound
+returns-in_err-push-in-Found-clause-bound g c honest sizes m n bs cs first second =
     let differ = roots_differ sizes (g.D.Disk.state c.args.disk.now).now.contents c.args.blocks (g.D.Disk.state c.args.disk.now).reads c.args.first c.args.second c.begin.new.self c.begin-2.new.self m n bs cs
     (λ none. c.if-not-begin.ensures.empty none refl) (λ some. c.if-not-begin.ensures.some some refl) (λ none. c.if-not-begin-2.ensures.empty none refl) (λ some. c.if-not-begin-2.ensures.some some refl) first second in
     compares_bound (g.D.Disk.state c.args.disk.now) (g.D.Disk.state c.steps.disk) (g.D.Disk.state c.step.new.disk) c.step.ensures.looks.goes.earlier c.args.blocks c.begin.new.self c.begin-2.new.self c.steps.one c.steps.other c.steps.changes c.steps.invariant (g.D.Disk.state c.step.new.disk).reads c.in_ok-next.ensures.bound honest sizes _ (delta m n) differ
@@ -63,5 +63,5 @@ returns-in-Done-clause-looks g c = looks_on c.steps.invariant.looks c.in_ok-next
 pub returns-in_err-next-clause-looks : goal.returns-in_err-next-clause-looks
 returns-in_err-next-clause-looks g c = looks_on c.steps.invariant.looks c.in_err-next.ensures.looks (search rules)
 
-pub returns-in-Err-clause-looks : goal.returns-in-Err-clause-looks
-returns-in-Err-clause-looks g c = looks_on c.steps.invariant.looks c.in_ok-next.ensures.looks (λ is. cc)
+pub returns-in_err-push-in-Found-clause-looks : goal.returns-in_err-push-in-Found-clause-looks
+returns-in_err-push-in-Found-clause-looks g c = looks_on c.steps.invariant.looks c.in_ok-next.ensures.looks (search rules)

@@ -7,7 +7,7 @@ use Rattle.vm_block.specs.declared.node.Child.{Child}
 use Rattle.vm_types.specs.Places.{place, with_record}
 use Rattle.vm_tree.specs.Free.{TakesAtMost, long_blocks}
 use Rattle.vm_tree.specs.Tree.{Subtree}
-use Rattle.vm_tree.specs.declared.root.TreeFault.TheVariants.{Deep}
+use Rattle.vm_tree.specs.declared.faults.PutFault.TheVariants.{Deep}
 use Rattle.vm_tree.specs.Root.{sizes_of}
 use Rattle.vm_tree.specs.Making.{Made, PutsBelow, Splits, is_split, with_copied}
 use Rattle.vm_tree.specs.Reading.{IsNodeAt}
@@ -16,8 +16,8 @@ use Rattle.vm_tree.proofs.HandLemmas.{hand_node}
 use Rattle.vm_tree.proofs.Beside.{node_path, path_alone, path_grown, path_leaf}
 use Rattle.vm_tree.proofs.Looking.{looks_free, looks_if, looks_write, passed_on, writes_on}
 use Rattle.vm_tree.proofs.Descent.{node_read}
-use Rattle.vm_tree.proofs.Leading.{leads_on, if_ok_is, if_ok_so}
-use Rattle.vm_tree.proofs.PutLemmas.{asked_of, node_put, not_split, there_below, node_fault, device_below, ok_if, only_one}
+use Rattle.vm_tree.proofs.Leading.{leads_on, if_ok_so}
+use Rattle.vm_tree.proofs.PutLemmas.{asked_of, node_put, not_split, there_below, node_fault, device_below, only_one}
 use Rattle.vm_tree.proofs.Sparing.{held_kept}
 use Rattle.vm_tree.proofs.putting.+put_below.Goals as goal
 use Rattle.vm_tree.proofs.putting.+put_below.Goals.{then-room, else-room}
@@ -62,20 +62,20 @@ returns-clause-put g t c levels honest rs bs tree begins rises =
     let i = c.in_ok-way.way.index in
     let d = c.in_ok-way.way.child in
     let lent = with_copied cs i c.in_ok-copied.copied in
-    let fine = c.write_replaced.ensures.fine cs (hand_node (sym c.at_hand.ensures) way.0) way.1 in
+    let fine = c.in_ok-write_replaced.ensures.fine cs (hand_node (sym c.at_hand.ensures) way.0) way.1 in
     let limit = length c.args.held.now in
     let y = (g.D.Disk.state c.put_below.new.disk).now.contents in
     let under = path_from (c.args.level - 1) c.put_below.new.path in
     node_put sizes old _ limit c.args.level c.args.top.block r rs bs cs i d still above tree rises only way.2.chosen
     c.args.held.now c.put_below.new.held c.write_replaced.new.held (path_from c.args.level c.put_below.new.path) under y (g.D.Disk.state c.write_replaced.new.disk).now.contents
-    (length c.put_below.new.held) c.in_ok-copied.copied lent c.write_replaced.result _
+    (length c.put_below.new.held) c.in_ok-copied.copied lent c.in_ok-write_replaced.field-0
     c.in_ok-copied.ensures.writes.still.same_length (path_grown c.put_below.new.path c.args.path.now c.args.level c.from.result c.args.top.block d.block (c.in_ok-copied.ensures.path_size ∙ length-set c.args.path.now c.from.result c.args.top.block ∙ c.told-path) c.told-path c.requires.low c.from.ensures above c.in_ok-copied.ensures.path_above)
     d way.2.child (c.in_ok-copied.ensures.path_in levels (c.write_replaced.ensures.writes.goes.earlier honest))
     (asked_of sizes old _ limit c.args.level c.args.top.block r rs bs cs i d still above tree rises only way.2.chosen d (Ok c.in_ok-copied.copied)
     (λ ds qs own. Replaces c.args.held.now c.put_below.new.held under own (λ P. Made P sizes y limit (c.args.level - 1) ds qs)) way.2.child (c.in_ok-copied.ensures.put levels (c.write_replaced.ensures.writes.goes.earlier honest)))
     (held_kept c.args.held.now _ _ (c.in_ok-copied.ensures.writes.moments (c.write_replaced.ensures.writes.goes.earlier honest))) c.in_ok-copied.ensures.writes.still
-    refl fine (ok_if c.write_replaced.result _ fine)
-    (λ keep qs rising made. c.write_replaced.ensures.made honest c.args.held.now keep c.in_ok-copied.ensures.writes.still sizes cs qs (hand_node (sym c.at_hand.ensures) way.0) way.1 (omega arith) rising made)
+    refl fine
+    (λ keep qs rising made. c.in_ok-write_replaced.ensures.made honest c.args.held.now keep c.in_ok-copied.ensures.writes.still sizes cs qs (hand_node (sym c.at_hand.ensures) way.0) way.1 (omega arith) rising made)
 
 pub returns-clause-path_in : goal.returns-clause-path_in
 returns-clause-path_in g t c levels honest rs bs tree begins rises =
@@ -89,10 +89,9 @@ returns-clause-path_in g t c levels honest rs bs tree begins rises =
     let way = c.in_ok-way.ensures.only earlier read.0 (subst (λ n. IsNodeAt old.contents n c.args.level c.args.top.block read.0) (sym c.blocks-2.ensures.count) read.1) (read.3 c.args.top.low begins) read.2 in
     let only = only_one old.contents limit c.args.level c.args.top.block sizes.fan read.0 read.1 in
     let d = c.in_ok-way.way.child in
-    if_ok_is c.write_replaced.result _
-    (node_path sizes old _ limit c.args.level c.args.top.block (place c.args.key) rs bs read.0 c.in_ok-way.way.index d still above tree rises only way.2.chosen d _ _ way.2.child
+    node_path sizes old _ limit c.args.level c.args.top.block (place c.args.key) rs bs read.0 c.in_ok-way.way.index d still above tree rises only way.2.chosen d _ _ way.2.child
     (path_grown c.put_below.new.path c.args.path.now c.args.level c.from.result c.args.top.block d.block (c.in_ok-copied.ensures.path_size ∙ length-set c.args.path.now c.from.result c.args.top.block ∙ c.told-path) c.told-path c.requires.low c.from.ensures above c.in_ok-copied.ensures.path_above)
-    (c.in_ok-copied.ensures.path_in levels (c.write_replaced.ensures.writes.goes.earlier honest)))
+    (c.in_ok-copied.ensures.path_in levels (c.write_replaced.ensures.writes.goes.earlier honest))
 
 pub returns-in_err-copied-clause-put : goal.returns-in_err-copied-clause-put
 returns-in_err-copied-clause-put g t c levels honest rs bs tree begins rises =
@@ -126,9 +125,8 @@ returns-in_err-way-clause-put g t c levels honest rs bs tree begins rises =
 
 pub returns-clause-path : goal.returns-clause-path
 returns-clause-path g t c honest =
-    if_ok_is c.write_replaced.result _
-    (leads_on _ _ _ (length c.args.held.now) c.args.level c.args.top.block c.args.top.low c.in_ok-way.way.child (omega (arith, c.if-level-eq0.false)) c.blocks-2.ensures.count
-    (same_medium _ _ (c.in_ok-way.ensures.looks.reads (c.in_ok-copied.ensures.writes.goes.earlier (c.write_replaced.ensures.writes.goes.earlier honest)))) (c.in_ok-way.ensures.step (c.in_ok-copied.ensures.writes.goes.earlier (c.write_replaced.ensures.writes.goes.earlier honest))) (c.in_ok-copied.ensures.path (c.write_replaced.ensures.writes.goes.earlier honest)))
+    leads_on _ _ _ (length c.args.held.now) c.args.level c.args.top.block c.args.top.low c.in_ok-way.way.child (omega (arith, c.if-level-eq0.false)) c.blocks-2.ensures.count
+    (same_medium _ _ (c.in_ok-way.ensures.looks.reads (c.in_ok-copied.ensures.writes.goes.earlier (c.write_replaced.ensures.writes.goes.earlier honest)))) (c.in_ok-way.ensures.step (c.in_ok-copied.ensures.writes.goes.earlier (c.write_replaced.ensures.writes.goes.earlier honest))) (c.in_ok-copied.ensures.path (c.write_replaced.ensures.writes.goes.earlier honest))
 
 pub returns-clause-replaced : goal.returns-clause-replaced
 returns-clause-replaced g t c levels honest rs bs tree begins rises there =
@@ -150,10 +148,23 @@ returns-clause-replaced g t c levels honest rs bs tree begins rises there =
       c.in_ok-copied.ensures.replaced levels (c.write_replaced.ensures.writes.goes.earlier honest) sub own under low rising found,
       not_split c.in_ok-copied.copied sizes _ (place c.args.key) (c.args.level - 1) d.block sub (c.in_ok-copied.ensures.put levels (c.write_replaced.ensures.writes.goes.earlier honest) sub own under low rising).1.0 found,
     )) in
-    if_ok_is c.write_replaced.result _ (omega (arith, below.0, c.write_replaced.ensures.alone below.1))
+    omega (arith, below.0, c.write_replaced.ensures.alone below.1)
 
 pub returns-clause-writes : goal.returns-clause-writes
-returns-clause-writes g t c = looks_write c.in_ok-way.ensures.looks (writes_on c.in_ok-copied.ensures.writes c.write_replaced.ensures.writes (λ is. is)) (λ is. is)
+returns-clause-writes g t c = looks_write c.in_ok-way.ensures.looks (writes_on c.in_ok-copied.ensures.writes c.in_ok-write_replaced.ensures.writes (λ is. is)) (λ is. cc)
+
+pub returns-in_err-write_replaced-clause-writes : goal.returns-in_err-write_replaced-clause-writes
+returns-in_err-write_replaced-clause-writes g t c =
+    looks_write c.in_ok-way.ensures.looks (writes_on c.in_ok-copied.ensures.writes c.in_err-write_replaced.ensures.writes (λ is. is)) (search rules)
+
+pub returns-in_err-write_replaced-clause-put : goal.returns-in_err-write_replaced-clause-put
+returns-in_err-write_replaced-clause-put g t c levels honest rs bs tree begins rises =
+    let sizes = sizes_of g.row.LEAF g.row.FAN levels in
+    let x = (g.D.Disk.state c.args.disk.now).now.contents in
+    let earlier = c.in_ok-copied.ensures.writes.goes.earlier (c.in_err-write_replaced.ensures.writes.goes.earlier honest) in
+    let read = node_read sizes x (length c.args.held.now) c.args.level c.args.top.block rs bs (omega (arith, c.if-level-eq0.false)) tree in
+    let way = c.in_ok-way.ensures.only earlier read.0 (subst (λ n. IsNodeAt x n c.args.level c.args.top.block read.0) (sym c.blocks-2.ensures.count) read.1) (read.3 c.args.top.low begins) read.2 in
+    rw (passed_on _ c.from_residual-in_err-write_replaced.ensures.1) (device_below _ _ _ (c.in_err-write_replaced.ensures.fine read.0 (hand_node (sym c.at_hand.ensures) way.0) way.1))
 
 pub returns-in_err-way-clause-writes : goal.returns-in_err-way-clause-writes
 returns-in_err-way-clause-writes g t c = looks_free c.in_err-way.ensures.looks (search rules)

@@ -1,4 +1,4 @@
-use Rattle.std.proofs.Common.{◌≡◌, ◌∙◌, ℕ, List, [], ◌+◌, ◌≤◌, ◌<◌, Err, IfOk, true, length, ap, sym, subst, refl, inl, inr, arith, rules}
+use Rattle.std.proofs.Common.{◌≡◌, ◌∙◌, ℕ, List, [], ◌+◌, ◌≤◌, ◌<◌, Err, true, length, ap, sym, subst, refl, inl, inr, arith, rules}
 use Rattle.std.specs.Prelude.{slice_set}
 use Rattle.std.specs.List.{AllByRecursion}
 use Rattle.std.proofs.lemmas.Bool.{false≢true, ltb-false, ltb-true}
@@ -13,10 +13,9 @@ use Rattle.vm_tree.specs.Root.{IsRootedIn, sizes_of}
 use Rattle.vm_tree.proofs.Looking.{looks_as, passed_on, writes_on}
 use Rattle.vm_tree.proofs.Descent.{subtree_top}
 use Rattle.vm_tree.proofs.PutLemmas.{not_split}
-use Rattle.vm_tree.proofs.Renewing.{if_ok_map, lacks, path_bare, path_none, path_some, path_there, renewed_beside, replaces_whole, rooted_so}
+use Rattle.vm_tree.proofs.Renewing.{lacks, path_bare, path_none, path_some, path_there, renewed_beside, replaces_whole, rooted_so}
 use Rattle.vm_tree.proofs.RootRemoval.{rooted_top, value_there}
-use Rattle.vm_tree.proofs.RootLemmas.{splits_lacks, root_one, root_two, fault_puts, first_puts}
-use Rattle.vm_tree.proofs.Leading.{if_ok_is}
+use Rattle.vm_tree.proofs.RootLemmas.{splits_lacks, root_one, root_two, device_puts, fault_puts}
 use Rattle.vm_tree.proofs.putting.put.Goals as goal
 
 pub returns-then-root-eq0-clause-put : goal.returns-then-root-eq0-clause-put
@@ -28,15 +27,19 @@ returns-then-root-eq0-clause-put g c honest m bs (inl bare) =
     let limit = length before in
     let path = path_under c.args.root (slice_set c.args.path.now 8 0) in
     let none = path_bare c.args.root c.args.path.now c.told-path c.if-root-eq0.true in
-    let made = c.put_first.ensures.put honest (lacks path) sizes (omega (arith, c.requires.sizes.leaf_least)) (omega (arith, c.requires.sizes.levels_least)) in
+    let made = c.in_ok-put_first.ensures.put honest (lacks path) sizes (omega (arith, c.requires.sizes.leaf_least)) (omega (arith, c.requires.sizes.levels_least)) in
     let R : (ℕ → Type 0) → Map → Root → Type 0 = λ P n r. IsRootedIn sizes P x limit r (with_value n c.args.key c.args.value.now) in
-    first_puts c.put_first.result _ _ _ (R (IsHeldBeside held path) m) c.put_first.ensures.device
-    (λ (lacks : LacksRoom sizes _ c.args.root m c.args.key). omega (arith, lacks.some, c.if-root-eq0.true))
-    (subst (λ (n : Map). IfOk c.put_first.result (R (IsHeldBeside held path) n)) (sym bare.empty)
-    (if_ok_map c.put_first.result (R (IsRenewed before held (lacks path)) []) (R (IsHeldBeside held path) []) made
-    (λ r stands. rooted_so (IsRenewed before held (lacks path)) (IsHeldBeside held path) sizes x limit r (with_value [] c.args.key c.args.value.now) (λ n is. record { now = is.now; lacks = subst (Lacks n) (sym none) tt }) stands)))
+    let root = c.in_ok-put_first.field-0 in
+    let now = rooted_so (IsRenewed before held (lacks path)) (IsHeldBeside held path) sizes x limit root (with_value [] c.args.key c.args.value.now) (λ n is. record { now = is.now; lacks = subst (Lacks n) (sym none) tt }) made in (
+      λ all. subst (λ (n : Map). R (IsHeldBeside held path) n root) (sym bare.empty) now,
+      λ (lacks : LacksRoom sizes _ c.args.root m c.args.key). omega (arith, lacks.some, c.if-root-eq0.true),
+    )
 returns-then-root-eq0-clause-put g c honest m bs (inr top) =
     let inside = subtree_top _ _ _ _ _ m bs top.subtree in absurd (omega (arith, c.if-root-eq0.true, inside.0))
+
+pub returns-in_err-put_first-clause-put : goal.returns-in_err-put_first-clause-put
+returns-in_err-put_first-clause-put g c honest m bs rooted =
+    rw (passed_on _ c.from_residual.ensures.1) (device_puts _ _ _ c.in_err-put_first.ensures.device)
 
 pub returns-in-One-clause-put : goal.returns-in-One-clause-put
 returns-in-One-clause-put g c honest m bs (inl bare) = absurd (c.if-root-eq0.false bare.none)
@@ -99,17 +102,17 @@ returns-in_err-copied-clause-put g c honest m bs (inl bare) = absurd (c.if-root-
 returns-in_err-copied-clause-put g c honest m bs (inr top) =
     let sizes = sizes_of g.row.LEAF g.row.FAN g.row.LEVELS in
     let x = (g.D.Disk.state c.args.disk.now).now.contents in
-    rw (passed_on _ c.from_residual.ensures.1) (fault_puts _ (Splits sizes x (place c.args.key) c.args.root.level c.args.root.block m) (LacksRoom sizes x c.args.root m c.args.key) _ _
+    rw (passed_on _ c.from_residual-in_err-copied.ensures.1) (fault_puts _ (Splits sizes x (place c.args.key) c.args.root.level c.args.root.block m) (LacksRoom sizes x c.args.root m c.args.key) _ _
     (c.in_err-copied.ensures.put g.row.LEVELS honest m bs top.subtree top.lowest top.rising)
     (λ is splits.
     let none = ltb-false (c.from-2.result + 1) g.row.LEVELS (c.in_err-copied.ensures.deep (ap Err is)).0 in
     splits_lacks sizes x _ c.args.root m bs c.args.key c.put_below.ensures.fits top (omega (arith, none, c.from-2.ensures, top.level)) splits))
 
 pub returns-then-root-eq0-clause-path : goal.returns-then-root-eq0-clause-path
-returns-then-root-eq0-clause-path g c honest = if_ok_is c.put_first.result _ (λ some. absurd (omega (arith, some, c.if-root-eq0.true)))
+returns-then-root-eq0-clause-path g c honest = λ some. absurd (omega (arith, some, c.if-root-eq0.true))
 
 pub returns-then-root-eq0-clause-replaced : goal.returns-then-root-eq0-clause-replaced
-returns-then-root-eq0-clause-replaced g c honest m bs rooted there = if_ok_is c.put_first.result _ (omega (arith, c.put_first.ensures.taken))
+returns-then-root-eq0-clause-replaced g c honest m bs rooted there = omega (arith, c.put_first.ensures.taken)
 
 pub returns-in-One-clause-replaced : goal.returns-in-One-clause-replaced
 returns-in-One-clause-replaced g c honest m bs (inl bare) there = absurd (c.if-root-eq0.false bare.none)
@@ -125,7 +128,7 @@ returns-in_ok-top-in-Two-clause-replaced g c honest m bs (inr top) there =
     absurd (false≢true (sym one ∙ ap is_split c.in-Two.is))
 
 pub returns-then-root-eq0-clause-path_in : goal.returns-then-root-eq0-clause-path_in
-returns-then-root-eq0-clause-path_in g c honest m bs rooted = if_ok_is c.put_first.result _ (path_none c.args.root c.args.path.now bs c.told-path c.if-root-eq0.true)
+returns-then-root-eq0-clause-path_in g c honest m bs rooted = path_none c.args.root c.args.path.now bs c.told-path c.if-root-eq0.true
 
 pub returns-in-One-clause-path_in : goal.returns-in-One-clause-path_in
 returns-in-One-clause-path_in g c honest m bs rooted =

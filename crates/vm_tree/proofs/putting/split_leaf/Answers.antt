@@ -9,7 +9,7 @@ use Rattle.vm_tree.specs.Making.{Made, children_of, is_split}
 use Rattle.vm_tree.specs.Replacing.{IsRenewed}
 use Rattle.vm_tree.specs.Tree.{IsWithin}
 use Rattle.vm_types.specs.Bytes.{longest}
-use Rattle.vm_tree.specs.declared.root.TreeFault.{TreeFault}
+use Rattle.vm_tree.specs.declared.faults.TreeFault.{TreeFault}
 use Rattle.vm_tree.specs.declared.writing.Copied.{Copied}
 use Rattle.vm_tree.proofs.HoldingLemmas.{all_many}
 use Rattle.vm_tree.proofs.LeafRows.{cut_leaf, leaf_moved, stand_moved, stand_with, with_each, with_many}

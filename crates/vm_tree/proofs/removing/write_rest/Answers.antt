@@ -5,12 +5,21 @@ use Rattle.vm_disk.proofs.MomentLemmas.{same_medium}
 use Rattle.vm_block.specs.Node.{ChildFits}
 use Rattle.vm_block.specs.declared.node.Child.{Child}
 use Rattle.vm_tree.specs.Tree.{Children, Subtree}
-use Rattle.vm_tree.specs.Removing.{Narrows}
+use Rattle.vm_tree.specs.Making.{Made}
+use Rattle.vm_tree.specs.Removing.{Narrows, child_of}
 use Rattle.vm_tree.specs.Replacing.{IsRenewed}
 use Rattle.vm_tree.specs.Root.{sizes_of}
+use Rattle.vm_tree.specs.declared.root.Root.{Root}
 use Rattle.vm_tree.proofs.Looking.{looks_free, passed_on}
 use Rattle.vm_tree.proofs.RemoveLemmas.{one_child, narrowed_made}
 use Rattle.vm_tree.proofs.removing.write_rest.Goals as goal
+
+pub returns-then-not-is_root-clause-rest : goal.returns-then-not-is_root-clause-rest
+returns-then-not-is_root-clause-rest g c honest leaf levels rs bs rises fits under before keep more all =
+    let sizes = sizes_of leaf g.row.FAN levels in
+    let y = (g.D.Disk.state c.write_node_block.new.disk).now.contents in
+    let made = c.in_ok-node.ensures.made honest before keep more sizes rs (omega (arith, c.requires.above)) (omega (arith, c.requires.low)) (omega (arith, c.requires.few)) rises (record { blocks = bs; under = under; each = all; fit = fits }) in
+    subst (λ (root : Root). Made (IsRenewed before c.write_node_block.new.held keep) sizes y (length c.args.held.now) root.level (child_of root ∷ []) rs) (sym c.root_at.ensures) made
 
 pub returns-clause-rest : goal.returns-clause-rest
 returns-clause-rest g c honest leaf levels rs bs rises fits under before keep more all =
