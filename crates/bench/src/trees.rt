@@ -7,8 +7,8 @@ use std::time::{Clock, Instant};
 use vm_alloc::{Held, Marks};
 use vm_check::{NotedDisk, mark};
 use vm_disk::{Disk, MemDisk};
-use vm_tree::{Root, TreeFault, get, put};
-use vm_types::{Key, Value};
+use vm_tree::{Root, get, put};
+use vm_types::{Key, Refusal, Value};
 
 const BLOCKS: u32 = 262_144;
 
@@ -74,7 +74,7 @@ impl Plot {
     }
 
     /// Holds the blocks of the tree, and no other block for data.
-    fn let_go(&mut self) -> Result<(), TreeFault> {
+    fn let_go(&mut self) -> Result<(), Refusal> {
         self.marks.clear();
         if self.marks.blocks() <= self.disk.blocks() {
             mark(&mut self.disk, &[self.root], &mut self.marks)?;
@@ -86,12 +86,12 @@ impl Plot {
         Ok(())
     }
 
-    fn put(&mut self, key: Key, value: &Value) -> Result<(), TreeFault> {
+    fn put(&mut self, key: Key, value: &Value) -> Result<(), Refusal> {
         if self.held.free_count() < 16 {
             self.let_go()?;
         }
         if self.held.free_count() < 16 || self.held.blocks() > self.disk.blocks() {
-            return Err(TreeFault::Memory);
+            return Err(Refusal::Memory);
         }
         self.root = put::<NotedDisk<MemDisk>, 16, 256, 8>(
             &mut self.disk,
@@ -105,7 +105,7 @@ impl Plot {
     }
 
     /// Whether the key has a value.
-    fn has(&mut self, key: Key, room: &mut [u8; 4096]) -> Result<bool, TreeFault> {
+    fn has(&mut self, key: Key, room: &mut [u8; 4096]) -> Result<bool, Refusal> {
         let blocks = self.disk.blocks();
         let found = get(&mut self.disk, blocks, self.root, key, room)?;
         Ok(found.is_some())

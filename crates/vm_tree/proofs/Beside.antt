@@ -163,9 +163,3 @@ node_path sizes old mid limit level b p rs bs cs i d still above tree rises only
     let child = subst (λ (m : Medium). Subtree sizes m.contents limit (level - 1) (get_or cs i d).block s.sub s.own) (sym still) s.child in
     let within = inside s.sub s.own (subst (λ (e : Child). Subtree sizes mid.contents limit (level - 1) e.block s.sub s.own) is child) (subst (λ (e : Child). BeginsWith e.low s.sub) is s.begins) at.way.rising in
     path_goes sizes old.contents limit level b p rs bs cs i d above tree rises at path under grown within
-
--- what is made, where this holds of what is to be kept
-pub if_ok_where : {T E : Type 0} (result : Result T E) (H K : (ℕ → Bool) → Type 0) (M : T → (ℕ → Bool) → Type 0) → ((keep : ℕ → Bool) → H keep → K keep → IfOk result (λ x. M x keep))
-    → IfOk result (λ x. (keep : ℕ → Bool) → H keep → K keep → M x keep)
-if_ok_where (Ok x) H K M made = made
-if_ok_where (Err e) H K M made = tt

@@ -53,11 +53,6 @@ fault_below (put.Tree Device) splits above P Q fault so = tt
 fault_below (put.Tree (Damaged b)) splits above P Q fault so = fault
 fault_below put.Deep splits above P Q fault so = so refl fault
 
--- a value was answered, or the device failed
-pub ok_if : {T : Type 0} (result : Result T TreeFault) (Q : T → Type 0) → OkOrDevice result Q → IfOk result Q
-ok_if (Ok x) Q h = h
-ok_if (Err e) Q h = tt
-
 -- an inner block has no other children
 pub only_one : (x : Contents) (limit level b most : ℕ) (cs : List Child) → IsNodeAt x limit level b cs → (ds : List Child) → IsNodeAt x limit level b ds → length ds ≤ most → cs ≡ ds
 only_one x limit level b most cs at ds other few = (node_one (block x b) level level cs ds at.node other.node).1

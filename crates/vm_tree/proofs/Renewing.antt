@@ -75,8 +75,3 @@ path_none root path bs many none n lacks = subst (Lacks n) (sym (path_bare root 
 -- a path from a root's level is one under the root
 pub path_some : (root : Root) (path bs : List ℕ) → root.block ≢ 0 → IsPathIn (path_from root.level path) bs → IsPathIn (path_under root path) bs
 path_some root path bs some within = subst (λ (ns : List ℕ). IsPathIn ns bs) (sym (path_there root path some)) within
-
--- what is answered, and what follows from it
-pub if_ok_map : {T E : Type 0} (result : Result T E) (P Q : T → Type 0) → IfOk result P → ((x : T) → P x → Q x) → IfOk result Q
-if_ok_map (Ok x) P Q h so = so x h
-if_ok_map (Err e) P Q h so = tt

@@ -8,7 +8,8 @@ use super::words::{Wrong, add_stored, add_value, key, level, link, long, number}
 use std::alloc::Global;
 use vm_block::read_leaf;
 use vm_disk::Disk;
-use vm_tree::{TreeFault, data_at, get, is_data, long_at, node_at, rows_into, scan};
+use vm_tree::{data_at, get, is_data, long_at, node_at, rows_into, scan};
+use vm_types::Refusal;
 
 /// The value of a key, or `~`.
 fn got(alloc: Global, bench: &mut Bench, number: u64) -> Result<String, Wrong> {
@@ -195,12 +196,10 @@ fn given(alloc: Global, bench: &mut Bench, words: &[&str]) -> Result<String, Wro
 }
 
 /// How a fault is written.
-fn fault_text(alloc: Global, fault: TreeFault) -> Result<String, Wrong> {
+fn fault_text(alloc: Global, fault: Refusal) -> Result<String, Wrong> {
     Ok(match fault {
-        TreeFault::Device => String::from_str(alloc, "error Device")?,
-        TreeFault::Deep => String::from_str(alloc, "error Deep")?,
-        TreeFault::Memory => String::from_str(alloc, "error Memory")?,
-        TreeFault::Damaged(block) => format!(in alloc; "error Damaged {block}")?,
+        Refusal::Damaged(block) => format!(in alloc; "error Damaged {block}")?,
+        _ => format!(in alloc; "error {}", fault.name())?,
     })
 }
 

@@ -8,8 +8,7 @@ use vm_block::{
     Child, Placed, Stored, put_row, read_leaf, read_node, write_leaf, write_long, write_node,
 };
 use vm_disk::Disk;
-use vm_tree::TreeFault;
-use vm_types::Key;
+use vm_types::{Key, Refusal};
 
 pub(super) fn bytes_of<D: Disk>(disk: &mut D, n: u32) -> Result<[u8; 4096], Wrong> {
     let mut bytes = [0; 4096];
@@ -168,7 +167,7 @@ pub(super) fn count_in<D: Disk>(disk: &mut D, n: u32) -> Result<usize, Wrong> {
     }
     match read_node(&bytes) {
         Some(node) => Ok(node.children.len()),
-        None => Err(Wrong::Tree(TreeFault::Damaged(n))),
+        None => Err(Wrong::Tree(Refusal::Damaged(n))),
     }
 }
 
@@ -176,6 +175,6 @@ pub(super) fn count_in<D: Disk>(disk: &mut D, n: u32) -> Result<usize, Wrong> {
 pub(super) fn child_at<D: Disk>(disk: &mut D, n: u32, at: u32) -> Result<Option<Child>, Wrong> {
     match read_node(&bytes_of(disk, n)?) {
         Some(node) => Ok(node.children.as_slice().get(at as usize).copied()),
-        None => Err(Wrong::Tree(TreeFault::Damaged(n))),
+        None => Err(Wrong::Tree(Refusal::Damaged(n))),
     }
 }

@@ -8,8 +8,8 @@ use std::test::Fail;
 use vm_alloc::Held;
 use vm_diff::{changed, same};
 use vm_disk::{Disk, FuseDisk, MemDisk};
-use vm_tree::{Root, TreeFault, put, remove};
-use vm_types::{Change, Key, Value};
+use vm_tree::{ListFault, Root, TreeFault, put, remove};
+use vm_types::{Change, Key, Refusal, Value};
 
 /// A disk that counts its calls, and the blocks that are held on it.
 #[derive(Drop)]
@@ -27,16 +27,16 @@ fn value(byte: u8) -> Value {
 }
 
 /// What cannot be made is answered `Memory`, here and below.
-fn new_bench(alloc: Global, blocks: u32) -> Result<Bench, TreeFault> {
+fn new_bench(alloc: Global, blocks: u32) -> Result<Bench, Refusal> {
     if blocks < 64 || blocks > 1_048_576 {
-        return Err(TreeFault::Memory);
+        return Err(Refusal::Memory);
     }
     match (MemDisk::new(alloc, blocks), Held::new(alloc, blocks)) {
         (Ok(disk), Ok(held)) => Ok(Bench {
             disk: FuseDisk::stop(disk, 1_000_000, [0; 4096]),
             held,
         }),
-        _ => Err(TreeFault::Memory),
+        _ => Err(Refusal::Memory),
     }
 }
 
@@ -46,20 +46,20 @@ fn with<const LEAF: usize, const FAN: usize, const LEVELS: usize>(
     root: Root,
     number: u64,
     byte: u8,
-) -> Result<Root, TreeFault>
+) -> Result<Root, Refusal>
     requires { AreSizes LEAF FAN LEVELS }
 {
     if bench.held.free_count() < 16 || bench.held.blocks() > bench.disk.blocks() {
-        return Err(TreeFault::Memory);
+        return Err(Refusal::Memory);
     }
-    put::<FuseDisk<MemDisk>, LEAF, FAN, LEVELS>(
+    Ok(put::<FuseDisk<MemDisk>, LEAF, FAN, LEVELS>(
         &mut bench.disk,
         &mut bench.held,
         root,
         key(number),
         value(byte).as_bytes(),
         &mut [0; 9],
-    )
+    )?)
 }
 
 /// The map without a record that it has, in a tree of these sizes.
@@ -67,11 +67,11 @@ fn without<const LEAF: usize, const FAN: usize, const LEVELS: usize>(
     bench: &mut Bench,
     root: Root,
     number: u64,
-) -> Result<Root, TreeFault>
+) -> Result<Root, Refusal>
     requires { AreSizes LEAF FAN LEVELS }
 {
     if bench.held.free_count() < 16 || bench.held.blocks() > bench.disk.blocks() {
-        return Err(TreeFault::Memory);
+        return Err(Refusal::Memory);
     }
     let removed = remove::<FuseDisk<MemDisk>, LEAF, FAN, LEVELS>(
         &mut bench.disk,
@@ -80,11 +80,11 @@ fn without<const LEAF: usize, const FAN: usize, const LEVELS: usize>(
         key(number),
         &mut [0; 9],
     )?;
-    removed.ok_or(TreeFault::Memory)
+    removed.ok_or(Refusal::Memory)
 }
 
 /// The records (1, 1) to (1, 17), each of value v, put in rising order.
-fn seventeen(bench: &mut Bench) -> Result<Root, TreeFault> {
+fn seventeen(bench: &mut Bench) -> Result<Root, Refusal> {
     let mut root = Root::default();
     for number in 1..18 {
         root = with::<16, 256, 8>(bench, root, number, b'v')?;
@@ -97,16 +97,16 @@ fn changes_of(
     bench: &mut Bench,
     first: Root,
     second: Root,
-) -> Result<Vec<Change>, TreeFault> {
+) -> Result<Vec<Change>, Refusal> {
     let blocks = bench.disk.blocks();
     changed(alloc, &mut bench.disk, blocks, first, second)?
         .to_vec(alloc)
-        .map_err(|_| TreeFault::Memory)
+        .map_err(|_| Refusal::Memory)
 }
 
-fn are_same(bench: &mut Bench, first: Root, second: Root) -> Result<bool, TreeFault> {
+fn are_same(bench: &mut Bench, first: Root, second: Root) -> Result<bool, Refusal> {
     let blocks = bench.disk.blocks();
-    same(&mut bench.disk, blocks, first, second)
+    Ok(same(&mut bench.disk, blocks, first, second)?)
 }
 
 /// A change of a key of table 1, of values of one byte.
@@ -237,18 +237,18 @@ fn answers_damaged_where_a_block_is_none_of_a_tree(rt: HostRuntime) -> Result<()
     assert!(rt;
         matches!(
             changes_of(rt.alloc(), &mut bench, root, none),
-            Err(TreeFault::Damaged(100))
+            Err(Refusal::Damaged(100))
         )
     );
-    assert!(rt; are_same(&mut bench, none, root) == Err(TreeFault::Damaged(100)));
+    assert!(rt; are_same(&mut bench, none, root) == Err(Refusal::Damaged(100)));
     let high = Root { level: 8, ..root };
     assert!(rt;
         matches!(
             changes_of(rt.alloc(), &mut bench, high, root),
-            Err(TreeFault::Damaged(_))
+            Err(Refusal::Damaged(_))
         )
     );
-    assert!(rt; are_same(&mut bench, root, high) == Err(TreeFault::Damaged(root.block)));
+    assert!(rt; are_same(&mut bench, root, high) == Err(Refusal::Damaged(root.block)));
     Ok(())
 }
 
@@ -261,7 +261,7 @@ fn answers_that_the_device_failed(rt: HostRuntime) -> Result<(), Fail> {
     assert!(rt;
         matches!(
             changed(rt.alloc(), &mut disk, blocks, Root::default(), root),
-            Err(TreeFault::Device)
+            Err(ListFault::Tree(TreeFault::Device))
         )
     );
     let mut again = FuseDisk::once(disk.into_inner(), 0, [0; 4096]);

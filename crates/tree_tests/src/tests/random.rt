@@ -11,8 +11,8 @@ use vm_alloc::{Held, Marks};
 use vm_block::{Child, Stored, is_long_leaf, read_leaf, read_node};
 use vm_check::{NotedDisk, mark};
 use vm_disk::{Disk, MemDisk};
-use vm_tree::{Root, TreeFault, get, put, remove, scan};
-use vm_types::{FIRST_DATA, Key, Value};
+use vm_tree::{ListFault, PutFault, Root, TreeFault, get, put, remove, scan};
+use vm_types::{FIRST_DATA, Key, Refusal, Value};
 
 const BLOCKS: u32 = 16_384;
 
@@ -33,7 +33,7 @@ enum Wrong {
     /// No memory for the test itself.
     Memory,
     /// A call on the tree gave no answer, where it should.
-    Tree(TreeFault),
+    Tree(Refusal),
     /// The disk, the held blocks and the marks have not one size.
     Sizes,
     /// A put found no room for a key that is there, or took a block and then found none.
@@ -58,7 +58,19 @@ impl From<AllocError> for Wrong {
 
 impl From<TreeFault> for Wrong {
     fn from(fault: TreeFault) -> Wrong {
-        Wrong::Tree(fault)
+        Wrong::Tree(Refusal::from(fault))
+    }
+}
+
+impl From<PutFault> for Wrong {
+    fn from(fault: PutFault) -> Wrong {
+        Wrong::Tree(Refusal::from(fault))
+    }
+}
+
+impl From<ListFault> for Wrong {
+    fn from(fault: ListFault) -> Wrong {
+        Wrong::Tree(Refusal::from(fault))
     }
 }
 
@@ -89,7 +101,7 @@ fn bytes_at(disk: &mut NotedDisk<MemDisk>, block: u32) -> Result<[u8; 4096], Wro
         return Err(Wrong::Sizes);
     }
     disk.read(block, &mut bytes)
-        .map_err(|_| Wrong::Tree(TreeFault::Device))?;
+        .map_err(|_| Wrong::Tree(Refusal::Device))?;
     Ok(bytes)
 }
 
@@ -98,7 +110,7 @@ fn children_at(disk: &mut NotedDisk<MemDisk>, block: u32) -> Result<ArrayVec<Chi
     let bytes = bytes_at(disk, block)?;
     match read_node(&bytes) {
         Some(node) => Ok(node.children),
-        None => Err(Wrong::Tree(TreeFault::Damaged(block))),
+        None => Err(Wrong::Tree(Refusal::Damaged(block))),
     }
 }
 
@@ -108,7 +120,7 @@ fn count_long(disk: &mut NotedDisk<MemDisk>, held: &Held, block: u32) -> Result<
     if !is_long_leaf(&bytes) {
         return Ok(0);
     }
-    let rows = read_leaf(&bytes).ok_or(Wrong::Tree(TreeFault::Damaged(block)))?;
+    let rows = read_leaf(&bytes).ok_or(Wrong::Tree(Refusal::Damaged(block)))?;
     let mut count: u32 = 0;
     for (_, stored) in rows.as_slice() {
         if let Stored::Long(link) = stored {
@@ -242,14 +254,14 @@ impl Pair {
                 self.plain.insert(number, value).map_err(|_| Wrong::Memory)?;
                 Ok(())
             }
-            Err(TreeFault::Deep) => {
+            Err(PutFault::Deep) => {
                 self.deeps = self.deeps.saturating_add(1);
                 if self.held.free_count() != free || self.plain.contains_key(&number) {
                     return Err(Wrong::Deep(number));
                 }
                 Ok(())
             }
-            Err(fault) => Err(Wrong::Tree(fault)),
+            Err(fault) => Err(Wrong::from(fault)),
         }
     }
 

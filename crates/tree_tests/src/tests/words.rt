@@ -6,8 +6,8 @@ use std::alloc::AllocError;
 use std::num::ParseIntError;
 use vm_block::{Child, Link, Stored};
 use vm_disk::DeviceFault;
-use vm_tree::{Root, TreeFault};
-use vm_types::{Key, Value};
+use vm_tree::{ListFault, PutFault, Root, TreeFault};
+use vm_types::{Key, Refusal, Value};
 
 /// Why a step has no answer of its own.
 #[derive(Clone, Copy, Debug, PartialEq, Eq)]
@@ -17,7 +17,7 @@ pub(super) enum Wrong {
     /// The step is none, or asks for what the disk does not have.
     Unreadable,
     /// The call that the step makes was answered so.
-    Tree(TreeFault),
+    Tree(Refusal),
 }
 
 impl From<AllocError> for Wrong {
@@ -34,13 +34,25 @@ impl From<ParseIntError> for Wrong {
 
 impl From<DeviceFault> for Wrong {
     fn from(_: DeviceFault) -> Wrong {
-        Wrong::Tree(TreeFault::Device)
+        Wrong::Tree(Refusal::Device)
     }
 }
 
 impl From<TreeFault> for Wrong {
     fn from(fault: TreeFault) -> Wrong {
-        Wrong::Tree(fault)
+        Wrong::Tree(Refusal::from(fault))
+    }
+}
+
+impl From<PutFault> for Wrong {
+    fn from(fault: PutFault) -> Wrong {
+        Wrong::Tree(Refusal::from(fault))
+    }
+}
+
+impl From<ListFault> for Wrong {
+    fn from(fault: ListFault) -> Wrong {
+        Wrong::Tree(Refusal::from(fault))
     }
 }
 

@@ -3,10 +3,11 @@ use super::{Bench, are_same, change, changes_of, new_bench, with};
 use std::alloc::Global;
 use std::test::Fail;
 use vm_disk::Disk;
-use vm_tree::{Root, TreeFault};
+use vm_tree::Root;
+use vm_types::Refusal;
 
 /// The records (1, 0) to (1, 4999), each of value v, put in rising order.
-fn five_thousand(bench: &mut Bench) -> Result<Root, TreeFault> {
+fn five_thousand(bench: &mut Bench) -> Result<Root, Refusal> {
     let mut root = Root::default();
     for number in 0..5_000 {
         root = with::<16, 256, 8>(bench, root, number, b'v')?;
@@ -21,7 +22,7 @@ fn costs_two_paths(
     bench: &mut Bench,
     first: Root,
     number: u64,
-) -> Result<bool, TreeFault> {
+) -> Result<bool, Refusal> {
     let free = bench.held.free_count();
     let second = with::<16, 256, 8>(bench, first, number, b'w')?;
     let own_blocks = free.wrapping_sub(bench.held.free_count());
