@@ -48,10 +48,9 @@ fn make_change<D: Disk>(
 {
     match after {
         Some(value) => put_forgetting(disk, held, Some(before), root, key, value),
-        None => match remove_forgetting(disk, held, Some(before), root, key) {
-            Ok(Some(rest)) => Ok(rest),
-            Ok(None) => Ok(root),
-            Err(fault) => Err(fault),
+        None => match remove_forgetting(disk, held, Some(before), root, key)? {
+            Some(rest) => Ok(rest),
+            None => Ok(root),
         },
     }
 }

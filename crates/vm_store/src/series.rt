@@ -164,15 +164,11 @@ pub fn put_forgetting<D: Disk>(
         (length held.old) r (with_value m key value.now))) }
 {
     let mut path = [0; 9];
-    match put::<D, LEAF, FAN, LEVELS>(disk, held, root, key, value, &mut path) {
-        Ok(new_root) => {
-            if let Some(before) = before {
-                forget_path(disk, before, root, &path);
-            }
-            Ok(new_root)
-        }
-        Err(fault) => Err(fault),
+    let new_root = put::<D, LEAF, FAN, LEVELS>(disk, held, root, key, value, &mut path)?;
+    if let Some(before) = before {
+        forget_path(disk, before, root, &path);
     }
+    Ok(new_root)
 }
 
 /// Takes the record of a key out of the tree under a root, and returns the new root, or None where the
@@ -211,14 +207,11 @@ pub fn remove_forgetting<D: Disk>(
         (length held.old) r (without m key))) }
 {
     let mut path = [0; 9];
-    match remove::<D, LEAF, FAN, LEVELS>(disk, held, root, key, &mut path) {
-        Ok(Some(rest)) => {
-            if let Some(before) = before {
-                forget_path(disk, before, root, &path);
-            }
-            Ok(Some(rest))
-        }
-        Ok(None) => Ok(None),
-        Err(fault) => Err(fault),
+    let Some(rest) = remove::<D, LEAF, FAN, LEVELS>(disk, held, root, key, &mut path)? else {
+        return Ok(None);
+    };
+    if let Some(before) = before {
+        forget_path(disk, before, root, &path);
     }
+    Ok(Some(rest))
 }

@@ -170,13 +170,9 @@ fn find_store<D: Disk>(alloc: Global, disk: &mut NotedDisk<D>) -> Result<Parts, 
     ensures refused { (D.state (inner_of disk.new)).honest ≡ true
         → IfErr result (IsRefused (D.state (inner_of disk.old)).now.contents) }
 {
-    match find_slot(disk) {
-        Ok(slot_name) => match load_slot(alloc, disk, slot_name) {
-            Ok(slot) => read_maps(alloc, disk, slot_name, slot),
-            Err(refusal) => Err(refusal),
-        },
-        Err(refusal) => Err(refusal),
-    }
+    let slot_name = find_slot(disk)?;
+    let slot = load_slot(alloc, disk, slot_name)?;
+    read_maps(alloc, disk, slot_name, slot)
 }
 
 /// Opens the store on a disk, as it was last committed. It syncs first; then it only reads. Where it

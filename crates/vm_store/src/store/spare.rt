@@ -47,10 +47,7 @@ fn mark_versions<D: Disk>(
         → OnOk result (IsClosed (D.state (inner_of disk.old)).now.contents marks.new) }
 {
     for version in versions {
-        match mark(disk, &[version.current, version.base], marks) {
-            Ok(()) => {}
-            Err(fault) => return Err(fault),
-        }
+        mark(disk, &[version.current, version.base], marks)?;
     }
     Ok(())
 }
@@ -131,9 +128,7 @@ impl<D: Disk> Store<D> {
         if self.has_free(changes) {
             return Ok(true);
         }
-        match self.mark_all() {
-            Ok(()) => Ok(self.has_free(changes)),
-            Err(refusal) => Err(refusal),
-        }
+        self.mark_all()?;
+        Ok(self.has_free(changes))
     }
 }

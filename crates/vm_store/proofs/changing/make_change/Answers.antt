@@ -5,6 +5,7 @@ use Rattle.vm_alloc.specs.Held.{IsHeld}
 use Rattle.vm_tree.specs.Root.{IsRootedIn}
 use Rattle.vm_tree.proofs.Sparing.{held_kept}
 use Rattle.vm_store.proofs.ChangingLemmas.{so_failed, put_makes, absent_makes, rest_makes, device_makes}
+use Rattle.vm_store.proofs.Passing.{passed_on}
 use Rattle.vm_store.proofs.Removing.{removed_root}
 use Rattle.vm_store.specs.Sizes.{sizes}
 use Rattle.vm_store.proofs.changing.make_change.Goals as goal
@@ -13,17 +14,17 @@ pub returns-in-Some-clause-changed : goal.returns-in-Some-clause-changed
 returns-in-Some-clause-changed g c honest m change key after grown =
     put_makes _ _ _ _ _ _ m change c.in-Some.value.now _ (after ∙ ap option_copied (c.in-Some.is ∙ ap Some (sym c.in-Some.value-is))) (so_failed c.put_forgetting.result _ _ (held_kept _ _ _) (c.put_forgetting.ensures.failed honest)) grown (rw (sym key) at (c.put_forgetting.ensures.put honest m grown.stands_in grown.rooted))
 
-pub returns-in-Ok-None-clause-changed : goal.returns-in-Ok-None-clause-changed
-returns-in-Ok-None-clause-changed g c honest m change key after grown =
-    let none = c.in-Ok-None.is ∙ ap Ok c.in-Ok-None.field-0-is in
-    let absent = rw c.in-Ok-None.field-0-is at (c.in-Ok-None.ensures.remove honest m grown.stands_in grown.rooted) in
+pub returns-in-None-2-clause-changed : goal.returns-in-None-2-clause-changed
+returns-in-None-2-clause-changed g c honest m change key after grown =
+    let none = c.in_ok-rest-in-None.was ∙ ap Ok c.in-None-2.is in
+    let absent = rw c.in-None-2.is at (c.in_ok-rest-in-None.ensures.remove honest m grown.stands_in grown.rooted) in
     absent_makes _ _ _ _ _ _ m change (after ∙ ap option_copied c.in-None.is) (same_medium _ _ (c.remove_forgetting.ensures.kept.reads honest none)) (c.remove_forgetting.ensures.kept.kept none) (subst (λ k. get m k ≡ None) (sym key) absent) grown
 
-pub returns-in-Ok-Some-clause-changed : goal.returns-in-Ok-Some-clause-changed
-returns-in-Ok-Some-clause-changed g c honest m change key after grown =
-    let left = removed_root _ _ _ _ c.in-Ok-Some.field-0-is (c.in-Ok-Some.ensures.remove honest m grown.stands_in grown.rooted) grown.each in
-    let P : Map → Type 0 = λ n. IsRootedIn sizes (IsHeld c.remove_forgetting.new.held) (g.D.Disk.state c.remove_forgetting.new.disk).now.contents (length c.args.held.now) c.in-Ok-Some.rest n in
+pub returns-in-Some-2-clause-changed : goal.returns-in-Some-2-clause-changed
+returns-in-Some-2-clause-changed g c honest m change key after grown =
+    let left = removed_root _ _ _ _ c.in-Some-2.is (c.in_ok-rest-in-None.ensures.remove honest m grown.stands_in grown.rooted) grown.each in
+    let P : Map → Type 0 = λ n. IsRootedIn sizes (IsHeld c.remove_forgetting.new.held) (g.D.Disk.state c.remove_forgetting.new.disk).now.contents (length c.args.held.now) c.in-Some-2.rest n in
     rest_makes P m change (after ∙ ap option_copied c.in-None.is) (subst (λ k. P (without m k)) (sym key) left)
 
-pub returns-in-Err-clause-changed : goal.returns-in-Err-clause-changed
-returns-in-Err-clause-changed g c honest m change key after grown = device_makes _ _ _ (c.in-Err.ensures.remove honest m grown.stands_in grown.rooted)
+pub returns-in_err-rest-in-None-clause-changed : goal.returns-in_err-rest-in-None-clause-changed
+returns-in_err-rest-in-None-clause-changed g c honest m change key after grown = rw (passed_on _ c.from_residual.ensures.1) (device_makes _ _ _ (c.in_err-rest-in-None.ensures.remove honest m grown.stands_in grown.rooted))

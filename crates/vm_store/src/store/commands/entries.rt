@@ -22,12 +22,8 @@ impl<D: Disk> Store<D> {
         ensures unchanged { EarlyKeeps result self.old self.new }
         ensures carried { IsCarriedOut self.old self.new command.now result }
     {
-        match self.working.change_by(command) {
-            Ok(answer) => {
-                self.series = None;
-                Ok(answer)
-            }
-            Err(refusal) => Err(refusal),
-        }
+        let answer = self.working.change_by(command)?;
+        self.series = None;
+        Ok(answer)
     }
 }

@@ -25,29 +25,15 @@ impl<D: Disk> Store<D> {
         ensures carried { IsHonest self.new → (s : State) (holds : Holds self.old s)
             → Carries self.old self.new s holds (Merge alt.now settled.now) result }
     {
-        let (own, parent) = match self.working.pair_of(alt) {
-            Ok(pair) => pair,
-            Err(refusal) => return Err(refusal),
-        };
+        let (own, parent) = self.working.pair_of(alt)?;
         let roots = ThreeRoots {
             base: own.base,
             parent: parent.current,
             own: own.current,
         };
-        let changes = match changes_of_merge(
-            self.alloc,
-            &mut self.disk,
-            self.blocks,
-            roots,
-            settled,
-        ) {
-            Ok(changes) => changes,
-            Err(refusal) => return Err(refusal),
-        };
-        match self.has_spare(changes.len()) {
-            Ok(true) => {}
-            Ok(false) => return Err(Refusal::Full),
-            Err(refusal) => return Err(refusal),
+        let changes = changes_of_merge(self.alloc, &mut self.disk, self.blocks, roots, settled)?;
+        if !self.has_spare(changes.len())? {
+            return Err(Refusal::Full);
         }
         self.series = None;
         self.before.take(&self.held);

@@ -22,10 +22,7 @@ impl<D: Disk> Store<D> {
         ensures reads { IsHonest self.new → ReadsAlone self.old self.new }
         ensures carried { IsCarriedOut self.old self.new (Command.Post alt.now) result }
     {
-        let (own, parent) = match self.working.pair_of(alt) {
-            Ok(pair) => pair,
-            Err(refusal) => return Err(refusal),
-        };
+        let (own, parent) = self.working.pair_of(alt)?;
         match same(&mut self.disk, self.blocks, own.base, parent.current) {
             Ok(true) => {}
             Ok(false) => return Err(Refusal::NotMerged),

@@ -32,10 +32,8 @@ impl<D: Disk> Store<D> {
         let Some(version) = self.working.alternative(alt) else {
             return Err(Refusal::NoSuchAlternative);
         };
-        match self.has_spare(1) {
-            Ok(true) => {}
-            Ok(false) => return Err(Refusal::Full),
-            Err(refusal) => return Err(refusal),
+        if !self.has_spare(1)? {
+            return Err(Refusal::Full);
         }
         go_on(
             &mut self.series,

@@ -20,12 +20,8 @@ impl<D: Disk> Store<D> {
         ensures exact { IsHonest self.new → SpareIsFree result self.old self.new }
         ensures carried { IsCarriedOut self.old self.new Command.Reclaim result }
     {
-        match self.mark_all() {
-            Ok(()) => {
-                self.series = None;
-                Ok(Answer::Done)
-            }
-            Err(refusal) => Err(refusal),
-        }
+        self.mark_all()?;
+        self.series = None;
+        Ok(Answer::Done)
     }
 }

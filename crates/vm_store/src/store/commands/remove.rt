@@ -62,10 +62,8 @@ impl<D: Disk> Store<D> {
             Ok(false) => return Err(Refusal::NoSuchRecord),
             Err(fault) => return Err(refusal_of(fault)),
         }
-        match self.has_spare(1) {
-            Ok(true) => {}
-            Ok(false) => return Err(Refusal::Full),
-            Err(refusal) => return Err(refusal),
+        if !self.has_spare(1)? {
+            return Err(Refusal::Full);
         }
         go_on(
             &mut self.series,

@@ -69,10 +69,7 @@ impl<D: Disk> Store<D> {
         if self.failed {
             return Err(Refusal::Failed);
         }
-        let (own, parent) = match self.working.pair_of(alt) {
-            Ok(pair) => pair,
-            Err(refusal) => return Err(refusal),
-        };
+        let (own, parent) = self.working.pair_of(alt)?;
         let roots = ThreeRoots {
             base: own.base,
             parent: parent.current,

@@ -75,9 +75,7 @@ impl<D: Disk> Store<D> {
         ensures reads { IsHonest self.new → ReadsAlone self.old self.new }
     {
         let mut room = [0; 4096];
-        match self.look(alt, key, &mut room) {
-            Ok(value) => Ok(copy_of(value)),
-            Err(refusal) => Err(refusal),
-        }
+        let value = self.look(alt, key, &mut room)?;
+        Ok(copy_of(value))
     }
 }

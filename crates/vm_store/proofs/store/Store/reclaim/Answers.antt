@@ -1,16 +1,18 @@
 use Rattle.std.proofs.Common.{refl}
 use Rattle.vm_types.specs.declared.command.Command.TheVariants.{Reclaim}
 use Rattle.vm_store.proofs.CarryLemmas.{looked}
+use Rattle.vm_store.proofs.Passing.{passed_on}
 use Rattle.vm_store.proofs.SeriesLemmas.{holds_alone}
 use Rattle.vm_store.proofs.VersionLemmas.{answers_reclaim}
 use Rattle.vm_store.proofs.store.Store.reclaim.Goals as goal
 
-pub returns-in-Ok-clause-carried : goal.returns-in-Ok-clause-carried
-returns-in-Ok-clause-carried g c honest s holds =
+pub returns-clause-carried : goal.returns-clause-carried
+returns-clause-carried g c honest s holds =
     let holds' = c.mark_all.ensures.state honest s holds in
     looked _ _ s holds Reclaim _ (answers_reclaim s _ _ refl tt) (c.mark_all.ensures.reads honest) holds'.rests (λ _. holds_alone holds'.rests)
 
-pub returns-in-Err-clause-carried : goal.returns-in-Err-clause-carried
-returns-in-Err-clause-carried g c honest s holds =
+pub returns-in_err-mark_all-clause-carried : goal.returns-in_err-mark_all-clause-carried
+returns-in_err-mark_all-clause-carried g c honest s holds =
     let holds' = c.mark_all.ensures.state honest s holds in
-    looked _ _ s holds Reclaim _ (answers_reclaim s _ _ tt (c.in-Err.ensures.only honest s holds)) (c.mark_all.ensures.reads honest) holds'.rests (λ _. holds')
+    rw (passed_on _ c.from_residual.ensures.1)
+    (looked _ _ s holds Reclaim _ (answers_reclaim s _ _ tt (c.in_err-mark_all.ensures.only honest s holds)) (c.mark_all.ensures.reads honest) holds'.rests (λ _. holds'))

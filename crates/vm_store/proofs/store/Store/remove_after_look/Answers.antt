@@ -3,6 +3,7 @@ use Rattle.vm_types.specs.declared.command.Command.TheVariants.{Remove}
 use Rattle.vm_disk.proofs.MomentLemmas.{reads_then}
 use Rattle.vm_store.proofs.CarryLemmas.{looked, read_carried}
 use Rattle.vm_store.proofs.MarkedLemmas.{free_at_most}
+use Rattle.vm_store.proofs.Passing.{passed_on}
 use Rattle.vm_store.proofs.SpareTests.{room_for, full_for, no_fewer}
 use Rattle.vm_store.proofs.RestingLemmas.{found_entry, value_found}
 use Rattle.vm_store.specs.Sizes.{sizes}
@@ -31,25 +32,26 @@ returns-in-Err-clause-carried g c honest s holds =
     looked _ _ s holds (Remove c.args.alt.now c.args.key) _ (removes_device s c.args.alt.now c.args.key _ _ c.in-Err.fault c.refusal_of.result c.refusal_of.ensures (c.in-Err.ensures.found sizes honest found.filed.current found.stands.current.stands_in found.stands.current.rooted))
     (c.in-Err.ensures.looks.reads honest) holds'.rests (λ _. holds')
 
-pub returns-in-Ok-false-has_spare-clause-carried : goal.returns-in-Ok-false-has_spare-clause-carried
-returns-in-Ok-false-has_spare-clause-carried g c honest s holds =
+pub returns-then-not-branch-clause-carried : goal.returns-then-not-branch-clause-carried
+returns-then-not-branch-clause-carried g c honest s holds =
     let rests = holds.rests in
     let e = c.args.version in
     let is = c.requires in
     let found = found_entry _ _ _ _ _ _ s rests c.args.alt.now e is in
-    let has = is_there _ (sym c.in-Ok-true.field-0-test ∙ c.in-Ok-true.ensures.found sizes (c.in-Ok-false-has_spare.ensures.any.earlier honest) found.filed.current found.stands.current.stands_in found.stands.current.rooted) in
+    let has = is_there _ (sym c.in-Ok-true.field-0-test ∙ c.in-Ok-true.ensures.found sizes (c.in_ok-has_spare.ensures.any.earlier honest) found.filed.current found.stands.current.stands_in found.stands.current.rooted) in
     let there = value_found _ _ _ _ _ _ s rests c.args.alt.now e is c.args.key (Some has.0) has.1 in
     let read = c.in-Ok-true.ensures.looks.reads (c.has_spare.ensures.any.earlier honest) in
     let holds' = c.has_spare.ensures.state honest s (read_holds _ _ _ _ _ _ _ _ _ s read holds) in
-    looked _ _ s holds (Remove c.args.alt.now c.args.key) _ (removes_full s c.args.alt.now c.args.key _ _ _ there (full_for _ _ _ (spare_after _ _ _ _ _ _ _ _ _ s _ _ (c.in-Ok-true.ensures.looks.reads (c.in-Ok-false-has_spare.ensures.any.earlier honest)) (c.in-Ok-false-has_spare.ensures.spare honest) holds) c.in-Ok-false-has_spare.field-0-test))
+    looked _ _ s holds (Remove c.args.alt.now c.args.key) _ (removes_full s c.args.alt.now c.args.key _ _ _ there (full_for _ _ _ (spare_after _ _ _ _ _ _ _ _ _ s _ _ (c.in-Ok-true.ensures.looks.reads (c.in_ok-has_spare.ensures.any.earlier honest)) (c.in_ok-has_spare.ensures.spare honest) holds) c.if-not-branch.true))
     (reads_then _ _ _ read (c.has_spare.ensures.reads honest)) holds'.rests (λ _. holds')
 
-pub returns-in-Err-has_spare-clause-carried : goal.returns-in-Err-has_spare-clause-carried
-returns-in-Err-has_spare-clause-carried g c honest s holds =
+pub returns-in_err-has_spare-clause-carried : goal.returns-in_err-has_spare-clause-carried
+returns-in_err-has_spare-clause-carried g c honest s holds =
     let read = c.in-Ok-true.ensures.looks.reads (c.has_spare.ensures.any.earlier honest) in
     let holds' = c.has_spare.ensures.state honest s (read_holds _ _ _ _ _ _ _ _ _ s read holds) in
-    looked _ _ s holds (Remove c.args.alt.now c.args.key) _ (inl (ap Err (c.in-Err-has_spare.ensures.only honest s (read_holds _ _ _ _ _ _ _ _ _ s (c.in-Ok-true.ensures.looks.reads (c.in-Err-has_spare.ensures.any.earlier honest)) holds))))
-    (reads_then _ _ _ read (c.has_spare.ensures.reads honest)) holds'.rests (λ _. holds')
+    rw (passed_on _ c.from_residual.ensures.1)
+    (looked _ _ s holds (Remove c.args.alt.now c.args.key) _ (inl (ap Err (c.in_err-has_spare.ensures.only honest s (read_holds _ _ _ _ _ _ _ _ _ s (c.in-Ok-true.ensures.looks.reads (c.in_err-has_spare.ensures.any.earlier honest)) holds))))
+    (reads_then _ _ _ read (c.has_spare.ensures.reads honest)) holds'.rests (λ _. holds'))
 
 pub returns-clause-carried : goal.returns-clause-carried
 returns-clause-carried g c honest s holds =
@@ -57,13 +59,13 @@ returns-clause-carried g c honest s holds =
     let e = c.args.version in
     let marked = c.remove_in_series.ensures.any.earlier honest in
     let found = found_entry _ _ _ _ _ _ s rests c.args.alt.now e c.requires in
-    let has = is_there _ (sym c.in-Ok-true.field-0-test ∙ c.in-Ok-true.ensures.found sizes (c.in-Ok-true-has_spare.ensures.any.earlier marked) found.filed.current found.stands.current.stands_in found.stands.current.rooted) in
+    let has = is_there _ (sym c.in-Ok-true.field-0-test ∙ c.in-Ok-true.ensures.found sizes (c.in_ok-has_spare.ensures.any.earlier marked) found.filed.current found.stands.current.stands_in found.stands.current.rooted) in
     let there = value_found _ _ _ _ _ _ s rests c.args.alt.now e c.requires c.args.key (Some has.0) has.1 in
     let read = c.in-Ok-true.ensures.looks.reads (c.has_spare.ensures.any.earlier marked) in
     let mid = c.has_spare.new.self in
     let holds' = c.has_spare.ensures.state marked s (read_holds _ _ _ _ _ _ _ _ _ s read holds) in
     let between = went_on _ _ _ _ _ _ _ s c.args.alt.now mid.before mid.series _ c.go_on.ensures.series c.go_on.ensures.before holds' in
-    let enough = no_fewer _ _ (omega (arith, c.in-Ok-true-has_spare.ensures.free, free_at_most _ _ _ _ _ _ s mid.bits between.rests)) in
-    let room = room_for _ _ _ (spare_after _ _ _ _ _ _ _ _ _ s _ _ (c.in-Ok-true.ensures.looks.reads (c.in-Ok-true-has_spare.ensures.any.earlier marked)) (c.in-Ok-true-has_spare.ensures.spare marked) holds) c.in-Ok-true-has_spare.field-0-test in
+    let enough = no_fewer _ _ (omega (arith, c.in_ok-has_spare.ensures.free, free_at_most _ _ _ _ _ _ s mid.bits between.rests)) in
+    let room = room_for _ _ _ (spare_after _ _ _ _ _ _ _ _ _ s _ _ (c.in-Ok-true.ensures.looks.reads (c.in_ok-has_spare.ensures.any.earlier marked)) (c.in_ok-has_spare.ensures.spare marked) holds) c.if-not-branch.false in
     let carried = c.remove_in_series.ensures.carried honest s between (inr (λ missing. let clash = there ∙ missing in cc)) in
     read_carried _ _ _ s holds between (Remove c.args.alt.now c.args.key) _ (reads_then _ _ _ read (c.has_spare.ensures.reads marked)) (removes_alike s c.args.alt.now c.args.key _ _ _ _ enough room carried.answers) carried
