@@ -21,8 +21,10 @@ use Rattle.vm_tree.specs.Tree.{Children, Subtree}
 use Rattle.vm_tree.specs.Answers.{LacksRoom, Puts}
 use Rattle.vm_tree.specs.Root.{IsRooted, IsRootedIn}
 use Rattle.vm_tree.specs.declared.root.Root.{Root}
-use Rattle.vm_tree.specs.declared.root.TreeFault.{TreeFault}
-use Rattle.vm_tree.specs.declared.root.TreeFault.TheVariants.{Device, Damaged, Deep, Memory}
+use Rattle.vm_tree.specs.declared.faults.PutFault.{PutFault}
+use Rattle.vm_tree.specs.declared.faults.PutFault.TheVariants.{Tree, Deep}
+use Rattle.vm_tree.specs.declared.faults.TreeFault.{TreeFault}
+use Rattle.vm_tree.specs.declared.faults.TreeFault.TheVariants.{Device, Damaged}
 use Rattle.vm_tree.proofs.RootLemmas.{full_level}
 use Rattle.vm_store.specs.Changing.{Makes, MeetsFullPath}
 use Rattle.vm_store.specs.Sizes.{sizes}
@@ -103,15 +105,14 @@ module _ (x y : Contents) (held now : List Bool) (limit : ℕ) (root : Root) (m 
       }
 
   -- a change to a value answers what a Put of it answers
-  pub put_makes : (value : List ℕ) (result : Result Root TreeFault) → change.after ≡ Some value → OnErr result ((n : ℕ) → IsHeld held n → block y n ≡ block x n) → (grown : IsRootedIn sizes (IsHeld held) x limit root m)
+  pub put_makes : (value : List ℕ) (result : Result Root PutFault) → change.after ≡ Some value → OnErr result ((n : ℕ) → IsHeld held n → block y n ≡ block x n) → (grown : IsRootedIn sizes (IsHeld held) x limit root m)
       → Puts result (LacksRoom sizes x root m change.key) (λ r. AllByRecursion (IsHeld held) grown.stands_in → IsRootedIn sizes (IsHeld now) y limit r (with_value m change.key value))
       → Makes result (MeetsFullPath y limit m (change ∷ [])) (λ r. IsRootedIn sizes (IsHeld now) y limit r (with_change m change))
   put_makes value (Ok r) is same grown put =
       subst (λ (after : Option (List ℕ)). IsRootedIn sizes (IsHeld now) y limit r (put_or_taken m change.key after)) (sym is) (put.0 grown.each)
-  put_makes value (Err Device) is same grown put = tt
-  put_makes value (Err (Damaged b)) is same grown put = put
+  put_makes value (Err (Tree Device)) is same grown put = tt
+  put_makes value (Err (Tree (Damaged b))) is same grown put = put
   put_makes value (Err Deep) is same grown put = lacks_meets (IsHeld held) same grown (λ none. cc) put
-  put_makes value (Err Memory) is same grown put = put
 
 -- the old root has the map where the record to be taken out is absent
 pub absent_makes : (old new : Medium) (held now : List Bool) (limit : ℕ) (root : Root) (m : Map) (change : Change) → change.after ≡ None → new ≡ old → now ≡ held → get m change.key ≡ None
@@ -127,11 +128,9 @@ pub rest_makes : (P : Map → Type 0) (m : Map) (change : Change) → change.aft
 rest_makes P m change is left = subst (λ (after : Option (List ℕ)). P (put_or_taken m change.key after)) (sym is) left
 
 -- a fault that is the device's is an answer
-pub device_makes : {T : Type 0} (fault : TreeFault) (deep : Type 0) (P : T → Type 0) → fault ≡ Device → Makes (Err fault) deep P
+pub device_makes : {T : Type 0} (fault : TreeFault) (deep : Type 0) (P : T → Type 0) → fault ≡ Device → Makes (Err (Tree fault)) deep P
 device_makes Device deep P is = tt
 device_makes (Damaged b) deep P is = cc
-device_makes Deep deep P is = cc
-device_makes Memory deep P is = cc
 
 -- ---- one change more
 
@@ -179,9 +178,8 @@ module _ (m : Map) (changes : List Change) (i : ℕ) (change : Change) (lt : i <
       subst (λ (cs : List Change). MeetsFullPath y limit m cs) (sym parts) (meets_among y limit m (take i changes) (change ∷ []) rest meets)
 
   -- a fault in the change at i is the answer
-  pub fault_makes : (y : Contents) (limit other : ℕ) (fault : TreeFault) (P Q : Root → Type 0) → other ≡ limit → Makes (Err fault) (MeetsFullPath y other (with_changes m (take i changes)) (change ∷ [])) P
+  pub fault_makes : (y : Contents) (limit other : ℕ) (fault : PutFault) (P Q : Root → Type 0) → other ≡ limit → Makes (Err fault) (MeetsFullPath y other (with_changes m (take i changes)) (change ∷ [])) P
       → Makes (Err fault) (MeetsFullPath y limit m changes) Q
-  fault_makes y limit other Device P Q same makes = tt
-  fault_makes y limit other (Damaged b) P Q same makes = makes
+  fault_makes y limit other (Tree Device) P Q same makes = tt
+  fault_makes y limit other (Tree (Damaged b)) P Q same makes = makes
   fault_makes y limit other Deep P Q same makes = meets_later y limit (subst (λ n. MeetsFullPath y n (with_changes m (take i changes)) (change ∷ [])) same makes)
-  fault_makes y limit other Memory P Q same makes = makes

@@ -8,8 +8,9 @@ use Rattle.vm_alloc.specs.Marks.{IsMarked, is_marked}
 use Rattle.vm_tree.specs.Answers.{Puts}
 use Rattle.vm_tree.specs.Free.{is_free}
 use Rattle.vm_tree.specs.Replacing.{Lacks}
-use Rattle.vm_tree.specs.declared.root.TreeFault.{TreeFault}
-use Rattle.vm_tree.specs.declared.root.TreeFault.TheVariants.{Device, Damaged, Deep, Memory}
+use Rattle.vm_tree.specs.declared.faults.PutFault.{PutFault}
+use Rattle.vm_tree.specs.declared.faults.PutFault.TheVariants.{Tree, Deep}
+use Rattle.vm_tree.specs.declared.faults.TreeFault.TheVariants.{Device, Damaged}
 
 -- of these blocks those were forgotten that were not held before
 pub record HasForgotten (before : List Bool) (blocks : List ℕ) (old new : DiskState) : Type 0 where
@@ -58,8 +59,7 @@ forgotten_more before blocks i told old mid new inside tells is so_far idles for
     }
 
 -- a fault that a Put answers has nothing to do with what holds of a root
-pub fault_alike : {T : Type 0} (fault : TreeFault) (deep : Type 0) (P Q : T → Type 0) → Puts (Err fault) deep P → Puts (Err fault) deep Q
-fault_alike Device deep P Q h = tt
-fault_alike (Damaged b) deep P Q h = h
+pub fault_alike : {T : Type 0} (fault : PutFault) (deep : Type 0) (P Q : T → Type 0) → Puts (Err fault) deep P → Puts (Err fault) deep Q
+fault_alike (Tree Device) deep P Q h = tt
+fault_alike (Tree (Damaged b)) deep P Q h = h
 fault_alike Deep deep P Q h = h
-fault_alike Memory deep P Q h = h

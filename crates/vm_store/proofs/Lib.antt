@@ -18,7 +18,6 @@ pub mod MergeSteps
 pub mod MovedLemmas
 pub mod OpeningLemmas
 pub mod PairLemmas
-pub mod Passing
 pub mod ReachLemmas
 pub mod Removing
 pub mod RestingLemmas

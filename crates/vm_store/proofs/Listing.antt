@@ -1,5 +1,5 @@
 -- What a list of records answers.
-use Rattle.std.proofs.Common.{◌≡◌, ◌⊎◌, inl, inr, ℕ, Bool, List, find, Some, None, Result, Ok, Err, sym, ap, ◌∙◌}
+use Rattle.std.proofs.Common.{◌≡◌, ◌⊎◌, inl, inr, ℕ, Bool, List, find, Some, None, Result, Ok, Err, refl, sym, ap, ◌∙◌}
 use Rattle.vm_types.specs.declared.refusal.Refusal.{Refusal}
 use Rattle.vm_types.specs.declared.refusal.Refusal.TheVariants.{NoSuchAlternative, Device, Memory}
 use Rattle.vm_types.specs.Map.{Map}
@@ -8,13 +8,14 @@ use Rattle.vm_disk.specs.Disk.{Medium}
 use Rattle.vm_block.specs.declared.selector.SlotName.{SlotName}
 use Rattle.vm_store.specs.Versions.{is_alternative_of}
 use Rattle.vm_store.specs.declared.version.Version.{Version}
-use Rattle.vm_store.specs.Faults.{refusal_of}
 use Rattle.vm_tree.specs.Answers.{Lists}
 use Rattle.vm_types.specs.Queries.{IsListing, records_of, records_in}
 use Rattle.vm_store.specs.Sides.{ReadsOr}
 use Rattle.vm_store.specs.Resting.{Rests}
-use Rattle.vm_tree.specs.declared.root.TreeFault.{TreeFault}
-use Rattle.vm_tree.specs.declared.root.TreeFault.TheVariants as fault
+use Rattle.vm_tree.specs.Faults.{refusal_of_list}
+use Rattle.vm_tree.specs.declared.faults.ListFault.{ListFault}
+use Rattle.vm_tree.specs.declared.faults.ListFault.TheVariants as list
+use Rattle.vm_tree.specs.declared.faults.TreeFault.TheVariants as fault
 use Rattle.vm_store.proofs.RestingLemmas.{found_entry, named_as, unnamed}
 
 module _ (m : Medium) (limit : ℕ) (slot_name : SlotName) (bits : List Bool) (committed working : List Version) (s : State)
@@ -32,11 +33,10 @@ module _ (m : Medium) (limit : ℕ) (slot_name : SlotName) (bits : List Bool) (c
   records_absent none = ap records_of (unnamed m limit slot_name bits committed working s rests name none)
 
 -- a list that was refused for the device or for memory
-pub list_refused : {T : Type 0} (f : TreeFault) (r : Refusal) (P : T → Type 0) (due : Type 0) → r ≡ refusal_of f → Lists (Err f) P → (r ≡ Device) ⊎ ((r ≡ Memory) ⊎ due)
-list_refused fault.Device r P due same h = inl same
-list_refused (fault.Damaged b) r P due same h = absurd h
-list_refused fault.Deep r P due same h = absurd h
-list_refused fault.Memory r P due same h = inr (inl same)
+pub list_refused : {T : Type 0} (f : ListFault) (P : T → Type 0) (due : Type 0) → Lists (Err f) P → (refusal_of_list f ≡ Device) ⊎ ((refusal_of_list f ≡ Memory) ⊎ due)
+list_refused (list.Tree fault.Device) P due h = inl refl
+list_refused (list.Tree (fault.Damaged b)) P due h = absurd h
+list_refused list.Memory P due h = inr (inl refl)
 
 -- a list that was read, or refused for the device or for memory
 pub listed : {X : Type 0} (r : Result (List X) Refusal) (due : Result (List X) Refusal) (is : List X) → due ≡ Ok is → ReadsOr r (λ list. list ≡ is) (λ e. ⊥) → IsListing r due

@@ -26,8 +26,9 @@ use Rattle.vm_block.specs.declared.selector.SlotName.{SlotName}
 use Rattle.vm_tree.specs.Free.{is_free}
 use Rattle.vm_tree.specs.Root.{IsRootedIn}
 use Rattle.vm_tree.specs.declared.root.Root.{Root}
-use Rattle.vm_tree.specs.declared.root.TreeFault.{TreeFault}
-use Rattle.vm_tree.specs.declared.root.TreeFault.TheVariants as fault
+use Rattle.vm_tree.specs.declared.faults.PutFault.{PutFault}
+use Rattle.vm_tree.specs.declared.faults.PutFault.TheVariants as put
+use Rattle.vm_tree.specs.declared.faults.TreeFault.TheVariants as fault
 use Rattle.vm_store.specs.Answers.{IsMergeDue, IsMergeAnswer, merge_changes}
 use Rattle.vm_store.specs.Changing.{MeetsFullPath, Makes}
 use Rattle.vm_store.specs.Pairs.{IsPair}
@@ -210,11 +211,10 @@ module _ (m : Medium) (limit : ℕ) (slot_name : SlotName) (bits : List Bool) (c
       subst (λ (a : Alternative). P a.base parent_after a.current) own_same (subst (λ (p : Alternative). P base_before p.current own_before) parent_same plan)
 
 -- which fault changes answer
-pub fault_of_changes : (f : TreeFault) (deep : Type 0) (P : Root → Type 0) → Makes (Err f) deep P → (f ≡ fault.Device) ⊎ ((f ≡ fault.Deep) × deep)
-fault_of_changes fault.Device deep P h = inl refl
-fault_of_changes (fault.Damaged b) deep P h = absurd h
-fault_of_changes fault.Deep deep P h = inr (refl, h)
-fault_of_changes fault.Memory deep P h = absurd h
+pub fault_of_changes : (f : PutFault) (deep : Type 0) (P : Root → Type 0) → Makes (Err f) deep P → (f ≡ put.Tree fault.Device) ⊎ ((f ≡ put.Deep) × deep)
+fault_of_changes (put.Tree fault.Device) deep P h = inl refl
+fault_of_changes (put.Tree (fault.Damaged b)) deep P h = absurd h
+fault_of_changes put.Deep deep P h = inr (refl, h)
 
 -- why changes were refused
 pub by_reason : (r : Refusal) (due Q : Type 0) → (r ≡ Device) ⊎ ((r ≡ Memory) ⊎ due) → (r ≡ Device → Q) → (r ≡ Memory → Q) → (due → Q) → Q

@@ -24,14 +24,15 @@ use Rattle.vm_store.proofs.MarkedLemmas.{free_exactly}
 use Rattle.vm_store.proofs.MarkingLemmas.{none_marked}
 use Rattle.vm_tree.specs.Answers.{Lists}
 use Rattle.vm_tree.specs.declared.root.Root.{Root}
-use Rattle.vm_tree.specs.declared.root.TreeFault.{TreeFault}
-use Rattle.vm_tree.specs.declared.root.TreeFault.TheVariants as fault
+use Rattle.vm_tree.specs.Faults.{refusal_of_list}
+use Rattle.vm_tree.specs.declared.faults.ListFault.{ListFault}
+use Rattle.vm_tree.specs.declared.faults.ListFault.TheVariants as list
+use Rattle.vm_tree.specs.declared.faults.TreeFault.TheVariants as fault
 use Rattle.vm_check.specs.Verifying.{AreRoots, Found, HaveTrees}
 use Rattle.vm_catalog.specs.Place.{selected}
 use Rattle.vm_catalog.specs.Catalog.{SlotAt, Names}
 use Rattle.vm_catalog.proofs.PublishLemmas.{names_slot}
 use Rattle.vm_catalog.proofs.SlotOne.{slot_one}
-use Rattle.vm_store.specs.Faults.{refusal_of}
 use Rattle.vm_store.specs.Sizes.{sizes}
 use Rattle.vm_store.specs.Versions.{numbers_of, slot_entries, versions_of}
 use Rattle.vm_store.specs.declared.version.Version.{Version}
@@ -167,14 +168,10 @@ module _ (m : Medium) (format : SlotFormat) (limit : ℕ) (slot_name : SlotName)
   }
 
   -- a fault of the walk
-  pub fault_refused : (f : TreeFault) (r : Refusal) → r ≡ refusal_of f → f ≢ fault.Deep → (HaveTrees (SuitsAt (has_long format) m.contents) sizes m.contents limit (numbers_of es) → Lists {T = Unit {0}} (Err f) (λ _. Unit {0})) → IsRefused m.contents r
-  fault_refused f r same shallow only = subst (IsRefused m.contents) (sym same) (by_fault f shallow only)
-    where
-      by_fault : (f : TreeFault) → f ≢ fault.Deep → (HaveTrees (SuitsAt (has_long format) m.contents) sizes m.contents limit (numbers_of es) → Lists {T = Unit {0}} (Err f) (λ _. Unit {0})) → IsRefused m.contents (refusal_of f)
-      by_fault fault.Device shallow only = tt
-      by_fault (fault.Damaged n) shallow only = (store, inr (lacks_map only))
-      by_fault fault.Deep shallow only = absurd (shallow refl)
-      by_fault fault.Memory shallow only = tt
+  pub fault_refused : (f : ListFault) → (HaveTrees (SuitsAt (has_long format) m.contents) sizes m.contents limit (numbers_of es) → Lists {T = Unit {0}} (Err f) (λ _. Unit {0})) → IsRefused m.contents (refusal_of_list f)
+  fault_refused (list.Tree fault.Device) only = tt
+  fault_refused (list.Tree (fault.Damaged n)) only = (store, inr (lacks_map only))
+  fault_refused list.Memory only = tt
 
 -- what is refused shows nothing
 pub refused_none : (x : Contents) (r : Refusal) → IsRefused x r → r ≢ refusal.Device → r ≢ refusal.Memory → ShowsNothing x

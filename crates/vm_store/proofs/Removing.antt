@@ -16,12 +16,12 @@ use Rattle.vm_disk.proofs.MomentLemmas.{same_medium}
 use Rattle.vm_block.specs.declared.selector.SlotName.{SlotName}
 use Rattle.vm_tree.specs.Answers.{Removes}
 use Rattle.vm_store.specs.declared.version.Version.{Version}
-use Rattle.vm_store.specs.Faults.{refusal_of}
+use Rattle.vm_tree.specs.Faults.{refusal_of}
 use Rattle.vm_store.specs.Resting.{HoldsWith, spare_of}
 use Rattle.vm_types.specs.Queries.{value_in, value_of}
 use Rattle.vm_store.specs.Answers.{IsDue, IsAnswer}
-use Rattle.vm_tree.specs.declared.root.TreeFault.{TreeFault}
-use Rattle.vm_tree.specs.declared.root.TreeFault.TheVariants as fault
+use Rattle.vm_tree.specs.declared.faults.TreeFault.{TreeFault}
+use Rattle.vm_tree.specs.declared.faults.TreeFault.TheVariants as fault
 
 module _ (tree : Tree) (name : List ℕ) (key : Key) where
   -- the tree without the record
@@ -86,8 +86,8 @@ module _ (s : State) (name : List ℕ) (key : Key) (spare : ℕ) (deep : Type 0)
   removes_alike other r room more answer = subst (λ (b : Bool). (r ≡ Err Device) ⊎ IsDue (step s.working (Remove name key)) b deep r) (room ∙ sym more) answer
 
   -- a Remove that the device fails
-  pub removes_device : (f : TreeFault) (r : Refusal) → r ≡ refusal_of f → f ≡ fault.Device → IsAnswer s spare deep (Remove name key) (Err r)
-  removes_device f r same device = inl (ap Err (same ∙ ap refusal_of device))
+  pub removes_device : (f : TreeFault) → f ≡ fault.Device → IsAnswer s spare deep (Remove name key) (Err (refusal_of f))
+  removes_device f device = inl (ap Err (ap refusal_of device))
 
 -- ---- what is known between the look-up and the Remove
 

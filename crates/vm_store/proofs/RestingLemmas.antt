@@ -4,7 +4,6 @@ use Rattle.vm_types.specs.declared.answer.Answer.{Answer}
 use Rattle.vm_types.specs.declared.answer.Answer.TheVariants.{Done}
 use Rattle.vm_types.specs.declared.command.Command.TheVariants.{Put, Commit}
 use Rattle.vm_types.specs.declared.key.Key.{Key}
-use Rattle.vm_types.specs.declared.refusal.Refusal.{Refusal}
 use Rattle.vm_types.specs.declared.refusal.Refusal.TheVariants.{NoSuchAlternative, Full}
 use Rattle.vm_types.specs.Firsts.{change_first}
 use Rattle.vm_types.specs.Map.{Map, get, with_value}
@@ -32,9 +31,10 @@ use Rattle.vm_tree.specs.Answers.{Puts}
 use Rattle.vm_tree.specs.Free.{is_free}
 use Rattle.vm_tree.specs.Root.{IsRootedIn}
 use Rattle.vm_tree.specs.declared.root.Root.{Root}
-use Rattle.vm_tree.specs.declared.root.TreeFault.{TreeFault}
-use Rattle.vm_tree.specs.declared.root.TreeFault.TheVariants as fault
-use Rattle.vm_store.specs.Faults.{refusal_of}
+use Rattle.vm_tree.specs.Faults.{refusal_of_put}
+use Rattle.vm_tree.specs.declared.faults.PutFault.{PutFault}
+use Rattle.vm_tree.specs.declared.faults.PutFault.TheVariants as put
+use Rattle.vm_tree.specs.declared.faults.TreeFault.TheVariants as fault
 use Rattle.vm_store.specs.Sizes.{sizes}
 use Rattle.vm_store.specs.Filed.{Filed, Standing, tree_of}
 use Rattle.vm_store.specs.Shown.{Shows}
@@ -287,11 +287,10 @@ pub is_published_as : (slot_name : SlotName) (old new : Medium) (format : SlotFo
 is_published_as slot_name old new format limit lent working same done = subst (λ (es : List Entry). IsPublished slot_name old new format limit es) same done
 
 -- which fault a put into a tree answers
-pub fault_of_put : (f : TreeFault) (deep : Type 0) (P : Root → Type 0) → Puts (Err f) deep P → (f ≡ fault.Device) ⊎ ((f ≡ fault.Deep) × deep)
-fault_of_put fault.Device deep P h = inl refl
-fault_of_put (fault.Damaged b) deep P h = absurd h
-fault_of_put fault.Deep deep P h = inr (refl, h)
-fault_of_put fault.Memory deep P h = absurd h
+pub fault_of_put : (f : PutFault) (deep : Type 0) (P : Root → Type 0) → Puts (Err f) deep P → (f ≡ put.Tree fault.Device) ⊎ ((f ≡ put.Deep) × deep)
+fault_of_put (put.Tree fault.Device) deep P h = inl refl
+fault_of_put (put.Tree (fault.Damaged b)) deep P h = absurd h
+fault_of_put put.Deep deep P h = inr (refl, h)
 
 module _ (m : Medium) (limit : ℕ) (slot_name : SlotName) (bits : List Bool) (committed working : List Version) (s : State)
     (rests : Rests m limit slot_name bits committed working s) (name : List ℕ) (key : Key) (value : List ℕ) where
@@ -319,14 +318,14 @@ module _ (m : Medium) (limit : ℕ) (slot_name : SlotName) (bits : List Bool) (c
         (subst (λ (b : Bool). IsDue (Ok (changed s.working name (λ x. record x { current = with_value x.current key value }), Done)) b deep (Ok Done)) (sym room) (inl (refl, shallow))))
 
     -- a Put that the device fails, or that finds no room in the tree
-    pub answers_fault : (spare : ℕ) (deep here : Type 0) (f : TreeFault) (r : Refusal) (P : Root → Type 0) → nat_lt spare 17 ≡ false → (here → deep) → r ≡ refusal_of f → Puts (Err f) here P → IsAnswer s spare deep (Put name key value) (Err r)
-    answers_fault spare deep here f r P room so same h = by_fault (fault_of_put f here P h)
+    pub answers_fault : (spare : ℕ) (deep here : Type 0) (f : PutFault) (P : Root → Type 0) → nat_lt spare 17 ≡ false → (here → deep) → Puts (Err f) here P → IsAnswer s spare deep (Put name key value) (Err (refusal_of_put f))
+    answers_fault spare deep here f P room so h = by_fault (fault_of_put f here P h)
       where
-        by_fault : (f ≡ fault.Device) ⊎ ((f ≡ fault.Deep) × here) → IsAnswer s spare deep (Put name key value) (Err r)
-        by_fault (inl device) = inl (ap Err (same ∙ ap refusal_of device))
+        by_fault : (f ≡ put.Tree fault.Device) ⊎ ((f ≡ put.Deep) × here) → IsAnswer s spare deep (Put name key value) (Err (refusal_of_put f))
+        by_fault (inl device) = inl (ap Err (ap refusal_of_put device))
         by_fault (inr at) =
-            inr (subst (λ o. IsDue o (nat_lt spare 17) deep (Err r)) (sym accepts)
-            (subst (λ (b : Bool). IsDue (Ok (changed s.working name (λ x. record x { current = with_value x.current key value }), Done)) b deep (Err r)) (sym room) (inr (ap Err (same ∙ ap refusal_of at.0), so at.1))))
+            inr (subst (λ o. IsDue o (nat_lt spare 17) deep (Err (refusal_of_put f))) (sym accepts)
+            (subst (λ (b : Bool). IsDue (Ok (changed s.working name (λ x. record x { current = with_value x.current key value }), Done)) b deep (Err (refusal_of_put f))) (sym room) (inr (ap Err (ap refusal_of_put at.0), so at.1))))
 
     -- the tree of the alternative and the records that the model has there
     pub deep_here : (x : Contents) → LacksRoom x (current_root (find (is_alternative_of name) working)) (current_of s.working name) key → LacksRoom x e.current.block (found_entry m limit slot_name bits committed working s rests name e is).filed.current key

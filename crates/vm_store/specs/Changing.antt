@@ -7,8 +7,9 @@ use Rattle.vm_disk.specs.Disk.{Contents}
 use Rattle.vm_tree.specs.FullPath.{FullPath}
 use Rattle.vm_tree.specs.Root.{IsRooted}
 use Rattle.vm_tree.specs.declared.root.Root.{Root}
-use Rattle.vm_tree.specs.declared.root.TreeFault.{TreeFault}
-use Rattle.vm_tree.specs.declared.root.TreeFault.TheVariants.{Device, Damaged, Deep, Memory}
+use Rattle.vm_tree.specs.declared.faults.PutFault.{PutFault}
+use Rattle.vm_tree.specs.declared.faults.PutFault.TheVariants.{Tree, Deep}
+use Rattle.vm_tree.specs.declared.faults.TreeFault.TheVariants.{Device, Damaged}
 use Rattle.vm_store.specs.Sizes.{sizes}
 
 -- some change adds a record for which there is no room: with the changes before it made, the map lies in a tree of the
@@ -27,9 +28,8 @@ pub record MeetsFullPath (x : Contents) (limit : ℕ) (m : Map) (changes : List 
   pub full : FullPath sizes x (place change.key) root.block
 
 -- what changes answer on a tree: a root with P; Deep, where `deep` holds; or that the device failed
-abbrev pub Makes : {T : Type 0} → Result T TreeFault → Type 0 → (T → Type 0) → Type 0
+abbrev pub Makes : {T : Type 0} → Result T PutFault → Type 0 → (T → Type 0) → Type 0
 Makes (Ok x) deep P = P x
-Makes (Err Device) deep P = Unit {0}
-Makes (Err (Damaged b)) deep P = ⊥
+Makes (Err (Tree Device)) deep P = Unit {0}
+Makes (Err (Tree (Damaged b))) deep P = ⊥
 Makes (Err Deep) deep P = deep
-Makes (Err Memory) deep P = ⊥

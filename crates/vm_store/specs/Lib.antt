@@ -1,6 +1,5 @@
 pub mod Answers
 pub mod Changing
-pub mod Faults
 pub mod Filed
 pub mod Formatting
 pub mod Growing

@@ -9,13 +9,14 @@ ghost use Rattle.vm_disk.specs.Moments.{Throughout, TouchesOnly};
 ghost use Rattle.vm_alloc.specs.Held.{IsHeld, HoldsMore, free_count};
 ghost use Rattle.vm_tree.specs.Free.{is_free};
 ghost use Rattle.vm_tree.specs.Root.{IsRootedIn};
+ghost use Rattle.vm_tree.specs.declared.faults.TreeFault.TheVariants.{Device};
 ghost use Rattle.vm_store.specs.Changing.{Makes, MeetsFullPath};
 ghost use Rattle.vm_store.specs.Sizes.{sizes};
 
 use crate::series::{put_forgetting, remove_forgetting};
 use vm_alloc::{Baseline, Held};
 use vm_disk::Disk;
-use vm_tree::{Root, TreeFault};
+use vm_tree::{PutFault, Root};
 use vm_types::{Changes, Key};
 
 /// Gives the key this value after, or takes its record out where there is none, in the tree under a root,
@@ -28,13 +29,12 @@ fn make_change<D: Disk>(
     root: Root,
     key: Key,
     after: Option<&[u8]>,
-) -> Result<Root, TreeFault>
+) -> Result<Root, PutFault>
     requires inside { length held.old ≤ (D.state disk.old).blocks }
     requires before { HoldsMore before.now held.old }
     requires short { IfSome after (λ value. length value.now ≤ longest) }
     requires room { blocks_a_change ≤ free_count held.old }
-    ensures any { Goes (result ≡ Err TreeFault.Device) (D.state disk.old) (D.state disk.new) }
-    ensures memory { result ≢ Err TreeFault.Memory }
+    ensures any { Goes (result ≡ Err (PutFault.Tree Device)) (D.state disk.old) (D.state disk.new) }
     ensures still { HoldsMore held.old held.new }
     ensures taken { free_count held.old ≤ free_count held.new + 16 }
     ensures moments { (D.state disk.new).honest ≡ true
@@ -64,12 +64,11 @@ pub fn make_changes<D: Disk>(
     before: &Baseline,
     mut root: Root,
     changes: &Changes,
-) -> Result<Root, TreeFault>
+) -> Result<Root, PutFault>
     requires inside { length held.old ≤ (D.state disk.old).blocks }
     requires before { before.now ≡ held.old }
     requires room { blocks_a_change * length changes.now ≤ free_count held.old }
-    ensures any { Goes (result ≡ Err TreeFault.Device) (D.state disk.old) (D.state disk.new) }
-    ensures memory { result ≢ Err TreeFault.Memory }
+    ensures any { Goes (result ≡ Err (PutFault.Tree Device)) (D.state disk.old) (D.state disk.new) }
 
     // What is held stays held, and at no moment has a block that was held other bytes than before.
     ensures still { HoldsMore held.old held.new }

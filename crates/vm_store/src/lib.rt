@@ -8,7 +8,6 @@
 #![tactic(auto)]
 
 mod changing;
-mod faults;
 mod laws;
 mod series;
 mod sides;

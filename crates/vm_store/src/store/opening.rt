@@ -12,7 +12,6 @@ ghost use Rattle.vm_store.specs.Versions.{numbers_of, versions_of};
 
 use super::Store;
 use super::parts::Parts;
-use crate::faults::refusal_of;
 use crate::versions::Versions;
 use crate::{FAN, LEAF, LEVELS};
 use std::alloc::Global;
@@ -132,31 +131,27 @@ fn read_maps<D: Disk>(
     ) else {
         return Err(Refusal::Memory);
     };
-    match verify::<NotedDisk<D>, LEAF, FAN, LEVELS>(
+    let (roots, marks) = verify::<NotedDisk<D>, LEAF, FAN, LEVELS>(
         alloc,
         disk,
         blocks,
         format.has_long(),
         &numbers,
-    ) {
-        Ok((roots, marks)) => {
-            held.replace(&marks);
-            let Some((committed, working)) = versions_twice(alloc, &entries, &roots) else {
-                return Err(Refusal::Memory);
-            };
-            Ok(Parts {
-                blocks,
-                slot_name,
-                entries,
-                committed,
-                working,
-                held,
-                marks,
-                before,
-            })
-        }
-        Err(fault) => Err(refusal_of(fault)),
-    }
+    )?;
+    held.replace(&marks);
+    let Some((committed, working)) = versions_twice(alloc, &entries, &roots) else {
+        return Err(Refusal::Memory);
+    };
+    Ok(Parts {
+        blocks,
+        slot_name,
+        entries,
+        committed,
+        working,
+        held,
+        marks,
+        before,
+    })
 }
 
 /// All that is known of the store on a disk.

@@ -11,7 +11,6 @@ ghost use Rattle.vm_store.specs.Marking.{AreReached};
 ghost use Rattle.vm_store.specs.Resting.{spare_of};
 
 use super::Store;
-use crate::faults::refusal_of;
 use crate::version::Version;
 use vm_alloc::Marks;
 use vm_check::{NotedDisk, mark};
@@ -30,8 +29,6 @@ fn mark_versions<D: Disk>(
 ) -> Result<(), TreeFault>
     requires { length marks.old ≤ (D.state (inner_of disk.old)).blocks }
     ensures any { Goes (result ≡ Err TreeFault.Device) (D.state (inner_of disk.old)) (D.state (inner_of disk.new)) }
-    ensures deep { result ≢ Err TreeFault.Deep }
-    ensures memory { result ≢ Err TreeFault.Memory }
     ensures many { length marks.new ≡ length marks.old }
     ensures reads { (D.state (inner_of disk.new)).honest ≡ true
         → OnlyReads (D.state (inner_of disk.old)) (D.state (inner_of disk.new)) }
@@ -88,14 +85,8 @@ impl<D: Disk> Store<D> {
         ensures state { IsHonest self.new → (s : State) → Holds self.old s → Holds self.new s }
     {
         self.marks.clear();
-        match mark_versions(&mut self.disk, self.committed.as_slice(), &mut self.marks) {
-            Ok(()) => {}
-            Err(fault) => return Err(refusal_of(fault)),
-        }
-        match mark_versions(&mut self.disk, self.working.as_slice(), &mut self.marks) {
-            Ok(()) => {}
-            Err(fault) => return Err(refusal_of(fault)),
-        }
+        mark_versions(&mut self.disk, self.committed.as_slice(), &mut self.marks)?;
+        mark_versions(&mut self.disk, self.working.as_slice(), &mut self.marks)?;
         self.held.replace(&self.marks);
         self.before.keep_held(&self.held);
         Ok(())

@@ -4,7 +4,6 @@ ghost use Rattle.vm_types.specs.State.{State};
 ghost use Rattle.vm_types.specs.declared.command.Command.TheVariants.{Merge};
 
 use crate::changing::make_changes;
-use crate::faults::refusal_of;
 use crate::sides::{ThreeRoots, changes_of_merge};
 use crate::store::Store;
 use vm_disk::Disk;
@@ -37,19 +36,15 @@ impl<D: Disk> Store<D> {
         }
         self.series = None;
         self.before.take(&self.held);
-        match make_changes(
+        let root = make_changes(
             &mut self.disk,
             &mut self.held,
             &self.before,
             roots.own,
             &changes,
-        ) {
-            Ok(root) => {
-                self.working.set_current(alt, root);
-                self.working.set_base(alt, parent.current);
-                Ok(Answer::Merged(changes.len() as u32))
-            }
-            Err(fault) => Err(refusal_of(fault)),
-        }
+        )?;
+        self.working.set_current(alt, root);
+        self.working.set_base(alt, parent.current);
+        Ok(Answer::Merged(changes.len() as u32))
     }
 }

@@ -1,7 +1,6 @@
 //! The command that makes an alternative's records those of its parent.
 ghost use Rattle.std.specs.Prelude.{◌≡◌, ◌≢◌, true, OnErr};
 
-use crate::faults::refusal_of;
 use crate::store::Store;
 use vm_diff::same;
 use vm_disk::Disk;
@@ -23,10 +22,8 @@ impl<D: Disk> Store<D> {
         ensures carried { IsCarriedOut self.old self.new (Command.Post alt.now) result }
     {
         let (own, parent) = self.working.pair_of(alt)?;
-        match same(&mut self.disk, self.blocks, own.base, parent.current) {
-            Ok(true) => {}
-            Ok(false) => return Err(Refusal::NotMerged),
-            Err(fault) => return Err(refusal_of(fault)),
+        if !same(&mut self.disk, self.blocks, own.base, parent.current)? {
+            return Err(Refusal::NotMerged);
         }
         self.working.set_current(&parent.name, own.current);
         self.working.set_base(alt, own.current);

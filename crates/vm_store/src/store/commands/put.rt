@@ -3,7 +3,6 @@ ghost use Rattle.std.specs.Prelude.{◌≡◌, ◌≢◌, ◌≤◌, true, lengt
 ghost use Rattle.vm_types.specs.Bytes.{longest};
 ghost use Rattle.vm_types.specs.State.{State};
 
-use crate::faults::refusal_of;
 use crate::series::{before_series, go_on, put_forgetting};
 use crate::store::Store;
 use vm_disk::Disk;
@@ -42,19 +41,15 @@ impl<D: Disk> Store<D> {
             &self.held,
             alt,
         );
-        match put_forgetting(
+        let root = put_forgetting(
             &mut self.disk,
             &mut self.held,
             before_series(&self.series, &self.before),
             version.current,
             key,
             value,
-        ) {
-            Ok(root) => {
-                self.working.set_current(alt, root);
-                Ok(Answer::Done)
-            }
-            Err(fault) => Err(refusal_of(fault)),
-        }
+        )?;
+        self.working.set_current(alt, root);
+        Ok(Answer::Done)
     }
 }

@@ -6,7 +6,6 @@ ghost use Rattle.vm_types.specs.Queries.{value_in};
 ghost use Rattle.vm_store.specs.Answers.{IsEarly};
 ghost use Rattle.vm_store.specs.Versions.{is_alternative_of};
 
-use crate::faults::refusal_of;
 use crate::series::{before_series, go_on, goes_on, remove_forgetting};
 use crate::store::Store;
 use crate::version::Version;
@@ -57,10 +56,8 @@ impl<D: Disk> Store<D> {
             → Carries self.old self.new s holds (Remove alt.now key) result }
     {
         let root = version.current;
-        match has(&mut self.disk, self.blocks, root, key) {
-            Ok(true) => {}
-            Ok(false) => return Err(Refusal::NoSuchRecord),
-            Err(fault) => return Err(refusal_of(fault)),
+        if !has(&mut self.disk, self.blocks, root, key)? {
+            return Err(Refusal::NoSuchRecord);
         }
         if !self.has_spare(1)? {
             return Err(Refusal::Full);
@@ -100,19 +97,17 @@ impl<D: Disk> Store<D> {
             → (missing ≡ Refusal.NoSuchRecord) ⊎ (value_in s.working alt.now key ≢ Ok None)
             → Carries self.old self.new s holds (Remove alt.now key) result }
     {
-        match remove_forgetting(
+        let removed = remove_forgetting(
             &mut self.disk,
             &mut self.held,
             before_series(&self.series, &self.before),
             version.current,
             key,
-        ) {
-            Ok(Some(root)) => {
-                self.working.set_current(alt, root);
-                Ok(Answer::Done)
-            }
-            Ok(None) => Err(missing),
-            Err(fault) => Err(refusal_of(fault)),
-        }
+        )?;
+        let Some(root) = removed else {
+            return Err(missing);
+        };
+        self.working.set_current(alt, root);
+        Ok(Answer::Done)
     }
 }

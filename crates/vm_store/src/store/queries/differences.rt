@@ -3,7 +3,6 @@ ghost use Rattle.std.specs.Prelude.{◌≡◌, ◌≢◌, true, false};
 ghost use Rattle.vm_types.specs.State.{State};
 ghost use Rattle.vm_types.specs.Queries.{IsListing, changes_in, conflicts_in};
 
-use crate::faults::refusal_of;
 use crate::sides::{ThreeRoots, conflicts_of};
 use crate::store::Store;
 use crate::version::Version;
@@ -40,10 +39,7 @@ impl<D: Disk> Store<D> {
             return Err(Refusal::NoSuchAlternative);
         };
         let Version { base, current, .. } = version;
-        match changed(alloc, &mut self.disk, self.blocks, base, current) {
-            Ok(changes) => Ok(changes),
-            Err(fault) => Err(refusal_of(fault)),
-        }
+        Ok(changed(alloc, &mut self.disk, self.blocks, base, current)?)
     }
 
     /// The keys at which the working states of an alternative and of its parent are in conflict, rising,

@@ -5,7 +5,6 @@ ghost use Rattle.vm_types.specs.State.{State};
 ghost use Rattle.vm_store.specs.Answers.{IsDueOrDevice, copied_answer};
 ghost use Rattle.vm_types.specs.Queries.{value_in};
 
-use crate::faults::refusal_of;
 use crate::store::Store;
 use vm_disk::Disk;
 use vm_tree::get;
@@ -53,10 +52,7 @@ impl<D: Disk> Store<D> {
         let Some(root) = self.working.current_of(alt) else {
             return Err(Refusal::NoSuchAlternative);
         };
-        match get(&mut self.disk, self.blocks, root, key, room) {
-            Ok(value) => Ok(value),
-            Err(fault) => Err(refusal_of(fault)),
-        }
+        Ok(get(&mut self.disk, self.blocks, root, key, room)?)
     }
 
     /// The value of a record in the working state of an alternative.

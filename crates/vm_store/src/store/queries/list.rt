@@ -3,7 +3,6 @@ ghost use Rattle.std.specs.Prelude.{◌≡◌, ◌≢◌, true, false};
 ghost use Rattle.vm_types.specs.State.{State};
 ghost use Rattle.vm_types.specs.Queries.{IsListing, records_in};
 
-use crate::faults::refusal_of;
 use crate::store::Store;
 use std::alloc::Global;
 use vm_disk::Disk;
@@ -33,9 +32,6 @@ impl<D: Disk> Store<D> {
         let Some(version) = self.working.alternative(alt) else {
             return Err(Refusal::NoSuchAlternative);
         };
-        match scan(alloc, &mut self.disk, self.blocks, version.current) {
-            Ok(records) => Ok(records),
-            Err(fault) => Err(refusal_of(fault)),
-        }
+        Ok(scan(alloc, &mut self.disk, self.blocks, version.current)?)
     }
 }

@@ -2,6 +2,7 @@ use Rattle.std.proofs.Common.{inr, sym}
 use Rattle.vm_store.proofs.Listing.{records_absent, records_found, list_refused}
 use Rattle.vm_store.specs.Sizes.{sizes}
 use Rattle.vm_store.proofs.RestingLemmas.{found_entry}
+use Rattle.vm_tree.proofs.Looking.{passed_on}
 use Rattle.vm_store.proofs.SeriesLemmas.{read_holds}
 use Rattle.vm_store.proofs.store.Store.list.Goals as goal
 
@@ -10,24 +11,25 @@ returns-in_default-clause-value g c honest well s holds =
     let rests = holds.rests in
     inr (inr (records_absent _ _ _ _ _ _ s rests c.args.alt.now (sym c.in_default.ensures)))
 
-pub returns-in-Ok-clause-value : goal.returns-in-Ok-clause-value
-returns-in-Ok-clause-value g c honest well s holds =
+pub returns-clause-value : goal.returns-clause-value
+returns-clause-value g c honest well s holds =
     let rests = holds.rests in
     let e = c.in-Some.version in
     let is = sym c.in-Some.ensures in
     let found = found_entry _ _ _ _ _ _ s rests c.args.alt.now e is in
-    records_found _ _ _ _ _ _ s rests c.args.alt.now e is _ (c.in-Ok.ensures.records sizes honest found.filed.current found.stands.current.stands_in found.stands.current.rooted)
+    records_found _ _ _ _ _ _ s rests c.args.alt.now e is _ (c.in_ok-scan.ensures.records sizes honest found.filed.current found.stands.current.stands_in found.stands.current.rooted)
 
-pub returns-in-Ok-clause-state : goal.returns-in-Ok-clause-state
-returns-in-Ok-clause-state g c honest s holds = read_holds _ _ _ _ _ _ _ _ _ s (c.in-Ok.ensures.looks.reads honest) holds
+pub returns-clause-state : goal.returns-clause-state
+returns-clause-state g c honest s holds = read_holds _ _ _ _ _ _ _ _ _ s (c.in_ok-scan.ensures.looks.reads honest) holds
 
-pub returns-in-Err-clause-value : goal.returns-in-Err-clause-value
-returns-in-Err-clause-value g c honest well s holds =
+pub returns-in_err-scan-clause-value : goal.returns-in_err-scan-clause-value
+returns-in_err-scan-clause-value g c honest well s holds =
     let rests = holds.rests in
     let e = c.in-Some.version in
     let is = sym c.in-Some.ensures in
     let found = found_entry _ _ _ _ _ _ s rests c.args.alt.now e is in
-    list_refused c.in-Err.fault c.refusal_of.result _ _ c.refusal_of.ensures (c.in-Err.ensures.records sizes honest found.filed.current found.stands.current.stands_in found.stands.current.rooted)
+    rw (passed_on _ c.from_residual.ensures.1)
+    (list_refused c.in_err-scan.field-0.0 _ _ (c.in_err-scan.ensures.records sizes honest found.filed.current found.stands.current.stands_in found.stands.current.rooted))
 
-pub returns-in-Err-clause-state : goal.returns-in-Err-clause-state
-returns-in-Err-clause-state g c honest s holds = read_holds _ _ _ _ _ _ _ _ _ s (c.in-Err.ensures.looks.reads honest) holds
+pub returns-in_err-scan-clause-state : goal.returns-in_err-scan-clause-state
+returns-in_err-scan-clause-state g c honest s holds = read_holds _ _ _ _ _ _ _ _ _ s (c.in_err-scan.ensures.looks.reads honest) holds

@@ -1,12 +1,13 @@
-use Rattle.std.proofs.Common.{◌≡◌, ℕ, Option, Some, None, Err, option_map, inl, inr, ap, ◌∙◌, refl, subst}
+use Rattle.std.proofs.Common.{◌≡◌, ℕ, Option, Some, None, Err, option_map, inl, inr, ap, refl, subst}
 use Rattle.vm_types.specs.Map.{Map}
 use Rattle.vm_disk.specs.Disk.{Contents}
 use Rattle.vm_tree.specs.Root.{IsRootedIn}
 use Rattle.vm_tree.specs.declared.root.Root.{Root}
-use Rattle.vm_store.specs.Faults.{refusal_of}
+use Rattle.vm_tree.specs.Faults.{refusal_of}
 use Rattle.vm_store.specs.Sizes.{sizes}
 use Rattle.vm_store.specs.declared.version.Version.{Version}
 use Rattle.vm_store.proofs.RestingLemmas.{found_entry, value_found, value_absent}
+use Rattle.vm_tree.proofs.Looking.{passed_on}
 use Rattle.vm_store.proofs.SeriesLemmas.{read_holds}
 use Rattle.vm_store.proofs.store.Store.look.Goals as goal
 
@@ -29,24 +30,25 @@ returns-in_default-clause-value g c honest well s holds =
     let rests = holds.rests in
     inr (value_absent _ _ _ _ _ _ s rests c.args.alt.now c.args.key (root_absent _ c.in_default.ensures))
 
-pub returns-in-Ok-clause-value : goal.returns-in-Ok-clause-value
-returns-in-Ok-clause-value g c honest well s holds =
+pub returns-clause-value : goal.returns-clause-value
+returns-clause-value g c honest well s holds =
     let rests = holds.rests in
     let there = root_there _ c.in-Some.root c.in-Some.ensures in
     let found = found_entry _ _ _ _ _ _ s rests c.args.alt.now there.0 there.1 in
     let stands = rooted_as _ _ _ _ _ _ there.2 found.stands.current in
-    inr (value_found _ _ _ _ _ _ s rests c.args.alt.now there.0 there.1 c.args.key _ (c.in-Ok.ensures.value sizes honest found.filed.current stands.stands_in stands.rooted))
+    inr (value_found _ _ _ _ _ _ s rests c.args.alt.now there.0 there.1 c.args.key _ (c.in_ok-get.ensures.value sizes honest found.filed.current stands.stands_in stands.rooted))
 
-pub returns-in-Ok-clause-state : goal.returns-in-Ok-clause-state
-returns-in-Ok-clause-state g c honest s holds = read_holds _ _ _ _ _ _ _ _ _ s (c.in-Ok.ensures.looks.reads honest) holds
+pub returns-clause-state : goal.returns-clause-state
+returns-clause-state g c honest s holds = read_holds _ _ _ _ _ _ _ _ _ s (c.in_ok-get.ensures.looks.reads honest) holds
 
-pub returns-in-Err-clause-value : goal.returns-in-Err-clause-value
-returns-in-Err-clause-value g c honest well s holds =
+pub returns-in_err-get-clause-value : goal.returns-in_err-get-clause-value
+returns-in_err-get-clause-value g c honest well s holds =
     let rests = holds.rests in
     let there = root_there _ c.in-Some.root c.in-Some.ensures in
     let found = found_entry _ _ _ _ _ _ s rests c.args.alt.now there.0 there.1 in
     let stands = rooted_as _ _ _ _ _ _ there.2 found.stands.current in
-    inl (ap Err (c.refusal_of.ensures ∙ ap refusal_of (c.in-Err.ensures.value sizes honest found.filed.current stands.stands_in stands.rooted)))
+    rw (passed_on _ c.from_residual.ensures.1)
+    (inl (ap Err (ap refusal_of (c.in_err-get.ensures.value sizes honest found.filed.current stands.stands_in stands.rooted))))
 
-pub returns-in-Err-clause-state : goal.returns-in-Err-clause-state
-returns-in-Err-clause-state g c honest s holds = read_holds _ _ _ _ _ _ _ _ _ s (c.in-Err.ensures.looks.reads honest) holds
+pub returns-in_err-get-clause-state : goal.returns-in_err-get-clause-state
+returns-in_err-get-clause-state g c honest s holds = read_holds _ _ _ _ _ _ _ _ _ s (c.in_err-get.ensures.looks.reads honest) holds

@@ -1,37 +1,40 @@
 use Rattle.std.proofs.Common.{ap, sym, ◌∙◌}
 use Rattle.vm_disk.proofs.MomentLemmas.{reads_then, same_medium}
-use Rattle.vm_store.specs.Faults.{refusal_of}
+use Rattle.vm_tree.specs.Faults.{refusal_of}
 use Rattle.vm_store.proofs.MarkedLemmas.{first_reach, first_closed, second_reach, second_closed, both_marked, free_exactly, rests_marked}
+use Rattle.vm_tree.proofs.Looking.{passed_on}
 use Rattle.vm_store.proofs.SeriesLemmas.{holds_marked, read_holds}
 use Rattle.vm_store.proofs.store.Store.mark_all.Goals as goal
 
-pub returns-in-Err-clause-only : goal.returns-in-Err-clause-only
-returns-in-Err-clause-only g c honest s holds =
+pub returns-in_err-mark_versions-clause-only : goal.returns-in_err-mark_versions-clause-only
+returns-in_err-mark_versions-clause-only g c honest s holds =
     let rests = holds.rests in
     let self = c.args.self.now in
     let reach = first_reach _ _ _ _ _ _ s rests self.marks c.clear.new.self self.mark_bits c.clear.ensures _ c.as_slice.ensures.items in
-    c.refusal_of.ensures ∙ ap refusal_of (c.in-Err.ensures.marked honest _ reach (first_closed _ _ _ _ _ _ s rests self.marks c.clear.new.self self.mark_bits c.clear.ensures _ c.as_slice.ensures.items))
+    rw (passed_on _ c.from_residual.ensures.1)
+    (ap refusal_of (c.in_err-mark_versions.ensures.marked honest _ reach (first_closed _ _ _ _ _ _ s rests self.marks c.clear.new.self self.mark_bits c.clear.ensures _ c.as_slice.ensures.items)))
 
-pub returns-in-Err-clause-state : goal.returns-in-Err-clause-state
-returns-in-Err-clause-state g c honest s holds = read_holds _ _ _ _ _ _ _ _ _ s (c.mark_versions.ensures.reads honest) holds
+pub returns-in_err-mark_versions-clause-state : goal.returns-in_err-mark_versions-clause-state
+returns-in_err-mark_versions-clause-state g c honest s holds = read_holds _ _ _ _ _ _ _ _ _ s (c.mark_versions.ensures.reads honest) holds
 
-pub returns-in-Err-mark_versions-clause-reads : goal.returns-in-Err-mark_versions-clause-reads
-returns-in-Err-mark_versions-clause-reads g c honest =
+pub returns-in_err-mark_versions-2-clause-reads : goal.returns-in_err-mark_versions-2-clause-reads
+returns-in_err-mark_versions-2-clause-reads g c honest =
     reads_then _ _ _ (c.mark_versions.ensures.reads (c.mark_versions-2.ensures.any.earlier honest)) (c.mark_versions-2.ensures.reads honest)
 
-pub returns-in-Err-mark_versions-clause-only : goal.returns-in-Err-mark_versions-clause-only
-returns-in-Err-mark_versions-clause-only g c honest s holds =
+pub returns-in_err-mark_versions-2-clause-only : goal.returns-in_err-mark_versions-2-clause-only
+returns-in_err-mark_versions-2-clause-only g c honest s holds =
     let rests = holds.rests in
     let self = c.args.self.now in
-    let read = same_medium _ _ (c.mark_versions.ensures.reads (c.in-Err-mark_versions.ensures.any.earlier honest)) in
+    let read = same_medium _ _ (c.mark_versions.ensures.reads (c.in_err-mark_versions-2.ensures.any.earlier honest)) in
     let reach = first_reach _ _ _ _ _ _ s rests self.marks c.clear.new.self self.mark_bits c.clear.ensures _ c.as_slice.ensures.items in
     let clear = first_closed _ _ _ _ _ _ s rests self.marks c.clear.new.self self.mark_bits c.clear.ensures _ c.as_slice.ensures.items in
     let then = second_reach _ _ _ _ _ _ s rests self.marks c.clear.new.self self.mark_bits c.clear.ensures _ c.as_slice.ensures.items c.mark_versions.new.marks _ read c.mark_versions.ensures.many _ c.as_slice-2.ensures.items in
-    let closed = second_closed _ _ _ _ _ _ s rests self.marks c.clear.new.self self.mark_bits c.clear.ensures _ c.as_slice.ensures.items c.mark_versions.new.marks _ read c.mark_versions.ensures.many _ c.as_slice-2.ensures.items (c.in-Ok.ensures.closed (c.in-Err-mark_versions.ensures.any.earlier honest) _ reach clear) in
-    c.refusal_of-in-Err-mark_versions.ensures ∙ ap refusal_of (c.in-Err-mark_versions.ensures.marked honest _ then closed)
+    let closed = second_closed _ _ _ _ _ _ s rests self.marks c.clear.new.self self.mark_bits c.clear.ensures _ c.as_slice.ensures.items c.mark_versions.new.marks _ read c.mark_versions.ensures.many _ c.as_slice-2.ensures.items (c.in_ok-mark_versions.ensures.closed (c.in_err-mark_versions-2.ensures.any.earlier honest) _ reach clear) in
+    rw (passed_on _ c.from_residual-in_err-mark_versions-2.ensures.1)
+    (ap refusal_of (c.in_err-mark_versions-2.ensures.marked honest _ then closed))
 
-pub returns-in-Err-mark_versions-clause-state : goal.returns-in-Err-mark_versions-clause-state
-returns-in-Err-mark_versions-clause-state g c honest s holds =
+pub returns-in_err-mark_versions-2-clause-state : goal.returns-in_err-mark_versions-2-clause-state
+returns-in_err-mark_versions-2-clause-state g c honest s holds =
     read_holds _ _ _ _ _ _ _ _ _ s (reads_then _ _ _ (c.mark_versions.ensures.reads (c.mark_versions-2.ensures.any.earlier honest)) (c.mark_versions-2.ensures.reads honest)) holds
 
 pub returns-clause-reads : goal.returns-clause-reads
@@ -42,13 +45,13 @@ pub returns-clause-exact : goal.returns-clause-exact
 returns-clause-exact g c honest s holds =
     let rests = holds.rests in
     let self = c.args.self.now in
-    let read = same_medium _ _ (c.mark_versions.ensures.reads (c.in-Ok-mark_versions.ensures.any.earlier honest)) in
+    let read = same_medium _ _ (c.mark_versions.ensures.reads (c.in_ok-mark_versions-2.ensures.any.earlier honest)) in
     let reach = first_reach _ _ _ _ _ _ s rests self.marks c.clear.new.self self.mark_bits c.clear.ensures _ c.as_slice.ensures.items in
     let clear = first_closed _ _ _ _ _ _ s rests self.marks c.clear.new.self self.mark_bits c.clear.ensures _ c.as_slice.ensures.items in
     let then = second_reach _ _ _ _ _ _ s rests self.marks c.clear.new.self self.mark_bits c.clear.ensures _ c.as_slice.ensures.items c.mark_versions.new.marks _ read c.mark_versions.ensures.many _ c.as_slice-2.ensures.items in
-    let closed = second_closed _ _ _ _ _ _ s rests self.marks c.clear.new.self self.mark_bits c.clear.ensures _ c.as_slice.ensures.items c.mark_versions.new.marks _ read c.mark_versions.ensures.many _ c.as_slice-2.ensures.items (c.in-Ok.ensures.closed (c.in-Ok-mark_versions.ensures.any.earlier honest) _ reach clear) in
+    let closed = second_closed _ _ _ _ _ _ s rests self.marks c.clear.new.self self.mark_bits c.clear.ensures _ c.as_slice.ensures.items c.mark_versions.new.marks _ read c.mark_versions.ensures.many _ c.as_slice-2.ensures.items (c.in_ok-mark_versions.ensures.closed (c.in_ok-mark_versions-2.ensures.any.earlier honest) _ reach clear) in
     let marked = both_marked _ _ _ _ _ _ s rests self.marks c.clear.new.self self.mark_bits c.clear.ensures _ c.as_slice.ensures.items c.mark_versions.new.marks _ read c.mark_versions.ensures.many _ c.as_slice-2.ensures.items
-    c.mark_versions-2.new.marks (c.in-Ok.ensures.marked (c.in-Ok-mark_versions.ensures.any.earlier honest) _ reach clear) (c.in-Ok-mark_versions.ensures.marked honest _ then closed) in
+    c.mark_versions-2.new.marks (c.in_ok-mark_versions.ensures.marked (c.in_ok-mark_versions-2.ensures.any.earlier honest) _ reach clear) (c.in_ok-mark_versions-2.ensures.marked honest _ then closed) in
     free_exactly _ _ _ _ _ _ s self.bits rests c.mark_versions-2.new.marks marked c.replace.new.self (c.replace.ensures.count ∙ self.bits) c.replace.ensures.system c.replace.ensures.marked
 
 pub returns-clause-state : goal.returns-clause-state
@@ -59,9 +62,9 @@ returns-clause-state g c honest s holds =
     let reach = first_reach _ _ _ _ _ _ s rests self.marks c.clear.new.self self.mark_bits c.clear.ensures _ c.as_slice.ensures.items in
     let clear = first_closed _ _ _ _ _ _ s rests self.marks c.clear.new.self self.mark_bits c.clear.ensures _ c.as_slice.ensures.items in
     let then = second_reach _ _ _ _ _ _ s rests self.marks c.clear.new.self self.mark_bits c.clear.ensures _ c.as_slice.ensures.items c.mark_versions.new.marks _ read c.mark_versions.ensures.many _ c.as_slice-2.ensures.items in
-    let closed = second_closed _ _ _ _ _ _ s rests self.marks c.clear.new.self self.mark_bits c.clear.ensures _ c.as_slice.ensures.items c.mark_versions.new.marks _ read c.mark_versions.ensures.many _ c.as_slice-2.ensures.items (c.in-Ok.ensures.closed (c.mark_versions-2.ensures.any.earlier honest) _ reach clear) in
+    let closed = second_closed _ _ _ _ _ _ s rests self.marks c.clear.new.self self.mark_bits c.clear.ensures _ c.as_slice.ensures.items c.mark_versions.new.marks _ read c.mark_versions.ensures.many _ c.as_slice-2.ensures.items (c.in_ok-mark_versions.ensures.closed (c.mark_versions-2.ensures.any.earlier honest) _ reach clear) in
     let marked = both_marked _ _ _ _ _ _ s rests self.marks c.clear.new.self self.mark_bits c.clear.ensures _ c.as_slice.ensures.items c.mark_versions.new.marks _ read c.mark_versions.ensures.many _ c.as_slice-2.ensures.items
-    c.mark_versions-2.new.marks (c.in-Ok.ensures.marked (c.mark_versions-2.ensures.any.earlier honest) _ reach clear) (c.in-Ok-mark_versions.ensures.marked honest _ then closed) in
+    c.mark_versions-2.new.marks (c.in_ok-mark_versions.ensures.marked (c.mark_versions-2.ensures.any.earlier honest) _ reach clear) (c.in_ok-mark_versions-2.ensures.marked honest _ then closed) in
     let read-all = same_medium _ _ (reads_then _ _ _ (c.mark_versions.ensures.reads (c.mark_versions-2.ensures.any.earlier honest)) (c.mark_versions-2.ensures.reads honest)) in
     holds_marked _ _ _ _ _ self.before c.replace.new.self c.keep_held.new.self _ _ _ s read-all (c.replace.ensures.count ∙ self.bits ∙ sym (c.keep_held.ensures.count ∙ self.before_bits)) c.keep_held.ensures.kept
     (rests_marked _ _ _ _ _ _ s self.bits rests c.mark_versions-2.new.marks marked c.replace.new.self (c.replace.ensures.count ∙ self.bits) c.replace.ensures.system c.replace.ensures.marked) holds

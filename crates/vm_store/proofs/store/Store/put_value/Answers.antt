@@ -7,7 +7,7 @@ use Rattle.vm_store.specs.Answers.{LacksRoom}
 use Rattle.vm_store.specs.Store.{root_of}
 use Rattle.vm_store.specs.Versions.{is_alternative_of}
 use Rattle.vm_store.proofs.CarryLemmas.{changed, looked, stayed}
-use Rattle.vm_store.proofs.Passing.{passed_on}
+use Rattle.vm_tree.proofs.Looking.{passed_on}
 use Rattle.vm_store.proofs.SpareTests.{room_for, full_for}
 use Rattle.vm_store.proofs.TopLemmas.{rooted_of, grown_of, lacks_under, lacks_over}
 use Rattle.vm_store.proofs.RestingLemmas.{found_entry, answers_absent, answers_full, answers_done, answers_fault, deep_here, here_deep}
@@ -33,10 +33,10 @@ returns-in_err-has_spare-clause-carried g c honest s holds =
     (looked _ _ s holds (Put c.args.alt.now c.args.key c.args.value.now) _ (inl (ap Err (c.in_err-has_spare.ensures.only honest s holds)))
     (c.has_spare.ensures.reads honest) holds'.rests (λ _. holds'))
 
-pub returns-in-Ok-clause-carried : goal.returns-in-Ok-clause-carried
-returns-in-Ok-clause-carried g c honest s holds =
+pub returns-clause-carried : goal.returns-clause-carried
+returns-clause-carried g c honest s holds =
     let rests = holds.rests in
-    let marked = c.in-Ok.ensures.any.earlier honest in
+    let marked = c.in_ok-root.ensures.any.earlier honest in
     let holds' = c.has_spare.ensures.state marked s holds in
     let rests' = holds'.rests in
     let mid = c.has_spare.new.self in
@@ -45,8 +45,8 @@ returns-in-Ok-clause-carried g c honest s holds =
     let is = ap (λ p. find (is_alternative_of c.args.alt.now) p.1) c.has_spare.ensures.same ∙ sym c.in-Some.ensures in
     let found = found_entry _ _ _ _ _ _ s rests' c.args.alt.now e is in
     let current = found.stands.current in
-    let put = c.in-Ok.ensures.put honest found.filed.current current.stands_in (rooted_of _ _ _ e.current _ _ mid.bits current.rooted) in
-    let grown = grown_of _ _ _ _ c.in-Ok.root _ mid.bits (put.0 current.each) in
+    let put = c.in_ok-root.ensures.put honest found.filed.current current.stands_in (rooted_of _ _ _ e.current _ _ mid.bits current.rooted) in
+    let grown = grown_of _ _ _ _ c.in_ok-root.root _ mid.bits (put.0 current.each) in
     let on = went_on _ _ _ _ _ _ _ s c.args.alt.now mid.before mid.series _ c.go_on.ensures.series c.go_on.ensures.before holds' in
     let stays = ap (λ o. before_of o mid.held) c.before_series.ensures in
     let series = in_series _ _ _ _ _ _ _ s c.args.alt.now _ _ c.go_on.ensures.series stays on in
@@ -54,16 +54,16 @@ returns-in-Ok-clause-carried g c honest s holds =
     (λ deep. put.1 (lacks_over _ e.current _ _ (deep_here _ _ _ _ _ _ s rests' c.args.alt.now c.args.key c.args.value.now e is (g.D.Disk.state mid.disk.inner).now.contents
     (subst (λ (m : Medium). LacksRoom m.contents (root_of mid c.args.alt.now) (current_of s.working c.args.alt.now) c.args.key) (sym read)
     (subst (λ f. LacksRoom (g.D.Disk.state c.args.self.now.disk.inner).now.contents (f c.args.alt.now) (current_of s.working c.args.alt.now) c.args.key) (sym c.has_spare.ensures.roots) deep))))))
-    _ (c.has_spare.ensures.reads marked) series (c.in-Ok.ensures.moments honest series.wider) c.in-Ok.ensures.still
+    _ (c.has_spare.ensures.reads marked) series (c.in_ok-root.ensures.moments honest series.wider) c.in_ok-root.ensures.still
     (λ _. holds_as refl c.set_current.ensures
     (holds_then c.args.alt.now _ _ c.go_on.ensures.series stays
-    (put_holds _ _ _ _ _ _ _ s rests' c.args.alt.now e is series _ c.put_forgetting.new.held c.in-Ok.root (omega (arith, c.in-Ok.ensures.block, c.in-Ok.ensures.still.same_length, mid.bits, mid.most))
-    (at_end _ _ _ (c.in-Ok.ensures.moments honest series.wider)) c.in-Ok.ensures.still c.args.key c.args.value.now grown)))
+    (put_holds _ _ _ _ _ _ _ s rests' c.args.alt.now e is series _ c.put_forgetting.new.held c.in_ok-root.root (omega (arith, c.in_ok-root.ensures.block, c.in_ok-root.ensures.still.same_length, mid.bits, mid.most))
+    (at_end _ _ _ (c.in_ok-root.ensures.moments honest series.wider)) c.in_ok-root.ensures.still c.args.key c.args.value.now grown)))
 
-pub returns-in-Err-clause-carried : goal.returns-in-Err-clause-carried
-returns-in-Err-clause-carried g c honest s holds =
+pub returns-in_err-root-clause-carried : goal.returns-in_err-root-clause-carried
+returns-in_err-root-clause-carried g c honest s holds =
     let rests = holds.rests in
-    let marked = c.in-Err.ensures.any.earlier honest in
+    let marked = c.in_err-root.ensures.any.earlier honest in
     let holds' = c.has_spare.ensures.state marked s holds in
     let rests' = holds'.rests in
     let mid = c.has_spare.new.self in
@@ -72,14 +72,15 @@ returns-in-Err-clause-carried g c honest s holds =
     let is = ap (λ p. find (is_alternative_of c.args.alt.now) p.1) c.has_spare.ensures.same ∙ sym c.in-Some.ensures in
     let found = found_entry _ _ _ _ _ _ s rests' c.args.alt.now e is in
     let current = found.stands.current in
-    let put = c.in-Err.ensures.put honest found.filed.current current.stands_in (rooted_of _ _ _ e.current _ _ mid.bits current.rooted) in
+    let put = c.in_err-root.ensures.put honest found.filed.current current.stands_in (rooted_of _ _ _ e.current _ _ mid.bits current.rooted) in
     let on = went_on _ _ _ _ _ _ _ s c.args.alt.now mid.before mid.series _ c.go_on.ensures.series c.go_on.ensures.before holds' in
     let stays = ap (λ o. before_of o mid.held) c.before_series.ensures in
     let series = in_series _ _ _ _ _ _ _ s c.args.alt.now _ _ c.go_on.ensures.series stays on in
-    changed _ _ s holds (Put c.args.alt.now c.args.key c.args.value.now) _ (answers_fault _ _ _ _ _ _ s rests c.args.alt.now c.args.key c.args.value.now _ (sym c.in-Some.ensures) _ _ _ c.in-Err.fault c.refusal_of.result _ (room_for _ _ _ (c.in_ok-has_spare.ensures.spare marked s holds) c.if-not-branch.false)
+    rw (passed_on _ c.from_residual-in_err-root.ensures.1)
+    (changed _ _ s holds (Put c.args.alt.now c.args.key c.args.value.now) _ (answers_fault _ _ _ _ _ _ s rests c.args.alt.now c.args.key c.args.value.now _ (sym c.in-Some.ensures) _ _ _ c.in_err-root.field-0.0 _ (room_for _ _ _ (c.in_ok-has_spare.ensures.spare marked s holds) c.if-not-branch.false)
     (λ here. subst (λ f. LacksRoom (g.D.Disk.state c.args.self.now.disk.inner).now.contents (f c.args.alt.now) (current_of s.working c.args.alt.now) c.args.key) c.has_spare.ensures.roots
     (subst (λ (m : Medium). LacksRoom m.contents (root_of mid c.args.alt.now) (current_of s.working c.args.alt.now) c.args.key) read
     (here_deep _ _ _ _ _ _ s rests' c.args.alt.now c.args.key c.args.value.now e is (g.D.Disk.state mid.disk.inner).now.contents (lacks_under _ e.current _ _ here))))
-    c.refusal_of.ensures put)
-    _ (c.has_spare.ensures.reads marked) series (c.in-Err.ensures.moments honest series.wider) c.in-Err.ensures.still
-    (λ _. holds_more _ _ _ _ _ _ _ s _ _ _ (at_end _ _ _ (c.in-Err.ensures.failed honest)) c.in-Err.ensures.still on)
+    put)
+    _ (c.has_spare.ensures.reads marked) series (c.in_err-root.ensures.moments honest series.wider) c.in_err-root.ensures.still
+    (λ _. holds_more _ _ _ _ _ _ _ s _ _ _ (at_end _ _ _ (c.in_err-root.ensures.failed honest)) c.in_err-root.ensures.still on))

@@ -3,7 +3,7 @@ use Rattle.vm_types.specs.declared.command.Command.TheVariants.{Remove}
 use Rattle.vm_disk.proofs.MomentLemmas.{reads_then}
 use Rattle.vm_store.proofs.CarryLemmas.{looked, read_carried}
 use Rattle.vm_store.proofs.MarkedLemmas.{free_at_most}
-use Rattle.vm_store.proofs.Passing.{passed_on}
+use Rattle.vm_tree.proofs.Looking.{passed_on}
 use Rattle.vm_store.proofs.SpareTests.{room_for, full_for, no_fewer}
 use Rattle.vm_store.proofs.RestingLemmas.{found_entry, value_found}
 use Rattle.vm_store.specs.Sizes.{sizes}
@@ -11,46 +11,47 @@ use Rattle.vm_store.proofs.Removing.{is_absent, is_there, removes_missing, remov
 use Rattle.vm_store.proofs.SeriesLemmas.{went_on, read_holds}
 use Rattle.vm_store.proofs.store.Store.remove_after_look.Goals as goal
 
-pub returns-in-Ok-false-clause-carried : goal.returns-in-Ok-false-clause-carried
-returns-in-Ok-false-clause-carried g c honest s holds =
-    let rests = holds.rests in
-    let e = c.args.version in
-    let is = c.requires in
-    let found = found_entry _ _ _ _ _ _ s rests c.args.alt.now e is in
-    let holds' = read_holds _ _ _ _ _ _ _ _ _ s (c.in-Ok-false.ensures.looks.reads honest) holds in
-    looked _ _ s holds (Remove c.args.alt.now c.args.key) _ (removes_missing s c.args.alt.now c.args.key _ _
-    (value_found _ _ _ _ _ _ s rests c.args.alt.now e is c.args.key None (is_absent _ (sym c.in-Ok-false.field-0-test ∙ c.in-Ok-false.ensures.found sizes honest found.filed.current found.stands.current.stands_in found.stands.current.rooted))))
-    (c.in-Ok-false.ensures.looks.reads honest) holds'.rests (λ _. holds')
-
-pub returns-in-Err-clause-carried : goal.returns-in-Err-clause-carried
-returns-in-Err-clause-carried g c honest s holds =
-    let rests = holds.rests in
-    let e = c.args.version in
-    let is = c.requires in
-    let found = found_entry _ _ _ _ _ _ s rests c.args.alt.now e is in
-    let holds' = read_holds _ _ _ _ _ _ _ _ _ s (c.in-Err.ensures.looks.reads honest) holds in
-    looked _ _ s holds (Remove c.args.alt.now c.args.key) _ (removes_device s c.args.alt.now c.args.key _ _ c.in-Err.fault c.refusal_of.result c.refusal_of.ensures (c.in-Err.ensures.found sizes honest found.filed.current found.stands.current.stands_in found.stands.current.rooted))
-    (c.in-Err.ensures.looks.reads honest) holds'.rests (λ _. holds')
-
 pub returns-then-not-branch-clause-carried : goal.returns-then-not-branch-clause-carried
 returns-then-not-branch-clause-carried g c honest s holds =
     let rests = holds.rests in
     let e = c.args.version in
     let is = c.requires in
     let found = found_entry _ _ _ _ _ _ s rests c.args.alt.now e is in
-    let has = is_there _ (sym c.in-Ok-true.field-0-test ∙ c.in-Ok-true.ensures.found sizes (c.in_ok-has_spare.ensures.any.earlier honest) found.filed.current found.stands.current.stands_in found.stands.current.rooted) in
+    let holds' = read_holds _ _ _ _ _ _ _ _ _ s (c.in_ok-has.ensures.looks.reads honest) holds in
+    looked _ _ s holds (Remove c.args.alt.now c.args.key) _ (removes_missing s c.args.alt.now c.args.key _ _
+    (value_found _ _ _ _ _ _ s rests c.args.alt.now e is c.args.key None (is_absent _ (sym c.if-not-branch.true ∙ c.in_ok-has.ensures.found sizes honest found.filed.current found.stands.current.stands_in found.stands.current.rooted))))
+    (c.in_ok-has.ensures.looks.reads honest) holds'.rests (λ _. holds')
+
+pub returns-in_err-has-clause-carried : goal.returns-in_err-has-clause-carried
+returns-in_err-has-clause-carried g c honest s holds =
+    let rests = holds.rests in
+    let e = c.args.version in
+    let is = c.requires in
+    let found = found_entry _ _ _ _ _ _ s rests c.args.alt.now e is in
+    let holds' = read_holds _ _ _ _ _ _ _ _ _ s (c.in_err-has.ensures.looks.reads honest) holds in
+    rw (passed_on _ c.from_residual.ensures.1)
+    (looked _ _ s holds (Remove c.args.alt.now c.args.key) _ (removes_device s c.args.alt.now c.args.key _ _ c.in_err-has.field-0.0 (c.in_err-has.ensures.found sizes honest found.filed.current found.stands.current.stands_in found.stands.current.rooted))
+    (c.in_err-has.ensures.looks.reads honest) holds'.rests (λ _. holds'))
+
+pub returns-then-not-branch-2-clause-carried : goal.returns-then-not-branch-2-clause-carried
+returns-then-not-branch-2-clause-carried g c honest s holds =
+    let rests = holds.rests in
+    let e = c.args.version in
+    let is = c.requires in
+    let found = found_entry _ _ _ _ _ _ s rests c.args.alt.now e is in
+    let has = is_there _ (sym c.if-not-branch.false ∙ c.in_ok-has.ensures.found sizes (c.in_ok-has_spare.ensures.any.earlier honest) found.filed.current found.stands.current.stands_in found.stands.current.rooted) in
     let there = value_found _ _ _ _ _ _ s rests c.args.alt.now e is c.args.key (Some has.0) has.1 in
-    let read = c.in-Ok-true.ensures.looks.reads (c.has_spare.ensures.any.earlier honest) in
+    let read = c.in_ok-has.ensures.looks.reads (c.has_spare.ensures.any.earlier honest) in
     let holds' = c.has_spare.ensures.state honest s (read_holds _ _ _ _ _ _ _ _ _ s read holds) in
-    looked _ _ s holds (Remove c.args.alt.now c.args.key) _ (removes_full s c.args.alt.now c.args.key _ _ _ there (full_for _ _ _ (spare_after _ _ _ _ _ _ _ _ _ s _ _ (c.in-Ok-true.ensures.looks.reads (c.in_ok-has_spare.ensures.any.earlier honest)) (c.in_ok-has_spare.ensures.spare honest) holds) c.if-not-branch.true))
+    looked _ _ s holds (Remove c.args.alt.now c.args.key) _ (removes_full s c.args.alt.now c.args.key _ _ _ there (full_for _ _ _ (spare_after _ _ _ _ _ _ _ _ _ s _ _ (c.in_ok-has.ensures.looks.reads (c.in_ok-has_spare.ensures.any.earlier honest)) (c.in_ok-has_spare.ensures.spare honest) holds) c.if-not-branch-2.true))
     (reads_then _ _ _ read (c.has_spare.ensures.reads honest)) holds'.rests (λ _. holds')
 
 pub returns-in_err-has_spare-clause-carried : goal.returns-in_err-has_spare-clause-carried
 returns-in_err-has_spare-clause-carried g c honest s holds =
-    let read = c.in-Ok-true.ensures.looks.reads (c.has_spare.ensures.any.earlier honest) in
+    let read = c.in_ok-has.ensures.looks.reads (c.has_spare.ensures.any.earlier honest) in
     let holds' = c.has_spare.ensures.state honest s (read_holds _ _ _ _ _ _ _ _ _ s read holds) in
-    rw (passed_on _ c.from_residual.ensures.1)
-    (looked _ _ s holds (Remove c.args.alt.now c.args.key) _ (inl (ap Err (c.in_err-has_spare.ensures.only honest s (read_holds _ _ _ _ _ _ _ _ _ s (c.in-Ok-true.ensures.looks.reads (c.in_err-has_spare.ensures.any.earlier honest)) holds))))
+    rw (passed_on _ c.from_residual-in_err-has_spare.ensures.1)
+    (looked _ _ s holds (Remove c.args.alt.now c.args.key) _ (inl (ap Err (c.in_err-has_spare.ensures.only honest s (read_holds _ _ _ _ _ _ _ _ _ s (c.in_ok-has.ensures.looks.reads (c.in_err-has_spare.ensures.any.earlier honest)) holds))))
     (reads_then _ _ _ read (c.has_spare.ensures.reads honest)) holds'.rests (λ _. holds'))
 
 pub returns-clause-carried : goal.returns-clause-carried
@@ -59,13 +60,13 @@ returns-clause-carried g c honest s holds =
     let e = c.args.version in
     let marked = c.remove_in_series.ensures.any.earlier honest in
     let found = found_entry _ _ _ _ _ _ s rests c.args.alt.now e c.requires in
-    let has = is_there _ (sym c.in-Ok-true.field-0-test ∙ c.in-Ok-true.ensures.found sizes (c.in_ok-has_spare.ensures.any.earlier marked) found.filed.current found.stands.current.stands_in found.stands.current.rooted) in
+    let has = is_there _ (sym c.if-not-branch.false ∙ c.in_ok-has.ensures.found sizes (c.in_ok-has_spare.ensures.any.earlier marked) found.filed.current found.stands.current.stands_in found.stands.current.rooted) in
     let there = value_found _ _ _ _ _ _ s rests c.args.alt.now e c.requires c.args.key (Some has.0) has.1 in
-    let read = c.in-Ok-true.ensures.looks.reads (c.has_spare.ensures.any.earlier marked) in
+    let read = c.in_ok-has.ensures.looks.reads (c.has_spare.ensures.any.earlier marked) in
     let mid = c.has_spare.new.self in
     let holds' = c.has_spare.ensures.state marked s (read_holds _ _ _ _ _ _ _ _ _ s read holds) in
     let between = went_on _ _ _ _ _ _ _ s c.args.alt.now mid.before mid.series _ c.go_on.ensures.series c.go_on.ensures.before holds' in
     let enough = no_fewer _ _ (omega (arith, c.in_ok-has_spare.ensures.free, free_at_most _ _ _ _ _ _ s mid.bits between.rests)) in
-    let room = room_for _ _ _ (spare_after _ _ _ _ _ _ _ _ _ s _ _ (c.in-Ok-true.ensures.looks.reads (c.in_ok-has_spare.ensures.any.earlier marked)) (c.in_ok-has_spare.ensures.spare marked) holds) c.if-not-branch.false in
+    let room = room_for _ _ _ (spare_after _ _ _ _ _ _ _ _ _ s _ _ (c.in_ok-has.ensures.looks.reads (c.in_ok-has_spare.ensures.any.earlier marked)) (c.in_ok-has_spare.ensures.spare marked) holds) c.if-not-branch-2.false in
     let carried = c.remove_in_series.ensures.carried honest s between (inr (λ missing. let clash = there ∙ missing in cc)) in
     read_carried _ _ _ s holds between (Remove c.args.alt.now c.args.key) _ (reads_then _ _ _ read (c.has_spare.ensures.reads marked)) (removes_alike s c.args.alt.now c.args.key _ _ _ _ enough room carried.answers) carried

@@ -8,6 +8,7 @@ use Rattle.vm_store.specs.Answers.{IsAnswer}
 use Rattle.vm_store.specs.Resting.{before_of, spare_of}
 use Rattle.vm_store.proofs.CarryLemmas.{changed, wrote}
 use Rattle.vm_store.proofs.MarkedLemmas.{free_at_most}
+use Rattle.vm_tree.proofs.Looking.{passed_on}
 use Rattle.vm_store.proofs.Removing.{removes_missing, removes_done, removes_device, removed_root, removed_none, removed_there, some_value, for_reason}
 use Rattle.vm_store.proofs.RestingLemmas.{found_entry, value_found}
 use Rattle.vm_store.proofs.SeriesLemmas.{in_series, holds_as, holds_more, holds_then, remove_holds}
@@ -15,8 +16,8 @@ use Rattle.vm_store.proofs.SpareTests.{no_fewer}
 use Rattle.vm_store.proofs.TopLemmas.{grown_of, grown_small}
 use Rattle.vm_store.proofs.store.Store.remove_in_series.Goals as goal
 
-pub returns-in-Ok-Some-clause-carried : goal.returns-in-Ok-Some-clause-carried
-returns-in-Ok-Some-clause-carried g c honest s holds reason =
+pub returns-clause-carried : goal.returns-clause-carried
+returns-clause-carried g c honest s holds reason =
     let self = c.args.self.now in
     let rests = holds.rests in
     let alt = c.args.alt.now in
@@ -24,22 +25,22 @@ returns-in-Ok-Some-clause-carried g c honest s holds reason =
     let is = c.requires.found in
     let found = found_entry _ _ _ _ _ _ s rests alt e is in
     let before = grown_of _ _ _ _ e.current _ (sym self.bits) found.stands.current in
-    let removed = c.in-Ok-Some.ensures.remove honest found.filed.current before.stands_in before.rooted in
-    let grown = grown_of _ _ _ _ c.in-Ok-Some.root _ self.bits (removed_root _ _ _ _ c.in-Ok-Some.field-0-is removed before.each) in
-    let value = some_value _ (removed_there _ _ _ _ c.in-Ok-Some.field-0-is removed) in
+    let removed = c.in_ok-removed.ensures.remove honest found.filed.current before.stands_in before.rooted in
+    let grown = grown_of _ _ _ _ c.in-Some.root _ self.bits (removed_root _ _ _ _ c.in-Some.is removed before.each) in
+    let value = some_value _ (removed_there _ _ _ _ c.in-Some.is removed) in
     let there = value_found _ _ _ _ _ _ s rests alt e is c.args.key (Some value.0) (sym value.1) in
     let room = no_fewer _ _ (omega (arith, c.requires.room, free_at_most _ _ _ _ _ _ s self.bits rests)) in
     let stays = ap (λ o. before_of o self.held) c.before_series.ensures in
     let series = in_series _ _ _ _ _ _ _ s alt _ _ c.requires.series stays holds in
     changed _ _ s holds (Remove alt c.args.key) _ (removes_done s alt c.args.key _ _ value.0 there room (λ deep. deep))
-    _ (started _ _ refl) series (c.in-Ok-Some.ensures.moments honest series.wider) c.in-Ok-Some.ensures.still
+    _ (started _ _ refl) series (c.in_ok-removed.ensures.moments honest series.wider) c.in_ok-removed.ensures.still
     (λ _. holds_as refl c.set_current.ensures
     (holds_then alt _ _ c.requires.series stays
-    (remove_holds _ _ _ _ _ _ _ s rests alt e is series _ c.remove_forgetting.new.held c.in-Ok-Some.root (grown_small _ _ _ _ _ self.most grown)
-    (at_end _ _ _ (c.in-Ok-Some.ensures.moments honest series.wider)) c.in-Ok-Some.ensures.still c.args.key value.0 there grown)))
+    (remove_holds _ _ _ _ _ _ _ s rests alt e is series _ c.remove_forgetting.new.held c.in-Some.root (grown_small _ _ _ _ _ self.most grown)
+    (at_end _ _ _ (c.in_ok-removed.ensures.moments honest series.wider)) c.in_ok-removed.ensures.still c.args.key value.0 there grown)))
 
-pub returns-in-Ok-None-clause-carried : goal.returns-in-Ok-None-clause-carried
-returns-in-Ok-None-clause-carried g c honest s holds reason =
+pub returns-in_default-clause-carried : goal.returns-in_default-clause-carried
+returns-in_default-clause-carried g c honest s holds reason =
     let self = c.args.self.now in
     let rests = holds.rests in
     let alt = c.args.alt.now in
@@ -47,23 +48,24 @@ returns-in-Ok-None-clause-carried g c honest s holds reason =
     let is = c.requires.found in
     let found = found_entry _ _ _ _ _ _ s rests alt e is in
     let before = grown_of _ _ _ _ e.current _ (sym self.bits) found.stands.current in
-    let removed = c.in-Ok-None.ensures.remove honest found.filed.current before.stands_in before.rooted in
-    let missing = value_found _ _ _ _ _ _ s rests alt e is c.args.key None (sym (removed_none _ _ _ c.in-Ok-None.field-0-is removed)) in
-    let moments = reads_keep _ _ _ (c.remove_forgetting.ensures.kept.reads honest (c.in-Ok-None.is ∙ ap Ok c.in-Ok-None.field-0-is)) (spares_itself (is_free self.held) _) in
+    let removed = c.in_ok-removed.ensures.remove honest found.filed.current before.stands_in before.rooted in
+    let missing = value_found _ _ _ _ _ _ s rests alt e is c.args.key None (sym (removed_none _ _ _ c.in_default.is removed)) in
+    let moments = reads_keep _ _ _ (c.remove_forgetting.ensures.kept.reads honest (c.in_ok-removed.was ∙ ap Ok c.in_default.is)) (spares_itself (is_free self.held) _) in
     let answers : (r : Refusal) → r ≡ NoSuchRecord → IsAnswer s (spare_of rests) ⊥ (Remove alt c.args.key) (Err r) = λ r same.
     subst (λ (r : Refusal). IsAnswer s (spare_of rests) ⊥ (Remove alt c.args.key) (Err r)) (sym same) (removes_missing s alt c.args.key _ _ missing) in
     wrote _ _ s holds (Remove alt c.args.key) _ (answers c.args.missing (for_reason reason (λ there. there (sym missing))))
-    _ (started _ _ refl) rests moments c.in-Ok-None.ensures.still (λ _. holds_more _ _ _ _ _ _ _ s _ _ _ (at_end _ _ _ moments) c.in-Ok-None.ensures.still holds)
+    _ (started _ _ refl) rests moments c.in_ok-removed.ensures.still (λ _. holds_more _ _ _ _ _ _ _ s _ _ _ (at_end _ _ _ moments) c.in_ok-removed.ensures.still holds)
 
-pub returns-in-Err-clause-carried : goal.returns-in-Err-clause-carried
-returns-in-Err-clause-carried g c honest s holds reason =
+pub returns-in_err-removed-clause-carried : goal.returns-in_err-removed-clause-carried
+returns-in_err-removed-clause-carried g c honest s holds reason =
     let self = c.args.self.now in
     let rests = holds.rests in
     let alt = c.args.alt.now in
     let e = c.args.version in
     let found = found_entry _ _ _ _ _ _ s rests alt e c.requires.found in
     let before = grown_of _ _ _ _ e.current _ (sym self.bits) found.stands.current in
-    let removed = c.in-Err.ensures.remove honest found.filed.current before.stands_in before.rooted in
-    let moments = c.in-Err.ensures.failed honest in
-    wrote _ _ s holds (Remove alt c.args.key) _ (removes_device s alt c.args.key _ _ c.in-Err.fault c.refusal_of.result c.refusal_of.ensures removed)
-    _ (started _ _ refl) rests moments c.in-Err.ensures.still (λ _. holds_more _ _ _ _ _ _ _ s _ _ _ (at_end _ _ _ moments) c.in-Err.ensures.still holds)
+    let removed = c.in_err-removed.ensures.remove honest found.filed.current before.stands_in before.rooted in
+    let moments = c.in_err-removed.ensures.failed honest in
+    rw (passed_on _ c.from_residual.ensures.1)
+    (wrote _ _ s holds (Remove alt c.args.key) _ (removes_device s alt c.args.key _ _ c.in_err-removed.field-0.0 removed)
+    _ (started _ _ refl) rests moments c.in_err-removed.ensures.still (λ _. holds_more _ _ _ _ _ _ _ s _ _ _ (at_end _ _ _ moments) c.in_err-removed.ensures.still holds))

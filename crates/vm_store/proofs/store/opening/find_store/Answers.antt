@@ -5,7 +5,7 @@ use Rattle.vm_block.specs.Selector.{named_slot}
 use Rattle.vm_catalog.specs.Catalog.{SlotAt}
 use Rattle.vm_store.specs.Refused.{IsStore, IsRefused}
 use Rattle.vm_store.proofs.OpeningLemmas.{settled_then, on_ok}
-use Rattle.vm_store.proofs.Passing.{passed_on}
+use Rattle.vm_tree.proofs.Looking.{passed_on}
 use Rattle.vm_store.proofs.store.opening.find_store.Goals as goal
 
 pub returns-clause-moments : goal.returns-clause-moments
