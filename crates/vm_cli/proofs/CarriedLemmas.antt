@@ -1,5 +1,5 @@
 -- Texts that are written in part.
-use Rattle.std.proofs.Common.{◌≡◌, ◌<◌, ◌+◌, ◌++◌, ◌∙◌, ℕ, zero, suc, List, [], ◌∷◌, Option, Result, Ok, Err, OnErr, OnOk, flat_map, slice_index_or, sym, refl, arith, add-one, subst, append-nil, append_assoc, length, take, drop, take-append-drop}
+use Rattle.std.proofs.Common.{◌≡◌, ◌<◌, ◌+◌, ◌++◌, ◌∙◌, ℕ, zero, suc, List, [], ◌∷◌, Option, Result, Ok, Err, IsErrAnd, OnErr, OnOk, flat_map, slice_index_or, ap, sym, refl, arith, add-one, subst, append-nil, append_assoc, length, take, drop, take-append-drop}
 use Rattle.std.specs.Io.KnownBytes.{Appends}
 use Rattle.vm_cli.specs.Carried.{WritesStart, Carries}
 use Rattle.vm_cli.proofs.Known.{Appends-nil, Appends-then}
@@ -50,6 +50,11 @@ begins-more a b whole more p = record { rest = p.rest ++ more; carries = carries
 pub on_err : {T E P : Type 0} (r : Result T E) → P → OnErr r P
 on_err (Ok x) p = tt
 on_err (Err e) p = p
+
+-- a fault that is passed on is the answer
+pub passed_on : {T E : Type 0} {e : E} (r : Result T E) → IsErrAnd r (λ fault. fault ≡ e) → r ≡ Err e
+passed_on (Ok x) is = absurd is
+passed_on (Err fault) is = ap Err is
 
 -- one more line of a list
 pub flat_map-more : {X : Type 0} (f : X → List ℕ) (xs : List X) (i : ℕ) (x : X) → i < length xs → slice_index_or xs i x ≡ x → flat_map f (take (i + 1) xs) ≡ flat_map f (take i xs) ++ f x

@@ -11,9 +11,7 @@ use Rattle.vm_store.specs.Growing.{Grows}
 use Rattle.vm_store.specs.Store.{GoesOn, GrowsOn, IsSameButDisk, has_failed, disk_of}
 use Rattle.vm_store.specs.declared.store.Store.{Store}
 use Rattle.vm_store.proofs.LongerLemmas.{goes_grow}
-use Rattle.vm_cli.specs.Talk.{EndsBy, Failing, Passes, StoreFails}
-use Rattle.vm_cli.specs.declared.talk.ServeFault.{ServeFault}
-use Rattle.vm_cli.specs.declared.talk.ServeFault.TheVariants as fault
+use Rattle.vm_cli.specs.Talk.{Passes}
 
 -- a store has failed or it hasn't
 pub failed_or : (b : Bool) → (b ≡ false) ⊎ (b ≡ true)
@@ -93,24 +91,8 @@ module _ {D : Type 0} {members : _} where
   pub passes_left : (old new : Store D members) → new ≡ old → Passes old new None
   passes_left old new same = subst (λ (t : Store D members). Passes old t None) (sym same) (passes_none old)
 
-  -- the device failed later
-  pub failing_later : (old mid new : Store D members) → GrowsOn ⊥ old mid → Failing mid new → Failing old new
-  failing_later old mid new goes failing = omega (arith, goes.rising, failing)
-
   -- a store that had failed is left as it was, and again
   pub left_again : (old mid new : Store D members) → (has_failed old ≡ true → mid ≡ old) → (has_failed mid ≡ true → new ≡ mid) → has_failed old ≡ true → new ≡ old
   left_again old mid new first second failed =
       let same = first failed in
       second (ap (λ (t : Store D members). has_failed t) same ∙ failed) ∙ same
-
-  pub ends_later : (old mid new : Store D members) (why : ServeFault) → GrowsOn ⊥ old mid → EndsBy mid new why → EndsBy old new why
-  ends_later old mid new fault.Read goes never = never
-  ends_later old mid new fault.Write goes is = is
-  ends_later old mid new fault.Refused goes is = is
-  ends_later old mid new fault.Store goes (failed, failing) = (failed, failing_later old mid new goes failing)
-
-  pub ends_store : (old new : Store D members) (why : ServeFault) → EndsBy old new why → StoreFails old new why
-  ends_store old new fault.Read never same = absurd never
-  ends_store old new fault.Write is same = cc
-  ends_store old new fault.Refused is same = cc
-  ends_store old new fault.Store is same = is

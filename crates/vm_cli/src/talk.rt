@@ -103,21 +103,16 @@ pub fn serve<R: Read, W: Write, D: Disk>(
                 if line.is_empty {
                     return Ok(refused);
                 }
-                match answer(
+                let last = answer(
                     alloc, &line, &mut text, &mut room, writer, store, on_refusal,
-                ) {
-                    Ok(last) => return Ok(refused | last),
-                    Err(fault) => return Err(fault),
-                }
+                )?;
+                return Ok(refused | last);
             }
             Ok(count) => {
                 let bytes = &chunk[..count];
-                match feed(
+                refused |= feed(
                     alloc, bytes, &mut line, &mut text, &mut room, writer, store, on_refusal,
-                ) {
-                    Ok(again) => refused |= again,
-                    Err(fault) => return Err(fault),
-                }
+                )?;
             }
             Err(_) => return Err(ServeFault::Read),
         }
@@ -149,7 +144,7 @@ fn feed<W: Write, D: Disk>(
     let mut rest = bytes;
     let mut refused = false;
     while let Some(end) = memchr(b'\n', rest) {
-        match feed_line(
+        refused |= feed_line(
             alloc,
             &rest[..end],
             line,
@@ -158,10 +153,7 @@ fn feed<W: Write, D: Disk>(
             writer,
             store,
             on_refusal,
-        ) {
-            Ok(again) => refused |= again,
-            Err(fault) => return Err(fault),
-        }
+        )?;
         rest = &rest[end + 1..];
     }
     line.extend(rest);
@@ -191,13 +183,9 @@ fn feed_line<W: Write, D: Disk>(
         store.old store.new writer.old writer.new }
 {
     line.extend(bytes);
-    match answer(alloc, line, text, room, writer, store, on_refusal) {
-        Ok(refused) => {
-            line.clear();
-            Ok(refused)
-        }
-        Err(fault) => Err(fault),
-    }
+    let refused = answer(alloc, line, text, room, writer, store, on_refusal)?;
+    line.clear();
+    Ok(refused)
 }
 
 /// Carries out a line and writes its answer, composed in the text, of which nothing is kept. An

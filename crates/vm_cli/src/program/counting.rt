@@ -41,22 +41,14 @@ pub(crate) fn count<D: Disk>(alloc: Global, store: &Store<D>) -> Result<Counts, 
     ensures refused { InState store.now (λ s. IfErr result IsMemory) }
     ensures never { has_failed store.now ≡ false → result ≢ Err Refusal.Device }
 {
-    let alternatives = match store.alternatives(alloc) {
-        Ok(alternatives) => alternatives,
-        Err(refusal) => return Err(refusal),
-    };
-    let checkpoints = match count_checkpoints(alloc, store, &alternatives) {
-        Ok(checkpoints) => checkpoints,
-        Err(refusal) => return Err(refusal),
-    };
-    match store.free() {
-        Ok(free) => Ok(Counts {
-            alternatives: alternatives.len(),
-            checkpoints,
-            free,
-        }),
-        Err(refusal) => Err(refusal),
-    }
+    let alternatives = store.alternatives(alloc)?;
+    let checkpoints = count_checkpoints(alloc, store, &alternatives)?;
+    let free = store.free()?;
+    Ok(Counts {
+        alternatives: alternatives.len(),
+        checkpoints,
+        free,
+    })
 }
 
 /// Counts the checkpoints of all alternatives, which are listed.
@@ -71,11 +63,9 @@ fn count_checkpoints<D: Disk>(
 {
     let mut count: usize = 0;
     for alternative in listed {
-        match store.checkpoints(alloc, &alternative.0) {
-            // They are few, 511 together, wherever the disk keeps its model.
-            Ok(names) => count = count.saturating_add(names.len()),
-            Err(refusal) => return Err(refusal),
-        }
+        let names = store.checkpoints(alloc, &alternative.0)?;
+        // They are few, 511 together, wherever the disk keeps its model.
+        count = count.saturating_add(names.len());
     }
     Ok(count)
 }

@@ -71,9 +71,8 @@ fn numbers(tallied: Result<Tally, Refusal>) -> Result<Option<Tally>, Refusal>
     ensures ok { IfOk result (HasNumbers tallied) }
     ensures err { IfErr result (HasNoNumbers tallied) }
 {
-    match tallied {
-        Ok(tally) => Ok(Some(tally)),
-        Err(Refusal::IsTop | Refusal::NoSuchAlternative) => Ok(None),
-        Err(refusal) => Err(refusal),
+    if let Err(Refusal::IsTop | Refusal::NoSuchAlternative) = tallied {
+        return Ok(None);
     }
+    Ok(Some(tallied?))
 }

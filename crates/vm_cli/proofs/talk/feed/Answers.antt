@@ -2,9 +2,10 @@ use Rattle.std.proofs.Common.{◌||◌, ◌++◌, [], false, Err, arith, refl, r
 use Rattle.vm_cli.specs.Feeding.{Fed}
 use Rattle.vm_cli.specs.Lines.{lines_of}
 use Rattle.vm_cli.specs.Talk.{ServesLines}
+use Rattle.vm_cli.proofs.CarriedLemmas.{passed_on}
 use Rattle.vm_cli.proofs.FeedLemmas.{ended-join, fed-join, fed-nothing, fed-part, line_is, line_split, or-false, part_before, whole_part}
 use Rattle.vm_cli.proofs.Known.{split_more}
-use Rattle.vm_cli.proofs.PassLemmas.{ends_later, grows_both, grows_none, left_again}
+use Rattle.vm_cli.proofs.PassLemmas.{grows_both, grows_none, left_again}
 use Rattle.vm_cli.proofs.talk.feed.Goals as goal
 
 pub loop-end-init : goal.loop-end-init
@@ -25,18 +26,8 @@ feed_line-requires g c =
 pub extend-requires : goal.extend-requires
 extend-requires g c = whole_part c.loop-end.rest.now c.memchr.result c.memchr.ensures (search rules)
 
-pub returns-in-Err-clause-goes : goal.returns-in-Err-clause-goes
-returns-in-Err-clause-goes g c = grows_both _ _ _ c.loop-end.invariant.goes c.in-Err.ensures.goes
-
-pub returns-in-Err-clause-err : goal.returns-in-Err-clause-err
-returns-in-Err-clause-err g c sound =
-    ends_later c.args.store.now c.loop-end.store c.feed_line.new.store c.in-Err.fault c.loop-end.invariant.goes (c.in-Err.ensures.err (c.loop-end.invariant.sound sound))
-
-pub returns-in-Err-clause-left : goal.returns-in-Err-clause-left
-returns-in-Err-clause-left g c = left_again c.args.store.now c.loop-end.store c.feed_line.new.store c.loop-end.invariant.left c.in-Err.ensures.left
-
-pub returns-in-Err-clause-ended : goal.returns-in-Err-clause-ended
-returns-in-Err-clause-ended g c s from h more =
+pub returns-in_err-refused-clause-ended : goal.returns-in_err-refused-clause-ended
+returns-in_err-refused-clause-ended g c s from h more =
     let old = c.args.store.now in
     let mid = c.loop-end.store in
     let new = c.feed_line.new.store in
@@ -46,10 +37,11 @@ returns-in-Err-clause-ended g c s from h more =
     let first = c.in-Some.ensures in
     let p = so_far.fed s from h in
     let rest = drop (c.in-Some.end + 1) c.loop-end.rest.now ++ more in
-    let q = c.in-Err.ensures.ended _ p.0 p.1 rest in
+    let q = c.in_err-refused.ensures.ended _ p.0 p.1 rest in
     let bytes = sym (line_split c.args.bytes.now so_far.done c.loop-end.rest.now more c.in-Some.end so_far.split first.0.high first.1) in
-    subst (λ bs. ServesLines old new s c.args.on_refusal (Err c.in-Err.fault) before now (lines_of (from ++ bs))) bytes
-    (ended-join old mid new s c.args.on_refusal _ _ _ from p.0 before _ now p.2 c.in-Err.fault rest q)
+    rw (passed_on _ c.from_residual.ensures.1)
+    (subst (λ bs. ServesLines old new s c.args.on_refusal (Err c.in_err-refused.field-0.0) before now (lines_of (from ++ bs))) bytes
+    (ended-join old mid new s c.args.on_refusal _ _ _ from p.0 before _ now p.2 c.in_err-refused.field-0.0 rest q))
 
 pub loop-end-preserved : goal.loop-end-preserved
 loop-end-preserved g c =
@@ -64,15 +56,15 @@ loop-end-preserved g c =
     record {
       done = so_far.done ++ take (c.in-Some.end + 1) c.loop-end.rest.now;
       split = split_more c.args.bytes.now so_far.done c.loop-end.rest.now (c.in-Some.end + 1) so_far.split;
-      goes = grows_both _ _ _ so_far.goes c.in-Ok.ensures.goes;
-      sound = λ sound. c.in-Ok.ensures.ok (so_far.sound sound);
-      left = left_again old mid new so_far.left c.in-Ok.ensures.left;
+      goes = grows_both _ _ _ so_far.goes c.in_ok-refused.ensures.goes;
+      sound = λ sound. c.in_ok-refused.ensures.ok (so_far.sound sound);
+      left = left_again old mid new so_far.left c.in_ok-refused.ensures.left;
       fed = λ s from h.
           let p = so_far.fed s from h in
-          let q = c.in-Ok.ensures.fed _ p.0 p.1 in (
+          let q = c.in_ok-refused.ensures.fed _ p.0 p.1 in (
             q.0,
             q.1,
-            subst (λ bs. Fed old new s c.args.on_refusal (c.loop-end.refused || c.in-Ok.again) (so_far.done ++ bs) from q.0 before now) (sym line)
+            subst (λ bs. Fed old new s c.args.on_refusal (c.loop-end.refused || c.in_ok-refused.field-0) (so_far.done ++ bs) from q.0 before now) (sym line)
                 (fed-join old mid new s c.args.on_refusal _ _ _ from p.0 before _ now p.2 _ q.0 q.2),
           );
     }

@@ -1,7 +1,8 @@
 use Rattle.std.proofs.Common.{◌≡◌, ◌∙◌, [], Ok, Err, refl, sym, arith, rules}
 use Rattle.std.proofs.KnownBytes.{Consumes-nil, Consumes-trans}
+use Rattle.vm_cli.proofs.CarriedLemmas.{passed_on}
 use Rattle.vm_cli.proofs.FeedLemmas.{ended-join, fed-join, fed-nothing}
-use Rattle.vm_cli.proofs.PassLemmas.{ends_later, ends_store, grows_both, grows_none, left_again}
+use Rattle.vm_cli.proofs.PassLemmas.{grows_both, grows_none, left_again}
 use Rattle.vm_cli.proofs.ServeLemmas.{read-all, serves-all, serves-last, serves-read, serves-some}
 use Rattle.vm_cli.proofs.talk.serve.Goals as goal
 
@@ -20,11 +21,6 @@ returns-then-line-clause-end g c =
     let none : c.in-Ok-eq0.field-0 ≡ 0 = omega (arith, c.in-Ok-eq0.field-0-test) in
     c.in-Ok-eq0.ensures.bytes.1 none (search rules)
 
-pub returns-in-Ok-answer-clause-end : goal.returns-in-Ok-answer-clause-end
-returns-in-Ok-answer-clause-end g c =
-    let none : c.in-Ok-eq0.field-0 ≡ 0 = omega (arith, c.in-Ok-eq0.field-0-test) in
-    c.in-Ok-eq0.ensures.bytes.1 none (search rules)
-
 pub returns-then-line-clause-answers : goal.returns-then-line-clause-answers
 returns-then-line-clause-answers g c s =
     let so_far = c.loop.invariant in
@@ -35,14 +31,8 @@ returns-then-line-clause-answers g c s =
     let now = g.W.Write.contents c.loop.writer in
     serves-all c.args.store.now c.loop.store s c.args.on_refusal c.loop.refused so_far.bytes p.0 before now p.2 _ (read-all _ _ _ so_far.bytes _ c.in-Ok-eq0.field-0 so_far.read more.0 none (more.1 none (search rules))) (sym p.1.empty ∙ c.if-line.true)
 
-pub returns-in-Ok-answer-clause-goes : goal.returns-in-Ok-answer-clause-goes
-returns-in-Ok-answer-clause-goes g c = grows_both _ _ _ c.loop.invariant.goes c.in-Ok-answer.ensures.goes
-
-pub returns-in-Ok-answer-clause-left : goal.returns-in-Ok-answer-clause-left
-returns-in-Ok-answer-clause-left g c = left_again c.args.store.now c.loop.store c.answer.new.store c.loop.invariant.left c.in-Ok-answer.ensures.left
-
-pub returns-in-Ok-answer-clause-answers : goal.returns-in-Ok-answer-clause-answers
-returns-in-Ok-answer-clause-answers g c s =
+pub returns-in-Ok-eq0-clause-answers : goal.returns-in-Ok-eq0-clause-answers
+returns-in-Ok-eq0-clause-answers g c s =
     let so_far = c.loop.invariant in
     let p = so_far.fed s in
     let more = c.in-Ok-eq0.ensures.bytes in
@@ -50,18 +40,12 @@ returns-in-Ok-answer-clause-answers g c s =
     let before = g.W.Write.contents c.args.writer.now in
     let mid = g.W.Write.contents c.loop.writer in
     let now = g.W.Write.contents c.answer.new.writer in
-    let w = c.in-Ok-answer.ensures.answer _ p.0 p.1 in
-    serves-last c.args.store.now c.loop.store s c.args.on_refusal c.loop.refused so_far.bytes p.0 before mid p.2 c.answer.new.store now _ (Ok c.in-Ok-answer.last)
+    let w = c.in_ok-last-in-Ok-eq0.ensures.answer _ p.0 p.1 in
+    serves-last c.args.store.now c.loop.store s c.args.on_refusal c.loop.refused so_far.bytes p.0 before mid p.2 c.answer.new.store now _ (Ok c.in_ok-last-in-Ok-eq0.last)
     (read-all _ _ _ so_far.bytes _ c.in-Ok-eq0.field-0 so_far.read more.0 none (more.1 none (search rules))) p.1.unbroken (sym p.1.empty ∙ c.if-line.false) w
 
-pub returns-in-Err-answer-clause-goes : goal.returns-in-Err-answer-clause-goes
-returns-in-Err-answer-clause-goes g c = grows_both _ _ _ c.loop.invariant.goes c.in-Err-answer.ensures.goes
-
-pub returns-in-Err-answer-clause-left : goal.returns-in-Err-answer-clause-left
-returns-in-Err-answer-clause-left g c = left_again c.args.store.now c.loop.store c.answer.new.store c.loop.invariant.left c.in-Err-answer.ensures.left
-
-pub returns-in-Err-answer-clause-answers : goal.returns-in-Err-answer-clause-answers
-returns-in-Err-answer-clause-answers g c s =
+pub returns-in_err-last-in-Ok-eq0-clause-answers : goal.returns-in_err-last-in-Ok-eq0-clause-answers
+returns-in_err-last-in-Ok-eq0-clause-answers g c s =
     let so_far = c.loop.invariant in
     let p = so_far.fed s in
     let more = c.in-Ok-eq0.ensures.bytes in
@@ -69,28 +53,13 @@ returns-in-Err-answer-clause-answers g c s =
     let before = g.W.Write.contents c.args.writer.now in
     let mid = g.W.Write.contents c.loop.writer in
     let now = g.W.Write.contents c.answer.new.writer in
-    let w = c.in-Err-answer.ensures.answer _ p.0 p.1 in
-    serves-last c.args.store.now c.loop.store s c.args.on_refusal c.loop.refused so_far.bytes p.0 before mid p.2 c.answer.new.store now _ (Err c.in-Err-answer.fault)
-    (read-all _ _ _ so_far.bytes _ c.in-Ok-eq0.field-0 so_far.read more.0 none (more.1 none (search rules))) p.1.unbroken (sym p.1.empty ∙ c.if-line.false) w
+    let w = c.in_err-last-in-Ok-eq0.ensures.answer _ p.0 p.1 in
+    rw (passed_on _ c.from_residual.ensures.1)
+    (serves-last c.args.store.now c.loop.store s c.args.on_refusal c.loop.refused so_far.bytes p.0 before mid p.2 c.answer.new.store now _ (Err c.in_err-last-in-Ok-eq0.field-0.0)
+    (read-all _ _ _ so_far.bytes _ c.in-Ok-eq0.field-0 so_far.read more.0 none (more.1 none (search rules))) p.1.unbroken (sym p.1.empty ∙ c.if-line.false) w)
 
-pub returns-in-Err-answer-clause-err : goal.returns-in-Err-answer-clause-err
-returns-in-Err-answer-clause-err g c sound =
-    ends_store c.args.store.now c.answer.new.store c.in-Err-answer.fault
-    (ends_later c.args.store.now c.loop.store c.answer.new.store c.in-Err-answer.fault c.loop.invariant.goes (c.in-Err-answer.ensures.err (c.loop.invariant.sound sound)))
-
-pub returns-in-Err-feed-clause-goes : goal.returns-in-Err-feed-clause-goes
-returns-in-Err-feed-clause-goes g c = grows_both _ _ _ c.loop.invariant.goes c.in-Err-feed.ensures.goes
-
-pub returns-in-Err-feed-clause-err : goal.returns-in-Err-feed-clause-err
-returns-in-Err-feed-clause-err g c sound =
-    ends_store c.args.store.now c.feed.new.store c.in-Err-feed.fault
-    (ends_later c.args.store.now c.loop.store c.feed.new.store c.in-Err-feed.fault c.loop.invariant.goes (c.in-Err-feed.ensures.err (c.loop.invariant.sound sound)))
-
-pub returns-in-Err-feed-clause-left : goal.returns-in-Err-feed-clause-left
-returns-in-Err-feed-clause-left g c = left_again c.args.store.now c.loop.store c.feed.new.store c.loop.invariant.left c.in-Err-feed.ensures.left
-
-pub returns-in-Err-feed-clause-answers : goal.returns-in-Err-feed-clause-answers
-returns-in-Err-feed-clause-answers g c s =
+pub returns-in_err-refused-in-Ok-clause-answers : goal.returns-in_err-refused-in-Ok-clause-answers
+returns-in_err-refused-in-Ok-clause-answers g c s =
     let old = c.args.store.now in
     let mid = c.loop.store in
     let new = c.feed.new.store in
@@ -98,10 +67,11 @@ returns-in-Err-feed-clause-answers g c s =
     let p = so_far.fed s in
     let before = g.W.Write.contents c.args.writer.now in
     let now = g.W.Write.contents c.feed.new.writer in
-    let q = c.in-Err-feed.ensures.ended _ p.0 p.1 in
-    serves-some old new s c.args.on_refusal (Err c.in-Err-feed.fault) before now (g.R.Read.remaining c.args.reader.now) (g.R.Read.remaining c.read.new.self) _
+    let q = c.in_err-refused-in-Ok.ensures.ended _ p.0 p.1 in
+    rw (passed_on _ c.from_residual-in_err-refused-in-Ok.ensures.1)
+    (serves-some old new s c.args.on_refusal (Err c.in_err-refused-in-Ok.field-0.0) before now (g.R.Read.remaining c.args.reader.now) (g.R.Read.remaining c.read.new.self) _
     (Consumes-trans _ _ _ so_far.bytes _ so_far.read c.in-Ok.ensures.bytes.0)
-    (λ more. ended-join old mid new s c.args.on_refusal _ so_far.bytes _ [] p.0 before _ now p.2 c.in-Err-feed.fault more (q more))
+    (λ more. ended-join old mid new s c.args.on_refusal _ so_far.bytes _ [] p.0 before _ now p.2 c.in_err-refused-in-Ok.field-0.0 more (q more)))
 
 pub returns-in-Err-clause-answers : goal.returns-in-Err-clause-answers
 returns-in-Err-clause-answers g c s =
@@ -126,13 +96,13 @@ loop-preserved g c =
     let before = g.W.Write.contents c.args.writer.now in
     let now = g.W.Write.contents c.feed.new.writer in
     record {
-      goes = grows_both _ _ _ so_far.goes c.in-Ok-feed.ensures.goes;
-      sound = λ sound. c.in-Ok-feed.ensures.ok (so_far.sound sound);
-      left = left_again old mid new so_far.left c.in-Ok-feed.ensures.left;
+      goes = grows_both _ _ _ so_far.goes c.in_ok-refused-in-Ok.ensures.goes;
+      sound = λ sound. c.in_ok-refused-in-Ok.ensures.ok (so_far.sound sound);
+      left = left_again old mid new so_far.left c.in_ok-refused-in-Ok.ensures.left;
       bytes = _;
       read = Consumes-trans _ _ _ so_far.bytes _ so_far.read c.in-Ok.ensures.bytes.0;
       fed = λ s.
           let p = so_far.fed s in
-          let q = c.in-Ok-feed.ensures.fed _ p.0 p.1 in
+          let q = c.in_ok-refused-in-Ok.ensures.fed _ p.0 p.1 in
           (q.0, q.1, fed-join old mid new s c.args.on_refusal _ so_far.bytes _ [] p.0 before _ now p.2 _ q.0 q.2);
     }

@@ -1,5 +1,5 @@
-use Rattle.std.proofs.Common.{◌∙◌, Err, ap, inl, inr, refl, sym}
-use Rattle.std.proofs.lemmas.Result.{err_from_is_err_and}
+use Rattle.std.proofs.Common.{◌∙◌, inl, inr, refl, sym}
+use Rattle.vm_cli.proofs.CarriedLemmas.{passed_on}
 use Rattle.vm_cli.proofs.CountingLemmas.{has_list}
 use Rattle.vm_cli.proofs.SurveyLemmas.{drawn_all, drawn_more, passes_both, still_holds}
 use Rattle.vm_cli.proofs.program.surveying.survey_listed.Goals as goal
@@ -34,8 +34,7 @@ returns-in_err-branch-clause-refused g c honest sound s holds is =
     let before = c.loop-alternative.invariant in
     let earlier = said.passes.goes.earlier honest in
     let unchanged = before.0.unchanged refl in
-    let p = err_from_is_err_and c.from_residual.result c.from_residual.ensures.1 in
-    rw (p.1 ∙ ap Err p.2) (elim (said.refused honest (unchanged.failed ∙ sound) s (still_holds old mid before.0 earlier s holds)) [
+    rw (passed_on _ c.from_residual.ensures.1) (elim (said.refused honest (unchanged.failed ∙ sound) s (still_holds old mid before.0 earlier s holds)) [
       | inl device ↦ inl device
       | inr refused ↦ inr (has_list old s holds c.args.listed.now is c.loop-alternative.alternative-index c.loop-alternative-test.true _ (sym c.alternative-item.is) _ refused)
     ])
