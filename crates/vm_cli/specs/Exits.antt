@@ -8,7 +8,7 @@ use Rattle.clap.specs.declared.error.kind.ErrorKind.{ErrorKind}
 use Rattle.clap.specs.declared.error.kind.ErrorKind.TheVariants.{DisplayHelp, DisplayVersion, OutOfMemory}
 use Rattle.vm_types.specs.Texts.{refusal_text}
 use Rattle.vm_types.specs.declared.refusal.Refusal.{Refusal}
-use Rattle.vm_types.specs.declared.refusal.Refusal.TheVariants.{AlreadyAStore, BadSize, Device}
+use Rattle.vm_store.specs.Formatting.{IsOfFormat}
 use Rattle.vm_cli.specs.Carried.{WritesStart}
 use Rattle.vm_cli.specs.Drawing.{Branch, drawing}
 use Rattle.vm_cli.specs.Words.{Wanted, altctl, asked_of}
@@ -77,13 +77,9 @@ AskHelp words = (kind : ErrorKind) × IsHelp kind × IsAmong kind (fault_of altc
 abbrev pub AreWrong : List Text → Type 0
 AreWrong words = (kind : ErrorKind) × (¬ IsHelp kind) × IsAmong kind (fault_of altctl words)
 
--- `format` may refuse so
-abbrev pub MayRefuse : Refusal → Type 0
-MayRefuse refusal = (refusal ≡ BadSize) ⊎ ((refusal ≡ AlreadyAStore) ⊎ (refusal ≡ Device))
-
 -- what is said where a job has no disk, or the disk is refused
 abbrev pub SaysRefused : Wanted → List ℕ → Type 0
-SaysRefused (create file blocks) text = (text ≡ file_text (codes "altctl: cannot create ") file) ⊎ ((refusal : Refusal) × MayRefuse refusal × (text ≡ refused_text refusal))
+SaysRefused (create file blocks) text = (text ≡ file_text (codes "altctl: cannot create ") file) ⊎ ((refusal : Refusal) × IsOfFormat refusal × (text ≡ refused_text refusal))
 SaysRefused (run file in_memory on) text = (text ≡ file_text (codes "altctl: cannot open ") file) ⊎ ((refusal : Refusal) × (text ≡ refused_text refusal))
 SaysRefused (do_lines file input in_memory on) text = (text ≡ file_text (codes "altctl: cannot open ") file) ⊎ ((refusal : Refusal) × (text ≡ refused_text refusal))
 SaysRefused (check file) text = (text ≡ file_text (codes "altctl: cannot open ") file) ⊎ ((refusal : Refusal) × (text ≡ refused_text refusal))

@@ -9,11 +9,11 @@ use Rattle.vm_disk.specs.Moments.{Throughout}
 use Rattle.vm_disk.specs.declared.cached.CachedDisk.{CachedDisk}
 use Rattle.vm_disk.specs.declared.delayed.DelayedDisk.{DelayedDisk}
 use Rattle.vm_disk.specs.declared.disk.Disk.{Ghosts}
-use Rattle.vm_store.specs.Formatting.{IsFormatted, IsFormatting}
+use Rattle.vm_store.specs.Formatting.{IsFormatted, IsFormatting, IsOfFormat}
 use Rattle.vm_store.specs.Shown.{Shows}
 use Rattle.vm_cli.specs.Caching.{IsServed, answers_told, commands_told}
 use Rattle.vm_cli.specs.Drawing.{tree_text}
-use Rattle.vm_cli.specs.Exits.{IsJob, MayRefuse, Tells, check_text, created_text, file_text, refused_text}
+use Rattle.vm_cli.specs.Exits.{IsJob, Tells, check_text, created_text, file_text, refused_text}
 use Rattle.vm_cli.specs.Keeps.{Keeps}
 use Rattle.vm_cli.specs.Places.{KeepsOthers, PlaceState, WasLent}
 use Rattle.vm_cli.specs.Sessions.{HasCounted, HasMade, HasMadeNone, HasRefused, HasShown}
@@ -39,7 +39,7 @@ module _ {D : Type 0} (members : Ghosts D) where
     pub lent : WasLent name (members.state start) (members.state end) new
     pub moments : Throughout (members.state start) (members.state end) (IsFormatting blocks (members.state start).now)
     pub told : (HasMade (members.state start) (members.state end) blocks × Tells Done exit before after (created_text blocks))
-        ⊎ ((refusal : Refusal) × MayRefuse refusal × HasMadeNone (members.state start) (members.state end) blocks refusal
+        ⊎ ((refusal : Refusal) × IsOfFormat refusal × HasMadeNone (members.state start) (members.state end) blocks refusal
         × Tells Refused exit errors errors' (refused_text refusal))
 
   -- a file of this name was to be made, with a new store of so many blocks. `Denied` says that the place gave no disk; the last four are

@@ -6,10 +6,10 @@ use Rattle.vm_disk.specs.Disk.{DiskState}
 use Rattle.vm_disk.specs.Moments.{Throughout}
 use Rattle.vm_disk.specs.declared.delayed.DelayedDisk.{DelayedDisk}
 use Rattle.vm_disk.specs.declared.disk.Disk.{Ghosts}
-use Rattle.vm_store.specs.Formatting.{IsFormatting}
+use Rattle.vm_store.specs.Formatting.{IsFormatting, IsOfFormat}
 use Rattle.vm_cli.specs.Delaying.{IsRefusedLate, IsServedLate}
 use Rattle.vm_cli.specs.Drawing.{tree_text}
-use Rattle.vm_cli.specs.Exits.{MayRefuse, TellsOn, check_text, created_text, refused_text}
+use Rattle.vm_cli.specs.Exits.{TellsOn, check_text, created_text, refused_text}
 use Rattle.vm_cli.specs.Sessions.{HasCounted, HasMade, HasMadeNone, HasRefused, HasServed, HasShown}
 use Rattle.vm_cli.specs.declared.program.Exit.{Exit}
 use Rattle.vm_cli.specs.declared.program.Exit.TheVariants.{Done, Refused}
@@ -30,7 +30,7 @@ module _ {W F : Type 0} (in_output : W → Option (List ℕ)) (in_errors : F →
   abbrev pub TellsMadeNone : W → W → F → F → Type 0
   TellsMadeNone output output' errors errors' =
       (output' ≡ output)
-      × ((refusal : Refusal) × MayRefuse refusal × HasMadeNone old new blocks refusal × TellsOn in_errors Refused exit errors errors' (refused_text refusal))
+      × ((refusal : Refusal) × IsOfFormat refusal × HasMadeNone old new blocks refusal × TellsOn in_errors Refused exit errors errors' (refused_text refusal))
 
   -- the one or the other
   abbrev pub MakesStore : W → W → F → F → Type 0
