@@ -176,7 +176,8 @@ module _ {W F : Type 0} (in_output : W → Option (List ℕ)) (in_errors : F →
   abbrev pub IsWrong : List Text → W → W → F → F → Type 0
   IsWrong words output output' errors errors' = (output' ≡ output) × AreWrong words × ((text : List ℕ) × Appends (in_errors errors) (in_errors errors') text)
 
-  -- the program stopped with the output: a text for it was begun, or lines were answered, or memory was wanting
+  -- the program stopped with the output: nothing was written to it, as where memory for the words was wanting, though no reason is told;
+  -- or a text for it was begun; or lines were answered
   abbrev pub StopsOutput : List Text → W → W → Type 0
   StopsOutput words output output' = (output' ≡ output) ⊎ (((text : List ℕ) × IsNews words text × WritesStart (in_output output) (in_output output') text) ⊎ AskLines words)
 
