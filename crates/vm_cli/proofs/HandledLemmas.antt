@@ -57,7 +57,7 @@ module _ {D : Type 0} {members : _} (store : Store D members) (s : State) where
   nothing_handled = unmoved false (AnsweredRequest store store s Request.Nothing [] false) (either (failed_or (has_failed store)))
     where
       either : (has_failed store ≡ false) ⊎ (has_failed store ≡ true) → AnsweredRequest store store s Request.Nothing [] false None
-      either (inl sound) = inl (sound, sym sound, (refl, sound, λ stood. refl))
+      either (inl sound) = inl (sound, sym sound, (refl, sound, (refl, refl), tt))
       either (inr failed) = inr (failed, refl, refl, (refl, refl))
 
   -- a line that asks for nothing that there is
@@ -65,7 +65,7 @@ module _ {D : Type 0} {members : _} (store : Store D members) (s : State) where
   bad_handled = unmoved false (AnsweredRequest store store s Request.Bad (reply_text reply.BadLine) false) (either (failed_or (has_failed store)))
     where
       either : (has_failed store ≡ false) ⊎ (has_failed store ≡ true) → AnsweredRequest store store s Request.Bad (reply_text reply.BadLine) false None
-      either (inl sound) = inl (sound, sym sound, (refl, sound, λ stood. refl))
+      either (inl sound) = inl (sound, sym sound, (refl, sound, (refl, refl), tt))
       either (inr failed) = inr (failed, refl, refl, (refl, refl))
 
   -- words for which there was no memory

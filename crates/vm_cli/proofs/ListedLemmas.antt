@@ -54,26 +54,26 @@ joined_map line (x ∷ xs) = ap (λ rest. line x ++ rest) (joined_map line xs)
 -- a query for a list, after which the store has failed where it had before, and is else as good
 module _ {D : Type 0} {members : _} (old new : Store D members) (s : State) (query : Request) (passes : Passes old new None) (same : has_failed new ≡ has_failed old) (left : has_failed old ≡ true → new ≡ old)
     (holds : Stood old new s → Holds new s) where
-  module _ {T X : Type 0} (Fails : Type 0) (line : X → List ℕ) (items : T → List X) (due : Result (List X) Refusal) (plain : (x : X) (rest : List ℕ) → is_error (line x ++ rest) ≡ false)
-      (meets : (text : List ℕ) → has_failed old ≡ false → (Stood old new s → SaysList Fails line due text) → Meets old new s query text None)
+  module _ {T X : Type 0} (Known Fails : Type 0) (line : X → List ℕ) (items : T → List X) (due : Result (List X) Refusal) (plain : (x : X) (rest : List ℕ) → is_error (line x ++ rest) ≡ false)
+      (meets : (text : List ℕ) → has_failed old ≡ false → (Known → SaysList Fails line due text) → Meets old new s query text None)
       (fails : (text : List ℕ) (ends : Bool) → text ≡ error_text Failed → ends ≡ true → SaysFailed query text ends) where
-    -- its answer is due, and it is replied to so
+    -- its answer is due where `Known` holds, and it is replied to so
     pub list_handled : (answer : Result T Refusal) → (has_failed old ≡ false → answer ≡ Err Device → Fails) → (has_failed old ≡ true → answer ≡ Err Failed) → (has_failed old ≡ false → answer ≢ Err Failed)
-        → (has_failed old ≡ false → Stood old new s → IsListOf items answer due) → (r : Result Reply WriteFault) (a b : Option (List ℕ)) (rest : List ℕ) → ListReplied (λ list. map line (items list)) answer r a b rest
+        → (has_failed old ≡ false → Known → IsListOf items answer due) → (r : Result Reply WriteFault) (a b : Option (List ℕ)) (rest : List ℕ) → ListReplied (λ list. map line (items list)) answer r a b rest
         → Replies (HandlesRequest old new s query) r a b rest
     list_handled (Ok list) device refused only value (Ok reply) a b rest replied =
         let sound = was_sound (has_failed old) list refused in
-        list_replies (Stood old new s) (HandlesRequest old new s query) Fails line (items list) due (Ok reply) a b rest plain
-        (λ text says. told old new s query passes same left holds text sound (meets text sound says)) (λ stood. value sound stood) (replied.0 ∙ ap End (length-map (items list) line)) (subst (Carries a b rest) (joined_map line (items list)) replied.1) _
+        list_replies Known (HandlesRequest old new s query) Fails line (items list) due (Ok reply) a b rest plain
+        (λ text says. told old new s query passes same left holds text sound (meets text sound says)) (λ known. value sound known) (replied.0 ∙ ap End (length-map (items list) line)) (subst (Carries a b rest) (joined_map line (items list)) replied.1) _
     list_handled (Ok list) device refused only value (Err fault) a b rest replied =
         let sound = was_sound (has_failed old) list refused in
-        list_replies (Stood old new s) (HandlesRequest old new s query) Fails line (items list) due (Err fault) a b rest plain
-        (λ text says. told old new s query passes same left holds text sound (meets text sound says)) (λ stood. value sound stood) _ _ (subst (WritesStart a b) (joined_map line (items list)) replied)
+        list_replies Known (HandlesRequest old new s query) Fails line (items list) due (Err fault) a b rest plain
+        (λ text says. told old new s query passes same left holds text sound (meets text sound says)) (λ known. value sound known) _ _ (subst (WritesStart a b) (joined_map line (items list)) replied)
     list_handled (Err refusal) device refused only value (Ok reply) a b rest replied =
         let whole : Replied (HandlesRequest old new s query) reply a a rest =
         replied_whole (HandlesRequest old new s query) reply a rest replied.2
         (refusal_handled old new s query passes same left holds refusal reply replied.0.text replied.0.last replied.0.failed
         (λ failed. let e = refused failed in cc) (λ sound is. only sound (ap Err is)) fails
-        (λ sound. meets (reply_text reply) sound (λ stood. says_refusal Fails line due refusal (reply_text reply) (λ is. device sound (ap Err is)) replied.0.text (value sound stood)))) in
+        (λ sound. meets (reply_text reply) sound (λ known. says_refusal Fails line due refusal (reply_text reply) (λ is. device sound (ap Err is)) replied.0.text (value sound known)))) in
         subst (λ o. Replied (HandlesRequest old new s query) reply a o rest) (sym replied.1) whole
     list_handled (Err refusal) device refused only value (Err fault) a b rest replied = absurd replied

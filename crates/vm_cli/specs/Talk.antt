@@ -14,7 +14,8 @@ use Rattle.vm_types.specs.Queries.{value_in}
 use Rattle.vm_types.specs.Queries.{changes_in, checkpoints_in, conflicts_in, records_in}
 use Rattle.vm_store.specs.Resting.{spare_of}
 use Rattle.vm_store.specs.Running.{CarriesOut}
-use Rattle.vm_store.specs.Store.{GrowsOn, Holds, IsSameButDisk, free_of, has_failed, disk_of}
+use Rattle.vm_store.specs.Shared.{unshared_of, unshared_on_sides}
+use Rattle.vm_store.specs.Store.{GrowsOn, Holds, IsSameButDisk, ReadsAtMost, free_of, has_failed, disk_of}
 use Rattle.vm_store.specs.declared.store.Store.{Store}
 use Rattle.vm_cli.specs.declared.lines.line.TheConstants.{MAX_BYTES}
 use Rattle.vm_cli.specs.Carried.{WritesStart}
@@ -58,20 +59,6 @@ list_lines line (Err refusal) = error_text refusal
 -- a list is answered as is due, or that memory was wanting, or, where `Fails`, that the device failed
 abbrev pub SaysList : {X : Type 0} → Type 0 → (X → List ℕ) → Result (List X) Refusal → List ℕ → Type 0
 SaysList Fails line due text = (text ≡ list_lines line due) ⊎ (((text ≡ error_text Device) × Fails) ⊎ (text ≡ error_text Memory))
-
--- the text of the answer to a query on the working tree, where `Fails` says that the device failed in it, and `IsFree` which
--- numbers of free blocks may be answered
-abbrev pub Says : Type 0 → (ℕ → Type 0) → State → Request → List ℕ → Type 0
-Says Fails IsFree s (Request.Get alt key) text = (text ≡ value_line (value_in s.working alt key)) ⊎ ((text ≡ error_text Device) × Fails)
-Says Fails IsFree s (Request.List alt) text = SaysList Fails (λ (r : Key × List ℕ). record_text r.0 r.1) (records_in s.working alt) text
-Says Fails IsFree s Request.Alternatives text = SaysList ⊥ (λ (a : List ℕ × Option (List ℕ)). alternative_text a.0 a.1) (Ok (shape s.working)) text
-Says Fails IsFree s (Request.Checkpoints alt) text = SaysList ⊥ checkpoint_text (checkpoints_in s.working alt) text
-Says Fails IsFree s (Request.Changes alt) text = SaysList Fails change_text (changes_in s.working alt) text
-Says Fails IsFree s (Request.Conflicts alt) text = SaysList Fails conflict_text (conflicts_in s.working alt) text
-Says Fails IsFree s Request.Free text = (count : ℕ) × IsFree count × (text ≡ reply_text (reply.Free count))
-Says Fails IsFree s Request.Nothing text = text ≡ []
-Says Fails IsFree s Request.Bad text = text ≡ reply_text reply.BadLine
-Says Fails IsFree s (Request.Command command) text = ⊥
 
 -- what a store that had failed answers, and whether the talk ends with it
 abbrev pub SaysFailed : Request → List ℕ → Bool → Type 0
@@ -138,9 +125,34 @@ module _ {D : Type 0} {members : _} where
       ((has_failed old ≡ false) × ((command : Command) × CarriesOut old new s command (Err Device)))
       ⊎ ((has_failed old ≡ true) × (new ≡ old))
 
-  -- the number of blocks that are not held, all of which are spare
-  abbrev pub CountsFree : Store D members → State → ℕ → Type 0
-  CountsFree store s count = (count ≡ free_of store) × ((holds : Holds store s) → count ≤ spare_of holds.rests)
+  -- the number of blocks that are not held is answered; where the store stands for the state, all of them are spare
+  abbrev pub SaysFree : Store D members → State → List ℕ → Type 0
+  SaysFree store s text = (text ≡ reply_text (reply.Free (free_of store))) × ((holds : Holds store s) → free_of store ≤ spare_of holds.rests)
+
+  -- the text of the answer to what is no command. A line that asks nothing of the disk is answered so on any disk, and leaves the store as
+  -- it was; a query that reads is, where the store stood for the state and the disk is honest after it
+  abbrev pub Says : Store D members → Store D members → State → Request → List ℕ → Type 0
+  Says old new s (Request.Get alt key) text =
+      Stood old new s → (text ≡ value_line (value_in s.working alt key)) ⊎ ((text ≡ error_text Device) × Failing old new)
+  Says old new s (Request.List alt) text =
+      Stood old new s → SaysList (Failing old new) (λ (r : Key × List ℕ). record_text r.0 r.1) (records_in s.working alt) text
+  Says old new s (Request.Changes alt) text = Stood old new s → SaysList (Failing old new) change_text (changes_in s.working alt) text
+  Says old new s (Request.Conflicts alt) text = Stood old new s → SaysList (Failing old new) conflict_text (conflicts_in s.working alt) text
+  Says old new s Request.Alternatives text =
+      (new ≡ old) × (Holds old s → SaysList ⊥ (λ (a : List ℕ × Option (List ℕ)). alternative_text a.0 a.1) (Ok (shape s.working)) text)
+  Says old new s (Request.Checkpoints alt) text =
+      (new ≡ old) × (Holds old s → SaysList ⊥ checkpoint_text (checkpoints_in s.working alt) text)
+  Says old new s Request.Free text = (new ≡ old) × SaysFree old s text
+  Says old new s Request.Nothing text = (new ≡ old) × (text ≡ [])
+  Says old new s Request.Bad text = (new ≡ old) × (text ≡ reply_text reply.BadLine)
+  Says old new s (Request.Command command) text = ⊥
+
+  -- a query for changes makes no more reads than there are blocks that only one of the base and the current tree of its alternative has,
+  -- and one for conflicts no more than those and the blocks that only one of its base and its parent's current tree has
+  abbrev pub ReadsFew : Store D members → Store D members → Request → Type 0
+  ReadsFew old new (Request.Changes alt) = ReadsAtMost old new (λ s holds. unshared_of holds.rests alt)
+  ReadsFew old new (Request.Conflicts alt) = ReadsAtMost old new (λ s holds. unshared_on_sides holds.rests alt)
+  ReadsFew old new request = Unit {0}
 
   -- a command is answered as the store carried it out
   abbrev pub AnswersCommand : Store D members → Store D members → State → Command → List ℕ → Done → Type 0
@@ -150,7 +162,7 @@ module _ {D : Type 0} {members : _} where
   -- what a request is answered by a store that had not failed: no query makes it fail
   abbrev pub Meets : Store D members → Store D members → State → Request → List ℕ → Done → Type 0
   Meets old new s (Request.Command command) text done = AnswersCommand old new s command text done
-  Meets old new s query text done = (done ≡ None) × (has_failed new ≡ false) × (Stood old new s → Says (Failing old new) (CountsFree old s) s query text)
+  Meets old new s query text done = (done ≡ None) × (has_failed new ≡ false) × Says old new s query text × ReadsFew old new query
 
   -- a request is answered, and the talk ends with it where the device fails in a command, or the store had failed before, which is
   -- then left as it was

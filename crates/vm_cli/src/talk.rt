@@ -88,6 +88,7 @@ pub fn serve<R: Read, W: Write, D: Disk>(
     // stands for what their commands leave; where it failed in one, for what those before it leave, but that a crash may
     // leave what this one commits. A store that had failed answers Failed to the first command or query, and the talk ends.
     // Where a refused line is to end the talk, none before the last one is refused.
+    // A line that asks nothing of the disk is answered as is due on any disk, and leaves the store as it was.
     ensures answers { ServesEach W.contents on_refusal result store.old store.new
         (R.remaining reader.old) writer.old writer.new }
 {

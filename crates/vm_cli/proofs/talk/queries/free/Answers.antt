@@ -1,6 +1,9 @@
-use Rattle.std.proofs.Common.{refl}
-use Rattle.vm_store.specs.Store.{has_failed}
+use Rattle.std.proofs.Common.{◌≡◌, ◌≤◌, ap, refl, subst}
+use Rattle.vm_store.specs.Resting.{spare_of}
+use Rattle.vm_store.specs.Store.{free_of, has_failed}
 use Rattle.vm_cli.specs.Asking.{Request}
+use Rattle.vm_cli.specs.Replies.{reply_text}
+use Rattle.vm_cli.specs.declared.answers.reply.Reply.TheVariants as reply
 use Rattle.vm_cli.proofs.HandledLemmas.{refusal_handled, told}
 use Rattle.vm_cli.proofs.PassLemmas.{passes_none}
 use Rattle.vm_cli.proofs.TalkLemmas.{was_sound}
@@ -11,8 +14,9 @@ returns-in-Ok-clause-answer g c s =
     let store = c.args.store.now in
     let said = c.in-Ok.ensures in
     let sound = was_sound (has_failed store) c.in-Ok.count said.failed in
+    let same : c.in-Ok.count ≡ free_of store = (let counted = said.counted sound in cc) in
     told store store s Request.Free (passes_none store) refl (λ failed. refl) (λ stood. stood.holds)
-    _ sound (refl, sound, λ stood. (c.in-Ok.count, (let counted = said.counted sound in cc, said.spare s), refl))
+    _ sound (refl, sound, (refl, (ap (λ n. reply_text (reply.Free n)) same, λ holds. subst (λ n. n ≤ spare_of holds.rests) same (said.spare s holds))), tt)
 
 pub returns-in-Err-clause-answer : goal.returns-in-Err-clause-answer
 returns-in-Err-clause-answer g c s =

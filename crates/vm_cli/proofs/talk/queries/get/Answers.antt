@@ -28,7 +28,7 @@ returns-in-Ok g c =
       left = said.no_calls;
       answer = λ s. (
         told old new s (Request.Get c.args.alt.now c.args.key) (passes_reads old new (goes_any _ _ _ said.any) said.reads said.unchanged) said.failed said.no_calls (λ stood. said.state stood.honest s stood.holds)
-            (text ++ []) sound (refl, said.failed ∙ sound, λ stood. says_value (Failing old new) (value_in s.working c.args.alt.now c.args.key) (Ok found) (text ++ []) (λ is. absurd cc) alone (said.value stood.honest sound s stood.holds)),
+            (text ++ []) sound (refl, said.failed ∙ sound, λ stood. says_value (Failing old new) (value_in s.working c.args.alt.now c.args.key) (Ok found) (text ++ []) (λ is. absurd cc) alone (said.value stood.honest sound s stood.holds), tt),
         found_plain (text ++ []) found alone,
       );
     }
@@ -51,5 +51,5 @@ returns-in-Err g c =
           (refusal_handled old new s (Request.Get c.args.alt.now c.args.key) (passes_reads old new (goes_any _ _ _ said.any) said.reads said.unchanged) said.failed said.no_calls (λ stood. said.state stood.honest s stood.holds)
           refusal c.from_refusal.result c.from_refusal.ensures.text c.from_refusal.ensures.last c.from_refusal.ensures.failed (λ failed. let e = said.refused failed in cc) (λ sound is. said.only_then sound (ap Err is))
           (λ text ends is last. (is, last))
-          (λ sound. (refl, said.failed ∙ sound, λ stood. says_value (Failing old new) (value_in s.working c.args.alt.now c.args.key) (Err refusal) _ (λ is. said.any.fault (let same : refusal ≡ Device = cc in ap Err same)) c.from_refusal.ensures.text (said.value stood.honest sound s stood.holds))));
+          (λ sound. (refl, said.failed ∙ sound, λ stood. says_value (Failing old new) (value_in s.working c.args.alt.now c.args.key) (Err refusal) _ (λ is. said.any.fault (let same : refusal ≡ Device = cc in ap Err same)) c.from_refusal.ensures.text (said.value stood.honest sound s stood.holds), tt)));
     }

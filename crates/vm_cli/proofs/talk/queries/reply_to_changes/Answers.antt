@@ -1,6 +1,6 @@
 use Rattle.std.proofs.Common.{◌∷◌, codes, refl, ◌∙◌}
 use Rattle.vm_types.specs.Queries.{changes_in}
-use Rattle.vm_cli.specs.Talk.{Failing}
+use Rattle.vm_cli.specs.Talk.{Failing, Stood}
 use Rattle.vm_cli.specs.Asking.{Request}
 use Rattle.vm_cli.specs.Listings.{change_text}
 use Rattle.vm_cli.specs.Spaces.{words_of}
@@ -22,7 +22,7 @@ returns-in-Some g c =
     (λ sound. list_goes_on _ c.changes.result c.reply_with_list.result _ _ _ _ (said.failed ∙ sound) (said.only_then sound) c.reply_with_list.ensures.list)
     (λ s.
     list_handled old new s query passes said.failed said.no_calls (λ stood. said.state stood.honest s stood.holds)
-    (Failing old new) change_text (λ list. list) (changes_in s.working c.in-Some.alt) (λ x rest. refl) (λ text sound says. (refl, said.failed ∙ sound, says)) (λ text ends is last. (is, last))
+    (Stood old new s) (Failing old new) change_text (λ list. list) (changes_in s.working c.in-Some.alt) (λ x rest. refl) (λ text sound says. (refl, said.failed ∙ sound, says, said.bound)) (λ text ends is last. (is, last))
     c.changes.result (λ sound. said.any.fault) said.refused said.only_then (λ sound stood. said.value stood.honest sound s stood.holds) c.reply_with_list.result _ _ text c.reply_with_list.ensures.list)
 
 pub returns-in-None : goal.returns-in-None

@@ -1,6 +1,7 @@
 use Rattle.std.proofs.Common.{◌∷◌, codes, refl}
 use Rattle.vm_types.specs.Queries.{checkpoints_in}
 use Rattle.vm_types.specs.declared.refusal.Refusal.TheVariants.{Device, Failed}
+use Rattle.vm_store.specs.Store.{Holds}
 use Rattle.vm_cli.specs.Asking.{Request}
 use Rattle.vm_cli.specs.Listings.{checkpoint_text}
 use Rattle.vm_cli.specs.Spaces.{words_of}
@@ -20,9 +21,9 @@ returns-in-Some g c =
     (λ sound. list_goes_on _ c.checkpoints.result c.reply_with_list.result _ _ _ _ sound (is_none _ Failed (λ e. cc) (λ e. cc) (said.only_then sound)) c.reply_with_list.ensures.list)
     (λ s.
     list_handled store store s query (passes_none store) refl (λ failed. refl) (λ stood. stood.holds)
-    ⊥ checkpoint_text (λ list. list.items) (checkpoints_in s.working c.in-Some.alt) (λ x rest. refl) (λ text sound says. (refl, sound, says)) (λ text ends is last. (is, last))
+    (Holds store s) ⊥ checkpoint_text (λ list. list.items) (checkpoints_in s.working c.in-Some.alt) (λ x rest. refl) (λ text sound says. (refl, sound, (refl, says), tt)) (λ text ends is last. (is, last))
     c.checkpoints.result (λ sound. is_none _ Device (λ e. cc) (λ e. cc) (said.only_then sound)) said.refused (λ sound. is_none _ Failed (λ e. cc) (λ e. cc) (said.only_then sound))
-    (λ sound stood. names_listed c.checkpoints.result _ (said.value sound s stood.holds) (said.none sound s stood.holds)) c.reply_with_list.result _ _ text c.reply_with_list.ensures.list)
+    (λ sound holds. names_listed c.checkpoints.result _ (said.value sound s holds) (said.none sound s holds)) c.reply_with_list.result _ _ text c.reply_with_list.ensures.list)
 
 pub returns-in-None : goal.returns-in-None
 returns-in-None g c = bad_into g.W.Write.contents c.args.store.now (codes "checks" ∷ words_of c.args.rest.now) (rw (← c.in-None.ensures) refl) c.args.writer.now c.args.text.now c.requires
