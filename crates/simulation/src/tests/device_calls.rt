@@ -157,11 +157,12 @@ pub(super) fn look(
 /// Whether the disk may be left by a stop in this call. It may be no store as long as `format`
 /// runs.
 fn is_due(alloc: Global, script: Script, disk: RecordingDisk, stage: Stage) -> Result<bool, Wrong> {
-    match look(alloc, script, disk, stage) {
-        Ok((_disk, shown)) => Ok(shown.is_some()),
-        Err(Wrong::Refused(Refusal::NotAStore)) => Ok(stage == Stage::Format),
-        Err(wrong) => Err(wrong),
+    let looked = look(alloc, script, disk, stage);
+    if let Err(Wrong::Refused(Refusal::NotAStore)) = looked {
+        return Ok(stage == Stage::Format);
     }
+    let (_disk, shown) = looked?;
+    Ok(shown.is_some())
 }
 
 /// Counts the calls of a script that one after another fail as the device fails later.

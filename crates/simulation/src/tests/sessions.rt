@@ -109,11 +109,14 @@ fn compare<D: Disk>(
     alternatives: &[Name],
     at: Key,
 ) -> Result<Option<End>, Wrong> {
-    match agrees(alloc, store, &model.plain, alternatives, at) {
-        Ok(true) => Ok(None),
-        Ok(false) => Err(Wrong::Differs),
-        Err(Wrong::Refused(Refusal::Device)) => Ok(Some(End::Stopped)),
-        Err(wrong) => Err(wrong),
+    let agreed = agrees(alloc, store, &model.plain, alternatives, at);
+    if let Err(Wrong::Refused(Refusal::Device)) = agreed {
+        return Ok(Some(End::Stopped));
+    }
+    if agreed? {
+        Ok(None)
+    } else {
+        Err(Wrong::Differs)
     }
 }
 
