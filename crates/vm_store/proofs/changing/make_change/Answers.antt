@@ -4,8 +4,8 @@ use Rattle.vm_disk.proofs.MomentLemmas.{same_medium}
 use Rattle.vm_alloc.specs.Held.{IsHeld}
 use Rattle.vm_tree.specs.Root.{IsRootedIn}
 use Rattle.vm_tree.proofs.Sparing.{held_kept}
-use Rattle.vm_store.proofs.ChangingLemmas.{so_failed, put_makes, absent_makes, rest_makes, device_makes}
 use Rattle.vm_tree.proofs.Looking.{passed_on}
+use Rattle.vm_store.proofs.ChangingLemmas.{so_failed, put_makes, absent_makes, rest_makes, device_makes}
 use Rattle.vm_store.proofs.Removing.{removed_root}
 use Rattle.vm_store.specs.Sizes.{sizes}
 use Rattle.vm_store.proofs.changing.make_change.Goals as goal

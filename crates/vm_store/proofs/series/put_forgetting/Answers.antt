@@ -1,8 +1,8 @@
 use Rattle.std.proofs.Common.{refl}
 use Rattle.vm_alloc.specs.Held.{IsHeld}
 use Rattle.vm_tree.specs.Replacing.{IsHeldBeside, path_under}
-use Rattle.vm_store.proofs.ForgetLemmas.{fault_alike}
 use Rattle.vm_tree.proofs.Looking.{passed_on}
+use Rattle.vm_store.proofs.ForgetLemmas.{fault_alike}
 use Rattle.vm_store.proofs.SeriesLemmas.{forgot_in_series, wrote_in_series}
 use Rattle.vm_store.proofs.TopLemmas.{grown_in}
 use Rattle.vm_store.proofs.series.put_forgetting.Goals as goal

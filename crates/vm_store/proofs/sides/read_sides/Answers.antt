@@ -1,8 +1,8 @@
 use Rattle.std.proofs.Common.{arith}
 use Rattle.vm_disk.proofs.MomentLemmas.{reads_then}
+use Rattle.vm_tree.proofs.Looking.{passed_on}
 use Rattle.vm_store.specs.Sizes.{sizes}
 use Rattle.vm_store.proofs.Listing.{list_refused}
-use Rattle.vm_tree.proofs.Looking.{passed_on}
 use Rattle.vm_store.proofs.SidesLemmas.{rooted_after}
 use Rattle.vm_store.proofs.sides.read_sides.Goals as goal
 

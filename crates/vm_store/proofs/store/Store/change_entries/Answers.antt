@@ -1,7 +1,7 @@
 use Rattle.std.proofs.Common.{refl}
 use Rattle.vm_disk.proofs.MomentLemmas.{started}
-use Rattle.vm_store.proofs.CarryLemmas.{looked}
 use Rattle.vm_tree.proofs.Looking.{passed_on}
+use Rattle.vm_store.proofs.CarryLemmas.{looked}
 use Rattle.vm_store.proofs.SeriesLemmas.{holds_alone, holds_as}
 use Rattle.vm_store.proofs.VersionLemmas.{turned_answers, turned_rests}
 use Rattle.vm_store.proofs.store.Store.change_entries.Goals as goal

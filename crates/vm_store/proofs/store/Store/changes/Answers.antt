@@ -1,8 +1,8 @@
 use Rattle.std.proofs.Common.{Ok, inr, ap, sym, ◌∙◌}
 use Rattle.vm_types.specs.Queries.{changes_of}
+use Rattle.vm_tree.proofs.Looking.{passed_on}
 use Rattle.vm_store.specs.Sizes.{sizes}
 use Rattle.vm_store.proofs.Listing.{list_refused}
-use Rattle.vm_tree.proofs.Looking.{passed_on}
 use Rattle.vm_store.proofs.SharedLemmas.{base_rooted, current_rooted}
 use Rattle.vm_store.proofs.TurnLemmas.{absent, there}
 use Rattle.vm_store.proofs.VersionLemmas.{standing}

@@ -1,7 +1,7 @@
 use Rattle.std.proofs.Common.{inr, arith}
+use Rattle.vm_tree.proofs.Looking.{passed_on}
 use Rattle.vm_store.proofs.Listing.{listed}
 use Rattle.vm_store.proofs.PairLemmas.{conflicts_lacking, conflicts_there, own_there, parent_there}
-use Rattle.vm_tree.proofs.Looking.{passed_on}
 use Rattle.vm_store.proofs.SharedLemmas.{base_rooted, current_rooted, pair_counts}
 use Rattle.vm_store.proofs.SeriesLemmas.{read_holds}
 use Rattle.vm_store.specs.declared.version.Version.{Version}

@@ -1,8 +1,8 @@
 use Rattle.std.proofs.Common.{inr, sym}
+use Rattle.vm_tree.proofs.Looking.{passed_on}
 use Rattle.vm_store.proofs.Listing.{records_absent, records_found, list_refused}
 use Rattle.vm_store.specs.Sizes.{sizes}
 use Rattle.vm_store.proofs.RestingLemmas.{found_entry}
-use Rattle.vm_tree.proofs.Looking.{passed_on}
 use Rattle.vm_store.proofs.SeriesLemmas.{read_holds}
 use Rattle.vm_store.proofs.store.Store.list.Goals as goal
 

@@ -4,10 +4,10 @@ use Rattle.vm_disk.specs.Disk.{Contents}
 use Rattle.vm_tree.specs.Root.{IsRootedIn}
 use Rattle.vm_tree.specs.declared.root.Root.{Root}
 use Rattle.vm_tree.specs.Faults.{refusal_of}
+use Rattle.vm_tree.proofs.Looking.{passed_on}
 use Rattle.vm_store.specs.Sizes.{sizes}
 use Rattle.vm_store.specs.declared.version.Version.{Version}
 use Rattle.vm_store.proofs.RestingLemmas.{found_entry, value_found, value_absent}
-use Rattle.vm_tree.proofs.Looking.{passed_on}
 use Rattle.vm_store.proofs.SeriesLemmas.{read_holds}
 use Rattle.vm_store.proofs.store.Store.look.Goals as goal
 

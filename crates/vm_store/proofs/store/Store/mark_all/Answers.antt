@@ -1,8 +1,8 @@
 use Rattle.std.proofs.Common.{ap, sym, ◌∙◌}
 use Rattle.vm_disk.proofs.MomentLemmas.{reads_then, same_medium}
 use Rattle.vm_tree.specs.Faults.{refusal_of}
-use Rattle.vm_store.proofs.MarkedLemmas.{first_reach, first_closed, second_reach, second_closed, both_marked, free_exactly, rests_marked}
 use Rattle.vm_tree.proofs.Looking.{passed_on}
+use Rattle.vm_store.proofs.MarkedLemmas.{first_reach, first_closed, second_reach, second_closed, both_marked, free_exactly, rests_marked}
 use Rattle.vm_store.proofs.SeriesLemmas.{holds_marked, read_holds}
 use Rattle.vm_store.proofs.store.Store.mark_all.Goals as goal
 

@@ -2,15 +2,15 @@ use Rattle.std.proofs.Common.{inl, inr, length, List, Err, sym, ap, ◌∙◌, s
 use Rattle.vm_types.specs.declared.change.Change.{Change}
 use Rattle.vm_types.specs.declared.command.Command.TheVariants.{Merge}
 use Rattle.vm_disk.proofs.MomentLemmas.{at_end, reads_then}
+use Rattle.vm_tree.specs.Faults.{refusal_of_put}
+use Rattle.vm_tree.proofs.Looking.{passed_on}
 use Rattle.vm_store.specs.Pairs.{IsPair}
 use Rattle.vm_store.proofs.CarryLemmas.{looked, stayed, wrote}
 use Rattle.vm_store.proofs.MergeSteps.{merges_refused, merges_full, merges_done, merges_deep, merge_step, merge_refusal, merge_is, merge_edits, merge_rests, current_is, planned, fault_of_changes, by_reason, by_either, made_of, meets_as}
 use Rattle.vm_store.proofs.PairLemmas.{lacking, own_there, parent_there}
-use Rattle.vm_tree.proofs.Looking.{passed_on}
 use Rattle.vm_store.proofs.Removing.{spare_after}
 use Rattle.vm_store.proofs.RestingLemmas.{rests_more, rests_as}
 use Rattle.vm_store.proofs.SeriesLemmas.{holds_alone, read_holds}
-use Rattle.vm_tree.specs.Faults.{refusal_of_put}
 use Rattle.vm_store.specs.Versions.{is_alternative_of, with_base}
 use Rattle.vm_types.specs.Firsts.{change_first}
 use Rattle.vm_store.proofs.SpareTests.{room_for, full_for}

@@ -2,12 +2,12 @@ use Rattle.std.proofs.Common.{inl, Err, refl, ap, sym, ◌∙◌}
 use Rattle.vm_types.specs.declared.command.Command.TheVariants.{Post}
 use Rattle.vm_types.specs.Firsts.{change_first}
 use Rattle.vm_tree.specs.Faults.{refusal_of}
+use Rattle.vm_tree.proofs.Looking.{passed_on}
 use Rattle.vm_store.specs.Resting.{spare_of}
 use Rattle.vm_store.specs.Sizes.{sizes}
 use Rattle.vm_store.specs.Versions.{is_alternative_of, with_base}
 use Rattle.vm_store.proofs.CarryLemmas.{looked, stayed}
 use Rattle.vm_store.proofs.PairLemmas.{lacking, own_there, parent_there, post_step, post_refused, post_rests, told_equal, told_other}
-use Rattle.vm_tree.proofs.Looking.{passed_on}
 use Rattle.vm_store.proofs.RestingLemmas.{read_rests, rests_as}
 use Rattle.vm_store.proofs.SidesLemmas.{rooted_map}
 use Rattle.vm_store.proofs.VersionLemmas.{answers_refused, answers_done}

@@ -3,11 +3,11 @@ use Rattle.vm_types.specs.Tree.{current_of}
 use Rattle.vm_types.specs.declared.command.Command.TheVariants.{Put}
 use Rattle.vm_disk.specs.Disk.{Medium}
 use Rattle.vm_disk.proofs.MomentLemmas.{at_end, same_medium}
+use Rattle.vm_tree.proofs.Looking.{passed_on}
 use Rattle.vm_store.specs.Answers.{LacksRoom}
 use Rattle.vm_store.specs.Store.{root_of}
 use Rattle.vm_store.specs.Versions.{is_alternative_of}
 use Rattle.vm_store.proofs.CarryLemmas.{changed, looked, stayed}
-use Rattle.vm_tree.proofs.Looking.{passed_on}
 use Rattle.vm_store.proofs.SpareTests.{room_for, full_for}
 use Rattle.vm_store.proofs.TopLemmas.{rooted_of, grown_of, lacks_under, lacks_over}
 use Rattle.vm_store.proofs.RestingLemmas.{found_entry, answers_absent, answers_full, answers_done, answers_fault, deep_here, here_deep}

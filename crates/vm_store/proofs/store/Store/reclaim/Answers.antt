@@ -1,7 +1,7 @@
 use Rattle.std.proofs.Common.{refl}
 use Rattle.vm_types.specs.declared.command.Command.TheVariants.{Reclaim}
-use Rattle.vm_store.proofs.CarryLemmas.{looked}
 use Rattle.vm_tree.proofs.Looking.{passed_on}
+use Rattle.vm_store.proofs.CarryLemmas.{looked}
 use Rattle.vm_store.proofs.SeriesLemmas.{holds_alone}
 use Rattle.vm_store.proofs.VersionLemmas.{answers_reclaim}
 use Rattle.vm_store.proofs.store.Store.reclaim.Goals as goal

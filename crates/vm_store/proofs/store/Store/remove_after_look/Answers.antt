@@ -1,9 +1,9 @@
 use Rattle.std.proofs.Common.{Some, None, Err, inl, inr, sym, ap, ◌∙◌, arith}
 use Rattle.vm_types.specs.declared.command.Command.TheVariants.{Remove}
 use Rattle.vm_disk.proofs.MomentLemmas.{reads_then}
+use Rattle.vm_tree.proofs.Looking.{passed_on}
 use Rattle.vm_store.proofs.CarryLemmas.{looked, read_carried}
 use Rattle.vm_store.proofs.MarkedLemmas.{free_at_most}
-use Rattle.vm_tree.proofs.Looking.{passed_on}
 use Rattle.vm_store.proofs.SpareTests.{room_for, full_for, no_fewer}
 use Rattle.vm_store.proofs.RestingLemmas.{found_entry, value_found}
 use Rattle.vm_store.specs.Sizes.{sizes}

@@ -4,11 +4,11 @@ use Rattle.vm_types.specs.declared.refusal.Refusal.{Refusal}
 use Rattle.vm_types.specs.declared.refusal.Refusal.TheVariants.{NoSuchRecord}
 use Rattle.vm_disk.proofs.MomentLemmas.{at_end, reads_keep, spares_itself, started}
 use Rattle.vm_tree.specs.Free.{is_free}
+use Rattle.vm_tree.proofs.Looking.{passed_on}
 use Rattle.vm_store.specs.Answers.{IsAnswer}
 use Rattle.vm_store.specs.Resting.{before_of, spare_of}
 use Rattle.vm_store.proofs.CarryLemmas.{changed, wrote}
 use Rattle.vm_store.proofs.MarkedLemmas.{free_at_most}
-use Rattle.vm_tree.proofs.Looking.{passed_on}
 use Rattle.vm_store.proofs.Removing.{removes_missing, removes_done, removes_device, removed_root, removed_none, removed_there, some_value, for_reason}
 use Rattle.vm_store.proofs.RestingLemmas.{found_entry, value_found}
 use Rattle.vm_store.proofs.SeriesLemmas.{in_series, holds_as, holds_more, holds_then, remove_holds}

@@ -1,6 +1,6 @@
 use Rattle.std.proofs.Common.{inr, sym, arith}
-use Rattle.vm_store.proofs.PairLemmas.{own_there, parent_there}
 use Rattle.vm_tree.proofs.Looking.{passed_on}
+use Rattle.vm_store.proofs.PairLemmas.{own_there, parent_there}
 use Rattle.vm_store.proofs.SharedLemmas.{base_rooted, current_rooted, pair_counts}
 use Rattle.vm_store.proofs.TallyLemmas.{tallied, tally_lacking}
 use Rattle.vm_store.proofs.SeriesLemmas.{read_holds}

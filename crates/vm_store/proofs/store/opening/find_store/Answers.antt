@@ -3,9 +3,9 @@ use Rattle.vm_disk.specs.Disk.{Contents, block, Medium}
 use Rattle.vm_disk.proofs.MomentLemmas.{then_reads, same_medium}
 use Rattle.vm_block.specs.Selector.{named_slot}
 use Rattle.vm_catalog.specs.Catalog.{SlotAt}
+use Rattle.vm_tree.proofs.Looking.{passed_on}
 use Rattle.vm_store.specs.Refused.{IsStore, IsRefused}
 use Rattle.vm_store.proofs.OpeningLemmas.{settled_then, on_ok}
-use Rattle.vm_tree.proofs.Looking.{passed_on}
 use Rattle.vm_store.proofs.store.opening.find_store.Goals as goal
 
 pub returns-clause-moments : goal.returns-clause-moments

@@ -7,6 +7,8 @@ use Rattle.vm_catalog.specs.Catalog.{SlotAt}
 use Rattle.vm_disk.proofs.MomentLemmas.{same_medium}
 use Rattle.vm_alloc.specs.Marks.{IsMarked}
 use Rattle.vm_tree.proofs.ScanLemmas.{fault_lists}
+use Rattle.vm_tree.specs.Faults.{refusal_of_list}
+use Rattle.vm_tree.proofs.Looking.{passed_on}
 use Rattle.vm_store.specs.Filed.{tree_of}
 use Rattle.vm_store.specs.Refused.{IsRefused, IsStore}
 use Rattle.vm_store.specs.Resting.{Rests}
@@ -18,8 +20,6 @@ use Rattle.vm_store.proofs.StandingLemmas.{standing_in}
 use Rattle.vm_store.specs.Shown.{Shows}
 use Rattle.vm_store.proofs.AddedLemmas.{roots_count}
 use Rattle.vm_store.proofs.OpeningLemmas.{freed, freed_on, found_as_named, found_here, found_alike, trees_here, rests_named, shows_found, rests_found, fault_refused}
-use Rattle.vm_tree.specs.Faults.{refusal_of_list}
-use Rattle.vm_tree.proofs.Looking.{passed_on}
 use Rattle.vm_store.proofs.store.opening.read_maps.Goals as goal
 
 pub versions_twice-requires-clause-roots : goal.versions_twice-requires-clause-roots

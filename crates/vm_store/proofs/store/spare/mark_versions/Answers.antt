@@ -1,7 +1,7 @@
 use Rattle.std.proofs.Common.{◌∙◌, arith}
 use Rattle.vm_disk.proofs.MomentLemmas.{reads_then, same_medium}
-use Rattle.vm_store.specs.Sizes.{sizes}
 use Rattle.vm_tree.proofs.Looking.{passed_on}
+use Rattle.vm_store.specs.Sizes.{sizes}
 use Rattle.vm_store.proofs.ReachLemmas.{reached_more, reached_fault, marks_both, fault_both, all_marked, all_closed}
 use Rattle.vm_store.proofs.store.spare.mark_versions.Goals as goal
 
