@@ -131,7 +131,7 @@ RefusesOn contents exit writer writer' text = TellsOn contents Refused exit writ
 abbrev pub TellsWhy : {F : Type 0} → (F → Option (List ℕ)) → Exit → F → F → Type 0
 TellsWhy in_errors exit errors errors' = (refusal : Refusal) × TellsOn in_errors Refused exit errors errors' (refused_text refusal)
 
--- lines were answered, which may end so, and nothing was said to the errors; or the output is as it was, and the errors are told why the
+-- the job may end so where lines are answered, and nothing was said to the errors; or the output is as it was, and the errors are told why the
 -- disk was refused
 abbrev pub TalkEnds : {W F : Type 0} → (F → Option (List ℕ)) → OnRefusal → Exit → W → W → F → F → Type 0
 TalkEnds in_errors on exit output output' errors errors' =
@@ -155,16 +155,16 @@ StopsUnsaid error exit output output' errors errors' = kind_of error ≡ OutOfMe
 abbrev pub Helps : {W F : Type 0} → (W → Option (List ℕ)) → Error → Exit → W → W → F → F → Type 0
 Helps in_output error exit output output' errors errors' = IsHelp (kind_of error) → (errors' ≡ errors) × ((text : List ℕ) × TellsOn in_output Done exit output output' text)
 
--- where the words are a mistake, the errors are told some text, and the output is as it was
+-- where the error is no help, the errors are told some text, and the output is as it was
 abbrev pub Blames : {W F : Type 0} → (F → Option (List ℕ)) → Error → Exit → W → W → F → F → Type 0
 Blames in_errors error exit output output' errors errors' = (¬ IsHelp (kind_of error)) → (output' ≡ output) × ((text : List ℕ) × TellsOn in_errors WrongWords exit errors errors' text)
 
 module _ {W F : Type 0} (in_output : W → Option (List ℕ)) (in_errors : F → Option (List ℕ)) where
-  -- all was done: a text was written to the output, or lines were answered, and nothing was said to the errors
+  -- all was done: a text was written to the output, or the words ask that lines are answered; and nothing was said to the errors
   abbrev pub IsDone : List Text → W → W → F → F → Type 0
   IsDone words output output' errors errors' = (errors' ≡ errors) × (((text : List ℕ) × IsNews words text × Appends (in_output output) (in_output output') text) ⊎ AskLines words)
 
-  -- lines were answered, and one was refused, which the words ask to be told: nothing was said to the errors
+  -- the words ask that lines are answered and that a refused one is told; nothing was said to the errors
   abbrev pub IsLineRefused : List Text → F → F → Type 0
   IsLineRefused words errors errors' = (errors' ≡ errors) × AskTold words
 
@@ -177,7 +177,7 @@ module _ {W F : Type 0} (in_output : W → Option (List ℕ)) (in_errors : F →
   IsWrong words output output' errors errors' = (output' ≡ output) × AreWrong words × ((text : List ℕ) × Appends (in_errors errors) (in_errors errors') text)
 
   -- the program stopped with the output: nothing was written to it, as where memory for the words was wanting, though no reason is told;
-  -- or a text for it was begun; or lines were answered
+  -- or a text for it was begun; or the words ask that lines are answered
   abbrev pub StopsOutput : List Text → W → W → Type 0
   StopsOutput words output output' = (output' ≡ output) ⊎ (((text : List ℕ) × IsNews words text × WritesStart (in_output output) (in_output output') text) ⊎ AskLines words)
 
@@ -189,7 +189,7 @@ module _ {W F : Type 0} (in_output : W → Option (List ℕ)) (in_errors : F →
   abbrev pub Stops : List Text → W → W → F → F → Type 0
   Stops words output output' errors errors' = ((errors' ≡ errors) × StopsOutput words output output') ⊎ ((output' ≡ output) × StopsErrors words errors errors')
 
-  -- the program stopped, and said so
+  -- the program stopped, and began to say so
   abbrev pub IsStopped : List Text → W → W → F → F → Type 0
   IsStopped words output output' errors errors' = (said : F) × Stops words output output' errors said × WritesStart (in_errors said) (in_errors errors') stopped_text
 

@@ -88,7 +88,8 @@ module _ {P D : Type 0} (over : Disks D) (state : P → PlaceState) (denied : P 
       × (exit ≡ Stopped → WritesStart (in_errors said) (in_errors errors') stopped_text)
       × DoesIn to_write words exit input before after (in_errors errors) (in_errors said))
 
--- on any place: words that ask for a check or a drawing have no file made or opened to be written, and words that ask for no job touch no file
+-- on any place: where the words ask for a check or a drawing, it is asked for no disk that may be written, and where they ask for no job, for
+-- none at all
 abbrev pub LooksOnly : {P : Type 0} → (P → ℕ) → P → P → List Text → Type 0
 LooksOnly to_write place place' words =
     ((name : Text) → IsJob words (check name) ⊎ IsJob words (draw name) → to_write place' ≡ to_write place)

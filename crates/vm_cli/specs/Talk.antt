@@ -110,8 +110,8 @@ module _ {D : Type 0} {members : _} where
     pub honest : (members.state (disk_of new)).honest ≡ true
     pub holds : Holds old s
 
-  -- what a line did on any disk, and what it asked of the device: any but a command left the number of blocks, only read, and changed
-  -- nothing of the store but its disk
+  -- what a line did on any disk, and what it asked of the device: any but a command left the number of blocks, changed nothing of the
+  -- store but its disk, and, where the disk is honest after it, only read
   pub record Passes (old new : Store D members) (done : Done) : Type 0 where
     pub goes : GrowsOn ⊥ old new
     pub as_long : done ≡ None → (members.state (disk_of new)).blocks ≡ (members.state (disk_of old)).blocks
@@ -129,8 +129,8 @@ module _ {D : Type 0} {members : _} where
   abbrev pub SaysFree : Store D members → State → List ℕ → Type 0
   SaysFree store s text = (text ≡ reply_text (reply.Free (free_of store))) × ((holds : Holds store s) → free_of store ≤ spare_of holds.rests)
 
-  -- the text of the answer to what is no command. A line that asks nothing of the disk is answered so on any disk, and leaves the store as
-  -- it was; a query that reads is, where the store stood for the state and the disk is honest after it
+  -- the text of the answer to what is no command. A query that reads is answered so where the store stood for the state and the disk is
+  -- honest after it. Any other leaves the store as it was, on any disk; of them the lists are answered so where the store stood for the state
   abbrev pub Says : Store D members → Store D members → State → Request → List ℕ → Type 0
   Says old new s (Request.Get alt key) text =
       Stood old new s → (text ≡ value_line (value_in s.working alt key)) ⊎ ((text ≡ error_text Device) × Failing old new)
@@ -179,7 +179,8 @@ module _ {D : Type 0} {members : _} where
       ⊎ (((MAX_BYTES < length line) × (new ≡ old) × (done ≡ None) × (ends ≡ false) × (text ≡ reply_text reply.LongLine))
       ⊎ ((length line ≤ MAX_BYTES) × AnsweredRequest old new s (request_of (words_of (without_return line))) text ends done))
 
-  -- something was answered so: a store that hasn't failed stands for what is left, and it fails only where the talk ends
+  -- something was answered so: a store that hasn't failed stands for what is left, where it stood for the state before and the disk is
+  -- honest after it; and it fails only where the talk ends
   pub record Handled (old new : Store D members) (s : State) (ends : Bool) (IsAnswer : Done → Type 0) : Type 0 where
     pub done : Done
     pub answers : IsAnswer done
@@ -202,8 +203,8 @@ module _ {D : Type 0} {members : _} where
       × (again : Bool) × (refused ≡ (is_error first || again))
       × Talks mid new (after_line s step.done) lines rest later others again
 
-  -- lines were answered so, and the store, where it hasn't failed, stands for what their commands leave. Where a refusal is to end
-  -- the talk, none of them was refused
+  -- lines were answered so, and the store, where it hasn't failed, stands for what their commands leave, if it stood for the state before
+  -- and the disk is honest after them. Where a refusal is to end the talk, none of them was refused
   pub record HasTalked (old new : Store D members) (s : State) (on : OnRefusal) (lines : List (List ℕ)) (text : List ℕ) : Type 0 where
     pub commands : List Command
     pub answers : List (Result Answer Refusal)
@@ -214,7 +215,7 @@ module _ {D : Type 0} {members : _} where
     pub holds : Stood old new s → has_failed new ≡ false → Holds new (after s commands answers)
 
   -- a talk over all these lines that ended with one of them: those before it were answered, then it was, and no other. Where its
-  -- answer ends the talk, the store stands for what the answers before it leave, as far as a failed store stands for something
+  -- answer ends the talk, the store failed in it, from the state that the answers before it leave, or had failed before
   pub record EndsTalk (old new : Store D members) (s : State) (on : OnRefusal) (ends : Bool) (all : List (List ℕ)) (text : List ℕ) : Type 0 where
     pub mid : Store D members
     pub lines : List (List ℕ)

@@ -93,7 +93,7 @@ pub fn run_words<P: Place, R: Read, W: Write, F: Write>(
         → IsLineRefused W.contents F.contents (map string_bytes words.now) errors.old errors.new }
     ensures looks { LooksOnly P.to_write place.old place.new (map string_bytes words.now) }
     // As long as the place has kept its rules, and its disks theirs, the files are what the job makes of them. Where the program stopped
-    // that is said to the errors behind what the job said.
+    // the errors are begun to be told so, behind what the job said.
     ensures files { RunsIn (disks P.D.Disk ⟦<CachedDisk<P::D> as Disk>⟧ ⟦<DelayedDisk<P::D> as Disk>⟧ ⟦<DelayedDisk<CachedDisk<P::D>> as Disk>⟧)
         P.state P.denied place.old place.new P.to_write (map string_bytes words.now) result
         (R.remaining input.old) (W.contents output.old) (W.contents output.new) F.contents errors.old errors.new }

@@ -85,10 +85,11 @@ pub fn serve<R: Read, W: Write, D: Disk>(
     ensures left { has_failed store.old ≡ true → store.new ≡ store.old }
 
     // The lines of the input are answered one after another, each by the store that the line before left, and the store
-    // stands for what their commands leave; where it failed in one, for what those before it leave, but that a crash may
-    // leave what this one commits. A store that had failed answers Failed to the first command or query, and the talk ends.
+    // stands for what their commands leave; where it failed in one, a crash in that leaves what was committed before it, or
+    // what this one commits. A store that had failed answers Failed to the first command or query, and the talk ends.
     // Where a refused line is to end the talk, none before the last one is refused.
-    // A line that asks nothing of the disk is answered as is due on any disk, and leaves the store as it was.
+    // Lists of alternatives and checkpoints, `free`, and a line that is bad or asks for nothing leave the store as it was
+    // on any disk; the lists are as is due where it stands for a state, the others always, unless memory was wanting.
     ensures answers { ServesEach W.contents on_refusal result store.old store.new
         (R.remaining reader.old) writer.old writer.new }
 {

@@ -83,7 +83,8 @@ module _ {D : Type 0} {members : _} where
     abbrev pub StandsAfterAll : Type 0
     StandsAfterAll = IsHonest new → has_failed new ≡ false → (s : State) → Holds old s → Holds new (after s (answered commands answers) answers)
 
-    -- a store that has not failed stands for a state in which an alternative is as before, where none of them works on it
+    -- a store that has not failed stands for a state in which an alternative is as before, where none of them works on it, and none posts a
+    -- child into it
     abbrev pub IsolatesOthers : Type 0
     IsolatesOthers =
         IsHonest new → has_failed new ≡ false → (s : State) → Holds old s → (name : List ℕ) → LeavesAlone s (answered commands answers) answers name

@@ -88,7 +88,8 @@ impl<D: Disk> Store<D> {
         // To make, drop or go back to alternatives and checkpoints takes no device call and no block.
         ensures blocks { ChangesEntriesAlone command.now → LeavesBlocks self.old self.new }
 
-        // The answer is the model's, or one that the device, or want of blocks or memory forces.
+        // The answer is the model's, or one that the device forces, or want of blocks, of room in a tree or of
+        // memory.
         ensures answer { IsAnswered self.old self.new command.now result }
         ensures state { StandsAfter self.old self.new command.now result }
 
@@ -130,7 +131,7 @@ impl<D: Disk> Store<D> {
         ensures unchanged { EarlyKeeps result self.old self.new }
         ensures memory { result ≢ Err Refusal.Memory }
 
-        // The answer is the model's, or one that the device or want of blocks forces.
+        // The answer is the model's, or one that the device forces, or want of blocks or of room in the tree.
         ensures answer { IsAnswered self.old self.new (Put alt.now key value.now) result }
         ensures state { StandsAfter self.old self.new (Put alt.now key value.now) result }
 

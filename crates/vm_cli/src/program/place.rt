@@ -13,7 +13,7 @@ use vm_disk::{Disk, FileDisk, History, LAST_STANDARD, SystemFile, World, noted_b
 
 /// Where disks are found by name.
 ///
-/// Of a place that is not honest nothing is said: what its files hold is then unknown.
+/// Of a place that is not honest the clauses `honest` say nothing: what its files hold is then unknown.
 pub trait Place {
     type D: Disk;
 

@@ -47,7 +47,8 @@ impl<D: Disk> Store<D> {
         ensures answers { RunsInTurn self.old self.new commands.now result.0.items }
         ensures state { StandsAfterAll self.old self.new commands.now result.0.items }
 
-        // An alternative on which no command works stays as it is.
+        // An alternative on which no command works, and into which no child is posted, stays as it is in a store that
+        // has not failed.
         ensures isolated { IsolatesOthers self.old self.new commands.now result.0.items }
 
         // Stopped at any moment, a crash shows the committed tree after a beginning of the commands that is
