@@ -8,5 +8,6 @@ use Rattle.vm_block.specs.Padding.{padded}
 unfoldable pub header_bytes : List ℕ
 header_bytes = padded BLOCK_SIZE (codes "ALTSTORE" ++ (little_bytes 4 1 ++ little_bytes 4 BLOCK_SIZE))
 
+-- these bytes are a header
 abbrev pub IsHeader : List ℕ → Type 0
 IsHeader bytes = bytes ≡ header_bytes

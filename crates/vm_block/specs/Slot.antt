@@ -79,6 +79,7 @@ is_alternative Checkpoint = false
 abbrev pub is_alternative_of : List ℕ → Entry → Bool
 is_alternative_of name e = is_alternative e.kind && bytes_eq e.name name
 
+-- whether both are alternatives, or both checkpoints
 abbrev pub is_same_kind : Kind → Kind → Bool
 is_same_kind Alternative kind = is_alternative kind
 is_same_kind Checkpoint kind = not (is_alternative kind)

@@ -79,7 +79,7 @@ fn write_part(
 }
 
 /// Writes two leaves of the rows of one with this row, which it lacks: the left one gets the odd
-/// row. False just where the bytes begin with the head of no leaf.
+/// row. Of a leaf it is true.
 pub fn split_rows(
     bytes: &[u8; 4096],
     key: Key,

@@ -100,8 +100,8 @@ pub fn lowest_key(bytes: &[u8; 4096]) -> Key
     read_key(&bytes[16..])
 }
 
-/// What a leaf has of the key's value. None just where the bytes begin with the head of none, or
-/// the row that was found is none.
+/// What a leaf has of the key's value. None where the bytes begin with the head of none, and else
+/// only where a row is none.
 pub fn find_row(bytes: &[u8; 4096], key: Key) -> Option<Option<Stored<'_>>>
     // On any bytes: None where they begin with the head of no leaf, and else only where a row is none.
     ensures head { IfSome result (λ found. (long : Bool) × (n : ℕ) × IsRowsHead bytes.now MAX_ROWS long n) }

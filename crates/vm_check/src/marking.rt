@@ -285,7 +285,8 @@ pub fn mark<D: Disk>(
     ensures only { SparesOn (D.state (inner_of disk.old))
         (D.state (inner_of disk.new)) roots.now marks.old marks.new }
 
-    // Where the marks were closed, they grow by exactly the blocks under the roots, and stay closed.
+    // On trees, where the marks were closed, at Ok they grow by exactly the blocks under the roots, and
+    // stay closed.
     ensures marked { Covers result (D.state (inner_of disk.old)) (D.state (inner_of disk.new))
         roots.now marks.old marks.new }
     ensures closed { Closes result (D.state (inner_of disk.old)) (D.state (inner_of disk.new))

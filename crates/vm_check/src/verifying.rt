@@ -379,8 +379,9 @@ fn is_below_next(high: Key, bytes: &[u8; 4096], count: usize, i: usize) -> bool
 }
 
 /// Walks the trees under the numbers, in their order, and gives the root of each, and marks on just
-/// the blocks under them. Numbers and blocks may hold anything: it always ends, and reads no block
-/// twice. Number 0 is the empty map. `long` says whether leaves with long values are allowed.
+/// the blocks under them. Numbers and blocks may hold anything: it always ends, and makes no more
+/// reads than there are data blocks. Number 0 is the empty map. `long` says whether leaves with long
+/// values are allowed.
 ///
 /// Where a number has no tree, or a tree has a leaf that is not allowed, it answers Damaged, with
 /// the first block of the walk that is wrong: for such a leaf its own number, and not that of a
@@ -404,8 +405,8 @@ pub fn verify<D: Disk, const LEAF: usize, const FAN: usize, const LEVELS: usize>
     ensures roots { IfOk result (λ found. length found.0.items ≡ length numbers.now) }
     ensures named { IfOk result (λ found. map (λ root. root.block) found.0.items ≡ numbers.now) }
 
-    // No block is read twice, whatever the disk holds and whatever the answer: there are no more reads
-    // than data blocks, and where it answers Ok, just as many as blocks that are marked.
+    // Whatever the disk holds and whatever the answer, there are no more reads than data blocks; and
+    // where it answers Ok, just as many as blocks that are marked.
     ensures once { (D.state disk.new).reads + FIRST_DATA ≤ (D.state disk.old).reads + blocks }
     ensures paid { IfOk result
         (λ found. PaidFor (D.state disk.old) (D.state disk.new) blocks found.1) }

@@ -17,6 +17,7 @@ pub data Front : Type 0 where
   Far : Key → Link → Front
   Top : Root → Front
 
+-- what comes first: a record, a link, the top of a subtree, or the end
 abbrev pub first_of : List Entry → List Root → Front
 first_of [] [] = End
 first_of [] (t ∷ ts) = Top t

@@ -95,8 +95,8 @@ fn is_synced(reads_alone: bool, answer: &io::Result<()>) -> bool
 }
 
 /// A file of the system. It holds what the world says that it held when it was opened, with the writes
-/// so far over that, and it is honest as long as each read gives these bytes. What contracts know of it
-/// takes no memory and no time.
+/// so far over that, and it is honest as long as each read gives these bytes, and its length is told so.
+/// What contracts know of it takes no memory and no time.
 ///
 /// Assumed, and in no contract: which bytes a sync makes last, and that no one else writes the file
 /// between two openings.

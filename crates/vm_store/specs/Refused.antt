@@ -21,6 +21,7 @@ pub record IsStore (x : Contents) : Type 0 where
   pub least : MIN_BLOCKS ≤ length x
   pub header : IsHeader (block x 0)
 
+-- there are too few blocks for a store, or the first one is no header
 abbrev pub IsNoStore : Contents → Type 0
 IsNoStore x = IsStore x → ⊥
 

@@ -351,7 +351,7 @@ pub fn put<D: Disk, const LEAF: usize, const FAN: usize, const LEVELS: usize>(
     // The root is that of a block for data, which is held now.
     ensures root { IfOk result (λ r. IsTaken held.new r.block × (r.level < LEVELS)) }
 
-    // No more than 15 blocks are taken, and that of a long value; none of them where the tree has no room.
+    // No more than 15 blocks are taken, and that of a long value; none of them where it answers Deep.
     ensures taken { TakesAtMost (15 + long_blocks value.now) held.old held.new }
     ensures deep { result ≡ Err PutFault.Deep → held.new ≡ held.old }
 
@@ -364,7 +364,7 @@ pub fn put<D: Disk, const LEAF: usize, const FAN: usize, const LEVELS: usize>(
     ensures first_taken { root.block ≡ 0
         → TakesAtMost (1 + long_blocks value.now) held.old held.new }
 
-    // On a tree that has the key it takes one block a level, and that of a long value.
+    // On a tree that has the key it takes at most one block a level where it gives a root, and that of a long value.
     ensures replaced { ReplacesFrom result (sizes_of LEAF FAN LEVELS) held.old held.new
         (D.state disk.old) (D.state disk.new) root key value.now }
 
