@@ -86,7 +86,7 @@ fn all_follow(entries: &[Entry]) -> bool
 
 /// Whether `top` comes first, and each other entry may follow those before it: its owner is an
 /// alternative among them, its name is new, and a checkpoint of `top` has the empty base.
-pub fn is_ledger(entries: &[Entry]) -> bool
+pub(crate) fn is_ledger(entries: &[Entry]) -> bool
     ensures { IsTrue result ↔ IsLedger entries.now }
 {
     match entries {

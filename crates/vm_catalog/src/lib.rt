@@ -14,8 +14,7 @@ mod selection;
 mod writer;
 
 pub use laws::one_catalog;
-pub use ledger::is_ledger;
-pub use place::{first_block, used_blocks};
+pub use place::first_block;
 pub use reader::{LoadFault, Slot, load};
 pub use selection::{select_slot, slot_in_use};
 pub use writer::{publish, write_slot};

@@ -17,7 +17,7 @@ pub fn first_block(slot_name: SlotName) -> u32
 }
 
 /// How many blocks of a slot are used where it has so many entries, beside its head.
-pub fn used_blocks(entries: usize) -> u32
+pub(crate) fn used_blocks(entries: usize) -> u32
     requires { entries ≤ MAX_VERSIONS }
     ensures { result ≡ used_blocks entries }
 {

@@ -27,4 +27,4 @@ const LEAF: usize = 16;
 const FAN: usize = 256;
 
 /// How many levels a tree has at most.
-pub const LEVELS: usize = 8;
+const LEVELS: usize = 8;
