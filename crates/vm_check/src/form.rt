@@ -6,7 +6,7 @@ ghost use Rattle.vm_tree.specs.Reading.{ReadsOne};
 ghost use Rattle.vm_check.specs.Form.{AcceptsLeaf, AcceptsNode, AcceptsNodeAt, HasRead, IsFilled, IsForm};
 
 use vm_block::{MAX_CHILDREN, node_size, rows_size};
-use vm_disk::Disk;
+use vm_disk::{Disk, Need};
 use vm_tree::{TreeFault, data_at, load_data};
 
 /// What a block of a tree is.
@@ -19,7 +19,12 @@ pub(crate) enum Form {
 }
 
 /// Gets a block to hand, and tells whether it is a leaf or an inner block.
-pub(crate) fn form_at<D: Disk>(disk: &mut D, blocks: u32, block: u32) -> Result<Form, TreeFault>
+pub(crate) fn form_at<D: Disk>(
+    disk: &mut D,
+    blocks: u32,
+    block: u32,
+    need: Need,
+) -> Result<Form, TreeFault>
     requires { blocks ≤ (D.state disk.old).blocks }
     ensures looks { OnlyLooks result (D.state disk.old) (D.state disk.new) }
     ensures once { ReadsOne blocks block (D.state disk.old).reads (D.state disk.new).reads }
@@ -29,7 +34,7 @@ pub(crate) fn form_at<D: Disk>(disk: &mut D, blocks: u32, block: u32) -> Result<
     ensures leaf { AcceptsLeaf result (D.state disk.old) (D.state disk.new) blocks block }
     ensures node { AcceptsNode result (D.state disk.old) (D.state disk.new) blocks block }
 {
-    load_data(disk, blocks, block)?;
+    load_data(disk, blocks, block, need)?;
     let bytes = disk.at_hand();
     match rows_size(bytes) {
         Some(count) => Ok(Form::Leaf(count)),

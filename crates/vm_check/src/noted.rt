@@ -9,7 +9,7 @@ ghost use Rattle.vm_check.specs.Notes.{AreNoted, IsPlain, NotesRun, is_noted, ro
 use std::alloc::{AllocError, Global};
 use vm_alloc::Marks;
 use vm_block::is_long_leaf;
-use vm_disk::{DeviceFault, Disk};
+use vm_disk::{DeviceFault, Disk, Need};
 use vm_types::{MAX_BLOCKS, MIN_BLOCKS};
 
 /// Notes of a block whether it is plain, where there is room.
@@ -164,7 +164,7 @@ impl<D: Disk> Disk for NotedDisk<D> {
         Ok(())
     }
 
-    fn load(&mut self, n: u32) -> Result<(), DeviceFault>
+    fn load(&mut self, n: u32, need: Need) -> Result<(), DeviceFault>
         requires { n < (noted_state D.state self.old).blocks }
         ensures any { Between (noted_state D.state) (Counts 1 result) self.old self.new }
         ensures honest { IfHonest (noted_state D.state) (Reads n (noted_hand D.hand self.new) result)
@@ -177,7 +177,7 @@ impl<D: Disk> Disk for NotedDisk<D> {
             notes_of self.new ≡ notes_of self.old) }
         ensures failed { OnErr result (notes_of self.new ≡ notes_of self.old) }
     {
-        self.inner.load(n)?;
+        self.inner.load(n, need)?;
         if !is_long_leaf(self.inner.at_hand()) {
             note(&mut self.plain, n, true);
         }

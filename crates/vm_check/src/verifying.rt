@@ -18,7 +18,7 @@ use vm_alloc::Marks;
 use vm_block::{
     Link, MAX_CHILDREN, MAX_ROWS, Stored, child_at, is_long_leaf, lowest_key, record_key, stored_at,
 };
-use vm_disk::Disk;
+use vm_disk::{Disk, Need};
 use vm_tree::{ListFault, Root, TreeFault, is_data, long_at};
 use vm_types::{FIRST_DATA, Key, MAX_BLOCKS, MIN_BLOCKS};
 
@@ -116,7 +116,12 @@ fn visit<D: Disk, const LEAF: usize, const FAN: usize>(
         return Ok(span);
     }
     marks.set(block);
-    let form = form_at(disk, blocks, block)?;
+    let need = if most == 0 {
+        Need::Once
+    } else {
+        Need::Again
+    };
+    let form = form_at(disk, blocks, block, need)?;
     match form {
         Form::Leaf(count) => {
             let bytes = disk.at_hand();

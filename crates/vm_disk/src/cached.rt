@@ -6,7 +6,7 @@ ghost use Rattle.vm_disk.specs.Disk.{Counts, Reads, Writes, Idles, Forgets, Sync
 ghost use Rattle.vm_disk.specs.Moments.{WritesRun};
 ghost use Rattle.vm_disk.specs.Kept.{AreOf, entries_of};
 
-use crate::disk::{DeviceFault, Disk};
+use crate::disk::{DeviceFault, Disk, Need};
 use crate::history::History;
 use crate::kept::Kept;
 use crate::rooms::Room;
@@ -21,8 +21,9 @@ use std::num::NonZeroUsize;
 /// refused, the block is not kept, and the call is served.
 ///
 /// A block that comes from below is read onto the desk, a room that is kept with it then, for another
-/// one that takes its place. At hand is the block that was used last, or the one on the desk, where it
-/// could not be kept.
+/// one that takes its place. One that is got to hand and needed once stays on the desk, and no other
+/// one goes for it. At hand is the block that was used last, or the one on the desk, where it was not
+/// kept.
 #[derive(Drop)]
 pub struct CachedDisk<D: Disk> {
     inner: D,
@@ -104,12 +105,12 @@ impl<D: Disk> Disk for CachedDisk<D> {
         ensures kept { OnOk result (Uses n into.new self.old self.new) }
         ensures failed { OnErr result (KeepsJust (kept_of self.old) self.old self.new) }
     {
-        self.load(n)?;
+        self.load(n, Need::Again)?;
         *into = *self.at_hand();
         Ok(())
     }
 
-    fn load(&mut self, n: u32) -> Result<(), DeviceFault>
+    fn load(&mut self, n: u32, need: Need) -> Result<(), DeviceFault>
         requires { n < (cached_state D.state self.old).blocks }
         ensures any { Between (cached_state D.state) (Counts 1 result) self.old self.new }
         ensures honest { IfHonest (cached_state D.state) (Reads n (cached_hand self.new) result)
@@ -122,7 +123,11 @@ impl<D: Disk> Disk for CachedDisk<D> {
         // Else it is asked once.
         ensures miss { keeps n (kept_of self.old) ≡ false
             → Below D.state (Counts 1 result) self.old self.new }
-        ensures kept { OnOk result (Uses n (cached_hand self.new) self.old self.new) }
+        ensures kept { need ≡ Need.Again → OnOk result (Uses n (cached_hand self.new) self.old self.new) }
+
+        // A block that is needed once takes the place of no other one.
+        ensures once { need ≡ Need.Once → keeps n (kept_of self.old) ≡ false
+            → KeepsJust (kept_of self.old) self.old self.new }
         ensures failed { OnErr result (KeepsJust (kept_of self.old) self.old self.new) }
     {
         self.reads.note(&());
@@ -131,8 +136,16 @@ impl<D: Disk> Disk for CachedDisk<D> {
             return Ok(());
         }
         self.inner.read(n, &mut self.desk)?;
-        self.on_desk = !self.kept.keep_room(n, &mut self.desk);
-        Ok(())
+        match need {
+            Need::Again => {
+                self.on_desk = !self.kept.keep_room(n, &mut self.desk);
+                Ok(())
+            }
+            Need::Once => {
+                self.on_desk = true;
+                Ok(())
+            }
+        }
     }
 
     fn at_hand(&self) -> &[u8; 4096] {

@@ -5,7 +5,7 @@ ghost use Rattle.vm_disk.specs.Disk.{Counts, Reads, Writes, Syncs, Extends, Enla
 ghost use Rattle.vm_disk.specs.Laid.{IsCovered, rests_before};
 ghost use Rattle.vm_disk.specs.Layers.{lower_of, rest_of};
 
-use crate::disk::{DeviceFault, Disk};
+use crate::disk::{DeviceFault, Disk, Need};
 use crate::history::History;
 use crate::layers::Layers;
 use std::alloc::Global;
@@ -95,10 +95,10 @@ impl<D: Disk> Disk for DelayedDisk<D> {
         self.layers.read(n, into)
     }
 
-    fn load(&mut self, n: u32) -> Result<(), DeviceFault> {
+    fn load(&mut self, n: u32, need: Need) -> Result<(), DeviceFault> {
         self.reads.note(&());
         self.past.note(&self.layers);
-        self.layers.load(n)
+        self.layers.load(n, need)
     }
 
     fn at_hand(&self) -> &[u8; 4096] {

@@ -7,6 +7,14 @@ ghost use Rattle.vm_disk.specs.Disk.{DiskState, Counts, Reads, Writes, Idles, Fo
 #[derive(Clone, Copy, Debug, PartialEq, Eq)]
 pub struct DeviceFault;
 
+/// How often a block that is got to hand is needed, as far as its caller knows. It tells what is worth
+/// to be kept, and nothing else.
+#[derive(Clone, Copy, Debug, PartialEq, Eq)]
+pub enum Need {
+    Again,
+    Once,
+}
+
 /// A disk of blocks of 4,096 bytes, numbered from 0.
 ///
 /// Of a disk that is not honest only the clauses `any` say something: what it holds is then unknown.
@@ -30,7 +38,7 @@ pub trait Disk {
 
     /// Gets block n to hand, where it stays until the next call that may change the disk. Where it fails,
     /// any bytes are at hand.
-    fn load(&mut self, n: u32) -> Result<(), DeviceFault>
+    fn load(&mut self, n: u32, need: Need) -> Result<(), DeviceFault>
         requires { n < (state self.old).blocks }
         ensures any { Counts 1 result (state self.old) (state self.new) }
         ensures honest { (state self.new).honest ≡ true

@@ -5,7 +5,7 @@ ghost use Rattle.vm_disk.specs.Disk.{Counts, Reads, Writes, Idles, Forgets, Sync
 ghost use Rattle.vm_disk.specs.Moments.{WritesRun};
 ghost use Rattle.vm_disk.specs.Positional.{IfHonestFile, CountsFailures, ReadsAt};
 
-use crate::disk::{DeviceFault, Disk};
+use crate::disk::{DeviceFault, Disk, Need};
 use crate::history::History;
 use crate::positional::Positional;
 use std::snapshot::Snapshot;
@@ -189,7 +189,7 @@ impl<F: Positional> Disk for FileDisk<F> {
         self.file.read_at(into, offset_of(n))
     }
 
-    fn load(&mut self, n: u32) -> Result<(), DeviceFault>
+    fn load(&mut self, n: u32, _: Need) -> Result<(), DeviceFault>
         requires { n < (file_state F.state self.old).blocks }
         ensures any { Between (file_state F.state) (Counts 1 result) self.old self.new }
         ensures honest { IfHonest (file_state F.state) (Reads n (file_hand self.new) result)

@@ -3,7 +3,7 @@ ghost use Rattle.std.specs.Prelude.{◌≡◌, ◌+◌, ◌-◌, ◌<◌, ◌≤
 ghost use Rattle.vm_disk.specs.Between.{Between, IfHonest};
 ghost use Rattle.vm_disk.specs.Disk.{block, Counts, Reads, Writes, Idles, Forgets, Syncs, Extends, Enlarges};
 
-use crate::disk::{DeviceFault, Disk};
+use crate::disk::{DeviceFault, Disk, Need};
 use crate::history::History;
 
 /// Passes so many device calls to the disk below, and then fails the next one and goes on, or fails
@@ -146,7 +146,7 @@ impl<D: Disk> Disk for FuseDisk<D> {
         self.inner.read(n, into)
     }
 
-    fn load(&mut self, n: u32) -> Result<(), DeviceFault>
+    fn load(&mut self, n: u32, need: Need) -> Result<(), DeviceFault>
         requires { n < (fuse_state D.state self.old).blocks }
         ensures any { Between (fuse_state D.state) (Counts 1 result) self.old self.new }
         ensures honest { IfHonest (fuse_state D.state) (Reads n (fuse_hand D.hand self.new) result)
@@ -161,7 +161,7 @@ impl<D: Disk> Disk for FuseDisk<D> {
             self.missed.note(&());
             return Err(DeviceFault);
         }
-        self.inner.load(n)
+        self.inner.load(n, need)
     }
 
     fn at_hand(&self) -> &[u8; 4096] {

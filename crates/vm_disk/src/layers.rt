@@ -6,7 +6,7 @@ ghost use Rattle.std.specs.NonZero.{non_zero_usize_get};
 ghost use Rattle.vm_disk.specs.Kept.{AreOf};
 ghost use Rattle.vm_disk.specs.Waiting.{bytes_for, waits, written_in, count_of, limit_of};
 
-use crate::disk::{DeviceFault, Disk};
+use crate::disk::{DeviceFault, Disk, Need};
 use crate::waiting::Waiting;
 use std::alloc::Global;
 use std::num::NonZeroUsize;
@@ -152,7 +152,7 @@ impl<D: Disk> Layers<D> {
     }
 
     /// Gets block n to hand, from those that wait or are kept, or else from the disk below.
-    pub(crate) fn load(&mut self, n: u32) -> Result<(), DeviceFault>
+    pub(crate) fn load(&mut self, n: u32, need: Need) -> Result<(), DeviceFault>
         requires { n < (layers_state D.state self.old).blocks }
         ensures any { Between (layers_state D.state) (Counts 0 result) self.old self.new }
         ensures honest { IfHonestBelow D.state (Reads n (layers_hand D.hand self.new) result)
@@ -171,7 +171,7 @@ impl<D: Disk> Layers<D> {
             }
             None => {
                 self.at = Hand::Below;
-                self.inner.load(n)
+                self.inner.load(n, need)
             }
         }
     }

@@ -24,7 +24,7 @@ mod waiting;
 
 pub use cached::CachedDisk;
 pub use delayed::DelayedDisk;
-pub use disk::{DeviceFault, Disk};
+pub use disk::{DeviceFault, Disk, Need};
 pub use file::FileDisk;
 pub use fuse::FuseDisk;
 pub use history::{History, noted_bytes};

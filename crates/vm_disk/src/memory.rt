@@ -4,7 +4,7 @@ ghost use Rattle.vm_disk.specs.Filling.{filled_up};
 ghost use Rattle.vm_disk.specs.Between.{Between, IfHonest};
 ghost use Rattle.vm_disk.specs.Disk.{block, IsClean, MayLeave, Counts, Reads, Writes, Idles, Forgets, Syncs, Extends, Enlarges};
 
-use crate::disk::{DeviceFault, Disk};
+use crate::disk::{DeviceFault, Disk, Need};
 use crate::history::History;
 use std::alloc::{AllocError, Global};
 use vm_types::BLOCK_SIZE;
@@ -264,7 +264,7 @@ impl Disk for MemDisk {
         Ok(())
     }
 
-    fn load(&mut self, n: u32) -> Result<(), DeviceFault>
+    fn load(&mut self, n: u32, _: Need) -> Result<(), DeviceFault>
         requires { n < (memory_state self.old).blocks }
         ensures any { Between memory_state (Counts 1 result) self.old self.new }
         ensures honest { IfHonest memory_state (Reads n (memory_hand self.new) result) self.old self.new }

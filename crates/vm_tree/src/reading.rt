@@ -9,7 +9,7 @@ ghost use Rattle.vm_tree.specs.Reading.{FindsBlock, FindsData, FindsNode, FindsS
 use crate::faults::TreeFault;
 use arrayvec::ArrayVec;
 use vm_block::{Child, MAX_CHILDREN, Way, find_child, lowest_key, node_size, read_node, rows_size};
-use vm_disk::Disk;
+use vm_disk::{Disk, Need};
 use vm_types::{FIRST_DATA, Key};
 
 /// Whether the block is for data, in a store of so many blocks.
@@ -42,7 +42,12 @@ pub fn data_at<D: Disk>(
 }
 
 /// Gets a block, which is to be for data, to hand: Damaged, where it is not for data.
-pub fn load_data<D: Disk>(disk: &mut D, blocks: u32, block: u32) -> Result<(), TreeFault>
+pub fn load_data<D: Disk>(
+    disk: &mut D,
+    blocks: u32,
+    block: u32,
+    need: Need,
+) -> Result<(), TreeFault>
     requires { blocks ≤ (D.state disk.old).blocks }
     ensures looks { OnlyLooks result (D.state disk.old) (D.state disk.new) }
     ensures once { ReadsOne blocks block (D.state disk.old).reads (D.state disk.new).reads }
@@ -54,7 +59,7 @@ pub fn load_data<D: Disk>(disk: &mut D, blocks: u32, block: u32) -> Result<(), T
     if !is_data(blocks, block) {
         return Err(TreeFault::Damaged(block));
     }
-    match disk.load(block) {
+    match disk.load(block, need) {
         Ok(()) => Ok(()),
         Err(_) => Err(TreeFault::Device),
     }
@@ -71,7 +76,7 @@ pub(crate) fn load_block<D: Disk>(disk: &mut D, blocks: u32, top: Child) -> Resu
     ensures node { GivesNodeUnder result (D.state disk.old) (D.state disk.new)
         blocks top (D.hand disk.new) }
 {
-    load_data(disk, blocks, top.block)?;
+    load_data(disk, blocks, top.block, Need::Again)?;
     if lowest_key(disk.at_hand()) != top.low {
         return Err(TreeFault::Damaged(top.block));
     }

@@ -22,7 +22,7 @@ use super::seen::{OverMemory, Seen, cached, late};
 use std::alloc::{AllocError, Global};
 use std::fmt;
 use std::process::Abort;
-use vm_disk::{DeviceFault, Disk};
+use vm_disk::{DeviceFault, Disk, Need};
 
 /// Why a step has no answer of its own.
 #[derive(Clone, Copy, Debug, PartialEq, Eq)]
@@ -136,7 +136,7 @@ fn filling_at_hand<D: Disk>(disk: &mut D, n: u32) -> Result<Option<u8>, Wrong> {
     if n >= disk.blocks() {
         return Err(Wrong::Unreadable);
     }
-    disk.load(n)?;
+    disk.load(n, Need::Again)?;
     Ok(byte_in(disk.at_hand()))
 }
 

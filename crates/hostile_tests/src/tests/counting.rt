@@ -3,7 +3,7 @@ ghost use Rattle.std.specs.Prelude.{◌≡◌, ◌<◌, true};
 
 use super::{BLOCKS, Wrong};
 use std::alloc::Global;
-use vm_disk::{DeviceFault, Disk, MemDisk};
+use vm_disk::{DeviceFault, Disk, MemDisk, Need};
 
 #[derive(Drop)]
 pub struct CountingDisk {
@@ -65,9 +65,9 @@ impl Disk for CountingDisk {
         self.inner.read(n, into)
     }
 
-    fn load(&mut self, n: u32) -> Result<(), DeviceFault> {
+    fn load(&mut self, n: u32, need: Need) -> Result<(), DeviceFault> {
         self.count_read(n);
-        self.inner.load(n)
+        self.inner.load(n, need)
     }
 
     fn at_hand(&self) -> &[u8; 4096] {

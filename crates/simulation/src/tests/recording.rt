@@ -5,7 +5,7 @@ ghost use Rattle.std.specs.Prelude.{◌≡◌, ◌<◌, ◌≤◌, true};
 use super::Wrong;
 use super::dice::Dice;
 use std::alloc::{AllocError, Global};
-use vm_disk::{DeviceFault, Disk, MemDisk};
+use vm_disk::{DeviceFault, Disk, MemDisk, Need};
 
 #[derive(Drop)]
 pub struct RecordingDisk {
@@ -142,8 +142,8 @@ impl Disk for RecordingDisk {
         self.inner.read(n, into)
     }
 
-    fn load(&mut self, n: u32) -> Result<(), DeviceFault> {
-        self.inner.load(n)
+    fn load(&mut self, n: u32, need: Need) -> Result<(), DeviceFault> {
+        self.inner.load(n, need)
     }
 
     fn at_hand(&self) -> &[u8; 4096] {

@@ -2,7 +2,7 @@
 ghost use Rattle.std.specs.Prelude.{◌≡◌, ◌<◌, ◌≤◌, true};
 
 use std::alloc::Global;
-use vm_disk::{DeviceFault, Disk, MemDisk};
+use vm_disk::{DeviceFault, Disk, MemDisk, Need};
 use vm_types::Refusal;
 
 #[derive(Drop)]
@@ -56,8 +56,8 @@ impl Disk for KeepingDisk {
         self.inner.read(n, into)
     }
 
-    fn load(&mut self, n: u32) -> Result<(), DeviceFault> {
-        self.inner.load(n)
+    fn load(&mut self, n: u32, need: Need) -> Result<(), DeviceFault> {
+        self.inner.load(n, need)
     }
 
     fn at_hand(&self) -> &[u8; 4096] {
