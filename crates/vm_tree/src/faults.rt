@@ -3,8 +3,10 @@ ghost use Rattle.std.specs.Prelude.{◌≡◌};
 ghost use Rattle.vm_tree.specs.Faults.{refusal_of, refusal_of_list, refusal_of_put};
 ghost use Rattle.vm_tree.specs.declared.faults.ListFault.TheVariants as list;
 ghost use Rattle.vm_tree.specs.declared.faults.PutFault.TheVariants as put;
+ghost use Rattle.vm_tree.specs.declared.faults.TreeFault.TheVariants as tree;
 
 use std::alloc::AllocError;
+use vm_disk::DeviceFault;
 use vm_types::Refusal;
 
 /// Why a call that looks at blocks of a tree, or writes them, gave no answer.
@@ -19,6 +21,7 @@ pub enum TreeFault {
 /// Why a Put gave no root.
 #[derive(Clone, Copy, Debug, PartialEq, Eq)]
 pub enum PutFault {
+    /// A block could not be read or written, or is not what a tree has there.
     Tree(TreeFault),
     /// The tree has no room for one more record where it belongs.
     Deep,
@@ -27,9 +30,18 @@ pub enum PutFault {
 /// Why a call gave no list of what it found in trees.
 #[derive(Clone, Copy, Debug, PartialEq, Eq)]
 pub enum ListFault {
+    /// A block could not be read, or is not what a tree has there.
     Tree(TreeFault),
-    /// No memory was found for the list.
+    /// No memory was found for the list, or for what is noted of the blocks that were met.
     Memory,
+}
+
+impl From<DeviceFault> for TreeFault {
+    ghost from_gives = { λ _ r. r ≡ tree.Device };
+
+    fn from(_failed: DeviceFault) -> TreeFault {
+        TreeFault::Device
+    }
 }
 
 impl From<TreeFault> for PutFault {

@@ -35,10 +35,8 @@ pub fn data_at<D: Disk>(
     if !is_data(blocks, block) {
         return Err(TreeFault::Damaged(block));
     }
-    match disk.read(block, bytes) {
-        Ok(()) => Ok(()),
-        Err(_) => Err(TreeFault::Device),
-    }
+    disk.read(block, bytes)?;
+    Ok(())
 }
 
 /// Gets a block, which is to be for data, to hand: Damaged, where it is not for data.
@@ -59,10 +57,8 @@ pub fn load_data<D: Disk>(
     if !is_data(blocks, block) {
         return Err(TreeFault::Damaged(block));
     }
-    match disk.load(block, need) {
-        Ok(()) => Ok(()),
-        Err(_) => Err(TreeFault::Device),
-    }
+    disk.load(block, need)?;
+    Ok(())
 }
 
 /// Gets this child's block, which is to be for data and to begin with the child's lowest key, to hand.

@@ -39,7 +39,7 @@ pub(crate) fn write_free<D: Disk>(
     };
     match disk.write(block, bytes) {
         Ok(()) => Ok(block),
-        Err(_) => Err(TreeFault::Device),
+        Err(fault) => Err(TreeFault::from(fault)),
     }
 }
 
