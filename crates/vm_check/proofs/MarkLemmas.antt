@@ -21,7 +21,7 @@ use Rattle.vm_types.specs.Bytes.{longest}
 use Rattle.vm_tree.proofs.TreeLemmas.{LeafAt, node_opens}
 use Rattle.vm_tree.proofs.HoldingLemmas.{IsLongOf, all_long, holds_or_node}
 use Rattle.vm_tree.specs.Reading.{IsNodeAt}
-use Rattle.vm_check.specs.Marking.{Joined, MarksMore, MarksOnly, ClosedTo, EachLink, LinkedBy, LinksTo, SparesLink, SparesLinks, unmarked}
+use Rattle.vm_check.specs.Marking.{Joined, MarksMore, MarksOnly, ClosedTo, EachLink, LinkedBy, LinksTo, MarksOnlyLink, MarksOnlyLinks, unmarked}
 use Rattle.vm_check.specs.Form.{OkUnlessDevice}
 use Rattle.vm_tree.specs.Answers.{OkOrDevice}
 use Rattle.vm_tree.specs.declared.faults.TreeFault.{TreeFault}
@@ -178,23 +178,23 @@ subtree_sealed sizes x limit (suc l) b rs bs t =
 -- # Marks beside a leaf
 
 -- what is marked of the links of a leaf stands beside it
-pub spares_beside : (x : Contents) (limit most : ℕ) (bytes : List ℕ) (rs : List Record) (under : List ℕ) (marks later : List Bool) → (holds : LeafHolds x limit most bytes rs under) → SparesLinks marks later holds.rows → MarksOnly under marks later
-spares_beside x limit most bytes rs under marks later holds only n is = by_case (only n is)
+pub marks_only_beside : (x : Contents) (limit most : ℕ) (bytes : List ℕ) (rs : List Record) (under : List ℕ) (marks later : List Bool) → (holds : LeafHolds x limit most bytes rs under) → MarksOnlyLinks marks later holds.rows → MarksOnly under marks later
+marks_only_beside x limit most bytes rs under marks later holds only n is = by_case (only n is)
   where
     by_case : IsMarked marks n ⊎ LinkedBy holds.rows n → IsMarked marks n ⊎ Contains under n
     by_case (inl was) = inl was
     by_case (inr linked) = inr (linked_each (Contains under) holds.rows n (links_within x limit holds.rows rs under holds.stand) linked)
 
 -- one row more
-pub spares_more : (a b c : List Bool) (ws : List Row) (i : ℕ) (d : Row) → i < length ws → SparesLinks a b ws → SparesLink b c (get_or ws i d) → SparesLinks a c ws
-spares_more a b c ws i d lt first then n is = by_case (then n is)
+pub marks_only_more : (a b c : List Bool) (ws : List Row) (i : ℕ) (d : Row) → i < length ws → MarksOnlyLinks a b ws → MarksOnlyLink b c (get_or ws i d) → MarksOnlyLinks a c ws
+marks_only_more a b c ws i d lt first then n is = by_case (then n is)
   where
     by_case : IsMarked b n ⊎ LinksTo (get_or ws i d) n → IsMarked a n ⊎ LinkedBy ws n
     by_case (inl was) = first n was
     by_case (inr link) = inr (linked_at ws i d n lt link)
 
 -- of a row: the block to which it links was marked, and no other
-pub link_only : (w : Row) (b : ℕ) (marks first : List Bool) → first ≡ slice_set marks b true → LinksTo w b → SparesLink marks first w
+pub link_only : (w : Row) (b : ℕ) (marks first : List Bool) → first ≡ slice_set marks b true → LinksTo w b → MarksOnlyLink marks first w
 link_only w b marks first set link n is = elim (cases_eq n b) [
   | inl same ↦ inr (subst (LinksTo w) (sym same) link)
   | inr other ↦ inl (sym (others_as_before marks b n other) ∙ subst (λ (z : List Bool). IsMarked z n) set is)
@@ -374,13 +374,13 @@ node_marked sizes x limit level b i bs cs marks first new inside is above all st
 
 -- a leaf that was marked, and the blocks beside it
 pub leaf_marked : (sizes : Sizes) (x : Contents) (limit level b : ℕ) (rs : List Record) (bs : List ℕ) (marks first new : List Bool) → level ≡ 0 → b < length marks → first ≡ slice_set marks b true
-    → HoldsMore first new → (at : LeafAt sizes x limit b rs bs) → EachLink (IsMarked new) at.holds.rows → SparesLinks first new at.holds.rows → MarksMore bs marks new
+    → HoldsMore first new → (at : LeafAt sizes x limit b rs bs) → EachLink (IsMarked new) at.holds.rows → MarksOnlyLinks first new at.holds.rows → MarksMore bs marks new
 leaf_marked sizes x limit level b rs bs marks first new none inside is grows at each only =
     let more : MarksMore (b ∷ []) marks first = subst (λ (z : List Bool). MarksMore (b ∷ []) marks z) (sym is) (first_more b marks inside) in
     let beside : MarksMore at.under first new = record {
       grows = grows;
       each = beside_each x limit (IsMarked new) at.holds.rows rs at.under at.holds.stand each;
-      only = spares_beside x limit longest (block x b) rs at.under first new at.holds only;
+      only = marks_only_beside x limit longest (block x b) rs at.under first new at.holds only;
     } in
     subst (λ (ds : List ℕ). MarksMore ds marks new) (sym at.first) (more_then (b ∷ []) at.under marks first new more beside)
 

@@ -86,8 +86,8 @@ abbrev pub MarksLink : {T : Type 0} → Result T TreeFault → List Bool → Row
 MarksLink result later w = OnOk result ((b : ℕ) → LinksTo w b → IsMarked later b)
 
 -- no other block is marked
-abbrev pub SparesLink : List Bool → List Bool → Row → Type 0
-SparesLink marks later w = (n : ℕ) → IsMarked later n → IsMarked marks n ⊎ LinksTo w n
+abbrev pub MarksOnlyLink : List Bool → List Bool → Row → Type 0
+MarksOnlyLink marks later w = (n : ℕ) → IsMarked later n → IsMarked marks n ⊎ LinksTo w n
 
 -- where it is one for data, the answer is Ok
 abbrev pub SoundLink : {T : Type 0} → Result T TreeFault → ℕ → Row → Type 0
@@ -98,8 +98,8 @@ abbrev pub MarksLinks : {T : Type 0} → Result T TreeFault → List Bool → Li
 MarksLinks result later ws = OnOk result (EachLink (IsMarked later) ws)
 
 -- and no others
-abbrev pub SparesLinks : List Bool → List Bool → List Row → Type 0
-SparesLinks marks later ws = (n : ℕ) → IsMarked later n → IsMarked marks n ⊎ LinkedBy ws n
+abbrev pub MarksOnlyLinks : List Bool → List Bool → List Row → Type 0
+MarksOnlyLinks marks later ws = (n : ℕ) → IsMarked later n → IsMarked marks n ⊎ LinkedBy ws n
 
 -- where all of them are for data, the answer is Ok
 abbrev pub SoundLinks : {T : Type 0} → Result T TreeFault → ℕ → List Row → Type 0
@@ -139,14 +139,14 @@ abbrev pub SoundOn : {T : Type 0} → Result T TreeFault → DiskState → DiskS
 SoundOn result old new limit roots = OnTrees old new limit roots (λ bs. OkUnlessDevice result)
 
 -- no blocks are marked but those there
-abbrev pub Spares : DiskState → DiskState → ℕ → ℕ → ℕ → List Bool → List Bool → Type 0
-Spares old new limit level b marks later = OnSubtree old new limit level b (λ bs. MarksOnly bs marks later)
+abbrev pub MarksOnlyBelow : DiskState → DiskState → ℕ → ℕ → ℕ → List Bool → List Bool → Type 0
+MarksOnlyBelow old new limit level b marks later = OnSubtree old new limit level b (λ bs. MarksOnly bs marks later)
 
-abbrev pub SparesUnder : DiskState → DiskState → ℕ → Root → List Bool → List Bool → Type 0
-SparesUnder old new limit root marks later = OnTree old new limit root (λ bs. MarksOnly bs marks later)
+abbrev pub MarksOnlyUnder : DiskState → DiskState → ℕ → Root → List Bool → List Bool → Type 0
+MarksOnlyUnder old new limit root marks later = OnTree old new limit root (λ bs. MarksOnly bs marks later)
 
-abbrev pub SparesOn : DiskState → DiskState → List Root → List Bool → List Bool → Type 0
-SparesOn old new roots marks later = OnTrees old new (length marks) roots (λ bs. MarksOnly bs marks later)
+abbrev pub MarksOnlyOn : DiskState → DiskState → List Root → List Bool → List Bool → Type 0
+MarksOnlyOn old new roots marks later = OnTrees old new (length marks) roots (λ bs. MarksOnly bs marks later)
 
 -- where the marks were closed, they grow by exactly the blocks there, unless the device fails
 abbrev pub CoversBelow : {T : Type 0} → Result T TreeFault → DiskState → DiskState → ℕ → ℕ → ℕ → List Bool → List Bool → Type 0

@@ -4,7 +4,7 @@ ghost use Rattle.vm_alloc.specs.Held.{HoldsMore};
 ghost use Rattle.vm_block.specs.Told.{IfHasRows, IfLeafRowAt};
 ghost use Rattle.vm_tree.specs.Calls.{OnlyLooks};
 ghost use Rattle.vm_tree.specs.Tree.{IsData};
-ghost use Rattle.vm_check.specs.Marking.{Closes, Covers, CoversBelow, CoversUnder, MarksLink, MarksLinks, OnLeaf, PaysReads, SoundBelow, SoundLeaf, SoundLink, SoundLinks, SoundOn, SoundUnder, Spares, SparesLink, SparesLinks, SparesOn, SparesUnder, TellsLink, unmarked};
+ghost use Rattle.vm_check.specs.Marking.{Closes, Covers, CoversBelow, CoversUnder, MarksLink, MarksLinks, OnLeaf, PaysReads, SoundBelow, SoundLeaf, SoundLink, SoundLinks, SoundOn, SoundUnder, MarksOnlyBelow, MarksOnlyLink, MarksOnlyLinks, MarksOnlyOn, MarksOnlyUnder, TellsLink, unmarked};
 ghost use Rattle.vm_check.specs.Noted.{inner_of, notes_of};
 ghost use Rattle.vm_check.specs.Notes.{is_noted};
 
@@ -35,7 +35,7 @@ fn mark_link(bytes: &[u8; 4096], blocks: u32, i: usize, marks: &mut Marks) -> Re
     ensures growing { HoldsMore marks.old marks.new }
     ensures fewer { unmarked marks.new ≤ unmarked marks.old }
     ensures marked { IfLeafRowAt bytes.now i (MarksLink result marks.new) }
-    ensures only { IfLeafRowAt bytes.now i (SparesLink marks.old marks.new) }
+    ensures only { IfLeafRowAt bytes.now i (MarksOnlyLink marks.old marks.new) }
     ensures sound { IfLeafRowAt bytes.now i (SoundLink result blocks) }
 {
     let Some(block) = link_at(bytes, i) else {
@@ -61,7 +61,7 @@ fn mark_links(
     ensures growing { HoldsMore marks.old marks.new }
     ensures fewer { unmarked marks.new ≤ unmarked marks.old }
     ensures marked { IfHasRows bytes.now (MarksLinks result marks.new) }
-    ensures only { IfHasRows bytes.now (SparesLinks marks.old marks.new) }
+    ensures only { IfHasRows bytes.now (MarksOnlyLinks marks.old marks.new) }
     ensures sound { IfHasRows bytes.now (SoundLinks result blocks) }
 {
     let Some(rows) = rows_size(bytes) else {
@@ -90,7 +90,7 @@ fn mark_links_at<D: Disk>(
     ensures marked { OnLeaf (D.state (inner_of disk.old)) (D.state (inner_of disk.new))
         block (MarksLinks result marks.new) }
     ensures only { OnLeaf (D.state (inner_of disk.old)) (D.state (inner_of disk.new))
-        block (SparesLinks marks.old marks.new) }
+        block (MarksOnlyLinks marks.old marks.new) }
     ensures sound { IsData blocks block
         → OnLeaf (D.state (inner_of disk.old)) (D.state (inner_of disk.new))
         block (SoundLeaf result blocks) }
@@ -122,7 +122,7 @@ fn mark_beside<D: Disk>(
     ensures marked { OnLeaf (D.state (inner_of disk.old)) (D.state (inner_of disk.new))
         block (MarksLinks result marks.new) }
     ensures only { OnLeaf (D.state (inner_of disk.old)) (D.state (inner_of disk.new))
-        block (SparesLinks marks.old marks.new) }
+        block (MarksOnlyLinks marks.old marks.new) }
     ensures sound { IsData blocks block
         → OnLeaf (D.state (inner_of disk.old)) (D.state (inner_of disk.new))
         block (SoundLeaf result blocks) }
@@ -151,7 +151,7 @@ fn mark_leaf<D: Disk>(
         blocks 0 block marks.old marks.new }
     ensures sound { SoundBelow result (D.state (inner_of disk.old))
         (D.state (inner_of disk.new)) blocks 0 block }
-    ensures only { Spares (D.state (inner_of disk.old)) (D.state (inner_of disk.new))
+    ensures only { MarksOnlyBelow (D.state (inner_of disk.old)) (D.state (inner_of disk.new))
         blocks 0 block marks.old marks.new }
 {
     if !is_data(blocks, block) {
@@ -184,7 +184,7 @@ fn mark_node<D: Disk>(
         blocks level block marks.old marks.new }
     ensures sound { SoundBelow result (D.state (inner_of disk.old))
         (D.state (inner_of disk.new)) blocks level block }
-    ensures only { Spares (D.state (inner_of disk.old)) (D.state (inner_of disk.new))
+    ensures only { MarksOnlyBelow (D.state (inner_of disk.old)) (D.state (inner_of disk.new))
         blocks level block marks.old marks.new }
 {
     if !is_data(blocks, block) {
@@ -224,7 +224,7 @@ fn mark_below<D: Disk>(
         blocks level block marks.old marks.new }
     ensures sound { SoundBelow result (D.state (inner_of disk.old))
         (D.state (inner_of disk.new)) blocks level block }
-    ensures only { Spares (D.state (inner_of disk.old)) (D.state (inner_of disk.new))
+    ensures only { MarksOnlyBelow (D.state (inner_of disk.old)) (D.state (inner_of disk.new))
         blocks level block marks.old marks.new }
 {
     if level == 0 {
@@ -251,7 +251,7 @@ fn mark_root<D: Disk>(
         blocks root marks.old marks.new }
     ensures sound { SoundUnder result (D.state (inner_of disk.old))
         (D.state (inner_of disk.new)) blocks root }
-    ensures only { SparesUnder (D.state (inner_of disk.old)) (D.state (inner_of disk.new))
+    ensures only { MarksOnlyUnder (D.state (inner_of disk.old)) (D.state (inner_of disk.new))
         blocks root marks.old marks.new }
 {
     if root.block == 0 {
@@ -282,7 +282,7 @@ pub fn mark<D: Disk>(
     // device fails; and whatever it answers, it marks no blocks but those under the roots.
     ensures sound { SoundOn result (D.state (inner_of disk.old)) (D.state (inner_of disk.new))
         (length marks.old) roots.now }
-    ensures only { SparesOn (D.state (inner_of disk.old))
+    ensures only { MarksOnlyOn (D.state (inner_of disk.old))
         (D.state (inner_of disk.new)) roots.now marks.old marks.new }
 
     // On trees, where the marks were closed, at Ok they grow by exactly the blocks under the roots, and

@@ -12,7 +12,7 @@ use Rattle.vm_disk.specs.Positional.{FileState, joined, overwritten, IsTorn, Wri
 use Rattle.vm_disk.specs.File.{file_state, file_block, touches, is_touched, is_unsure, waits_with, forgotten_of}
 use Rattle.vm_disk.proofs.OverwrittenLemmas.{overwritten_inside, overwritten_before, overwritten_after}
 use Rattle.vm_disk.proofs.KeptLemmas.{by_answer}
-use Rattle.vm_disk.proofs.MomentLemmas.{started, goes_on, spares_itself, as_itself}
+use Rattle.vm_disk.proofs.MomentLemmas.{started, goes_on, touches_nothing, as_itself}
 use Rattle.vm_disk.proofs.RunLemmas.{run_has}
 use Rattle.vm_disk.proofs.FileLemmas.{block_is, same_block, some_written, touched_with, IsCalled, same_part, now_shown, past_shown, good_file, long_file}
 
@@ -145,7 +145,7 @@ module _ {F : Type 0} (state : F → FileState) where
         moments =
             let Q : Medium → Type 0 = TouchesOnly (in_run n size) (file_state state was).now in
             goes_on (file_state state was) (file_state state was) (file_state state now) Q
-            (started (file_state state was) Q (spares_itself (in_run n size) (file_state state was).now))
+            (started (file_state state was) Q (touches_nothing (in_run n size) (file_state state was).now))
             time
             (record { count = lengths; same = others; clean = λ k out clean. others_dirty k out ∙ clean; sure = omega (arith, sure) });
         clean =

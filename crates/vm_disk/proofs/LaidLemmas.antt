@@ -13,7 +13,7 @@ use Rattle.vm_disk.specs.Following.{HeldPast, HeldAt, IsUnder, IsMeanwhile}
 use Rattle.vm_disk.specs.Moments.{Throughout, Leaves, TouchesOnly, in_run, WritesRun}
 use Rattle.vm_disk.specs.Laid.{Held, over, laid_contents, laid_length, laid, TouchesDirty, Rest, Covers, IsCovered, time_at, rests_before}
 use Rattle.vm_disk.proofs.KeptLemmas.{by_answer, cond_yes, cond_no}
-use Rattle.vm_disk.proofs.MomentLemmas.{clean_sure, moment_rises, weaken, started, write_on, spares_itself, at_end}
+use Rattle.vm_disk.proofs.MomentLemmas.{clean_sure, moment_rises, weaken, started, write_on, touches_nothing, at_end}
 use Rattle.vm_disk.proofs.FollowingLemmas.{held_before, held_only, held_stays}
 
 abbrev medium : (contents : Contents) (dirty : ℕ → Bool) (sure : ℕ) → sure ≤ length contents → ((n : ℕ) → sure ≤ n → n < length contents → dirty n ≡ true) → Medium
@@ -100,8 +100,8 @@ sent_same {T} held held' n bytes x result old new ok waits gone any =
     writes = let R : Result T DeviceFault → Type 0 = λ r. Writes n bytes r old new in subst R ok any
 
 -- what is touched just where a write may, and again
-pub spares_then : (touched : ℕ → Bool) (a b c : Medium) → TouchesOnly touched a b → TouchesOnly touched b c → TouchesOnly touched a c
-spares_then touched a b c first second =
+pub touches_then : (touched : ℕ → Bool) (a b c : Medium) → TouchesOnly touched a b → TouchesOnly touched b c → TouchesOnly touched a c
+touches_then touched a b c first second =
     record {
       count = second.count ∙ first.count;
       same = λ n out. second.same n out ∙ first.same n out;
@@ -112,17 +112,17 @@ spares_then touched a b c first second =
 -- one write of a block that may be touched
 pub touched_once : {T : Type 0} (n : ℕ) (bytes : List ℕ) (result : Result T DeviceFault) (touched : ℕ → Bool) (old new : DiskState) → touched n ≡ true → Writes n bytes result old new → Throughout old new (TouchesOnly touched old.now)
 touched_once n bytes result touched old new inside writes =
-    write_on n bytes result touched old old new inside (started old (TouchesOnly touched old.now) (spares_itself touched old.now)) writes
+    write_on n bytes result touched old old new inside (started old (TouchesOnly touched old.now) (touches_nothing touched old.now)) writes
 
 -- no call below
 pub untouched : (above : Medium) (s : DiskState) → TouchesDirty above s s
 untouched above s =
-    record { before_last = s; touches = started s (TouchesOnly above.dirty s.now) (spares_itself above.dirty s.now); last = record { step = inr (refl, refl) } }
+    record { before_last = s; touches = started s (TouchesOnly above.dirty s.now) (touches_nothing above.dirty s.now); last = record { step = inr (refl, refl) } }
 
 -- one call below
 pub touched_last : (above : Medium) (old new : DiskState) → Elapses old new → TouchesDirty above old new
 touched_last above old new time =
-    record { before_last = old; touches = started old (TouchesOnly above.dirty old.now) (spares_itself above.dirty old.now); last = time }
+    record { before_last = old; touches = started old (TouchesOnly above.dirty old.now) (touches_nothing above.dirty old.now); last = time }
 
 -- what holds, holds where a call succeeds
 pub on_ok : {T P : Type 0} (result : Result T DeviceFault) → P → OnOk result P
@@ -500,7 +500,7 @@ under_meanwhile held lower rests covered k t m within meanwhile at = by_answer (
         now : HeldAt lower t m → IsUnder (laid held lower.now) m
         now (inl is) =
             let R : Medium → Type 0 = IsUnder (laid held lower.now) in
-            subst R (sym is.1) (touched_under held lower.now lower.now (spares_itself (laid held lower.now).dirty lower.now))
+            subst R (sym is.1) (touched_under held lower.now lower.now (touches_nothing (laid held lower.now).dirty lower.now))
         now (inr earlier) = let before = held_before lower.past t m earlier in absurd (omega (arith, before, time))
 
 -- ---- the moments before a late disk was made

@@ -6,8 +6,8 @@ use Rattle.vm_disk.specs.Moments.{Throughout, TouchesOnly}
 use Rattle.vm_disk.specs.Laid.{laid}
 use Rattle.vm_disk.specs.Waiting.{bytes_for}
 use Rattle.vm_disk.specs.Layers.{lower_of, medium_of, waiting_of, Sends}
-use Rattle.vm_disk.proofs.MomentLemmas.{and_then, weaken, at_end, started, spares_itself}
-use Rattle.vm_disk.proofs.LaidLemmas.{spares_then}
+use Rattle.vm_disk.proofs.MomentLemmas.{and_then, weaken, at_end, started, touches_nothing}
+use Rattle.vm_disk.proofs.LaidLemmas.{touches_then}
 use Rattle.vm_disk.proofs.WrittenLemmas.{same_shown}
 
 module _ {D : Type 0} {members : _} (state : D → DiskState) where
@@ -15,7 +15,7 @@ module _ {D : Type 0} {members : _} (state : D → DiskState) where
   pub sends_nothing : (layers : Layers D members) → Sends state layers layers
   sends_nothing layers =
       let below = state (lower_of layers) in
-      record { same = refl; touches = started below (TouchesOnly (medium_of state layers).dirty below.now) (spares_itself (medium_of state layers).dirty below.now) }
+      record { same = refl; touches = started below (TouchesOnly (medium_of state layers).dirty below.now) (touches_nothing (medium_of state layers).dirty below.now) }
 
   -- some were, and then more
   pub sends_then : (old mid new : Layers D members) → Sends state old mid → Sends state mid new → Sends state old new
@@ -30,7 +30,7 @@ module _ {D : Type 0} {members : _} (state : D → DiskState) where
       record {
         same = second.same ∙ first.same;
         touches = and_then lower lower_mid lower_new (TouchesOnly touched lower.now) first.touches
-            (weaken lower_mid lower_new (TouchesOnly touched lower_mid.now) (TouchesOnly touched lower.now) (λ m spares. spares_then touched lower.now lower_mid.now m so_far spares) more);
+            (weaken lower_mid lower_new (TouchesOnly touched lower_mid.now) (TouchesOnly touched lower.now) (λ m spares. touches_then touched lower.now lower_mid.now m so_far spares) more);
       }
 
   -- before that there were the same blocks over the same disk

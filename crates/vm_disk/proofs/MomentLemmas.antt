@@ -109,13 +109,13 @@ clean_sure m clean = by_order (cases_lt m.sure (length m.contents))
         absurd (false≢true (sym (clean m.sure) ∙ dirty))
     by_order (inr all) = omega (arith, m.within)
 
--- a medium spares each of its own blocks
-pub spares_itself : (touched : ℕ → Bool) (m : Medium) → TouchesOnly touched m m
-spares_itself touched m = record { count = refl; same = λ n out. refl; clean = λ n out clean. clean; sure = omega arith }
+-- where nothing was done, nothing was touched
+pub touches_nothing : (touched : ℕ → Bool) (m : Medium) → TouchesOnly touched m m
+touches_nothing touched m = record { count = refl; same = λ n out. refl; clean = λ n out clean. clean; sure = omega arith }
 
--- a crash keeps each clean block that is spared
-pub spared : (touched : ℕ → Bool) (old new : Medium) → TouchesOnly touched old new → (left : Contents) → MayLeave new left → (n : ℕ) → touched n ≡ false → old.dirty n ≡ false → block left n ≡ block old.contents n
-spared touched old new spares left may n out clean =
+-- a crash keeps each clean block that is untouched
+pub left_untouched : (touched : ℕ → Bool) (old new : Medium) → TouchesOnly touched old new → (left : Contents) → MayLeave new left → (n : ℕ) → touched n ≡ false → old.dirty n ≡ false → block left n ≡ block old.contents n
+left_untouched touched old new spares left may n out clean =
     may.clean n (spares.clean n out clean) ∙ spares.same n out
 
 -- one read more
@@ -159,16 +159,16 @@ dirt_on n bytes result old mid new so_far writes =
     was : (k : ℕ) → new.now.dirty k ≡ false → mid.now.dirty k ≡ false
     was k clean = sym (writes.others_dirty k (other k clean)) ∙ clean
 
--- a sync spares what was spared before it
-pub sync_spares : {T : Type 0} (result : Result T DeviceFault) (touched : ℕ → Bool) (old : Medium) (mid new : DiskState) → Syncs result mid new → TouchesOnly touched old mid.now → TouchesOnly touched old new.now
-sync_spares (Ok x) touched old mid new sync spares =
+-- a sync touches nothing but what was touched before it
+pub sync_touches : {T : Type 0} (result : Result T DeviceFault) (touched : ℕ → Bool) (old : Medium) (mid new : DiskState) → Syncs result mid new → TouchesOnly touched old mid.now → TouchesOnly touched old new.now
+sync_touches (Ok x) touched old mid new sync spares =
     record {
       count = ap (λ (x : Contents). length x) sync.same ∙ spares.count;
       same = λ n out. ap (λ (x : Contents). block x n) sync.same ∙ spares.same n out;
       clean = λ n out clean. sync.synced n;
       sure = let few = mid.now.within in let kept = spares.sure in let all = sync.sure in let same = ap (λ (x : Contents). length x) sync.same in omega arith;
     }
-sync_spares (Err e) touched old mid new sync spares =
+sync_touches (Err e) touched old mid new sync spares =
     let R : Medium → Type 0 = λ m. TouchesOnly touched old m in subst R (sym sync.failed) spares
 
 -- no device call, so what holds at the start holds throughout
@@ -202,7 +202,7 @@ reads_first old mid new Q reads more =
 pub reads_then : (old mid new : DiskState) → OnlyReads old mid → OnlyReads mid new → OnlyReads old new
 reads_then old mid new first second = then_reads old mid new (λ m. m ≡ old.now) first second
 
--- what spares blocks, after reads
+-- what touches certain blocks alone, after reads
 pub after_reads : (touched : ℕ → Bool) (old mid new : DiskState) → OnlyReads old mid → Throughout mid new (TouchesOnly touched mid.now) → Throughout old new (TouchesOnly touched old.now)
 after_reads touched old mid new reads more =
     let R : Medium → Type 0 = λ m. Throughout mid new (TouchesOnly touched m) in reads_first old mid new (TouchesOnly touched old.now) reads (subst R (same_medium old mid reads) more)

@@ -8,7 +8,7 @@ use Rattle.vm_types.specs.declared.refusal.Refusal.TheVariants.{Device}
 use Rattle.vm_types.specs.Kept.{LeftBy}
 use Rattle.vm_disk.specs.Disk.{DiskState}
 use Rattle.vm_disk.specs.Moments.{Leaves, OnlyReads, Throughout, TouchesOnly}
-use Rattle.vm_disk.proofs.MomentLemmas.{started, weaken, spares_itself, reads_first}
+use Rattle.vm_disk.proofs.MomentLemmas.{started, weaken, touches_nothing, reads_first}
 use Rattle.vm_block.specs.declared.selector.SlotName.{SlotName}
 use Rattle.vm_alloc.specs.Held.{HoldsMore}
 use Rattle.vm_alloc.proofs.HeldLemmas.{holds_more_then}
@@ -54,7 +54,7 @@ module _ {D : Type 0} {members : _} (old new : Store D members) (s : State) (hol
     pub looked : {limit : ℕ} {slot_name : SlotName} {committed working : List Version} → OnlyReads (members.state (disk_of old)) (members.state (disk_of new)) → Rests (members.state (disk_of new)).now limit slot_name new.held committed working s
         → (answer ≢ Err Device → Holds new (next s command answer)) → Carries old new s holds command answer
     looked reads rests state =
-        wrote (members.state (disk_of new)) reads rests (started _ _ (spares_itself (is_free new.held) _)) (record { same_length = refl; still = λ n h. h }) state
+        wrote (members.state (disk_of new)) reads rests (started _ _ (touches_nothing (is_free new.held) _)) (record { same_length = refl; still = λ n h. h }) state
 
 -- reads, and then a command that was carried out
 pub read_carried : {D : Type 0} {members : _} (old mid new : Store D members) (s : State) (holds : Holds old s) (between : Holds mid s) (command : Command) (answer : Result Answer Refusal)

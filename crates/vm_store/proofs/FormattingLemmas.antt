@@ -43,8 +43,8 @@ pub record KeepsFirst (old m : Medium) : Type 0 where
 pub no_header : (blocks : ℕ) (old m : Medium) → (IsHeader (block old.contents 0) → ⊥) → KeepsFirst old m → Leaves (ShowsAtMostNew blocks) m
 no_header blocks old m none keeps left may seen shown = absurd (none (subst IsHeader (may.clean 0 keeps.clean ∙ keeps.same) shown.names.header))
 
-pub first_spared : (old m : Medium) → IsClean old → TouchesOnly (region 2 1) old m → KeepsFirst old m
-first_spared old m clean spares = record { same = spares.same 0 refl; clean = spares.clean 0 refl (clean 0) }
+pub first_untouched : (old m : Medium) → IsClean old → TouchesOnly (region 2 1) old m → KeepsFirst old m
+first_untouched old m clean spares = record { same = spares.same 0 refl; clean = spares.clean 0 refl (clean 0) }
 
 pub first_kept : {T : Type 0} (bytes : List ℕ) (result : Result T DeviceFault) (old : Medium) (mid new : DiskState) → KeepsFirst old mid.now → Writes 1 bytes result mid new → KeepsFirst old new.now
 first_kept bytes result old mid new keeps writes = record {

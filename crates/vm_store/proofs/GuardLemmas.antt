@@ -3,7 +3,7 @@ use Rattle.std.proofs.Common.{◌≡◌, ◌≢◌, ◌⊎◌, inl, inr, ℕ, �
 use Rattle.vm_types.specs.State.{State}
 use Rattle.vm_disk.specs.Disk.{Medium, IsClean}
 use Rattle.vm_disk.specs.Moments.{TouchesOnly}
-use Rattle.vm_disk.proofs.MomentLemmas.{clean_sure, spares_itself}
+use Rattle.vm_disk.proofs.MomentLemmas.{clean_sure, touches_nothing}
 use Rattle.vm_alloc.specs.Held.{IsHeld, HoldsMore}
 use Rattle.vm_store.specs.Versions.{slot_entries}
 use Rattle.vm_store.specs.declared.version.Version.{Version}
@@ -62,7 +62,7 @@ module _ (m : Medium) (limit : ℕ) (slot_name : SlotName) (bits : List Bool) (c
 
   -- before any call
   pub guarded_at_rest : IsGuarded bits m
-  guarded_at_rest = guarded_on m bits (spares_itself (is_free bits) m) (record { same_length = refl; still = λ n held. held })
+  guarded_at_rest = guarded_on m bits (touches_nothing (is_free bits) m) (record { same_length = refl; still = λ n held. held })
 
   -- at each moment of a publish of the working entries
   pub guarded_publishing : (now : Medium) → IsSafelyPublishing slot_name m rests.format s.kept (slot_entries committed) Two limit (slot_entries working) now → IsGuarded bits now

@@ -13,7 +13,7 @@ use Rattle.vm_types.specs.declared.refusal.Refusal.TheVariants.{BadSize, Device,
 use Rattle.vm_types.proofs.Growing.{grow_accepted, grow_refused}
 use Rattle.vm_disk.specs.Disk.{DiskState, Enlarges, Goes, Lengthens, Medium}
 use Rattle.vm_disk.specs.Moments.{Leaves, Throughout}
-use Rattle.vm_disk.proofs.MomentLemmas.{goes_on, spares_itself, started}
+use Rattle.vm_disk.proofs.MomentLemmas.{goes_on, touches_nothing, started}
 use Rattle.vm_alloc.specs.Held.{IsHeld}
 use Rattle.vm_alloc.proofs.HeldLemmas.{held_inside}
 use Rattle.vm_block.specs.Selector.{named_slot}
@@ -114,7 +114,7 @@ module _ (old new : DiskState) (larger : Enlarges old new) (limit : ℕ) (slot_n
   pub longer_crash : (command : Command) → Throughout old new (Leaves (LeftBy Shows s command))
   longer_crash command =
       let shown : (m : Medium) → Lengthens old.now m → Leaves (LeftBy Shows s command) m =
-      λ m longer left may. inl (shows_old m limit slot_name bits committed working (record s { blocks = limit }) (as_many m longer bits (λ n held. held)) m (spares_itself _ m) left may) in
+      λ m longer left may. inl (shows_old m limit slot_name bits committed working (record s { blocks = limit }) (as_many m longer bits (λ n held. held)) m (touches_nothing _ m) left may) in
       growing_keeps old new (Leaves (LeftBy Shows s command)) larger (shown old.now (longer_itself old.now)) (shown new.now larger.longer)
 
   -- the slots that it may leave in use stay whole

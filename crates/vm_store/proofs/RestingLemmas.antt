@@ -13,7 +13,7 @@ use Rattle.vm_types.specs.State.{State, committed_of, next}
 use Rattle.vm_types.specs.Kept.{LeftBy}
 use Rattle.vm_disk.specs.Disk.{Contents, DiskState, MayLeave, Medium, block}
 use Rattle.vm_disk.specs.Moments.{TouchesOnly, OnlyReads}
-use Rattle.vm_disk.proofs.MomentLemmas.{clean_sure, spared, same_medium}
+use Rattle.vm_disk.proofs.MomentLemmas.{clean_sure, left_untouched, same_medium}
 use Rattle.vm_alloc.specs.Held.{IsHeld, HoldsMore}
 use Rattle.vm_block.specs.Slot.{SlotFits, used_blocks}
 use Rattle.vm_block.specs.Slot as slot
@@ -74,11 +74,11 @@ module _ (m : Medium) (limit : ℕ) (slot_name : SlotName) (bits : List Bool) (c
 
   -- blocks that are held and clean are kept by a crash after calls that write free blocks alone
   kept_safe : (now : Medium) → TouchesOnly (is_free bits) m now → (left : Contents) → MayLeave now left → (n : ℕ) → IsSafe rests.format bits m n → block left n ≡ block m.contents n
-  kept_safe now spares left may n safe = spared (is_free bits) m now spares left may n (held_not_free bits n safe.held) safe.clean
+  kept_safe now spares left may n safe = left_untouched (is_free bits) m now spares left may n (held_not_free bits n safe.held) safe.clean
 
   kept_used : (now : Medium) → TouchesOnly (is_free bits) m now → (left : Contents) → MayLeave now left → (n : ℕ) → is_used slot_name (length (slot_entries committed)) n ≡ true → block left n ≡ block m.contents n
   kept_used now spares left may n used =
-      spared (is_free bits) m now spares left may n (held_not_free bits n (rests.system n (used_low slot_name (length (slot_entries committed)) n few used))) (rests.rest.clean n used)
+      left_untouched (is_free bits) m now spares left may n (held_not_free bits n (rests.system n (used_low slot_name (length (slot_entries committed)) n few used))) (rests.rest.clean n used)
 
   -- a crash after calls that write free blocks alone shows what was committed
   pub shows_old : (now : Medium) → TouchesOnly (is_free bits) m now → (left : Contents) → MayLeave now left → Shows left (committed_of s)

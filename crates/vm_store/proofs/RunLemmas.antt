@@ -14,7 +14,7 @@ use Rattle.vm_types.proofs.Runs.{after_more}
 use Rattle.vm_disk.specs.Disk as disk
 use Rattle.vm_disk.specs.Disk.{Contents, DiskState, Medium}
 use Rattle.vm_disk.specs.Moments.{Throughout, Leaves}
-use Rattle.vm_disk.proofs.MomentLemmas.{started, and_then, weaken, past_stays, moment_rises, leaves_only, spares_itself}
+use Rattle.vm_disk.proofs.MomentLemmas.{started, and_then, weaken, past_stays, moment_rises, leaves_only, touches_nothing}
 use Rattle.vm_block.specs.declared.selector.SlotName.{SlotName}
 use Rattle.vm_store.specs.declared.version.Version.{Version}
 use Rattle.vm_store.specs.Answers.{ChangesEntriesAlone, IsEarly, IsGrow, IsMergeAnswer, TakesMemory, merge_changes}
@@ -48,7 +48,7 @@ ran_more old mid new s commands answers c a ran crash =
 
 -- a crash before the first command shows what is committed
 pub rests_show : (m : Medium) (limit : ℕ) (slot_name : SlotName) (bits : List Bool) (committed working : List Version) (s : State) → Rests m limit slot_name bits committed working s → Leaves (λ x. Shows x (committed_of s)) m
-rests_show m limit slot_name bits committed working s rests left may = shows_old m limit slot_name bits committed working s rests m (spares_itself (is_free bits) m) left may
+rests_show m limit slot_name bits committed working s rests left may = shows_old m limit slot_name bits committed working s rests m (touches_nothing (is_free bits) m) left may
 
 -- one answer of a run
 module _ {D : Type 0} {members : _} (old new : Store D members) (s : State) (holds : Holds old s) (r : Result Answer Refusal) where

@@ -12,14 +12,14 @@ use Rattle.vm_types.specs.State.{State, next, tree_after}
 use Rattle.vm_types.specs.Tree.{Tree, Alternative, named, changed}
 use Rattle.vm_disk.specs.Disk.{DiskState, Medium}
 use Rattle.vm_disk.specs.Moments.{OnlyReads, Throughout, TouchesOnly}
-use Rattle.vm_disk.proofs.MomentLemmas.{same_medium, spares_itself, started}
+use Rattle.vm_disk.proofs.MomentLemmas.{same_medium, touches_nothing, started}
 use Rattle.vm_block.specs.declared.selector.SlotName.{SlotName}
 use Rattle.vm_alloc.specs.Held.{HoldsMore, IsHeld, is_held}
 use Rattle.vm_alloc.proofs.HeldLemmas.{holds_more_then, holds_same}
 use Rattle.vm_tree.specs.Free.{is_free}
 use Rattle.vm_tree.specs.Root.{IsRootedIn}
 use Rattle.vm_tree.specs.declared.root.Root.{Root}
-use Rattle.vm_tree.proofs.Sparing.{spares_more, spares_then}
+use Rattle.vm_tree.proofs.Touching.{touches_more, touches_then}
 use Rattle.vm_store.specs.Resting.{HoldsWith, IsInSeries, IsSafe, KeepsSeries, Rests, before_of, before_series, no_root, set_aside, state_aside}
 use Rattle.vm_store.specs.Sizes.{sizes}
 use Rattle.vm_store.specs.Versions.{is_alternative_of, with_current}
@@ -58,7 +58,7 @@ module _ (m : Medium) (limit : ℕ) (slot_name : SlotName) (bits before : List B
   all_held : (alt : List ℕ) → Rests m limit slot_name bits committed working s → IsInSeries alt m limit slot_name bits bits committed working s
   all_held alt rests = record {
     wider = holds_same bits;
-    others = current_rests m limit slot_name bits committed working s rests alt (λ _. []) m bits no_root (omega arith) (spares_itself (is_free bits) m) (holds_same bits)
+    others = current_rests m limit slot_name bits committed working s rests alt (λ _. []) m bits no_root (omega arith) (touches_nothing (is_free bits) m) (holds_same bits)
         (λ f found. none_grown (IsHeld bits) m.contents limit no_root refl);
   }
 
@@ -100,7 +100,7 @@ module _ (m : Medium) (limit : ℕ) (slot_name : SlotName) (bits before : List B
   series_more (Some alt) now after spares more kept = record {
     wider = holds_more_then _ _ _ kept.wider more;
     others = rests_more m limit slot_name before committed (set_aside alt working) (state_aside alt s) kept.others now before
-        (spares_more before bits m m now kept.wider (spares_itself (is_free before) m) spares) (holds_same before);
+        (touches_more before bits m m now kept.wider (touches_nothing (is_free before) m) spares) (holds_same before);
   }
 
   -- the store stands for the same, after calls that write free blocks alone
@@ -137,13 +137,13 @@ module _ (m : Medium) (limit : ℕ) (slot_name : SlotName) (bits before : List B
 -- at no moment a change of a series touches a block that was held before it
 pub wrote_in_series : (before bits : List Bool) (old new : DiskState) → HoldsMore before bits → Throughout old new (TouchesOnly (is_free bits) old.now) → Throughout old new (TouchesOnly (is_free before) old.now)
 wrote_in_series before bits old new wider moments =
-    spares_then before bits old old new wider (started old (TouchesOnly (is_free before) old.now) (spares_itself (is_free before) old.now)) moments
+    touches_then before bits old old new wider (started old (TouchesOnly (is_free before) old.now) (touches_nothing (is_free before) old.now)) moments
 
 -- nor when it forgets blocks afterwards
 pub forgot_in_series : (before bits : List Bool) (old mid new : DiskState) → HoldsMore before bits → Throughout old mid (TouchesOnly (is_free bits) old.now) → Throughout mid new (TouchesOnly (is_free before) mid.now)
     → Throughout old new (TouchesOnly (is_free before) old.now)
 forgot_in_series before bits old mid new wider moments then =
-    spares_then before before old mid new (holds_same before) (wrote_in_series before bits old mid wider moments) then
+    touches_then before before old mid new (holds_same before) (wrote_in_series before bits old mid wider moments) then
 
 -- reads change nothing
 pub read_holds : (old new : DiskState) (limit : ℕ) (slot_name : SlotName) (bits before : List Bool) (series : Option (List ℕ)) (committed working : List Version) (s : State) → OnlyReads old new

@@ -11,7 +11,7 @@ use Rattle.vm_types.specs.declared.command.Command.TheVariants.{New, NewAt, Drop
 use Rattle.vm_types.specs.declared.refusal.Refusal.{Refusal}
 use Rattle.vm_types.specs.declared.refusal.Refusal.TheVariants.{Device}
 use Rattle.vm_disk.specs.Disk.{Medium}
-use Rattle.vm_disk.proofs.MomentLemmas.{spares_itself}
+use Rattle.vm_disk.proofs.MomentLemmas.{touches_nothing}
 use Rattle.vm_alloc.specs.Held.{IsHeld}
 use Rattle.vm_block.specs.Slot.{SlotFits}
 use Rattle.vm_block.specs.declared.selector.SlotName.{SlotName}
@@ -62,7 +62,7 @@ module _ (m : Medium) (limit : ℕ) (slot_name : SlotName) (bits : List Bool) (c
       → Standing (IsHeld bits) m.contents limit changed new → tree_of new ≡ tree → Rests m limit slot_name bits committed changed (next s command (Ok Done))
   stepped command changed new tree plain is fits stands gives =
       subst (λ (t : State). Rests m limit slot_name bits committed changed t) (sym (plain ∙ ap (λ (o : Outcome). record s { working = tree_after s.working o }) is))
-      (rests_on m limit slot_name bits committed working s rests m bits changed new tree (spares_itself _ m) (record { same_length = refl; still = λ n h. h }) fits stands gives)
+      (rests_on m limit slot_name bits committed working s rests m bits changed new tree (touches_nothing _ m) (record { same_length = refl; still = λ n h. h }) fits stands gives)
 
   -- other entries, as a command that changes entries alone leaves them
   pub turned_rests : (command : Command) (r : Result Answer Refusal) (changed : List Version) → ChangesEntriesAlone command → Turns working changed command r → Rests m limit slot_name bits committed changed (next s command r)
@@ -70,7 +70,7 @@ module _ (m : Medium) (limit : ℕ) (slot_name : SlotName) (bits : List Bool) (c
   turned_rests command (Ok answer) changed alone turned =
       let left = turned.stand bits m.contents limit s.working (standing rests) in
       subst (Rests m limit slot_name bits committed changed) (sym (plain command alone))
-      (rests_on m limit slot_name bits committed working s rests m bits changed left.filed _ (spares_itself _ m) (record { same_length = refl; still = λ n h. h }) left.fits left.stands left.gives)
+      (rests_on m limit slot_name bits committed working s rests m bits changed left.filed _ (touches_nothing _ m) (record { same_length = refl; still = λ n h. h }) left.fits left.stands left.gives)
     where
       plain : (command : Command) → ChangesEntriesAlone command → accepted s command ≡ record s { working = tree_after s.working (step s.working command) }
       plain (New name parent) alone = refl

@@ -62,8 +62,8 @@ module _ (old new : DiskState) where
   HadHeader P = new.honest ≡ true → P → IsHeader (block old.now.contents 0)
 
   -- where block 0 was a header, this is refused, and the contents are as they were
-  abbrev pub SparesStore : {T E : Type 0} → Result T E → Type 0
-  SparesStore result = new.honest ≡ true → IsHeader (block old.now.contents 0) → IsErr result × (new.now.contents ≡ old.now.contents)
+  abbrev pub LeavesStore : {T E : Type 0} → Result T E → Type 0
+  LeavesStore result = new.honest ≡ true → IsHeader (block old.now.contents 0) → IsErr result × (new.now.contents ≡ old.now.contents)
 
   -- a crash at any moment shows at most a new store of so many blocks, where there was no header, and all was synced
   abbrev pub LaysOut : ℕ → Type 0

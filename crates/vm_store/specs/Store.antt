@@ -109,8 +109,8 @@ module _ {D : Type 0} {members : _} where
   IsAsLong old new = (members.state (disk_of new)).blocks ≡ (members.state (disk_of old)).blocks
 
   -- a refusal that comes before blocks are marked, taken or written comes without a device call
-  abbrev pub EarlySpares : Result Answer Refusal → (old new : Store D members) → Type 0
-  EarlySpares answer old new = IfErr answer (λ refusal. IsEarly refusal → disk_of new ≡ disk_of old)
+  abbrev pub EarlyLeavesDisk : Result Answer Refusal → (old new : Store D members) → Type 0
+  EarlyLeavesDisk answer old new = IfErr answer (λ refusal. IsEarly refusal → disk_of new ≡ disk_of old)
 
   -- no device call was made, and no block was taken or given back
   abbrev pub LeavesBlocks : (old new : Store D members) → Type 0

@@ -64,7 +64,7 @@ pub struct Store<D: Disk> {
 }
 
 impl<D: Disk> Store<D> {
-    ghost use Rattle.vm_store.specs.Store.{disk_of, has_failed, entries_of, IsHonest, GoesOn, GrowsOn, IsAsLong, FromState, IsAnswered, StandsAfter, StaysGuarded, CrashLeaves, EarlyKeeps, EarlySpares, LeavesBlocks, ReclaimsAll, GrowsFree, ClosesWith};
+    ghost use Rattle.vm_store.specs.Store.{disk_of, has_failed, entries_of, IsHonest, GoesOn, GrowsOn, IsAsLong, FromState, IsAnswered, StandsAfter, StaysGuarded, CrashLeaves, EarlyKeeps, EarlyLeavesDisk, LeavesBlocks, ReclaimsAll, GrowsFree, ClosesWith};
 
     /// Carries out one command. After an answer `Device` the store answers `Failed` to every call but
     /// `close`: close it, and open the disk again.
@@ -83,7 +83,7 @@ impl<D: Disk> Store<D> {
 
         // No command but a Grow gives the disk blocks, and one that is refused early makes no device call.
         ensures as_long { (IsGrow command.now → ⊥) → IsAsLong self.old self.new }
-        ensures untouched { IsGrow command.now → EarlySpares result self.old self.new }
+        ensures untouched { IsGrow command.now → EarlyLeavesDisk result self.old self.new }
 
         // To make, drop or go back to alternatives and checkpoints takes no device call and no block.
         ensures blocks { ChangesEntriesAlone command.now → LeavesBlocks self.old self.new }

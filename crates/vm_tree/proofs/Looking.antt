@@ -2,9 +2,9 @@
 use Rattle.std.proofs.Common.{◌≡◌, ◌∙◌, true, Bool, List, Result, Ok, Err, IsErrAnd, refl, ap}
 use Rattle.vm_disk.specs.Disk.{DiskState}
 use Rattle.vm_disk.proofs.GoesLemmas.{goes_nowhere, goes_then, goes_at}
-use Rattle.vm_disk.proofs.MomentLemmas.{after_reads, reads_keep, reads_then, spares_itself, started}
+use Rattle.vm_disk.proofs.MomentLemmas.{after_reads, reads_keep, reads_then, touches_nothing, started}
 use Rattle.vm_tree.specs.Calls.{Looks, LooksIf, Writes}
-use Rattle.vm_tree.proofs.Sparing.{spares_then}
+use Rattle.vm_tree.proofs.Touching.{touches_then}
 
 -- a call that looks, after another one
 pub looks_on : {first second both : Type 0} {old mid new : DiskState} → Looks first old mid → Looks second mid new → (both → second) → Looks both old new
@@ -18,7 +18,7 @@ pub looks_free : {fails both : Type 0} {held : List Bool} {old new : DiskState} 
 looks_free looks cause = record {
   goes = goes_at _ _ _ _ looks.goes cause;
   still = record { same_length = refl; still = λ n is. is };
-  moments = λ honest. reads_keep _ _ _ (looks.reads honest) (spares_itself _ _);
+  moments = λ honest. reads_keep _ _ _ (looks.reads honest) (touches_nothing _ _);
 }
 
 -- a call that writes, after one that looks
@@ -36,7 +36,7 @@ pub writes_on : {first second both : Type 0} {held between later : List Bool} {o
 writes_on so_far more cause = record {
   goes = goes_then _ _ _ _ _ _ so_far.goes more.goes cause;
   still = record { same_length = more.still.same_length ∙ so_far.still.same_length; still = λ n is. more.still.still n (so_far.still.still n is) };
-  moments = λ honest. spares_then _ _ _ _ _ so_far.still (so_far.moments (more.goes.earlier honest)) (more.moments honest);
+  moments = λ honest. touches_then _ _ _ _ _ so_far.still (so_far.moments (more.goes.earlier honest)) (more.moments honest);
 }
 
 -- what was only looked at, after a call that looks

@@ -85,7 +85,7 @@ Opens a store for reading alone, changes nothing, and prints how many
 alternatives, checkpoints and free blocks it has.";
 
 /// The file that `check` opens.
-pub const CHECK_FILE: &str = "The file, a plain one, which need not be one that may be written";
+pub const CHECK_FILE: &str = "The file or block device, which need not be one that may be written";
 
 /// When to check a store.
 pub const CHECK_AFTER: &str = "\
@@ -124,7 +124,7 @@ the alternatives under it. The columns of an alternative:
   post       whether altctl run would post it: nothing is unmerged
 
 top has no parent, so its columns are -. A refusal is printed as by altctl
-check. No name is cut: lines fit 80 columns up to the fifth level under top.
+check. No name is cut: lines fit 80 columns up to the fourth level under top.
 
 A session:
 

@@ -1,7 +1,7 @@
 //! Formatting a disk.
 ghost use Rattle.std.specs.Prelude.{◌≡◌, ◌⊎◌, ◌↔◌, ◌<◌, ◌≤◌, ◌^◌, true, IfErr, OnOk, IsErr, IsErrAnd};
 ghost use Rattle.vm_disk.specs.Disk.{Goes, block};
-ghost use Rattle.vm_store.specs.Formatting.{ComesBack, Formats, FormatsAtMost, FormatsLaidOut, HadHeader, IsOfFormat, LaysOut, ShowsAtMostLaidOut, SparesStore, TellsHeader, IsBadSize, IsLaidOut, fresh_entry, given_back};
+ghost use Rattle.vm_store.specs.Formatting.{ComesBack, Formats, FormatsAtMost, FormatsLaidOut, HadHeader, IsOfFormat, LaysOut, ShowsAtMostLaidOut, LeavesStore, TellsHeader, IsBadSize, IsLaidOut, fresh_entry, given_back};
 ghost use Rattle.vm_store.specs.Refused.{SyncsAll, SyncsAtMost};
 
 use vm_block::{Entry, Kind, SlotFormat, SlotName, is_header, write_header};
@@ -85,7 +85,7 @@ fn make_store<D: Disk>(disk: &mut D, blocks: u32) -> Result<(), Refusal>
     ensures any { Goes (result ≡ Err Refusal.Device) (D.state disk.old) (D.state disk.new) }
     ensures refusals { IfErr result (λ r. (r ≡ Refusal.AlreadyAStore) ⊎ (r ≡ Refusal.Device)) }
     ensures already { HadHeader (D.state disk.old) (D.state disk.new) (result ≡ Err Refusal.AlreadyAStore) }
-    ensures was_there { SparesStore (D.state disk.old) (D.state disk.new) result }
+    ensures was_there { LeavesStore (D.state disk.old) (D.state disk.new) result }
     ensures formatted { Formats blocks result (D.state disk.new) }
     ensures moments { FormatsAtMost (D.state disk.old) (D.state disk.new) blocks }
 {
@@ -116,7 +116,7 @@ pub fn format<D: Disk>(mut disk: D, blocks: u32) -> Result<D, (D, Refusal)>
 
     // It refuses a store that is there, and leaves it as it was.
     ensures already { HadHeader (D.state disk) (D.state (given_back result)) (ComesBack result Refusal.AlreadyAStore) }
-    ensures was_there { SparesStore (D.state disk) (D.state (given_back result)) result }
+    ensures was_there { LeavesStore (D.state disk) (D.state (given_back result)) result }
 
     // Where it succeeds, a new store is shown. At each moment before, a crash shows at most that.
     ensures formatted { Formats blocks result (D.state (given_back result)) }

@@ -1,5 +1,5 @@
 use Rattle.std.proofs.Common.{ap, ◌∙◌, length}
-use Rattle.vm_disk.proofs.MomentLemmas.{goes_on, weaken, at_end, sync_spares}
+use Rattle.vm_disk.proofs.MomentLemmas.{goes_on, weaken, at_end, sync_touches}
 use Rattle.vm_block.specs.Selector.{selector_bytes}
 use Rattle.vm_block.specs.Slot.{used_blocks}
 use Rattle.vm_catalog.proofs.PublishLemmas.{in_other_slot, touches_other, before_selector, at_selector, ready_by, ends_published, ends_safely, left_by_publish}
@@ -22,7 +22,7 @@ returns-in_err-sync-clause-moments g c honest was limit es rest fits =
     let before = before_selector c.args.in_use old.now was limit es c.args.format c.args.blocks c.args.entries.now rest fits in
     let writes = touches_other _ _ (used_blocks (length c.args.entries.now)) c.other-free.ensures (c.write_slot.ensures.moments (c.sync.ensures.any.earlier honest)) in
     let sync = c.sync.ensures.honest honest in
-    let spares = sync_spares _ _ _ _ _ sync (at_end _ _ _ writes) in
+    let spares = sync_touches _ _ _ _ _ sync (at_end _ _ _ writes) in
     goes_on _ _ _ _ (weaken _ _ _ _ before writes) sync.time (before _ spares)
 
 pub returns-in_err-sync-clause-any_moment : goal.returns-in_err-sync-clause-any_moment
@@ -37,7 +37,7 @@ returns-in_err-select_slot-clause-moments g c honest was limit es rest fits =
     let writes = touches_other _ _ (used_blocks (length c.args.entries.now)) c.other-free.ensures (c.write_slot.ensures.moments (c.sync.ensures.any.earlier (c.select_slot.ensures.any.earlier honest))) in
     let sync = c.sync.ensures.honest (c.select_slot.ensures.any.earlier honest) in
     let synced = c.in_ok-sync.ensures.honest (c.select_slot.ensures.any.earlier honest) in
-    let spares = sync_spares _ _ _ _ _ sync (at_end _ _ _ writes) in
+    let spares = sync_touches _ _ _ _ _ sync (at_end _ _ _ writes) in
     let ready = ready_by c.args.in_use old.now was limit es c.args.format c.args.blocks c.args.entries.now rest fits _ _ spares synced.synced sync.same (in_other_slot _ (used_blocks (length c.args.entries.now)) c.other-free.ensures (c.in_ok-write_slot.ensures.written (c.sync.ensures.any.earlier (c.select_slot.ensures.any.earlier honest)))) in
     let turn = c.select_slot.ensures.honest honest in
     goes_on _ _ _ _ (goes_on _ _ _ _ (weaken _ _ _ _ before writes) sync.time (before _ spares)) turn.time
@@ -55,7 +55,7 @@ returns-clause-moments g c honest was limit es rest fits =
     let writes = touches_other _ _ (used_blocks (length c.args.entries.now)) c.other-free.ensures (c.write_slot.ensures.moments (c.sync.ensures.any.earlier (c.select_slot.ensures.any.earlier (c.sync-2.ensures.any.earlier honest)))) in
     let sync = c.sync.ensures.honest (c.select_slot.ensures.any.earlier (c.sync-2.ensures.any.earlier honest)) in
     let synced = c.in_ok-sync.ensures.honest (c.select_slot.ensures.any.earlier (c.sync-2.ensures.any.earlier honest)) in
-    let spares = sync_spares _ _ _ _ _ sync (at_end _ _ _ writes) in
+    let spares = sync_touches _ _ _ _ _ sync (at_end _ _ _ writes) in
     let ready = ready_by c.args.in_use old.now was limit es c.args.format c.args.blocks c.args.entries.now rest fits _ _ spares synced.synced sync.same (in_other_slot _ (used_blocks (length c.args.entries.now)) c.other-free.ensures (c.in_ok-write_slot.ensures.written (c.sync.ensures.any.earlier (c.select_slot.ensures.any.earlier (c.sync-2.ensures.any.earlier honest))))) in
     let turn = c.select_slot.ensures.honest (c.sync-2.ensures.any.earlier honest) in
     let turned = c.in_ok-select_slot.ensures.honest (c.sync-2.ensures.any.earlier honest) in
@@ -74,7 +74,7 @@ returns-clause-done g c honest was limit es rest fits =
     let writes = touches_other _ _ (used_blocks (length c.args.entries.now)) c.other-free.ensures (c.write_slot.ensures.moments (c.sync.ensures.any.earlier (c.select_slot.ensures.any.earlier (c.sync-2.ensures.any.earlier honest)))) in
     let sync = c.sync.ensures.honest (c.select_slot.ensures.any.earlier (c.sync-2.ensures.any.earlier honest)) in
     let synced = c.in_ok-sync.ensures.honest (c.select_slot.ensures.any.earlier (c.sync-2.ensures.any.earlier honest)) in
-    let spares = sync_spares _ _ _ _ _ sync (at_end _ _ _ writes) in
+    let spares = sync_touches _ _ _ _ _ sync (at_end _ _ _ writes) in
     let ready = ready_by c.args.in_use old.now was limit es c.args.format c.args.blocks c.args.entries.now rest fits _ _ spares synced.synced sync.same (in_other_slot _ (used_blocks (length c.args.entries.now)) c.other-free.ensures (c.in_ok-write_slot.ensures.written (c.sync.ensures.any.earlier (c.select_slot.ensures.any.earlier (c.sync-2.ensures.any.earlier honest))))) in
     let turn = c.select_slot.ensures.honest (c.sync-2.ensures.any.earlier honest) in
     let turned = c.in_ok-select_slot.ensures.honest (c.sync-2.ensures.any.earlier honest) in

@@ -3,7 +3,7 @@ use Rattle.std.proofs.lemmas.Bool.{false≢true}
 use Rattle.vm_types.specs.Bytes.{longest}
 use Rattle.vm_tree.proofs.TreeLemmas.{leaf_opens}
 use Rattle.vm_tree.proofs.Descent.{subtree_top}
-use Rattle.vm_check.proofs.MarkLemmas.{same_more, under_marked, set_less, fine_so, spares_beside, leaf_marked}
+use Rattle.vm_check.proofs.MarkLemmas.{same_more, under_marked, set_less, fine_so, marks_only_beside, leaf_marked}
 use Rattle.vm_check.proofs.LinkLemmas.{links_data}
 use Rattle.vm_check.proofs.OnlyLemmas.{only_top}
 use Rattle.vm_check.proofs.marking.mark_leaf.Goals as goal
@@ -44,4 +44,4 @@ returns-clause-sound g c honest sizes rs bs tree =
 pub returns-clause-only : goal.returns-clause-only
 returns-clause-only g c honest sizes rs bs tree =
     let at = leaf_opens sizes _ _ _ _ rs bs refl tree in
-    only_top _ at.under bs _ _ _ c.set.ensures at.first (spares_beside _ _ longest _ rs at.under _ _ at.holds (c.mark_beside.ensures.only honest at.holds.rows at.holds.leaf))
+    only_top _ at.under bs _ _ _ c.set.ensures at.first (marks_only_beside _ _ longest _ rs at.under _ _ at.holds (c.mark_beside.ensures.only honest at.holds.rows at.holds.leaf))

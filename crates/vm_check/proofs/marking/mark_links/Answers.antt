@@ -5,14 +5,14 @@ use Rattle.vm_alloc.proofs.HeldLemmas.{holds_more_then}
 use Rattle.vm_block.proofs.HeadLemmas.{some_same}
 use Rattle.vm_tree.specs.Tree.{IsData}
 use Rattle.vm_check.proofs.LinkLemmas.{first_row, linked_at, links_more, links_so}
-use Rattle.vm_check.proofs.MarkLemmas.{linked_each, spares_more}
+use Rattle.vm_check.proofs.MarkLemmas.{linked_each, marks_only_more}
 use Rattle.vm_check.proofs.marking.mark_links.Goals as goal
 
 pub returns-in_err-mark_link-clause-only : goal.returns-in_err-mark_link-clause-only
 returns-in_err-mark_link-clause-only c ws leaf =
     let lt : c.loop-row.row < length ws = omega (arith, c.loop-row-test.true, some_same _ _ (c.in-Some.ensures.only ws leaf)) in
     let d = first_row ws leaf.some in
-    spares_more _ _ _ ws c.loop-row.row d lt (c.loop-row.invariant.only ws leaf) (c.mark_link.ensures.only ws d leaf lt)
+    marks_only_more _ _ _ ws c.loop-row.row d lt (c.loop-row.invariant.only ws leaf) (c.mark_link.ensures.only ws d leaf lt)
 
 pub returns-in_err-mark_link-clause-sound : goal.returns-in_err-mark_link-clause-sound
 returns-in_err-mark_link-clause-sound c ws leaf sound =
@@ -36,5 +36,5 @@ loop-row-preserved c =
       only = λ ws leaf.
           let lt : c.loop-row.row < length ws = omega (arith, c.loop-row-test.true, some_same _ _ (c.in-Some.ensures.only ws leaf)) in
           let d = first_row ws leaf.some in
-          spares_more _ _ _ ws c.loop-row.row d lt (so_far.only ws leaf) (c.mark_link.ensures.only ws d leaf lt);
+          marks_only_more _ _ _ ws c.loop-row.row d lt (so_far.only ws leaf) (c.mark_link.ensures.only ws d leaf lt);
     }

@@ -3,7 +3,7 @@ use Rattle.vm_types.specs.Map.{Map, get, without}
 use Rattle.vm_disk.proofs.MomentLemmas.{same_medium}
 use Rattle.vm_alloc.specs.Held.{IsHeld}
 use Rattle.vm_tree.specs.Root.{IsRootedIn}
-use Rattle.vm_tree.proofs.Sparing.{held_kept}
+use Rattle.vm_tree.proofs.Touching.{held_kept}
 use Rattle.vm_tree.proofs.Looking.{passed_on}
 use Rattle.vm_store.proofs.ChangingLemmas.{so_failed, put_makes, absent_makes, rest_makes, device_makes}
 use Rattle.vm_store.proofs.Removing.{removed_root}

@@ -10,7 +10,7 @@ use vm_disk::Disk;
 use vm_types::{Answer, MAX_BLOCKS, Refusal};
 
 impl<D: Disk> Store<D> {
-    ghost use Rattle.vm_store.specs.Store.{disk_of, has_failed, entries_of, EarlySpares, IsCarriedOut, NewAreFree, Holds, IsHonest, IsSameButDisk, GrowsOn, EarlyKeeps};
+    ghost use Rattle.vm_store.specs.Store.{disk_of, has_failed, entries_of, EarlyLeavesDisk, IsCarriedOut, NewAreFree, Holds, IsHonest, IsSameButDisk, GrowsOn, EarlyKeeps};
 
     /// How many blocks the store has, those of the slots included. The next Commit keeps that many.
     pub fn blocks(&self) -> Result<u32, Refusal>
@@ -34,7 +34,7 @@ impl<D: Disk> Store<D> {
         ensures never { result ≢ Err Refusal.Failed }
         ensures same { entries_of self.new ≡ entries_of self.old }
         ensures unchanged { EarlyKeeps result self.old self.new }
-        ensures untouched { EarlySpares result self.old self.new }
+        ensures untouched { EarlyLeavesDisk result self.old self.new }
         ensures carried { IsCarriedOut self.old self.new (Grow blocks) result }
         ensures grown { NewAreFree result self.old self.new blocks }
     {

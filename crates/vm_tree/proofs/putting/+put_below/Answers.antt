@@ -18,7 +18,7 @@ use Rattle.vm_tree.proofs.Looking.{looks_free, looks_if, looks_write, passed_on,
 use Rattle.vm_tree.proofs.Descent.{node_read}
 use Rattle.vm_tree.proofs.Leading.{leads_on, if_ok_so}
 use Rattle.vm_tree.proofs.PutLemmas.{asked_of, node_put, not_split, there_below, node_fault, device_below, only_one}
-use Rattle.vm_tree.proofs.Sparing.{held_kept}
+use Rattle.vm_tree.proofs.Touching.{held_kept}
 use Rattle.vm_tree.proofs.putting.+put_below.Goals as goal
 use Rattle.vm_tree.proofs.putting.+put_below.Goals.{then-room, else-room}
 

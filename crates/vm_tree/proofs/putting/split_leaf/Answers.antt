@@ -16,7 +16,7 @@ use Rattle.vm_tree.proofs.LeafRows.{cut_leaf, leaf_moved, stand_moved, stand_wit
 use Rattle.vm_tree.proofs.Looking.{writes_on}
 use Rattle.vm_tree.proofs.Placing.{with_longest, with_rises}
 use Rattle.vm_tree.proofs.Renewing.{renewed_more}
-use Rattle.vm_tree.proofs.Sparing.{held_kept}
+use Rattle.vm_tree.proofs.Touching.{held_kept}
 use Rattle.vm_tree.proofs.putting.split_leaf.Goals as goal
 
 -- a leaf that was made two is one that was to be

@@ -4,7 +4,7 @@ use Rattle.vm_tree.proofs.Growing.{both_made}
 use Rattle.vm_alloc.proofs.HeldLemmas.{holds_more_then}
 use Rattle.vm_tree.proofs.LeafRows.{leaf_moved}
 use Rattle.vm_tree.proofs.Renewing.{renewed_more}
-use Rattle.vm_tree.proofs.Sparing.{held_kept}
+use Rattle.vm_tree.proofs.Touching.{held_kept}
 use Rattle.vm_tree.proofs.putting.write_halves.Goals as goal
 
 pub returns-clause-made : goal.returns-clause-made

@@ -9,7 +9,7 @@ use Rattle.vm_tree.specs.Rows.{IsRowIn}
 use Rattle.vm_tree.proofs.LeafRows.{after_put, leaf_moved, put_leaf, put_rows, stand_moved, with_again, with_many}
 use Rattle.vm_tree.proofs.Looking.{writes_on}
 use Rattle.vm_tree.proofs.Renewing.{renewed_more}
-use Rattle.vm_tree.proofs.Sparing.{held_kept}
+use Rattle.vm_tree.proofs.Touching.{held_kept}
 use Rattle.vm_tree.proofs.putting.write_put.Goals as goal
 
 pub write_long_block-requires-clause-most : goal.write_long_block-requires-clause-most

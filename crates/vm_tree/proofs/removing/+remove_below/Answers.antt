@@ -27,7 +27,7 @@ use Rattle.vm_tree.proofs.Leading.{leads_on, if_ok_is, if_ok_so}
 use Rattle.vm_tree.proofs.PutLemmas.{only_one, replaced_length}
 use Rattle.vm_tree.proofs.RemoveLemmas.{rests_removes, none_there, fault_there, node_rest, only_there, others_left}
 use Rattle.vm_tree.proofs.Renewing.{renewed_more}
-use Rattle.vm_tree.proofs.Sparing.{held_kept}
+use Rattle.vm_tree.proofs.Touching.{held_kept}
 use Rattle.vm_tree.proofs.removing.+remove_below.Goals as goal
 use Rattle.vm_tree.proofs.removing.+remove_below.Goals.{then-is_root, else-is_root}
 

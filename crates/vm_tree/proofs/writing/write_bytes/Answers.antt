@@ -5,7 +5,7 @@ use Rattle.vm_tree.specs.Making.{Made}
 use Rattle.vm_tree.proofs.Growing.{lowest_low, leaf_made, node_is, node_made}
 use Rattle.vm_tree.specs.Replacing.{IsRenewed}
 use Rattle.vm_tree.proofs.Renewing.{renewed_free, renewed_more}
-use Rattle.vm_tree.proofs.Sparing.{held_kept}
+use Rattle.vm_tree.proofs.Touching.{held_kept}
 use Rattle.vm_tree.proofs.writing.write_bytes.Goals as goal
 
 pub returns-clause-leaf : goal.returns-clause-leaf

@@ -1,6 +1,6 @@
 use Rattle.std.proofs.Common.{ap, not, arith, rules}
 use Rattle.vm_alloc.proofs.HeldLemmas.{free_is, free_less}
-use Rattle.vm_tree.proofs.Sparing.{free_written}
+use Rattle.vm_tree.proofs.Touching.{free_written}
 use Rattle.vm_tree.proofs.writing.write_free.Goals as goal
 
 pub returns-in-Ok-clause-taken : goal.returns-in-Ok-clause-taken

@@ -7,7 +7,7 @@ use Rattle.vm_tree.proofs.Rising.{rises_front, rises_back}
 use Rattle.vm_tree.proofs.Growing.{made_halves, made_moved, both_made}
 use Rattle.vm_alloc.proofs.HeldLemmas.{holds_more_then}
 use Rattle.vm_tree.proofs.Renewing.{renewed_more}
-use Rattle.vm_tree.proofs.Sparing.{held_kept}
+use Rattle.vm_tree.proofs.Touching.{held_kept}
 use Rattle.vm_tree.proofs.writing.write_nodes.Goals as goal
 
 pub returns-clause-made : goal.returns-clause-made

@@ -2,7 +2,7 @@ use Rattle.std.proofs.Common.{◌≡◌, Err, refl, subst, sym, ap, ◌∙◌, a
 use Rattle.vm_types.specs.declared.command.Command.TheVariants.{Remove}
 use Rattle.vm_types.specs.declared.refusal.Refusal.{Refusal}
 use Rattle.vm_types.specs.declared.refusal.Refusal.TheVariants.{NoSuchRecord}
-use Rattle.vm_disk.proofs.MomentLemmas.{at_end, reads_keep, spares_itself, started}
+use Rattle.vm_disk.proofs.MomentLemmas.{at_end, reads_keep, touches_nothing, started}
 use Rattle.vm_tree.specs.Free.{is_free}
 use Rattle.vm_tree.proofs.Looking.{passed_on}
 use Rattle.vm_store.specs.Answers.{IsAnswer}
@@ -50,7 +50,7 @@ returns-in_default-clause-carried g c honest s holds reason =
     let before = grown_of _ _ _ _ e.current _ (sym self.bits) found.stands.current in
     let removed = c.in_ok-removed.ensures.remove honest found.filed.current before.stands_in before.rooted in
     let missing = value_found _ _ _ _ _ _ s rests alt e is c.args.key None (sym (removed_none _ _ _ c.in_default.is removed)) in
-    let moments = reads_keep _ _ _ (c.remove_forgetting.ensures.kept.reads honest (c.in_ok-removed.was ∙ ap Ok c.in_default.is)) (spares_itself (is_free self.held) _) in
+    let moments = reads_keep _ _ _ (c.remove_forgetting.ensures.kept.reads honest (c.in_ok-removed.was ∙ ap Ok c.in_default.is)) (touches_nothing (is_free self.held) _) in
     let answers : (r : Refusal) → r ≡ NoSuchRecord → IsAnswer s (spare_of rests) ⊥ (Remove alt c.args.key) (Err r) = λ r same.
     subst (λ (r : Refusal). IsAnswer s (spare_of rests) ⊥ (Remove alt c.args.key) (Err r)) (sym same) (removes_missing s alt c.args.key _ _ missing) in
     wrote _ _ s holds (Remove alt c.args.key) _ (answers c.args.missing (for_reason reason (λ there. there (sym missing))))

@@ -1,19 +1,19 @@
 use Rattle.std.proofs.Common.{ap, ◌∷◌, []}
 use Rattle.vm_disk.proofs.MomentLemmas.{weaken, goes_on, at_end}
-use Rattle.vm_store.proofs.FormattingLemmas.{KeepsFirst, no_header, first_spared, first_kept, first_synced, laid_now, fresh_fits, top_is_name}
+use Rattle.vm_store.proofs.FormattingLemmas.{KeepsFirst, no_header, first_untouched, first_kept, first_synced, laid_now, fresh_fits, top_is_name}
 use Rattle.vm_store.proofs.store.formatting.lay_out.Goals as goal
 
 pub returns-in_default-select_slot-clause-moments : goal.returns-in_default-select_slot-clause-moments
 returns-in_default-select_slot-clause-moments g c honest clean none =
     let old = (g.D.Disk.state c.args.disk.now).now in
-    let written = weaken _ _ _ (KeepsFirst old) (λ m spares. first_spared old m clean spares) (c.write_slot.ensures.moments (c.select_slot.ensures.any.earlier honest)) in
+    let written = weaken _ _ _ (KeepsFirst old) (λ m spares. first_untouched old m clean spares) (c.write_slot.ensures.moments (c.select_slot.ensures.any.earlier honest)) in
     let select = c.select_slot.ensures.honest honest in
     weaken _ _ _ _ (λ m keeps. no_header c.args.blocks old m none keeps) (goes_on _ _ _ (KeepsFirst old) written select.time (first_kept _ _ old _ _ (at_end _ _ _ written) select))
 
 pub returns-clause-moments : goal.returns-clause-moments
 returns-clause-moments g c honest clean none =
     let old = (g.D.Disk.state c.args.disk.now).now in
-    let written = weaken _ _ _ (KeepsFirst old) (λ m spares. first_spared old m clean spares) (c.write_slot.ensures.moments (c.select_slot.ensures.any.earlier (c.sync.ensures.any.earlier honest))) in
+    let written = weaken _ _ _ (KeepsFirst old) (λ m spares. first_untouched old m clean spares) (c.write_slot.ensures.moments (c.select_slot.ensures.any.earlier (c.sync.ensures.any.earlier honest))) in
     let select = c.select_slot.ensures.honest (c.sync.ensures.any.earlier honest) in
     let chosen = goes_on _ _ _ (KeepsFirst old) written select.time (first_kept _ _ old _ _ (at_end _ _ _ written) select) in
     let sync = c.sync.ensures.honest honest in
