@@ -127,7 +127,7 @@ fn over_numbered(alloc: Global, count: usize) -> Result<FileDisk<Bytes>, Fail> {
 fn on_numbered<R: AllocGlobal + Abort>(rt: &R, count: usize, text: &str) -> Vec<u8> {
     match over_numbered(rt.alloc(), count) {
         Ok(mut disk) => {
-            plays(rt, &mut disk, text);
+            plays(rt, "over numbered blocks", &mut disk, text);
             disk.into_file().bytes
         }
         Err(_) => panic!(rt; "no disk"),
@@ -163,7 +163,7 @@ fn file_is_made_of_zero_blocks(rt: HostRuntime) -> Result<(), Fail> {
     let Ok(mut disk) = FileDisk::create(numbered(rt.alloc(), 0)?, 17) else {
         panic!(rt; "no disk");
     };
-    plays(&rt, &mut disk, "blocks -> 17");
+    plays(&rt, "of 17 blocks", &mut disk, "blocks -> 17");
     let file = disk.into_file();
     assert_eq!(rt; file.bytes.len(), 69632);
     assert!(rt; file.bytes.iter().all(|byte| *byte == 0));
@@ -193,7 +193,7 @@ fn file_without_room_gets_what_is_written(rt: HostRuntime) -> Result<(), Fail> {
         holds 18 -> 0
         grow 30
         blocks -> 30";
-    plays(&rt, &mut disk, row);
+    plays(&rt, "without room", &mut disk, row);
     Ok(())
 }
 
@@ -209,7 +209,7 @@ fn file_that_fails(rt: HostRuntime) -> Result<(), Fail> {
         sync -> fault
         grow 2 -> fault
         blocks -> 1";
-    plays(&rt, &mut disk, row);
+    plays(&rt, "each call fails", &mut disk, row);
     let file = disk.into_file();
     assert_eq!(rt; file.bytes.get(0).copied(), Some(1));
     let Err(file) = FileDisk::open(file) else {
@@ -267,12 +267,12 @@ fn system_file_holds_what_was_written(rt: HostRuntime) -> Result<(), Fail> {
         run 4 1 2 3
         forget 6
         sync";
-    plays(&rt, &mut disk, row);
+    plays(&rt, "as it is made", &mut disk, row);
     let _ = disk.into_file();
     let again = "
         blocks -> 17
         holds 0 3 4 5 7 15 16 -> 0 0 1 2 0 0 7";
-    plays(&rt, &mut opened(&rt, path)?, again);
+    plays(&rt, "opened again", &mut opened(&rt, path)?, again);
     fs::remove_file(&rt, path)?;
     Ok(())
 }
@@ -288,7 +288,7 @@ fn system_file_opened_to_read_is_never_written(rt: HostRuntime) -> Result<(), Fa
         run 0 4 5 6 -> fault
         sync
         holds 1 -> 7";
-    plays(&rt, &mut opened_to_read(&rt, path)?, row);
+    plays(&rt, "opened to read", &mut opened_to_read(&rt, path)?, row);
     fs::remove_file(&rt, path)?;
     assert!(rt; !is_opened_to_read(&rt, path));
     for path in [".", "/dev/null"] {

@@ -12,26 +12,20 @@ fn take_all(rt: &impl Abort, held: &mut Held, blocks: u32) {
 /// Takes all free blocks, which are those from `first` on, of so many in all.
 fn take_all_from(rt: &impl Abort, held: &mut Held, first: u32, blocks: u32) {
     for n in first..blocks {
-        assert_eq!(rt; held.take(), Some(n));
+        assert_eq!(rt; held.take(), Some(n), "of {blocks}");
     }
-    assert_eq!(rt; held.take(), None);
-    assert_eq!(rt; held.free_count(), 0);
+    assert_eq!(rt; held.take(), None, "of {blocks}");
+    assert_eq!(rt; held.free_count(), 0, "of {blocks}");
 }
 
 #[test]
-fn takes_every_block_of_one_word(rt: HostRuntime) -> Result<(), Fail> {
-    let mut held = Held::new(rt.alloc(), 64)?;
-    assert_eq!(rt; held.blocks(), 64);
-    assert_eq!(rt; held.free_count(), 30);
-    take_all(&rt, &mut held, 64);
-    Ok(())
-}
-
-#[test]
-fn takes_a_block_past_one_word(rt: HostRuntime) -> Result<(), Fail> {
-    let mut held = Held::new(rt.alloc(), 65)?;
-    assert_eq!(rt; held.free_count(), 31);
-    take_all(&rt, &mut held, 65);
+fn takes_every_block_of_one_word_and_past_it(rt: HostRuntime) -> Result<(), Fail> {
+    for (blocks, free) in [(64, 30), (65, 31)] {
+        let mut held = Held::new(rt.alloc(), blocks)?;
+        assert_eq!(rt; held.blocks(), blocks);
+        assert_eq!(rt; held.free_count(), free, "of {blocks}");
+        take_all(&rt, &mut held, blocks);
+    }
     Ok(())
 }
 

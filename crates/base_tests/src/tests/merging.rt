@@ -1,7 +1,9 @@
 //! Which conflicts there are, why settlements of them are refused, and what a merge takes by them.
 use super::spelled;
 use std::alloc::{AllocError, Global};
+use std::process::Abort;
 use std::test::Fail;
+use vm_types::Side::{Mine, Theirs};
 use vm_types::{
     Change, Changes, Conflict, Key, Refusal, Side, Value, changes_by_merge, conflicts_between,
     keys_in_conflict, settled_refusal,
@@ -47,11 +49,6 @@ fn rising() -> [Key; 3] {
     [key(2), key(4), key(6)]
 }
 
-/// The same ones in another order.
-fn mixed() -> [Key; 3] {
-    [key(6), key(2), key(4)]
-}
-
 /// A packed list of these changes.
 fn packed(alloc: Global, changes: &[Change]) -> Result<Changes, AllocError> {
     let mut list = Changes::new(alloc);
@@ -65,67 +62,94 @@ fn packed(alloc: Global, changes: &[Change]) -> Result<Changes, AllocError> {
     Ok(list)
 }
 
-#[test]
-fn takes_a_settlement_of_each_conflict(rt: HostRuntime) {
-    let settled = [mine(2), theirs(4), mine(6)];
-    assert!(rt; settled_refusal(rt.alloc(), &settled, &rising()).is_none());
-    assert!(rt; settled_refusal(rt.alloc(), &settled, &mixed()).is_none());
-    let unsorted = [theirs(4), mine(6), mine(2)];
-    assert!(rt; settled_refusal(rt.alloc(), &unsorted, &rising()).is_none());
-    assert!(rt; settled_refusal(rt.alloc(), &unsorted, &mixed()).is_none());
-    assert!(rt; settled_refusal(rt.alloc(), &[], &[]).is_none());
+/// The keys in conflict, by their numbers in table 1: by rising keys, and in another order.
+const RISING: &[u64] = &[2, 4, 6];
+
+const MIXED: &[u64] = &[6, 2, 4];
+
+/// Settlements of keys of table 1, and the keys in conflict: each of these is settled once.
+const TAKEN: [(&[(u64, Side)], &[u64]); 5] = [
+    (&[(2, Mine), (4, Theirs), (6, Mine)], RISING),
+    (&[(2, Mine), (4, Theirs), (6, Mine)], MIXED),
+    (&[(4, Theirs), (6, Mine), (2, Mine)], RISING),
+    (&[(4, Theirs), (6, Mine), (2, Mine)], MIXED),
+    (&[], &[]),
+];
+
+/// The same with the number of those that are not settled.
+const UNSETTLED: [(&[(u64, Side)], &[u64], u64); 7] = [
+    (&[(2, Mine), (4, Mine)], RISING, 1),
+    (&[(2, Mine), (6, Mine)], RISING, 1),
+    (&[(4, Mine), (6, Mine)], RISING, 1),
+    (&[(6, Mine), (4, Mine)], RISING, 1),
+    (&[(4, Mine), (6, Mine)], MIXED, 1),
+    (&[(6, Theirs)], RISING, 2),
+    (&[], RISING, 3),
+];
+
+/// The same with the first key that is settled, and is in no conflict.
+const IN_NO_CONFLICT: [(&[(u64, Side)], &[u64], u64); 6] = [
+    (&[(2, Mine), (3, Mine), (4, Mine), (5, Mine)], RISING, 3),
+    (&[(5, Mine), (4, Mine), (3, Mine), (2, Mine)], RISING, 5),
+    (&[(2, Mine), (3, Mine), (4, Mine), (5, Mine)], MIXED, 3),
+    (&[(1, Mine), (2, Mine)], RISING, 1),
+    (&[(2, Mine), (4, Mine), (6, Mine), (7, Mine)], RISING, 7),
+    (&[(2, Mine)], &[], 2),
+];
+
+/// The same with the first key that is settled twice.
+const TWICE: [(&[(u64, Side)], &[u64], u64); 4] = [
+    (&[(2, Mine), (4, Mine), (4, Mine), (6, Mine)], RISING, 4),
+    (&[(2, Mine), (4, Mine), (4, Theirs), (6, Mine)], RISING, 4),
+    (&[(4, Mine), (6, Mine), (2, Mine), (4, Mine)], RISING, 4),
+    (&[(3, Mine), (4, Mine), (4, Mine)], MIXED, 4),
+];
+
+/// Why these settlements are refused where these keys are in conflict.
+fn refusal(
+    alloc: Global,
+    settled: &[(u64, Side)],
+    conflicts: &[u64],
+) -> Result<Option<Refusal>, AllocError> {
+    let mut sides = Vec::new(alloc);
+    for (number, side) in settled {
+        sides.push((key(*number), *side))?;
+    }
+    let mut keys = Vec::new(alloc);
+    for number in conflicts {
+        keys.push(key(*number))?;
+    }
+    Ok(settled_refusal(alloc, &sides, &keys))
+}
+
+fn expect_refusal<R: AllocGlobal + Abort>(
+    rt: &R,
+    settled: &[(u64, Side)],
+    conflicts: &[u64],
+    due: Option<Refusal>,
+) {
+    match refusal(rt.alloc(), settled, conflicts) {
+        Ok(found) => assert_eq!(rt; found, due, "{settled:?} of {conflicts:?}"),
+        Err(_) => panic!(rt; "no memory"),
+    }
 }
 
 #[test]
-fn counts_the_conflicts_without_a_settlement(rt: HostRuntime) {
-    let one = Some(Refusal::Unsettled(1));
-    assert!(rt; settled_refusal(rt.alloc(), &[mine(2), mine(4)], &rising()) == one);
-    assert!(rt; settled_refusal(rt.alloc(), &[mine(2), mine(6)], &rising()) == one);
-    assert!(rt; settled_refusal(rt.alloc(), &[mine(4), mine(6)], &rising()) == one);
-    assert!(rt; settled_refusal(rt.alloc(), &[mine(6), mine(4)], &rising()) == one);
-    assert!(rt; settled_refusal(rt.alloc(), &[mine(4), mine(6)], &mixed()) == one);
-    assert!(rt;
-        settled_refusal(rt.alloc(), &[theirs(6)], &rising()) == Some(Refusal::Unsettled(2))
-    );
-    assert!(rt; settled_refusal(rt.alloc(), &[], &rising()) == Some(Refusal::Unsettled(3)));
-}
-
-#[test]
-fn names_the_first_settlement_that_is_in_no_conflict(rt: HostRuntime) {
-    let refused = |number| Some(Refusal::NotInConflict(key(number)));
-    assert!(rt;
-        settled_refusal(rt.alloc(), &[mine(2), mine(3), mine(4), mine(5)], &rising()) == refused(3)
-    );
-    assert!(rt;
-        settled_refusal(rt.alloc(), &[mine(5), mine(4), mine(3), mine(2)], &rising()) == refused(5)
-    );
-    assert!(rt;
-        settled_refusal(rt.alloc(), &[mine(2), mine(3), mine(4), mine(5)], &mixed()) == refused(3)
-    );
-    assert!(rt; settled_refusal(rt.alloc(), &[mine(1), mine(2)], &rising()) == refused(1));
-    assert!(rt;
-        settled_refusal(rt.alloc(), &[mine(2), mine(4), mine(6), mine(7)], &rising()) == refused(7)
-    );
-    assert!(rt; settled_refusal(rt.alloc(), &[mine(2)], &[]) == refused(2));
-}
-
-#[test]
-fn names_the_first_key_that_is_settled_twice(rt: HostRuntime) {
-    let refused = Some(Refusal::SettledTwice(key(4)));
-    assert!(rt;
-        settled_refusal(rt.alloc(), &[mine(2), mine(4), mine(4), mine(6)], &rising()) == refused
-    );
-    assert!(rt;
-        settled_refusal(
-            rt.alloc(),
-            &[mine(2), mine(4), theirs(4), mine(6)],
-            &rising()
-        ) == refused
-    );
-    assert!(rt;
-        settled_refusal(rt.alloc(), &[mine(4), mine(6), mine(2), mine(4)], &rising()) == refused
-    );
-    assert!(rt; settled_refusal(rt.alloc(), &[mine(3), mine(4), mine(4)], &mixed()) == refused);
+fn settlements_are_taken_or_refused(rt: HostRuntime) {
+    for (settled, conflicts) in &TAKEN {
+        expect_refusal(&rt, settled, conflicts, None);
+    }
+    for (settled, conflicts, count) in &UNSETTLED {
+        expect_refusal(&rt, settled, conflicts, Some(Refusal::Unsettled(*count)));
+    }
+    for (settled, conflicts, first) in &IN_NO_CONFLICT {
+        let due = Refusal::NotInConflict(key(*first));
+        expect_refusal(&rt, settled, conflicts, Some(due));
+    }
+    for (settled, conflicts, first) in &TWICE {
+        let due = Refusal::SettledTwice(key(*first));
+        expect_refusal(&rt, settled, conflicts, Some(due));
+    }
 }
 
 /// What the parent changed of a base, and what the alternative did.

@@ -225,8 +225,8 @@ fn play<D: Seen>(alloc: Global, disk: &mut D, step: &str, text: &mut String) -> 
     }
 }
 
-/// Plays the lines of a text, and compares each answer.
-pub(super) fn plays<D: Seen, R: AllocGlobal + Abort>(rt: &R, disk: &mut D, text: &str) {
+/// Plays the lines of a text, and compares each answer. A failure has the name of the row.
+pub(super) fn plays<D: Seen, R: AllocGlobal + Abort>(rt: &R, name: &str, disk: &mut D, text: &str) {
     for (n, line) in text.lines().enumerate() {
         let line = line.trim();
         if line.is_empty() || line.starts_with('#') {
@@ -235,42 +235,47 @@ pub(super) fn plays<D: Seen, R: AllocGlobal + Abort>(rt: &R, disk: &mut D, text:
         let (step, due) = line.split_once(" -> ").unwrap_or((line, "ok"));
         let mut text = String::new(rt.alloc());
         match play(rt.alloc(), disk, step, &mut text) {
-            Ok(()) => assert_eq!(rt; text.trim(), due.trim(), "line {n}: {line}"),
-            Err(wrong) => panic!(rt; "line {n}: {line}: {wrong:?}"),
+            Ok(()) => assert_eq!(rt; text.trim(), due.trim(), "{name}, line {n}: {line}"),
+            Err(wrong) => panic!(rt; "{name}, line {n}: {line}: {wrong:?}"),
         }
     }
 }
 
-/// Plays a text on a cache of a disk, and then one on the disk in memory below.
-pub(super) fn on_a_cache<D: OverMemory, R: AllocGlobal + Abort>(
-    rt: &R,
-    inner: D,
-    capacity: usize,
-    text: &str,
-    below: &str,
-) {
-    match cached(rt.alloc(), inner, capacity) {
+/// More calls than any row makes.
+pub(super) const NEVER: u32 = 99;
+
+/// What is played on a cache of a disk or on a late disk, and then on the disk in memory below.
+pub(super) struct Row {
+    pub(super) name: &'static str,
+    /// How many blocks the disk in memory has, and has room for.
+    pub(super) blocks: u32,
+    pub(super) room: u32,
+    /// Which of its calls fails, by its number from 0 on, where they are counted.
+    pub(super) fails: Option<u32>,
+    /// How many blocks the cache keeps, or may wait.
+    pub(super) capacity: usize,
+    pub(super) steps: &'static str,
+    pub(super) below: &'static str,
+}
+
+/// Plays a row on a cache of a disk.
+pub(super) fn on_a_cache<D: OverMemory, R: AllocGlobal + Abort>(rt: &R, inner: D, row: &Row) {
+    match cached(rt.alloc(), inner, row.capacity) {
         Ok(mut disk) => {
-            plays(rt, &mut disk, text);
-            plays(rt, &mut disk.into_inner().below(), below);
+            plays(rt, row.name, &mut disk, row.steps);
+            plays(rt, row.name, &mut disk.into_inner().below(), row.below);
         }
-        Err(_) => panic!(rt; "no cache"),
+        Err(_) => panic!(rt; "{}: no cache", row.name),
     }
 }
 
 /// The same on a late disk over it.
-pub(super) fn on_a_late_disk<D: OverMemory, R: AllocGlobal + Abort>(
-    rt: &R,
-    inner: D,
-    capacity: usize,
-    text: &str,
-    below: &str,
-) {
-    match late(rt.alloc(), inner, capacity) {
+pub(super) fn on_a_late_disk<D: OverMemory, R: AllocGlobal + Abort>(rt: &R, inner: D, row: &Row) {
+    match late(rt.alloc(), inner, row.capacity) {
         Ok(mut disk) => {
-            plays(rt, &mut disk, text);
-            plays(rt, &mut disk.into_inner().below(), below);
+            plays(rt, row.name, &mut disk, row.steps);
+            plays(rt, row.name, &mut disk.into_inner().below(), row.below);
         }
-        Err(_) => panic!(rt; "no late disk"),
+        Err(_) => panic!(rt; "{}: no late disk", row.name),
     }
 }

@@ -99,6 +99,18 @@ pub(super) fn memory_with_room(alloc: Global, blocks: u32, room: u32) -> Result<
     Ok(MemDisk::with_room(alloc, blocks, room)?)
 }
 
+/// A disk in memory that counts its calls, and fails one of them, by its number from 0 on.
+pub(super) fn fused(
+    memory: MemDisk,
+    call: u32,
+    torn: [u8; 4096],
+) -> Result<FuseDisk<MemDisk>, Fail> {
+    if call == u32::MAX {
+        return Err(Fail::new("too many calls"));
+    }
+    Ok(FuseDisk::once(memory, call, torn))
+}
+
 /// A cache of so many blocks of a disk.
 pub(super) fn cached<D: Disk + Drop>(
     alloc: Global,

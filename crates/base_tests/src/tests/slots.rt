@@ -14,24 +14,26 @@ const HEAD: SlotHead = SlotHead {
 
 #[test]
 fn head_of_a_slot_is_spelled_and_read(rt: HostRuntime) {
-    let mut bytes = [7; 128];
-    write_slot_head(HEAD, &mut bytes);
-    let mut due = [0; 128];
-    due[..16].copy_from_slice(b"SLOT\x01\0\0\0\x40\0\0\0\x01\0\0\0");
-    assert!(rt; bytes == due);
-    assert_eq!(rt; read_slot_head(&bytes), Some(HEAD));
-}
-
-#[test]
-fn head_of_format_2_is_spelled_and_read(rt: HostRuntime) {
-    let head = SlotHead {
-        format: SlotFormat::Two,
-        ..HEAD
-    };
-    let mut bytes = [7; 128];
-    write_slot_head(head, &mut bytes);
-    assert!(rt; bytes[..8] == b"SLOT\x02\0\0\0"[..]);
-    assert_eq!(rt; read_slot_head(&bytes), Some(head));
+    for (name, format, front) in [
+        (
+            "format 1",
+            SlotFormat::One,
+            b"SLOT\x01\0\0\0\x40\0\0\0\x01\0\0\0",
+        ),
+        (
+            "format 2",
+            SlotFormat::Two,
+            b"SLOT\x02\0\0\0\x40\0\0\0\x01\0\0\0",
+        ),
+    ] {
+        let head = SlotHead { format, ..HEAD };
+        let mut bytes = [7; 128];
+        write_slot_head(head, &mut bytes);
+        let mut due = [0; 128];
+        due[..16].copy_from_slice(front);
+        assert!(rt; bytes == due, "{name}");
+        assert_eq!(rt; read_slot_head(&bytes), Some(head), "{name}");
+    }
 }
 
 /// Whether the head of a slot is none once this byte is put at this place.

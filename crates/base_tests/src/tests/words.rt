@@ -69,39 +69,41 @@ fn names_are_ordered_by_their_bytes(rt: HostRuntime) {
     assert!(rt; Name::new(b"b") > long);
 }
 
+const KEY: Key = Key {
+    table: 7,
+    number: 1,
+};
+
+const REFUSALS: [(Refusal, u32, &str); 21] = [
+    (Refusal::NoSuchAlternative, 1, "1 NoSuchAlternative"),
+    (Refusal::AlternativeExists, 2, "2 AlternativeExists"),
+    (Refusal::NoSuchCheckpoint, 3, "3 NoSuchCheckpoint"),
+    (Refusal::CheckpointExists, 4, "4 CheckpointExists"),
+    (Refusal::NoSuchRecord, 5, "5 NoSuchRecord"),
+    (Refusal::IsTop, 6, "6 IsTop"),
+    (Refusal::HasChildren, 7, "7 HasChildren"),
+    (Refusal::NotMerged, 8, "8 NotMerged"),
+    (Refusal::Unsettled(1), 9, "9 Unsettled 1"),
+    (Refusal::NotInConflict(KEY), 10, "10 NotInConflict 7:1"),
+    (Refusal::SettledTwice(KEY), 11, "11 SettledTwice 7:1"),
+    (Refusal::TooMany, 12, "12 TooMany"),
+    (Refusal::Full, 13, "13 Full"),
+    (Refusal::Deep, 14, "14 Deep"),
+    (Refusal::Device, 15, "15 Device"),
+    (Refusal::Memory, 16, "16 Memory"),
+    (Refusal::Failed, 17, "17 Failed"),
+    (Refusal::Damaged(34), 18, "18 Damaged 34"),
+    (Refusal::NotAStore, 19, "19 NotAStore"),
+    (Refusal::AlreadyAStore, 20, "20 AlreadyAStore"),
+    (Refusal::BadSize, 21, "21 BadSize"),
+];
+
 #[test]
 fn refusal_is_written_with_its_number_and_name(rt: HostRuntime) -> Result<(), Fail> {
-    let rows = [
-        (Refusal::NoSuchAlternative, 1, "1 NoSuchAlternative"),
-        (Refusal::AlternativeExists, 2, "2 AlternativeExists"),
-        (Refusal::NoSuchCheckpoint, 3, "3 NoSuchCheckpoint"),
-        (Refusal::CheckpointExists, 4, "4 CheckpointExists"),
-        (Refusal::NoSuchRecord, 5, "5 NoSuchRecord"),
-        (Refusal::IsTop, 6, "6 IsTop"),
-        (Refusal::HasChildren, 7, "7 HasChildren"),
-        (Refusal::NotMerged, 8, "8 NotMerged"),
-        (Refusal::Unsettled(1), 9, "9 Unsettled 1"),
-        (
-            Refusal::NotInConflict(key(7, 1)),
-            10,
-            "10 NotInConflict 7:1",
-        ),
-        (Refusal::SettledTwice(key(7, 1)), 11, "11 SettledTwice 7:1"),
-        (Refusal::TooMany, 12, "12 TooMany"),
-        (Refusal::Full, 13, "13 Full"),
-        (Refusal::Deep, 14, "14 Deep"),
-        (Refusal::Device, 15, "15 Device"),
-        (Refusal::Memory, 16, "16 Memory"),
-        (Refusal::Failed, 17, "17 Failed"),
-        (Refusal::Damaged(34), 18, "18 Damaged 34"),
-        (Refusal::NotAStore, 19, "19 NotAStore"),
-        (Refusal::AlreadyAStore, 20, "20 AlreadyAStore"),
-        (Refusal::BadSize, 21, "21 BadSize"),
-    ];
-    for (refusal, code, due) in rows {
-        assert_eq!(rt; refusal.code(), code);
+    for (refusal, code, due) in &REFUSALS {
+        assert_eq!(rt; refusal.code(), *code);
         let text = format!(in rt.alloc(); "{refusal}")?;
-        assert_eq!(rt; text.as_str(), due);
+        assert_eq!(rt; text.as_str(), *due);
     }
     Ok(())
 }
