@@ -2,18 +2,6 @@
 use super::script::{SEVENTEEN, plays};
 use std::test::Fail;
 
-#[test]
-fn names_the_block_that_is_damaged(rt: HostRuntime) {
-    let row = "
-        write all 36 07
-        get 9 -> v
-        get 10 -> error Damaged 36
-        put 10 v -> error Damaged 36
-        remove 10 -> error Damaged 36
-        free -> 25";
-    plays(&rt, &[SEVENTEEN, row]);
-}
-
 /// A get, a put and a remove of record 10 each name the leaf that it lies in, and none of them
 /// takes or writes a block.
 const LEAF_IS_REFUSED: &str = "
@@ -44,7 +32,7 @@ fn refuses_a_block_of_another_head_or_first_key(rt: HostRuntime) -> Result<(), F
         "16:01000B00",
     ] {
         let spoil = format!(in rt.alloc(); "set 36 {spoiled}")?;
-        plays(&rt, &[SEVENTEEN, &spoil, LEAF_IS_REFUSED]);
+        plays(&rt, &spoil, &[SEVENTEEN, &spoil, LEAF_IS_REFUSED]);
     }
     for spoiled in [
         "0:4C454146",
@@ -56,16 +44,36 @@ fn refuses_a_block_of_another_head_or_first_key(rt: HostRuntime) -> Result<(), F
         "16:01000000",
     ] {
         let spoil = format!(in rt.alloc(); "set 37 {spoiled}")?;
-        plays(&rt, &[SEVENTEEN, &spoil, ROOT_IS_REFUSED]);
+        plays(&rt, &spoil, &[SEVENTEEN, &spoil, ROOT_IS_REFUSED]);
     }
-    plays(&rt, &[SEVENTEEN, "get 10 -> v"]);
+    plays(&rt, "as it was", &[SEVENTEEN, "get 10 -> v"]);
     Ok(())
 }
 
-#[test]
-fn refuses_another_leaf_in_the_place_of_a_leaf(rt: HostRuntime) {
-    plays(&rt, &[SEVENTEEN, "copy 36 35", LEAF_IS_REFUSED]);
+/// What stands in the place of the leaf of record 10, and what is answered then.
+const IN_ITS_PLACE: [(&str, &str, &str); 3] = [
+    (
+        "a block that is none of the tree",
+        "write all 36 07",
+        "
+        get 9 -> v
+        get 10 -> error Damaged 36
+        put 10 v -> error Damaged 36
+        remove 10 -> error Damaged 36
+        free -> 25",
+    ),
+    ("another leaf of the tree", "copy 36 35", LEAF_IS_REFUSED),
+    (
+        // The leaf as it was before record 10 came, and after it went.
+        "the leaf without record 10",
+        "write leaf 36 v 11 12",
+        LEAF_IS_REFUSED,
+    ),
+];
 
-    // The leaf as it was before record 10 came, and after it went.
-    plays(&rt, &[SEVENTEEN, "write leaf 36 v 11 12", LEAF_IS_REFUSED]);
+#[test]
+fn refuses_another_block_in_the_place_of_a_leaf(rt: HostRuntime) {
+    for (name, spoil, row) in &IN_ITS_PLACE {
+        plays(&rt, name, &[SEVENTEEN, *spoil, *row]);
+    }
 }

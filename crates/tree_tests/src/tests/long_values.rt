@@ -1,10 +1,12 @@
 //! Values of more than 240 bytes: their blocks, the leaves that link to them, and what reads them.
-use super::script::plays;
+use super::script::{BLANK, plays, plays_rows};
 
-#[test]
-fn takes_a_block_for_more_than_240_bytes(rt: HostRuntime) {
-    // The long block is taken first, then the leaf.
-    let row = "
+const CHANGES: [(&str, &str, &str); 5] = [
+    (
+        // The long block is taken first, then the leaf.
+        "takes a block for more than 240 bytes",
+        BLANK,
+        "
         put 1 240*a
         free -> 29
         letters 34 -> LEAF
@@ -19,13 +21,12 @@ fn takes_a_block_for_more_than_240_bytes(rt: HostRuntime) {
         letters 37 -> LONG
         leaf 38 -> 1=241@35 2=4000@37
         get 2 -> 4000*c
-        list -> 1=241*b 2=4000*c";
-    plays(&rt, &[row]);
-}
-
-#[test]
-fn spells_the_leaf_as_its_rows_ask(rt: HostRuntime) {
-    let row = "
+        list -> 1=241*b 2=4000*c",
+    ),
+    (
+        "spells the leaf as its rows ask",
+        BLANK,
+        "
         put 1 300*a
         free -> 28
         long 1 300@34 -> 300*a
@@ -41,13 +42,12 @@ fn spells_the_leaf_as_its_rows_ask(rt: HostRuntime) {
         letters 41 -> LEF2
         remove 2
         letters 42 -> LEAF
-        leaf 42 -> 1=duct";
-    plays(&rt, &[row]);
-}
-
-#[test]
-fn names_the_block_of_a_value_that_goes(rt: HostRuntime) {
-    let row = "
+        leaf 42 -> 1=duct",
+    ),
+    (
+        "names the block of a value that goes",
+        BLANK,
+        "
         put 1 300*a
         path -> none
         put 2 v
@@ -60,13 +60,53 @@ fn names_the_block_of_a_value_that_goes(rt: HostRuntime) {
         path -> 39 38
         remove 1
         path -> 41 40
-        root -> 42.0.2";
-    plays(&rt, &[row]);
-}
+        root -> 42.0.2",
+    ),
+    (
+        // Where the key is there, the leaf has room: a long block, a leaf and a root.
+        "takes no block where there is no room",
+        BLANK,
+        "
+        new 256
+        sizes 3 3 2
+        puts 1 7 v
+        free -> 209
+        sync
+        put 8 300*a -> error Deep
+        free -> 209
+        dirty -> none
+        put 7 300*a
+        free -> 206
+        root -> 49.1.1
+        get 7 -> 300*a",
+    ),
+    (
+        "holds a long value as long as a leaf links to it",
+        BLANK,
+        "
+        put 1 300*a
+        put 2 v
+        put 2 w
+        let go
+        free -> 28
+        take -> 35
+        put 1 v
+        let go
+        free -> 29
+        take -> 34",
+    ),
+];
 
 #[test]
-fn reads_a_long_value_only_to_give_it(rt: HostRuntime) {
-    let row = "
+fn takes_and_lets_go_of_blocks_of_long_values(rt: HostRuntime) {
+    plays_rows(&rt, &CHANGES);
+}
+
+const READS: [(&str, &str, &str); 3] = [
+    (
+        "reads a long value only to give it",
+        BLANK,
+        "
         put 1 300*a
         put 2 v
         calls -> 4
@@ -84,8 +124,34 @@ fn reads_a_long_value_only_to_give_it(rt: HostRuntime) {
         remove 1
         calls -> 2
         list -> 2=w
-        calls -> 1";
-    plays(&rt, &[row]);
+        calls -> 1",
+    ),
+    (
+        "answers that the device failed at a long value",
+        BLANK,
+        "
+        put 1 300*a
+        once 1
+        get 1 -> error Device
+        get 1 -> 300*a
+        once 1
+        list -> error Device
+        once 1
+        verify 35 -> error Device
+        verify 35 -> 35.0.1 marks 34 35 by 2",
+    ),
+    (
+        "finds no long value outside the blocks for data",
+        BLANK,
+        "
+        long 1 300@33 -> error Damaged 33
+        long 1 300@64 -> error Damaged 64",
+    ),
+];
+
+#[test]
+fn reads_long_values(rt: HostRuntime) {
+    plays_rows(&rt, &READS);
 }
 
 #[test]
@@ -103,17 +169,20 @@ fn names_the_block_that_has_no_such_value(rt: HostRuntime) {
             put 2 w
             remove 1
             list -> 2=w";
-        plays(&rt, &[row, spoil, damaged]);
+        plays(&rt, spoil, &[row, spoil, damaged]);
     }
-    plays(
-        &rt,
-        &["long 1 300@33 -> error Damaged 33\nlong 1 300@64 -> error Damaged 64"],
-    );
 }
 
-#[test]
-fn splits_a_leaf_with_its_long_row_on_the_left(rt: HostRuntime) {
-    let row = "
+/// A full leaf of short values.
+const FULL: &str = "
+    new 128
+    puts 1 16 v";
+
+const SPLITS: [(&str, &str, &str); 4] = [
+    (
+        "splits a leaf with its long row on the left",
+        BLANK,
+        "
         new 128
         put 1 300*a
         puts 2 15 v
@@ -129,13 +198,12 @@ fn splits_a_leaf_with_its_long_row_on_the_left(rt: HostRuntime) {
         letters 52 -> LEAF
         leaf 51 -> 1=300@34 2=v 3=v 4=v 5=v 6=v 7=v 8=v 9=v
         leaf 52 -> 10=v 11=v 12=v 13=v 14=v 15=v 16=v 17=v
-        get 2 -> v";
-    plays(&rt, &[row]);
-}
-
-#[test]
-fn splits_a_leaf_with_its_long_row_on_the_right(rt: HostRuntime) {
-    let row = "
+        get 2 -> v",
+    ),
+    (
+        "splits a leaf with its long row on the right",
+        BLANK,
+        "
         new 128
         puts 1 15 v
         put 16 300*a
@@ -147,58 +215,45 @@ fn splits_a_leaf_with_its_long_row_on_the_right(rt: HostRuntime) {
         letters 51 -> LEAF
         letters 52 -> LEF2
         leaf 52 -> 10=v 11=v 12=v 13=v 14=v 15=v 16=300@49 17=v
-        get 16 -> 300*a";
-    plays(&rt, &[row]);
-}
-
-#[test]
-fn splits_a_leaf_at_a_long_value_that_comes(rt: HostRuntime) {
-    // The long block is taken before the two leaves and the root.
-    let full = "
-        new 128
-        puts 1 16 v";
-    let last = "
+        get 16 -> 300*a",
+    ),
+    (
+        // The long block is taken before the two leaves and the root.
+        "splits a leaf at a long value that comes last",
+        FULL,
+        "
         put 17 300*a
         root -> 53.1.1
         free -> 74
         letters 50 -> LONG
         letters 51 -> LEAF
         letters 52 -> LEF2
-        leaf 52 -> 10=v 11=v 12=v 13=v 14=v 15=v 16=v 17=300@50";
-    let first = "
+        leaf 52 -> 10=v 11=v 12=v 13=v 14=v 15=v 16=v 17=300@50",
+    ),
+    (
+        "splits a leaf at a long value that comes first",
+        FULL,
+        "
         put 0 300*a
         root -> 53.1.0
         free -> 74
         letters 50 -> LONG
         letters 51 -> LEF2
         letters 52 -> LEAF
-        leaf 51 -> 0=300@50 1=v 2=v 3=v 4=v 5=v 6=v 7=v 8=v";
-    plays(&rt, &[full, last]);
-    plays(&rt, &[full, first]);
-}
+        leaf 51 -> 0=300@50 1=v 2=v 3=v 4=v 5=v 6=v 7=v 8=v",
+    ),
+];
 
 #[test]
-fn takes_no_block_where_there_is_no_room(rt: HostRuntime) {
-    // Where the key is there, the leaf has room: a long block, a leaf and a root.
-    let row = "
-        new 256
-        sizes 3 3 2
-        puts 1 7 v
-        free -> 209
-        sync
-        put 8 300*a -> error Deep
-        free -> 209
-        dirty -> none
-        put 7 300*a
-        free -> 206
-        root -> 49.1.1
-        get 7 -> 300*a";
-    plays(&rt, &[row]);
+fn splits_leaves_with_long_rows(rt: HostRuntime) {
+    plays_rows(&rt, &SPLITS);
 }
 
-#[test]
-fn finds_the_blocks_of_long_values_and_reads_each_once(rt: HostRuntime) {
-    let row = "
+const FOUND: [(&str, &str, &str); 4] = [
+    (
+        "finds the blocks of long values, and reads each once",
+        BLANK,
+        "
         new 64
         write long 35 1 300*a
         write rows 34 1=300@35
@@ -207,13 +262,12 @@ fn finds_the_blocks_of_long_values_and_reads_each_once(rt: HostRuntime) {
         write rows 36 1=300@35 2=v
         write leaf 37 v 3
         write node 38 1 1:36 3:37
-        verify 34 38 34 -> 34.0.1 38.1.1 34.0.1 marks 34 35 36 37 38 by 5";
-    plays(&rt, &[row]);
-}
-
-#[test]
-fn names_a_link_that_leads_to_no_such_value(rt: HostRuntime) {
-    let row = "
+        verify 34 38 34 -> 34.0.1 38.1.1 34.0.1 marks 34 35 36 37 38 by 5",
+    ),
+    (
+        "names a link that leads to no such value",
+        BLANK,
+        "
         new 64
         # Numbers that are out of range.
         write rows 34 1=300@33
@@ -241,13 +295,12 @@ fn names_a_link_that_leads_to_no_such_value(rt: HostRuntime) {
         write rows 34 1=300@33 2=300@64
         verify 34 -> error Damaged 33
         write node 36 1 2:34
-        verify 36 -> error Damaged 33";
-    plays(&rt, &[row]);
-}
-
-#[test]
-fn compares_a_long_value_that_was_met_before(rt: HostRuntime) {
-    let row = "
+        verify 36 -> error Damaged 33",
+    ),
+    (
+        "compares a long value that was met before",
+        BLANK,
+        "
         new 64
         write long 35 1 300*a
         # Two keys, in one leaf and in two trees, and two lengths.
@@ -263,13 +316,12 @@ fn compares_a_long_value_that_was_met_before(rt: HostRuntime) {
         verify 34 35 -> error Damaged 35
         write node 37 1 1:35
         verify 37 -> error Damaged 35
-        verify 34 37 -> error Damaged 35";
-    plays(&rt, &[row]);
-}
-
-#[test]
-fn names_a_leaf_with_a_long_value_where_none_is_allowed(rt: HostRuntime) {
-    let row = "
+        verify 34 37 -> error Damaged 35",
+    ),
+    (
+        "names a leaf with a long value where none is allowed",
+        BLANK,
+        "
         new 64
         write long 35 1 300*a
         write rows 34 1=300@35
@@ -284,71 +336,58 @@ fn names_a_leaf_with_a_long_value_where_none_is_allowed(rt: HostRuntime) {
         verify 38 -> 38.1.0 marks 35 36 37 38 by 4
         # All short.
         write leaf 37 v 1
-        strict 38 0 36 -> 38.1.0 none 36.0.0 marks 36 37 38 by 3";
-    plays(&rt, &[row]);
-}
+        strict 38 0 36 -> 38.1.0 none 36.0.0 marks 36 37 38 by 3",
+    ),
+];
 
 #[test]
-fn answers_that_the_device_failed_at_a_long_value(rt: HostRuntime) {
-    let row = "
-        put 1 300*a
-        once 1
-        get 1 -> error Device
-        get 1 -> 300*a
-        once 1
-        list -> error Device
-        once 1
-        verify 35 -> error Device
-        verify 35 -> 35.0.1 marks 34 35 by 2";
-    plays(&rt, &[row]);
+fn verifies_leaves_with_long_values(rt: HostRuntime) {
+    plays_rows(&rt, &FOUND);
 }
 
-#[test]
-fn marks_a_long_value_by_a_read_of_its_leaf(rt: HostRuntime) {
-    // Of the inner block and of the one leaf that is not plain; the long block itself is not read.
-    let long = "
+const MARKED: [(&str, &str, &str); 3] = [
+    (
+        // Of the inner block and of the one leaf that is not plain; the long block itself is not read.
+        "marks a long value by a read of its leaf",
+        BLANK,
+        "
         new 128
         put 1 300*a
         puts 2 16 v
-        mark 53.1.1 -> marks 34 51 52 53 by 2";
-    plays(&rt, &[long]);
-
-    // Where all leaves are plain, of the inner block.
-    let short = "
+        mark 53.1.1 -> marks 34 51 52 53 by 2",
+    ),
+    (
+        // Where all leaves are plain, of the inner block.
+        "reads no leaf where all are plain",
+        BLANK,
+        "
         new 128
         puts 1 17 v
-        mark 52.1.1 -> marks 50 51 52 by 1";
-    plays(&rt, &[short]);
-
-    // And where nothing is noted, of both leaves.
-    let row = "
+        mark 52.1.1 -> marks 50 51 52 by 1",
+    ),
+    (
+        // And where nothing is noted, of both leaves.
+        "reads each leaf where nothing is noted",
+        BLANK,
+        "
         new 128
         put 1 300*a
         puts 2 16 v
         once 1000
-        mark 53.1.1 -> marks 34 51 52 53 by 3";
-    plays(&rt, &[row]);
-}
+        mark 53.1.1 -> marks 34 51 52 53 by 3",
+    ),
+];
 
 #[test]
-fn holds_a_long_value_as_long_as_a_leaf_links_to_it(rt: HostRuntime) {
-    let row = "
-        put 1 300*a
-        put 2 v
-        put 2 w
-        let go
-        free -> 28
-        take -> 35
-        put 1 v
-        let go
-        free -> 29
-        take -> 34";
-    plays(&rt, &[row]);
+fn marks_the_blocks_of_long_values(rt: HostRuntime) {
+    plays_rows(&rt, &MARKED);
 }
 
-#[test]
-fn reads_no_long_value_that_both_maps_have_in_one_block(rt: HostRuntime) {
-    let row = "
+const DIFFERENCES: [(&str, &str, &str); 2] = [
+    (
+        "reads no long value that both maps have in one block",
+        BLANK,
+        "
         put 1 300*a
         put 2 v
         put 2 w
@@ -357,13 +396,12 @@ fn reads_no_long_value_that_both_maps_have_in_one_block(rt: HostRuntime) {
         differ 37.0.1 37.0.1 -> none by 0
         put 2 v
         differ 36.0.1 38.0.1 -> none by 2
-        same 36.0.1 38.0.1 -> yes by 2";
-    plays(&rt, &[row]);
-}
-
-#[test]
-fn compares_long_values_of_two_blocks(rt: HostRuntime) {
-    let row = "
+        same 36.0.1 38.0.1 -> yes by 2",
+    ),
+    (
+        "compares long values of two blocks",
+        BLANK,
+        "
         put 1 300*a
         put 1 300*a
         differ 35.0.1 37.0.1 -> none by 4
@@ -378,6 +416,11 @@ fn compares_long_values_of_two_blocks(rt: HostRuntime) {
         differ 41.0.1 42.0.1 -> 1=301*b>v by 3
         differ 42.0.1 41.0.1 -> 1=v>301*b by 3
         differ none 35.0.1 -> 1=~>300*a by 2
-        differ 35.0.1 none -> 1=300*a>~ by 2";
-    plays(&rt, &[row]);
+        differ 35.0.1 none -> 1=300*a>~ by 2",
+    ),
+];
+
+#[test]
+fn finds_differences_of_long_values(rt: HostRuntime) {
+    plays_rows(&rt, &DIFFERENCES);
 }

@@ -1,11 +1,13 @@
 //! Which blocks a put and a remove replace.
 //!
 //! After each of them the path has the blocks of the old one, and a marking from the new root finds none of those.
-use super::script::{FOREIGN, SEVENTEEN, plays};
+use super::script::{BLANK, FOREIGN, SEVENTEEN, plays_rows};
 
-#[test]
-fn replaces_the_one_leaf(rt: HostRuntime) {
-    let row = "
+const ROWS: [(&str, &str, &str); 4] = [
+    (
+        "replaces the one leaf",
+        BLANK,
+        "
         put 1 v
         path -> none
         root -> 34.0.1
@@ -23,14 +25,13 @@ fn replaces_the_one_leaf(rt: HostRuntime) {
         path -> 36
         root -> none
         remove 2 -> none
-        path -> none";
-    plays(&rt, &[row]);
-}
-
-#[test]
-fn replaces_a_leaf_and_the_root_above_it(rt: HostRuntime) {
-    // The first path is that of the put which split the one leaf.
-    let row = "
+        path -> none",
+    ),
+    (
+        // The first path is that of the put which split the one leaf.
+        "replaces a leaf and the root above it",
+        SEVENTEEN,
+        "
         path -> 34
         put 1 w
         path -> 35 37
@@ -41,13 +42,12 @@ fn replaces_a_leaf_and_the_root_above_it(rt: HostRuntime) {
         path -> 36 39
         root -> 35.1.1
         let go
-        mark 35.1.1 -> marks 34 35 38 by 0";
-    plays(&rt, &[SEVENTEEN, row]);
-}
-
-#[test]
-fn replaces_a_block_on_each_of_three_levels(rt: HostRuntime) {
-    let row = "
+        mark 35.1.1 -> marks 34 35 38 by 0",
+    ),
+    (
+        "replaces a block on each of three levels",
+        FOREIGN,
+        "
         write fan 35 256
         put 1 w
         path -> 34 35
@@ -58,14 +58,13 @@ fn replaces_a_block_on_each_of_three_levels(rt: HostRuntime) {
         mark 43.2.0 -> marks 34 37 39 41 42 43 by 3
         remove 1
         path -> 41 42 43
-        root -> 46.2.0";
-    plays(&rt, &[FOREIGN, row]);
-}
-
-#[test]
-fn names_the_path_alone_where_one_child_is_left(rt: HostRuntime) {
-    // The leaf that becomes the root was beside the path.
-    let row = "
+        root -> 46.2.0",
+    ),
+    (
+        // The leaf that becomes the root was beside the path.
+        "names the path alone where one child is left",
+        BLANK,
+        "
         new 256
         sizes 3 3 2
         puts 1 4 v
@@ -74,6 +73,11 @@ fn names_the_path_alone_where_one_child_is_left(rt: HostRuntime) {
         remove 2
         path -> 40 41
         root -> 38.0.3
-        mark 38.0.3 -> marks 38 by 0";
-    plays(&rt, &[row]);
+        mark 38.0.3 -> marks 38 by 0",
+    ),
+];
+
+#[test]
+fn replaces_the_blocks_of_the_path(rt: HostRuntime) {
+    plays_rows(&rt, &ROWS);
 }

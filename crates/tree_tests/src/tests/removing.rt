@@ -1,10 +1,12 @@
 //! What is dropped of a tree as records go.
-use super::script::{SEVENTEEN, plays};
+use super::script::{BLANK, SEVENTEEN, plays_rows};
 
-#[test]
-fn drops_an_empty_leaf_and_the_root_above_one_child(rt: HostRuntime) {
-    // Four puts take 1, 1, 1 and 3 of 222 blocks.
-    let row = "
+const ROWS: [(&str, &str, &str); 2] = [
+    (
+        // Four puts take 1, 1, 1 and 3 of 222 blocks.
+        "drops an empty leaf, and the root above one child",
+        BLANK,
+        "
         new 256
         sizes 3 3 2
         puts 1 4 v
@@ -21,13 +23,12 @@ fn drops_an_empty_leaf_and_the_root_above_one_child(rt: HostRuntime) {
         remove 4
         remove 3
         root -> none
-        remove 3 -> none";
-    plays(&rt, &[row]);
-}
-
-#[test]
-fn comes_back_to_the_first_leaf(rt: HostRuntime) {
-    let row = "
+        remove 3 -> none",
+    ),
+    (
+        "comes back to the first leaf",
+        SEVENTEEN,
+        "
         let go
         free -> 27
         remove 17
@@ -50,6 +51,11 @@ fn comes_back_to_the_first_leaf(rt: HostRuntime) {
         root -> 35.0.1
         free -> 25
         let go
-        free -> 29";
-    plays(&rt, &[SEVENTEEN, row]);
+        free -> 29",
+    ),
+];
+
+#[test]
+fn drops_blocks_as_records_go(rt: HostRuntime) {
+    plays_rows(&rt, &ROWS);
 }

@@ -55,6 +55,9 @@ use super::words::Wrong;
 use std::alloc::Global;
 use std::process::Abort;
 
+/// Nothing is done before.
+pub(super) const BLANK: &str = "";
+
 /// Sixteen records in block 34, with block 48 held beside it, and the seventeenth: leaves in blocks 35 and 36, and
 /// the root in 37.
 pub(super) const SEVENTEEN: &str = "
@@ -78,8 +81,8 @@ fn play(alloc: Global, bench: &mut Bench, step: &str) -> Result<String, Wrong> {
     answer(alloc, bench, &words)
 }
 
-/// Plays the lines of a text, and compares each answer.
-fn plays_lines<R: AllocGlobal + Abort>(rt: &R, bench: &mut Bench, text: &str) {
+/// Plays the lines of a text, and compares each answer. A failure has the name of the row.
+fn plays_lines<R: AllocGlobal + Abort>(rt: &R, name: &str, bench: &mut Bench, text: &str) {
     for (n, line) in text.lines().enumerate() {
         let line = line.trim();
         if line.is_empty() || line.starts_with('#') {
@@ -90,20 +93,27 @@ fn plays_lines<R: AllocGlobal + Abort>(rt: &R, bench: &mut Bench, text: &str) {
             Ok(given) => {
                 let given = given.trim();
                 let given = if given.is_empty() { "none" } else { given };
-                assert_eq!(rt; given, due.trim(), "line {n}: {line}");
+                assert_eq!(rt; given, due.trim(), "{name}, line {n}: {line}");
             }
-            Err(wrong) => panic!(rt; "line {n}: {line}: {wrong:?}"),
+            Err(wrong) => panic!(rt; "{name}, line {n}: {line}: {wrong:?}"),
         }
     }
 }
 
-/// Plays texts one after another, the first over a blank disk of 64 blocks.
-pub(super) fn plays<R: AllocGlobal + Abort>(rt: &R, texts: &[&str]) {
+/// Plays the texts of a row one after another, the first over a blank disk of 64 blocks.
+pub(super) fn plays<R: AllocGlobal + Abort>(rt: &R, name: &str, texts: &[&str]) {
     let mut bench = match Bench::new(rt.alloc(), 64) {
         Ok(blank) => blank,
-        Err(wrong) => panic!(rt; "{wrong:?}"),
+        Err(wrong) => panic!(rt; "{name}: {wrong:?}"),
     };
     for text in texts {
-        plays_lines(rt, &mut bench, text);
+        plays_lines(rt, name, &mut bench, text);
+    }
+}
+
+/// Plays rows. Each has a name, what it begins with, and its steps.
+pub(super) fn plays_rows<R: AllocGlobal + Abort>(rt: &R, rows: &[(&str, &str, &str)]) {
+    for (name, before, row) in rows {
+        plays(rt, name, &[*before, *row]);
     }
 }

@@ -1,10 +1,12 @@
 //! Where leaves and inner blocks are split, and which blocks a put takes.
-use super::script::{FOREIGN, SEVENTEEN, plays};
+use super::script::{BLANK, FOREIGN, SEVENTEEN, plays_rows};
 
-#[test]
-fn splits_small_leaves_until_there_is_no_room(rt: HostRuntime) {
-    // Of 222 blocks seven puts take 1, 1, 1, 3, 2, 3 and 2.
-    let row = "
+const ROWS: [(&str, &str, &str); 4] = [
+    (
+        // Of 222 blocks seven puts take 1, 1, 1, 3, 2, 3 and 2.
+        "splits small leaves until there is no room",
+        BLANK,
+        "
         new 256
         sizes 3 3 2
         puts 1 7 v
@@ -16,26 +18,24 @@ fn splits_small_leaves_until_there_is_no_room(rt: HostRuntime) {
         put 0 v
         leaves -> 3 2 3
         root -> 48.1.0
-        free -> 207";
-    plays(&rt, &[row]);
-}
-
-#[test]
-fn splits_at_the_seventeenth_record(rt: HostRuntime) {
-    let row = "
+        free -> 207",
+    ),
+    (
+        "splits at the seventeenth record",
+        SEVENTEEN,
+        "
         root -> 37.1.1
         free -> 25
         bytes 37 -> 0:4E4F444501 8:02 16:01 18:01 26:23 30:01 32:0A 40:24
         count 35 -> 9
-        count 36 -> 8";
-    plays(&rt, &[SEVENTEEN, row]);
-}
-
-#[test]
-fn splits_a_full_inner_block_in_129_and_128(rt: HostRuntime) {
-    // Of 17 records the left leaf has 9, and of 257 children the left block has 129; the left one
-    // of each pair was written first.
-    let row = "
+        count 36 -> 8",
+    ),
+    (
+        // Of 17 records the left leaf has 9, and of 257 children the left block has 129; the left one
+        // of each pair was written first.
+        "splits a full inner block in 129 and 128",
+        FOREIGN,
+        "
         write fan 35 256
         put 1 w
         free -> 23
@@ -52,13 +52,12 @@ fn splits_a_full_inner_block_in_129_and_128(rt: HostRuntime) {
         child 39 0 -> 4096:34
         child 39 127 -> 8160:34
         child 40 0 -> 0:38
-        child 40 1 -> 4096:39";
-    plays(&rt, &[FOREIGN, row]);
-}
-
-#[test]
-fn copies_a_root_of_one_child(rt: HostRuntime) {
-    let row = "
+        child 40 1 -> 4096:39",
+    ),
+    (
+        "copies a root of one child",
+        FOREIGN,
+        "
         write fan 35 1
         put 2 w
         free -> 26
@@ -66,6 +65,11 @@ fn copies_a_root_of_one_child(rt: HostRuntime) {
         count 37 -> 1
         child 37 0 -> 0:36
         count 36 -> 16
-        get 2 -> w";
-    plays(&rt, &[FOREIGN, row]);
+        get 2 -> w",
+    ),
+];
+
+#[test]
+fn splits_full_leaves_and_inner_blocks(rt: HostRuntime) {
+    plays_rows(&rt, &ROWS);
 }

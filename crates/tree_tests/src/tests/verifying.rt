@@ -1,30 +1,30 @@
 //! What is found under numbers, on disks whose blocks are written by hand.
-use super::script::plays;
+use super::script::{BLANK, plays_rows};
 
-#[test]
-fn finds_roots_and_marks_and_reads_each_block_once(rt: HostRuntime) {
-    let row = "
+const ROWS: [(&str, &str, &str); 6] = [
+    (
+        "finds roots and marks, and reads each block once",
+        BLANK,
+        "
         new 64
         write leaf 35 '' 1
         write leaf 36 '' 2
         write node 34 1 1:35 2:36
-        verify 34 0 36 34 -> 34.1.1 none 36.0.2 34.1.1 marks 34 35 36 by 3";
-    plays(&rt, &[row]);
-}
-
-#[test]
-fn takes_a_root_with_one_child(rt: HostRuntime) {
-    let row = "
+        verify 34 0 36 34 -> 34.1.1 none 36.0.2 34.1.1 marks 34 35 36 by 3",
+    ),
+    (
+        "takes a root with one child",
+        BLANK,
+        "
         new 64
         write leaf 35 '' 1
         write node 34 1 1:35
-        verify 34 -> 34.1.1 marks 34 35 by 2";
-    plays(&rt, &[row]);
-}
-
-#[test]
-fn names_the_first_block_that_is_wrong(rt: HostRuntime) {
-    let row = "
+        verify 34 -> 34.1.1 marks 34 35 by 2",
+    ),
+    (
+        "names the first block that is wrong",
+        BLANK,
+        "
         new 64
         # A block of zeros, and a key twice.
         verify 40 -> error Damaged 40
@@ -48,13 +48,12 @@ fn names_the_first_block_that_is_wrong(rt: HostRuntime) {
         verify 33 -> error Damaged 33
         verify 64 -> error Damaged 64
         write node 34 1 1:0
-        verify 34 -> error Damaged 0";
-    plays(&rt, &[row]);
-}
-
-#[test]
-fn compares_what_was_met_before(rt: HostRuntime) {
-    let row = "
+        verify 34 -> error Damaged 0",
+    ),
+    (
+        "compares what was met before",
+        BLANK,
+        "
         new 64
         # A block that is its own child, and two that are each other's.
         write node 34 1 1:34
@@ -73,13 +72,12 @@ fn compares_what_was_met_before(rt: HostRuntime) {
         verify 36 35 -> error Damaged 36
         # And as it should be.
         write node 35 1 1:36
-        verify 36 35 36 -> 36.0.1 35.1.1 36.0.1 marks 35 36 by 2";
-    plays(&rt, &[row]);
-}
-
-#[test]
-fn takes_trees_of_the_given_sizes_only(rt: HostRuntime) {
-    let row = "
+        verify 36 35 36 -> 36.0.1 35.1.1 36.0.1 marks 35 36 by 2",
+    ),
+    (
+        "takes trees of the given sizes only",
+        BLANK,
+        "
         new 64
         write leaf 35 '' 1 2
         write leaf 36 '' 3 4 5
@@ -92,18 +90,22 @@ fn takes_trees_of_the_given_sizes_only(rt: HostRuntime) {
         sizes 3 2 2
         verify 38 -> error Damaged 38
         sizes 3 3 1
-        verify 34 -> error Damaged 34";
-    plays(&rt, &[row]);
-}
-
-#[test]
-fn stops_where_the_device_fails(rt: HostRuntime) {
-    let row = "
+        verify 34 -> error Damaged 34",
+    ),
+    (
+        "stops where the device fails",
+        BLANK,
+        "
         new 64
         write leaf 35 '' 1
         write node 34 1 1:35
         once 1
         verify 34 -> error Device
-        verify 34 -> 34.1.1 marks 34 35 by 2";
-    plays(&rt, &[row]);
+        verify 34 -> 34.1.1 marks 34 35 by 2",
+    ),
+];
+
+#[test]
+fn finds_what_lies_under_numbers(rt: HostRuntime) {
+    plays_rows(&rt, &ROWS);
 }
