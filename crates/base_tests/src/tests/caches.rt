@@ -3,7 +3,7 @@ use super::script::{NEVER, Row, on_a_cache};
 use super::seen::{fused, memory_with_room};
 use std::test::Fail;
 
-const ROWS: [Row; 8] = [
+const ROWS: [Row; 9] = [
     Row {
         name: "drops a forgotten block",
         blocks: 4,
@@ -71,6 +71,33 @@ const ROWS: [Row; 8] = [
             calls -> 4
             hand 35 -> 0
             calls -> 5",
+        below: "",
+    },
+    Row {
+        name: "keeps no block that is needed once",
+        blocks: 64,
+        room: 64,
+        fails: Some(6),
+        capacity: 2,
+        steps: "
+            holds 34 35 -> 0 0
+            calls -> 2
+            once 36 37 36 -> 0 0 0
+            calls -> 5
+            # None went for them.
+            holds 34 35 -> 0 0
+            calls -> 5
+            # Block 34 is kept, and is now used last: 35 goes.
+            once 34 -> 0
+            holds 36 -> 0
+            calls -> 6
+            once 37 -> fault
+            calls -> 7
+            holds 34 36 -> 0 0
+            calls -> 7
+            once 35 37 -> 0 0
+            hand 34 36 -> 0 0
+            calls -> 9",
         below: "",
     },
     Row {

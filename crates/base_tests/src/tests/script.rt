@@ -12,6 +12,7 @@
 //! | `sync` | `ok` |
 //! | `holds 0 2` | `0 7`: the byte that fills each of these blocks, or `mixed` |
 //! | `hand 0 2` | `0 7`: the same, of each block at hand |
+//! | `once 0 2` | `0 7`: the same, where each is needed once |
 //! | `is 2 7` | `yes`: whether each byte of block 2 is 7 |
 //! | `blocks` | `5`: how many the disk has |
 //! | `sure` | `3`: how many of the disk in memory below a crash leaves at least |
@@ -132,25 +133,24 @@ fn filling<D: Disk>(disk: &mut D, n: u32) -> Result<Option<u8>, Wrong> {
 }
 
 /// The same, as it is at hand.
-fn filling_at_hand<D: Disk>(disk: &mut D, n: u32) -> Result<Option<u8>, Wrong> {
+fn filling_at_hand<D: Disk>(disk: &mut D, n: u32, need: Need) -> Result<Option<u8>, Wrong> {
     if n >= disk.blocks() {
         return Err(Wrong::Unreadable);
     }
-    disk.load(n, Need::Again)?;
+    disk.load(n, need)?;
     Ok(byte_in(disk.at_hand()))
 }
 
 fn fillings<D: Disk>(
     disk: &mut D,
     blocks: &[&str],
-    at_hand: bool,
+    at_hand: Option<Need>,
     text: &mut String,
 ) -> Result<(), Wrong> {
     for n in blocks {
-        let found = if at_hand {
-            filling_at_hand(disk, number(n)?)?
-        } else {
-            filling(disk, number(n)?)?
+        let found = match at_hand {
+            Some(need) => filling_at_hand(disk, number(n)?, need)?,
+            None => filling(disk, number(n)?)?,
         };
         match found {
             Some(byte) => write!(text, " {byte}")?,
@@ -185,8 +185,9 @@ fn count<D: Seen>(disk: &D, of: &str) -> Option<u32> {
 /// Adds what the disk holds to a text.
 fn look<D: Seen>(disk: &mut D, words: &[&str], text: &mut String) -> Result<(), Wrong> {
     match words {
-        ["holds", blocks @ ..] => fillings(disk, blocks, false, text),
-        ["hand", blocks @ ..] => fillings(disk, blocks, true, text),
+        ["holds", blocks @ ..] => fillings(disk, blocks, None, text),
+        ["hand", blocks @ ..] => fillings(disk, blocks, Some(Need::Again), text),
+        ["once", blocks @ ..] => fillings(disk, blocks, Some(Need::Once), text),
         ["dirty", blocks @ ..] => dirty(disk, blocks, text),
         ["is", n, due] => {
             let found = filling(disk, number(n)?)?;
