@@ -1,13 +1,16 @@
 //! How many device calls each call makes: none reads or writes a block twice without need.
 use super::records::TWO_RECORDS;
-use super::script::{DUCT, NEW, SEVENTEEN, from_disk, in_memory};
+use super::script::{DUCT, NEW, Row, SEVENTEEN, each_in_memory, from_disk, in_memory};
 use super::settling::CONFLICT;
 use std::test::Fail;
 use vm_disk::MemDisk;
 
-#[test]
-fn calls_of_format_open_and_commit(rt: HostRuntime) {
-    let row = "
+/// Opening the store of `duct` makes five device calls: a sync, and four reads. So does opening that of two records.
+const CALLS: &[Row] = &[
+    (
+        "format, open and commit",
+        "",
+        "
         format 64
         calls -> 7
         open
@@ -16,13 +19,12 @@ fn calls_of_format_open_and_commit(rt: HostRuntime) {
         open
         commit
         close
-        calls -> 19";
-    in_memory(&rt, &[row]);
-}
-
-#[test]
-fn calls_of_get_and_put_at_a_leaf(rt: HostRuntime) {
-    let row = "
+        calls -> 19",
+    ),
+    (
+        "get and put at a leaf",
+        DUCT,
+        "
         open
         get top 7:1 -> duct
         close
@@ -30,32 +32,85 @@ fn calls_of_get_and_put_at_a_leaf(rt: HostRuntime) {
         open
         put top 7:1 pipe
         close
-        calls -> 13";
-    in_memory(&rt, &[DUCT, row]);
-}
-
-/// Opening the store makes five device calls: a sync, and four reads.
-#[test]
-fn calls_of_remove_at_a_leaf(rt: HostRuntime) {
-    let one_of_two = "
+        calls -> 13",
+    ),
+    (
+        "remove of one of two records at a leaf",
+        TWO_RECORDS,
+        "
         open
         remove top 7:2
         close
-        calls -> 8";
-    let absent = "
+        calls -> 8",
+    ),
+    (
+        "remove of an absent record at a leaf",
+        DUCT,
+        "
         open
         remove top 7:2 -> error 5 NoSuchRecord
         close
-        calls -> 6";
-    let last = "
+        calls -> 6",
+    ),
+    (
+        "remove of the last record at a leaf",
+        DUCT,
+        "
         open
         remove top 7:1
         close
         calls -> 7
-        dirty -> none";
-    in_memory(&rt, &[TWO_RECORDS, one_of_two]);
-    in_memory(&rt, &[DUCT, absent]);
-    in_memory(&rt, &[DUCT, last]);
+        dirty -> none",
+    ),
+    // Opening makes four device calls, and the thirteen Puts 25. The second Remove looks first, since
+    // it may have to mark blocks. It does, which ends the series, and goes on with one of its own.
+    (
+        "remove with fewer than 17 free blocks looks first",
+        NEW,
+        "
+        puts top 1:1 13 v
+        free -> 17
+        remove top 1:1
+        free -> 16
+        remove top 1:2
+        free -> 28
+        remove top 1:3
+        free -> 27
+        close
+        # 4 + 25 + 2 + 3 + 2
+        calls -> 36",
+    ),
+    // The Put reads and writes a root and a leaf. The Merge reads these two and the two before them,
+    // and then reads and writes a root and a leaf. Its base is the parent's map from then on.
+    (
+        "merge reads only what differs",
+        SEVENTEEN,
+        "
+        open
+        put top 1:1 w
+        merge spur -> ok 1
+        post spur
+        close
+        # 7 + (2 + 2) + (4 + 2 + 2)
+        calls -> 19",
+    ),
+    // Opening makes seven device calls, and the Merge reads two blocks for what either side changed.
+    // It reads its own block once more, and writes the lowest one that is free.
+    (
+        "merge of one record writes one leaf",
+        CONFLICT,
+        "
+        open
+        merge a 1:1=theirs -> ok 1
+        close
+        calls -> 13
+        dirty -> 37",
+    ),
+];
+
+#[test]
+fn calls_are_counted(rt: HostRuntime) {
+    each_in_memory(&rt, CALLS);
 }
 
 /// Opening the store makes five device calls. A Put reads and writes a leaf. So does a Remove,
@@ -68,7 +123,7 @@ fn remove_in_a_series_reads_its_leaf_once(rt: HostRuntime) {
         "remove top 7:2",
         "remove top 7:9 -> error 5 NoSuchRecord",
     ];
-    for (one, two, three, calls) in [
+    for (one, two, three, calls) in &[
         (remove, "", "", "calls -> 8"),
         (remove, "remove top 7:1", "", "calls -> 9"),
         (put, remove, "", "calls -> 9"),
@@ -94,29 +149,10 @@ fn remove_in_a_series_reads_its_leaf_once(rt: HostRuntime) {
     }
 }
 
-/// Opening makes four device calls, and the thirteen Puts 25. The second Remove looks first, since
-/// it may have to mark blocks. It does, which ends the series, and goes on with one of its own.
-#[test]
-fn remove_with_fewer_than_17_free_blocks_looks_first(rt: HostRuntime) {
-    let row = "
-        puts top 1:1 13 v
-        free -> 17
-        remove top 1:1
-        free -> 16
-        remove top 1:2
-        free -> 28
-        remove top 1:3
-        free -> 27
-        close
-        # 4 + 25 + 2 + 3 + 2
-        calls -> 36";
-    in_memory(&rt, &[NEW, row]);
-}
-
 /// Each Remove and each Put reads two blocks of the path, and writes two.
 #[test]
 fn remove_in_a_series_reads_a_path_of_two_levels_once(rt: HostRuntime) {
-    for (first, calls) in [
+    for (first, calls) in &[
         ("", "calls -> 13"),
         ("remove top 1:16", "calls -> 17"),
         ("put top 1:1 w", "calls -> 15"),
@@ -141,7 +177,7 @@ fn remove_in_a_series_reads_a_path_of_three_levels_once(rt: HostRuntime) -> Resu
         anew
         open
         free -> 1754";
-    for (first, calls) in [
+    for (first, calls) in &[
         ("", "calls -> 273"),
         ("remove top 1:2", "calls -> 279"),
         ("put top 1:2 w", "calls -> 276"),
@@ -174,24 +210,9 @@ fn each_block_is_read_and_written_once(rt: HostRuntime) {
         ("merge spur -> ok 0", "calls -> 7"),
         ("post spur", "calls -> 7"),
     ];
-    for (call, calls) in due {
+    for (call, calls) in &due {
         in_memory(&rt, &[SEVENTEEN, "open", call, "close", calls]);
     }
-}
-
-/// The Put reads and writes a root and a leaf. The Merge reads these two and the two before them,
-/// and then reads and writes a root and a leaf. Its base is the parent's map from then on.
-#[test]
-fn merge_reads_only_what_differs(rt: HostRuntime) {
-    let row = "
-        open
-        put top 1:1 w
-        merge spur -> ok 1
-        post spur
-        close
-        # 7 + (2 + 2) + (4 + 2 + 2)
-        calls -> 19";
-    in_memory(&rt, &[SEVENTEEN, row]);
 }
 
 /// Opening makes seven device calls. Each Merge reads two blocks for what either side changed. One
@@ -202,7 +223,7 @@ fn merge_that_changes_nothing_writes_nothing(rt: HostRuntime) {
         close
         calls -> 11
         dirty -> none";
-    for merge in [
+    for merge in &[
         "merge a 1:1=theirs 1:1=theirs -> error 11 SettledTwice 1:1",
         "merge a 1:1=theirs 1:17=theirs -> error 10 NotInConflict 1:17",
         "merge a -> error 9 Unsettled 1",
@@ -210,16 +231,4 @@ fn merge_that_changes_nothing_writes_nothing(rt: HostRuntime) {
     ] {
         in_memory(&rt, &[CONFLICT, "open", merge, after]);
     }
-}
-
-/// It reads its own block once more, and writes the lowest one that is free.
-#[test]
-fn merge_of_one_record_writes_one_leaf(rt: HostRuntime) {
-    let row = "
-        open
-        merge a 1:1=theirs -> ok 1
-        close
-        calls -> 13
-        dirty -> 37";
-    in_memory(&rt, &[CONFLICT, row]);
 }

@@ -1,5 +1,5 @@
 //! A crash in a command or after one, and what is shown afterwards.
-use super::script::{DUCT, in_memory, on_both};
+use super::script::{DUCT, Row, each_on_both, in_memory, on_both};
 
 /// A Commit of `duct` that is stopped inside the write of the selector, which is device call 15:
 /// formatting and opening take eleven, the Put writes block 34, and the Commit writes block 18,
@@ -51,10 +51,12 @@ fn selector_that_was_torn_to_an_even_byte_names_slot_a(rt: HostRuntime) {
     in_memory(&rt, &[row]);
 }
 
-/// The second Commit writes block 2, syncs, writes block 1, and its last sync is device call 22.
-#[test]
-fn commit_whose_last_sync_fails_may_be_shown(rt: HostRuntime) {
-    let row = "
+const LAST_SYNC_FAILS: &[Row] = &[
+    // The second Commit writes block 2, syncs, writes block 1, and its last sync is device call 22.
+    (
+        "commit whose last sync fails may be shown",
+        "",
+        "
         once 21
         format 64
         open
@@ -74,8 +76,38 @@ fn commit_whose_last_sync_fails_may_be_shown(rt: HostRuntime) {
         crash 34=FF
         open
         get top 7:1 -> pipe
-        get top 7:2 -> ~";
-    on_both(&rt, &[row]);
+        get top 7:2 -> ~",
+    ),
+    // Opening the store of `duct` makes five device calls, the Put two, and the Commit four. `pipe` is
+    // in block 35 then: the second Put takes block 34, and the Remove block 36.
+    (
+        "what was removed and not committed leaves no trace",
+        DUCT,
+        "
+        once 10
+        open
+        put top 7:1 pipe
+        commit -> error 15 Device
+        get top 7:1 -> error 17 Failed
+        close
+        anew
+        open
+        get top 7:1 -> pipe
+        put top 7:2 x
+        remove top 7:2
+        get top 7:2 -> ~
+        close
+        dirty -> 34 36
+        crash all=FF
+        open
+        get top 7:1 -> pipe
+        get top 7:2 -> ~",
+    ),
+];
+
+#[test]
+fn commit_whose_last_sync_fails_may_be_shown(rt: HostRuntime) {
+    each_on_both(&rt, LAST_SYNC_FAILS);
 }
 
 #[test]
@@ -90,7 +122,7 @@ fn put_that_is_not_committed_is_gone_after_a_crash(rt: HostRuntime) {
     let after = "
         open
         get top 7:1 -> duct";
-    for crash in ["crash 35=00", "crash 35=FF"] {
+    for crash in &["crash 35=00", "crash 35=FF"] {
         on_both(&rt, &[row, crash, after]);
     }
 }
@@ -110,7 +142,7 @@ fn crash_after_a_closing_shows_what_was_committed(rt: HostRuntime) {
         get top 7:1 -> duct
         get top 7:2 -> ~
         get spur 7:1 -> error 1 NoSuchAlternative";
-    for crash in ["crash all=00", "crash all=41", "crash all=FF"] {
+    for crash in &["crash all=00", "crash all=41", "crash all=FF"] {
         in_memory(&rt, &[DUCT, row, crash, after]);
     }
 }
@@ -130,37 +162,11 @@ fn slot_that_is_not_in_use_may_be_torn(rt: HostRuntime) {
     let after = "
         open
         get top 7:1 -> duct";
-    for (stop, torn) in [
+    for (stop, torn) in &[
         ("stop 18 00 00", "block 2 -> none"),
         ("stop 18 41 41", "block 2 -> all=41"),
         ("stop 18 FF FF", "block 2 -> all=FF"),
     ] {
         on_both(&rt, &[stop, row, torn, after]);
     }
-}
-
-/// Opening the store of `duct` makes five device calls, the Put two, and the Commit four. `pipe` is
-/// in block 35 then: the second Put takes block 34, and the Remove block 36.
-#[test]
-fn what_was_removed_and_not_committed_leaves_no_trace_after_a_stop(rt: HostRuntime) {
-    let row = "
-        once 10
-        open
-        put top 7:1 pipe
-        commit -> error 15 Device
-        get top 7:1 -> error 17 Failed
-        close
-        anew
-        open
-        get top 7:1 -> pipe
-        put top 7:2 x
-        remove top 7:2
-        get top 7:2 -> ~
-        close
-        dirty -> 34 36
-        crash all=FF
-        open
-        get top 7:1 -> pipe
-        get top 7:2 -> ~";
-    on_both(&rt, &[DUCT, row]);
 }

@@ -1,29 +1,92 @@
 //! A device that fails at one call: what is answered then, and what goes on.
 use super::records::TWO_RECORDS;
-use super::script::{DUCT, in_memory, on_both};
+use super::script::{DUCT, Row, each_in_memory, each_on_both, in_memory};
 use super::settling::CONFLICT;
 
 /// Opening the store of `duct` makes five device calls: a sync, and four reads.
-#[test]
-fn get_goes_on_after_a_failed_read(rt: HostRuntime) {
-    let row = "
+const ON_BOTH: &[Row] = &[
+    (
+        "get goes on after a failed read",
+        DUCT,
+        "
         once 5
         open
         get top 7:1 -> error 15 Device
-        get top 7:1 -> duct";
-    on_both(&rt, &[DUCT, row]);
-}
+        get top 7:1 -> duct",
+    ),
+    (
+        "store fails after a failed write",
+        DUCT,
+        "
+        once 6
+        open
+        put top 7:1 pipe -> error 15 Device
+        put top 7:1 pipe -> error 17 Failed
+        commit -> error 17 Failed
+        get top 7:1 -> error 17 Failed
+        close
+        calls -> 7
+        anew
+        open
+        get top 7:1 -> duct",
+    ),
+];
 
-#[test]
-fn list_goes_on_after_a_failed_read(rt: HostRuntime) {
-    let row = "
+const IN_MEMORY: &[Row] = &[
+    (
+        "list goes on after a failed read",
+        DUCT,
+        "
         once 5
         open
         list top -> error 15 Device
         list top -> 7:1=duct
         close
-        calls -> 7";
-    in_memory(&rt, &[DUCT, row]);
+        calls -> 7",
+    ),
+    // The write of the first Put fails.
+    (
+        "failed store lists no records",
+        DUCT,
+        "
+        once 6
+        open
+        put top 7:1 pipe -> error 15 Device
+        list top -> error 17 Failed
+        close
+        calls -> 7",
+    ),
+    (
+        "failed store lists no names",
+        DUCT,
+        "
+        once 6
+        open
+        put top 7:1 pipe -> error 15 Device
+        alts -> error 17 Failed
+        checks top -> error 17 Failed
+        new a top -> error 17 Failed",
+    ),
+    (
+        "failed store has no count",
+        DUCT,
+        "
+        once 6
+        open
+        reclaim
+        put top 7:1 pipe -> error 15 Device
+        free -> error 17 Failed
+        blocks -> error 17 Failed
+        reclaim -> error 17 Failed
+        close
+        calls -> 7",
+    ),
+];
+
+#[test]
+fn store_goes_on_after_a_failed_read_and_fails_after_a_failed_write(rt: HostRuntime) {
+    each_on_both(&rt, ON_BOTH);
+    each_in_memory(&rt, IN_MEMORY);
 }
 
 /// `changes` reads two blocks, and `conflicts` four.
@@ -34,7 +97,7 @@ fn differences_go_on_after_a_failed_read(rt: HostRuntime) {
         conflicts a -> error 15 Device
         conflicts a -> 1:1=x/z/y
         close";
-    for (fails, calls) in [
+    for (fails, calls) in &[
         ("once 7", "calls -> 12"),
         ("once 8", "calls -> 13"),
         ("once 9", "calls -> 14"),
@@ -47,62 +110,9 @@ fn differences_go_on_after_a_failed_read(rt: HostRuntime) {
         changes a -> error 15 Device
         changes a -> 1:1=x/y
         close";
-    for (fails, calls) in [("once 7", "calls -> 10"), ("once 8", "calls -> 11")] {
+    for (fails, calls) in &[("once 7", "calls -> 10"), ("once 8", "calls -> 11")] {
         in_memory(&rt, &[CONFLICT, fails, changes, calls]);
     }
-}
-
-#[test]
-fn store_fails_after_a_failed_write(rt: HostRuntime) {
-    let row = "
-        once 6
-        open
-        put top 7:1 pipe -> error 15 Device
-        put top 7:1 pipe -> error 17 Failed
-        commit -> error 17 Failed
-        get top 7:1 -> error 17 Failed
-        close
-        calls -> 7
-        anew
-        open
-        get top 7:1 -> duct";
-    on_both(&rt, &[DUCT, row]);
-}
-
-/// The write of the first Put fails.
-#[test]
-fn failed_store_lists_nothing(rt: HostRuntime) {
-    let row = "
-        once 6
-        open
-        put top 7:1 pipe -> error 15 Device
-        list top -> error 17 Failed
-        close
-        calls -> 7";
-    in_memory(&rt, &[DUCT, row]);
-    let row = "
-        once 6
-        open
-        put top 7:1 pipe -> error 15 Device
-        alts -> error 17 Failed
-        checks top -> error 17 Failed
-        new a top -> error 17 Failed";
-    in_memory(&rt, &[DUCT, row]);
-}
-
-#[test]
-fn failed_store_has_no_count(rt: HostRuntime) {
-    let row = "
-        once 6
-        open
-        reclaim
-        put top 7:1 pipe -> error 15 Device
-        free -> error 17 Failed
-        blocks -> error 17 Failed
-        reclaim -> error 17 Failed
-        close
-        calls -> 7";
-    in_memory(&rt, &[DUCT, row]);
 }
 
 #[test]
@@ -115,7 +125,7 @@ fn store_fails_after_a_failed_remove(rt: HostRuntime) {
         anew
         open
         get top 7:2 -> x";
-    for fails in ["once 5", "once 6", "once 7"] {
+    for fails in &["once 5", "once 6", "once 7"] {
         in_memory(&rt, &[TWO_RECORDS, fails, row]);
     }
 }
@@ -138,7 +148,7 @@ fn store_fails_after_a_failed_merge(rt: HostRuntime) {
         open
         get a 1:1 -> y
         merge a 1:1=theirs -> ok 1";
-    for (fails, calls) in [
+    for (fails, calls) in &[
         ("once 7", "calls -> 8"),
         ("once 8", "calls -> 9"),
         ("once 9", "calls -> 10"),

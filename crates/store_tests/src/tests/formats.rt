@@ -1,5 +1,5 @@
 //! What the blocks of a store hold, and what formatting refuses.
-use super::script::{DUCT, on_both};
+use super::script::{DUCT, Row, each_on_both, on_both};
 
 /// `ALTSTORE`, one and the size of a block; the selector of slot B; both slots, which begin with
 /// `SLOT`, two and 64 blocks, with the entry of `top`, whose root is none in slot A and block 34 in
@@ -12,29 +12,25 @@ const BLOCKS: &str = "
     block 18 -> 0:534C4F5402 8:40 12:01 128:4103746F70 195:22
     block 34 -> 0:4C454146 8:01 16:07 18:01 26:04 28:64756374";
 
-#[test]
-fn commit_leaves_header_selector_slots_and_leaf(rt: HostRuntime) {
-    on_both(&rt, &[DUCT, BLOCKS]);
-}
-
-#[test]
-fn format_leaves_a_store_as_it_was(rt: HostRuntime) {
-    on_both(&rt, &[DUCT, "format 64 -> error 20 AlreadyAStore", BLOCKS]);
-}
-
-#[test]
-fn format_refuses_a_bad_size(rt: HostRuntime) {
-    let row = "
+const ON_BOTH: &[Row] = &[
+    (
+        "commit leaves header, selector, slots and leaf",
+        DUCT,
+        BLOCKS,
+    ),
+    (
+        "format refuses a bad size",
+        "",
+        "
         format 0 -> error 21 BadSize
         format 63 -> error 21 BadSize
         format 65 -> error 21 BadSize
-        format 1048577 -> error 21 BadSize";
-    on_both(&rt, &[row]);
-}
-
-#[test]
-fn odd_selector_names_slot_b(rt: HostRuntime) {
-    let row = "
+        format 1048577 -> error 21 BadSize",
+    ),
+    (
+        "odd selector names slot b",
+        DUCT,
+        "
         set 1 0:A5
         open
         get top 7:1 -> duct
@@ -44,6 +40,16 @@ fn odd_selector_names_slot_b(rt: HostRuntime) {
         block 2 -> 0:534C4F5402 8:40 12:01 128:4103746F70 195:22
         anew
         open
-        get top 7:1 -> duct";
-    on_both(&rt, &[DUCT, row]);
+        get top 7:1 -> duct",
+    ),
+];
+
+#[test]
+fn format_commit_and_opening_agree(rt: HostRuntime) {
+    each_on_both(&rt, ON_BOTH);
+}
+
+#[test]
+fn format_leaves_a_store_as_it_was(rt: HostRuntime) {
+    on_both(&rt, &[DUCT, "format 64 -> error 20 AlreadyAStore", BLOCKS]);
 }

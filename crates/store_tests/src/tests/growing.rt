@@ -1,10 +1,16 @@
 //! A store that gets more blocks, on a disk with room for them, on one without, and on one that has them.
-use super::script::{DUCT, NEW, in_memory, on_both, with_room};
+use super::script::{
+    DUCT, NEW, RoomRow, Row, each_in_memory, each_on_both, each_with_room, with_room,
+};
 
-/// The device calls are those of the opening.
-#[test]
-fn bad_size_changes_nothing(rt: HostRuntime) {
-    let row = "
+/// Growths that are refused, or not committed.
+const NOT_COMMITTED: &[RoomRow] = &[
+    // The device calls are those of the opening.
+    (
+        "bad size changes nothing",
+        128,
+        NEW,
+        "
         grow 64 -> error 21 BadSize
         grow 63 -> error 21 BadSize
         grow 1048577 -> error 21 BadSize
@@ -14,15 +20,15 @@ fn bad_size_changes_nothing(rt: HostRuntime) {
         free -> 30
         close
         calls -> 4
-        dirty -> none";
-    with_room(&rt, 128, &[NEW, row]);
-}
-
-/// Of 128 blocks 34 are the store's own. The Put takes block 34, and the crash takes the new blocks
-/// away.
-#[test]
-fn growth_that_is_not_committed_is_gone_after_a_crash(rt: HostRuntime) {
-    let row = "
+        dirty -> none",
+    ),
+    // Of 128 blocks 34 are the store's own. The Put takes block 34, and the crash takes the new blocks
+    // away.
+    (
+        "growth that is not committed is gone after a crash",
+        128,
+        NEW,
+        "
         grow 128
         blocks -> 128
         free -> 94
@@ -43,14 +49,14 @@ fn growth_that_is_not_committed_is_gone_after_a_crash(rt: HostRuntime) {
         open
         blocks -> 128
         free -> 93
-        list top -> 1:1=x";
-    with_room(&rt, 128, &[NEW, row]);
-}
-
-/// The disk keeps the blocks that it got, so the second Grow makes no device call.
-#[test]
-fn growth_that_is_not_committed_is_gone_after_closing(rt: HostRuntime) {
-    let row = "
+        list top -> 1:1=x",
+    ),
+    // The disk keeps the blocks that it got, so the second Grow makes no device call.
+    (
+        "growth that is not committed is gone after closing",
+        128,
+        NEW,
+        "
         grow 128
         close
         calls -> 5
@@ -62,15 +68,49 @@ fn growth_that_is_not_committed_is_gone_after_closing(rt: HostRuntime) {
         blocks -> 128
         free -> 94
         close
-        calls -> 4";
-    with_room(&rt, 128, &[NEW, row]);
+        calls -> 4",
+    ),
+    // A crash has left 6 of 16 new blocks. Opening makes five device calls.
+    (
+        "blocks that a crash has left are used",
+        80,
+        DUCT,
+        "
+        open
+        grow 80
+        close
+        short 70 all=41
+        open
+        blocks -> 64
+        grow 66
+        grow 70
+        close
+        calls -> 5
+        anew
+        open
+        grow 66
+        grow 80
+        free -> 45
+        close
+        calls -> 6
+        dirty -> 70 71 72 73 74 75 76 77 78 79",
+    ),
+];
+
+#[test]
+fn growth_counts_from_its_commit_on(rt: HostRuntime) {
+    each_with_room(&rt, NOT_COMMITTED);
 }
 
-/// Block 0 has no number of blocks. Slot A, which the Commit writes, has 80, which is 50 in
-/// hexadecimal digits, and slot B has 64 as before.
-#[test]
-fn commit_writes_the_new_number_of_blocks(rt: HostRuntime) {
-    let row = "
+/// What becomes of new blocks.
+const USED: &[RoomRow] = &[
+    // Block 0 has no number of blocks. Slot A, which the Commit writes, has 80, which is 50 in
+    // hexadecimal digits, and slot B has 64 as before.
+    (
+        "commit writes the new number of blocks",
+        80,
+        DUCT,
+        "
         open
         grow 80
         commit
@@ -78,14 +118,14 @@ fn commit_writes_the_new_number_of_blocks(rt: HostRuntime) {
         block 0 -> 0:414C5453544F524501 13:10
         block 1 -> none
         block 2 -> 0:534C4F5402 8:50 12:01 128:4103746F70 195:22
-        block 18 -> 0:534C4F5402 8:40 12:01 128:4103746F70 195:22";
-    with_room(&rt, 80, &[DUCT, row]);
-}
-
-/// The checkpoints keep the blocks 34 to 73, and the last two Puts take 74 and 75.
-#[test]
-fn new_blocks_are_taken_kept_and_found_again(rt: HostRuntime) {
-    let row = "
+        block 18 -> 0:534C4F5402 8:40 12:01 128:4103746F70 195:22",
+    ),
+    // The checkpoints keep the blocks 34 to 73, and the last two Puts take 74 and 75.
+    (
+        "new blocks are taken, kept and found again",
+        96,
+        NEW,
+        "
         grow 96
         kept top 1:1 v 40
         put top 1:2 w
@@ -102,15 +142,15 @@ fn new_blocks_are_taken_kept_and_found_again(rt: HostRuntime) {
         free -> 21
         list top -> 1:1=v 1:2=x
         back top k040
-        list top -> 1:1=v";
-    with_room(&rt, 96, &[NEW, row]);
-}
-
-/// 30 blocks are for data. Each of the 14 checkpoints keeps one, so 16 are spare, and one more with
-/// the new one.
-#[test]
-fn growth_makes_room_for_a_put(rt: HostRuntime) {
-    let row = "
+        list top -> 1:1=v",
+    ),
+    // 30 blocks are for data. Each of the 14 checkpoints keeps one, so 16 are spare, and one more with
+    // the new one.
+    (
+        "growth makes room for a put",
+        65,
+        NEW,
+        "
         kept top 1:1 v 14
         commit
         put top 1:1 v -> error 13 Full
@@ -119,39 +159,15 @@ fn growth_makes_room_for_a_put(rt: HostRuntime) {
         free -> 17
         put top 1:1 v
         free -> 16
-        put top 1:1 v -> error 13 Full";
-    with_room(&rt, 65, &[NEW, row]);
-}
-
-/// Opening makes four device calls.
-#[test]
-fn store_fails_where_the_disk_has_no_room(rt: HostRuntime) {
-    let row = "
-        grow 65 -> error 15 Device
-        grow 65 -> error 17 Failed
-        grow 64 -> error 17 Failed
-        blocks -> error 17 Failed
-        free -> error 17 Failed
-        close
-        calls -> 5
-        anew
-        open
-        blocks -> 64
-        free -> 30";
-    on_both(&rt, &[NEW, row]);
-}
-
-/// It is no bad size.
-#[test]
-fn store_may_ask_for_as_many_blocks_as_one_may_have(rt: HostRuntime) {
-    in_memory(&rt, &[NEW, "grow 1048576 -> error 15 Device"]);
-}
-
-/// The store is on the first 64 of 130 blocks. There is room for 140, and only for more than 130
-/// the disk is asked.
-#[test]
-fn growth_within_the_disk_makes_no_device_call(rt: HostRuntime) {
-    let row = "
+        put top 1:1 v -> error 13 Full",
+    ),
+    // The store is on the first 64 of 130 blocks. There is room for 140, and only for more than 130
+    // the disk is asked.
+    (
+        "growth within the disk makes no device call",
+        140,
+        "",
+        "
         longer 130
         format 64
         anew
@@ -174,8 +190,7 @@ fn growth_within_the_disk_makes_no_device_call(rt: HostRuntime) {
         free -> 97
         close
         calls -> 5
-        dirty -> 130";
-    let committed = "
+        dirty -> 130
         anew
         open
         grow 100
@@ -188,39 +203,14 @@ fn growth_within_the_disk_makes_no_device_call(rt: HostRuntime) {
         free -> 65
         list top -> 1:1=x
         grow 140
-        free -> 105";
-    with_room(&rt, 140, &[row, committed]);
-}
-
-/// A crash has left 6 of 16 new blocks. Opening makes five device calls.
-#[test]
-fn blocks_that_a_crash_has_left_are_used(rt: HostRuntime) {
-    let row = "
-        open
-        grow 80
-        close
-        short 70 all=41
-        open
-        blocks -> 64
-        grow 66
-        grow 70
-        close
-        calls -> 5
-        anew
-        open
-        grow 66
-        grow 80
-        free -> 45
-        close
-        calls -> 6
-        dirty -> 70 71 72 73 74 75 76 77 78 79";
-    with_room(&rt, 80, &[DUCT, row]);
-}
-
-/// Two Puts write the blocks 34 and 35.
-#[test]
-fn growth_stands_among_other_commands(rt: HostRuntime) {
-    let row = "
+        free -> 105",
+    ),
+    // Two Puts write the blocks 34 and 35.
+    (
+        "growth stands among other commands",
+        128,
+        NEW,
+        "
         run put top 1:1 x ; grow 128 ; grow 128 ; put top 1:2 y ; commit \
             -> ok ; ok ; error 21 BadSize ; ok ; ok ; end
         blocks -> 128
@@ -229,23 +219,15 @@ fn growth_stands_among_other_commands(rt: HostRuntime) {
         open
         blocks -> 128
         free -> 93
-        list top -> 1:1=x 1:2=y";
-    with_room(&rt, 128, &[NEW, row]);
-}
-
-#[test]
-fn list_ends_where_the_disk_has_no_room(rt: HostRuntime) {
-    let row = "
-        run put top 1:1 x ; grow 65 ; commit -> ok ; error 15 Device ; Device
-        run grow 65 -> Failed";
-    in_memory(&rt, &[NEW, row]);
-}
-
-/// Puts and the Merge write the blocks 34 to 38. The checkpoint keeps block 34, and all else is in
-/// block 38.
-#[test]
-fn growth_is_no_part_of_an_alternative_or_a_checkpoint(rt: HostRuntime) {
-    let row = "
+        list top -> 1:1=x 1:2=y",
+    ),
+    // Puts and the Merge write the blocks 34 to 38. The checkpoint keeps block 34, and all else is in
+    // block 38.
+    (
+        "growth is no part of an alternative or a checkpoint",
+        130,
+        NEW,
+        "
         put top 1:1 x
         checkpoint top c
         grow 128
@@ -270,8 +252,55 @@ fn growth_is_no_part_of_an_alternative_or_a_checkpoint(rt: HostRuntime) {
         free -> 94
         alts -> top
         checks top -> c
-        list top -> 1:1=x 1:2=z 1:3=w";
-    with_room(&rt, 130, &[NEW, row]);
+        list top -> 1:1=x 1:2=z 1:3=w",
+    ),
+];
+
+#[test]
+fn new_blocks_are_as_the_others(rt: HostRuntime) {
+    each_with_room(&rt, USED);
+}
+
+const NO_ROOM_ON_BOTH: &[Row] = &[
+    // Opening makes four device calls.
+    (
+        "store fails where the disk has no room",
+        NEW,
+        "
+        grow 65 -> error 15 Device
+        grow 65 -> error 17 Failed
+        grow 64 -> error 17 Failed
+        blocks -> error 17 Failed
+        free -> error 17 Failed
+        close
+        calls -> 5
+        anew
+        open
+        blocks -> 64
+        free -> 30",
+    ),
+];
+
+const NO_ROOM_IN_MEMORY: &[Row] = &[
+    // It is no bad size.
+    (
+        "store may ask for as many blocks as one may have",
+        NEW,
+        "grow 1048576 -> error 15 Device",
+    ),
+    (
+        "list ends where the disk has no room",
+        NEW,
+        "
+        run put top 1:1 x ; grow 65 ; commit -> ok ; error 15 Device ; Device
+        run grow 65 -> Failed",
+    ),
+];
+
+#[test]
+fn store_fails_where_the_disk_has_no_room(rt: HostRuntime) {
+    each_on_both(&rt, NO_ROOM_ON_BOTH);
+    each_in_memory(&rt, NO_ROOM_IN_MEMORY);
 }
 
 /// What is shown after a crash before the Commit of a growth, and the same once more without a
@@ -314,14 +343,14 @@ fn crash_before_the_first_sync_shows_the_old_number_of_blocks(rt: HostRuntime) {
         commit -> error 15 Device
         blocks -> error 17 Failed
         close";
-    for (stop, row) in [
+    for (stop, row) in &[
         ("anew", closed),
         ("stop 6 41 41", in_the_put),
         ("stop 7 41 41", in_the_put),
         ("stop 8 41 41", in_the_commit),
         ("stop 9 41 41", in_the_commit),
     ] {
-        for crash in [
+        for crash in &[
             "short 64",
             "short 64 all=41",
             "short 65 all=00",
@@ -350,7 +379,7 @@ fn crash_after_the_first_sync_shows_either_number_of_blocks(rt: HostRuntime) {
         blocks -> 80
         free -> 45
         list top -> 7:1=duct 7:2=pipe";
-    for (stop, crash, shown) in [
+    for (stop, crash, shown) in &[
         ("stop 10 A5 00", "crash", AS_BEFORE),
         ("stop 10 FE 00", "crash", as_committed),
         ("stop 11 41 41", "crash 1=01", AS_BEFORE),
@@ -370,7 +399,7 @@ fn growth_that_the_device_fails_changes_nothing(rt: HostRuntime) {
         close
         calls -> 6
         crash all=41";
-    for fails in ["once 5", "stop 5 41 41"] {
+    for fails in &["once 5", "stop 5 41 41"] {
         with_room(&rt, 80, &[DUCT, fails, row, AS_BEFORE]);
     }
 }

@@ -6,7 +6,7 @@ mod damage;
 mod formats;
 mod merging;
 
-use super::script::{NEW, on_both, on_each, with_room};
+use super::script::{NEW, Row, each_on_both, on_both, on_each, with_room};
 use vm_types::Value;
 
 #[test]
@@ -24,17 +24,70 @@ fn value_has_up_to_4000_bytes(rt: HostRuntime) {
     }
 }
 
-#[test]
-fn reclaim_frees_the_block_of_a_long_value(rt: HostRuntime) {
-    let row = "
+const ON_BOTH: &[Row] = &[
+    (
+        "reclaim frees the block of a long value",
+        NEW,
+        "
         put top 7:1 61*300
         free -> 28
         put top 7:1 duct
         free -> 27
         reclaim
         free -> 29
-        get top 7:1 -> duct";
-    on_both(&rt, &[NEW, row]);
+        get top 7:1 -> duct",
+    ),
+    (
+        "value of zeros keeps its length",
+        NEW,
+        "
+        put top 1:1 00*241
+        put top 1:2 00*4000
+        put top 1:3 00*240
+        commit
+        close
+        anew
+        open
+        get top 1:1 -> 00*241
+        look top 1:2 -> 00*4000
+        list top -> 1:1=00*241 1:2=00*4000 1:3=00*240",
+    ),
+    // Each Put takes two of the thirty blocks, and the checkpoint keeps them: seven leave 16.
+    (
+        "full is answered where fewer than 17 blocks are spare",
+        NEW,
+        "
+        kept top 1:1 61*300 7
+        free -> 16
+        commit
+        put top 1:1 61*300 -> error 13 Full
+        remove top 1:1 -> error 13 Full
+        uncheck top k001
+        put top 1:1 v -> error 13 Full
+        commit
+        put top 1:1 61*300
+        free -> 16
+        get top 1:1 -> 61*300",
+    ),
+    (
+        "commands with long values stand in a list",
+        NEW,
+        "
+        run put top 1:1 61*300 ; new a top ; put a 1:1 62*4000 ; post a ; remove top 1:2 ; commit \
+            -> ok ; ok ; ok ; ok ; error 5 NoSuchRecord ; ok ; end
+        close
+        anew
+        open
+        free -> 28
+        list top -> 1:1=62*4000
+        list a -> 1:1=62*4000
+        changes a -> none",
+    ),
+];
+
+#[test]
+fn long_values_are_put_and_freed(rt: HostRuntime) {
+    each_on_both(&rt, ON_BOTH);
 }
 
 /// A value of 240 bytes is in its leaf.
@@ -45,7 +98,7 @@ fn values_of_each_size_are_there_after_opening(rt: HostRuntime) {
         close
         crash all=41
         open";
-    for (put, shown, free, blocks) in [
+    for (put, shown, free, blocks) in &[
         (
             "put top 7:1 61*240",
             "list top -> 7:1=61*240",
@@ -72,55 +125,6 @@ fn values_of_each_size_are_there_after_opening(rt: HostRuntime) {
             &[NEW, put, shown, free, after, shown, free, "close", blocks],
         );
     }
-}
-
-#[test]
-fn value_of_zeros_keeps_its_length(rt: HostRuntime) {
-    let row = "
-        put top 1:1 00*241
-        put top 1:2 00*4000
-        put top 1:3 00*240
-        commit
-        close
-        anew
-        open
-        get top 1:1 -> 00*241
-        look top 1:2 -> 00*4000
-        list top -> 1:1=00*241 1:2=00*4000 1:3=00*240";
-    on_both(&rt, &[NEW, row]);
-}
-
-/// Each Put takes two of the thirty blocks, and the checkpoint keeps them: seven leave 16.
-#[test]
-fn full_is_answered_where_fewer_than_17_blocks_are_spare(rt: HostRuntime) {
-    let row = "
-        kept top 1:1 61*300 7
-        free -> 16
-        commit
-        put top 1:1 61*300 -> error 13 Full
-        remove top 1:1 -> error 13 Full
-        uncheck top k001
-        put top 1:1 v -> error 13 Full
-        commit
-        put top 1:1 61*300
-        free -> 16
-        get top 1:1 -> 61*300";
-    on_both(&rt, &[NEW, row]);
-}
-
-#[test]
-fn commands_with_long_values_stand_in_a_list(rt: HostRuntime) {
-    let row = "
-        run put top 1:1 61*300 ; new a top ; put a 1:1 62*4000 ; post a ; remove top 1:2 ; commit \
-            -> ok ; ok ; ok ; ok ; error 5 NoSuchRecord ; ok ; end
-        close
-        anew
-        open
-        free -> 28
-        list top -> 1:1=62*4000
-        list a -> 1:1=62*4000
-        changes a -> none";
-    on_both(&rt, &[NEW, row]);
 }
 
 /// The Puts of twenty checkpoints take the blocks 34 to 73, the value before the leaf, and the last one

@@ -1,10 +1,13 @@
 //! A store on a disk that has more blocks than the store, and that a crash may leave shorter.
-use super::script::{DUCT, with_room};
+use super::script::{DUCT, RoomRow, each_with_room, with_room};
 
-/// The disk was made longer behind the store's back: its blocks from 64 on are none of the store's.
-#[test]
-fn a_longer_disk_shows_the_same_store(rt: HostRuntime) {
-    let row = "
+const ON_LONGER_DISKS: &[RoomRow] = &[
+    // The disk was made longer behind the store's back: its blocks from 64 on are none of the store's.
+    (
+        "a longer disk shows the same store",
+        80,
+        DUCT,
+        "
         longer 80
         dirty -> 64 65 66 67 68 69 70 71 72 73 74 75 76 77 78 79
         open
@@ -19,8 +22,26 @@ fn a_longer_disk_shows_the_same_store(rt: HostRuntime) {
         open
         list top -> 7:1=duct 7:2=pipe
         # Both records lie in one leaf, as the only block of 30.
-        free -> 29";
-    with_room(&rt, 80, &[DUCT, row]);
+        free -> 29",
+    ),
+    (
+        "a disk gets no longer than its room",
+        80,
+        DUCT,
+        "
+        longer 81 -> fault
+        open
+        get top 7:1 -> duct
+        close
+        longer 80
+        longer 80
+        longer 81 -> fault",
+    ),
+];
+
+#[test]
+fn a_store_is_the_same_on_a_longer_disk(rt: HostRuntime) {
+    each_with_room(&rt, ON_LONGER_DISKS);
 }
 
 /// The rest of a row, after a crash that left some of the new blocks.
@@ -39,7 +60,7 @@ const ONLY_DUCT: &str = "
 
 #[test]
 fn a_crash_that_takes_new_blocks_shows_what_was_committed(rt: HostRuntime) {
-    for crash in [
+    for crash in &[
         "short 64 all=41",
         "short 65 all=41",
         "short 79",
@@ -47,17 +68,4 @@ fn a_crash_that_takes_new_blocks_shows_what_was_committed(rt: HostRuntime) {
     ] {
         with_room(&rt, 80, &[DUCT, "longer 80", crash, ONLY_DUCT]);
     }
-}
-
-#[test]
-fn a_disk_gets_no_longer_than_its_room(rt: HostRuntime) {
-    let row = "
-        longer 81 -> fault
-        open
-        get top 7:1 -> duct
-        close
-        longer 80
-        longer 80
-        longer 81 -> fault";
-    with_room(&rt, 80, &[DUCT, row]);
 }

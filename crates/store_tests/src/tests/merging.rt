@@ -1,9 +1,11 @@
 //! What a Merge answers, and what it leaves in both alternatives.
-use super::script::{NEW, in_memory, on_both};
+use super::script::{NEW, Row, each_in_memory, each_on_both};
 
-#[test]
-fn conflict_is_settled_by_the_parents_value(rt: HostRuntime) {
-    let row = "
+const ON_BOTH: &[Row] = &[
+    (
+        "conflict is settled by the parent's value",
+        NEW,
+        "
         new a top
         put top 1:1 x
         put a 1:1 y
@@ -12,13 +14,12 @@ fn conflict_is_settled_by_the_parents_value(rt: HostRuntime) {
         merge a 1:1=theirs -> ok 1
         get a 1:1 -> x
         post a
-        get top 1:1 -> x";
-    on_both(&rt, &[NEW, row]);
-}
-
-#[test]
-fn conflict_is_settled_by_ones_own_value(rt: HostRuntime) {
-    let row = "
+        get top 1:1 -> x",
+    ),
+    (
+        "conflict is settled by one's own value",
+        NEW,
+        "
         put top 1:1 x
         new a top
         remove top 1:1
@@ -27,13 +28,12 @@ fn conflict_is_settled_by_ones_own_value(rt: HostRuntime) {
         merge a 1:1=mine -> ok 0
         get a 1:1 -> y
         post a
-        get top 1:1 -> y";
-    on_both(&rt, &[NEW, row]);
-}
-
-#[test]
-fn equal_changes_are_in_no_conflict(rt: HostRuntime) {
-    let row = "
+        get top 1:1 -> y",
+    ),
+    (
+        "equal changes are in no conflict",
+        NEW,
+        "
         put top 1:1 x
         put top 1:2 x
         new a top
@@ -46,13 +46,12 @@ fn equal_changes_are_in_no_conflict(rt: HostRuntime) {
         merge a -> ok 0
         post a
         list top -> 1:1=z
-        list a -> 1:1=z";
-    on_both(&rt, &[NEW, row]);
-}
-
-#[test]
-fn back_restores_the_base_too(rt: HostRuntime) {
-    let row = "
+        list a -> 1:1=z",
+    ),
+    (
+        "back restores the base too",
+        NEW,
+        "
         new a top
         checkpoint a c
         put top 1:1 x
@@ -60,14 +59,13 @@ fn back_restores_the_base_too(rt: HostRuntime) {
         back a c
         get a 1:1 -> ~
         post a -> error 8 NotMerged
-        get top 1:1 -> x";
-    on_both(&rt, &[NEW, row]);
-}
-
-/// Two settlements of one key come after the tests of the alternative.
-#[test]
-fn merge_and_post_want_an_alternative_with_a_parent(rt: HostRuntime) {
-    let row = "
+        get top 1:1 -> x",
+    ),
+    // Two settlements of one key come after the tests of the alternative.
+    (
+        "merge and post want an alternative with a parent",
+        NEW,
+        "
         new a top
         new b a
         merge a 1:1=mine 1:1=mine -> error 11 SettledTwice 1:1
@@ -75,13 +73,15 @@ fn merge_and_post_want_an_alternative_with_a_parent(rt: HostRuntime) {
         merge top 1:1=mine 1:1=mine -> error 6 IsTop
         merge nope 1:1=mine 1:1=mine -> error 1 NoSuchAlternative
         post top -> error 6 IsTop
-        post nope -> error 1 NoSuchAlternative";
-    on_both(&rt, &[NEW, row]);
-}
+        post nope -> error 1 NoSuchAlternative",
+    ),
+];
 
-#[test]
-fn record_that_only_the_parent_took_out_goes_in_a_merge(rt: HostRuntime) {
-    let row = "
+const IN_MEMORY: &[Row] = &[
+    (
+        "record that only the parent took out goes in a merge",
+        NEW,
+        "
         put top 1:1 x
         put top 1:2 x
         new a top
@@ -92,14 +92,13 @@ fn record_that_only_the_parent_took_out_goes_in_a_merge(rt: HostRuntime) {
         put a 1:3 y
         post a
         list a -> 1:3=y
-        list top -> 1:3=y";
-    in_memory(&rt, &[NEW, row]);
-}
-
-/// What was settled stays so: the parent's value is the base's from the Merge on.
-#[test]
-fn merge_makes_the_parents_records_the_base(rt: HostRuntime) {
-    let row = "
+        list top -> 1:3=y",
+    ),
+    // What was settled stays so: the parent's value is the base's from the Merge on.
+    (
+        "merge makes the parent's records the base",
+        NEW,
+        "
         put top 1:1 x
         new a top
         put top 1:1 z
@@ -113,6 +112,12 @@ fn merge_makes_the_parents_records_the_base(rt: HostRuntime) {
         put top 1:1 w
         merge a -> error 9 Unsettled 1
         conflicts a -> 1:1=z/w/y
-        list a -> 1:1=y 1:2=z";
-    in_memory(&rt, &[NEW, row]);
+        list a -> 1:1=y 1:2=z",
+    ),
+];
+
+#[test]
+fn merges_are_answered(rt: HostRuntime) {
+    each_on_both(&rt, ON_BOTH);
+    each_in_memory(&rt, IN_MEMORY);
 }

@@ -1,9 +1,11 @@
 //! Alternatives that begin at a checkpoint of their parent.
-use super::script::{NEW, in_memory, on_both};
+use super::script::{NEW, Row, each_in_memory, each_on_both};
 
-#[test]
-fn alternative_begins_at_a_checkpoint(rt: HostRuntime) {
-    let row = "
+const ON_BOTH: &[Row] = &[
+    (
+        "alternative begins at a checkpoint",
+        NEW,
+        "
         put top 1:1 x
         checkpoint top c
         put top 1:1 z
@@ -19,14 +21,13 @@ fn alternative_begins_at_a_checkpoint(rt: HostRuntime) {
         uncheck top c
         reclaim
         list top -> 1:1=z
-        list a -> 1:1=z";
-    on_both(&rt, &[NEW, row]);
-}
-
-/// The checkpoint has changed records, so its base is not what it shows.
-#[test]
-fn base_is_what_the_checkpoint_shows(rt: HostRuntime) {
-    let row = "
+        list a -> 1:1=z",
+    ),
+    // The checkpoint has changed records, so its base is not what it shows.
+    (
+        "base is what the checkpoint shows",
+        NEW,
+        "
         put top 1:1 x
         new a top
         put a 1:2 y
@@ -41,33 +42,40 @@ fn base_is_what_the_checkpoint_shows(rt: HostRuntime) {
         list b -> 1:1=x 1:2=y
         back b c -> error 3 NoSuchCheckpoint
         back a c
-        post b";
-    on_both(&rt, &[NEW, row]);
-}
-
-#[test]
-fn what_is_missing_comes_before_too_many(rt: HostRuntime) {
-    let row = "
+        post b",
+    ),
+    (
+        "what is missing comes before too many",
+        NEW,
+        "
         checkpoints top 510
         new a nope q -> error 1 NoSuchAlternative
         new top top q -> error 2 AlternativeExists
         new a top q -> error 3 NoSuchCheckpoint
         new a top k001 -> error 12 TooMany
         uncheck top k002
-        new a top k001";
-    on_both(&rt, &[NEW, row]);
-}
+        new a top k001",
+    ),
+];
 
-/// An opening of an empty store makes four device calls.
-#[test]
-fn beginning_at_a_checkpoint_makes_no_device_call(rt: HostRuntime) {
-    let row = "
+const IN_MEMORY: &[Row] = &[
+    // An opening of an empty store makes four device calls.
+    (
+        "beginning at a checkpoint makes no device call",
+        NEW,
+        "
         close
         anew
         open
         checkpoint top c
         new a top c
         close
-        calls -> 4";
-    in_memory(&rt, &[NEW, row]);
+        calls -> 4",
+    ),
+];
+
+#[test]
+fn alternatives_begin_at_checkpoints(rt: HostRuntime) {
+    each_on_both(&rt, ON_BOTH);
+    each_in_memory(&rt, IN_MEMORY);
 }

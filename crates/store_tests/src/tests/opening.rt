@@ -1,5 +1,5 @@
 //! What an opening refuses, and slots of several entries as it finds them.
-use super::script::{DUCT, from_disk, in_memory, on_both};
+use super::script::{DUCT, Row, each_in_memory, each_on_both, from_disk};
 use std::alloc::Global;
 use std::test::Fail;
 use vm_block::{Entry, Kind, SlotFormat, SlotName};
@@ -8,35 +8,55 @@ use vm_disk::{Disk, MemDisk};
 use vm_store::{format, open};
 use vm_types::{Command, Key, Name, Value};
 
-/// Block 34 is a node of level one, whose child is itself.
-#[test]
-fn root_that_is_no_leaf_is_damage(rt: HostRuntime) {
-    let row = "
+const ON_BOTH: &[Row] = &[
+    // Block 34 is a node of level one, whose child is itself.
+    (
+        "root that is no leaf is damage",
+        DUCT,
+        "
         zero 34
         set 34 0:4E4F444501 8:01 16:01 18:01 26:22
-        open -> error 18 Damaged 34";
-    on_both(&rt, &[DUCT, row]);
-}
+        open -> error 18 Damaged 34",
+    ),
+    (
+        "root past the end is damage",
+        DUCT,
+        "
+        set 18 195:40
+        open -> error 18 Damaged 64",
+    ),
+    (
+        "disk cut short is no store",
+        DUCT,
+        "
+        cut 21
+        open -> error 19 NotAStore",
+    ),
+    ("blank disk is no store", "", "open -> error 19 NotAStore"),
+];
+
+const IN_MEMORY: &[Row] = &[
+    (
+        "slot of zeros is damage",
+        "",
+        "
+        format 64
+        zero 2
+        open -> error 18 Damaged 2",
+    ),
+    (
+        "store larger than its disk is refused",
+        DUCT,
+        "
+        set 18 8:41
+        open -> error 21 BadSize",
+    ),
+];
 
 #[test]
-fn root_past_the_end_is_damage(rt: HostRuntime) {
-    on_both(&rt, &[DUCT, "set 18 195:40", "open -> error 18 Damaged 64"]);
-}
-
-#[test]
-fn slot_of_zeros_is_damage(rt: HostRuntime) {
-    in_memory(&rt, &["format 64", "zero 2", "open -> error 18 Damaged 2"]);
-}
-
-#[test]
-fn disk_cut_short_is_no_store(rt: HostRuntime) {
-    on_both(&rt, &[DUCT, "cut 21", "open -> error 19 NotAStore"]);
-    on_both(&rt, &["open -> error 19 NotAStore"]);
-}
-
-#[test]
-fn store_larger_than_its_disk_is_refused(rt: HostRuntime) {
-    in_memory(&rt, &[DUCT, "set 18 8:41", "open -> error 21 BadSize"]);
+fn opening_refuses_what_is_no_whole_store(rt: HostRuntime) {
+    each_on_both(&rt, ON_BOTH);
+    each_in_memory(&rt, IN_MEMORY);
 }
 
 /// A disk on which `duct` is committed, in block 34.

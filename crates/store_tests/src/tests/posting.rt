@@ -1,10 +1,12 @@
 //! What a Post answers, and what it leaves in both alternatives.
-use super::script::{NEW, in_memory, on_both};
+use super::script::{NEW, Row, each_in_memory, each_on_both};
 
-/// The parent has the records of the base again, in another block.
-#[test]
-fn parent_that_went_back_to_the_base_is_merged(rt: HostRuntime) {
-    let row = "
+const ON_BOTH: &[Row] = &[
+    // The parent has the records of the base again, in another block.
+    (
+        "parent that went back to the base is merged",
+        NEW,
+        "
         put top 1:1 x
         new a top
         put a 1:2 y
@@ -13,13 +15,15 @@ fn parent_that_went_back_to_the_base_is_merged(rt: HostRuntime) {
         put top 1:1 x
         post a
         list top -> 1:1=x 1:2=y
-        changes a -> none";
-    on_both(&rt, &[NEW, row]);
-}
+        changes a -> none",
+    ),
+];
 
-#[test]
-fn grandchild_merges_from_its_parent_and_posts_to_it(rt: HostRuntime) {
-    let row = "
+const IN_MEMORY: &[Row] = &[
+    (
+        "grandchild merges from its parent and posts to it",
+        NEW,
+        "
         new a top
         new b a
         put top 1:1 x
@@ -30,13 +34,12 @@ fn grandchild_merges_from_its_parent_and_posts_to_it(rt: HostRuntime) {
         post b
         post a -> error 8 NotMerged
         list a -> 1:2=y 1:3=z
-        list top -> 1:1=x";
-    in_memory(&rt, &[NEW, row]);
-}
-
-#[test]
-fn merge_that_is_not_committed_is_gone_after_closing(rt: HostRuntime) {
-    let row = "
+        list top -> 1:1=x",
+    ),
+    (
+        "merge that is not committed is gone after closing",
+        NEW,
+        "
         new a top
         put top 1:1 x
         commit
@@ -59,6 +62,12 @@ fn merge_that_is_not_committed_is_gone_after_closing(rt: HostRuntime) {
         commit
         close
         open
-        get top 1:2 -> y";
-    in_memory(&rt, &[NEW, row]);
+        get top 1:2 -> y",
+    ),
+];
+
+#[test]
+fn posts_are_answered(rt: HostRuntime) {
+    each_on_both(&rt, ON_BOTH);
+    each_in_memory(&rt, IN_MEMORY);
 }

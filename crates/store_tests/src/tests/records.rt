@@ -1,5 +1,5 @@
 //! Records: what is put, got, listed and taken out.
-use super::script::{DUCT, NEW, in_memory, on_both};
+use super::script::{DUCT, NEW, Row, each_in_memory, each_on_both, in_memory};
 use std::test::Fail;
 
 /// A closed store in which `duct` and the record beside it are committed, in one leaf. Opening it makes five
@@ -14,14 +14,18 @@ pub(super) const TWO_RECORDS: &str = "
     close
     anew";
 
-#[test]
-fn what_is_committed_is_there_after_opening(rt: HostRuntime) {
-    on_both(&rt, &[DUCT, "open", "get top 7:1 -> duct"]);
-}
-
-#[test]
-fn value_is_lent_from_its_block(rt: HostRuntime) {
-    let row = "
+const ON_BOTH: &[Row] = &[
+    (
+        "what is committed is there after opening",
+        DUCT,
+        "
+        open
+        get top 7:1 -> duct",
+    ),
+    (
+        "value is lent from its block",
+        DUCT,
+        "
         open
         look top 7:1 -> duct
         look top 7:2 -> ~
@@ -32,42 +36,90 @@ fn value_is_lent_from_its_block(rt: HostRuntime) {
         look a 7:1 -> pipe
         look a 7:2 -> ''
         look top 7:1 -> duct
-        look top 7:2 -> ~";
-    on_both(&rt, &[DUCT, row]);
-}
-
-#[test]
-fn greatest_key_takes_the_empty_value(rt: HostRuntime) {
-    let row = "
+        look top 7:2 -> ~",
+    ),
+    (
+        "greatest key takes the empty value",
+        NEW,
+        "
         get top 65535:18446744073709551615 -> ~
         put top 65535:18446744073709551615 ''
         get top 65535:18446744073709551615 -> ''
-        get top 7:1 -> ~";
-    on_both(&rt, &[NEW, row]);
-}
-
-#[test]
-fn alternative_that_is_not_there_is_refused(rt: HostRuntime) {
-    let row = "
-        get nope 7:1 -> error 1 NoSuchAlternative
-        put nope 7:1 duct -> error 1 NoSuchAlternative
-        get top 7:1 -> ~
-        list top -> none
-        list nope -> error 1 NoSuchAlternative";
-    in_memory(&rt, &[NEW, row]);
-}
-
-#[test]
-fn what_is_not_committed_is_gone_after_closing(rt: HostRuntime) {
-    let row = "
+        get top 7:1 -> ~",
+    ),
+    (
+        "what is not committed is gone after closing",
+        DUCT,
+        "
         open
         put top 7:1 pipe
         get top 7:1 -> pipe
         close
         anew
         open
-        get top 7:1 -> duct";
-    on_both(&rt, &[DUCT, row]);
+        get top 7:1 -> duct",
+    ),
+    (
+        "record that is absent from a new store is refused",
+        NEW,
+        "remove top 0:0 -> error 5 NoSuchRecord",
+    ),
+    (
+        "record that is absent beside another is refused",
+        DUCT,
+        "
+        open
+        remove top 0:0 -> error 5 NoSuchRecord
+        remove top 7:2 -> error 5 NoSuchRecord
+        remove nope 7:1 -> error 1 NoSuchAlternative
+        get top 7:1 -> duct",
+    ),
+];
+
+const IN_MEMORY: &[Row] = &[
+    (
+        "alternative that is not there is refused",
+        NEW,
+        "
+        get nope 7:1 -> error 1 NoSuchAlternative
+        put nope 7:1 duct -> error 1 NoSuchAlternative
+        get top 7:1 -> ~
+        list top -> none
+        list nope -> error 1 NoSuchAlternative",
+    ),
+    (
+        "records are listed by rising keys",
+        DUCT,
+        "
+        open
+        put top 65535:0 ''
+        put top 1:18446744073709551615 pipe
+        put top 0:2 -
+        list top -> 0:2=- 1:18446744073709551615=pipe 7:1=duct 65535:0=''",
+    ),
+    (
+        "records are taken out one by one",
+        TWO_RECORDS,
+        "
+        open
+        remove top 7:1
+        remove top 7:1 -> error 5 NoSuchRecord
+        list top -> 7:2=x
+        remove top 7:2
+        list top -> none
+        commit
+        close
+        open
+        list top -> none
+        put top 7:2 ''
+        list top -> 7:2=''",
+    ),
+];
+
+#[test]
+fn records_are_put_got_listed_and_taken_out(rt: HostRuntime) {
+    each_on_both(&rt, ON_BOTH);
+    each_in_memory(&rt, IN_MEMORY);
 }
 
 #[test]
@@ -82,45 +134,4 @@ fn blocks_are_found_again_over_many_puts(rt: HostRuntime) -> Result<(), Fail> {
         get top 7:1 -> duct";
     in_memory(&rt, &[DUCT, "open", &row, after]);
     Ok(())
-}
-
-#[test]
-fn records_are_listed_by_rising_keys(rt: HostRuntime) {
-    let row = "
-        open
-        put top 65535:0 ''
-        put top 1:18446744073709551615 pipe
-        put top 0:2 -
-        list top -> 0:2=- 1:18446744073709551615=pipe 7:1=duct 65535:0=''";
-    in_memory(&rt, &[DUCT, row]);
-}
-
-#[test]
-fn record_that_is_absent_is_refused(rt: HostRuntime) {
-    on_both(&rt, &[NEW, "remove top 0:0 -> error 5 NoSuchRecord"]);
-    let row = "
-        open
-        remove top 0:0 -> error 5 NoSuchRecord
-        remove top 7:2 -> error 5 NoSuchRecord
-        remove nope 7:1 -> error 1 NoSuchAlternative
-        get top 7:1 -> duct";
-    on_both(&rt, &[DUCT, row]);
-}
-
-#[test]
-fn records_are_taken_out_one_by_one(rt: HostRuntime) {
-    let row = "
-        open
-        remove top 7:1
-        remove top 7:1 -> error 5 NoSuchRecord
-        list top -> 7:2=x
-        remove top 7:2
-        list top -> none
-        commit
-        close
-        open
-        list top -> none
-        put top 7:2 ''
-        list top -> 7:2=''";
-    in_memory(&rt, &[TWO_RECORDS, row]);
 }

@@ -1,28 +1,25 @@
 //! Lists of commands.
-use super::script::{NEW, in_memory};
+use super::script::{NEW, Row, each_in_memory};
 
-#[test]
-fn commands_are_answered_in_order(rt: HostRuntime) {
-    let row = "
+const LISTS: &[Row] = &[
+    (
+        "commands are answered in order",
+        NEW,
+        "
         run put top 7:1 duct ; put nope 7:1 duct ; commit \
             -> ok ; error 1 NoSuchAlternative ; ok ; end
         get top 7:1 -> duct
         close
         open
-        get top 7:1 -> duct";
-    in_memory(&rt, &[NEW, row]);
-}
-
-#[test]
-fn empty_list_has_no_answers(rt: HostRuntime) {
-    in_memory(&rt, &[NEW, "run -> end"]);
-}
-
-/// Formatting and opening make eleven device calls, the Put one, and the Commit's first sync is the
-/// third after these.
-#[test]
-fn list_ends_where_the_device_fails(rt: HostRuntime) {
-    let row = "
+        get top 7:1 -> duct",
+    ),
+    ("empty list has no answers", NEW, "run -> end"),
+    // Formatting and opening make eleven device calls, the Put one, and the Commit's first sync is the
+    // third after these.
+    (
+        "list ends where the device fails",
+        "",
+        "
         once 13
         format 64
         open
@@ -33,20 +30,24 @@ fn list_ends_where_the_device_fails(rt: HostRuntime) {
         calls -> 14
         anew
         open
-        get top 7:1 -> ~";
-    in_memory(&rt, &[row]);
-}
-
-/// Of 64 blocks 34 are the store's own. The first Put takes a leaf, the second a copy of it, and
-/// then no version reaches the first leaf any longer.
-#[test]
-fn reclaim_in_a_list_leaves_the_spare_blocks_free(rt: HostRuntime) {
-    let row = "
+        get top 7:1 -> ~",
+    ),
+    // Of 64 blocks 34 are the store's own. The first Put takes a leaf, the second a copy of it, and
+    // then no version reaches the first leaf any longer.
+    (
+        "reclaim in a list leaves the spare blocks free",
+        NEW,
+        "
         free -> 30
         run put top 7:1 duct ; put top 7:1 pipe -> ok ; ok ; end
         free -> 28
         run reclaim ; commit -> ok ; ok ; end
         free -> 29
-        get top 7:1 -> pipe";
-    in_memory(&rt, &[NEW, row]);
+        get top 7:1 -> pipe",
+    ),
+];
+
+#[test]
+fn lists_of_commands_are_answered(rt: HostRuntime) {
+    each_in_memory(&rt, LISTS);
 }

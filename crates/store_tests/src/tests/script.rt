@@ -79,6 +79,15 @@ pub(super) const SEVENTEEN: &str = "
     close
     anew";
 
+/// A row of a table: its name, which is told where it fails, the text before its own, and its own.
+pub(super) type Row = (&'static str, &'static str, &'static str);
+
+/// The same, with the room of the disk behind the name.
+pub(super) type RoomRow = (&'static str, u32, &'static str, &'static str);
+
+/// What is told in place of a name where a row is in no table.
+const ROW: &str = "row";
+
 /// More device calls than any script makes.
 const NEVER: u32 = 100_000;
 
@@ -273,9 +282,10 @@ fn play<M: OverMemory>(alloc: Global, bench: Bench<FuseDisk<M>>, step: &str) -> 
     }
 }
 
-/// Plays the lines of a text, and compares each answer.
+/// Plays the lines of a text, and compares each answer. Where one differs, the name of the row is told.
 fn plays<M: OverMemory, R: AllocGlobal + Abort>(
     rt: &R,
+    name: &str,
     on: &str,
     mut bench: Bench<FuseDisk<M>>,
     text: &str,
@@ -290,10 +300,10 @@ fn plays<M: OverMemory, R: AllocGlobal + Abort>(
             Ok((next, given)) => {
                 let given = given.trim();
                 let given = if given.is_empty() { "none" } else { given };
-                assert_eq!(rt; given, due.trim(), "{on}, line {n}: {line}");
+                assert_eq!(rt; given, due.trim(), "{name}, {on}, line {n}: {line}");
                 bench = next;
             }
-            Err(wrong) => panic!(rt; "{on}, line {n}: {line}: {wrong:?}"),
+            Err(wrong) => panic!(rt; "{name}, {on}, line {n}: {line}: {wrong:?}"),
         }
     }
     bench
@@ -302,6 +312,7 @@ fn plays<M: OverMemory, R: AllocGlobal + Abort>(
 /// Plays texts one after another on a disk.
 fn plays_all<M: OverMemory, R: AllocGlobal + Abort>(
     rt: &R,
+    name: &str,
     on: &str,
     disk: Result<MemDisk, AllocError>,
     texts: &[&str],
@@ -312,10 +323,10 @@ fn plays_all<M: OverMemory, R: AllocGlobal + Abort>(
     };
     let mut bench = match device {
         Ok(device) => Bench::Shut(device),
-        Err(wrong) => panic!(rt; "{wrong:?}"),
+        Err(wrong) => panic!(rt; "{name}, {on}: {wrong:?}"),
     };
     for text in texts {
-        bench = plays(rt, on, bench, text);
+        bench = plays(rt, name, on, bench, text);
     }
     let _disk = match bench {
         Bench::Shut(disk) => disk,
@@ -325,19 +336,19 @@ fn plays_all<M: OverMemory, R: AllocGlobal + Abort>(
 
 /// Plays texts one after another on a disk in memory.
 pub(super) fn from_disk<R: AllocGlobal + Abort>(rt: &R, disk: MemDisk, texts: &[&str]) {
-    plays_all::<MemDisk, R>(rt, "in memory", Ok(disk), texts);
+    plays_all::<MemDisk, R>(rt, ROW, "in memory", Ok(disk), texts);
 }
 
 /// The same on a blank disk of 256 blocks.
 pub(super) fn in_256_blocks<R: AllocGlobal + Abort>(rt: &R, texts: &[&str]) {
     let blank = MemDisk::new(rt.alloc(), 256);
-    plays_all::<MemDisk, R>(rt, "in memory", blank, texts);
+    plays_all::<MemDisk, R>(rt, ROW, "in memory", blank, texts);
 }
 
 /// The same on a blank disk of 64 blocks.
 pub(super) fn in_memory<R: AllocGlobal + Abort>(rt: &R, texts: &[&str]) {
     let blank = MemDisk::new(rt.alloc(), 64);
-    plays_all::<MemDisk, R>(rt, "in memory", blank, texts);
+    plays_all::<MemDisk, R>(rt, ROW, "in memory", blank, texts);
 }
 
 /// The same on a blank disk of 64 blocks with room for so many, and once more over a cache.
@@ -345,34 +356,70 @@ pub(super) fn with_room<R: AllocGlobal + Abort>(rt: &R, room: u32, texts: &[&str
     requires { 64 ≤ room }
 {
     let blank = MemDisk::with_room(rt.alloc(), 64, room);
-    plays_all::<MemDisk, R>(rt, "in memory", blank, texts);
+    plays_all::<MemDisk, R>(rt, ROW, "in memory", blank, texts);
     let blank = MemDisk::with_room(rt.alloc(), 64, room);
-    plays_all::<CachedDisk<MemDisk>, R>(rt, "over a cache", blank, texts);
+    plays_all::<CachedDisk<MemDisk>, R>(rt, ROW, "over a cache", blank, texts);
 }
 
 /// The same on a blank disk of 64 blocks, and once more over a cache.
 pub(super) fn on_both<R: AllocGlobal + Abort>(rt: &R, texts: &[&str]) {
     in_memory(rt, texts);
     let blank = MemDisk::new(rt.alloc(), 64);
-    plays_all::<CachedDisk<MemDisk>, R>(rt, "over a cache", blank, texts);
+    plays_all::<CachedDisk<MemDisk>, R>(rt, ROW, "over a cache", blank, texts);
 }
 
 /// The same on a blank disk of 64 blocks with room for 80, over a cache, and over a disk that writes late.
 pub(super) fn and_late<R: AllocGlobal + Abort>(rt: &R, texts: &[&str]) {
     with_room(rt, 80, texts);
     let blank = MemDisk::with_room(rt.alloc(), 64, 80);
-    plays_all::<DelayedDisk<MemDisk>, R>(rt, "over a late disk", blank, texts);
+    plays_all::<DelayedDisk<MemDisk>, R>(rt, ROW, "over a late disk", blank, texts);
 }
 
 /// The same on a blank disk of 256 blocks with room for 300, over a cache, over a disk that writes late, and on
 /// one that keeps what is forgotten.
 pub(super) fn on_each<R: AllocGlobal + Abort>(rt: &R, texts: &[&str]) {
     let blank = MemDisk::with_room(rt.alloc(), 256, 300);
-    plays_all::<MemDisk, R>(rt, "in memory", blank, texts);
+    plays_all::<MemDisk, R>(rt, ROW, "in memory", blank, texts);
     let blank = MemDisk::with_room(rt.alloc(), 256, 300);
-    plays_all::<CachedDisk<MemDisk>, R>(rt, "over a cache", blank, texts);
+    plays_all::<CachedDisk<MemDisk>, R>(rt, ROW, "over a cache", blank, texts);
     let blank = MemDisk::with_room(rt.alloc(), 256, 300);
-    plays_all::<DelayedDisk<MemDisk>, R>(rt, "over a late disk", blank, texts);
+    plays_all::<DelayedDisk<MemDisk>, R>(rt, ROW, "over a late disk", blank, texts);
     let blank = MemDisk::with_room(rt.alloc(), 256, 300);
-    plays_all::<KeepingDisk, R>(rt, "with all kept", blank, texts);
+    plays_all::<KeepingDisk, R>(rt, ROW, "with all kept", blank, texts);
+}
+
+/// Plays each row of a table on a blank disk of 64 blocks of its own.
+pub(super) fn each_in_memory<R: AllocGlobal + Abort>(rt: &R, rows: &[Row]) {
+    for (name, first, row) in rows {
+        let blank = MemDisk::new(rt.alloc(), 64);
+        plays_all::<MemDisk, R>(rt, name, "in memory", blank, &[first, row]);
+    }
+}
+
+/// The same on blank disks of 256 blocks.
+pub(super) fn each_in_256_blocks<R: AllocGlobal + Abort>(rt: &R, rows: &[Row]) {
+    for (name, first, row) in rows {
+        let blank = MemDisk::new(rt.alloc(), 256);
+        plays_all::<MemDisk, R>(rt, name, "in memory", blank, &[first, row]);
+    }
+}
+
+/// The same on blank disks of 64 blocks, and once more over a cache.
+pub(super) fn each_on_both<R: AllocGlobal + Abort>(rt: &R, rows: &[Row]) {
+    each_in_memory(rt, rows);
+    for (name, first, row) in rows {
+        let blank = MemDisk::new(rt.alloc(), 64);
+        plays_all::<CachedDisk<MemDisk>, R>(rt, name, "over a cache", blank, &[first, row]);
+    }
+}
+
+/// The same on blank disks of 64 blocks with the row's room, and once more over a cache.
+pub(super) fn each_with_room<R: AllocGlobal + Abort>(rt: &R, rows: &[RoomRow]) {
+    for (name, room, first, row) in rows {
+        assert!(rt; 64 <= *room, "{name}");
+        let blank = MemDisk::with_room(rt.alloc(), 64, *room);
+        plays_all::<MemDisk, R>(rt, name, "in memory", blank, &[first, row]);
+        let blank = MemDisk::with_room(rt.alloc(), 64, *room);
+        plays_all::<CachedDisk<MemDisk>, R>(rt, name, "over a cache", blank, &[first, row]);
+    }
 }

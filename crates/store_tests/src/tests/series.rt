@@ -1,12 +1,12 @@
 //! Which blocks are forgotten: those that a Put or a Remove replaces, where the series took them that it goes on
 //! with. A disk in memory fills them with other bytes.
 use super::records::TWO_RECORDS;
-use super::script::{NEW, SEVENTEEN, and_late, in_256_blocks, on_both, on_each};
+use super::script::{NEW, Row, SEVENTEEN, and_late, each_in_256_blocks, each_on_both, on_each};
 
 /// Each Put takes a block, from 34 on.
 #[test]
 fn each_put_but_the_first_forgets_the_leaf_before(rt: HostRuntime) {
-    for (puts, forgotten) in [
+    for (puts, forgotten) in &[
         ("puts top 1:1 1 v", "forgotten -> none"),
         ("puts top 1:1 2 v", "forgotten -> 34"),
         ("puts top 1:1 5 v", "forgotten -> 34 35 36 37"),
@@ -15,11 +15,13 @@ fn each_put_but_the_first_forgets_the_leaf_before(rt: HostRuntime) {
     }
 }
 
-/// The sixteenth Put takes block 49, and the next two leaves and a root. The other three take a
-/// leaf and a root each. The first leaf, the last one and the last root are left.
-#[test]
-fn load_leaves_nothing_but_its_tree(rt: HostRuntime) {
-    let row = "
+const LOAD_AND_MERGE: &[Row] = &[
+    // The sixteenth Put takes block 49, and the next two leaves and a root. The other three take a
+    // leaf and a root each. The first leaf, the last one and the last root are left.
+    (
+        "load leaves nothing but its tree",
+        "",
+        "
         format 256
         open
         puts top 1:1 20 v
@@ -27,29 +29,49 @@ fn load_leaves_nothing_but_its_tree(rt: HostRuntime) {
         reclaim
         free -> 219
         close
-        forgotten -> 34 35 36 37 38 39 40 41 42 43 44 45 46 47 48 49 51 52 53 54 55 56";
-    in_256_blocks(&rt, &[row]);
+        forgotten -> 34 35 36 37 38 39 40 41 42 43 44 45 46 47 48 49 51 52 53 54 55 56",
+    ),
+    // The Puts take the blocks 34 to 36, and the changes of the Merge the next three.
+    (
+        "merge forgets what its own changes replace",
+        "",
+        "
+        format 256
+        open
+        new a top
+        puts top 1:1 3 v
+        merge a -> ok 3
+        put a 1:4 w
+        close
+        forgotten -> 34 35 37 38",
+    ),
+];
+
+#[test]
+fn load_and_merge_forget_what_they_replace(rt: HostRuntime) {
+    each_in_256_blocks(&rt, LOAD_AND_MERGE);
 }
 
-/// The fifteenth Put finds 16 free blocks and marks, which leaves block 47 alone. It takes block 34
-/// again, the next one block 35, and the last one three blocks.
-#[test]
-fn a_series_goes_on_over_a_marking(rt: HostRuntime) {
-    let row = "
+const MARKINGS: &[Row] = &[
+    // The fifteenth Put finds 16 free blocks and marks, which leaves block 47 alone. It takes block 34
+    // again, the next one block 35, and the last one three blocks.
+    (
+        "a series goes on over a marking",
+        "",
+        "
         format 64
         open
         puts top 1:1 17 v
         free -> 24
         close
-        forgotten -> 34 35 39 40 41 42 43 44 45 46 47";
-    on_both(&rt, &[row]);
-}
-
-/// Block 34 is committed. The fourteenth Put behind it finds 16 free blocks and marks, which leaves
-/// 34 and 47. It takes block 35 again, and the last one block 36.
-#[test]
-fn what_is_committed_is_not_forgotten_after_a_marking(rt: HostRuntime) {
-    let row = "
+        forgotten -> 34 35 39 40 41 42 43 44 45 46 47",
+    ),
+    // Block 34 is committed. The fourteenth Put behind it finds 16 free blocks and marks, which leaves
+    // 34 and 47. It takes block 35 again, and the last one block 36.
+    (
+        "what is committed is not forgotten after a marking",
+        "",
+        "
         format 64
         open
         put top 7:1 duct
@@ -59,8 +81,13 @@ fn what_is_committed_is_not_forgotten_after_a_marking(rt: HostRuntime) {
         forgotten -> 35 37 38 39 40 41 42 43 44 45 46 47
         crash all=41
         open
-        list top -> 7:1=duct";
-    on_both(&rt, &[row]);
+        list top -> 7:1=duct",
+    ),
+];
+
+#[test]
+fn a_marking_ends_no_series(rt: HostRuntime) {
+    each_on_both(&rt, MARKINGS);
 }
 
 /// The root is in block 38, over the leaves 36 and 37, which are committed. The first Put takes the
@@ -74,7 +101,7 @@ fn blocks_from_before_the_series_are_not_forgotten(rt: HostRuntime) {
         "put top 1:17 w",
         "remove top 1:16",
     ];
-    for (changes, forgotten) in [
+    for (changes, forgotten) in &[
         ([one, "", "", ""], "forgotten -> none"),
         ([one, two, "", ""], "forgotten -> 34 35"),
         ([one, two, three, ""], "forgotten -> 34 35 40"),
@@ -124,7 +151,7 @@ const BRANCHES: &str = "
 /// The first Put takes block 36.
 #[test]
 fn each_other_command_that_is_served_ends_the_series(rt: HostRuntime) {
-    for between in [
+    for between in &[
         "new c top",
         "new c a k",
         "checkpoint a m",
@@ -153,7 +180,7 @@ fn each_other_command_that_is_served_ends_the_series(rt: HostRuntime) {
 
 #[test]
 fn queries_and_refused_commands_do_not_end_it(rt: HostRuntime) {
-    for between in [
+    for between in &[
         "get a 1:1 -> v",
         "get b 2:2 -> u",
         "list a -> 1:1=v",
@@ -195,21 +222,6 @@ fn a_series_begins_after_one_that_ended(rt: HostRuntime) {
         close
         forgotten -> 37";
     and_late(&rt, &[BRANCHES, row]);
-}
-
-/// The Puts take the blocks 34 to 36, and the changes of the Merge the next three.
-#[test]
-fn merge_forgets_what_its_own_changes_replace(rt: HostRuntime) {
-    let row = "
-        format 256
-        open
-        new a top
-        puts top 1:1 3 v
-        merge a -> ok 3
-        put a 1:4 w
-        close
-        forgotten -> 34 35 37 38";
-    in_256_blocks(&rt, &[row]);
 }
 
 /// The store closed, and opened again on what is committed.

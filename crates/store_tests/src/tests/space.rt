@@ -1,14 +1,69 @@
 //! How many blocks are free, and how many each command asks for and takes.
-use super::script::{DUCT, NEW, SEVENTEEN, in_256_blocks, in_memory, on_both};
+use super::script::{DUCT, NEW, Row, SEVENTEEN, each_in_256_blocks, each_in_memory, each_on_both};
 
-#[test]
-fn new_store_of_64_blocks_has_30_free(rt: HostRuntime) {
-    on_both(&rt, &[NEW, "free -> 30"]);
-}
+const ON_BOTH: &[Row] = &[
+    ("new store of 64 blocks has 30 free", NEW, "free -> 30"),
+    // The seventeenth record splits the leaf: two leaves and a root are written. The Remove of the
+    // eleventh record marks, and that of the tenth leaves nine records, which are the first leaf: it
+    // writes no block.
+    (
+        "leaf is split and takes the place of the root again",
+        NEW,
+        "
+        puts top 1:1 17 v
+        free -> 24
+        reclaim
+        free -> 27
+        remove top 1:17
+        remove top 1:16
+        remove top 1:15
+        remove top 1:14
+        remove top 1:13
+        remove top 1:12
+        remove top 1:11
+        remove top 1:10
+        free -> 25
+        reclaim
+        free -> 29
+        get top 1:1 -> v
+        get top 1:2 -> v
+        get top 1:3 -> v
+        get top 1:4 -> v
+        get top 1:5 -> v
+        get top 1:6 -> v
+        get top 1:7 -> v
+        get top 1:8 -> v
+        get top 1:9 -> v
+        get top 1:10 -> ~
+        get top 1:11 -> ~
+        get top 1:12 -> ~
+        get top 1:13 -> ~
+        get top 1:14 -> ~
+        get top 1:15 -> ~
+        get top 1:16 -> ~
+        get top 1:17 -> ~",
+    ),
+    // 30 blocks are for data. Each of the 14 checkpoints keeps one, so 16 are spare for the next Put.
+    (
+        "checkpoints keep their blocks",
+        NEW,
+        "
+        kept top 1:1 v 14
+        commit
+        put top 1:1 v -> error 13 Full
+        uncheck top k001
+        put top 1:1 v -> error 13 Full
+        commit
+        put top 1:1 v
+        free -> 16",
+    ),
+];
 
-#[test]
-fn reclaim_frees_what_no_version_needs(rt: HostRuntime) {
-    let row = "
+const IN_MEMORY: &[Row] = &[
+    (
+        "reclaim frees what no version needs",
+        DUCT,
+        "
         open
         free -> 29
         put top 7:1 pipe
@@ -20,15 +75,14 @@ fn reclaim_frees_what_no_version_needs(rt: HostRuntime) {
         free -> 28
         reclaim
         free -> 29
-        get top 7:1 -> tube";
-    in_memory(&rt, &[DUCT, row]);
-}
-
-/// The Put takes one of thirty blocks. A new alternative shares its parent's, and what is refused
-/// takes none.
-#[test]
-fn what_is_refused_takes_no_block(rt: HostRuntime) {
-    let row = "
+        get top 7:1 -> tube",
+    ),
+    // The Put takes one of thirty blocks. A new alternative shares its parent's, and what is refused
+    // takes none.
+    (
+        "what is refused takes no block",
+        NEW,
+        "
         put top 7:1 duct
         new a top
         free -> 29
@@ -38,15 +92,14 @@ fn what_is_refused_takes_no_block(rt: HostRuntime) {
         get nope 7:1 -> error 1 NoSuchAlternative
         free -> 29
         list nope -> error 1 NoSuchAlternative
-        free -> 29";
-    in_memory(&rt, &[NEW, row]);
-}
-
-/// Fourteen Puts take the blocks 34 to 47. The fifteenth finds sixteen free and marks: block 47
-/// alone stays held, and the Put takes block 34.
-#[test]
-fn put_marks_where_fewer_than_17_blocks_are_free(rt: HostRuntime) {
-    let row = "
+        free -> 29",
+    ),
+    // Fourteen Puts take the blocks 34 to 47. The fifteenth finds sixteen free and marks: block 47
+    // alone stays held, and the Put takes block 34.
+    (
+        "put marks where fewer than 17 blocks are free",
+        NEW,
+        "
         put top 1:1 v
         free -> 29
         put top 1:2 v
@@ -80,82 +133,33 @@ fn put_marks_where_fewer_than_17_blocks_are_free(rt: HostRuntime) {
         put top 1:16 v
         free -> 27
         close
-        dirty -> 34 35 36 37 38 39 40 41 42 43 44 45 46 47";
-    in_memory(&rt, &[NEW, row]);
-}
-
-/// The seventeenth record splits the leaf: two leaves and a root are written. The Remove of the
-/// eleventh record marks, and that of the tenth leaves nine records, which are the first leaf: it
-/// writes no block.
-#[test]
-fn leaf_is_split_and_takes_the_place_of_the_root_again(rt: HostRuntime) {
-    let row = "
-        puts top 1:1 17 v
-        free -> 24
-        reclaim
-        free -> 27
-        remove top 1:17
-        remove top 1:16
-        remove top 1:15
-        remove top 1:14
-        remove top 1:13
-        remove top 1:12
-        remove top 1:11
-        remove top 1:10
-        free -> 25
-        reclaim
-        free -> 29
-        get top 1:1 -> v
-        get top 1:2 -> v
-        get top 1:3 -> v
-        get top 1:4 -> v
-        get top 1:5 -> v
-        get top 1:6 -> v
-        get top 1:7 -> v
-        get top 1:8 -> v
-        get top 1:9 -> v
-        get top 1:10 -> ~
-        get top 1:11 -> ~
-        get top 1:12 -> ~
-        get top 1:13 -> ~
-        get top 1:14 -> ~
-        get top 1:15 -> ~
-        get top 1:16 -> ~
-        get top 1:17 -> ~";
-    on_both(&rt, &[NEW, row]);
-}
-
-/// A root over two leaves is the current map of both alternatives, and the base of one: each of the
-/// three blocks is held once. A record changed in one of them takes a leaf and a root more.
-#[test]
-fn shared_blocks_are_held_once(rt: HostRuntime) {
-    let row = "
+        dirty -> 34 35 36 37 38 39 40 41 42 43 44 45 46 47",
+    ),
+    // A root over two leaves is the current map of both alternatives, and the base of one: each of the
+    // three blocks is held once. A record changed in one of them takes a leaf and a root more.
+    (
+        "shared blocks are held once",
+        SEVENTEEN,
+        "
         open
         free -> 27
         put top 1:17 v
-        free -> 25";
-    in_memory(&rt, &[SEVENTEEN, row]);
+        free -> 25",
+    ),
+];
+
+#[test]
+fn blocks_are_taken_kept_and_freed(rt: HostRuntime) {
+    each_on_both(&rt, ON_BOTH);
+    each_in_memory(&rt, IN_MEMORY);
 }
 
-/// 30 blocks are for data. Each of the 14 checkpoints keeps one, so 16 are spare for the next Put.
-#[test]
-fn checkpoints_keep_their_blocks(rt: HostRuntime) {
-    let row = "
-        kept top 1:1 v 14
-        commit
-        put top 1:1 v -> error 13 Full
-        uncheck top k001
-        put top 1:1 v -> error 13 Full
-        commit
-        put top 1:1 v
-        free -> 16";
-    on_both(&rt, &[NEW, row]);
-}
-
-/// Nine changes ask for 153 spare blocks. 28 are spare beside the two leaves.
-#[test]
-fn merge_is_refused_where_too_few_blocks_are_spare(rt: HostRuntime) {
-    let row = "
+const MERGES: &[Row] = &[
+    // Nine changes ask for 153 spare blocks. 28 are spare beside the two leaves.
+    (
+        "merge is refused where too few blocks are spare",
+        NEW,
+        "
         new a top
         puts top 1:1 9 v
         puts a 2:1 8 v
@@ -165,15 +169,35 @@ fn merge_is_refused_where_too_few_blocks_are_spare(rt: HostRuntime) {
         list a -> 2:1=v 2:2=v 2:3=v 2:4=v 2:5=v 2:6=v 2:7=v 2:8=v
         post a -> error 8 NotMerged
         put a 1:1 v
-        free -> 27";
-    in_memory(&rt, &[NEW, row]);
-}
+        free -> 27",
+    ),
+    // 30 blocks are for data. Each of the 14 checkpoints keeps one, so 16 are spare, and one more
+    // after an Uncheck. A Merge without changes asks for none.
+    (
+        "merge of one record asks for seventeen spare blocks",
+        NEW,
+        "
+        new a top
+        kept top 1:1 v 14
+        new b top
+        merge a -> error 13 Full
+        merge b -> ok 0
+        post b
+        uncheck top k001
+        merge a -> ok 1
+        put a 1:1 v -> error 13 Full
+        get a 1:1 -> v
+        free -> 16",
+    ),
+];
 
-/// 205 of 222 blocks are free before it. The first eight changes write a leaf each, and the ninth
-/// two leaves and a root.
-#[test]
-fn merge_makes_one_change_after_another(rt: HostRuntime) {
-    let row = "
+const MERGES_IN_256_BLOCKS: &[Row] = &[
+    // 205 of 222 blocks are free before it. The first eight changes write a leaf each, and the ninth
+    // two leaves and a root.
+    (
+        "merge makes one change after another",
+        "",
+        "
         format 256
         open
         new a top
@@ -186,33 +210,13 @@ fn merge_makes_one_change_after_another(rt: HostRuntime) {
             2:1=v 2:2=v 2:3=v 2:4=v 2:5=v 2:6=v 2:7=v 2:8=v
         post a
         list top -> 1:1=v 1:2=v 1:3=v 1:4=v 1:5=v 1:6=v 1:7=v 1:8=v 1:9=v \
-            2:1=v 2:2=v 2:3=v 2:4=v 2:5=v 2:6=v 2:7=v 2:8=v";
-    in_256_blocks(&rt, &[row]);
-}
-
-/// 30 blocks are for data. Each of the 14 checkpoints keeps one, so 16 are spare, and one more
-/// after an Uncheck. A Merge without changes asks for none.
-#[test]
-fn merge_of_one_record_asks_for_seventeen_spare_blocks(rt: HostRuntime) {
-    let row = "
-        new a top
-        kept top 1:1 v 14
-        new b top
-        merge a -> error 13 Full
-        merge b -> ok 0
-        post b
-        uncheck top k001
-        merge a -> ok 1
-        put a 1:1 v -> error 13 Full
-        get a 1:1 -> v
-        free -> 16";
-    in_memory(&rt, &[NEW, row]);
-}
-
-/// The map has two leaves under a root, so each change writes two blocks.
-#[test]
-fn merge_brings_changes_into_a_map_of_two_levels(rt: HostRuntime) {
-    let row = "
+            2:1=v 2:2=v 2:3=v 2:4=v 2:5=v 2:6=v 2:7=v 2:8=v",
+    ),
+    // The map has two leaves under a root, so each change writes two blocks.
+    (
+        "merge brings changes into a map of two levels",
+        "",
+        "
         format 256
         open
         puts top 1:1 20 v
@@ -239,6 +243,12 @@ fn merge_brings_changes_into_a_map_of_two_levels(rt: HostRuntime) {
         list top -> 1:1=v 1:2=t 1:3=m 1:4=v 1:6=v 1:7=v 1:8=v 1:9=v 1:10=t 1:11=v 1:13=v \
             1:14=v 1:15=v 1:16=v 1:17=v 1:18=v 1:19=v 1:20=t 1:21=t 1:30=m
         free -> 171
-        changes a -> none";
-    in_256_blocks(&rt, &[row]);
+        changes a -> none",
+    ),
+];
+
+#[test]
+fn merges_ask_for_blocks_and_take_them(rt: HostRuntime) {
+    each_in_memory(&rt, MERGES);
+    each_in_256_blocks(&rt, MERGES_IN_256_BLOCKS);
 }

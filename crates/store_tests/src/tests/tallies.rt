@@ -1,11 +1,13 @@
 //! How far an alternative has gone from its base and from its parent.
-use super::script::{NEW, in_256_blocks, on_both};
+use super::script::{NEW, Row, each_in_256_blocks, each_on_both};
 
-/// Both sides changed the first record, the parent alone the second and the fourth, the alternative
-/// alone the third. A merge takes the parent's three, and a post leaves nothing.
-#[test]
-fn tallies_follow_merges_and_posts(rt: HostRuntime) {
-    let row = "
+const IN_256_BLOCKS: &[Row] = &[
+    // Both sides changed the first record, the parent alone the second and the fourth, the alternative
+    // alone the third. A merge takes the parent's three, and a post leaves nothing.
+    (
+        "tallies follow merges and posts",
+        "",
+        "
         format 256
         open
         put top 1:1 x
@@ -22,14 +24,16 @@ fn tallies_follow_merges_and_posts(rt: HostRuntime) {
         merge a 1:1=mine -> ok 2
         tally a -> 2 0 0 yes
         post a
-        tally a -> 0 0 0 yes";
-    in_256_blocks(&rt, &[row]);
-}
+        tally a -> 0 0 0 yes",
+    ),
+];
 
-/// What a parent took in of its own parent is a change of it. A record that it put back is none.
-#[test]
-fn tallies_are_between_an_alternative_and_its_own_parent(rt: HostRuntime) {
-    let row = "
+const ON_BOTH: &[Row] = &[
+    // What a parent took in of its own parent is a change of it. A record that it put back is none.
+    (
+        "tallies are between an alternative and its own parent",
+        NEW,
+        "
         put top 1:1 x
         new a top
         put a 1:2 y
@@ -45,15 +49,20 @@ fn tallies_are_between_an_alternative_and_its_own_parent(rt: HostRuntime) {
         put a 1:1 x
         tally b -> 1 0 0 yes
         put a 1:2 w
-        tally b -> 1 1 1 no";
-    on_both(&rt, &[NEW, row]);
-}
-
-#[test]
-fn no_tally_where_there_is_no_parent(rt: HostRuntime) {
-    let row = "
+        tally b -> 1 1 1 no",
+    ),
+    (
+        "no tally where there is no parent",
+        NEW,
+        "
         put top 1:1 x
         tally top -> error 6 IsTop
-        tally a -> error 1 NoSuchAlternative";
-    on_both(&rt, &[NEW, row]);
+        tally a -> error 1 NoSuchAlternative",
+    ),
+];
+
+#[test]
+fn tallies_count_what_differs(rt: HostRuntime) {
+    each_in_256_blocks(&rt, IN_256_BLOCKS);
+    each_on_both(&rt, ON_BOTH);
 }

@@ -1,9 +1,11 @@
 //! Alternatives and checkpoints.
-use super::script::{NEW, in_memory, on_both};
+use super::script::{NEW, Row, each_in_memory, each_on_both};
 
-#[test]
-fn commands_on_alternatives_are_refused_in_their_order(rt: HostRuntime) {
-    let row = "
+const ON_BOTH: &[Row] = &[
+    (
+        "commands on alternatives are refused in their order",
+        NEW,
+        "
         new a top
         new b a
         drop a -> error 7 HasChildren
@@ -13,13 +15,12 @@ fn commands_on_alternatives_are_refused_in_their_order(rt: HostRuntime) {
         new a top -> error 2 AlternativeExists
         drop b
         drop a
-        get a 1:1 -> error 1 NoSuchAlternative";
-    on_both(&rt, &[NEW, row]);
-}
-
-#[test]
-fn commands_on_checkpoints_are_refused_in_their_order(rt: HostRuntime) {
-    let row = "
+        get a 1:1 -> error 1 NoSuchAlternative",
+    ),
+    (
+        "commands on checkpoints are refused in their order",
+        NEW,
+        "
         new a top
         back a q -> error 3 NoSuchCheckpoint
         checkpoint a c
@@ -31,75 +32,13 @@ fn commands_on_checkpoints_are_refused_in_their_order(rt: HostRuntime) {
         back top c
         checkpoint c c -> error 1 NoSuchAlternative
         uncheck c c -> error 1 NoSuchAlternative
-        back c c -> error 1 NoSuchAlternative";
-    on_both(&rt, &[NEW, row]);
-}
-
-#[test]
-fn alternatives_show_what_their_parent_had(rt: HostRuntime) {
-    let row = "
-        put top 1:1 x
-        new a top
-        get a 1:1 -> x
-        put top 1:1 z
-        get a 1:1 -> x
-        put a 1:1 y
-        get a 1:1 -> y
-        get top 1:1 -> z";
-    in_memory(&rt, &[NEW, row]);
-}
-
-#[test]
-fn back_shows_the_records_of_the_checkpoint(rt: HostRuntime) {
-    let row = "
-        new a top
-        checkpoint a c
-        put a 1:1 x
-        checkpoint a d
-        back a c
-        get a 1:1 -> ~
-        back a d
-        get a 1:1 -> x
-        back a c";
-    in_memory(&rt, &[NEW, row]);
-}
-
-#[test]
-fn checkpoints_go_with_their_alternative(rt: HostRuntime) {
-    let row = "
-        new a top
-        checkpoint top c
-        checkpoint a c
-        drop a
-        new a top
-        back a c -> error 3 NoSuchCheckpoint
-        back top c";
-    in_memory(&rt, &[NEW, row]);
-}
-
-/// The name has the greatest length.
-#[test]
-fn versions_are_there_after_opening(rt: HostRuntime) {
-    let row = "
-        new nnnnnnnnnnnnnnnnnnnnnnnnnnnnnnnn top
-        put nnnnnnnnnnnnnnnnnnnnnnnnnnnnnnnn 1:1 x
-        checkpoint nnnnnnnnnnnnnnnnnnnnnnnnnnnnnnnn nnnnnnnnnnnnnnnnnnnnnnnnnnnnnnnn
-        put nnnnnnnnnnnnnnnnnnnnnnnnnnnnnnnn 1:1 y
-        commit
-        uncheck nnnnnnnnnnnnnnnnnnnnnnnnnnnnnnnn nnnnnnnnnnnnnnnnnnnnnnnnnnnnnnnn
-        close
-        open
-        get nnnnnnnnnnnnnnnnnnnnnnnnnnnnnnnn 1:1 -> y
-        back nnnnnnnnnnnnnnnnnnnnnnnnnnnnnnnn nnnnnnnnnnnnnnnnnnnnnnnnnnnnnnnn
-        get nnnnnnnnnnnnnnnnnnnnnnnnnnnnnnnn 1:1 -> x
-        get top 1:1 -> ~";
-    in_memory(&rt, &[NEW, row]);
-}
-
-/// Opening makes 4 device calls, and the Commit 19.
-#[test]
-fn five_hundred_and_eleven_entries_are_the_most(rt: HostRuntime) {
-    let row = "
+        back c c -> error 1 NoSuchAlternative",
+    ),
+    // Opening makes 4 device calls, and the Commit 19.
+    (
+        "five hundred and eleven entries are the most",
+        "",
+        "
         format 64
         anew
         open
@@ -113,14 +52,87 @@ fn five_hundred_and_eleven_entries_are_the_most(rt: HostRuntime) {
         open
         checkpoint top k510 -> error 4 CheckpointExists
         uncheck top k077
-        new a top";
-    on_both(&rt, &[row]);
-}
+        new a top",
+    ),
+    (
+        "alternatives are listed in order of creation",
+        NEW,
+        "
+        alts -> top
+        new b top
+        checkpoint b c
+        new a b
+        new d top
+        alts -> top b<top a<b d<top
+        drop a
+        new a d
+        alts -> top b<top d<top a<d",
+    ),
+];
 
-/// The device calls are those of the opening.
-#[test]
-fn calls_that_change_entries_alone_make_no_device_call(rt: HostRuntime) {
-    let row = "
+const IN_MEMORY: &[Row] = &[
+    (
+        "alternatives show what their parent had",
+        NEW,
+        "
+        put top 1:1 x
+        new a top
+        get a 1:1 -> x
+        put top 1:1 z
+        get a 1:1 -> x
+        put a 1:1 y
+        get a 1:1 -> y
+        get top 1:1 -> z",
+    ),
+    (
+        "back shows the records of the checkpoint",
+        NEW,
+        "
+        new a top
+        checkpoint a c
+        put a 1:1 x
+        checkpoint a d
+        back a c
+        get a 1:1 -> ~
+        back a d
+        get a 1:1 -> x
+        back a c",
+    ),
+    (
+        "checkpoints go with their alternative",
+        NEW,
+        "
+        new a top
+        checkpoint top c
+        checkpoint a c
+        drop a
+        new a top
+        back a c -> error 3 NoSuchCheckpoint
+        back top c",
+    ),
+    // The name has the greatest length.
+    (
+        "versions are there after opening",
+        NEW,
+        "
+        new nnnnnnnnnnnnnnnnnnnnnnnnnnnnnnnn top
+        put nnnnnnnnnnnnnnnnnnnnnnnnnnnnnnnn 1:1 x
+        checkpoint nnnnnnnnnnnnnnnnnnnnnnnnnnnnnnnn nnnnnnnnnnnnnnnnnnnnnnnnnnnnnnnn
+        put nnnnnnnnnnnnnnnnnnnnnnnnnnnnnnnn 1:1 y
+        commit
+        uncheck nnnnnnnnnnnnnnnnnnnnnnnnnnnnnnnn nnnnnnnnnnnnnnnnnnnnnnnnnnnnnnnn
+        close
+        open
+        get nnnnnnnnnnnnnnnnnnnnnnnnnnnnnnnn 1:1 -> y
+        back nnnnnnnnnnnnnnnnnnnnnnnnnnnnnnnn nnnnnnnnnnnnnnnnnnnnnnnnnnnnnnnn
+        get nnnnnnnnnnnnnnnnnnnnnnnnnnnnnnnn 1:1 -> x
+        get top 1:1 -> ~",
+    ),
+    // The device calls are those of the opening.
+    (
+        "calls that change entries alone make no device call",
+        "",
+        "
         format 64
         anew
         open
@@ -132,28 +144,12 @@ fn calls_that_change_entries_alone_make_no_device_call(rt: HostRuntime) {
         uncheck a c
         drop a
         close
-        calls -> 4";
-    in_memory(&rt, &[row]);
-}
-
-#[test]
-fn alternatives_are_listed_in_order_of_creation(rt: HostRuntime) {
-    let row = "
-        alts -> top
-        new b top
-        checkpoint b c
-        new a b
-        new d top
-        alts -> top b<top a<b d<top
-        drop a
-        new a d
-        alts -> top b<top d<top a<d";
-    on_both(&rt, &[NEW, row]);
-}
-
-#[test]
-fn checkpoints_are_listed_in_order_of_creation(rt: HostRuntime) {
-    let row = "
+        calls -> 4",
+    ),
+    (
+        "checkpoints are listed in order of creation",
+        NEW,
+        "
         checks top -> none
         new a top
         checkpoint top z
@@ -167,6 +163,12 @@ fn checkpoints_are_listed_in_order_of_creation(rt: HostRuntime) {
         checkpoint a z
         checks a -> y x z
         checks top -> z y x
-        checks x -> error 1 NoSuchAlternative";
-    in_memory(&rt, &[NEW, row]);
+        checks x -> error 1 NoSuchAlternative",
+    ),
+];
+
+#[test]
+fn versions_are_made_shown_listed_and_refused(rt: HostRuntime) {
+    each_on_both(&rt, ON_BOTH);
+    each_in_memory(&rt, IN_MEMORY);
 }

@@ -1,10 +1,12 @@
 //! The blocks of long values, and the leaves that link to them.
-use crate::tests::script::{NEW, and_late, in_256_blocks, on_both};
+use crate::tests::script::{NEW, Row, and_late, each_on_both, in_256_blocks};
 
-/// The block of the value is written first. A short value in its place is in a leaf as ever.
-#[test]
-fn long_value_stands_in_a_block_of_its_own(rt: HostRuntime) {
-    let long = "
+const ON_BOTH: &[Row] = &[
+    // The block of the value is written first. A short value in its place is in a leaf as ever.
+    (
+        "long value stands in a block of its own",
+        NEW,
+        "
         put top 7:1 61*300
         free -> 28
         get top 7:1 -> 61*300
@@ -15,8 +17,7 @@ fn long_value_stands_in_a_block_of_its_own(rt: HostRuntime) {
         block 34 -> 0:4C4F4E47 8:2C01 16:07 18:01 26:61*300
         block 35 -> 0:4C454632 8:01 16:07 18:01 26:2C0122
         block 18 -> 0:534C4F5402 8:40 12:01 128:4103746F70 195:23
-        anew";
-    let short = "
+        anew
         open
         free -> 28
         get top 7:1 -> 61*300
@@ -25,15 +26,14 @@ fn long_value_stands_in_a_block_of_its_own(rt: HostRuntime) {
         get top 7:1 -> duct
         close
         dirty -> 36
-        block 36 -> 0:4C454146 8:01 16:07 18:01 26:04 28:64756374";
-    on_both(&rt, &[NEW, long, short]);
-}
-
-/// The first value takes the blocks 34 and 35. A change of its neighbour copies the leaf alone, which
-/// links to block 34 as before. Without the long value the leaf is one as ever.
-#[test]
-fn leaf_that_is_copied_links_to_the_same_block(rt: HostRuntime) {
-    let row = "
+        block 36 -> 0:4C454146 8:01 16:07 18:01 26:04 28:64756374",
+    ),
+    // The first value takes the blocks 34 and 35. A change of its neighbour copies the leaf alone, which
+    // links to block 34 as before.
+    (
+        "leaf that is copied links to the same block",
+        NEW,
+        "
         put top 1:1 61*300
         put top 1:2 v
         free -> 27
@@ -52,23 +52,34 @@ fn leaf_that_is_copied_links_to_the_same_block(rt: HostRuntime) {
         close
         crash all=41
         open
-        list top -> 1:2=v";
-    on_both(&rt, &[NEW, row]);
-    let alone = "
+        list top -> 1:2=v",
+    ),
+    (
+        "leaf without its long value is one as ever",
+        NEW,
+        "
         put top 1:1 61*300
         put top 1:2 v
         remove top 1:1
         close
-        block 37 -> 0:4C454146 8:01 16:01 18:02 26:01 28:76";
-    on_both(&rt, &[NEW, alone]);
-    let last = "
+        block 37 -> 0:4C454146 8:01 16:01 18:02 26:01 28:76",
+    ),
+    (
+        "long value that was the only one leaves no leaf",
+        NEW,
+        "
         put top 1:1 61*300
         remove top 1:1
         free -> 28
         list top -> none
         reclaim
-        free -> 30";
-    on_both(&rt, &[NEW, last]);
+        free -> 30",
+    ),
+];
+
+#[test]
+fn leaves_link_to_the_blocks_of_long_values(rt: HostRuntime) {
+    each_on_both(&rt, ON_BOTH);
 }
 
 /// The first Put takes the blocks 34 and 35, the next fifteen one each, and the last one a leaf for
@@ -121,7 +132,7 @@ fn block_of_a_long_value_is_forgotten_in_its_own_series_alone(rt: HostRuntime) {
         "put top 1:1 62*300",
         "remove top 1:1",
     ];
-    for (changes, forgotten) in [
+    for (changes, forgotten) in &[
         ([one, "", "", ""], "forgotten -> none"),
         ([one, two, "", ""], "forgotten -> 35"),
         ([one, two, three, ""], "forgotten -> 34 35 36"),

@@ -18,7 +18,7 @@ const LONG_AND_SHORT: &str = "
 /// both sides, and one that both leaves link to is not.
 #[test]
 fn block_of_a_long_value_is_read_once_and_only_where_it_is_wanted(rt: HostRuntime) {
-    for (call, query, calls) in [
+    for (call, query, calls) in &[
         ("", "", "calls -> 6"),
         ("get top 7:1 -> 61*300", "", "calls -> 8"),
         ("look top 7:1 -> 61*300", "", "calls -> 8"),

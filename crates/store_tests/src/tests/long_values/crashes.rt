@@ -37,8 +37,8 @@ fn crash_in_a_put_of_a_long_value_or_its_commit_shows_before_or_after(rt: HostRu
         commit -> error 15 Device
         get top 7:1 -> error 17 Failed
         close";
-    for store in [DUCT, OLD] {
-        for (stop, row, crash, shown) in [
+    for store in &[DUCT, OLD] {
+        for (stop, row, crash, shown) in &[
             ("stop 5 41 41", in_the_put, "crash", ONLY_DUCT),
             ("stop 6 41 41", in_the_put, "crash", ONLY_DUCT),
             ("stop 6 41 41", in_the_put, "crash all=00", ONLY_DUCT),
@@ -98,7 +98,7 @@ fn crash_in_a_merge_of_a_long_value_shows_before_or_after(rt: HostRuntime) {
         list top -> 1:1=62*4000
         free -> 26
         post a";
-    for (stop, row, crash, shown) in [
+    for (stop, row, crash, shown) in &[
         ("stop 12 41 41", in_the_merge, "crash", before),
         ("stop 13 41 41", in_the_merge, "crash", before),
         ("stop 14 41 41", in_the_merge, "crash all=00", before),
@@ -122,7 +122,7 @@ fn failure_in_a_put_of_a_long_value_leaves_what_is_committed(rt: HostRuntime) {
         free -> error 17 Failed
         close
         anew";
-    for once in ["once 5", "once 6", "once 7"] {
+    for once in &["once 5", "once 6", "once 7"] {
         on_both(&rt, &[DUCT, once, row, ONLY_DUCT]);
     }
 }

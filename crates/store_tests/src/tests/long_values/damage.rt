@@ -8,7 +8,7 @@ fn block_of_a_long_value_has_its_key_and_length(rt: HostRuntime) {
         put top 7:1 61*300
         commit
         close";
-    for (change, opened) in [
+    for (change, opened) in &[
         ("set 34 18:02", "open -> error 18 Damaged 34"),
         ("set 34 16:08", "open -> error 18 Damaged 34"),
         ("set 34 8:2B", "open -> error 18 Damaged 34"),
@@ -44,7 +44,7 @@ fn blocks_that_were_met_before_are_compared_all_the_same(rt: HostRuntime) {
         commit
         close
         block 37 -> 0:4C454632 8:02 16:07 18:01 26:2C0122 268:07 270:02 278:2C0124";
-    for (change, opened) in [
+    for (change, opened) in &[
         ("anew", "open"),
         // One block under two keys.
         ("set 37 280:22", "open -> error 18 Damaged 34"),
@@ -63,7 +63,7 @@ fn blocks_that_were_met_before_are_compared_all_the_same(rt: HostRuntime) {
         put a 7:2 v
         commit
         close";
-    for (change, opened) in [
+    for (change, opened) in &[
         ("anew", "open"),
         ("set 36 26:2D", "open -> error 18 Damaged 34"),
         ("set 36 18:00", "open -> error 18 Damaged 34"),
@@ -83,7 +83,7 @@ fn block_of_another_kind_is_no_long_value(rt: HostRuntime) {
         commit
         close
         block 36 -> 0:4C454632 8:02 16:01 18:01 26:01 28:76 268:01 270:02 278:2C0123";
-    for (change, opened) in [
+    for (change, opened) in &[
         ("anew", "open"),
         ("set 36 280:22", "open -> error 18 Damaged 34"),
         ("set 36 280:24", "open -> error 18 Damaged 36"),

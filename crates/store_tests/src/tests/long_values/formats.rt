@@ -51,7 +51,7 @@ fn crash_in_the_commit_that_raises_the_format_shows_the_same(rt: HostRuntime) {
         crash all=41
         open
         list top -> 7:1=duct 7:2=61*300";
-    for stop in [
+    for stop in &[
         "stop 5 41 41",
         "stop 5 00 00",
         "stop 6 41 41",
@@ -59,7 +59,7 @@ fn crash_in_the_commit_that_raises_the_format_shows_the_same(rt: HostRuntime) {
         "stop 7 FE 00",
         "stop 8 41 41",
     ] {
-        for crash in ["crash", "crash 2=41", "crash 1=01", "crash all=00"] {
+        for crash in &["crash", "crash 2=41", "crash 1=01", "crash all=00"] {
             in_memory(&rt, &[OLD, stop, row, crash, after]);
         }
     }
@@ -91,7 +91,7 @@ fn leaf_with_a_long_value_is_damage_under_format_one(rt: HostRuntime) {
         get top 7:1 -> 00*300";
     on_both(&rt, &[OLD, long, behind, "open -> error 18 Damaged 34"]);
     on_both(&rt, &[OLD, long, behind, opened]);
-    for format in ["set 18 4:00", "set 18 4:03", "set 18 5:01"] {
+    for format in &["set 18 4:00", "set 18 4:03", "set 18 5:01"] {
         in_memory(&rt, &[OLD, format, "open -> error 18 Damaged 18"]);
     }
 }

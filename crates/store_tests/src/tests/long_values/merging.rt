@@ -1,11 +1,13 @@
 //! Differences of long values, their conflicts, and merges.
-use crate::tests::script::{NEW, in_256_blocks, on_both};
+use crate::tests::script::{NEW, Row, each_in_256_blocks, each_on_both};
 
-/// The base has 34 and 35, `top` 36 and 37, and `a` 38 and 39. The Merge writes the value of `top`
-/// into a block of its own for `a`, and the leaf, which is then the map of both.
-#[test]
-fn merge_of_a_long_value_writes_a_block_of_its_own(rt: HostRuntime) {
-    let row = "
+const ON_BOTH: &[Row] = &[
+    // The base has 34 and 35, `top` 36 and 37, and `a` 38 and 39. The Merge writes the value of `top`
+    // into a block of its own for `a`, and the leaf, which is then the map of both.
+    (
+        "merge of a long value writes a block of its own",
+        NEW,
+        "
         put top 1:1 61*300
         new a top
         free -> 28
@@ -25,9 +27,12 @@ fn merge_of_a_long_value_writes_a_block_of_its_own(rt: HostRuntime) {
         changes a -> none
         close
         block 40 -> 0:4C4F4E47 8:2C01 16:01 18:01 26:62*300
-        block 41 -> 0:4C454632 8:01 16:01 18:01 26:2C0128";
-    on_both(&rt, &[NEW, row]);
-    let reclaimed = "
+        block 41 -> 0:4C454632 8:01 16:01 18:01 26:2C0128",
+    ),
+    (
+        "reclaim frees the blocks of values that a merge replaced",
+        NEW,
+        "
         put top 1:1 61*300
         new a top
         put top 1:1 62*300
@@ -45,14 +50,59 @@ fn merge_of_a_long_value_writes_a_block_of_its_own(rt: HostRuntime) {
         open
         list top -> 1:1=62*300
         list a -> 1:1=62*300
-        free -> 28";
-    on_both(&rt, &[NEW, reclaimed]);
-}
+        free -> 28",
+    ),
+    // The same value in another block is no change.
+    (
+        "long value that is written again is no change",
+        NEW,
+        "
+        put top 1:1 61*300
+        new a top
+        put a 1:1 61*300
+        put top 1:1 61*300
+        free -> 24
+        changes a -> none
+        conflicts a -> none
+        merge a -> ok 0
+        post a
+        put a 1:1 61*299
+        changes a -> 1:1=61*300/61*299
+        post a
+        list top -> 1:1=61*299",
+    ),
+    // The checkpoint has the blocks 34 and 35. Back there, the blocks 36 and 37 are in no map.
+    (
+        "back shows the long value of the checkpoint",
+        NEW,
+        "
+        put top 1:1 61*300
+        checkpoint top c
+        put top 1:1 62*301
+        free -> 26
+        get top 1:1 -> 62*301
+        new a top c
+        get a 1:1 -> 61*300
+        back top c
+        get top 1:1 -> 61*300
+        reclaim
+        free -> 28
+        put top 1:1 ''
+        free -> 27
+        uncheck top c
+        drop a
+        reclaim
+        free -> 29
+        list top -> 1:1=''",
+    ),
+];
 
-/// Each of the three values is long in one of these, and none in another.
-#[test]
-fn long_values_are_in_conflict_with_short_ones_and_absence(rt: HostRuntime) {
-    let row = "
+const IN_256_BLOCKS: &[Row] = &[
+    // Each of the three values is long in one of these, and none in another.
+    (
+        "long values are in conflict with short ones and absence",
+        "",
+        "
         format 256
         open
         put top 1:1 61*4000
@@ -85,51 +135,12 @@ fn long_values_are_in_conflict_with_short_ones_and_absence(rt: HostRuntime) {
         changes a -> 1:1=62*4000/63*4000 1:4=z/~ 1:6=62*300/63*300
         conflicts a -> none
         post a
-        list top -> 1:1=63*4000 1:3=62*300 1:5=61*301 1:6=63*300 1:7=62*300";
-    in_256_blocks(&rt, &[row]);
-}
+        list top -> 1:1=63*4000 1:3=62*300 1:5=61*301 1:6=63*300 1:7=62*300",
+    ),
+];
 
-/// The same value in another block is no change.
 #[test]
-fn long_value_that_is_written_again_is_no_change(rt: HostRuntime) {
-    let row = "
-        put top 1:1 61*300
-        new a top
-        put a 1:1 61*300
-        put top 1:1 61*300
-        free -> 24
-        changes a -> none
-        conflicts a -> none
-        merge a -> ok 0
-        post a
-        put a 1:1 61*299
-        changes a -> 1:1=61*300/61*299
-        post a
-        list top -> 1:1=61*299";
-    on_both(&rt, &[NEW, row]);
-}
-
-/// The checkpoint has the blocks 34 and 35. Back there, the blocks 36 and 37 are in no map.
-#[test]
-fn back_shows_the_long_value_of_the_checkpoint(rt: HostRuntime) {
-    let row = "
-        put top 1:1 61*300
-        checkpoint top c
-        put top 1:1 62*301
-        free -> 26
-        get top 1:1 -> 62*301
-        new a top c
-        get a 1:1 -> 61*300
-        back top c
-        get top 1:1 -> 61*300
-        reclaim
-        free -> 28
-        put top 1:1 ''
-        free -> 27
-        uncheck top c
-        drop a
-        reclaim
-        free -> 29
-        list top -> 1:1=''";
-    on_both(&rt, &[NEW, row]);
+fn long_values_are_compared_and_merged(rt: HostRuntime) {
+    each_on_both(&rt, ON_BOTH);
+    each_in_256_blocks(&rt, IN_256_BLOCKS);
 }
