@@ -116,11 +116,7 @@ fn visit<D: Disk, const LEAF: usize, const FAN: usize>(
         return Ok(span);
     }
     marks.set(block);
-    let need = if most == 0 {
-        Need::Once
-    } else {
-        Need::Again
-    };
+    let need = if most == 0 { Need::Once } else { Need::Again };
     let form = form_at(disk, blocks, block, need)?;
     match form {
         Form::Leaf(count) => {
