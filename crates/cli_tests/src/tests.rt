@@ -9,7 +9,6 @@ mod growing;
 mod help;
 mod lines;
 mod long_values;
-mod talks;
 mod trees;
 
 use std::alloc::Global;
@@ -73,11 +72,11 @@ fn stopped(output: &[u8]) -> Due<'_> {
 }
 
 impl Outcome {
-    /// Where something else came, these words are told.
-    fn expect<R: Abort>(&self, rt: &R, told: &[&str], due: Due<'_>) {
-        assert_eq!(rt; self.output.as_slice(), due.output, "{told:?}");
-        assert_eq!(rt; self.errors.as_slice(), due.errors, "{told:?}");
-        assert_eq!(rt; self.status, due.status, "{told:?}");
+    /// Where something else came, the words of the run are told.
+    fn expect<R: Abort>(&self, rt: &R, words: &[&str], due: Due<'_>) {
+        assert_eq!(rt; self.output.as_slice(), due.output, "{words:?}");
+        assert_eq!(rt; self.errors.as_slice(), due.errors, "{words:?}");
+        assert_eq!(rt; self.status, due.status, "{words:?}");
     }
 }
 
@@ -111,22 +110,7 @@ fn ran(alloc: Global, files: &mut MemFiles, words: &[&str], input: &[u8]) -> Res
     })
 }
 
-/// A run of the program gives this. Where it does not, these words are told.
-fn expect_told<R: AllocGlobal + Abort>(
-    rt: &R,
-    told: &[&str],
-    files: &mut MemFiles,
-    words: &[&str],
-    input: &[u8],
-    due: Due<'_>,
-) {
-    match ran(rt.alloc(), files, words, input) {
-        Ok(outcome) => outcome.expect(rt, told, due),
-        Err(_) => panic!(rt; "no memory"),
-    }
-}
-
-/// The same, where the words of the run are told.
+/// A run of the program gives this.
 fn expect_run<R: AllocGlobal + Abort>(
     rt: &R,
     files: &mut MemFiles,
@@ -134,7 +118,10 @@ fn expect_run<R: AllocGlobal + Abort>(
     input: &[u8],
     due: Due<'_>,
 ) {
-    expect_told(rt, words, files, words, input, due);
+    match ran(rt.alloc(), files, words, input) {
+        Ok(outcome) => outcome.expect(rt, words, due),
+        Err(_) => panic!(rt; "no memory"),
+    }
 }
 
 /// Runs the program over lines, whatever they are answered.

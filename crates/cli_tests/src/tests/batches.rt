@@ -93,18 +93,15 @@ fn goes_on_after_a_refused_word_and_tells_it(rt: HostRuntime) {
     expect_list(&rt, &mut files, BOTH);
 }
 
-/// Words before lines of which a refused one ends the rest.
-const STRICT: &[&[&str]] = &[
-    &["altctl", "do", "--strict", "f"],
-    &["altctl", "do", "f", "--strict"],
-    &["altctl", "do", "--cache", "0", "--strict", "f"],
-    &["altctl", "do", "--strict", "f", "--"],
-];
-
 #[test]
 fn commits_all_words_or_none(rt: HostRuntime) {
     let mut files = new_files(&rt);
-    for words in STRICT {
+    for words in [
+        ["altctl", "do", "--strict", "f"].as_slice(),
+        ["altctl", "do", "f", "--strict"].as_slice(),
+        ["altctl", "do", "--cache", "0", "--strict", "f"].as_slice(),
+        ["altctl", "do", "--strict", "f", "--"].as_slice(),
+    ] {
         expect_done(
             &rt,
             &mut files,
@@ -150,48 +147,51 @@ fn ends_a_run_at_the_first_refused_line(rt: HostRuntime) {
     );
 }
 
-/// Lines of which one is refused, and what they are answered.
-const TOLD: &[(&[&str], &[u8])] = &[
-    (&["nonsense"], b"error 22 BadLine\n"),
-    (
-        &["get top 7 1", "get a 7 1"],
-        b"none\nerror 1 NoSuchAlternative\n",
-    ),
-    (
-        &["list a", "get top 7 1"],
-        b"error 1 NoSuchAlternative\nnone\n",
-    ),
-    (
-        &["get top 7 1\nget a 7 1\nget top 7 1"],
-        b"none\nerror 1 NoSuchAlternative\nnone\n",
-    ),
-];
-
 #[test]
 fn tells_a_refused_line_wherever_it_stands(rt: HostRuntime) {
     let mut files = new_files(&rt);
-    for (lines, answers) in TOLD {
+    for (lines, answers) in [
+        (["nonsense"].as_slice(), b"error 22 BadLine\n".as_slice()),
+        (
+            ["get top 7 1", "get a 7 1"].as_slice(),
+            b"none\nerror 1 NoSuchAlternative\n".as_slice(),
+        ),
+        (
+            ["list a", "get top 7 1"].as_slice(),
+            b"error 1 NoSuchAlternative\nnone\n".as_slice(),
+        ),
+        (
+            ["get top 7 1\nget a 7 1\nget top 7 1"].as_slice(),
+            b"none\nerror 1 NoSuchAlternative\nnone\n".as_slice(),
+        ),
+    ] {
         let words = ["altctl", "do", "f"];
         expect_done(&rt, &mut files, words.as_slice(), lines, told(answers));
     }
 }
 
-/// Words as lines, and what they are answered.
-const TAKEN: &[(&[&str], &[u8])] = &[
-    (&["", "# note", "get top 7 1"], b"none\n"),
-    (&["get top 7 1\r", "  get top 7 1  "], b"none\nnone\n"),
-    (
-        &["get top 7 1\nget top 7 2", "alts"],
-        b"none\nnone\nalternative top ~\nend 1\n",
-    ),
-    (&["put top 7 1 -", "get top 7 1"], b"ok\nvalue -\n"),
-];
-
 #[test]
 fn takes_a_word_as_the_line_that_it_is(rt: HostRuntime) {
     let mut files = new_files(&rt);
     let words = ["altctl", "do", "f"];
-    for (lines, answers) in TAKEN {
+    for (lines, answers) in [
+        (
+            ["", "# note", "get top 7 1"].as_slice(),
+            b"none\n".as_slice(),
+        ),
+        (
+            ["get top 7 1\r", "  get top 7 1  "].as_slice(),
+            b"none\nnone\n".as_slice(),
+        ),
+        (
+            ["get top 7 1\nget top 7 2", "alts"].as_slice(),
+            b"none\nnone\nalternative top ~\nend 1\n".as_slice(),
+        ),
+        (
+            ["put top 7 1 -", "get top 7 1"].as_slice(),
+            b"ok\nvalue -\n".as_slice(),
+        ),
+    ] {
         expect_done(&rt, &mut files, words.as_slice(), lines, done(answers));
     }
 }
@@ -230,7 +230,7 @@ fn says_that_there_is_no_such_file(rt: HostRuntime) {
 #[test]
 fn job_has_the_words_as_lines(rt: HostRuntime) -> Result<(), Fail> {
     let mut words = Vec::new(rt.alloc());
-    for word in &[
+    for word in [
         "altctl",
         "do",
         "f",

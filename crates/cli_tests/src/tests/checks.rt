@@ -1,5 +1,5 @@
 //! A check of a store: what it holds, or why there is none.
-use super::{CHECK, RUN, TREE, done, expect_run, just_run, new_files, refused};
+use super::{CHECK, RUN, done, expect_run, just_run, new_files, refused};
 use vm_cli::{MemFiles, Place};
 use vm_disk::Disk;
 
@@ -42,19 +42,27 @@ fn counts_what_was_committed(rt: HostRuntime) {
 }
 
 #[test]
-fn checks_and_draws_only_stores(rt: HostRuntime) {
-    for words in &[CHECK, TREE] {
-        let mut files = MemFiles::new(rt.alloc());
-        let absent = refused(b"altctl: cannot open f\n");
-        expect_run(&rt, &mut files, words.as_slice(), b"", absent);
-        let blank = files
-            .create("f", 64)
-            .expect(&rt, "there is no such file yet");
-        files.give_back("f", blank);
-        let zeros = refused(b"altctl: 19 NotAStore\n");
-        expect_run(&rt, &mut files, words.as_slice(), b"", zeros);
-        assert!(rt; files.look("f").is_some(), "{words:?}");
-    }
+fn checks_only_stores(rt: HostRuntime) {
+    let mut files = MemFiles::new(rt.alloc());
+    expect_run(
+        &rt,
+        &mut files,
+        CHECK.as_slice(),
+        b"",
+        refused(b"altctl: cannot open f\n"),
+    );
+    let blank = files
+        .create("f", 64)
+        .expect(&rt, "there is no such file yet");
+    files.give_back("f", blank);
+    expect_run(
+        &rt,
+        &mut files,
+        CHECK.as_slice(),
+        b"",
+        refused(b"altctl: 19 NotAStore\n"),
+    );
+    assert!(rt; files.look("f").is_some());
 }
 
 #[test]

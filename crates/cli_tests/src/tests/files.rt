@@ -1,5 +1,6 @@
 //! Files that are made and opened, and what stays in them.
-use super::{CREATE, RUN, done, expect_run, new_files, refused};
+use super::{CREATE, RUN, done, expect_run, new_files, ran, refused};
+use std::test::Fail;
 use vm_cli::{MemFiles, Place};
 
 #[test]
@@ -19,6 +20,19 @@ fn makes_a_file_once(rt: HostRuntime) {
         b"",
         refused(b"altctl: cannot create f\n"),
     );
+}
+
+#[test]
+fn makes_no_file_out_of_range(rt: HostRuntime) -> Result<(), Fail> {
+    let mut files = MemFiles::new(rt.alloc());
+    for blocks in ["63", "1048577", "x", "-64"] {
+        let words = ["altctl", "create", "g", blocks];
+        let refused = ran(rt.alloc(), &mut files, words.as_slice(), b"")?;
+        assert_eq!(rt; refused.status, 2);
+        assert!(rt; refused.output.is_empty() && !refused.errors.is_empty());
+        assert!(rt; files.find("g").is_none());
+    }
+    Ok(())
 }
 
 #[test]

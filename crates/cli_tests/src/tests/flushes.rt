@@ -137,13 +137,13 @@ fn ends_by_what_could_be_flushed(rt: HostRuntime) -> Result<(), Fail> {
         output: b"",
         errors: b"altctl: cannot open f\naltctl: stopped\n",
     };
-    for (words, output, errors, due) in &[
+    for (words, output, errors, due) in [
         (CREATE.as_slice(), 1, 0, created),
         (CREATE.as_slice(), 0, 1, silent),
         (RUN.as_slice(), 0, 1, absent),
         (RUN.as_slice(), 0, 0, unheard),
     ] {
-        flushed(rt.alloc(), words, *output, *errors)?.expect(&rt, words, *due);
+        flushed(rt.alloc(), words, output, errors)?.expect(&rt, words, due);
     }
     Ok(())
 }

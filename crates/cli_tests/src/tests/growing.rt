@@ -1,5 +1,5 @@
 //! Stores that lines make larger.
-use super::talks::expect_talk;
+use super::lines::push_checkpoint;
 use super::{CHECK, CREATE, RUN, done, expect_run, new_files, stopped, told};
 use std::process::Abort;
 use std::test::Fail;
@@ -61,7 +61,7 @@ free 93\n";
 
 #[test]
 fn grows_and_keeps_the_size_that_is_committed(rt: HostRuntime) {
-    for words in &[
+    for words in [
         RUN.as_slice(),
         ["altctl", "run", "--cache", "0", "f"].as_slice(),
         ["altctl", "run", "--cache", "1", "f"].as_slice(),
@@ -98,7 +98,7 @@ fn takes_numbers_with_leading_zeros(rt: HostRuntime) {
 #[test]
 fn refuses_what_is_no_number_of_32_bits(rt: HostRuntime) {
     let mut files = files_with_room(&rt, 128);
-    for line in &[
+    for line in [
         b"grow\n".as_slice(),
         b"grow a\n",
         b"grow 1 2\n",
@@ -128,34 +128,19 @@ fn refuses_what_is_no_number_of_32_bits(rt: HostRuntime) {
 /// which wants 17.
 #[test]
 fn finds_blocks_for_a_put_by_a_grow(rt: HostRuntime) -> Result<(), Fail> {
-    let mut talk = String::new(rt.alloc());
+    let mut files = files_with_room(&rt, 65);
+    let mut lines = Vec::new(rt.alloc());
+    let mut answers = Vec::new(rt.alloc());
     for number in 1..15 {
-        write!(
-            talk,
-            "> put top 1 1 v\nok\n> checkpoint top k{number}\nok\n"
-        )?;
+        lines.extend_from_slice(b"put top 1 1 v\n")?;
+        push_checkpoint(&mut lines, b"checkpoint", number)?;
+        answers.extend_from_slice(b"ok\nok\n")?;
     }
-    talk.push_str(
-        "
-        > put top 1 1 v
-        error 13 Full
-        > grow 65
-        ok
-        > free
-        free 17
-        > put top 1 1 v
-        ok
-        > commit
-        ok
-        > put top 1 1 v
-        error 13 Full",
-    )?;
-    expect_talk(
-        &rt,
-        "a grow for a put",
-        &mut files_with_room(&rt, 65),
-        &talk,
-    )
+    lines.extend_from_slice(b"put top 1 1 v\ngrow 65\nfree\n")?;
+    lines.extend_from_slice(b"put top 1 1 v\ncommit\nput top 1 1 v\n")?;
+    answers.extend_from_slice(b"error 13 Full\nok\nfree 17\nok\nok\nerror 13 Full\n")?;
+    expect_answers(&rt, &mut files, lines.as_slice(), answers.as_slice());
+    Ok(())
 }
 
 /// Lines of a merge of 9 changes, which wants 153 spare blocks. Two are in use for data, and 34 are the

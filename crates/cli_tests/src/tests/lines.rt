@@ -1,20 +1,13 @@
 //! What lines are answered.
-use super::talks::expect_talk;
-use super::{RUN, done, expect_told, new_files};
+use super::{RUN, done, expect_run, new_files};
+use std::alloc::Global;
 use std::process::Abort;
 use std::test::Fail;
 
-/// Runs the lines on a new store, which are to be answered so. Where they are not, the name is told.
-fn expect_answers<R: AllocGlobal + Abort>(rt: &R, name: &str, lines: &[u8], answers: &[u8]) {
+/// Runs the lines on a new store, which are to be answered so.
+fn expect_answers<R: AllocGlobal + Abort>(rt: &R, lines: &[u8], answers: &[u8]) {
     let mut files = new_files(rt);
-    expect_told(
-        rt,
-        &[name],
-        &mut files,
-        RUN.as_slice(),
-        lines,
-        done(answers),
-    );
+    expect_run(rt, &mut files, RUN.as_slice(), lines, done(answers));
 }
 
 /// Lines, and below them what each is answered.
@@ -59,6 +52,11 @@ error 22 BadLine\n\
 error 22 BadLine\n\
 ok\n\
 ok\n";
+
+#[test]
+fn answers_lines(rt: HostRuntime) {
+    expect_answers(&rt, LINES, ANSWERS);
+}
 
 /// Lines of two designs, one below the other.
 const DESIGNS: &[u8] = b"\
@@ -154,6 +152,11 @@ ok\n\
 value -\n\
 error 5 NoSuchRecord\n";
 
+#[test]
+fn answers_lines_of_designs(rt: HostRuntime) {
+    expect_answers(&rt, DESIGNS, DESIGN_ANSWERS);
+}
+
 /// Lines of a conflict, which is settled by one's own value.
 const CONFLICT: &[u8] = b"\
 new a top\n\
@@ -183,6 +186,11 @@ alternative top ~\n\
 alternative a top\n\
 end 2\n\
 ok\n";
+
+#[test]
+fn settles_a_conflict(rt: HostRuntime) {
+    expect_answers(&rt, CONFLICT, CONFLICT_ANSWERS);
+}
 
 /// Lines of changes since a base, and of a merge that takes the parent's value.
 const CHANGES: &[u8] = b"\
@@ -241,6 +249,11 @@ record 7 1 tube\n\
 record 7 3 wire\n\
 end 3\n";
 
+#[test]
+fn lists_changes_and_merges(rt: HostRuntime) {
+    expect_answers(&rt, CHANGES, CHANGE_ANSWERS);
+}
+
 /// Lines of an alternative that begins at a checkpoint of its parent.
 const CHECKPOINTED: &[u8] = b"\
 put top 1 1 x\n\
@@ -291,6 +304,11 @@ end 1\n\
 alternative top ~\n\
 alternative a top\n\
 end 2\n";
+
+#[test]
+fn alternative_begins_at_a_checkpoint_of_its_parent(rt: HostRuntime) {
+    expect_answers(&rt, CHECKPOINTED, CHECKPOINTED_ANSWERS);
+}
 
 /// Lines of merges and posts that are refused.
 const REFUSED: &[u8] = b"\
@@ -351,131 +369,129 @@ error 22 BadLine\n\
 ok 0\n\
 ok\n";
 
-/// Lines with a name, and what they are answered over a new store.
-const ROWS: &[(&str, &[u8], &[u8])] = &[
-    ("lines", LINES, ANSWERS),
-    ("lines of designs", DESIGNS, DESIGN_ANSWERS),
-    ("a conflict that is settled", CONFLICT, CONFLICT_ANSWERS),
-    ("changes and merges", CHANGES, CHANGE_ANSWERS),
-    (
-        "an alternative that begins at a checkpoint of its parent",
-        CHECKPOINTED,
-        CHECKPOINTED_ANSWERS,
-    ),
-    (
-        "merges and posts that are refused",
-        REFUSED,
-        REFUSED_ANSWERS,
-    ),
-];
-
 #[test]
-fn answers_lines(rt: HostRuntime) {
-    for (name, lines, answers) in ROWS {
-        expect_answers(&rt, name, lines, answers);
-    }
+fn refuses_merges_and_posts(rt: HostRuntime) {
+    expect_answers(&rt, REFUSED, REFUSED_ANSWERS);
 }
 
 #[test]
 fn refuses_lines_with_too_few_or_too_many_words(rt: HostRuntime) {
-    for line in &[
-        "new a\n",
-        "new a top x y\n",
-        "new a top x!\n",
-        "new a! top\n",
-        "drop\n",
-        "drop a b\n",
-        "remove top 7\n",
-        "remove top 7 1 x\n",
-        "checkpoint top\n",
-        "uncheck top a b\n",
-        "back top\n",
-        "list\n",
-        "list top top\n",
-        "alts top\n",
-        "checks\n",
-        "New a top\n",
+    for line in [
+        b"new a\n".as_slice(),
+        b"new a top x y\n",
+        b"new a top x!\n",
+        b"new a! top\n",
+        b"drop\n",
+        b"drop a b\n",
+        b"remove top 7\n",
+        b"remove top 7 1 x\n",
+        b"checkpoint top\n",
+        b"uncheck top a b\n",
+        b"back top\n",
+        b"list\n",
+        b"list top top\n",
+        b"alts top\n",
+        b"checks\n",
+        b"New a top\n",
     ] {
-        expect_answers(&rt, line, line.as_bytes(), b"error 22 BadLine\n");
+        expect_answers(&rt, line, b"error 22 BadLine\n");
     }
+}
+
+/// Appends the line of a checkpoint of `top`, whose name is a number.
+pub(super) fn push_checkpoint(into: &mut Vec<u8>, verb: &[u8], number: u32) -> Result<(), Fail> {
+    let mut buffer = itoa::Buffer::new();
+    into.extend_from_slice(verb)?;
+    into.extend_from_slice(b" top k")?;
+    into.extend_from_slice(buffer.format(number).as_bytes())?;
+    into.push(b'\n')?;
+    Ok(())
 }
 
 /// 30 blocks are for data. Each of the 14 checkpoints keeps one, so 16 are spare for the next Put.
 #[test]
 fn answers_full_where_checkpoints_keep_the_blocks(rt: HostRuntime) -> Result<(), Fail> {
-    let mut talk = String::new(rt.alloc());
+    let mut lines = Vec::new(rt.alloc());
+    let mut answers = Vec::new(rt.alloc());
     for number in 1..15 {
-        write!(
-            talk,
-            "> put top 1 1 v\nok\n> checkpoint top k{number}\nok\n"
-        )?;
+        lines.extend_from_slice(b"put top 1 1 v\n")?;
+        push_checkpoint(&mut lines, b"checkpoint", number)?;
+        answers.extend_from_slice(b"ok\nok\n")?;
     }
-    talk.push_str(
-        "
-        > commit
-        ok
-        > put top 1 1 v
-        error 13 Full
-        > uncheck top k1
-        ok
-        > put top 1 1 v
-        error 13 Full
-        > commit
-        ok
-        > put top 1 1 v
-        ok
-        > free
-        free 16",
-    )?;
-    expect_talk(&rt, "full", &mut new_files(&rt), &talk)
+    lines.extend_from_slice(b"commit\nput top 1 1 v\n")?;
+    push_checkpoint(&mut lines, b"uncheck", 1)?;
+    lines.extend_from_slice(b"put top 1 1 v\ncommit\nput top 1 1 v\nfree\n")?;
+    answers.extend_from_slice(b"ok\nerror 13 Full\nok\nerror 13 Full\nok\nok\nfree 16\n")?;
+    expect_answers(&rt, lines.as_slice(), answers.as_slice());
+    Ok(())
 }
 
 #[test]
 fn answers_too_many_after_511_entries(rt: HostRuntime) -> Result<(), Fail> {
-    let mut talk = String::new(rt.alloc());
+    let mut lines = Vec::new(rt.alloc());
+    let mut answers = Vec::new(rt.alloc());
     for number in 1..511 {
-        write!(talk, "> checkpoint top k{number}\nok\n")?;
+        push_checkpoint(&mut lines, b"checkpoint", number)?;
+        answers.extend_from_slice(b"ok\n")?;
     }
-    talk.push_str(
-        "
-        > checkpoint top k511
-        error 12 TooMany
-        > new a top
-        error 12 TooMany
-        > commit
-        ok",
-    )?;
-    expect_talk(&rt, "too many", &mut new_files(&rt), &talk)
+    push_checkpoint(&mut lines, b"checkpoint", 511)?;
+    lines.extend_from_slice(b"new a top\ncommit\n")?;
+    answers.extend_from_slice(b"error 12 TooMany\nerror 12 TooMany\nok\n")?;
+    expect_answers(&rt, lines.as_slice(), answers.as_slice());
+    Ok(())
+}
+
+/// Appends what begins the line of a record, and its value of 4,000 zero bytes.
+fn push_zeros(into: &mut Vec<u8>, verb: &[u8], number: u8) -> Result<(), Fail> {
+    into.extend_from_slice(verb)?;
+    into.push(number)?;
+    into.push(b' ')?;
+    push_times(into, b"%00", 4000)?;
+    into.push(b'\n')?;
+    Ok(())
+}
+
+/// Appends a text so many times.
+pub(super) fn push_times(into: &mut Vec<u8>, text: &[u8], times: usize) -> Result<(), Fail> {
+    for _ in 0..times {
+        into.extend_from_slice(text)?;
+    }
+    Ok(())
 }
 
 #[test]
 fn lists_more_than_one_text_takes(rt: HostRuntime) -> Result<(), Fail> {
-    let mut talk = String::new(rt.alloc());
-    for digit in 0..10 {
-        write!(
-            talk,
-            "> put top 65535 184467440737095516{digit} %00*4000\nok\n"
-        )?;
+    let mut lines = Vec::new(rt.alloc());
+    let mut answers = Vec::new(rt.alloc());
+    for number in b'0'..=b'9' {
+        push_zeros(&mut lines, b"put top 65535 184467440737095516", number)?;
+        answers.extend_from_slice(b"ok\n")?;
     }
-    talk.push_str("> list top\n")?;
-    for digit in 0..10 {
-        write!(talk, "record 65535 184467440737095516{digit} %00*4000\n")?;
+    lines.extend_from_slice(b"list top\n")?;
+    for number in b'0'..=b'9' {
+        push_zeros(&mut answers, b"record 65535 184467440737095516", number)?;
     }
-    talk.push_str("end 10")?;
-    expect_talk(&rt, "more than one text takes", &mut new_files(&rt), &talk)
+    answers.extend_from_slice(b"end 10\n")?;
+    expect_answers(&rt, lines.as_slice(), answers.as_slice());
+    Ok(())
+}
+
+/// A comment of this many bytes, and a query behind it.
+fn comment(alloc: Global, len: usize) -> Result<Vec<u8>, Fail> {
+    let mut line = Vec::new(alloc);
+    for _ in 0..len {
+        line.push(b'#')?;
+    }
+    line.extend_from_slice(b"\nget top 9 9\n")?;
+    Ok(line)
 }
 
 #[test]
 fn skips_long_lines(rt: HostRuntime) -> Result<(), Fail> {
-    let longest = "
-        > #*1048576
-        > get top 9 9
-        none";
-    expect_talk(&rt, "the longest line", &mut new_files(&rt), longest)?;
-    let longer = "
-        > #*1048577
-        error 23 LongLine
-        > get top 9 9
-        none";
-    expect_talk(&rt, "a longer line", &mut new_files(&rt), longer)
+    let longest = comment(rt.alloc(), 1_048_576)?;
+    expect_answers(&rt, longest.as_slice(), b"none\n");
+    let longer = comment(rt.alloc(), 1_048_577)?;
+    let answers = b"error 23 LongLine\nnone\n";
+    expect_answers(&rt, longer.as_slice(), answers);
+    Ok(())
 }

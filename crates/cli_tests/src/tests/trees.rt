@@ -123,6 +123,20 @@ changed unmerged conflicts post
 }
 
 #[test]
+fn draws_only_stores(rt: HostRuntime) {
+    let mut files = MemFiles::new(rt.alloc());
+    let absent = b"altctl: cannot open f\n";
+    expect_run(&rt, &mut files, TREE.as_slice(), b"", refused(absent));
+    let blank = files
+        .create("f", 64)
+        .expect(&rt, "there is no such file yet");
+    files.give_back("f", blank);
+    let zeros = b"altctl: 19 NotAStore\n";
+    expect_run(&rt, &mut files, TREE.as_slice(), b"", refused(zeros));
+    assert!(rt; files.look("f").is_some());
+}
+
+#[test]
 fn draws_no_damaged_store(rt: HostRuntime) {
     let mut files = new_files(&rt);
     just_run(&rt, &mut files, RUN.as_slice(), LEVELS);
