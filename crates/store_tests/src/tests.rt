@@ -3,6 +3,7 @@
 //! Most tests are rows of text (`script.rt`): what is done, and what each step is answered.
 mod answers;
 mod blocks;
+mod caching;
 mod counting;
 mod crashes;
 mod differences;

@@ -4,7 +4,7 @@ ghost use Rattle.vm_alloc.specs.Held.{HoldsMore};
 ghost use Rattle.vm_block.specs.Told.{IfHasRows, IfLeafRowAt};
 ghost use Rattle.vm_tree.specs.Calls.{OnlyLooks};
 ghost use Rattle.vm_tree.specs.Tree.{IsData};
-ghost use Rattle.vm_check.specs.Marking.{Closes, Covers, CoversBelow, CoversUnder, MarksLink, MarksLinks, OnLeaf, PaysReads, SoundBelow, SoundLeaf, SoundLink, SoundLinks, SoundOn, SoundUnder, MarksOnlyBelow, MarksOnlyLink, MarksOnlyLinks, MarksOnlyOn, MarksOnlyUnder, TellsLink, unmarked};
+ghost use Rattle.vm_check.specs.Marking.{Closes, Covers, CoversBelow, CoversUnder, MarksLink, MarksLinks, MarksOnlyBelow, MarksOnlyLink, MarksOnlyLinks, MarksOnlyOn, MarksOnlyUnder, OnLeaf, PaysReads, SoundBelow, SoundLeaf, SoundLink, SoundLinks, SoundOn, SoundUnder, TellsLink, unmarked};
 ghost use Rattle.vm_check.specs.Noted.{inner_of, notes_of};
 ghost use Rattle.vm_check.specs.Notes.{is_noted};
 

@@ -116,6 +116,7 @@ fn visit<D: Disk, const LEAF: usize, const FAN: usize>(
         return Ok(span);
     }
     marks.set(block);
+    // What a leaf says is told at once; of an inner block it is what the next commands go through.
     let need = if most == 0 { Need::Once } else { Need::Again };
     let form = form_at(disk, blocks, block, need)?;
     match form {

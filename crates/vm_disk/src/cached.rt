@@ -125,7 +125,8 @@ impl<D: Disk> Disk for CachedDisk<D> {
             → Below D.state (Counts 1 result) self.old self.new }
         ensures kept { need ≡ Need.Again → OnOk result (Uses n (cached_hand self.new) self.old self.new) }
 
-        // A block that is needed once takes the place of no other one.
+        // A block that is needed once stays kept, if it was, and else takes the place of no other one.
+        ensures stays { keeps n (kept_of self.old) ≡ true → Uses n (cached_hand self.new) self.old self.new }
         ensures once { need ≡ Need.Once → keeps n (kept_of self.old) ≡ false
             → KeepsJust (kept_of self.old) self.old self.new }
         ensures failed { OnErr result (KeepsJust (kept_of self.old) self.old self.new) }

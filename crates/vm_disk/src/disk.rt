@@ -7,11 +7,13 @@ ghost use Rattle.vm_disk.specs.Disk.{DiskState, Counts, Reads, Writes, Idles, Fo
 #[derive(Clone, Copy, Debug, PartialEq, Eq)]
 pub struct DeviceFault;
 
-/// How often a block that is got to hand is needed, as far as its caller knows. It tells what is worth
-/// to be kept, and nothing else.
+/// Whether a block that is got to hand will be needed again, as far as its caller knows. It tells a disk
+/// what is worth keeping, and nothing else.
 #[derive(Clone, Copy, Debug, PartialEq, Eq)]
 pub enum Need {
+    /// Soon again.
     Again,
+    /// This time alone.
     Once,
 }
 
@@ -37,7 +39,7 @@ pub trait Disk {
             → Reads n into.new result (state self.old) (state self.new) };
 
     /// Gets block n to hand, where it stays until the next call that may change the disk. Where it fails,
-    /// any bytes are at hand.
+    /// any bytes are at hand. What is needed changes none of this.
     fn load(&mut self, n: u32, need: Need) -> Result<(), DeviceFault>
         requires { n < (state self.old).blocks }
         ensures any { Counts 1 result (state self.old) (state self.new) }
