@@ -44,7 +44,7 @@ pub fn is_alternative_of(name: &Name, version: &Version) -> bool
 pub fn is_checkpoint_under(alt: &Name, version: &Version) -> bool
     ensures { result ≡ is_checkpoint_under alt.now version.now }
 {
-    version.kind == Kind::Checkpoint && version.owner == Some(*alt)
+    version.kind == Kind::Checkpoint && version.owner.as_ref() == Some(alt)
 }
 
 /// Whether the version is the checkpoint of this name of the alternative.
@@ -58,7 +58,7 @@ pub fn is_checkpoint_of(alt: &Name, name: &Name, version: &Version) -> bool
 pub fn is_child_of(alt: &Name, version: &Version) -> bool
     ensures { result ≡ is_child_of alt.now version.now }
 {
-    version.kind == Kind::Alternative && version.owner == Some(*alt)
+    version.kind == Kind::Alternative && version.owner.as_ref() == Some(alt)
 }
 
 /// Whether the version is neither the alternative nor one of its checkpoints.
