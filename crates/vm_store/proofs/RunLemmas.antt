@@ -19,7 +19,7 @@ use Rattle.vm_block.specs.declared.selector.SlotName.{SlotName}
 use Rattle.vm_store.specs.declared.version.Version.{Version}
 use Rattle.vm_store.specs.Answers.{ChangesEntriesAlone, IsEarly, IsGrow, IsMergeAnswer, TakesMemory, merge_changes}
 use Rattle.vm_store.specs.Changing.{MeetsFullPath}
-use Rattle.vm_store.specs.Store.{Answers, Holds, IsSameButDisk, disk_of, entries_of, free_of, has_failed, held_of}
+use Rattle.vm_store.specs.Store.{Answers, GrowsNoMore, Holds, IsSameButDisk, disk_of, entries_of, free_of, has_failed, held_of}
 use Rattle.vm_store.specs.declared.store.Store.{Store}
 use Rattle.vm_tree.specs.Free.{is_free}
 use Rattle.vm_store.specs.Growing.{Grows}
@@ -83,7 +83,7 @@ module _ {D : Type 0} {members : _} where
   -- what `apply` promises of one command
   pub carried_out : (old new : Store D members) (s : State) (c : Command) (a : Result Answer Refusal) → ((members.state (disk_of new)).honest ≡ true → (holds : Holds old s) → Answers old new s holds c a)
       → Grows (a ≡ Err Device) (members.state (disk_of old)) (members.state (disk_of new))
-      → ((IsGrow c → ⊥) → (members.state (disk_of new)).blocks ≡ (members.state (disk_of old)).blocks) → (IsGrow c → IfErr a (λ refusal. IsEarly refusal → disk_of new ≡ disk_of old)) → (has_failed new ≡ true ↔ a ≡ Err Device)
+      → ((IsGrow c → ⊥) → (members.state (disk_of new)).blocks ≡ (members.state (disk_of old)).blocks) → GrowsNoMore old new c → (IsGrow c → IfErr a (λ refusal. IsEarly refusal → disk_of new ≡ disk_of old)) → (has_failed new ≡ true ↔ a ≡ Err Device)
       → a ≢ Err Failed → (a ≡ Err Memory → TakesMemory c)
       → OnErr a (a ≢ Err Device → entries_of new ≡ entries_of old) → IfErr a (λ refusal. IsEarly refusal → IsSameButDisk old new)
       → (ChangesEntriesAlone c → (disk_of new ≡ disk_of old) × (held_of new ≡ held_of old)) → ((members.state (disk_of new)).honest ≡ true → Holds old s → a ≢ Err Device → Holds new (next s c a))
@@ -91,10 +91,11 @@ module _ {D : Type 0} {members : _} where
       → ((members.state (disk_of new)).honest ≡ true → Holds old s → Throughout (members.state (disk_of old)) (members.state (disk_of new)) (IsGuarded (held_of new)))
       → ((members.state (disk_of new)).honest ≡ true → c ≡ Reclaim → (holds : Holds old s) → OnOk a (free_of new ≡ spare_of holds.rests))
       → ((blocks : ℕ) → c ≡ Grow blocks → Holds old s → OnOk a (free_of new ≡ free_of old + (blocks - s.blocks))) → CarriesOut old new s c a
-  carried_out old new s c a answers goes as_long untouched failed only_then memory same unchanged blocks holds crash guarded reclaimed grown = record {
+  carried_out old new s c a answers goes as_long no_more untouched failed only_then memory same unchanged blocks holds crash guarded reclaimed grown = record {
     answers = answers;
     goes = goes;
     as_long = as_long;
+    no_more = no_more;
     untouched = untouched;
     failed = failed;
     only_then = only_then;

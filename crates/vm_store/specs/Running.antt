@@ -14,7 +14,7 @@ use Rattle.vm_disk.specs.Moments.{Throughout}
 use Rattle.vm_store.specs.Answers.{ChangesEntriesAlone, IsGrow, TakesMemory}
 use Rattle.vm_store.specs.Guarded.{IsGuarded}
 use Rattle.vm_store.specs.Resting.{spare_of}
-use Rattle.vm_store.specs.Store.{Answers, CrashLeaves, EarlyKeeps, EarlyLeavesDisk, GrowsOn, Holds, IsAsLong, IsHonest, LeavesBlocks, StaysGuarded, disk_of, entries_of, free_of, has_failed, held_of}
+use Rattle.vm_store.specs.Store.{Answers, CrashLeaves, EarlyKeeps, EarlyLeavesDisk, GrowsNoMore, GrowsOn, Holds, IsAsLong, IsHonest, LeavesBlocks, StaysGuarded, disk_of, entries_of, free_of, has_failed, held_of}
 use Rattle.vm_store.specs.Shown.{Shows}
 use Rattle.vm_store.specs.declared.store.Store.{Store}
 
@@ -32,8 +32,9 @@ module _ {D : Type 0} {members : _} where
     pub memory : answer ≡ Err Memory → TakesMemory command
     -- it is Device only where a device call failed
     pub goes : GrowsOn (answer ≡ Err Device) old new
-    -- no command but a Grow gives the disk more blocks, and a Grow that is refused early makes no device call
+    -- no command but a Grow gives the disk more blocks, a Grow no more than it asks for, and one that is refused early makes no device call
     pub as_long : (IsGrow command → ⊥) → IsAsLong old new
+    pub no_more : GrowsNoMore old new command
     pub untouched : IsGrow command → EarlyLeavesDisk answer old new
     -- then, and only then, the store has failed
     pub failed : has_failed new ≡ true ↔ answer ≡ Err Device

@@ -1,5 +1,5 @@
 -- A store, and the state that it stands for.
-use Rattle.std.specs.Prelude.{◌≡◌, ◌≢◌, ℕ, ◌+◌, ◌-◌, ◌≤◌, Bool, true, false, List, Option, find, Result, Err, IfErr, OnOk}
+use Rattle.std.specs.Prelude.{◌≡◌, ◌≢◌, ℕ, ◌+◌, ◌-◌, ◌≤◌, ◌⊎◌, Bool, true, false, List, Option, find, Result, Err, IfErr, OnOk}
 use Rattle.vm_types.specs.declared.answer.Answer.{Answer}
 use Rattle.vm_types.specs.declared.command.Command.{Command}
 use Rattle.vm_types.specs.declared.command.Command.TheVariants.{Grow, Merge, Reclaim}
@@ -107,6 +107,14 @@ module _ {D : Type 0} {members : _} where
   -- the disk has as many blocks as before
   abbrev pub IsAsLong : (old new : Store D members) → Type 0
   IsAsLong old new = (members.state (disk_of new)).blocks ≡ (members.state (disk_of old)).blocks
+
+  -- the disk has as many blocks as before, or no more than so many
+  abbrev pub IsNoLonger : (old new : Store D members) → ℕ → Type 0
+  IsNoLonger old new blocks = IsAsLong old new ⊎ ((members.state (disk_of new)).blocks ≤ blocks)
+
+  -- a Grow gives the disk no more blocks than it asks for
+  abbrev pub GrowsNoMore : (old new : Store D members) → Command → Type 0
+  GrowsNoMore old new command = (blocks : ℕ) → command ≡ Grow blocks → IsNoLonger old new blocks
 
   -- a refusal that comes before blocks are marked, taken or written comes without a device call
   abbrev pub EarlyLeavesDisk : Result Answer Refusal → (old new : Store D members) → Type 0

@@ -64,7 +64,7 @@ pub struct Store<D: Disk> {
 }
 
 impl<D: Disk> Store<D> {
-    ghost use Rattle.vm_store.specs.Store.{disk_of, has_failed, entries_of, IsHonest, GoesOn, GrowsOn, IsAsLong, FromState, IsAnswered, StandsAfter, StaysGuarded, CrashLeaves, EarlyKeeps, EarlyLeavesDisk, LeavesBlocks, ReclaimsAll, GrowsFree, ClosesWith};
+    ghost use Rattle.vm_store.specs.Store.{disk_of, has_failed, entries_of, IsHonest, GoesOn, GrowsOn, IsAsLong, FromState, IsAnswered, StandsAfter, StaysGuarded, CrashLeaves, EarlyKeeps, EarlyLeavesDisk, LeavesBlocks, ReclaimsAll, GrowsFree, GrowsNoMore, ClosesWith};
 
     /// Carries out one command. After an answer `Device` the store answers `Failed` to every call but
     /// `close`: close it, and open the disk again.
@@ -81,8 +81,10 @@ impl<D: Disk> Store<D> {
         ensures unchanged { EarlyKeeps result self.old self.new }
         ensures memory { result ≡ Err Refusal.Memory → TakesMemory command.now }
 
-        // No command but a Grow gives the disk blocks, and one that is refused early makes no device call.
+        // No command but a Grow gives the disk blocks, and it no more than it asks for; one that is refused early makes no
+        // device call.
         ensures as_long { (IsGrow command.now → ⊥) → IsAsLong self.old self.new }
+        ensures no_more { GrowsNoMore self.old self.new command.now }
         ensures untouched { IsGrow command.now → EarlyLeavesDisk result self.old self.new }
 
         // To make, drop or go back to alternatives and checkpoints takes no device call and no block.

@@ -20,12 +20,13 @@ use vm_disk::Disk;
 use vm_types::{Answer, Command, Refusal};
 
 impl<D: Disk> Store<D> {
-    ghost use Rattle.vm_store.specs.Store.{entries_of, IsHonest, GrowsOn, IsAsLong, EarlyKeeps, EarlyLeavesDisk, LeavesBlocks, IsCarriedOut, ReclaimsAll, GrowsFree};
+    ghost use Rattle.vm_store.specs.Store.{entries_of, IsHonest, GrowsOn, IsAsLong, EarlyKeeps, EarlyLeavesDisk, LeavesBlocks, IsCarriedOut, ReclaimsAll, GrowsFree, GrowsNoMore};
 
     /// Carries out one command, and leaves it to `apply` to note that the device failed.
     pub(super) fn dispatch(&mut self, command: &Command) -> Result<Answer, Refusal>
         ensures any { GrowsOn (result ≡ Err Refusal.Device) self.old self.new }
         ensures as_long { (IsGrow command.now → ⊥) → IsAsLong self.old self.new }
+        ensures no_more { GrowsNoMore self.old self.new command.now }
         ensures untouched { IsGrow command.now → EarlyLeavesDisk result self.old self.new }
         ensures never { result ≢ Err Refusal.Failed }
         ensures memory { result ≡ Err Refusal.Memory → TakesMemory command.now }

@@ -10,7 +10,7 @@ use vm_disk::Disk;
 use vm_types::{Answer, MAX_BLOCKS, Refusal};
 
 impl<D: Disk> Store<D> {
-    ghost use Rattle.vm_store.specs.Store.{disk_of, has_failed, entries_of, EarlyLeavesDisk, IsCarriedOut, NewAreFree, Holds, IsHonest, IsSameButDisk, GrowsOn, EarlyKeeps};
+    ghost use Rattle.vm_store.specs.Store.{disk_of, has_failed, entries_of, EarlyLeavesDisk, IsCarriedOut, IsNoLonger, NewAreFree, Holds, IsHonest, IsSameButDisk, GrowsOn, EarlyKeeps};
 
     /// How many blocks the store has, those of the slots included. The next Commit keeps that many.
     pub fn blocks(&self) -> Result<u32, Refusal>
@@ -35,6 +35,7 @@ impl<D: Disk> Store<D> {
         ensures same { entries_of self.new ≡ entries_of self.old }
         ensures unchanged { EarlyKeeps result self.old self.new }
         ensures untouched { EarlyLeavesDisk result self.old self.new }
+        ensures no_more { IsNoLonger self.old self.new blocks }
         ensures carried { IsCarriedOut self.old self.new (Grow blocks) result }
         ensures grown { NewAreFree result self.old self.new blocks }
     {
@@ -66,6 +67,7 @@ impl<D: Disk> Store<D> {
     fn lengthen(&mut self, blocks: u32) -> Result<(), Refusal>
         ensures same { IsSameButDisk self.old self.new }
         ensures any { GrowsOn (result ≡ Err Refusal.Device) self.old self.new }
+        ensures no_more { IsNoLonger self.old self.new blocks }
         ensures all { OnOk result (blocks ≤ (D.state (disk_of self.new)).blocks) }
         ensures only { IfErr result (λ refusal. refusal ≡ Refusal.Device) }
         ensures longer { IsHonest self.new
