@@ -1,5 +1,5 @@
 -- How the calls of a file show as calls of a disk over it.
-use Rattle.std.proofs.Common.{◌≡◌, ◌≢◌, ◌⊎◌, inl, inr, ℕ, ◌+◌, ◌-◌, ◌*◌, ◌/◌, ◌^◌, min, ◌<◌, ◌≤◌, ◌&&◌, ◌||◌, nat_lt, nat_le, Bool, true, false, List, [], ◌∷◌, length, map, replicate, take, drop, Result, Ok, Err, OnOk, refl, sym, ◌∙◌, ap, subst, arith}
+use Rattle.std.proofs.Common.{◌≡◌, ◌≢◌, ◌⊎◌, inl, inr, ℕ, ◌+◌, ◌-◌, ◌*◌, ◌/◌, ◌^◌, min, ◌<◌, ◌≤◌, ◌&&◌, ◌||◌, nat_lt, nat_le, Bool, true, false, List, [], ◌∷◌, length, map, replicate, take, drop, Result, Ok, Err, OnOk, refl, sym, ◌∙◌, ap, subst, arith, length-drop}
 use Rattle.std.proofs.lemmas.Bool.{and_parts, and_from, and_left, and_right, or_left, or_right, lt-ltb, le-ltb, leb-true, le-leb, lt-leb, cases_order, cases_lt}
 use Rattle.std.proofs.Math.Nat.{le_refl, min-eq_left}
 use Rattle.std.proofs.Math.Bool.{or_assoc}
@@ -12,7 +12,7 @@ use Rattle.vm_disk.specs.Past.{noted}
 use Rattle.vm_disk.specs.declared.history.History.{History}
 use Rattle.vm_disk.specs.declared.file.Earlier.{Earlier}
 use Rattle.vm_disk.specs.declared.file.FileDisk.{FileDisk}
-use Rattle.vm_disk.specs.File.{Part, file_state, file_block, file_blocks, touches, is_touched, is_unsure, file_medium, waits_with, forgetting, forgotten_of, was_whole, part_of, part_then, IsPart, IsOver, IsMade, IsOpened, IsZero, AddsZeros, StaysHonest, unsure_dirty}
+use Rattle.vm_disk.specs.File.{Part, file_state, file_block, file_blocks, touches, is_touched, is_unsure, file_medium, waits_with, forgetting, forgotten_of, was_whole, part_of, part_then, IsPart, IsOver, IsMade, IsOpened, IsZero, AddsZeros, KeepsBehind, StaysHonest, unsure_dirty}
 use Rattle.vm_disk.proofs.OverwrittenLemmas.{overwritten_at, overwritten_before, overwritten_after, overwritten_no_shorter}
 use Rattle.vm_disk.proofs.ZeroLemmas.{zero_blocks}
 
@@ -134,6 +134,13 @@ made_zeros count was file s made honest zeros =
       honest = part_whole (record { file = file; blocks = count; sure = 0 }) s made honest zeros.long;
       zero = ap (λ m. m.contents) made.now ∙ zero_blocks count file.bytes (λ n inside. zeros.zero n (omega arith) inside) ∙ ap (λ k. replicate k (replicate 4096 0)) (sym made.blocks);
     }
+
+-- it ends with them, where the file had no bytes before
+pub made_length : (count : ℕ) (was file : FileState) → AddsZeros 0 count was file → KeepsBehind count was file → was.bytes ≡ [] → length file.bytes ≡ 4096 * count
+made_length count was file zeros behind empty =
+    let none : length (drop (4096 * count) file.bytes) ≡ length (drop (4096 * count) was.bytes) = ap length behind in
+    let short : length was.bytes ≡ 0 = ap length empty in
+    omega (arith, zeros.long, none, short, length-drop (4096 * count) file.bytes, length-drop (4096 * count) was.bytes)
 
 -- a part of a file that got zero blocks
 part_longer : (from to sure : ℕ) (old new : FileState) → from ≤ to → sure ≤ from → AddsZeros from to old new
@@ -333,13 +340,13 @@ module _ {F : Type 0} (state : F → FileState) where
         time = record { step = inl (past_shown was now part called) };
       }
 
-  -- the zero blocks that an honest disk got
-  pub disk_adds : (was now : FileDisk F) (file : F) (blocks : ℕ)
+  -- what is known of the file of an honest disk that got blocks
+  pub disk_adds : (R : Type 0) (was now : FileDisk F) (file : F) (blocks : ℕ)
       → IsCalled was now (grown_part was file blocks)
-      → ((state file).honest ≡ true → 4096 * was.blocks ≤ length (state was.file).bytes → AddsZeros was.blocks blocks (state was.file) (state file))
+      → ((state file).honest ≡ true → 4096 * was.blocks ≤ length (state was.file).bytes → R)
       → (file_state state now).honest ≡ true
-      → AddsZeros was.blocks blocks (state was.file) (state file)
-  disk_adds was now file blocks called law honest =
+      → R
+  disk_adds R was now file blocks called law honest =
       law (good_file was now (grown_part was file blocks) called honest) (long_file was now (grown_part was file blocks) called honest)
 
   -- the disk is honest after the call where its file is, and is long enough

@@ -1,12 +1,12 @@
 -- A file that gets zero blocks at its end.
-use Rattle.std.proofs.Common.{◌≡◌, ◌⊎◌, inl, inr, ℕ, ◌+◌, ◌-◌, ◌*◌, ◌<◌, ◌≤◌, ◌||◌, List, [], ◌∷◌, length, take, drop, replicate, Ok, Err, sym, ◌∙◌, ap, arith}
+use Rattle.std.proofs.Common.{◌≡◌, ◌⊎◌, inl, inr, ℕ, ◌+◌, ◌-◌, ◌*◌, ◌<◌, ◌≤◌, ◌||◌, List, [], ◌∷◌, length, take, drop, replicate, Result, Ok, Err, sym, ◌∙◌, ap, arith}
 use Rattle.std.proofs.lemmas.Bool.{and_left, le-ltb, cases_lt}
 use Rattle.std.proofs.lemmas.List.{length-replicate, get_or-replicate, take-replicate, drop-replicate}
 use Rattle.std.proofs.lemmas.List.FromFn.{fill_by_all}
 use Rattle.vm_disk.specs.declared.disk.DeviceFault.{DeviceFault}
 use Rattle.vm_disk.specs.Positional.{FileState, overwritten, IsTorn, WritesAt}
-use Rattle.vm_disk.specs.File.{file_block, file_blocks, is_touched, AddsZeros}
-use Rattle.vm_disk.proofs.OverwrittenLemmas.{overwritten_inside, overwritten_before, overwritten_length, overwritten_no_shorter}
+use Rattle.vm_disk.specs.File.{file_block, file_blocks, is_touched, AddsZeros, KeepsBehind}
+use Rattle.vm_disk.proofs.OverwrittenLemmas.{overwritten_after, overwritten_inside, overwritten_before, overwritten_length, overwritten_no_shorter}
 
 -- blocks that are all zero
 pub zero_blocks : (count : ℕ) (bytes : List ℕ) → ((n : ℕ) → n < count → file_block bytes n ≡ replicate 4096 0) → file_blocks count bytes ≡ replicate count (replicate 4096 0)
@@ -84,3 +84,18 @@ pub adds_some : {T : Type 0} (e : DeviceFault) (from mid offset : ℕ) (zeros : 
     → AddsZeros from mid old new
 adds_some e from mid offset zeros old file new so_far order at writes =
     adds_torn from mid offset (length zeros) old file new so_far order at writes.torn writes.waiting
+
+-- a write that ends before so many blocks do leaves what stands behind them
+behind_torn : (offset count blocks : ℕ) (old new : List ℕ) → IsTorn offset count old new → offset ≤ length old → offset + count ≤ 4096 * blocks
+    → drop (4096 * blocks) new ≡ drop (4096 * blocks) old
+behind_torn offset count blocks old new torn within before =
+    ap (drop (4096 * blocks)) torn.written ∙ overwritten_after offset (4096 * blocks) torn.bytes old within (omega (arith, torn.few))
+
+pub behind_more : {T : Type 0} (result : Result T DeviceFault) (mid more offset blocks : ℕ) (old file new : FileState) → KeepsBehind blocks old file → offset ≡ 4096 * mid
+    → mid + more ≤ blocks → offset ≤ length file.bytes → WritesAt {T = T} offset (zeros_of more) result file new → KeepsBehind blocks old new
+behind_more (Ok x) mid more offset blocks old file new so_far at before within writes =
+    let size : length (zeros_of more) ≡ more * 4096 = length-replicate (more * 4096) 0 in
+    behind_torn offset (length (zeros_of more)) blocks file.bytes new.bytes (record { bytes = zeros_of more; few = omega arith; written = writes.written }) within (omega (arith, size)) ∙ so_far
+behind_more (Err e) mid more offset blocks old file new so_far at before within writes =
+    let size : length (zeros_of more) ≡ more * 4096 = length-replicate (more * 4096) 0 in
+    behind_torn offset (length (zeros_of more)) blocks file.bytes new.bytes writes.torn within (omega (arith, size)) ∙ so_far

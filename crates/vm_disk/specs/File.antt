@@ -83,6 +83,14 @@ pub record AddsZeros (from to : ℕ) (old new : FileState) : Type 0 where
 abbrev pub AddsZerosIn : ℕ → ℕ → FileState → FileState → Type 0
 AddsZerosIn from to old new = BLOCK_SIZE * from ≤ length old.bytes → AddsZeros from to old new
 
+-- what stands in a file behind so many blocks is as it was
+abbrev pub KeepsBehind : ℕ → FileState → FileState → Type 0
+KeepsBehind count old new = drop (BLOCK_SIZE * count) new.bytes ≡ drop (BLOCK_SIZE * count) old.bytes
+
+-- the same, of a file that was long enough for the blocks before one
+abbrev pub KeepsBehindIn : ℕ → ℕ → FileState → FileState → Type 0
+KeepsBehindIn from count old new = BLOCK_SIZE * from ≤ length old.bytes → KeepsBehind count old new
+
 -- at each of these moments the file was long enough for the blocks
 abbrev pub was_whole : List Part → Bool
 was_whole [] = true
@@ -176,10 +184,20 @@ module _ {F : Type 0} where
   abbrev pub StartsZero : (F → FileState) → F → FileDisk F → Type 0
   StartsZero state file disk = (state (file_of disk)).honest ≡ true → (state file).bytes ≡ [] → IsZero (file_state state disk)
 
+  -- then its file ends with its last block
+  abbrev pub EndsItsFile : (F → FileState) → F → FileDisk F → Type 0
+  EndsItsFile state file disk =
+      (state (file_of disk)).honest ≡ true → (state file).bytes ≡ [] → length (state (file_of disk)).bytes ≡ BLOCK_SIZE * disk.blocks
+
   -- where it is honest after it, the blocks that it got were written to its file as zeros
   abbrev pub GetsZeros : (F → FileState) → FileDisk F → FileDisk F → Type 0
   GetsZeros state old new =
       (file_state state new).honest ≡ true → AddsZeros old.blocks new.blocks (state (file_of old)) (state (file_of new))
+
+  -- where it is honest after it, what stands in its file behind so many blocks is as it was
+  abbrev pub LeavesBehind : (F → FileState) → ℕ → FileDisk F → FileDisk F → Type 0
+  LeavesBehind state count old new =
+      (file_state state new).honest ≡ true → KeepsBehind count (state (file_of old)) (state (file_of new))
 
   -- a call that its file is honest after leaves an honest disk honest
   abbrev pub StaysHonest : (F → FileState) → FileDisk F → FileDisk F → Type 0

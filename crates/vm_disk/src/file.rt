@@ -68,7 +68,7 @@ fn read_block<F: Positional>(file: &mut F, n: u32, into: &mut [u8; 4096]) -> Res
 }
 
 impl<F: Positional> FileDisk<F> {
-    ghost use Rattle.vm_disk.specs.File.{file_left, file_of, file_state, part_of, part_then, part_with, IsPart, IsOver, IsOverFile, IsMadeFile, OpensFile, StartsZero, AddsZerosIn};
+    ghost use Rattle.vm_disk.specs.File.{file_left, file_of, file_state, part_of, part_then, part_with, IsPart, IsOver, IsOverFile, IsMadeFile, OpensFile, StartsZero, EndsItsFile, AddsZerosIn, KeepsBehindIn};
 
     /// The whole blocks of a file, at most 4,294,967,295. Where the file does not tell how many bytes it
     /// has, it comes back.
@@ -90,6 +90,7 @@ impl<F: Positional> FileDisk<F> {
         ensures any { CountsFailures result (F.state file) (F.state (file_left result)) }
         ensures made { IfOk result (IsMadeFile F.state blocks) }
         ensures created { IfOk result (StartsZero F.state file) }
+        ensures whole { IfOk result (EndsItsFile F.state file) }
     {
         match FileDisk::write_zeros(&mut file, &mut 0, blocks) {
             Ok(()) => Ok(FileDisk::part(file, blocks, 0)),
@@ -134,8 +135,8 @@ impl<F: Positional> FileDisk<F> {
         }
     }
 
-    /// Writes zero blocks to a file, several at once, from where so many are done up to so many. It
-    /// counts those that were written.
+    /// Writes zero blocks to a file, several at once, from where so many are done up to so many, and
+    /// nothing behind them. It counts those that were written.
     fn write_zeros(file: &mut F, done: &mut u32, blocks: u32) -> Result<(), DeviceFault>
         requires { done.old ≤ blocks }
         ensures any { CountsFailures result (F.state file.old) (F.state file.new) }
@@ -143,6 +144,7 @@ impl<F: Positional> FileDisk<F> {
         ensures most { done.new ≤ blocks }
         ensures all { OnOk result (done.new ≡ blocks) }
         ensures added { IfHonestFile F.state (AddsZerosIn done.old done.new) file.old file.new }
+        ensures behind { IfHonestFile F.state (KeepsBehindIn done.old blocks) file.old file.new }
     {
         while *done < blocks {
             let more = (blocks - *done).min(AT_ONCE);
@@ -162,7 +164,7 @@ impl<F: Positional> FileDisk<F> {
 
 impl<F: Positional> Disk for FileDisk<F> {
     ghost use Rattle.std.proofs.lemmas.List.FromFn.{length-map-range_with_len};
-    ghost use Rattle.vm_disk.specs.File.{GetsZeros, file_state, file_hand, file_of, AddsZeros, StaysHonest};
+    ghost use Rattle.vm_disk.specs.File.{GetsZeros, file_state, file_hand, file_of, AddsZeros, LeavesBehind, StaysHonest};
 
     ghost state = { file_state F.state };
 
@@ -263,8 +265,9 @@ impl<F: Positional> Disk for FileDisk<F> {
         ensures any { Between (file_state F.state) (Extends blocks result) self.old self.new }
         ensures honest { IfHonest (file_state F.state) Enlarges self.old self.new }
 
-        // The new blocks are written to the file as zeros.
+        // The new blocks are written to the file as zeros, and nothing behind them.
         ensures zero { GetsZeros F.state self.old self.new }
+        ensures behind { LeavesBehind F.state blocks self.old self.new }
         ensures stays { StaysHonest F.state self.old self.new }
     {
         let was = self.earlier();

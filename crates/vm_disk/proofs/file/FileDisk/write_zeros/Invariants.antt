@@ -1,5 +1,5 @@
 use Rattle.std.proofs.Common.{◌≡◌, ◌-◌, ◌*◌, ◌≤◌, true, length}
-use Rattle.vm_disk.specs.File.{AddsZeros}
+use Rattle.vm_disk.specs.File.{AddsZeros, KeepsBehind}
 use Rattle.vm_disk.proofs.file.FileDisk.write_zeros.Given as goal
 
 abbrev pub invariant-loop-done : goal.invariant-loop-done
@@ -10,6 +10,7 @@ invariant-loop-done g l =
       fine : (state l.file).failures ≡ (state l.initial.file).failures;
       earlier : (state l.file).honest ≡ true → (state l.initial.file).honest ≡ true;
       added : (state l.file).honest ≡ true → 4096 * l.initial.done ≤ length (state l.initial.file).bytes → AddsZeros l.initial.done l.done (state l.initial.file) (state l.file);
+      behind : (state l.file).honest ≡ true → 4096 * l.initial.done ≤ length (state l.initial.file).bytes → KeepsBehind l.blocks (state l.initial.file) (state l.file);
     }
 
 abbrev pub decreases-loop-done : goal.decreases-loop-done
