@@ -99,6 +99,14 @@ spare_after old new limit slot_name bits before series committed working s count
     let T : Medium → Type 0 = λ m. (holds : HoldsWith m limit slot_name bits before series committed working s) → (IsTrue b → count ≤ spare_of holds.rests) × (count ≤ spare_of holds.rests → IsTrue b) in
     subst T (same_medium old new reads) (test s)
 
+-- as many blocks are free as are spare, before reads and after them
+pub spare_free : (old new : DiskState) (limit : ℕ) (slot_name : SlotName) (bits before : List Bool) (series : Option (List ℕ)) (committed working : List Version) (s : State) (free : ℕ) → OnlyReads old new
+    → ((s : State) (holds : HoldsWith new.now limit slot_name bits before series committed working s) → free ≡ spare_of holds.rests)
+    → (holds : HoldsWith old.now limit slot_name bits before series committed working s) → free ≡ spare_of holds.rests
+spare_free old new limit slot_name bits before series committed working s free reads same =
+    let T : Medium → Type 0 = λ m. (holds : HoldsWith m limit slot_name bits before series committed working s) → free ≡ spare_of holds.rests in
+    subst T (same_medium old new reads) (same s)
+
 -- a record that is told to be there, and one that is told to be absent
 pub is_there : {T : Type 0} (o : Option T) → true ≡ is_some o → (value : T) × (Some value ≡ o)
 is_there None told = cc

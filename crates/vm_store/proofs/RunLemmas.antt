@@ -17,7 +17,7 @@ use Rattle.vm_disk.specs.Moments.{Throughout, Leaves}
 use Rattle.vm_disk.proofs.MomentLemmas.{started, and_then, weaken, past_stays, moment_rises, leaves_only, touches_nothing}
 use Rattle.vm_block.specs.declared.selector.SlotName.{SlotName}
 use Rattle.vm_store.specs.declared.version.Version.{Version}
-use Rattle.vm_store.specs.Answers.{ChangesEntriesAlone, IsEarly, IsGrow, IsMergeAnswer, TakesMemory, merge_changes}
+use Rattle.vm_store.specs.Answers.{ChangesEntriesAlone, HasMarked, IsEarly, IsGrow, IsMergeAnswer, TakesMemory, merge_changes}
 use Rattle.vm_store.specs.Changing.{MeetsFullPath}
 use Rattle.vm_store.specs.Store.{Answers, GrowsNoMore, Holds, IsSameButDisk, disk_of, entries_of, free_of, has_failed, held_of}
 use Rattle.vm_store.specs.declared.store.Store.{Store}
@@ -89,9 +89,9 @@ module _ {D : Type 0} {members : _} where
       → (ChangesEntriesAlone c → (disk_of new ≡ disk_of old) × (held_of new ≡ held_of old)) → ((members.state (disk_of new)).honest ≡ true → Holds old s → a ≢ Err Device → Holds new (next s c a))
       → ((members.state (disk_of new)).honest ≡ true → Holds old s → Throughout (members.state (disk_of old)) (members.state (disk_of new)) (Leaves (LeftBy Shows s c)))
       → ((members.state (disk_of new)).honest ≡ true → Holds old s → Throughout (members.state (disk_of old)) (members.state (disk_of new)) (IsGuarded (held_of new)))
-      → ((members.state (disk_of new)).honest ≡ true → c ≡ Reclaim → (holds : Holds old s) → OnOk a (free_of new ≡ spare_of holds.rests))
+      → ((members.state (disk_of new)).honest ≡ true → HasMarked c a → (holds : Holds old s) → free_of new ≡ spare_of holds.rests)
       → ((blocks : ℕ) → c ≡ Grow blocks → Holds old s → OnOk a (free_of new ≡ free_of old + (blocks - s.blocks))) → CarriesOut old new s c a
-  carried_out old new s c a answers goes as_long no_more untouched failed only_then memory same unchanged blocks holds crash guarded reclaimed grown = record {
+  carried_out old new s c a answers goes as_long no_more untouched failed only_then memory same unchanged blocks holds crash guarded marked grown = record {
     answers = answers;
     goes = goes;
     as_long = as_long;
@@ -106,7 +106,7 @@ module _ {D : Type 0} {members : _} where
     holds = holds;
     crash = crash;
     guarded = guarded;
-    reclaimed = reclaimed;
+    marked = marked;
     grown = grown;
   }
 

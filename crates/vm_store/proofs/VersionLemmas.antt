@@ -1,5 +1,5 @@
 -- What a store stands for, through the commands that change its entries alone.
-use Rattle.std.proofs.Common.{◌≡◌, inl, inr, ℕ, ◌*◌, nat_lt, Bool, false, List, Result, Ok, Err, IfOk, IfErr, refl, sym, ap, ◌∙◌, subst, arith}
+use Rattle.std.proofs.Common.{◌≡◌, inl, inr, ℕ, ◌*◌, nat_lt, Bool, false, List, Result, Ok, Err, IfOk, IfErr, IsOk, OnOk, refl, sym, ap, ◌∙◌, subst, arith}
 use Rattle.std.proofs.lemmas.Bool.Decides.{nat_tests}
 use Rattle.vm_types.specs.Tree.{Tree, changed}
 use Rattle.vm_types.specs.Step.{Outcome, done, step}
@@ -21,7 +21,7 @@ use Rattle.vm_store.specs.Versions.{slot_entries}
 use Rattle.vm_store.specs.Filed.{Filed, Standing, tree_of}
 use Rattle.vm_store.specs.Resting.{Rests}
 use Rattle.vm_store.proofs.RestingLemmas.{rests_on}
-use Rattle.vm_store.specs.Answers.{ChangesEntriesAlone}
+use Rattle.vm_store.specs.Answers.{ChangesEntriesAlone, HasMarked}
 use Rattle.vm_store.specs.Store.{Answers, Holds}
 use Rattle.vm_store.specs.declared.store.Store.{Store}
 use Rattle.vm_store.specs.Turns.{StandFor, Turns}
@@ -91,3 +91,18 @@ module _ {D : Type 0} {members : _} (old new : Store D members) (s : State) (hol
   turned_answers (Uncheck alt name) alone turned = due s _ (Uncheck alt name) r _ refl refl (turned.answers _ _ _ _ (standing holds.rests))
   turned_answers (Back alt name) alone turned = due s _ (Back alt name) r _ refl refl (turned.answers _ _ _ _ (standing holds.rests))
   turned_answers command alone turned = absurd alone
+
+-- what is known where something was served, of what was
+pub when_ok : {T E : Type 0} (result : Result T E) (P : Type 0) → OnOk result P → IsOk result → P
+when_ok (Ok x) P known is = known
+when_ok (Err e) P known is = cc
+
+-- a command that changes entries alone marks no blocks
+pub entries_unmarked : (c : Command) (a : Result Answer Refusal) → ChangesEntriesAlone c → HasMarked c a → ⊥
+entries_unmarked (New name parent) a alone marked = marked
+entries_unmarked (NewAt name parent checkpoint) a alone marked = marked
+entries_unmarked (Drop alt) a alone marked = marked
+entries_unmarked (Checkpoint alt name) a alone marked = marked
+entries_unmarked (Uncheck alt name) a alone marked = marked
+entries_unmarked (Back alt name) a alone marked = marked
+entries_unmarked c a alone marked = absurd alone

@@ -1,11 +1,11 @@
 -- What a store answers.
-use Rattle.std.specs.Prelude.{◌≡◌, ◌⊎◌, ℕ, ◌*◌, ◌<◌, nat_lt, Bool, true, false, List, Option, None, option_copied, Result, Ok, Err}
+use Rattle.std.specs.Prelude.{◌≡◌, ◌⊎◌, ℕ, ◌*◌, ◌<◌, nat_lt, Bool, true, false, List, Option, None, option_copied, Result, Ok, Err, IsOk}
 use Rattle.std.specs.Borrow.{Bor}
 use Rattle.vm_types.specs.declared.answer.Answer.{Answer}
 use Rattle.vm_types.specs.declared.change.Change.{Change}
 use Rattle.vm_types.specs.declared.command.Command.{Command}
 use Rattle.vm_types.specs.declared.command.Side.{Side}
-use Rattle.vm_types.specs.declared.command.Command.TheVariants.{New, NewAt, Drop, Put, Checkpoint, Uncheck, Back, Merge, Grow}
+use Rattle.vm_types.specs.declared.command.Command.TheVariants.{New, NewAt, Drop, Put, Remove, Checkpoint, Uncheck, Back, Merge, Reclaim, Grow}
 use Rattle.vm_types.specs.declared.key.Key.{Key}
 use Rattle.vm_types.specs.declared.refusal.Refusal.{Refusal}
 use Rattle.vm_types.specs.declared.refusal.Refusal.TheVariants.{Full, Deep, Device, Memory, Damaged}
@@ -81,6 +81,13 @@ abbrev pub TakesMemory : Command → Type 0
 TakesMemory (Merge alt settled) = Unit {0}
 TakesMemory (Grow blocks) = Unit {0}
 TakesMemory command = ⊥
+
+-- blocks were marked, and none was taken then: a Reclaim was served, or a Put or a Remove was refused for want of blocks
+abbrev pub HasMarked : Command → Result Answer Refusal → Type 0
+HasMarked Reclaim answer = IsOk answer
+HasMarked (Put alt key value) answer = answer ≡ Err Full
+HasMarked (Remove alt key) answer = answer ≡ Err Full
+HasMarked command answer = ⊥
 
 -- the one command that makes a store larger
 abbrev pub IsGrow : Command → Type 0

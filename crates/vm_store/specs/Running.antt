@@ -2,7 +2,7 @@
 use Rattle.std.specs.Prelude.{◌≡◌, ◌≢◌, ◌↔◌, ◌≤◌, ℕ, ◌+◌, ◌-◌, true, false, List, [], ◌∷◌, ◌++◌, Result, Err, OnErr, OnOk, drop, length, take}
 use Rattle.vm_types.specs.declared.answer.Answer.{Answer}
 use Rattle.vm_types.specs.declared.command.Command.{Command}
-use Rattle.vm_types.specs.declared.command.Command.TheVariants.{Grow, Reclaim}
+use Rattle.vm_types.specs.declared.command.Command.TheVariants.{Grow}
 use Rattle.vm_types.specs.declared.refusal.Refusal.{Refusal}
 use Rattle.vm_types.specs.declared.refusal.Refusal.TheVariants.{Device, Failed, Memory}
 use Rattle.vm_types.specs.Isolation.{LeavesAlone}
@@ -11,7 +11,7 @@ use Rattle.vm_types.specs.State.{State, after, next}
 use Rattle.vm_types.specs.Tree.{named}
 use Rattle.vm_disk.specs.Disk.{LeftAt, Medium, moment}
 use Rattle.vm_disk.specs.Moments.{Throughout}
-use Rattle.vm_store.specs.Answers.{ChangesEntriesAlone, IsGrow, TakesMemory}
+use Rattle.vm_store.specs.Answers.{ChangesEntriesAlone, HasMarked, IsGrow, TakesMemory}
 use Rattle.vm_store.specs.Guarded.{IsGuarded}
 use Rattle.vm_store.specs.Resting.{spare_of}
 use Rattle.vm_store.specs.Store.{Answers, CrashLeaves, EarlyKeeps, EarlyLeavesDisk, GrowsNoMore, GrowsOn, Holds, IsAsLong, IsHonest, LeavesBlocks, StaysGuarded, disk_of, entries_of, free_of, has_failed, held_of}
@@ -50,8 +50,8 @@ module _ {D : Type 0} {members : _} where
     pub crash : IsHonest new → Holds old s → CrashLeaves old new s command
     -- at each moment the slots that it may leave in use are whole, clean and held
     pub guarded : IsHonest new → Holds old s → StaysGuarded old new
-    -- after a Reclaim just the spare blocks are free
-    pub reclaimed : IsHonest new → command ≡ Reclaim → (holds : Holds old s) → OnOk answer (free_of new ≡ spare_of holds.rests)
+    -- after a Reclaim, and a Put or a Remove that is refused for want of blocks, just the spare ones are free
+    pub marked : IsHonest new → HasMarked command answer → (holds : Holds old s) → free_of new ≡ spare_of holds.rests
     -- after a Grow the new blocks are free, too
     pub grown : (blocks : ℕ) → command ≡ Grow blocks → Holds old s → OnOk answer (free_of new ≡ free_of old + (blocks - s.blocks))
 

@@ -4,7 +4,7 @@ use Rattle.vm_types.specs.declared.answer.Answer.{Answer}
 use Rattle.vm_types.specs.declared.command.Command.{Command}
 use Rattle.vm_types.specs.declared.command.Command.TheVariants.{Grow, Merge, Reclaim}
 use Rattle.vm_types.specs.declared.refusal.Refusal.{Refusal}
-use Rattle.vm_types.specs.declared.refusal.Refusal.TheVariants.{Device}
+use Rattle.vm_types.specs.declared.refusal.Refusal.TheVariants.{Device, Full}
 use Rattle.vm_types.specs.Kept.{LeftBy}
 use Rattle.vm_types.specs.State.{Seen, State, committed_of, next, outcome}
 use Rattle.vm_types.specs.Tree.{current_of}
@@ -12,7 +12,7 @@ use Rattle.vm_disk.specs.Disk.{Goes}
 use Rattle.vm_disk.specs.Moments.{Leaves, OnlyReads, Throughout}
 use Rattle.vm_alloc.specs.Held.{free_count}
 use Rattle.vm_check.specs.Noted.{inner_of}
-use Rattle.vm_store.specs.Answers.{IsAnswer, IsDeep, IsEarly, IsGrowDue, IsMergeAnswer, merge_changes}
+use Rattle.vm_store.specs.Answers.{HasMarked, IsAnswer, IsDeep, IsEarly, IsGrowDue, IsMergeAnswer, merge_changes}
 use Rattle.vm_store.specs.Changing.{MeetsFullPath}
 use Rattle.vm_store.specs.Growing.{Grows}
 use Rattle.vm_store.specs.Guarded.{IsGuarded}
@@ -132,9 +132,13 @@ module _ {D : Type 0} {members : _} where
   abbrev pub SpareIsFree : {T : Type 0} → Result T Refusal → (old new : Store D members) → Type 0
   SpareIsFree answer old new = (s : State) (holds : Holds old s) → OnOk answer (free_of new ≡ spare_of holds.rests)
 
-  -- after a Reclaim just the spare blocks are free
-  abbrev pub ReclaimsAll : Result Answer Refusal → (old new : Store D members) → Command → Type 0
-  ReclaimsAll answer old new command = command ≡ Reclaim → SpareIsFree answer old new
+  -- one that is refused for want of blocks leaves just the spare ones free
+  abbrev pub FullLeavesSpare : Result Answer Refusal → (old new : Store D members) → Type 0
+  FullLeavesSpare answer old new = answer ≡ Err Full → (s : State) (holds : Holds old s) → free_of new ≡ spare_of holds.rests
+
+  -- after a marking that nothing followed just the spare blocks are free
+  abbrev pub MarksAll : Result Answer Refusal → (old new : Store D members) → Command → Type 0
+  MarksAll answer old new command = HasMarked command answer → (s : State) (holds : Holds old s) → free_of new ≡ spare_of holds.rests
 
   -- the blocks that a store lacks of so many are free, too, where it was done
   abbrev pub NewAreFree : Result Answer Refusal → (old new : Store D members) → ℕ → Type 0

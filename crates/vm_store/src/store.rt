@@ -64,7 +64,7 @@ pub struct Store<D: Disk> {
 }
 
 impl<D: Disk> Store<D> {
-    ghost use Rattle.vm_store.specs.Store.{disk_of, has_failed, entries_of, IsHonest, GoesOn, GrowsOn, IsAsLong, FromState, IsAnswered, StandsAfter, StaysGuarded, CrashLeaves, EarlyKeeps, EarlyLeavesDisk, LeavesBlocks, ReclaimsAll, GrowsFree, GrowsNoMore, ClosesWith};
+    ghost use Rattle.vm_store.specs.Store.{disk_of, has_failed, entries_of, IsHonest, GoesOn, GrowsOn, IsAsLong, FromState, IsAnswered, StandsAfter, StaysGuarded, CrashLeaves, EarlyKeeps, EarlyLeavesDisk, LeavesBlocks, MarksAll, FullLeavesSpare, GrowsFree, GrowsNoMore, ClosesWith};
 
     /// Carries out one command. After an answer `Device` the store answers `Failed` to every call but
     /// `close`: close it, and open the disk again.
@@ -101,9 +101,9 @@ impl<D: Disk> Store<D> {
         // For at each moment the slots that it may leave in use are whole, clean and held.
         ensures guarded { FromState self.old self.new (λ s. StaysGuarded self.old self.new) }
 
-        // After a Reclaim just the spare blocks are free.
-        ensures reclaimed { IsHonest self.new → has_failed self.old ≡ false
-            → ReclaimsAll result self.old self.new command.now }
+        // After a Reclaim, and a Put or a Remove that is refused for want of blocks, just the spare ones are free.
+        ensures marked { IsHonest self.new → has_failed self.old ≡ false
+            → MarksAll result self.old self.new command.now }
 
         // After a Grow the new blocks are free, too.
         ensures grown { has_failed self.old ≡ false → GrowsFree result self.old self.new command.now }
@@ -136,6 +136,8 @@ impl<D: Disk> Store<D> {
         // The answer is the model's, or one that the device forces, or want of blocks or of room in the tree.
         ensures answer { IsAnswered self.old self.new (Put alt.now key value.now) result }
         ensures state { StandsAfter self.old self.new (Put alt.now key value.now) result }
+        ensures marked { IsHonest self.new → has_failed self.old ≡ false
+            → FullLeavesSpare result self.old self.new }
 
         // A crash at any moment leaves what was committed, for the slots are whole, clean and held.
         ensures crash { FromState self.old self.new

@@ -20,7 +20,7 @@ use vm_disk::Disk;
 use vm_types::{Answer, Command, Refusal};
 
 impl<D: Disk> Store<D> {
-    ghost use Rattle.vm_store.specs.Store.{entries_of, IsHonest, GrowsOn, IsAsLong, EarlyKeeps, EarlyLeavesDisk, LeavesBlocks, IsCarriedOut, ReclaimsAll, GrowsFree, GrowsNoMore};
+    ghost use Rattle.vm_store.specs.Store.{entries_of, IsHonest, GrowsOn, IsAsLong, EarlyKeeps, EarlyLeavesDisk, LeavesBlocks, IsCarriedOut, MarksAll, GrowsFree, GrowsNoMore};
 
     /// Carries out one command, and leaves it to `apply` to note that the device failed.
     pub(super) fn dispatch(&mut self, command: &Command) -> Result<Answer, Refusal>
@@ -34,7 +34,7 @@ impl<D: Disk> Store<D> {
         ensures same { OnErr result (entries_of self.new ≡ entries_of self.old) }
         ensures unchanged { EarlyKeeps result self.old self.new }
         ensures carried { IsCarriedOut self.old self.new command.now result }
-        ensures reclaimed { IsHonest self.new → ReclaimsAll result self.old self.new command.now }
+        ensures marked { IsHonest self.new → MarksAll result self.old self.new command.now }
         ensures grown { GrowsFree result self.old self.new command.now }
     {
         match command {

@@ -73,7 +73,7 @@ impl<D: Disk> Store<D> {
     pub(super) fn mark_all(&mut self) -> Result<(), Refusal>
         ensures any { GoesOn (result ≡ Err Refusal.Device) self.old self.new }
         ensures failed { has_failed self.new ≡ has_failed self.old }
-        ensures never { (result ≢ Err Refusal.Failed) × (result ≢ Err Refusal.Memory) }
+        ensures never { (result ≢ Err Refusal.Failed) × (result ≢ Err Refusal.Memory) × (result ≢ Err Refusal.Full) }
         ensures late { IfErr result (λ refusal. IsEarly refusal → ⊥) }
         ensures same { entries_of self.new ≡ entries_of self.old }
         ensures roots { root_of self.new ≡ root_of self.old }
@@ -104,7 +104,7 @@ impl<D: Disk> Store<D> {
     pub(super) fn has_spare(&mut self, changes: usize) -> Result<bool, Refusal>
         ensures any { GoesOn (result ≡ Err Refusal.Device) self.old self.new }
         ensures failed { has_failed self.new ≡ has_failed self.old }
-        ensures never { (result ≢ Err Refusal.Failed) × (result ≢ Err Refusal.Memory) }
+        ensures never { (result ≢ Err Refusal.Failed) × (result ≢ Err Refusal.Memory) × (result ≢ Err Refusal.Full) }
         ensures late { IfErr result (λ refusal. IsEarly refusal → ⊥) }
         ensures same { entries_of self.new ≡ entries_of self.old }
         ensures roots { root_of self.new ≡ root_of self.old }
@@ -114,6 +114,8 @@ impl<D: Disk> Store<D> {
             → IfErr result (λ refusal. refusal ≡ Refusal.Device) }
         ensures spare { IsHonest self.new → (s : State) (holds : Holds self.old s)
             → IfOk result (λ yes. IsTrue yes ↔ (blocks_a_change * changes ≤ spare_of holds.rests)) }
+        ensures marked { IsHonest self.new → (s : State) (holds : Holds self.old s)
+            → IfOk result (λ yes. yes ≡ false → free_of self.new ≡ spare_of holds.rests) }
         ensures state { IsHonest self.new → (s : State) → Holds self.old s → Holds self.new s }
     {
         if self.has_free(changes) {

@@ -14,7 +14,7 @@ use vm_tree::has;
 use vm_types::{Answer, Key, Name, Refusal};
 
 impl<D: Disk> Store<D> {
-    ghost use Rattle.vm_store.specs.Store.{has_failed, entries_of, free_of, series_of, Carries, Holds, IsHonest, GoesOn, EarlyKeeps};
+    ghost use Rattle.vm_store.specs.Store.{has_failed, entries_of, free_of, series_of, Carries, Holds, IsHonest, GoesOn, EarlyKeeps, FullLeavesSpare};
 
     /// Takes a record out of the alternative. Where its series goes on and enough blocks are free,
     /// its path is gone down once.
@@ -25,6 +25,7 @@ impl<D: Disk> Store<D> {
         ensures never { (result ≢ Err Refusal.Failed) × (result ≢ Err Refusal.Memory) }
         ensures same { OnErr result (entries_of self.new ≡ entries_of self.old) }
         ensures unchanged { EarlyKeeps result self.old self.new }
+        ensures marked { IsHonest self.new → FullLeavesSpare result self.old self.new }
         ensures carried { IsHonest self.new → (s : State) (holds : Holds self.old s)
             → Carries self.old self.new s holds (Remove alt.now key) result }
     {
@@ -52,6 +53,7 @@ impl<D: Disk> Store<D> {
         ensures never { (result ≢ Err Refusal.Failed) × (result ≢ Err Refusal.Memory) }
         ensures same { OnErr result (entries_of self.new ≡ entries_of self.old) }
         ensures unchanged { EarlyKeeps result self.old self.new }
+        ensures marked { IsHonest self.new → FullLeavesSpare result self.old self.new }
         ensures carried { IsHonest self.new → (s : State) (holds : Holds self.old s)
             → Carries self.old self.new s holds (Remove alt.now key) result }
     {
@@ -86,10 +88,10 @@ impl<D: Disk> Store<D> {
         requires series { (series_of self.old ≡ Some alt.now) ⊎ (series_of self.old ≡ None) }
         requires room { blocks_a_change * 1 ≤ free_of self.old }
         requires device { missing ≢ Refusal.Device }
-        requires never { (missing ≢ Refusal.Failed) × (missing ≢ Refusal.Memory) }
+        requires never { (missing ≢ Refusal.Failed) × (missing ≢ Refusal.Memory) × (missing ≢ Refusal.Full) }
         ensures any { GoesOn (result ≡ Err Refusal.Device) self.old self.new }
         ensures failed { has_failed self.new ≡ has_failed self.old }
-        ensures never { (result ≢ Err Refusal.Failed) × (result ≢ Err Refusal.Memory) }
+        ensures never { (result ≢ Err Refusal.Failed) × (result ≢ Err Refusal.Memory) × (result ≢ Err Refusal.Full) }
         ensures same { OnErr result (entries_of self.new ≡ entries_of self.old) }
         ensures early { IfErr result (λ refusal. IsEarly refusal → refusal ≡ missing) }
         ensures unchanged { EarlyKeeps result self.old self.new }

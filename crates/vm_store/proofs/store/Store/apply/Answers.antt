@@ -5,8 +5,8 @@ use Rattle.vm_store.proofs.store.Store.apply.Goals as goal
 pub returns-clause-guarded : goal.returns-clause-guarded
 returns-clause-guarded g c honest sound s holds = (c.dispatch-answer.ensures.carried honest s holds).guarded
 
-pub returns-clause-reclaimed : goal.returns-clause-reclaimed
-returns-clause-reclaimed g c honest sound is s holds = c.dispatch-answer.ensures.reclaimed honest is s holds
+pub returns-clause-marked : goal.returns-clause-marked
+returns-clause-marked g c honest sound is s holds = c.dispatch-answer.ensures.marked honest is s holds
 
 pub returns-clause-grown : goal.returns-clause-grown
 returns-clause-grown g c sound blocks is s holds = c.dispatch-answer.ensures.grown blocks is s holds

@@ -1,3 +1,6 @@
+use Rattle.std.proofs.Common.{rules, subst}
+use Rattle.vm_store.specs.Answers.{HasMarked}
+use Rattle.vm_store.proofs.VersionLemmas.{entries_unmarked, when_ok}
 use Rattle.vm_store.proofs.store.Store.dispatch.Goals as goal
 
 pub returns-in-Put-clause-carried : goal.returns-in-Put-clause-carried
@@ -21,5 +24,27 @@ returns-in-Reclaim-clause-carried g c honest s holds = rw c.in-Reclaim.is (c.rec
 pub returns-in-Grow-clause-carried : goal.returns-in-Grow-clause-carried
 returns-in-Grow-clause-carried g c honest s holds = rw c.in-Grow.is (c.grow.ensures.carried honest s holds)
 
-pub returns-in-Reclaim-clause-reclaimed : goal.returns-in-Reclaim-clause-reclaimed
-returns-in-Reclaim-clause-reclaimed g c honest is s holds = c.reclaim.ensures.exact honest s holds
+pub returns-in-Put-clause-marked : goal.returns-in-Put-clause-marked
+returns-in-Put-clause-marked g c honest is s holds = c.put_value.ensures.marked honest (subst (λ command. HasMarked command c.put_value.result) c.in-Put.is is) s holds
+
+pub returns-in-Remove-clause-marked : goal.returns-in-Remove-clause-marked
+returns-in-Remove-clause-marked g c honest is s holds = c.remove.ensures.marked honest (subst (λ command. HasMarked command c.remove.result) c.in-Remove.is is) s holds
+
+pub returns-in-Merge-clause-marked : goal.returns-in-Merge-clause-marked
+returns-in-Merge-clause-marked g c honest is s holds = absurd (subst (λ command. HasMarked command c.merge.result) c.in-Merge.is is)
+
+pub returns-in-Post-clause-marked : goal.returns-in-Post-clause-marked
+returns-in-Post-clause-marked g c honest is s holds = absurd (subst (λ command. HasMarked command c.post.result) c.in-Post.is is)
+
+pub returns-in-Commit-clause-marked : goal.returns-in-Commit-clause-marked
+returns-in-Commit-clause-marked g c honest is s holds = absurd (subst (λ command. HasMarked command c.commit.result) c.in-Commit.is is)
+
+pub returns-in-Reclaim-clause-marked : goal.returns-in-Reclaim-clause-marked
+returns-in-Reclaim-clause-marked g c honest is s holds =
+    when_ok c.reclaim.result _ (c.reclaim.ensures.exact honest s holds) (subst (λ command. HasMarked command c.reclaim.result) c.in-Reclaim.is is)
+
+pub returns-in-Grow-clause-marked : goal.returns-in-Grow-clause-marked
+returns-in-Grow-clause-marked g c honest is s holds = absurd (subst (λ command. HasMarked command c.grow.result) c.in-Grow.is is)
+
+pub returns-in_default-clause-marked : goal.returns-in_default-clause-marked
+returns-in_default-clause-marked g c honest is s holds = absurd (entries_unmarked c.args.command.now c.change_entries.result (search rules) is)

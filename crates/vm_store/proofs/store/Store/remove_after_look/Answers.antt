@@ -1,4 +1,4 @@
-use Rattle.std.proofs.Common.{Some, None, Err, inl, inr, sym, ap, ◌∙◌, arith}
+use Rattle.std.proofs.Common.{rules, Some, None, Err, inl, inr, sym, ap, ◌∙◌, arith}
 use Rattle.vm_types.specs.declared.command.Command.TheVariants.{Remove}
 use Rattle.vm_disk.proofs.MomentLemmas.{reads_then}
 use Rattle.vm_tree.proofs.Looking.{passed_on}
@@ -7,7 +7,7 @@ use Rattle.vm_store.proofs.MarkedLemmas.{free_at_most}
 use Rattle.vm_store.proofs.SpareTests.{room_for, full_for, no_fewer}
 use Rattle.vm_store.proofs.RestingLemmas.{found_entry, value_found}
 use Rattle.vm_store.specs.Sizes.{sizes}
-use Rattle.vm_store.proofs.Removing.{is_absent, is_there, removes_missing, removes_full, removes_device, removes_alike, spare_after}
+use Rattle.vm_store.proofs.Removing.{is_absent, is_there, removes_missing, removes_full, removes_device, removes_alike, spare_after, spare_free}
 use Rattle.vm_store.proofs.SeriesLemmas.{went_on, read_holds}
 use Rattle.vm_store.proofs.store.Store.remove_after_look.Goals as goal
 
@@ -70,3 +70,8 @@ returns-clause-carried g c honest s holds =
     let room = room_for _ _ _ (spare_after _ _ _ _ _ _ _ _ _ s _ _ (c.in_ok-has.ensures.looks.reads (c.in_ok-has_spare.ensures.any.earlier marked)) (c.in_ok-has_spare.ensures.spare marked) holds) c.if-not-branch-2.false in
     let carried = c.remove_in_series.ensures.carried honest s between (inr (λ missing. let clash = there ∙ missing in cc)) in
     read_carried _ _ _ s holds between (Remove c.args.alt.now c.args.key) _ (reads_then _ _ _ read (c.has_spare.ensures.reads marked)) (removes_alike s c.args.alt.now c.args.key _ _ _ _ enough room carried.answers) carried
+
+pub returns-then-not-branch-2-clause-marked : goal.returns-then-not-branch-2-clause-marked
+returns-then-not-branch-2-clause-marked g c honest full s holds =
+    let earlier = c.has_spare.ensures.any.earlier honest in
+    spare_free _ _ _ _ _ _ _ _ _ s _ (c.in_ok-has.ensures.looks.reads earlier) (λ s' holds'. c.in_ok-has_spare.ensures.marked honest s' holds' (search rules)) holds
