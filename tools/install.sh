@@ -9,7 +9,7 @@ usage() {
 }
 
 [ $# -le 1 ] || usage
-prefix=${1:-/usr/local}
+prefix=${1-/usr/local}
 case $prefix in
 -* | '') usage ;;
 esac

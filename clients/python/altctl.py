@@ -9,6 +9,7 @@ Values are bytes, 4,000 at most, names are texts, and a key is a table and a num
 the `with`. docs/FORMATS.md has the lines and their answers, docs/OPERATING.md what helps where one is refused.
 """
 import fcntl
+import os
 import re
 import subprocess
 import tempfile
@@ -104,17 +105,35 @@ class Rows:
         return self._waiting.popleft()
 
 
+def locked(file):
+    """A descriptor of the file, which holds its lock. Its number is none of the standard streams', also where one of these is
+    closed: in the program the number would be a pipe's, and the lock gone with it."""
+    found = os.open(file, os.O_RDONLY | os.O_NONBLOCK)
+    try:
+        lock = fcntl.fcntl(found, fcntl.F_DUPFD_CLOEXEC, 3)
+    finally:
+        os.close(found)
+    try:
+        fcntl.flock(lock, fcntl.LOCK_EX | fcntl.LOCK_NB)
+    except BaseException:
+        os.close(lock)
+        raise
+    return lock
+
+
 class Store:
     """An open store. Its file is locked (`flock`) as long as the program runs: a second one raises BlockingIOError."""
 
     def __init__(self, file, program="altctl", cache=None):
-        words = [program, "run", *([] if cache is None else ["--cache", str(cache)]), str(file)]
+        words = [program, "run", *([] if cache is None else ["--cache", str(cache)]), "--", os.fsdecode(file)]
         self._rows = None
-        with open(file, "rb") as lock:
-            fcntl.flock(lock, fcntl.LOCK_EX | fcntl.LOCK_NB)
+        lock = locked(file)
+        try:
             self._faults = tempfile.TemporaryFile("w+", errors="replace")
-            how = {"pass_fds": [lock.fileno()], "stderr": self._faults, "encoding": "ascii"}
+            how = {"pass_fds": [lock], "stderr": self._faults, "encoding": "ascii"}
             self._program = subprocess.Popen(words, stdin=subprocess.PIPE, stdout=subprocess.PIPE, **how)
+        finally:
+            os.close(lock)
         try:
             self.free()
         except BaseException:

@@ -196,6 +196,34 @@ class StoreTests(unittest.TestCase):
             self.assertEqual(1, subprocess.run(["flock", "-n", self.file, "true"]).returncode)
         self.open().close()
 
+    def test_the_lock_is_held_where_a_standard_stream_is_closed(self):
+        program = (
+            "from altctl import Store\n"
+            f"with Store({self.file!r}, {ALTCTL!r}) as store:\n"
+            f"    try: Store({self.file!r}, {ALTCTL!r})\n"
+            "    except BlockingIOError: store.put('top', 1, 1, b'one'); store.commit()\n"
+        )
+        for closed in ["<&-", ">&-", "2>&-", "<&- >&-", "<&- >&- 2>&-"]:
+            words = ["sh", "-c", f'exec "$0" -c "$1" {closed}', sys.executable, program]
+            self.assertEqual(0, subprocess.run(words, cwd=Path(__file__).parent).returncode, closed)
+            with self.open() as store:
+                self.assertEqual(b"one", store.get("top", 1, 1), closed)
+                store.remove("top", 1, 1)
+                store.commit()
+
+    def test_a_name_is_no_option(self):
+        with tempfile.TemporaryDirectory() as folder:
+            name = os.path.join(folder, "-store")
+            os.rename(self.file, name)
+            here = os.getcwd()
+            try:
+                os.chdir(folder)
+                for file in ["-store", b"-store", Path("-store")]:
+                    with Store(file, os.path.join(here, ALTCTL)) as store:
+                        self.assertEqual([("top", None)], list(store.alternatives()))
+            finally:
+                os.chdir(here)
+
     def test_the_example(self):
         due = [
             "refused: 9 Unsettled 1",

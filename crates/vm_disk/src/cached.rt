@@ -188,7 +188,7 @@ impl<D: Disk> Disk for CachedDisk<D> {
         ensures any { Between (cached_state D.state) (Counts 0 result) self.old self.new }
         ensures honest { IfHonest (cached_state D.state) (WritesRun n blocks.now result) self.old self.new }
 
-        // The disk below is asked once for all of them.
+        // The disk below counts no read for it.
         ensures passed { Below D.state (Counts 0 result) self.old self.new }
         ensures kept { OnOk result (UsesRun n blocks.now self.old self.new) }
 

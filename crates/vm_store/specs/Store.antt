@@ -87,6 +87,10 @@ module _ {D : Type 0} {members : _} where
   abbrev pub held_of : Store D members → List Bool
   held_of store = store.held
 
+  -- how many blocks it has
+  abbrev pub blocks_of : Store D members → ℕ
+  blocks_of store = store.blocks
+
   -- how many blocks are not held
   abbrev pub free_of : Store D members → ℕ
   free_of store = free_count store.held

@@ -69,8 +69,8 @@ enum Event<'a, W> {
 }
 
 /// The files of the system. What they hold when they are opened no program can know: the world W says
-/// it, for contracts alone. They are honest as long as each is found as it was left, and each disk that
-/// comes back has kept the disk model.
+/// it, for contracts alone. They are honest as long as each is found as it was left, none is made that
+/// was there, and each disk that comes back does so under its name and has kept the disk model.
 ///
 /// Assumed, and in no contract: that between two openings no one else writes a file, and that it keeps
 /// what the disk model says that a crash may leave.

@@ -1,5 +1,5 @@
 //! Making a store larger.
-ghost use Rattle.std.specs.Prelude.{◌≡◌, ◌≢◌, ◌≤◌, true, false, IsOk, IfErr, OnOk};
+ghost use Rattle.std.specs.Prelude.{◌≡◌, ◌≢◌, ◌≤◌, true, false, IfErr, OnOk};
 ghost use Rattle.vm_types.specs.State.{State};
 ghost use Rattle.vm_disk.specs.Disk.{Enlarges};
 ghost use Rattle.vm_types.specs.declared.command.Command.TheVariants.{Grow};
@@ -10,14 +10,14 @@ use vm_disk::Disk;
 use vm_types::{Answer, MAX_BLOCKS, Refusal};
 
 impl<D: Disk> Store<D> {
-    ghost use Rattle.vm_store.specs.Store.{disk_of, has_failed, entries_of, EarlyLeavesDisk, IsCarriedOut, IsNoLonger, NewAreFree, Holds, IsHonest, IsSameButDisk, GrowsOn, EarlyKeeps};
+    ghost use Rattle.vm_store.specs.Store.{blocks_of, disk_of, has_failed, entries_of, EarlyLeavesDisk, IsCarriedOut, IsNoLonger, NewAreFree, Holds, IsHonest, IsSameButDisk, GrowsOn, EarlyKeeps};
 
     /// How many blocks the store has, those of the slots included. The next Commit keeps that many.
     pub fn blocks(&self) -> Result<u32, Refusal>
         ensures failed { has_failed self.now ≡ true → result ≡ Err Refusal.Failed }
-        ensures counted { has_failed self.now ≡ false → (s : State) → Holds self.now s
+        ensures counted { has_failed self.now ≡ false → result ≡ Ok (blocks_of self.now) }
+        ensures value { has_failed self.now ≡ false → (s : State) → Holds self.now s
             → result ≡ Ok s.blocks }
-        ensures only_then { has_failed self.now ≡ false → IsOk result }
     {
         if self.failed {
             return Err(Refusal::Failed);
