@@ -3,14 +3,14 @@ use Rattle.std.proofs.Common.{◌≡◌, ◌≢◌, ◌⊎◌, inl, inr, ℕ, Bo
 use Rattle.std.proofs.lemmas.List.{length-map}
 use Rattle.vm_types.specs.declared.refusal.Refusal.{Refusal}
 use Rattle.vm_types.specs.declared.refusal.Refusal.TheVariants.{Device, Failed, Memory, NoSuchAlternative}
-use Rattle.vm_types.specs.Queries.{IsList, IsListOf}
+use Rattle.vm_types.specs.Queries.{IsList, IsListOf, IsListing}
 use Rattle.vm_types.specs.State.{State}
 use Rattle.vm_store.specs.Store.{Holds, has_failed}
 use Rattle.vm_store.specs.declared.store.Store.{Store}
 use Rattle.vm_cli.specs.Carried.{Carries, WritesStart}
 use Rattle.vm_cli.specs.Feeding.{HandlesRequest, ListReplied, Replied, Replies, joined}
 use Rattle.vm_cli.specs.Replies.{ends_talk, is_error, reply_text}
-use Rattle.vm_cli.specs.Talk.{Meets, Passes, SaysFailed, SaysList, Stood, error_text}
+use Rattle.vm_cli.specs.Talk.{Meets, Passes, SaysAnswer, SaysFailed, Stood, error_text, list_lines}
 use Rattle.vm_cli.specs.declared.answers.reply.Reply.{Reply}
 use Rattle.vm_cli.specs.declared.answers.reply.Reply.TheVariants.{End}
 use Rattle.vm_cli.specs.Asking.{Request}
@@ -55,7 +55,7 @@ joined_map line (x ∷ xs) = ap (λ rest. line x ++ rest) (joined_map line xs)
 module _ {D : Type 0} {members : _} (old new : Store D members) (s : State) (query : Request) (passes : Passes old new None) (same : has_failed new ≡ has_failed old) (left : has_failed old ≡ true → new ≡ old)
     (holds : Stood old new s → Holds new s) where
   module _ {T X : Type 0} (Known Fails : Type 0) (line : X → List ℕ) (items : T → List X) (due : Result (List X) Refusal) (plain : (x : X) (rest : List ℕ) → is_error (line x ++ rest) ≡ false)
-      (meets : (text : List ℕ) → has_failed old ≡ false → (Known → SaysList Fails line due text) → Meets old new s query text None)
+      (meets : (text : List ℕ) → has_failed old ≡ false → SaysAnswer Fails (list_lines line) (λ answer. Known → IsListing answer due) text → Meets old new s query text None)
       (fails : (text : List ℕ) (ends : Bool) → text ≡ error_text Failed → ends ≡ true → SaysFailed query text ends) where
     -- its answer is due where `Known` holds, and it is replied to so
     pub list_handled : (answer : Result T Refusal) → (has_failed old ≡ false → answer ≡ Err Device → Fails) → (has_failed old ≡ true → answer ≡ Err Failed) → (has_failed old ≡ false → answer ≢ Err Failed)
@@ -74,6 +74,6 @@ module _ {D : Type 0} {members : _} (old new : Store D members) (s : State) (que
         replied_whole (HandlesRequest old new s query) reply a rest replied.2
         (refusal_handled old new s query passes same left holds refusal reply replied.0.text replied.0.last replied.0.failed
         (λ failed. let e = refused failed in cc) (λ sound is. only sound (ap Err is)) fails
-        (λ sound. meets (reply_text reply) sound (λ known. says_refusal Fails line due refusal (reply_text reply) (λ is. device sound (ap Err is)) replied.0.text (value sound known)))) in
+        (λ sound. meets (reply_text reply) sound (says_refusal Known Fails line due refusal (reply_text reply) (λ is. device sound (ap Err is)) (λ is. only sound (ap Err is)) replied.0.text (λ known. value sound known)))) in
         subst (λ o. Replied (HandlesRequest old new s query) reply a o rest) (sym replied.1) whole
     list_handled (Err refusal) device refused only value (Err fault) a b rest replied = absurd replied

@@ -6,7 +6,8 @@ use Rattle.vm_types.specs.declared.refusal.Refusal.TheVariants.{Device, Failed, 
 use Rattle.vm_cli.specs.Carried.{WritesStart, Carries}
 use Rattle.vm_cli.specs.Feeding.{Replies}
 use Rattle.vm_cli.specs.Replies.{found_text, is_error, reply_text}
-use Rattle.vm_cli.specs.Talk.{SaysList, error_text, list_text, value_line}
+use Rattle.vm_types.specs.Queries.{IsListing}
+use Rattle.vm_cli.specs.Talk.{SaysAnswer, error_text, list_lines, list_text}
 use Rattle.vm_cli.specs.declared.answers.reply.Reply.{Reply}
 use Rattle.vm_cli.specs.declared.answers.reply.Reply.TheVariants.{End}
 use Rattle.vm_cli.specs.declared.answers.writing.WriteFault.{WriteFault}
@@ -26,12 +27,6 @@ pub was_sound : {X : Type 0} (failed : Bool) (x : X) → (failed ≡ true → gi
 was_sound false x refused = refl
 was_sound true x refused = let e = refused refl in cc
 
--- the value of a record is answered as is due
-pub says_value : (Fails : Type 0) (due r : Result (Option (List ℕ)) Refusal) (text : List ℕ) → (r ≡ Err Device → Fails) → text ≡ value_line r → (r ≡ Err Device) ⊎ (r ≡ due)
-    → (text ≡ value_line due) ⊎ ((text ≡ error_text Device) × Fails)
-says_value Fails due r text fails is (inl device) = inr (is ∙ ap value_line device, fails device)
-says_value Fails due r text fails is (inr same) = inl (is ∙ ap value_line same)
-
 -- the text has its line alone, which is no refusal
 pub found_alone : (old text : List ℕ) (found : Option (List ℕ)) → old ≡ [] → text ≡ old ++ found_text found → text ++ [] ≡ found_text found
 found_alone old text found none is = rw (is, none) (append-nil (found_text found))
@@ -46,21 +41,32 @@ plain_list : {X : Type 0} (line : X → List ℕ) → ((x : X) (rest : List ℕ)
 plain_list line plain [] count = refl
 plain_list line plain (x ∷ xs) count = ap is_error (append_assoc (line x) (flat_map line xs) (reply_text (End count))) ∙ plain x (flat_map line xs ++ reply_text (End count))
 
+-- a list is told
+says_items : {X : Type 0} (C Fails : Type 0) (line : X → List ℕ) (items : List X) (due : Result (List X) Refusal) → (C → due ≡ Ok items)
+    → SaysAnswer Fails (list_lines line) (λ answer. C → IsListing answer due) (list_text line items)
+says_items C Fails line items due is = record {
+  answer = Ok items;
+  says = refl;
+  device = λ no. absurd cc;
+  only_then = λ no. cc;
+  due = is;
+}
+
 -- a list is written as is due
 pub list_replies : {X : Type 0} (C : Type 0) (P : List ℕ → Bool → Type 0) (Fails : Type 0) (line : X → List ℕ) (items : List X) (due : Result (List X) Refusal) (r : Result Reply WriteFault) (a b : Option (List ℕ)) (rest : List ℕ)
-    → ((x : X) (rest : List ℕ) → is_error (line x ++ rest) ≡ false) → ((text : List ℕ) → (C → SaysList Fails line due text) → P text false)
+    → ((x : X) (rest : List ℕ) → is_error (line x ++ rest) ≡ false) → ((text : List ℕ) → SaysAnswer Fails (list_lines line) (λ answer. C → IsListing answer due) text → P text false)
     → (C → due ≡ Ok items) → IfOk r (λ reply. reply ≡ End (length items)) → OnOk r (Carries a b rest (flat_map line items)) → OnErr r (WritesStart a b (flat_map line items))
     → Replies P r a b rest
 list_replies C P Fails line items due (Ok reply) a b rest plain lift is ends carries begins = record {
   whole = flat_map line items;
-  says = rw ends (lift (list_text line items) (λ c. inl (rw (is c) refl)));
+  says = rw ends (lift (list_text line items) (says_items C Fails line items due is));
   tells = rw ends (plain_list line plain items (length items));
   carries = carries;
 }
 list_replies C P Fails line items due (Err fault) a b rest plain lift is ends carries begins = record {
   whole = list_text line items;
   ends = false;
-  says = lift (list_text line items) (λ c. inl (rw (is c) refl));
+  says = lift (list_text line items) (says_items C Fails line items due is);
   begins = begins-more a b (flat_map line items) _ begins;
 }
 
@@ -70,8 +76,13 @@ want (inl is) = inr (inl is)
 want (inr is) = inr (inr (sym is))
 
 -- a list is refused
-pub says_refusal : {X : Type 0} (Fails : Type 0) (line : X → List ℕ) (due : Result (List X) Refusal) (refusal : Refusal) (text : List ℕ)
-    → (refusal ≡ Device → Fails) → text ≡ error_text refusal → (refusal ≡ Device) ⊎ ((refusal ≡ Memory) ⊎ (due ≡ Err refusal)) → SaysList Fails line due text
-says_refusal Fails line due refusal text fails is (inl device) = inr (inl (is ∙ ap error_text device, fails device))
-says_refusal Fails line due refusal text fails is (inr (inl memory)) = inr (inr (is ∙ ap error_text memory))
-says_refusal Fails line due refusal text fails is (inr (inr refused)) = inl (rw refused is)
+pub says_refusal : {X : Type 0} (C Fails : Type 0) (line : X → List ℕ) (due : Result (List X) Refusal) (refusal : Refusal) (text : List ℕ)
+    → (refusal ≡ Device → Fails) → refusal ≢ Failed → text ≡ error_text refusal → (C → (refusal ≡ Device) ⊎ ((refusal ≡ Memory) ⊎ (due ≡ Err refusal)))
+    → SaysAnswer Fails (list_lines line) (λ answer. C → IsListing answer due) text
+says_refusal C Fails line due refusal text fails only is value = record {
+  answer = Err refusal;
+  says = is;
+  device = λ same. fails (let e : refusal ≡ Device = cc in e);
+  only_then = λ same. only (let e : refusal ≡ Failed = cc in e);
+  due = value;
+}

@@ -1,5 +1,5 @@
 -- What a talk promises: what each line is answered, and what the store is after it.
-use Rattle.std.specs.Prelude.{◌≡◌, ◌⊎◌, ◌||◌, ◌<◌, ◌≤◌, ℕ, Bool, true, false, List, [], ◌∷◌, ◌++◌, Option, Some, None, Result, Ok, Err, IfSome, flat_map, length}
+use Rattle.std.specs.Prelude.{◌≡◌, ◌≢◌, ◌⊎◌, ◌||◌, ◌<◌, ◌≤◌, ℕ, Bool, true, false, List, [], ◌∷◌, ◌++◌, Option, Some, None, Result, Ok, Err, IfSome, flat_map, length}
 use Rattle.std.specs.Io.KnownBytes.{Appends}
 use Rattle.vm_types.specs.declared.answer.Answer.{Answer}
 use Rattle.vm_types.specs.declared.answer.Answer.TheVariants as answer
@@ -10,8 +10,8 @@ use Rattle.vm_types.specs.declared.refusal.Refusal.TheVariants.{Device, Failed, 
 use Rattle.vm_types.specs.Shape.{shape}
 use Rattle.vm_types.specs.State.{State, after, next}
 use Rattle.vm_disk.specs.Moments.{OnlyReads}
-use Rattle.vm_types.specs.Queries.{value_in}
-use Rattle.vm_types.specs.Queries.{changes_in, checkpoints_in, conflicts_in, records_in}
+use Rattle.vm_types.specs.Queries.{IsListing, changes_in, checkpoints_in, conflicts_in, records_in, value_in}
+use Rattle.vm_store.specs.Answers.{IsDueOrDevice}
 use Rattle.vm_store.specs.Resting.{spare_of}
 use Rattle.vm_store.specs.Running.{CarriesOut}
 use Rattle.vm_store.specs.Shared.{unshared_of, unshared_on_sides}
@@ -56,9 +56,14 @@ abbrev pub list_lines : {X : Type 0} → (X → List ℕ) → Result (List X) Re
 list_lines line (Ok list) = list_text line list
 list_lines line (Err refusal) = error_text refusal
 
--- a list is answered as is due, or that memory was wanting, or, where `Fails`, that the device failed
-abbrev pub SaysList : {X : Type 0} → Type 0 → (X → List ℕ) → Result (List X) Refusal → List ℕ → Type 0
-SaysList Fails line due text = (text ≡ list_lines line due) ⊎ (((text ≡ error_text Device) × Fails) ⊎ (text ≡ error_text Memory))
+-- the text is that of an answer to a query by a store that had not failed: it is Device only where `Fails`, it is never Failed, and
+-- `IsDue` holds of it
+pub record SaysAnswer {T : Type 0} (Fails : Type 0) (text_of : Result T Refusal → List ℕ) (IsDue : Result T Refusal → Type 0) (text : List ℕ) : Type 0 where
+  pub answer : Result T Refusal
+  pub says : text ≡ text_of answer
+  pub device : answer ≡ Err Device → Fails
+  pub only_then : answer ≢ Err Failed
+  pub due : IsDue answer
 
 -- what a store that had failed answers, and whether the talk ends with it
 abbrev pub SaysFailed : Request → List ℕ → Bool → Type 0
@@ -129,19 +134,27 @@ module _ {D : Type 0} {members : _} where
   abbrev pub SaysFree : Store D members → State → List ℕ → Type 0
   SaysFree store s text = (text ≡ reply_text (reply.Free (free_of store))) × ((holds : Holds store s) → free_of store ≤ spare_of holds.rests)
 
-  -- the text of the answer to what is no command. A query that reads is answered so where the store stood for the state and the disk is
-  -- honest after it. Any other leaves the store as it was, on any disk; of them the lists are answered so where the store stood for the state
+  -- the text of the answer to a query that reads: on any disk it is Device only where a device call failed, and never Failed; and it is
+  -- due where the store stood for the state and the disk is honest after it
+  abbrev pub SaysRead : {T : Type 0} → Store D members → Store D members → State → (Result T Refusal → List ℕ) → (Result T Refusal → Type 0) → List ℕ → Type 0
+  SaysRead old new s text_of IsDue text = SaysAnswer (Failing old new) text_of (λ answer. Stood old new s → IsDue answer) text
+
+  -- the text of the answer to a query for a list that makes no device call and leaves the store as it was, on any disk: it is never Device
+  -- nor Failed, and due where the store stood for the state
+  abbrev pub SaysNames : {X : Type 0} → Store D members → Store D members → State → (X → List ℕ) → Result (List X) Refusal → List ℕ → Type 0
+  SaysNames old new s line due text = (new ≡ old) × SaysAnswer ⊥ (list_lines line) (λ answer. Holds old s → IsListing answer due) text
+
+  -- the text of the answer to what is no command. Any but the first four leave the store as it was, on any disk
   abbrev pub Says : Store D members → Store D members → State → Request → List ℕ → Type 0
-  Says old new s (Request.Get alt key) text =
-      Stood old new s → (text ≡ value_line (value_in s.working alt key)) ⊎ ((text ≡ error_text Device) × Failing old new)
+  Says old new s (Request.Get alt key) text = SaysRead old new s value_line (λ answer. IsDueOrDevice answer (value_in s.working alt key)) text
   Says old new s (Request.List alt) text =
-      Stood old new s → SaysList (Failing old new) (λ (r : Key × List ℕ). record_text r.0 r.1) (records_in s.working alt) text
-  Says old new s (Request.Changes alt) text = Stood old new s → SaysList (Failing old new) change_text (changes_in s.working alt) text
-  Says old new s (Request.Conflicts alt) text = Stood old new s → SaysList (Failing old new) conflict_text (conflicts_in s.working alt) text
+      SaysRead old new s (list_lines (λ (r : Key × List ℕ). record_text r.0 r.1)) (λ answer. IsListing answer (records_in s.working alt)) text
+  Says old new s (Request.Changes alt) text = SaysRead old new s (list_lines change_text) (λ answer. IsListing answer (changes_in s.working alt)) text
+  Says old new s (Request.Conflicts alt) text =
+      SaysRead old new s (list_lines conflict_text) (λ answer. IsListing answer (conflicts_in s.working alt)) text
   Says old new s Request.Alternatives text =
-      (new ≡ old) × (Holds old s → SaysList ⊥ (λ (a : List ℕ × Option (List ℕ)). alternative_text a.0 a.1) (Ok (shape s.working)) text)
-  Says old new s (Request.Checkpoints alt) text =
-      (new ≡ old) × (Holds old s → SaysList ⊥ checkpoint_text (checkpoints_in s.working alt) text)
+      SaysNames old new s (λ (a : List ℕ × Option (List ℕ)). alternative_text a.0 a.1) (Ok (shape s.working)) text
+  Says old new s (Request.Checkpoints alt) text = SaysNames old new s checkpoint_text (checkpoints_in s.working alt) text
   Says old new s Request.Free text = (new ≡ old) × SaysFree old s text
   Says old new s Request.Nothing text = (new ≡ old) × (text ≡ [])
   Says old new s Request.Bad text = (new ≡ old) × (text ≡ reply_text reply.BadLine)

@@ -90,6 +90,8 @@ pub fn serve<R: Read, W: Write, D: Disk>(
     // Where a refused line is to end the talk, none before the last one is refused.
     // Lists of alternatives and checkpoints, `free`, and a line that is bad or asks for nothing leave the store as it was
     // on any disk; the lists are as is due where it stands for a state, the others always, unless memory was wanting.
+    // On any disk a query is answered Device only where a device call failed in it, and Failed only by a store that had
+    // failed before.
     ensures answers { ServesEach W.contents on_refusal result store.old store.new
         (R.remaining reader.old) writer.old writer.new }
 {

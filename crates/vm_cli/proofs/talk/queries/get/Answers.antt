@@ -1,13 +1,11 @@
 use Rattle.std.proofs.Common.{◌≡◌, ◌++◌, [], Ok, Err, length, option_copied, ap, arith, refl, ◌∙◌}
-use Rattle.vm_types.specs.declared.refusal.Refusal.TheVariants.{Device}
-use Rattle.vm_types.specs.Queries.{value_in}
+use Rattle.vm_types.specs.declared.refusal.Refusal.TheVariants.{Device, Failed}
 use Rattle.vm_store.specs.Store.{has_failed}
 use Rattle.vm_cli.specs.Feeding.{HandlesRequest}
-use Rattle.vm_cli.specs.Talk.{Failing}
 use Rattle.vm_cli.specs.Asking.{Request}
 use Rattle.vm_cli.proofs.HandledLemmas.{refusal_handled, told, with_nothing}
 use Rattle.vm_cli.proofs.PassLemmas.{goes_any, passes_reads}
-use Rattle.vm_cli.proofs.TalkLemmas.{found_alone, found_plain, says_value, was_sound}
+use Rattle.vm_cli.proofs.TalkLemmas.{found_alone, found_plain, was_sound}
 use Rattle.vm_cli.proofs.talk.queries.get.Goals as goal
 
 pub returns-in-Ok : goal.returns-in-Ok
@@ -28,7 +26,18 @@ returns-in-Ok g c =
       left = said.no_calls;
       answer = λ s. (
         told old new s (Request.Get c.args.alt.now c.args.key) (passes_reads old new (goes_any _ _ _ said.any) said.reads said.unchanged) said.failed said.no_calls (λ stood. said.state stood.honest s stood.holds)
-            (text ++ []) sound (refl, said.failed ∙ sound, λ stood. says_value (Failing old new) (value_in s.working c.args.alt.now c.args.key) (Ok found) (text ++ []) (λ is. absurd cc) alone (said.value stood.honest sound s stood.holds), tt),
+            (text ++ []) sound (
+              refl,
+              said.failed ∙ sound,
+              record {
+                answer = Ok found;
+                says = alone;
+                device = λ is. absurd cc;
+                only_then = λ is. cc;
+                due = λ stood. said.value stood.honest sound s stood.holds;
+              },
+              tt,
+            ),
         found_plain (text ++ []) found alone,
       );
     }
@@ -51,5 +60,16 @@ returns-in-Err g c =
           (refusal_handled old new s (Request.Get c.args.alt.now c.args.key) (passes_reads old new (goes_any _ _ _ said.any) said.reads said.unchanged) said.failed said.no_calls (λ stood. said.state stood.honest s stood.holds)
           refusal c.from_refusal.result c.from_refusal.ensures.text c.from_refusal.ensures.last c.from_refusal.ensures.failed (λ failed. let e = said.refused failed in cc) (λ sound is. said.only_then sound (ap Err is))
           (λ text ends is last. (is, last))
-          (λ sound. (refl, said.failed ∙ sound, λ stood. says_value (Failing old new) (value_in s.working c.args.alt.now c.args.key) (Err refusal) _ (λ is. said.any.fault (let same : refusal ≡ Device = cc in ap Err same)) c.from_refusal.ensures.text (said.value stood.honest sound s stood.holds), tt)));
+          (λ sound. (
+            refl,
+            said.failed ∙ sound,
+            record {
+              answer = Err refusal;
+              says = c.from_refusal.ensures.text;
+              device = λ is. said.any.fault (let same : refusal ≡ Device = cc in ap Err same);
+              only_then = λ is. said.only_then sound (let same : refusal ≡ Failed = cc in ap Err same);
+              due = λ stood. said.value stood.honest sound s stood.holds;
+            },
+            tt,
+          )));
     }
