@@ -219,19 +219,19 @@ module _ {D : Type 0} (members : Ghosts D) (cached : Ghosts (CachedDisk D member
       (refused_below members over.first over.last refusal shown)
 
 module _ {D : Type 0} (members : Ghosts D) (cached : Ghosts (CachedDisk D members)) (late : Ghosts (DelayedDisk D members))
-    (late_cached : Ghosts (DelayedDisk (CachedDisk D members) cached)) (Untouched Reads Denied : Type 0) (words : List Text) (exit : Exit)
+    (late_cached : Ghosts (DelayedDisk (CachedDisk D members) cached)) (Untouched Reads Opens Denied : Type 0) (words : List Text) (exit : Exit)
     (old new : PlaceState) (input before after errors errors' : Option (List ℕ)) where
   -- what was done
   abbrev Did : Type 0
-  Did = Does members cached late late_cached Untouched Reads Denied words exit old new input before after errors errors'
+  Did = Does members cached late late_cached Untouched Reads Opens Denied words exit old new input before after errors errors'
 
   -- a store was to be made
-  pub did_create : (name : Text) (blocks : ℕ) → IsJob words (create name blocks) → Makes members Denied name blocks exit old new before after errors errors' → Did
-  did_create name blocks job makes = record {
+  pub did_create : (name : Text) (blocks : ℕ) → IsJob words (create name blocks) → Opens → Makes members Denied name blocks exit old new before after errors errors' → Did
+  did_create name blocks job opens makes = record {
     creates = λ other size asked. let same : create other size ≡ create name blocks = one_job words (create name blocks) (create other size) job asked in
         let name_is : other ≡ name = cc in
         let size_is : size ≡ blocks = cc in
-        inl (rw (name_is, size_is) makes);
+        inl (opens, rw (name_is, size_is) makes);
     runs = λ other in_memory on asked. let same : run other in_memory on ≡ create name blocks = one_job words (create name blocks) (run other in_memory on) job asked in absurd (cc);
     does = λ other lines in_memory on asked. let same : do_lines other lines in_memory on ≡ create name blocks = one_job words (create name blocks) (do_lines other lines in_memory on) job asked in absurd (cc);
     checks = λ other asked. let same : check other ≡ create name blocks = one_job words (create name blocks) (check other) job asked in absurd (cc);
@@ -240,30 +240,25 @@ module _ {D : Type 0} (members : Ghosts D) (cached : Ghosts (CachedDisk D member
   }
 
   -- lines were to be answered
-  pub did_run : (name : Text) (in_memory : InMemory) (on : OnRefusal) → IsJob words (run name in_memory on)
+  pub did_run : (name : Text) (in_memory : InMemory) (on : OnRefusal) → IsJob words (run name in_memory on) → Opens
       → Answers members cached late late_cached name in_memory on exit old new input before after ⊎ Declines members Denied name exit old new errors errors' → Did
-  did_run name in_memory on job answers = record {
+  did_run name in_memory on job opens answers = record {
     creates = λ other size asked. let same : create other size ≡ run name in_memory on = one_job words (run name in_memory on) (create other size) job asked in absurd (cc);
     runs = λ other size refusal asked. let same : run other size refusal ≡ run name in_memory on = one_job words (run name in_memory on) (run other size refusal) job asked in
         let name_is : other ≡ name = cc in
         let size_is : size ≡ in_memory = cc in
         let on_is : refusal ≡ on = cc in
-        rw (name_is, size_is, on_is) (told answers);
+        inl (opens, rw (name_is, size_is, on_is) answers);
     does = λ other lines size refusal asked. let same : do_lines other lines size refusal ≡ run name in_memory on = one_job words (run name in_memory on) (do_lines other lines size refusal) job asked in absurd (cc);
     checks = λ other asked. let same : check other ≡ run name in_memory on = one_job words (run name in_memory on) (check other) job asked in absurd (cc);
     draws = λ other asked. let same : draw other ≡ run name in_memory on = one_job words (run name in_memory on) (draw other) job asked in absurd (cc);
     none = λ no. absurd (no (run name in_memory on) job);
   }
-    where
-      told : Answers members cached late late_cached name in_memory on exit old new input before after ⊎ Declines members Denied name exit old new errors errors'
-          → Answers members cached late late_cached name in_memory on exit old new input before after ⊎ (Declines members Denied name exit old new errors errors' ⊎ ((exit ≡ Stopped) × Untouched))
-      told (inl answers) = inl answers
-      told (inr declines) = inr (inl declines)
 
   -- lines that were given were to be answered
-  pub did_lines : (name : Text) (lines : List ℕ) (in_memory : InMemory) (on : OnRefusal) → IsJob words (do_lines name lines in_memory on)
+  pub did_lines : (name : Text) (lines : List ℕ) (in_memory : InMemory) (on : OnRefusal) → IsJob words (do_lines name lines in_memory on) → Opens
       → Answers members cached late late_cached name in_memory on exit old new (Some lines) before after ⊎ Declines members Denied name exit old new errors errors' → Did
-  did_lines name lines in_memory on job answers = record {
+  did_lines name lines in_memory on job opens answers = record {
     creates = λ other size asked. let same : create other size ≡ do_lines name lines in_memory on = one_job words (do_lines name lines in_memory on) (create other size) job asked in absurd (cc);
     runs = λ other size refusal asked. let same : run other size refusal ≡ do_lines name lines in_memory on = one_job words (do_lines name lines in_memory on) (run other size refusal) job asked in absurd (cc);
     does = λ other given size refusal asked. let same : do_lines other given size refusal ≡ do_lines name lines in_memory on = one_job words (do_lines name lines in_memory on) (do_lines other given size refusal) job asked in
@@ -271,16 +266,11 @@ module _ {D : Type 0} (members : Ghosts D) (cached : Ghosts (CachedDisk D member
         let lines_are : given ≡ lines = cc in
         let size_is : size ≡ in_memory = cc in
         let on_is : refusal ≡ on = cc in
-        rw (name_is, lines_are, size_is, on_is) (told answers);
+        inl (opens, rw (name_is, lines_are, size_is, on_is) answers);
     checks = λ other asked. let same : check other ≡ do_lines name lines in_memory on = one_job words (do_lines name lines in_memory on) (check other) job asked in absurd (cc);
     draws = λ other asked. let same : draw other ≡ do_lines name lines in_memory on = one_job words (do_lines name lines in_memory on) (draw other) job asked in absurd (cc);
     none = λ no. absurd (no (do_lines name lines in_memory on) job);
   }
-    where
-      told : Answers members cached late late_cached name in_memory on exit old new (Some lines) before after ⊎ Declines members Denied name exit old new errors errors'
-          → Answers members cached late late_cached name in_memory on exit old new (Some lines) before after ⊎ (Declines members Denied name exit old new errors errors' ⊎ ((exit ≡ Stopped) × Untouched))
-      told (inl answers) = inl answers
-      told (inr declines) = inr (inl declines)
 
   -- a store was to be checked
   pub did_check : (name : Text) → IsJob words (check name) → Reads
@@ -324,8 +314,8 @@ module _ {D : Type 0} (members : Ghosts D) (cached : Ghosts (CachedDisk D member
   pub did_nothing : Untouched → Reads → ((job : Wanted) → IsJob words job → exit ≡ Stopped) → Did
   did_nothing untouched reads stopped = record {
     creates = λ name blocks asked. inr (stopped (create name blocks) asked, untouched);
-    runs = λ name in_memory on asked. inr (inr (stopped (run name in_memory on) asked, untouched));
-    does = λ name lines in_memory on asked. inr (inr (stopped (do_lines name lines in_memory on) asked, untouched));
+    runs = λ name in_memory on asked. inr (stopped (run name in_memory on) asked, untouched);
+    does = λ name lines in_memory on asked. inr (stopped (do_lines name lines in_memory on) asked, untouched);
     checks = λ name asked. (reads, inr (inr (stopped (check name) asked, untouched)));
     draws = λ name asked. (reads, inr (inr (stopped (draw name) asked, untouched)));
     none = λ no. untouched;

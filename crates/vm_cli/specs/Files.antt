@@ -116,18 +116,18 @@ module _ {D : Type 0} (members : Ghosts D) (cached : Ghosts (CachedDisk D member
         (commands_told members cached late late_cached served (opened seen)) (answers_told members cached late late_cached served (opened seen))
 
   -- what a run of the program does to the files, where `Untouched` says that no call of the place was made, `Reads` that no file was made
-  -- or opened to be written, and `Denied` that a call gave no disk. A job is left undone without a call only where the program stops, as
-  -- where memory for the words is wanting
-  pub record Does (Untouched Reads Denied : Type 0) (words : List Text) (exit : Exit) (old new : PlaceState) (input before after errors errors' : Option (List ℕ)) : Type 0 where
+  -- or opened to be written, `Opens` that just one was to be, and `Denied` that a call gave no disk. A job is left undone without a call
+  -- only where the program stops, as where memory for the words is wanting
+  pub record Does (Untouched Reads Opens Denied : Type 0) (words : List Text) (exit : Exit) (old new : PlaceState) (input before after errors errors' : Option (List ℕ)) : Type 0 where
     -- words that ask for a new store make its file
     pub creates : (name : Text) (blocks : ℕ) → IsJob words (create name blocks)
-        → Makes members Denied name blocks exit old new before after errors errors' ⊎ ((exit ≡ Stopped) × Untouched)
-    -- words that ask that lines are answered have them answered over the file, or it is said why not
+        → (Opens × Makes members Denied name blocks exit old new before after errors errors') ⊎ ((exit ≡ Stopped) × Untouched)
+    -- words that ask that lines are answered have them answered over the file, which is opened to be written, or it is said why not
     pub runs : (name : Text) (in_memory : InMemory) (on : OnRefusal) → IsJob words (run name in_memory on)
-        → Answers name in_memory on exit old new input before after ⊎ (Declines members Denied name exit old new errors errors' ⊎ ((exit ≡ Stopped) × Untouched))
+        → (Opens × (Answers name in_memory on exit old new input before after ⊎ Declines members Denied name exit old new errors errors')) ⊎ ((exit ≡ Stopped) × Untouched)
     -- so have words that give lines, whose input they are
     pub does : (name : Text) (lines : List ℕ) (in_memory : InMemory) (on : OnRefusal) → IsJob words (do_lines name lines in_memory on)
-        → Answers name in_memory on exit old new (Some lines) before after ⊎ (Declines members Denied name exit old new errors errors' ⊎ ((exit ≡ Stopped) × Untouched))
+        → (Opens × (Answers name in_memory on exit old new (Some lines) before after ⊎ Declines members Denied name exit old new errors errors')) ⊎ ((exit ≡ Stopped) × Untouched)
     -- words that ask for a check have the store in the file counted, or it is said why not; either way files are only read
     pub checks : (name : Text) → IsJob words (check name)
         → Reads × (Counts members name exit old new before after ⊎ (Declines members Denied name exit old new errors errors' ⊎ ((exit ≡ Stopped) × Untouched)))

@@ -76,8 +76,8 @@ module _ {P D : Type 0} (over : Disks D) (state : P → PlaceState) (denied : P 
   -- a run of the program with these words came to this end, before it is said that the program stopped
   abbrev pub DoesIn : (P → ℕ) → List Text → Exit → Option (List ℕ) → Option (List ℕ) → Option (List ℕ) → Option (List ℕ) → Option (List ℕ) → Type 0
   DoesIn to_write words exit input before after errors errors' =
-      Does over.own over.cached over.late over.late_cached (place' ≡ place) (to_write place' ≡ to_write place) (denied place' ≡ denied place + 1)
-      words exit (state place) (state place') input before after errors errors'
+      Does over.own over.cached over.late over.late_cached (place' ≡ place) (to_write place' ≡ to_write place) (to_write place' ≡ to_write place + 1)
+      (denied place' ≡ denied place + 1) words exit (state place) (state place') input before after errors errors'
 
   -- a run of the program with these words gave this status: by the end that it came to, and what was said to the errors by then, which is
   -- all but where the program stopped: behind it, then, it was begun to say so

@@ -180,6 +180,7 @@ fn create<P: Place, W: Write, F: Write>(
 ) -> Exit
     ensures says { JobEnds W.contents F.contents (create_wanted file.now blocks) result
         output.old output.new errors.old errors.new }
+    ensures writes { P.to_write place.new ≡ P.to_write place.old + 1 }
     ensures files { MakesIn P.D.Disk P.state P.denied place.old place.new file.now blocks result
         (W.contents output.old) (W.contents output.new) (F.contents errors.old) (F.contents errors.new) }
 {
@@ -223,6 +224,7 @@ fn run<P: Place, R: Read, W: Write, F: Write>(
 ) -> Exit
     ensures says { JobEnds W.contents F.contents (run_wanted file.now in_memory on_refusal) result
         output.old output.new errors.old errors.new }
+    ensures writes { P.to_write place.new ≡ P.to_write place.old + 1 }
     ensures files { AnswersIn (disks P.D.Disk ⟦<CachedDisk<P::D> as Disk>⟧ ⟦<DelayedDisk<P::D> as Disk>⟧ ⟦<DelayedDisk<CachedDisk<P::D>> as Disk>⟧)
         P.state P.denied place.old place.new file.now in_memory on_refusal result
         (R.remaining input.old) (W.contents output.old) (W.contents output.new) (F.contents errors.old) (F.contents errors.new) }

@@ -58,14 +58,14 @@ returns-in-Ok-Create-clause-files g c honest =
     let words = map string_bytes c.args.words.now in
     let e = rw c.in-Ok-Create.field-0-is at c.in-Ok-Create.ensures in
     let job : IsJob words (create c.in-Ok-Create.file.now c.in-Ok-Create.blocks) = (e.faults, e.ok) in
-    did_create g.P.D.Disk _ _ _ _ _ _ words _ _ _ _ _ _ _ _ _ _ job (c.create.ensures.files honest)
+    did_create g.P.D.Disk _ _ _ _ _ _ _ words _ _ _ _ _ _ _ _ _ _ job c.create.ensures.writes (c.create.ensures.files honest)
 
 pub returns-in-Ok-Run-clause-files : goal.returns-in-Ok-Run-clause-files
 returns-in-Ok-Run-clause-files g c honest =
     let words = map string_bytes c.args.words.now in
     let e = rw c.in-Ok-Run.field-0-is at c.in-Ok-Run.ensures in
     let job : IsJob words (run c.in-Ok-Run.file.now c.in-Ok-Run.in_memory c.in-Ok-Run.on_refusal) = (e.faults, e.ok) in
-    did_run g.P.D.Disk _ _ _ _ _ _ words _ _ _ _ _ _ _ _ c.in-Ok-Run.file.now c.in-Ok-Run.in_memory c.in-Ok-Run.on_refusal job (c.run.ensures.files honest)
+    did_run g.P.D.Disk _ _ _ _ _ _ _ words _ _ _ _ _ _ _ _ c.in-Ok-Run.file.now c.in-Ok-Run.in_memory c.in-Ok-Run.on_refusal job c.run.ensures.writes (c.run.ensures.files honest)
 
 pub returns-in-Ok-Do-clause-files : goal.returns-in-Ok-Do-clause-files
 returns-in-Ok-Do-clause-files g c honest =
@@ -73,26 +73,26 @@ returns-in-Ok-Do-clause-files g c honest =
     let e = rw c.in-Ok-Do.field-0-is at c.in-Ok-Do.ensures in
     let job : IsJob words (do_lines c.in-Ok-Do.file.now c.in-Ok-Do.input.items c.in-Ok-Do.in_memory c.in-Ok-Do.on_refusal) = (e.faults, e.ok) in
     let files = rw c.as_slice-lines.ensures.value at (c.run-in-Ok-Do.ensures.files honest) in
-    did_lines g.P.D.Disk _ _ _ _ _ _ words _ _ _ _ _ _ _ _ c.in-Ok-Do.file.now c.in-Ok-Do.input.items c.in-Ok-Do.in_memory c.in-Ok-Do.on_refusal job files
+    did_lines g.P.D.Disk _ _ _ _ _ _ _ words _ _ _ _ _ _ _ _ c.in-Ok-Do.file.now c.in-Ok-Do.input.items c.in-Ok-Do.in_memory c.in-Ok-Do.on_refusal job c.run-in-Ok-Do.ensures.writes files
 
 pub returns-in-Ok-Check-clause-files : goal.returns-in-Ok-Check-clause-files
 returns-in-Ok-Check-clause-files g c honest =
     let words = map string_bytes c.args.words.now in
     let e = rw c.in-Ok-Check.field-0-is at c.in-Ok-Check.ensures in
     let job : IsJob words (check c.in-Ok-Check.file.now) = (e.faults, e.ok) in
-    did_check g.P.D.Disk _ _ _ _ _ _ words _ _ _ _ _ _ _ _ c.in-Ok-Check.file.now job c.check.ensures.reads (c.check.ensures.files honest)
+    did_check g.P.D.Disk _ _ _ _ _ _ _ words _ _ _ _ _ _ _ _ c.in-Ok-Check.file.now job c.check.ensures.reads (c.check.ensures.files honest)
 
 pub returns-in-Ok-Tree-clause-files : goal.returns-in-Ok-Tree-clause-files
 returns-in-Ok-Tree-clause-files g c honest =
     let words = map string_bytes c.args.words.now in
     let e = rw c.in-Ok-Tree.field-0-is at c.in-Ok-Tree.ensures in
     let job : IsJob words (draw c.in-Ok-Tree.file.now) = (e.faults, e.ok) in
-    did_draw g.P.D.Disk _ _ _ _ _ _ words _ _ _ _ _ _ _ _ c.in-Ok-Tree.file.now job c.tree.ensures.reads (c.tree.ensures.files honest)
+    did_draw g.P.D.Disk _ _ _ _ _ _ _ words _ _ _ _ _ _ _ _ c.in-Ok-Tree.file.now job c.tree.ensures.reads (c.tree.ensures.files honest)
 
 pub returns-in-Err-clause-files : goal.returns-in-Err-clause-files
 returns-in-Err-clause-files g c honest =
     let words = map string_bytes c.args.words.now in
-    did_nothing g.P.D.Disk _ _ _ _ _ _ words _ _ _ _ _ _ _ _ refl refl (λ job asked. elim c.in-Err.ensures.faults [
+    did_nothing g.P.D.Disk _ _ _ _ _ _ _ words _ _ _ _ _ _ _ _ refl refl (λ job asked. elim c.in-Err.ensures.faults [
       | inl memory ↦ (c.explain.ensures.memory memory).0
       | inr among ↦ absurd (no_fault (kind_of c.in-Err.error) words job asked among)
     ])
