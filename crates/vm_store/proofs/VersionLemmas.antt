@@ -7,7 +7,7 @@ use Rattle.vm_types.specs.State.{State, accepted, answer_of, next, tree_after, e
 use Rattle.vm_types.specs.declared.answer.Answer.{Answer}
 use Rattle.vm_types.specs.declared.answer.Answer.TheVariants.{Done}
 use Rattle.vm_types.specs.declared.command.Command.{Command}
-use Rattle.vm_types.specs.declared.command.Command.TheVariants.{New, NewAt, Drop, Checkpoint, Uncheck, Back, Reclaim}
+use Rattle.vm_types.specs.declared.command.Command.TheVariants.{New, NewAt, Drop, Put, Remove, Checkpoint, Uncheck, Back, Post, Commit, Reclaim}
 use Rattle.vm_types.specs.declared.refusal.Refusal.{Refusal}
 use Rattle.vm_types.specs.declared.refusal.Refusal.TheVariants.{Device}
 use Rattle.vm_disk.specs.Disk.{Medium}
@@ -22,7 +22,7 @@ use Rattle.vm_store.specs.Filed.{Filed, Standing, tree_of}
 use Rattle.vm_store.specs.Resting.{Rests}
 use Rattle.vm_store.proofs.RestingLemmas.{rests_on}
 use Rattle.vm_store.specs.Answers.{ChangesEntriesAlone, HasMarked}
-use Rattle.vm_store.specs.Store.{Answers, Holds}
+use Rattle.vm_store.specs.Store.{Answers, Holds, KeepsFree}
 use Rattle.vm_store.specs.declared.store.Store.{Store}
 use Rattle.vm_store.specs.Turns.{StandFor, Turns}
 
@@ -106,3 +106,21 @@ entries_unmarked (Checkpoint alt name) a alone marked = marked
 entries_unmarked (Uncheck alt name) a alone marked = marked
 entries_unmarked (Back alt name) a alone marked = marked
 entries_unmarked c a alone marked = absurd alone
+
+-- nothing is said of the free blocks of such a command
+pub entries_keep : {D : Type 0} {members : _} (c : Command) (old new : Store D members) → ChangesEntriesAlone c → KeepsFree c old new
+entries_keep (New name parent) old new alone = tt
+entries_keep (NewAt name parent checkpoint) old new alone = tt
+entries_keep (Drop alt) old new alone = tt
+entries_keep (Checkpoint alt name) old new alone = tt
+entries_keep (Uncheck alt name) old new alone = tt
+entries_keep (Back alt name) old new alone = tt
+entries_keep c old new alone = absurd alone
+
+-- a store that was left as it was has the same free blocks
+pub keeps_same : {D : Type 0} {members : _} (c : Command) (store : Store D members) → KeepsFree c store store
+keeps_same (Put alt key value) store = λ enough. omega arith
+keeps_same (Remove alt key) store = λ enough. omega arith
+keeps_same (Post alt) store = refl
+keeps_same Commit store = refl
+keeps_same c store = tt

@@ -2,11 +2,11 @@
 use Rattle.std.specs.Prelude.{◌≡◌, ◌≢◌, ℕ, ◌+◌, ◌-◌, ◌≤◌, ◌⊎◌, Bool, true, false, List, Option, find, Result, Err, IfErr, OnOk}
 use Rattle.vm_types.specs.declared.answer.Answer.{Answer}
 use Rattle.vm_types.specs.declared.command.Command.{Command}
-use Rattle.vm_types.specs.declared.command.Command.TheVariants.{Grow, Merge, Reclaim}
+use Rattle.vm_types.specs.declared.command.Command.TheVariants.{Commit, Grow, Merge, Post, Put, Remove}
 use Rattle.vm_types.specs.declared.refusal.Refusal.{Refusal}
 use Rattle.vm_types.specs.declared.refusal.Refusal.TheVariants.{Device, Full}
 use Rattle.vm_types.specs.Kept.{LeftBy}
-use Rattle.vm_types.specs.State.{Seen, State, committed_of, next, outcome}
+use Rattle.vm_types.specs.State.{Seen, State, blocks_a_change, committed_of, next, outcome}
 use Rattle.vm_types.specs.Tree.{current_of}
 use Rattle.vm_disk.specs.Disk.{Goes}
 use Rattle.vm_disk.specs.Moments.{Leaves, OnlyReads, Throughout}
@@ -143,6 +143,18 @@ module _ {D : Type 0} {members : _} where
   -- after a marking that nothing followed just the spare blocks are free
   abbrev pub MarksAll : Result Answer Refusal → (old new : Store D members) → Command → Type 0
   MarksAll answer old new command = HasMarked command answer → (s : State) (holds : Holds old s) → free_of new ≡ spare_of holds.rests
+
+  -- where enough blocks are free for a change, 16 of them are taken at most
+  abbrev pub TakesFew : (old new : Store D members) → Type 0
+  TakesFew old new = blocks_a_change ≤ free_of old → free_of old ≤ free_of new + 16
+
+  -- of the free blocks a Put or a Remove takes so few, and a Post and a Commit take none
+  abbrev pub KeepsFree : Command → (old new : Store D members) → Type 0
+  KeepsFree (Put alt key value) old new = TakesFew old new
+  KeepsFree (Remove alt key) old new = TakesFew old new
+  KeepsFree (Post alt) old new = held_of new ≡ held_of old
+  KeepsFree Commit old new = held_of new ≡ held_of old
+  KeepsFree command old new = Unit {0}
 
   -- the blocks that a store lacks of so many are free, too, where it was done
   abbrev pub NewAreFree : Result Answer Refusal → (old new : Store D members) → ℕ → Type 0

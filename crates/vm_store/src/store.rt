@@ -64,7 +64,7 @@ pub struct Store<D: Disk> {
 }
 
 impl<D: Disk> Store<D> {
-    ghost use Rattle.vm_store.specs.Store.{disk_of, has_failed, entries_of, IsHonest, GoesOn, GrowsOn, IsAsLong, FromState, IsAnswered, StandsAfter, StaysGuarded, CrashLeaves, EarlyKeeps, EarlyLeavesDisk, LeavesBlocks, MarksAll, FullLeavesSpare, GrowsFree, GrowsNoMore, ClosesWith};
+    ghost use Rattle.vm_store.specs.Store.{disk_of, has_failed, entries_of, IsHonest, GoesOn, GrowsOn, IsAsLong, FromState, IsAnswered, StandsAfter, StaysGuarded, CrashLeaves, EarlyKeeps, EarlyLeavesDisk, LeavesBlocks, MarksAll, FullLeavesSpare, GrowsFree, GrowsNoMore, KeepsFree, TakesFew, ClosesWith};
 
     /// Carries out one command. After an answer `Device` the store answers `Failed` to every call but
     /// `close`: close it, and open the disk again.
@@ -105,6 +105,9 @@ impl<D: Disk> Store<D> {
         ensures marked { IsHonest self.new → has_failed self.old ≡ false
             → MarksAll result self.old self.new command.now }
 
+        // Of the free blocks a Put or a Remove takes 16 at most, where 17 are free, and a Post and a Commit none.
+        ensures free { KeepsFree command.now self.old self.new }
+
         // After a Grow the new blocks are free, too.
         ensures grown { has_failed self.old ≡ false → GrowsFree result self.old self.new command.now }
     {
@@ -138,6 +141,7 @@ impl<D: Disk> Store<D> {
         ensures state { StandsAfter self.old self.new (Put alt.now key value.now) result }
         ensures marked { IsHonest self.new → has_failed self.old ≡ false
             → FullLeavesSpare result self.old self.new }
+        ensures free { TakesFew self.old self.new }
 
         // A crash at any moment leaves what was committed, for the slots are whole, clean and held.
         ensures crash { FromState self.old self.new

@@ -106,6 +106,7 @@ impl<D: Disk> Store<D> {
         ensures failed { has_failed self.new ≡ has_failed self.old }
         ensures never { (result ≢ Err Refusal.Failed) × (result ≢ Err Refusal.Memory) × (result ≢ Err Refusal.Full) }
         ensures late { IfErr result (λ refusal. IsEarly refusal → ⊥) }
+        ensures enough { blocks_a_change * changes ≤ free_of self.old → self.new ≡ self.old }
         ensures same { entries_of self.new ≡ entries_of self.old }
         ensures roots { root_of self.new ≡ root_of self.old }
         ensures free { IfOk result (λ yes. IsTrue yes → blocks_a_change * changes ≤ free_of self.new) }

@@ -7,7 +7,7 @@ use vm_disk::Disk;
 use vm_types::{Answer, Command, Name, Refusal};
 
 impl<D: Disk> Store<D> {
-    ghost use Rattle.vm_store.specs.Store.{has_failed, entries_of, IsCarriedOut, IsHonest, GoesOn, ReadsAlone, EarlyKeeps};
+    ghost use Rattle.vm_store.specs.Store.{has_failed, entries_of, held_of, IsCarriedOut, IsHonest, GoesOn, ReadsAlone, EarlyKeeps};
 
     /// Gives the parent the alternative's records, which become the alternative's base, too. The
     /// parent must have no other records than that base.
@@ -17,6 +17,7 @@ impl<D: Disk> Store<D> {
         ensures failed { has_failed self.new ≡ has_failed self.old }
         ensures never { (result ≢ Err Refusal.Failed) × (result ≢ Err Refusal.Memory) }
         ensures same { OnErr result (entries_of self.new ≡ entries_of self.old) }
+        ensures held { held_of self.new ≡ held_of self.old }
         ensures unchanged { EarlyKeeps result self.old self.new }
         ensures reads { IsHonest self.new → ReadsAlone self.old self.new }
         ensures carried { IsCarriedOut self.old self.new (Command.Post alt.now) result }

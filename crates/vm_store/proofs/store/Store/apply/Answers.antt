@@ -1,5 +1,6 @@
 use Rattle.std.proofs.Common.{refl}
 use Rattle.vm_store.proofs.RunLemmas.{answers_on}
+use Rattle.vm_store.proofs.VersionLemmas.{keeps_same}
 use Rattle.vm_store.proofs.store.Store.apply.Goals as goal
 
 pub returns-clause-guarded : goal.returns-clause-guarded
@@ -20,3 +21,6 @@ returns-clause-state g c honest sound fine s holds = (c.dispatch-answer.ensures.
 
 pub returns-clause-crash : goal.returns-clause-crash
 returns-clause-crash g c honest sound s holds = (c.dispatch-answer.ensures.carried honest s holds).crash
+
+pub returns-then-self-clause-free : goal.returns-then-self-clause-free
+returns-then-self-clause-free g c = keeps_same c.args.command.now c.args.self.now

@@ -1,6 +1,7 @@
-use Rattle.std.proofs.Common.{rules, subst}
+use Rattle.std.proofs.Common.{rules, subst, sym}
 use Rattle.vm_store.specs.Answers.{HasMarked}
-use Rattle.vm_store.proofs.VersionLemmas.{entries_unmarked, when_ok}
+use Rattle.vm_store.specs.Store.{KeepsFree}
+use Rattle.vm_store.proofs.VersionLemmas.{entries_keep, entries_unmarked, when_ok}
 use Rattle.vm_store.proofs.store.Store.dispatch.Goals as goal
 
 pub returns-in-Put-clause-carried : goal.returns-in-Put-clause-carried
@@ -48,3 +49,27 @@ returns-in-Grow-clause-marked g c honest is s holds = absurd (subst (λ command.
 
 pub returns-in_default-clause-marked : goal.returns-in_default-clause-marked
 returns-in_default-clause-marked g c honest is s holds = absurd (entries_unmarked c.args.command.now c.change_entries.result (search rules) is)
+
+pub returns-in-Put-clause-free : goal.returns-in-Put-clause-free
+returns-in-Put-clause-free g c = subst (λ command. KeepsFree command c.args.self.now c.put_value.new.self) (sym c.in-Put.is) c.put_value.ensures.free
+
+pub returns-in-Remove-clause-free : goal.returns-in-Remove-clause-free
+returns-in-Remove-clause-free g c = subst (λ command. KeepsFree command c.args.self.now c.remove.new.self) (sym c.in-Remove.is) c.remove.ensures.free
+
+pub returns-in-Post-clause-free : goal.returns-in-Post-clause-free
+returns-in-Post-clause-free g c = subst (λ command. KeepsFree command c.args.self.now c.post.new.self) (sym c.in-Post.is) c.post.ensures.held
+
+pub returns-in-Commit-clause-free : goal.returns-in-Commit-clause-free
+returns-in-Commit-clause-free g c = subst (λ command. KeepsFree command c.args.self.now c.commit.new.self) (sym c.in-Commit.is) c.commit.ensures.held
+
+pub returns-in-Merge-clause-free : goal.returns-in-Merge-clause-free
+returns-in-Merge-clause-free g c = subst (λ command. KeepsFree command c.args.self.now c.merge.new.self) (sym c.in-Merge.is) tt
+
+pub returns-in-Reclaim-clause-free : goal.returns-in-Reclaim-clause-free
+returns-in-Reclaim-clause-free g c = subst (λ command. KeepsFree command c.args.self.now c.reclaim.new.self) (sym c.in-Reclaim.is) tt
+
+pub returns-in-Grow-clause-free : goal.returns-in-Grow-clause-free
+returns-in-Grow-clause-free g c = subst (λ command. KeepsFree command c.args.self.now c.grow.new.self) (sym c.in-Grow.is) tt
+
+pub returns-in_default-clause-free : goal.returns-in_default-clause-free
+returns-in_default-clause-free g c = entries_keep c.args.command.now _ _ (search rules)
