@@ -11,7 +11,7 @@ use Rattle.vm_types.specs.declared.command.Command.TheVariants.{New, NewAt, Drop
 use Rattle.vm_types.specs.declared.refusal.Refusal.{Refusal}
 use Rattle.vm_types.specs.declared.refusal.Refusal.TheVariants.{Device}
 use Rattle.vm_disk.specs.Disk.{Medium}
-use Rattle.vm_disk.proofs.MomentLemmas.{touches_nothing}
+use Rattle.vm_disk.proofs.MomentLemmas.{started, touches_nothing}
 use Rattle.vm_alloc.specs.Held.{IsHeld}
 use Rattle.vm_block.specs.Slot.{SlotFits}
 use Rattle.vm_block.specs.declared.selector.SlotName.{SlotName}
@@ -22,7 +22,7 @@ use Rattle.vm_store.specs.Filed.{Filed, Standing, tree_of}
 use Rattle.vm_store.specs.Resting.{Rests}
 use Rattle.vm_store.proofs.RestingLemmas.{rests_on}
 use Rattle.vm_store.specs.Answers.{ChangesEntriesAlone, HasMarked}
-use Rattle.vm_store.specs.Store.{Answers, Holds, KeepsFree}
+use Rattle.vm_store.specs.Store.{Answers, Holds, KeepsFree, ReadsOnly}
 use Rattle.vm_store.specs.declared.store.Store.{Store}
 use Rattle.vm_store.specs.Turns.{StandFor, Turns}
 
@@ -124,3 +124,21 @@ keeps_same (Remove alt key) store = λ enough. omega arith
 keeps_same (Post alt) store = refl
 keeps_same Commit store = refl
 keeps_same c store = tt
+
+-- nor of the reads of a command that changes entries alone
+pub entries_read : {D : Type 0} {members : _} (c : Command) (a : Result Answer Refusal) (old new : Store D members) → ChangesEntriesAlone c → ReadsOnly c a old new
+entries_read (New name parent) a old new alone = tt
+entries_read (NewAt name parent checkpoint) a old new alone = tt
+entries_read (Drop alt) a old new alone = tt
+entries_read (Checkpoint alt name) a old new alone = tt
+entries_read (Uncheck alt name) a old new alone = tt
+entries_read (Back alt name) a old new alone = tt
+entries_read c a old new alone = absurd alone
+
+-- nothing was read by a store that was left as it was
+pub reads_none : {D : Type 0} {members : _} (c : Command) (a : Result Answer Refusal) (store : Store D members) → ReadsOnly c a store store
+reads_none (Post alt) a store = started _ _ refl
+reads_none Reclaim a store = started _ _ refl
+reads_none (Put alt key value) a store = λ full. started _ _ refl
+reads_none (Remove alt key) a store = λ full. started _ _ refl
+reads_none c a store = tt

@@ -14,7 +14,7 @@ use Rattle.vm_disk.specs.Moments.{Throughout}
 use Rattle.vm_store.specs.Answers.{ChangesEntriesAlone, HasMarked, IsGrow, TakesMemory}
 use Rattle.vm_store.specs.Guarded.{IsGuarded}
 use Rattle.vm_store.specs.Resting.{spare_of}
-use Rattle.vm_store.specs.Store.{Answers, CrashLeaves, EarlyKeeps, EarlyLeavesDisk, GrowsNoMore, GrowsOn, Holds, IsAsLong, IsHonest, KeepsFree, LeavesBlocks, StaysGuarded, disk_of, entries_of, free_of, has_failed, held_of}
+use Rattle.vm_store.specs.Store.{Answers, CrashLeaves, EarlyKeeps, EarlyLeavesDisk, GrowsNoMore, GrowsOn, Holds, IsAsLong, IsHonest, KeepsFree, LeavesBlocks, ReadsOnly, StaysGuarded, disk_of, entries_of, free_of, has_failed, held_of}
 use Rattle.vm_store.specs.Shown.{Shows}
 use Rattle.vm_store.specs.declared.store.Store.{Store}
 
@@ -52,6 +52,8 @@ module _ {D : Type 0} {members : _} where
     pub guarded : IsHonest new → Holds old s → StaysGuarded old new
     -- after a Reclaim, and a Put or a Remove that is refused for want of blocks, just the spare ones are free
     pub marked : IsHonest new → HasMarked command answer → (holds : Holds old s) → free_of new ≡ spare_of holds.rests
+    -- a Post and a Reclaim only read, and so does a Put or a Remove that is refused for want of blocks
+    pub reads : IsHonest new → ReadsOnly command answer old new
     -- of the free blocks a Put or a Remove takes few, and a Post and a Commit take none
     pub free : KeepsFree command old new
     -- after a Grow the new blocks are free, too

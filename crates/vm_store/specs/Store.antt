@@ -2,7 +2,7 @@
 use Rattle.std.specs.Prelude.{◌≡◌, ◌≢◌, ℕ, ◌+◌, ◌-◌, ◌≤◌, ◌⊎◌, Bool, true, false, List, Option, find, Result, Err, IfErr, OnOk}
 use Rattle.vm_types.specs.declared.answer.Answer.{Answer}
 use Rattle.vm_types.specs.declared.command.Command.{Command}
-use Rattle.vm_types.specs.declared.command.Command.TheVariants.{Commit, Grow, Merge, Post, Put, Remove}
+use Rattle.vm_types.specs.declared.command.Command.TheVariants.{Commit, Grow, Merge, Post, Put, Reclaim, Remove}
 use Rattle.vm_types.specs.declared.refusal.Refusal.{Refusal}
 use Rattle.vm_types.specs.declared.refusal.Refusal.TheVariants.{Device, Full}
 use Rattle.vm_types.specs.Kept.{LeftBy}
@@ -155,6 +155,14 @@ module _ {D : Type 0} {members : _} where
   KeepsFree (Post alt) old new = held_of new ≡ held_of old
   KeepsFree Commit old new = held_of new ≡ held_of old
   KeepsFree command old new = Unit {0}
+
+  -- a Post and a Reclaim only read, and so does a Put or a Remove that is refused for want of blocks
+  abbrev pub ReadsOnly : Command → Result Answer Refusal → (old new : Store D members) → Type 0
+  ReadsOnly (Post alt) answer old new = ReadsAlone old new
+  ReadsOnly Reclaim answer old new = ReadsAlone old new
+  ReadsOnly (Put alt key value) answer old new = answer ≡ Err Full → ReadsAlone old new
+  ReadsOnly (Remove alt key) answer old new = answer ≡ Err Full → ReadsAlone old new
+  ReadsOnly command answer old new = Unit {0}
 
   -- the blocks that a store lacks of so many are free, too, where it was done
   abbrev pub NewAreFree : Result Answer Refusal → (old new : Store D members) → ℕ → Type 0

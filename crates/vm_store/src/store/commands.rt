@@ -20,7 +20,7 @@ use vm_disk::Disk;
 use vm_types::{Answer, Command, Refusal};
 
 impl<D: Disk> Store<D> {
-    ghost use Rattle.vm_store.specs.Store.{entries_of, IsHonest, GrowsOn, IsAsLong, EarlyKeeps, EarlyLeavesDisk, LeavesBlocks, IsCarriedOut, MarksAll, GrowsFree, GrowsNoMore, KeepsFree};
+    ghost use Rattle.vm_store.specs.Store.{entries_of, IsHonest, GrowsOn, IsAsLong, EarlyKeeps, EarlyLeavesDisk, LeavesBlocks, IsCarriedOut, MarksAll, GrowsFree, GrowsNoMore, KeepsFree, ReadsOnly};
 
     /// Carries out one command, and leaves it to `apply` to note that the device failed.
     pub(super) fn dispatch(&mut self, command: &Command) -> Result<Answer, Refusal>
@@ -35,6 +35,7 @@ impl<D: Disk> Store<D> {
         ensures unchanged { EarlyKeeps result self.old self.new }
         ensures carried { IsCarriedOut self.old self.new command.now result }
         ensures marked { IsHonest self.new → MarksAll result self.old self.new command.now }
+        ensures reads { IsHonest self.new → ReadsOnly command.now result self.old self.new }
         ensures free { KeepsFree command.now self.old self.new }
         ensures grown { GrowsFree result self.old self.new command.now }
     {

@@ -7,7 +7,7 @@ use vm_disk::Disk;
 use vm_types::{Answer, Command, Refusal};
 
 impl<D: Disk> Store<D> {
-    ghost use Rattle.vm_store.specs.Store.{has_failed, entries_of, IsCarriedOut, SpareIsFree, IsHonest, GoesOn};
+    ghost use Rattle.vm_store.specs.Store.{has_failed, entries_of, IsCarriedOut, SpareIsFree, IsHonest, GoesOn, ReadsAlone};
 
     /// Frees each block that neither the committed nor the working entries reach.
     #[inline(never)]
@@ -17,6 +17,7 @@ impl<D: Disk> Store<D> {
         ensures never { (result ≢ Err Refusal.Failed) × (result ≢ Err Refusal.Memory) }
         ensures late { IfErr result (λ refusal. IsEarly refusal → ⊥) }
         ensures same { entries_of self.new ≡ entries_of self.old }
+        ensures reads { IsHonest self.new → ReadsAlone self.old self.new }
         ensures exact { IsHonest self.new → SpareIsFree result self.old self.new }
         ensures carried { IsCarriedOut self.old self.new Command.Reclaim result }
     {

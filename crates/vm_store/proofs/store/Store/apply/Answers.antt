@@ -1,6 +1,6 @@
 use Rattle.std.proofs.Common.{refl}
 use Rattle.vm_store.proofs.RunLemmas.{answers_on}
-use Rattle.vm_store.proofs.VersionLemmas.{keeps_same}
+use Rattle.vm_store.proofs.VersionLemmas.{keeps_same, reads_none}
 use Rattle.vm_store.proofs.store.Store.apply.Goals as goal
 
 pub returns-clause-guarded : goal.returns-clause-guarded
@@ -24,3 +24,6 @@ returns-clause-crash g c honest sound s holds = (c.dispatch-answer.ensures.carri
 
 pub returns-then-self-clause-free : goal.returns-then-self-clause-free
 returns-then-self-clause-free g c = keeps_same c.args.command.now c.args.self.now
+
+pub returns-then-self-clause-reads : goal.returns-then-self-clause-reads
+returns-then-self-clause-reads g c honest = reads_none c.args.command.now _ c.args.self.now

@@ -1,7 +1,7 @@
 use Rattle.std.proofs.Common.{rules, subst, sym}
 use Rattle.vm_store.specs.Answers.{HasMarked}
-use Rattle.vm_store.specs.Store.{KeepsFree}
-use Rattle.vm_store.proofs.VersionLemmas.{entries_keep, entries_unmarked, when_ok}
+use Rattle.vm_store.specs.Store.{KeepsFree, ReadsOnly}
+use Rattle.vm_store.proofs.VersionLemmas.{entries_keep, entries_read, entries_unmarked, when_ok}
 use Rattle.vm_store.proofs.store.Store.dispatch.Goals as goal
 
 pub returns-in-Put-clause-carried : goal.returns-in-Put-clause-carried
@@ -73,3 +73,27 @@ returns-in-Grow-clause-free g c = subst (λ command. KeepsFree command c.args.se
 
 pub returns-in_default-clause-free : goal.returns-in_default-clause-free
 returns-in_default-clause-free g c = entries_keep c.args.command.now _ _ (search rules)
+
+pub returns-in-Put-clause-reads : goal.returns-in-Put-clause-reads
+returns-in-Put-clause-reads g c honest = subst (λ command. ReadsOnly command c.put_value.result c.args.self.now c.put_value.new.self) (sym c.in-Put.is) (c.put_value.ensures.reads honest)
+
+pub returns-in-Remove-clause-reads : goal.returns-in-Remove-clause-reads
+returns-in-Remove-clause-reads g c honest = subst (λ command. ReadsOnly command c.remove.result c.args.self.now c.remove.new.self) (sym c.in-Remove.is) (c.remove.ensures.reads honest)
+
+pub returns-in-Post-clause-reads : goal.returns-in-Post-clause-reads
+returns-in-Post-clause-reads g c honest = subst (λ command. ReadsOnly command c.post.result c.args.self.now c.post.new.self) (sym c.in-Post.is) (c.post.ensures.reads honest)
+
+pub returns-in-Reclaim-clause-reads : goal.returns-in-Reclaim-clause-reads
+returns-in-Reclaim-clause-reads g c honest = subst (λ command. ReadsOnly command c.reclaim.result c.args.self.now c.reclaim.new.self) (sym c.in-Reclaim.is) (c.reclaim.ensures.reads honest)
+
+pub returns-in-Merge-clause-reads : goal.returns-in-Merge-clause-reads
+returns-in-Merge-clause-reads g c honest = subst (λ command. ReadsOnly command c.merge.result c.args.self.now c.merge.new.self) (sym c.in-Merge.is) tt
+
+pub returns-in-Commit-clause-reads : goal.returns-in-Commit-clause-reads
+returns-in-Commit-clause-reads g c honest = subst (λ command. ReadsOnly command c.commit.result c.args.self.now c.commit.new.self) (sym c.in-Commit.is) tt
+
+pub returns-in-Grow-clause-reads : goal.returns-in-Grow-clause-reads
+returns-in-Grow-clause-reads g c honest = subst (λ command. ReadsOnly command c.grow.result c.args.self.now c.grow.new.self) (sym c.in-Grow.is) tt
+
+pub returns-in_default-clause-reads : goal.returns-in_default-clause-reads
+returns-in_default-clause-reads g c honest = entries_read c.args.command.now _ _ _ (search rules)

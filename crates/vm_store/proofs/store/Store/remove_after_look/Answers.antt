@@ -75,3 +75,7 @@ pub returns-then-not-branch-2-clause-marked : goal.returns-then-not-branch-2-cla
 returns-then-not-branch-2-clause-marked g c honest full s holds =
     let earlier = c.has_spare.ensures.any.earlier honest in
     spare_free _ _ _ _ _ _ _ _ _ s _ (c.in_ok-has.ensures.looks.reads earlier) (λ s' holds'. c.in_ok-has_spare.ensures.marked honest s' holds' (search rules)) holds
+
+pub returns-then-not-branch-2-clause-reads : goal.returns-then-not-branch-2-clause-reads
+returns-then-not-branch-2-clause-reads g c honest full =
+    reads_then _ _ _ (c.in_ok-has.ensures.looks.reads (c.has_spare.ensures.any.earlier honest)) (c.has_spare.ensures.reads honest)
