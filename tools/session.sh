@@ -943,6 +943,45 @@ done
 absent 'no descriptor is left' made
 compare 'no descriptor is left: the file' spelled store
 
+# A standard stream is open on the store's own file: that is not opened, and stays as it is.
+echo 1 >status
+echo 'altctl: cannot open store' >said
+: >nothing
+for words in 'run store' 'do store free' 'check store' 'tree store'; do
+    for led in '<store >output.came 2>faults.came' '<>store >output.came 2>faults.came' '<lines 1<>store 2>faults.came' \
+        '<lines >>store 2>faults.came'; do
+        name="$words $led"
+        cp spelled store
+        : >output.came
+        came=0
+        eval "\"\$altctl\" $words $led" || came=$?
+        echo "$came" >status.came
+        compare "$name: status" status status.came
+        compare "$name: output" nothing output.came
+        compare "$name: standard error" said faults.came
+        compare "$name: the file" spelled store
+    done
+done
+# By another name of it, and by a lock that takes the number of a closed input.
+cp spelled store
+ln store linked
+ln -s store pointed
+for name in linked pointed; do
+    came=0
+    "$altctl" run "$name" <store >output.came 2>faults.came || came=$?
+    echo "$came" >status.came
+    compare "run $name <store: status" status status.came
+    compare "run $name <store: output" nothing output.came
+    compare "run $name <store: the file" spelled store
+done
+came=0
+flock -n store "$altctl" run store <&- >output.came 2>faults.came || came=$?
+echo "$came" >status.came
+compare 'a lock in the place of the input: status' status status.came
+compare 'a lock in the place of the input: output' nothing output.came
+compare 'a lock in the place of the input: the file' spelled store
+rm -f linked pointed said nothing
+
 # Starts the program with the words after the first, with a standard error that takes nothing. Its status is 3.
 unheard() {
     name=$1

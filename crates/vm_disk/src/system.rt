@@ -14,13 +14,16 @@ use std::fs::{self, File, Metadata, OpenOptions};
 use std::io::{self, Seek, SeekFrom};
 use std::marker::{Brand, PhantomData};
 use std::os::fd::{AsRawFd, RawFd};
-use std::os::unix::fs::{FileExt, FileTypeExt};
+use std::os::unix::fs::{FileExt, FileTypeExt, MetadataExt};
 use std::rt::Files;
 use std::snapshot::Snapshot;
 use vm_types::BLOCK_SIZE;
 
 /// The standard input, output and error have the descriptors 0, 1 and 2.
 pub const LAST_STANDARD: RawFd = 2;
+
+/// Where the system shows what the standard input and output are open on.
+const STREAMS: [&str; 2] = ["/proc/self/fd/0", "/proc/self/fd/1"];
 
 /// What the system answers to a sync of a file that has nothing to sync.
 const EINVAL: i32 = 22;
@@ -73,6 +76,14 @@ fn is_plain_or_device(metadata: &Metadata) -> bool {
     metadata.is_file() || metadata.file_type().is_block_device()
 }
 
+/// Whether the standard input or output is open on this file, as far as the system shows that.
+fn is_streamed(rt: &impl Files, metadata: &Metadata) -> bool {
+    STREAMS.iter().any(|path| match fs::metadata(rt, path) {
+        Ok(stream) => stream.dev() == metadata.dev() && stream.ino() == metadata.ino(),
+        Err(_) => false,
+    })
+}
+
 /// How many bytes a file has. Of a block device the system tells it by the place of its end alone.
 fn length_of(mut file: &File) -> io::Result<u64> {
     let metadata = file.metadata()?;
@@ -101,8 +112,9 @@ fn is_synced(reads_alone: bool, answer: &io::Result<()>) -> bool
 /// Assumed, and in no contract: which bytes a sync makes last, and that no one else writes the file
 /// between two openings.
 ///
-/// Its descriptor is none of the standard ones, so that what is read and written there never is the
-/// file. One that was opened to be read alone is never written.
+/// Its descriptor is none of the standard ones, and the standard input and output are not open on it,
+/// where the system shows that: what is read and written there never is the file. One that was opened
+/// to be read alone is never written.
 #[derive(Drop)]
 pub struct SystemFile<W> {
     file: File,
@@ -118,7 +130,8 @@ impl<W: World> SystemFile<W> {
     ghost use Rattle.vm_disk.specs.System.{system_state, fresh, name_of, opening_of, is_read_alone, IsAfter, IsFresh};
 
     /// Opens a plain file or a block device that is there, to be read and written, after so many others.
-    /// None where it cannot be opened, is neither of these, or has a standard descriptor.
+    /// None where it cannot be opened, is neither of these, has a standard descriptor, or is what the
+    /// standard input or output is open on.
     pub fn open(
         rt: &impl Files<File = File>,
         path: &str,
@@ -138,8 +151,8 @@ impl<W: World> SystemFile<W> {
     }
 
     /// Opens a plain file or a block device that is there, to be read alone, after so many others: each
-    /// write fails, and none is made. None where it cannot be opened, is neither of these, or has a
-    /// standard descriptor.
+    /// write fails, and none is made. None where it cannot be opened, is neither of these, has a
+    /// standard descriptor, or is what the standard input or output is open on.
     pub fn open_to_read(
         rt: &impl Files<File = File>,
         path: &str,
@@ -179,7 +192,8 @@ impl<W: World> SystemFile<W> {
 
     /// Opens a file in this way, after so many others, of which these calls are known. It is to be
     /// read alone where the way asks for no writes. None where it cannot be opened, is neither a
-    /// plain file nor a block device after all, or has a standard descriptor.
+    /// plain file nor a block device after all, has a standard descriptor, or is what the standard input
+    /// or output is open on.
     fn opened(
         rt: &impl Files<File = File>,
         how: &OpenOptions,
@@ -195,7 +209,10 @@ impl<W: World> SystemFile<W> {
     {
         let file = how.open(rt, path).ok()?;
         let metadata = file.metadata().ok()?;
-        if !is_plain_or_device(&metadata) || file.as_raw_fd() <= LAST_STANDARD {
+        if !is_plain_or_device(&metadata)
+            || file.as_raw_fd() <= LAST_STANDARD
+            || is_streamed(rt, &metadata)
+        {
             return None;
         }
         Some(SystemFile {
