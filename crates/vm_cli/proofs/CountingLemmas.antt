@@ -14,6 +14,7 @@ use Rattle.vm_types.specs.State.{State, opened}
 use Rattle.vm_types.specs.Tree.{Alternative, Saved, Tree, changed, entry_count, named}
 use Rattle.vm_disk.specs.Disk.{Contents}
 use Rattle.vm_disk.specs.declared.disk.Disk.{Ghosts}
+use Rattle.vm_store.specs.Answers.{IsDueOrMemory}
 use Rattle.vm_store.specs.Filed.{Filed, add, bare, with_filed, saved_of, with_saved}
 use Rattle.vm_store.specs.Opening.{OpensAs}
 use Rattle.vm_store.specs.Store.{Holds, disk_of, free_of}
@@ -177,6 +178,11 @@ module _ {D : Type 0} {members : _} (store : Store D members) (s : State) (holds
       has_list refusal (inr said) =
           let saved : ◌≡◌ {A = Result (List (List ℕ)) Refusal} (Err refusal) (Ok (saved_names (slice_index_or s.working i nothing).saved)) = said ∙ its_own in
           absurd cc
+
+-- memory was wanting, or the refusal is due
+pub wanted : {T : Type 0} (refusal : Refusal) (due : Result T Refusal) → IsDueOrMemory refusal due → (refusal ≡ Memory) ⊎ (Err refusal ≡ due)
+wanted refusal due (inl memory) = inl memory.1
+wanted refusal due (inr is) = inr is
 
 -- what is said of a result, where it is known
 pub is_ok : {T E : Type 0} (P : T → Type 0) (result : Result T E) (x : T) → result ≡ Ok x → IfOk result P → P x

@@ -5,6 +5,7 @@ use Rattle.vm_types.specs.declared.refusal.Refusal.{Refusal}
 use Rattle.vm_types.specs.declared.refusal.Refusal.TheVariants.{Device, Failed, Memory, NoSuchAlternative}
 use Rattle.vm_types.specs.Queries.{IsList, IsListOf, IsListing}
 use Rattle.vm_types.specs.State.{State}
+use Rattle.vm_store.specs.Answers.{IsDueOrMemory}
 use Rattle.vm_store.specs.Store.{Holds, has_failed}
 use Rattle.vm_store.specs.declared.store.Store.{Store}
 use Rattle.vm_cli.specs.Carried.{Carries, WritesStart}
@@ -16,17 +17,18 @@ use Rattle.vm_cli.specs.declared.answers.reply.Reply.TheVariants.{End}
 use Rattle.vm_cli.specs.Asking.{Request}
 use Rattle.vm_cli.specs.declared.answers.writing.WriteFault.{WriteFault}
 use Rattle.vm_cli.proofs.HandledLemmas.{refusal_handled, replied_whole, told}
-use Rattle.vm_cli.proofs.TalkLemmas.{list_replies, says_refusal, want, was_sound}
+use Rattle.vm_cli.proofs.TalkLemmas.{list_replies, says_refusal, was_sound}
 
 -- what a store says of a list that it gives without a device call
 pub shape_listed : {X A : Type 0} (answer : Result (Vec X A) Refusal) (due : List X) → IfErr answer (λ refusal. refusal ≡ Memory) → IfOk answer (λ list. list.items ≡ due) → IsList answer (Ok due)
 shape_listed (Ok list) due memory is = ap Ok (sym is)
-shape_listed (Err refusal) due memory is = inr (inl memory)
+shape_listed (Err refusal) due memory is = inl (refl, inr memory)
 
-pub names_listed : {X A : Type 0} (answer : Result (Vec X A) Refusal) (due : Result (List X) Refusal) → IfOk answer (λ list. Ok list.items ≡ due) → IfErr answer (λ refusal. (refusal ≡ Memory) ⊎ (Err refusal ≡ due))
+pub names_listed : {X A : Type 0} (answer : Result (Vec X A) Refusal) (due : Result (List X) Refusal) → IfOk answer (λ list. Ok list.items ≡ due) → IfErr answer (λ refusal. IsDueOrMemory refusal due)
     → IsList answer due
 names_listed (Ok list) due is none = sym is
-names_listed (Err refusal) due is none = want none
+names_listed (Err refusal) due is (inl memory) = inl (memory.0, inr memory.1)
+names_listed (Err refusal) due is (inr same) = inr (sym same)
 
 -- a refusal that is for memory or for a name is no other
 pub is_memory : {X : Type 0} (answer : Result X Refusal) (other : Refusal) → other ≢ Memory → IfErr answer (λ refusal. refusal ≡ Memory) → answer ≢ Err other

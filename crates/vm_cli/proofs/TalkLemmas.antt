@@ -1,8 +1,8 @@
 -- Which answers are given.
-use Rattle.std.proofs.Common.{◌≡◌, ◌≢◌, ◌↔◌, ◌⊎◌, inl, inr, ◌++◌, ℕ, Bool, true, false, List, [], ◌∷◌, Option, Some, None, Result, Ok, Err, IfOk, OnErr, OnOk, append-nil, append_assoc, flat_map, length, refl, ap, sym, ◌∙◌}
+use Rattle.std.proofs.Common.{◌≡◌, ◌≢◌, ◌↔◌, ◌++◌, ℕ, Bool, true, false, List, [], ◌∷◌, Option, Some, None, Result, Ok, Err, IfOk, OnErr, OnOk, append-nil, append_assoc, flat_map, length, refl, ap, ◌∙◌}
 use Rattle.vm_types.specs.declared.answer.Answer.{Answer}
 use Rattle.vm_types.specs.declared.refusal.Refusal.{Refusal}
-use Rattle.vm_types.specs.declared.refusal.Refusal.TheVariants.{Device, Failed, Memory}
+use Rattle.vm_types.specs.declared.refusal.Refusal.TheVariants.{Device, Failed}
 use Rattle.vm_cli.specs.Carried.{WritesStart, Carries}
 use Rattle.vm_cli.specs.Feeding.{Replies}
 use Rattle.vm_cli.specs.Replies.{found_text, is_error, reply_text}
@@ -70,14 +70,9 @@ list_replies C P Fails line items due (Err fault) a b rest plain lift is ends ca
   begins = begins-more a b (flat_map line items) _ begins;
 }
 
--- memory was wanting, or the refusal is due
-pub want : {X : Type 0} {due : Result (List X) Refusal} {refusal : Refusal} → (refusal ≡ Memory) ⊎ (Err refusal ≡ due) → (refusal ≡ Device) ⊎ ((refusal ≡ Memory) ⊎ (due ≡ Err refusal))
-want (inl is) = inr (inl is)
-want (inr is) = inr (inr (sym is))
-
 -- a list is refused
 pub says_refusal : {X : Type 0} (C Fails : Type 0) (line : X → List ℕ) (due : Result (List X) Refusal) (refusal : Refusal) (text : List ℕ)
-    → (refusal ≡ Device → Fails) → refusal ≢ Failed → text ≡ error_text refusal → (C → (refusal ≡ Device) ⊎ ((refusal ≡ Memory) ⊎ (due ≡ Err refusal)))
+    → (refusal ≡ Device → Fails) → refusal ≢ Failed → text ≡ error_text refusal → (C → IsListing (Err refusal) due)
     → SaysAnswer Fails (list_lines line) (λ answer. C → IsListing answer due) text
 says_refusal C Fails line due refusal text fails only is value = record {
   answer = Err refusal;

@@ -3,6 +3,7 @@ pub mod CarryLemmas
 pub mod ChangingLemmas
 pub mod EntryTests
 pub mod FiledLemmas
+pub mod FirstLemmas
 pub mod ForgetLemmas
 pub mod FormattingLemmas
 pub mod FoundLemmas

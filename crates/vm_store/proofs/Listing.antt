@@ -1,5 +1,5 @@
 -- What a list of records answers.
-use Rattle.std.proofs.Common.{◌≡◌, ◌⊎◌, inl, inr, ℕ, Bool, List, find, Some, None, Result, Ok, Err, refl, sym, ap, ◌∙◌}
+use Rattle.std.proofs.Common.{◌≡◌, ◌⊎◌, inl, inr, ℕ, Bool, List, find, Some, None, Result, Ok, Err, IsOk, refl, sym, ap, ◌∙◌, subst}
 use Rattle.vm_types.specs.declared.refusal.Refusal.{Refusal}
 use Rattle.vm_types.specs.declared.refusal.Refusal.TheVariants.{NoSuchAlternative, Device, Memory}
 use Rattle.vm_types.specs.Map.{Map}
@@ -38,12 +38,13 @@ list_refused (list.Tree fault.Device) P due h = inl refl
 list_refused (list.Tree (fault.Damaged b)) P due h = absurd h
 list_refused list.Memory P due h = inr (inl refl)
 
+-- one that is due was refused for the device or for memory
+pub wanting : {X : Type 0} (refusal : Refusal) (due : Result (List X) Refusal) (is : List X) → due ≡ Ok is → (refusal ≡ Device) ⊎ ((refusal ≡ Memory) ⊎ ⊥) → IsListing (Err refusal) due
+wanting refusal due is same (inl device) = inl (subst IsOk (sym same) refl, inl device)
+wanting refusal due is same (inr (inl memory)) = inl (subst IsOk (sym same) refl, inr memory)
+wanting refusal due is same (inr (inr never)) = absurd never
+
 -- a list that was read, or refused for the device or for memory
 pub listed : {X : Type 0} (r : Result (List X) Refusal) (due : Result (List X) Refusal) (is : List X) → due ≡ Ok is → ReadsOr r (λ list. list ≡ is) (λ e. ⊥) → IsListing r due
 listed (Ok list) due is same read = same ∙ ap Ok (sym read)
-listed (Err e) due is same read = by_case read
-  where
-    by_case : (e ≡ Device) ⊎ ((e ≡ Memory) ⊎ ⊥) → (e ≡ Device) ⊎ ((e ≡ Memory) ⊎ (due ≡ Err e))
-    by_case (inl device) = inl device
-    by_case (inr (inl memory)) = inr (inl memory)
-    by_case (inr (inr never)) = absurd never
+listed (Err e) due is same read = wanting e due is same read

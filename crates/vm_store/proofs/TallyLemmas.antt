@@ -1,5 +1,5 @@
 -- The numbers of an alternative, from what was read of its trees and its parent's.
-use Rattle.std.proofs.Common.{◌≡◌, ◌⊎◌, inl, inr, ℕ, Bool, true, false, ◌↔◌, IsTrue, List, [], length, map, Result, Ok, Err, is_ok, refl, sym, ap, ◌∙◌, subst}
+use Rattle.std.proofs.Common.{◌≡◌, ◌⊎◌, inl, inr, ℕ, Bool, true, false, ◌↔◌, IsTrue, List, [], length, map, Result, Ok, Err, IsOk, is_ok, refl, sym, ap, ◌∙◌, subst}
 use Rattle.std.proofs.lemmas.Bool.{true≢false}
 use Rattle.std.proofs.lemmas.List.{length-map}
 use Rattle.vm_types.specs.declared.change.Change.{Change}
@@ -14,6 +14,7 @@ use Rattle.vm_types.specs.Tree.{Alternative}
 use Rattle.vm_types.proofs.Maps.{same_map-Decides, delta-nil, delta-same}
 use Rattle.vm_disk.specs.Disk.{Medium}
 use Rattle.vm_block.specs.declared.selector.SlotName.{SlotName}
+use Rattle.vm_store.specs.Answers.{IsDueOrWanting}
 use Rattle.vm_store.specs.Pairs.{IsPair, LacksPair}
 use Rattle.vm_store.specs.Resting.{Rests}
 use Rattle.vm_store.specs.Sides.{ReadsOr}
@@ -95,11 +96,11 @@ module _ (m : Medium) (limit : ℕ) (slot_name : SlotName) (bits : List Bool) (c
 
     -- so they are what is due, where they were counted, or the device failed or memory was wanting
     pub tallied : (result : Result Tally Refusal) → ReadsOr result (λ tally. tally ≡ tally_between base parent own) (λ r. ⊥)
-        → (result ≡ Err Device) ⊎ ((result ≡ Err Memory) ⊎ (result ≡ tally_in s.working alt))
-    tallied (Ok tally) read = inr (inr (ap Ok read ∙ sym tally_there))
+        → IsDueOrWanting result (tally_in s.working alt)
+    tallied (Ok tally) read = inr (ap Ok read ∙ sym tally_there)
     tallied (Err e) read = by_case read
       where
-        by_case : (e ≡ Device) ⊎ ((e ≡ Memory) ⊎ ⊥) → ((◌≡◌ {A = Result Tally Refusal} (Err e) (Err Device)) ⊎ ((◌≡◌ {A = Result Tally Refusal} (Err e) (Err Memory)) ⊎ (Err e ≡ tally_in s.working alt)))
-        by_case (inl device) = inl (ap Err device)
-        by_case (inr (inl memory)) = inr (inl (ap Err memory))
+        by_case : (e ≡ Device) ⊎ ((e ≡ Memory) ⊎ ⊥) → IsDueOrWanting (Err e) (tally_in s.working alt)
+        by_case (inl device) = inl (subst IsOk (sym tally_there) refl, inl (ap Err device))
+        by_case (inr (inl memory)) = inl (subst IsOk (sym tally_there) refl, inr (ap Err memory))
         by_case (inr (inr never)) = absurd never

@@ -7,7 +7,7 @@ use Rattle.vm_types.specs.State.{State, accepted, answer_of, next, tree_after, e
 use Rattle.vm_types.specs.declared.answer.Answer.{Answer}
 use Rattle.vm_types.specs.declared.answer.Answer.TheVariants.{Done}
 use Rattle.vm_types.specs.declared.command.Command.{Command}
-use Rattle.vm_types.specs.declared.command.Command.TheVariants.{New, NewAt, Drop, Put, Remove, Checkpoint, Uncheck, Back, Post, Commit, Reclaim}
+use Rattle.vm_types.specs.declared.command.Command.TheVariants.{New, NewAt, Drop, Put, Remove, Checkpoint, Uncheck, Back, Merge, Post, Commit, Reclaim, Grow}
 use Rattle.vm_types.specs.declared.refusal.Refusal.{Refusal}
 use Rattle.vm_types.specs.declared.refusal.Refusal.TheVariants.{Device}
 use Rattle.vm_disk.specs.Disk.{Medium}
@@ -20,9 +20,10 @@ use Rattle.vm_store.specs.Answers.{IsDue, IsAnswer}
 use Rattle.vm_store.specs.Versions.{slot_entries}
 use Rattle.vm_store.specs.Filed.{Filed, Standing, tree_of}
 use Rattle.vm_store.specs.Resting.{Rests}
+use Rattle.vm_store.proofs.FirstLemmas.{unread}
 use Rattle.vm_store.proofs.RestingLemmas.{rests_on}
 use Rattle.vm_store.specs.Answers.{ChangesEntriesAlone, HasMarked}
-use Rattle.vm_store.specs.Store.{Answers, Holds, KeepsFree, ReadsOnly}
+use Rattle.vm_store.specs.Store.{Answers, Holds, KeepsFree, ReadsOnly, disk_of}
 use Rattle.vm_store.specs.declared.store.Store.{Store}
 use Rattle.vm_store.specs.Turns.{StandFor, Turns}
 
@@ -125,20 +126,28 @@ keeps_same (Post alt) store = refl
 keeps_same Commit store = refl
 keeps_same c store = tt
 
--- nor of the reads of a command that changes entries alone
-pub entries_read : {D : Type 0} {members : _} (c : Command) (a : Result Answer Refusal) (old new : Store D members) → ChangesEntriesAlone c → ReadsOnly c a old new
-entries_read (New name parent) a old new alone = tt
-entries_read (NewAt name parent checkpoint) a old new alone = tt
-entries_read (Drop alt) a old new alone = tt
-entries_read (Checkpoint alt name) a old new alone = tt
-entries_read (Uncheck alt name) a old new alone = tt
-entries_read (Back alt name) a old new alone = tt
-entries_read c a old new alone = absurd alone
+-- nor does it read
+pub entries_read : {D : Type 0} {members : _} (c : Command) (a : Result Answer Refusal) (old new : Store D members) → ChangesEntriesAlone c → disk_of new ≡ disk_of old → ReadsOnly c a old new
+entries_read (New name parent) a old new alone same = unread a old new same
+entries_read (NewAt name parent checkpoint) a old new alone same = unread a old new same
+entries_read (Drop alt) a old new alone same = unread a old new same
+entries_read (Checkpoint alt name) a old new alone same = unread a old new same
+entries_read (Uncheck alt name) a old new alone same = unread a old new same
+entries_read (Back alt name) a old new alone same = unread a old new same
+entries_read c a old new alone same = absurd alone
 
 -- nothing was read by a store that was left as it was
 pub reads_none : {D : Type 0} {members : _} (c : Command) (a : Result Answer Refusal) (store : Store D members) → ReadsOnly c a store store
+reads_none (New name parent) a store = unread a store store refl
+reads_none (NewAt name parent checkpoint) a store = unread a store store refl
+reads_none (Drop alt) a store = unread a store store refl
+reads_none (Put alt key value) a store = unread a store store refl
+reads_none (Remove alt key) a store = unread a store store refl
+reads_none (Checkpoint alt name) a store = unread a store store refl
+reads_none (Uncheck alt name) a store = unread a store store refl
+reads_none (Back alt name) a store = unread a store store refl
+reads_none (Merge alt settled) a store = unread a store store refl
 reads_none (Post alt) a store = started _ _ refl
+reads_none Commit a store = unread a store store refl
 reads_none Reclaim a store = started _ _ refl
-reads_none (Put alt key value) a store = λ full. started _ _ refl
-reads_none (Remove alt key) a store = λ full. started _ _ refl
-reads_none c a store = tt
+reads_none (Grow blocks) a store = tt

@@ -10,6 +10,7 @@ use Rattle.vm_types.specs.declared.key.Key.{Key}
 use Rattle.vm_types.specs.declared.refusal.Refusal.{Refusal}
 use Rattle.vm_types.specs.declared.refusal.Refusal.TheVariants.{Full, Deep, Device, Memory, Damaged}
 use Rattle.vm_types.specs.Map.{Map, get, delta}
+use Rattle.vm_types.specs.Queries.{conflicts_in}
 use Rattle.vm_types.specs.Places.{place}
 use Rattle.vm_types.specs.State.{State, blocks_a_change, outcome, tree_after, edits}
 use Rattle.vm_types.specs.Step.{Outcome, step}
@@ -48,10 +49,11 @@ IsMergeDue (Err refusal) full deep result = result ≡ Err refusal
 IsMergeDue (Ok accepted) true deep result = result ≡ Err Full
 IsMergeDue (Ok accepted) false deep result = (result ≡ Ok accepted.1) ⊎ ((result ≡ Err Deep) × deep)
 
--- what is answered to a Merge where so many blocks are spare: what is due, that the device failed, or that memory was wanting
+-- what is answered to a Merge where so many blocks are spare: what is due, or that the device failed; or, of an alternative that is
+-- there and has a parent, that memory was wanting
 abbrev pub IsMergeAnswer : State → ℕ → Type 0 → List ℕ → List (Key × Side) → Result Answer Refusal → Type 0
 IsMergeAnswer s spare deep alt settled result =
-    (result ≡ Err Device) ⊎ ((result ≡ Err Memory) ⊎ IsMergeDue (step s.working (Merge alt settled)) (nat_lt spare (blocks_a_change * edits s.working (Merge alt settled))) deep result)
+    (result ≡ Err Device) ⊎ (((result ≡ Err Memory) × IsOk (conflicts_in s.working alt)) ⊎ IsMergeDue (step s.working (Merge alt settled)) (nat_lt spare (blocks_a_change * edits s.working (Merge alt settled))) deep result)
 
 -- a Grow that the model refuses is answered so, and one that it accepts, too, unless memory is wanting or the device fails
 abbrev pub IsGrowDue : Outcome → Result Answer Refusal → Type 0
@@ -65,6 +67,13 @@ IsEarly Deep = ⊥
 IsEarly Device = ⊥
 IsEarly (Damaged block) = ⊥
 IsEarly refusal = Unit {0}
+
+-- a refusal that comes before a block is taken or written: each one but Deep, Device and Damaged
+abbrev pub ComesFirst : Refusal → Type 0
+ComesFirst Deep = ⊥
+ComesFirst Device = ⊥
+ComesFirst (Damaged block) = ⊥
+ComesFirst refusal = Unit {0}
 
 -- the commands that make, drop or go back to alternatives and checkpoints: they change entries alone
 abbrev pub ChangesEntriesAlone : Command → Type 0
@@ -103,9 +112,13 @@ copied_answer (Err refusal) = Err refusal
 abbrev pub IsDueOrDevice : {T : Type 0} → Result T Refusal → Result T Refusal → Type 0
 IsDueOrDevice result due = (result ≡ Err Device) ⊎ (result ≡ due)
 
--- the same of a query that takes memory, which may be wanting
+-- what a query answers that takes memory: what is due; or, where that is no refusal, that the device failed, or that memory was wanting
 abbrev pub IsDueOrWanting : {T : Type 0} → Result T Refusal → Result T Refusal → Type 0
-IsDueOrWanting result due = (result ≡ Err Device) ⊎ ((result ≡ Err Memory) ⊎ (result ≡ due))
+IsDueOrWanting result due = (IsOk due × ((result ≡ Err Device) ⊎ (result ≡ Err Memory))) ⊎ (result ≡ due)
+
+-- the refusal that is due; or, where none is, that memory was wanting
+abbrev pub IsDueOrMemory : {T : Type 0} → Refusal → Result T Refusal → Type 0
+IsDueOrMemory refusal due = (IsOk due × (refusal ≡ Memory)) ⊎ (Err refusal ≡ due)
 
 -- memory was wanting, or P holds
 abbrev pub IsMemoryOr : Refusal → Type 0 → Type 0

@@ -12,7 +12,7 @@ use Rattle.vm_disk.specs.Disk.{Goes}
 use Rattle.vm_disk.specs.Moments.{Leaves, OnlyReads, Throughout}
 use Rattle.vm_alloc.specs.Held.{free_count}
 use Rattle.vm_check.specs.Noted.{inner_of}
-use Rattle.vm_store.specs.Answers.{HasMarked, IsAnswer, IsDeep, IsEarly, IsGrowDue, IsMergeAnswer, merge_changes}
+use Rattle.vm_store.specs.Answers.{ComesFirst, HasMarked, IsAnswer, IsDeep, IsEarly, IsGrowDue, IsMergeAnswer, merge_changes}
 use Rattle.vm_store.specs.Changing.{MeetsFullPath}
 use Rattle.vm_store.specs.Growing.{Grows}
 use Rattle.vm_store.specs.Guarded.{IsGuarded}
@@ -156,13 +156,16 @@ module _ {D : Type 0} {members : _} where
   KeepsFree Commit old new = held_of new ≡ held_of old
   KeepsFree command old new = Unit {0}
 
-  -- a Post and a Reclaim only read, and so does a Put or a Remove that is refused for want of blocks
+  -- a command that is refused before it takes or writes a block only reads
+  abbrev pub FirstReads : Result Answer Refusal → (old new : Store D members) → Type 0
+  FirstReads answer old new = IfErr answer (λ refusal. ComesFirst refusal → ReadsAlone old new)
+
+  -- a Post and a Reclaim only read, and so does each other command that is refused so; of a Grow `EarlyLeavesDisk` tells it
   abbrev pub ReadsOnly : Command → Result Answer Refusal → (old new : Store D members) → Type 0
   ReadsOnly (Post alt) answer old new = ReadsAlone old new
   ReadsOnly Reclaim answer old new = ReadsAlone old new
-  ReadsOnly (Put alt key value) answer old new = answer ≡ Err Full → ReadsAlone old new
-  ReadsOnly (Remove alt key) answer old new = answer ≡ Err Full → ReadsAlone old new
-  ReadsOnly command answer old new = Unit {0}
+  ReadsOnly (Grow blocks) answer old new = Unit {0}
+  ReadsOnly command answer old new = FirstReads answer old new
 
   -- the blocks that a store lacks of so many are free, too, where it was done
   abbrev pub NewAreFree : Result Answer Refusal → (old new : Store D members) → ℕ → Type 0

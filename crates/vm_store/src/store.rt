@@ -64,7 +64,7 @@ pub struct Store<D: Disk> {
 }
 
 impl<D: Disk> Store<D> {
-    ghost use Rattle.vm_store.specs.Store.{disk_of, has_failed, entries_of, IsHonest, GoesOn, GrowsOn, IsAsLong, FromState, IsAnswered, StandsAfter, StaysGuarded, CrashLeaves, EarlyKeeps, EarlyLeavesDisk, LeavesBlocks, MarksAll, FullLeavesSpare, GrowsFree, GrowsNoMore, KeepsFree, ReadsAlone, ReadsOnly, TakesFew, ClosesWith};
+    ghost use Rattle.vm_store.specs.Store.{disk_of, has_failed, entries_of, IsHonest, GoesOn, GrowsOn, IsAsLong, FromState, IsAnswered, StandsAfter, StaysGuarded, CrashLeaves, EarlyKeeps, EarlyLeavesDisk, LeavesBlocks, MarksAll, FirstReads, FullLeavesSpare, GrowsFree, GrowsNoMore, KeepsFree, ReadsOnly, TakesFew, ClosesWith};
 
     /// Carries out one command. After an answer `Device` the store answers `Failed` to every call but
     /// `close`: close it, and open the disk again.
@@ -105,7 +105,7 @@ impl<D: Disk> Store<D> {
         ensures marked { IsHonest self.new → has_failed self.old ≡ false
             → MarksAll result self.old self.new command.now }
 
-        // A Post and a Reclaim only read, and so does a Put or a Remove that is refused for want of blocks.
+        // A Post and a Reclaim only read, and so does each command that is refused before it takes a block.
         ensures reads { IsHonest self.new → ReadsOnly command.now result self.old self.new }
 
         // Of the free blocks a Put or a Remove takes 16 at most, where 17 are free, and a Post and a Commit none.
@@ -144,7 +144,7 @@ impl<D: Disk> Store<D> {
         ensures state { StandsAfter self.old self.new (Put alt.now key value.now) result }
         ensures marked { IsHonest self.new → has_failed self.old ≡ false
             → FullLeavesSpare result self.old self.new }
-        ensures reads { IsHonest self.new → result ≡ Err Refusal.Full → ReadsAlone self.old self.new }
+        ensures reads { IsHonest self.new → FirstReads result self.old self.new }
         ensures free { TakesFew self.old self.new }
 
         // A crash at any moment leaves what was committed, for the slots are whole, clean and held.

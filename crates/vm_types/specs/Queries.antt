@@ -1,5 +1,5 @@
 -- What the model's queries give.
-use Rattle.std.specs.Prelude.{◌≡◌, ◌⊎◌, ℕ, List, Option, Some, None, Result, Ok, Err, Vec}
+use Rattle.std.specs.Prelude.{◌≡◌, ◌⊎◌, ℕ, List, Option, Some, None, Result, Ok, Err, IsOk, Vec}
 use Rattle.vm_types.specs.declared.refusal.Refusal.{Refusal}
 use Rattle.vm_types.specs.declared.refusal.Refusal.TheVariants.{NoSuchAlternative, IsTop, Device, Memory}
 use Rattle.vm_types.specs.declared.change.Change.{Change}
@@ -59,11 +59,11 @@ checkpoints_of (Some a) = Ok (saved_names a.saved)
 abbrev pub checkpoints_in : Tree → List ℕ → Result (List (List ℕ)) Refusal
 checkpoints_in tree alt = checkpoints_of (named tree alt)
 
--- the list that is due, where `items` tells what is in one; or the refusal that is due, or that the device failed, or that there was
--- no memory
+-- the list that is due, where `items` tells what is in one, or the refusal that is due; where none is, that the device failed, or that
+-- there was no memory
 abbrev pub IsListOf : {T X : Type 0} → (T → List X) → Result T Refusal → Result (List X) Refusal → Type 0
 IsListOf items (Ok list) due = due ≡ Ok (items list)
-IsListOf items (Err refusal) due = (refusal ≡ Device) ⊎ ((refusal ≡ Memory) ⊎ (due ≡ Err refusal))
+IsListOf items (Err refusal) due = (IsOk due × ((refusal ≡ Device) ⊎ (refusal ≡ Memory))) ⊎ (due ≡ Err refusal)
 
 -- the same of a Vec
 abbrev pub IsList : {X A : Type 0} → Result (Vec X A) Refusal → Result (List X) Refusal → Type 0

@@ -10,7 +10,7 @@ use vm_disk::Disk;
 use vm_types::{Answer, Key, Name, Refusal, Side};
 
 impl<D: Disk> Store<D> {
-    ghost use Rattle.vm_store.specs.Store.{has_failed, entries_of, Carries, Holds, IsHonest, GoesOn, EarlyKeeps};
+    ghost use Rattle.vm_store.specs.Store.{has_failed, entries_of, Carries, Holds, IsHonest, GoesOn, EarlyKeeps, FirstReads};
 
     /// Changes the alternative's records to those of the merge, and makes the parent's records its
     /// base. All that takes memory comes before a marking and before the first write.
@@ -21,6 +21,7 @@ impl<D: Disk> Store<D> {
         ensures never { result ≢ Err Refusal.Failed }
         ensures same { OnErr result (entries_of self.new ≡ entries_of self.old) }
         ensures unchanged { EarlyKeeps result self.old self.new }
+        ensures reads { IsHonest self.new → FirstReads result self.old self.new }
         ensures carried { IsHonest self.new → (s : State) (holds : Holds self.old s)
             → Carries self.old self.new s holds (Merge alt.now settled.now) result }
     {

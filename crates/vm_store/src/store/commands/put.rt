@@ -9,7 +9,7 @@ use vm_disk::Disk;
 use vm_types::{Answer, Command, Key, Name, Refusal};
 
 impl<D: Disk> Store<D> {
-    ghost use Rattle.vm_store.specs.Store.{has_failed, entries_of, Carries, Holds, IsHonest, GoesOn, EarlyKeeps, FullLeavesSpare, ReadsAlone, TakesFew};
+    ghost use Rattle.vm_store.specs.Store.{has_failed, entries_of, Carries, Holds, IsHonest, GoesOn, EarlyKeeps, FirstReads, FullLeavesSpare, TakesFew};
 
     /// Gives a record of the alternative a value. The blocks that the series took for the path as
     /// it was are forgotten.
@@ -26,7 +26,7 @@ impl<D: Disk> Store<D> {
         ensures same { OnErr result (entries_of self.new ≡ entries_of self.old) }
         ensures unchanged { EarlyKeeps result self.old self.new }
         ensures marked { IsHonest self.new → FullLeavesSpare result self.old self.new }
-        ensures reads { IsHonest self.new → result ≡ Err Refusal.Full → ReadsAlone self.old self.new }
+        ensures reads { IsHonest self.new → FirstReads result self.old self.new }
         ensures free { TakesFew self.old self.new }
         ensures carried { IsHonest self.new → (s : State) (holds : Holds self.old s)
             → Carries self.old self.new s holds (Command.Put alt.now key value.now) result }

@@ -14,7 +14,7 @@ use vm_tree::has;
 use vm_types::{Answer, Key, Name, Refusal};
 
 impl<D: Disk> Store<D> {
-    ghost use Rattle.vm_store.specs.Store.{has_failed, entries_of, free_of, series_of, Carries, Holds, IsHonest, GoesOn, EarlyKeeps, FullLeavesSpare, ReadsAlone, TakesFew};
+    ghost use Rattle.vm_store.specs.Store.{has_failed, entries_of, free_of, series_of, Carries, Holds, IsHonest, GoesOn, EarlyKeeps, FirstReads, FullLeavesSpare, TakesFew};
 
     /// Takes a record out of the alternative. Where its series goes on and enough blocks are free,
     /// its path is gone down once.
@@ -26,7 +26,7 @@ impl<D: Disk> Store<D> {
         ensures same { OnErr result (entries_of self.new ≡ entries_of self.old) }
         ensures unchanged { EarlyKeeps result self.old self.new }
         ensures marked { IsHonest self.new → FullLeavesSpare result self.old self.new }
-        ensures reads { IsHonest self.new → result ≡ Err Refusal.Full → ReadsAlone self.old self.new }
+        ensures reads { IsHonest self.new → FirstReads result self.old self.new }
         ensures free { TakesFew self.old self.new }
         ensures carried { IsHonest self.new → (s : State) (holds : Holds self.old s)
             → Carries self.old self.new s holds (Remove alt.now key) result }
@@ -56,7 +56,7 @@ impl<D: Disk> Store<D> {
         ensures same { OnErr result (entries_of self.new ≡ entries_of self.old) }
         ensures unchanged { EarlyKeeps result self.old self.new }
         ensures marked { IsHonest self.new → FullLeavesSpare result self.old self.new }
-        ensures reads { IsHonest self.new → result ≡ Err Refusal.Full → ReadsAlone self.old self.new }
+        ensures reads { IsHonest self.new → FirstReads result self.old self.new }
         ensures free { TakesFew self.old self.new }
         ensures carried { IsHonest self.new → (s : State) (holds : Holds self.old s)
             → Carries self.old self.new s holds (Remove alt.now key) result }
@@ -99,6 +99,7 @@ impl<D: Disk> Store<D> {
         ensures same { OnErr result (entries_of self.new ≡ entries_of self.old) }
         ensures free { TakesFew self.old self.new }
         ensures early { IfErr result (λ refusal. IsEarly refusal → refusal ≡ missing) }
+        ensures reads { IsHonest self.new → FirstReads result self.old self.new }
         ensures unchanged { EarlyKeeps result self.old self.new }
         ensures carried { IsHonest self.new → (s : State) (holds : Holds self.old s)
             → (missing ≡ Refusal.NoSuchRecord) ⊎ (value_in s.working alt.now key ≢ Ok None)

@@ -1,7 +1,7 @@
 //! The queries for the names of alternatives and of checkpoints. They make no device call.
 ghost use Rattle.std.specs.Prelude.{◌≡◌, true, false, Ok, Err, IfOk, IfErr};
 ghost use Rattle.vm_types.specs.Shape.{shape};
-ghost use Rattle.vm_store.specs.Answers.{IsMemoryOr};
+ghost use Rattle.vm_store.specs.Answers.{IsDueOrMemory, IsMemoryOr};
 ghost use Rattle.vm_types.specs.Queries.{checkpoints_in};
 
 use crate::store::Store;
@@ -37,7 +37,7 @@ impl<D: Disk> Store<D> {
         ensures value { InState self.now
             (λ s. IfOk result (λ list. Ok list.items ≡ checkpoints_in s.working alt.now)) }
         ensures none { InState self.now
-            (λ s. IfErr result (λ r. IsMemoryOr r (Err r ≡ checkpoints_in s.working alt.now))) }
+            (λ s. IfErr result (λ r. IsDueOrMemory r (checkpoints_in s.working alt.now))) }
     {
         if self.failed {
             return Err(Refusal::Failed);

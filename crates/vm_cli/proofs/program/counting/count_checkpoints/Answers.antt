@@ -1,6 +1,6 @@
 use Rattle.std.proofs.Common.{◌≡◌, arith, length, sym}
 use Rattle.vm_cli.proofs.CarriedLemmas.{passed_on}
-use Rattle.vm_cli.proofs.CountingLemmas.{added, counted_all, has_list}
+use Rattle.vm_cli.proofs.CountingLemmas.{added, counted_all, has_list, wanted}
 use Rattle.vm_cli.proofs.program.counting.count_checkpoints.Goals as goal
 
 pub loop-alternative-preserved : goal.loop-alternative-preserved
@@ -13,7 +13,7 @@ pub returns-in_err-names-clause-refused : goal.returns-in_err-names-clause-refus
 returns-in_err-names-clause-refused g c sound s holds is =
     rw (passed_on _ c.from_residual.ensures.1)
     (has_list c.args.store.now s holds c.args.listed.now is c.loop-alternative.alternative-index c.loop-alternative-test.true _ (sym c.alternative-item.is)
-    _ (c.in_err-names.ensures.none sound s holds))
+    _ (wanted _ _ (c.in_err-names.ensures.none sound s holds)))
 
 pub returns-clause-counted : goal.returns-clause-counted
 returns-clause-counted g c sound s holds is =

@@ -7,9 +7,9 @@ pub returns-clause-drawn : goal.returns-clause-drawn
 returns-clause-drawn g c honest sound s holds =
     let known = c.in_ok-tally.ensures.ok in
     let tallied : c.tally.result ≡ tally_in s.working c.args.name.now = elim (c.tally.ensures.value honest sound s holds) [
-      | inl device ↦ absurd (known.1 device)
-      | inr (inl memory) ↦ absurd (known.2 memory)
-      | inr (inr is) ↦ is
+      | inl (_, inl device) ↦ absurd (known.1 device)
+      | inl (_, inr memory) ↦ absurd (known.2 memory)
+      | inr is ↦ is
     ] in
     let checkpoints = c.in_ok-checkpoints.ensures.value ((c.tally.ensures.failed) ∙ sound) s (c.tally.ensures.state honest s holds) in
     (refl, refl, known.0 ∙ ap numbers tallied, checkpoints)

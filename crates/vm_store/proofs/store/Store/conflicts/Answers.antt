@@ -12,7 +12,7 @@ returns-in_err-own-clause-value g c honest well s holds =
     let rests = holds.rests in
     let lacks = c.in_err-own.ensures.none in
     rw (passed_on _ c.from_residual.ensures.1)
-    (inr (inr (conflicts_lacking _ _ _ _ _ _ s rests c.args.alt.now c.in_err-own.field-0.0 lacks)))
+    (inr (conflicts_lacking _ _ _ _ _ _ s rests c.args.alt.now c.in_err-own.field-0.0 lacks))
 
 pub returns-clause-value : goal.returns-clause-value
 returns-clause-value g c honest well s holds =

@@ -1,6 +1,7 @@
 use Rattle.std.proofs.Common.{rules, subst, sym}
 use Rattle.vm_store.specs.Answers.{HasMarked}
 use Rattle.vm_store.specs.Store.{KeepsFree, ReadsOnly}
+use Rattle.vm_store.proofs.FirstLemmas.{done_or_device}
 use Rattle.vm_store.proofs.VersionLemmas.{entries_keep, entries_read, entries_unmarked, when_ok}
 use Rattle.vm_store.proofs.store.Store.dispatch.Goals as goal
 
@@ -87,13 +88,13 @@ pub returns-in-Reclaim-clause-reads : goal.returns-in-Reclaim-clause-reads
 returns-in-Reclaim-clause-reads g c honest = subst (λ command. ReadsOnly command c.reclaim.result c.args.self.now c.reclaim.new.self) (sym c.in-Reclaim.is) (c.reclaim.ensures.reads honest)
 
 pub returns-in-Merge-clause-reads : goal.returns-in-Merge-clause-reads
-returns-in-Merge-clause-reads g c honest = subst (λ command. ReadsOnly command c.merge.result c.args.self.now c.merge.new.self) (sym c.in-Merge.is) tt
+returns-in-Merge-clause-reads g c honest = subst (λ command. ReadsOnly command c.merge.result c.args.self.now c.merge.new.self) (sym c.in-Merge.is) (c.merge.ensures.reads honest)
 
 pub returns-in-Commit-clause-reads : goal.returns-in-Commit-clause-reads
-returns-in-Commit-clause-reads g c honest = subst (λ command. ReadsOnly command c.commit.result c.args.self.now c.commit.new.self) (sym c.in-Commit.is) tt
+returns-in-Commit-clause-reads g c honest = subst (λ command. ReadsOnly command c.commit.result c.args.self.now c.commit.new.self) (sym c.in-Commit.is) (done_or_device c.commit.result c.args.self.now c.commit.new.self c.commit.ensures.result)
 
 pub returns-in-Grow-clause-reads : goal.returns-in-Grow-clause-reads
 returns-in-Grow-clause-reads g c honest = subst (λ command. ReadsOnly command c.grow.result c.args.self.now c.grow.new.self) (sym c.in-Grow.is) tt
 
 pub returns-in_default-clause-reads : goal.returns-in_default-clause-reads
-returns-in_default-clause-reads g c honest = entries_read c.args.command.now _ _ _ (search rules)
+returns-in_default-clause-reads g c honest = entries_read c.args.command.now _ _ _ (search rules) c.change_entries.ensures.disk

@@ -1,13 +1,14 @@
-use Rattle.std.proofs.Common.{inl, inr, length, List, Err, sym, ap, ◌∙◌, subst}
+use Rattle.std.proofs.Common.{inl, inr, length, List, Err, IsOk, refl, sym, ap, ◌∙◌, subst}
 use Rattle.vm_types.specs.declared.change.Change.{Change}
 use Rattle.vm_types.specs.declared.command.Command.TheVariants.{Merge}
-use Rattle.vm_disk.proofs.MomentLemmas.{at_end, reads_then}
+use Rattle.vm_disk.proofs.MomentLemmas.{at_end, reads_then, started}
 use Rattle.vm_tree.specs.Faults.{refusal_of_put}
 use Rattle.vm_tree.proofs.Looking.{passed_on}
 use Rattle.vm_store.specs.Pairs.{IsPair}
 use Rattle.vm_store.proofs.CarryLemmas.{looked, stayed, wrote}
+use Rattle.vm_store.proofs.FirstLemmas.{late_put}
 use Rattle.vm_store.proofs.MergeSteps.{merges_refused, merges_full, merges_done, merges_deep, merge_step, merge_refusal, merge_is, merge_edits, merge_rests, current_is, planned, fault_of_changes, by_reason, by_either, made_of, meets_as}
-use Rattle.vm_store.proofs.PairLemmas.{lacking, own_there, parent_there}
+use Rattle.vm_store.proofs.PairLemmas.{conflicts_there, lacking, own_there, parent_there}
 use Rattle.vm_store.proofs.Removing.{spare_after}
 use Rattle.vm_store.proofs.RestingLemmas.{rests_more, rests_as}
 use Rattle.vm_store.proofs.SeriesLemmas.{holds_alone, read_holds}
@@ -40,7 +41,7 @@ returns-in_err-changes-clause-carried g c honest s holds =
     let read = c.in_err-changes.ensures.reads honest in
     let holds' = read_holds _ _ _ _ _ _ _ _ _ s read holds in
     rw (passed_on _ c.from_residual-in_err-changes.ensures.1)
-    (looked _ _ s holds (Merge c.args.alt.now c.args.settled.now) _ (by_reason _ _ _ plan (λ device. inl (ap Err device)) (λ memory. inr (inl (ap Err memory))) (λ refused. merges_refused s _ _ alt settled _ (merge_refusal _ _ _ _ _ _ s rests alt pair is settled _ refused)))
+    (looked _ _ s holds (Merge c.args.alt.now c.args.settled.now) _ (by_reason _ _ _ plan (λ device. inl (ap Err device)) (λ memory. inr (inl (ap Err memory, subst IsOk (sym (conflicts_there _ _ _ _ _ _ s rests alt pair is)) refl))) (λ refused. merges_refused s _ _ alt settled _ (merge_refusal _ _ _ _ _ _ s rests alt pair is settled _ refused)))
     read holds'.rests (λ _. holds'))
 
 pub returns-then-not-branch-clause-carried : goal.returns-then-not-branch-clause-carried
@@ -131,3 +132,19 @@ returns-in_err-root-clause-carried g c honest s holds =
     (plan'.1 ∙ sym (merge_is _ _ _ _ _ _ s rests' alt pair is' settled plan'.0)) deep.1)))
     _ (reads_then _ _ _ read (c.has_spare.ensures.reads (c.in_err-root.ensures.any.earlier honest))) rests' (c.in_err-root.ensures.moments honest) c.in_err-root.ensures.still
     (λ _. holds_alone (rests_more _ _ _ _ _ _ s rests' _ _ (at_end _ _ _ (c.in_err-root.ensures.moments honest)) c.in_err-root.ensures.still)))
+
+pub returns-in_err-own-clause-reads : goal.returns-in_err-own-clause-reads
+returns-in_err-own-clause-reads g c honest = rw (passed_on _ c.from_residual.ensures.1) (λ first. started _ _ refl)
+
+pub returns-in_err-changes-clause-reads : goal.returns-in_err-changes-clause-reads
+returns-in_err-changes-clause-reads g c honest = rw (passed_on _ c.from_residual-in_err-changes.ensures.1) (λ first. c.in_err-changes.ensures.reads honest)
+
+pub returns-then-not-branch-clause-reads : goal.returns-then-not-branch-clause-reads
+returns-then-not-branch-clause-reads g c honest first = reads_then _ _ _ (c.in_ok-changes.ensures.reads (c.has_spare.ensures.any.earlier honest)) (c.has_spare.ensures.reads honest)
+
+pub returns-in_err-has_spare-clause-reads : goal.returns-in_err-has_spare-clause-reads
+returns-in_err-has_spare-clause-reads g c honest =
+    rw (passed_on _ c.from_residual-in_err-has_spare.ensures.1) (λ first. reads_then _ _ _ (c.in_ok-changes.ensures.reads (c.has_spare.ensures.any.earlier honest)) (c.has_spare.ensures.reads honest))
+
+pub returns-in_err-root-clause-reads : goal.returns-in_err-root-clause-reads
+returns-in_err-root-clause-reads g c honest = rw (passed_on _ c.from_residual-in_err-root.ensures.1) (λ first. absurd (late_put c.in_err-root.field-0.0 first))

@@ -1,5 +1,6 @@
 use Rattle.std.proofs.Common.{refl}
 use Rattle.vm_types.specs.declared.command.Command.TheVariants.{Put}
+use Rattle.vm_disk.proofs.MomentLemmas.{started}
 use Rattle.vm_store.proofs.RunLemmas.{answers_on}
 use Rattle.vm_store.proofs.store.Store.put.Goals as goal
 
@@ -15,3 +16,6 @@ returns-clause-state g c honest sound fine s holds = (c.put_value-answer.ensures
 
 pub returns-clause-crash : goal.returns-clause-crash
 returns-clause-crash g c honest sound s holds = (c.put_value-answer.ensures.carried honest s holds).crash
+
+pub returns-then-self-clause-reads : goal.returns-then-self-clause-reads
+returns-then-self-clause-reads g c honest first = started _ _ refl

@@ -2,12 +2,13 @@ use Rattle.std.proofs.Common.{find, Err, inl, refl, subst, sym, ap, ◌∙◌, a
 use Rattle.vm_types.specs.Tree.{current_of}
 use Rattle.vm_types.specs.declared.command.Command.TheVariants.{Put}
 use Rattle.vm_disk.specs.Disk.{Medium}
-use Rattle.vm_disk.proofs.MomentLemmas.{at_end, same_medium}
+use Rattle.vm_disk.proofs.MomentLemmas.{at_end, same_medium, started}
 use Rattle.vm_tree.proofs.Looking.{passed_on}
 use Rattle.vm_store.specs.Answers.{LacksRoom}
 use Rattle.vm_store.specs.Store.{root_of}
 use Rattle.vm_store.specs.Versions.{is_alternative_of}
 use Rattle.vm_store.proofs.CarryLemmas.{changed, looked, stayed}
+use Rattle.vm_store.proofs.FirstLemmas.{late_put}
 use Rattle.vm_store.proofs.SpareTests.{room_for, full_for}
 use Rattle.vm_store.proofs.TopLemmas.{rooted_of, grown_of, lacks_under, lacks_over}
 use Rattle.vm_store.proofs.RestingLemmas.{found_entry, answers_absent, answers_full, answers_done, answers_fault, deep_here, here_deep}
@@ -84,3 +85,15 @@ returns-in_err-root-clause-carried g c honest s holds =
     put)
     _ (c.has_spare.ensures.reads marked) series (c.in_err-root.ensures.moments honest series.wider) c.in_err-root.ensures.still
     (λ _. holds_more _ _ _ _ _ _ _ s _ _ _ (at_end _ _ _ (c.in_err-root.ensures.failed honest)) c.in_err-root.ensures.still on))
+
+pub returns-in_default-clause-reads : goal.returns-in_default-clause-reads
+returns-in_default-clause-reads g c honest first = started _ _ refl
+
+pub returns-then-not-branch-clause-reads : goal.returns-then-not-branch-clause-reads
+returns-then-not-branch-clause-reads g c honest first = c.has_spare.ensures.reads honest
+
+pub returns-in_err-has_spare-clause-reads : goal.returns-in_err-has_spare-clause-reads
+returns-in_err-has_spare-clause-reads g c honest = rw (passed_on _ c.from_residual.ensures.1) (λ first. c.has_spare.ensures.reads honest)
+
+pub returns-in_err-root-clause-reads : goal.returns-in_err-root-clause-reads
+returns-in_err-root-clause-reads g c honest = rw (passed_on _ c.from_residual-in_err-root.ensures.1) (λ first. absurd (late_put c.in_err-root.field-0.0 first))

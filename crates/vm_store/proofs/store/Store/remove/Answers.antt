@@ -1,5 +1,6 @@
 use Rattle.std.proofs.Common.{inl, refl, sym}
 use Rattle.vm_types.specs.declared.command.Command.TheVariants.{Remove}
+use Rattle.vm_disk.proofs.MomentLemmas.{started}
 use Rattle.vm_store.proofs.CarryLemmas.{stayed}
 use Rattle.vm_store.proofs.Removing.{removes_absent}
 use Rattle.vm_store.proofs.RestingLemmas.{value_absent}
@@ -11,3 +12,6 @@ returns-in_default-clause-carried g c honest s holds =
 
 pub returns-then-has_free-clause-carried : goal.returns-then-has_free-clause-carried
 returns-then-has_free-clause-carried g c honest s holds = c.remove_in_series.ensures.carried honest s holds (inl refl)
+
+pub returns-in_default-clause-reads : goal.returns-in_default-clause-reads
+returns-in_default-clause-reads g c honest first = started _ _ refl

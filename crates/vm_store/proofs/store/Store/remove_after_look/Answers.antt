@@ -3,6 +3,7 @@ use Rattle.vm_types.specs.declared.command.Command.TheVariants.{Remove}
 use Rattle.vm_disk.proofs.MomentLemmas.{reads_then}
 use Rattle.vm_tree.proofs.Looking.{passed_on}
 use Rattle.vm_store.proofs.CarryLemmas.{looked, read_carried}
+use Rattle.vm_store.proofs.FirstLemmas.{first_then}
 use Rattle.vm_store.proofs.MarkedLemmas.{free_at_most}
 use Rattle.vm_store.proofs.SpareTests.{room_for, full_for, no_fewer}
 use Rattle.vm_store.proofs.RestingLemmas.{found_entry, value_found}
@@ -79,3 +80,18 @@ returns-then-not-branch-2-clause-marked g c honest full s holds =
 pub returns-then-not-branch-2-clause-reads : goal.returns-then-not-branch-2-clause-reads
 returns-then-not-branch-2-clause-reads g c honest full =
     reads_then _ _ _ (c.in_ok-has.ensures.looks.reads (c.has_spare.ensures.any.earlier honest)) (c.has_spare.ensures.reads honest)
+
+pub returns-then-not-branch-clause-reads : goal.returns-then-not-branch-clause-reads
+returns-then-not-branch-clause-reads g c honest first = c.in_ok-has.ensures.looks.reads honest
+
+pub returns-in_err-has-clause-reads : goal.returns-in_err-has-clause-reads
+returns-in_err-has-clause-reads g c honest = rw (passed_on _ c.from_residual.ensures.1) (λ first. c.in_err-has.ensures.looks.reads honest)
+
+pub returns-in_err-has_spare-clause-reads : goal.returns-in_err-has_spare-clause-reads
+returns-in_err-has_spare-clause-reads g c honest =
+    rw (passed_on _ c.from_residual-in_err-has_spare.ensures.1) (λ first. reads_then _ _ _ (c.in_ok-has.ensures.looks.reads (c.has_spare.ensures.any.earlier honest)) (c.has_spare.ensures.reads honest))
+
+pub returns-clause-reads : goal.returns-clause-reads
+returns-clause-reads g c honest =
+    let marked = c.remove_in_series.ensures.any.earlier honest in
+    first_then c.remove_in_series.result c.args.self.now c.has_spare.new.self c.remove_in_series.new.self (reads_then _ _ _ (c.in_ok-has.ensures.looks.reads (c.has_spare.ensures.any.earlier marked)) (c.has_spare.ensures.reads marked)) (c.remove_in_series.ensures.reads honest)

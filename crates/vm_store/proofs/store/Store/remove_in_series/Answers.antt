@@ -8,6 +8,7 @@ use Rattle.vm_tree.proofs.Looking.{passed_on}
 use Rattle.vm_store.specs.Answers.{IsAnswer}
 use Rattle.vm_store.specs.Resting.{before_of, spare_of}
 use Rattle.vm_store.proofs.CarryLemmas.{changed, wrote}
+use Rattle.vm_store.proofs.FirstLemmas.{late_fault}
 use Rattle.vm_store.proofs.MarkedLemmas.{free_at_most}
 use Rattle.vm_store.proofs.Removing.{removes_missing, removes_done, removes_device, removed_root, removed_none, removed_there, some_value, for_reason}
 use Rattle.vm_store.proofs.RestingLemmas.{found_entry, value_found}
@@ -69,3 +70,9 @@ returns-in_err-removed-clause-carried g c honest s holds reason =
     rw (passed_on _ c.from_residual.ensures.1)
     (wrote _ _ s holds (Remove alt c.args.key) _ (removes_device s alt c.args.key _ _ c.in_err-removed.field-0.0 removed)
     _ (started _ _ refl) rests moments c.in_err-removed.ensures.still (λ _. holds_more _ _ _ _ _ _ _ s _ _ _ (at_end _ _ _ moments) c.in_err-removed.ensures.still holds))
+
+pub returns-in_default-clause-reads : goal.returns-in_default-clause-reads
+returns-in_default-clause-reads g c honest first = c.remove_forgetting.ensures.kept.reads honest (c.in_ok-removed.was ∙ ap Ok c.in_default.is)
+
+pub returns-in_err-removed-clause-reads : goal.returns-in_err-removed-clause-reads
+returns-in_err-removed-clause-reads g c honest = rw (passed_on _ c.from_residual.ensures.1) (λ first. absurd (late_fault c.in_err-removed.field-0.0 first))
