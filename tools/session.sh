@@ -943,25 +943,45 @@ done
 absent 'no descriptor is left' made
 compare 'no descriptor is left: the file' spelled store
 
-# A standard stream is open on the store's own file: that is not opened, and stays as it is.
+# The standard output is open on the store's own file, or the input, where it may be written: that is not opened, and stays
+# as it is.
 echo 1 >status
 echo 'altctl: cannot open store' >said
 : >nothing
+led_to_store() {
+    name="$1 $2"
+    cp spelled store
+    : >output.came
+    came=0
+    eval "\"\$altctl\" $1 $2" || came=$?
+    echo "$came" >status.came
+    compare "$name: status" status status.came
+    compare "$name: output" nothing output.came
+    compare "$name: standard error" said faults.came
+    compare "$name: the file" spelled store
+}
 for words in 'run store' 'do store free' 'check store' 'tree store'; do
-    for led in '<store >output.came 2>faults.came' '<>store >output.came 2>faults.came' '<lines 1<>store 2>faults.came' \
-        '<lines >>store 2>faults.came'; do
-        name="$words $led"
-        cp spelled store
-        : >output.came
-        came=0
-        eval "\"\$altctl\" $words $led" || came=$?
-        echo "$came" >status.came
-        compare "$name: status" status status.came
-        compare "$name: output" nothing output.came
-        compare "$name: standard error" said faults.came
-        compare "$name: the file" spelled store
-    done
+    led_to_store "$words" '<lines 1<>store 2>faults.came'
+    led_to_store "$words" '<lines >>store 2>faults.came'
 done
+for words in 'run store' 'do store free'; do
+    led_to_store "$words" '<store >output.came 2>faults.came'
+    led_to_store "$words" '<>store >output.came 2>faults.came'
+done
+# What is looked at alone may be the input.
+cp spelled store
+: >lines
+"$altctl" check store >output
+for words in 'check store' 'check /dev/stdin'; do
+    came=0
+    "$altctl" $words <store >output.came 2>faults.came || came=$?
+    echo "$came" >status.came
+    echo 0 >status
+    compare "$words <store: status" status status.came
+    compare "$words <store: output" output output.came
+    compare "$words <store: the file" spelled store
+done
+echo 1 >status
 # By another name of it, and by a lock that takes the number of a closed input.
 cp spelled store
 ln store linked

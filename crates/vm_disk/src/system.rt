@@ -22,8 +22,11 @@ use vm_types::BLOCK_SIZE;
 /// The standard input, output and error have the descriptors 0, 1 and 2.
 pub const LAST_STANDARD: RawFd = 2;
 
-/// Where the system shows what the standard input and output are open on.
-const STREAMS: [&str; 2] = ["/proc/self/fd/0", "/proc/self/fd/1"];
+/// Where the system shows what the standard input is open on.
+const INPUT: &str = "/proc/self/fd/0";
+
+/// Where it shows what the standard output is open on.
+const OUTPUT: &str = "/proc/self/fd/1";
 
 /// What the system answers to a sync of a file that has nothing to sync.
 const EINVAL: i32 = 22;
@@ -76,12 +79,12 @@ fn is_plain_or_device(metadata: &Metadata) -> bool {
     metadata.is_file() || metadata.file_type().is_block_device()
 }
 
-/// Whether the standard input or output is open on this file, as far as the system shows that.
-fn is_streamed(rt: &impl Files, metadata: &Metadata) -> bool {
-    STREAMS.iter().any(|path| match fs::metadata(rt, path) {
+/// Whether this stream is open on this file, as far as the system shows that.
+fn is_open_on(rt: &impl Files, stream: &str, metadata: &Metadata) -> bool {
+    match fs::metadata(rt, stream) {
         Ok(stream) => stream.dev() == metadata.dev() && stream.ino() == metadata.ino(),
         Err(_) => false,
-    })
+    }
 }
 
 /// How many bytes a file has. Of a block device the system tells it by the place of its end alone.
@@ -112,9 +115,9 @@ fn is_synced(reads_alone: bool, answer: &io::Result<()>) -> bool
 /// Assumed, and in no contract: which bytes a sync makes last, and that no one else writes the file
 /// between two openings.
 ///
-/// Its descriptor is none of the standard ones, and the standard input and output are not open on it,
-/// where the system shows that: what is read and written there never is the file. One that was opened
-/// to be read alone is never written.
+/// Its descriptor is none of the standard ones, and the standard output is not open on it, nor the
+/// standard input on one that may be written, where the system shows that: what is written and read
+/// there never is the file. One that was opened to be read alone is never written.
 #[derive(Drop)]
 pub struct SystemFile<W> {
     file: File,
@@ -152,7 +155,7 @@ impl<W: World> SystemFile<W> {
 
     /// Opens a plain file or a block device that is there, to be read alone, after so many others: each
     /// write fails, and none is made. None where it cannot be opened, is neither of these, has a
-    /// standard descriptor, or is what the standard input or output is open on.
+    /// standard descriptor, or is what the standard output is open on.
     pub fn open_to_read(
         rt: &impl Files<File = File>,
         path: &str,
@@ -192,8 +195,8 @@ impl<W: World> SystemFile<W> {
 
     /// Opens a file in this way, after so many others, of which these calls are known. It is to be
     /// read alone where the way asks for no writes. None where it cannot be opened, is neither a
-    /// plain file nor a block device after all, has a standard descriptor, or is what the standard input
-    /// or output is open on.
+    /// plain file nor a block device after all, has a standard descriptor, or is what the standard output
+    /// is open on, or, where it may be written, the standard input.
     fn opened(
         rt: &impl Files<File = File>,
         how: &OpenOptions,
@@ -211,7 +214,8 @@ impl<W: World> SystemFile<W> {
         let metadata = file.metadata().ok()?;
         if !is_plain_or_device(&metadata)
             || file.as_raw_fd() <= LAST_STANDARD
-            || is_streamed(rt, &metadata)
+            || is_open_on(rt, OUTPUT, &metadata)
+            || how.asks_write() && is_open_on(rt, INPUT, &metadata)
         {
             return None;
         }
