@@ -40,9 +40,9 @@ use vm_types::Refusal;
 /// What a line that is refused means, whose answer is an error.
 #[derive(Clone, Copy, Debug, PartialEq, Eq)]
 pub enum OnRefusal {
-    /// The talk goes on, and it is not told at its end.
+    /// The talk goes on, and the program's status does not go by it.
     Ignore,
-    /// The talk goes on, and it is told at its end.
+    /// The talk goes on, and the program's status tells it.
     Tell,
     /// The talk ends with it.
     Stop,

@@ -52,7 +52,7 @@ module _ {D : Type 0} {members : _} where
     pub guarded : IsHonest new → Holds old s → StaysGuarded old new
     -- after a Reclaim, and a Put or a Remove that is refused for want of blocks, just the spare ones are free
     pub marked : IsHonest new → HasMarked command answer → (holds : Holds old s) → free_of new ≡ spare_of holds.rests
-    -- a Post and a Reclaim only read, and so does a Put or a Remove that is refused for want of blocks
+    -- a Post and a Reclaim only read, and so does each other command but a Grow that is refused before it takes a block
     pub reads : IsHonest new → ReadsOnly command answer old new
     -- of the free blocks a Put or a Remove takes few, and a Post and a Commit take none
     pub free : KeepsFree command old new

@@ -90,14 +90,15 @@ pub const CHECK_FILE: &str = "The file or block device, which need not be one th
 /// When to check a store.
 pub const CHECK_AFTER: &str = "\
 Every block that a version needs is read and tested, just as at the beginning of
-a run, so a store that is checked without a refusal can be run. When to use it:
+a run, so a store that is checked without a refusal can be run, where it may be
+written. When to use it:
 
   - after a crash of the machine, before the store is used again
   - before a copy, so that a good copy is not replaced by one of a damaged store
   - after a restore
 
-A refusal is printed as by altctl run: 18 Damaged BLOCK names the first block
-that is wrong, 19 NotAStore says that the file is no store. The free blocks are
+A refusal is printed as by altctl run: 18 Damaged BLOCK names the block at which
+something wrong was found, 19 NotAStore says that the file is no store. The free blocks are
 those that a run has free at its beginning.
 
 A session:
@@ -164,8 +165,8 @@ pub const DO_LINE: &str = "A line, as altctl run answers it";
 /// What a refused line means to `do`.
 pub const DO_AFTER: &str = "\
 Where a line is refused, the status is 4. The lines after it are answered all
-the same, unless --strict is given: then it is the last. So with commit as the
-last line all of them are made last, or none is:
+the same, unless --strict is given: then it is the last. So with one commit, as
+the last line, all of them are made last, or none is:
 
   altctl do --strict map.alt 'put top 7 1 duct' 'put top 7 2 pipe' commit
 

@@ -75,9 +75,9 @@ enum Event<'a, W> {
 /// Assumed, and in no contract: that between two openings no one else writes a file, and that it keeps
 /// what the disk model says that a crash may leave.
 ///
-/// As long as it is there, the standard input, output and error are open. One that was closed is open
-/// on a folder: reads fail there, and so do writes. Where no folder can be opened it stays closed, and
-/// no file is opened in its place.
+/// As long as it is there, the standard input, output and error are open, where a folder can be opened:
+/// one that was closed is open on that, and reads fail there, and so do writes. Where none can be
+/// opened it stays closed, and no file is opened in its place.
 #[derive(Drop)]
 pub struct RealFiles<'a, R, W> {
     rt: &'a R,
