@@ -816,6 +816,20 @@ rm -f faults
 
 # --- standard descriptors that are closed, or fail --------------------------------------------------
 
+# Starts the program with the words after the second, and these redirections. Compares its status with `status`, what is
+# then in `output.came` with `output`, and what is in `faults.came` with `faults`.
+redirected() {
+    name=$1
+    redirections=$2
+    shift 2
+    came=0
+    eval "\"\$altctl\" \"\$@\" $redirections" || came=$?
+    echo "$came" >status.came
+    compare "$name: status" status status.came
+    compare "$name: output" output output.came
+    compare "$name: standard error" faults faults.came
+}
+
 # Starts the program with the words after the third, on the bytes in `lines`, with the standard descriptors closed that the
 # second names by their numbers. Compares its status with the third word, its output with `output`, and its standard error with
 # `faults`, as far as they are open.
@@ -829,12 +843,7 @@ closed() {
     case $2 in *2*) error='2>&-' ;; esac
     echo "$3" >status
     shift 3
-    came=0
-    eval "\"\$altctl\" \"\$@\" $input $out $error" || came=$?
-    echo "$came" >status.came
-    compare "$name: status" status status.came
-    compare "$name: output" output output.came
-    compare "$name: standard error" faults faults.came
+    redirected "$name" "$input $out $error" "$@"
 }
 
 # The status is 3 where one of these is closed, or else the third word. What is said then is in `faults`.
@@ -946,19 +955,13 @@ compare 'no descriptor is left: the file' spelled store
 # The standard output is open on the store's own file, or the input, where it may be written: that is not opened, and stays
 # as it is.
 echo 1 >status
-echo 'altctl: cannot open store' >said
-: >nothing
+echo 'altctl: cannot open store' >faults
+: >output
 led_to_store() {
-    name="$1 $2"
     cp spelled store
     : >output.came
-    came=0
-    eval "\"\$altctl\" $1 $2" || came=$?
-    echo "$came" >status.came
-    compare "$name: status" status status.came
-    compare "$name: output" nothing output.came
-    compare "$name: standard error" said faults.came
-    compare "$name: the file" spelled store
+    redirected "$1 $2" "$2" $1
+    compare "$1 $2: the file" spelled store
 }
 for words in 'run store' 'do store free' 'check store' 'tree store'; do
     led_to_store "$words" '<lines 1<>store 2>faults.came'
@@ -971,36 +974,30 @@ done
 # What is looked at alone may be the input.
 cp spelled store
 : >lines
-"$altctl" check store >output
-for words in 'check store' 'check /dev/stdin'; do
-    came=0
-    "$altctl" $words <store >output.came 2>faults.came || came=$?
-    echo "$came" >status.came
-    echo 0 >status
-    compare "$words <store: status" status status.came
-    compare "$words <store: output" output output.came
+: >faults
+echo 0 >status
+for words in 'check store' 'check /dev/stdin' 'tree store'; do
+    "$altctl" ${words%% *} store >output
+    redirected "$words <store" '<store >output.came 2>faults.came' $words
     compare "$words <store: the file" spelled store
 done
-echo 1 >status
 # By another name of it, and by a lock that takes the number of a closed input.
-cp spelled store
+: >output
+echo 1 >status
 ln store linked
 ln -s store pointed
 for name in linked pointed; do
-    came=0
-    "$altctl" run "$name" <store >output.came 2>faults.came || came=$?
-    echo "$came" >status.came
-    compare "run $name <store: status" status status.came
-    compare "run $name <store: output" nothing output.came
+    echo "altctl: cannot open $name" >faults
+    redirected "run $name <store" '<store >output.came 2>faults.came' run "$name"
     compare "run $name <store: the file" spelled store
 done
 came=0
 flock -n store "$altctl" run store <&- >output.came 2>faults.came || came=$?
 echo "$came" >status.came
 compare 'a lock in the place of the input: status' status status.came
-compare 'a lock in the place of the input: output' nothing output.came
+compare 'a lock in the place of the input: output' output output.came
 compare 'a lock in the place of the input: the file' spelled store
-rm -f linked pointed said nothing
+rm -f linked pointed
 
 # Starts the program with the words after the first, with a standard error that takes nothing. Its status is 3.
 unheard() {
