@@ -1,5 +1,5 @@
 //! One child or one row put in the bytes of a block, which is not written anew for it.
-ghost use Rattle.std.specs.Prelude.{◌≡◌, ◌≢◌, ◌↔◌, ℕ, Bool, ◌<◌, ◌≤◌};
+ghost use Rattle.std.specs.Prelude.{◌≡◌, ◌≢◌, ◌↔◌, ℕ, Bool, ◌<◌, ◌≤◌, take};
 ghost use Rattle.vm_block.specs.Changed.{DividesChild, InsertsChild, InsertsRow, PutsRow, SetsChild, SetsRow};
 ghost use Rattle.vm_block.specs.Head.{IsRowsHead};
 ghost use Rattle.vm_block.specs.Leaf.{RowFits, StoredFits, stored_bytes};
@@ -28,7 +28,10 @@ pub enum Placed {
 /// Puts the child in the place of the one at this index of an inner block.
 pub fn set_child(bytes: &mut [u8; 4096], index: usize, child: Child)
     requires { index < MAX_CHILDREN }
-    ensures { SetsChild index child bytes.old bytes.new }
+    ensures child { SetsChild index child bytes.old bytes.new }
+
+    // On any bytes the head stays.
+    ensures head { take 16 bytes.new ≡ take 16 bytes.old }
 {
     write_child(child, &mut bytes[16 + 14 * index..]);
 }

@@ -6,10 +6,12 @@ use Rattle.vm_types.specs.Places.{place, RisesFrom, places, value_at}
 use Rattle.vm_disk.specs.Disk.{Contents, block, Medium}
 use Rattle.vm_alloc.specs.Held.{HoldsMore, IsHeld}
 use Rattle.vm_block.specs.Leaf.{Record, BeginsWith}
+use Rattle.vm_block.specs.Head.{IsNodeHead}
 use Rattle.vm_block.specs.Node.{ChildFits, IsNode, lows}
 use Rattle.vm_block.specs.Way.{IsChosen, Lowest, Takes}
 use Rattle.vm_block.specs.declared.node.Child.{Child}
 use Rattle.vm_block.proofs.EachLemmas.{each_front, each_back, each_join, each_so}
+use Rattle.vm_block.proofs.HeadLemmas.{node_head_only, node_headed, node_words}
 use Rattle.vm_tree.specs.Tree.{Sizes, Children, Subtree}
 use Rattle.vm_tree.specs.Answers.{OkOrDevice}
 use Rattle.vm_tree.specs.Making.{Made}
@@ -89,6 +91,11 @@ narrowed_made P Q sizes x y limit l top root rs bs still so fits all n = record 
   each = each_so P Q so n.own (each_back P n.above n.own (subst (AllByRecursion P) n.blocks all));
   fit = (n.fit fits, tt);
 }
+
+-- an inner block that begins with the head of one of two children at least has as many
+pub two_children : {hand bytes : List ℕ} {l n k : ℕ} {cs : List Child} → IsNodeHead hand l n → 2 ≤ n → take 16 bytes ≡ take 16 hand → IsNode bytes k cs → 2 ≤ length cs
+two_children {hand} {bytes} {l} {n} {k} {cs} head two begins node =
+    omega (arith, two, (node_head_only bytes 1162104654 l n 0 k (length cs) (omega arith) (omega (arith, head.low)) (omega (arith, head.few)) (omega arith) (begins ∙ head.begins ∙ sym (node_words l n)) (node_headed bytes k cs node)).2)
 
 -- what was written is answered
 pub rests_removes : (result : Result Left TreeFault) (p : ℕ) (rs : List Record) (P Q : Root → Type 0) → ((root : Root) → P root → Q root) → value_at p rs ≢ None → IsLeft result (without_place p rs) P → RemovesBelow result p rs Q

@@ -71,6 +71,10 @@ HasTaken result held = IfOk result (λ copied. AreTaken held (children_of copied
 abbrev pub HasWritten : {E : Type 0} → Result ℕ E → DiskState → List ℕ → Type 0
 HasWritten result new bytes = new.honest ≡ true → IfOk result (λ n. block new.now.contents n ≡ bytes)
 
+-- the block of the child that is answered has these bytes, where the disk is honest
+abbrev pub WritesBytes : Result Child TreeFault → DiskState → List ℕ → Type 0
+WritesBytes result new bytes = new.honest ≡ true → IfOk result (λ child. block new.now.contents child.block ≡ bytes)
+
 -- # What is made of records, where the disk is honest after the call
 -- Whatever was held before, the blocks are held now, and those to be kept that were held before.
 

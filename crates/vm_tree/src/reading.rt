@@ -1,6 +1,7 @@
 //! Blocks of a tree, read from a disk, and the way down to a key.
 ghost use Rattle.std.specs.Prelude.{◌≡◌, ◌≢◌, ◌↔◌, ◌≤◌, length, IsTrue, IfOk};
 ghost use Rattle.vm_types.specs.Places.{place};
+ghost use Rattle.vm_block.specs.Head.{IsNodeHead};
 ghost use Rattle.vm_block.specs.Told.{IsRowsSize};
 ghost use Rattle.vm_tree.specs.Tree.{IsData};
 ghost use Rattle.vm_tree.specs.Calls.{OnlyLooks};
@@ -92,6 +93,9 @@ pub(crate) fn load_way<D: Disk, const MOST: usize>(
     ensures looks { OnlyLooks result (D.state disk.old) (D.state disk.new) }
     ensures level { IfOk result (λ way. (way.level ≡ level) × (level ≤ 7)) }
     ensures within { IfOk result (IsWayAmong MOST) }
+    ensures found { FindsBlock result (D.state disk.old) (D.state disk.new)
+        blocks top (D.hand disk.new) }
+    ensures head { IfOk result (λ way. IsNodeHead (D.hand disk.new) way.level way.count) }
     ensures step { FindsStep result (D.state disk.old) (D.state disk.new) blocks (place key) level top }
     ensures only { GivesWay result (D.state disk.old) (D.state disk.new)
         blocks level top MOST (place key) (D.hand disk.new) }

@@ -6,7 +6,7 @@ ghost use Rattle.vm_tree.specs.Calls.{OnlyLooks, LooksIf, LooksIfDamaged, Writes
 ghost use Rattle.vm_tree.specs.Free.{TakesAtMost};
 ghost use Rattle.vm_tree.specs.Paths.{NamesLong, NamesPath, NamesPathUnder};
 ghost use Rattle.vm_tree.specs.Reading.{FindsEnd, FindsPath, FindsPathFrom, GivesRowsAmong};
-ghost use Rattle.vm_tree.specs.Removing.{LeavesOut, LeavesRest, LooksIfNothing, LooksIfSame, NarrowsTo, RemovesFrom, RemovesFromLeaf, RemovesUnder, child_of, level_of};
+ghost use Rattle.vm_tree.specs.Removing.{IsWide, LeavesOut, LeavesRest, LeavesWide, LooksIfNothing, LooksIfSame, NarrowsTo, RemovesFrom, RemovesFromLeaf, RemovesUnder, child_of, level_of};
 ghost use Rattle.vm_tree.specs.Replacing.{KeepsAbove, long_of};
 ghost use Rattle.vm_tree.specs.Root.{AreSizes, sizes_of};
 
@@ -127,6 +127,7 @@ fn narrowed<D: Disk, const FAN: usize>(
     requires { blocks ≤ (D.state disk.old).blocks }
     ensures looks { OnlyLooks result (D.state disk.old) (D.state disk.new) }
     ensures level { IfOk result (λ root. root.level ≤ level) }
+    ensures wide { IfOk result (IsWide (D.state disk.new)) }
     ensures narrow { NarrowsTo result FAN (D.state disk.old) (D.state disk.new) blocks level top }
 {
     if level == 0 {
@@ -163,6 +164,7 @@ fn write_rest<D: Disk, const FAN: usize>(
     ensures nothing { LooksIfNothing result held.old held.new (D.state disk.old) (D.state disk.new) }
     ensures looks { LooksIfDamaged result held.old held.new (D.state disk.old) (D.state disk.new) }
     ensures taken { TakesAtMost 1 held.old held.new }
+    ensures wide { is_root ≡ true → IfOk result (LeavesWide (D.state disk.new)) }
     ensures rest { LeavesRest result FAN level children.now held.old held.new
         (D.state disk.old) (D.state disk.new) }
 {
@@ -199,6 +201,7 @@ fn remove_below<D: Disk, const LEAF: usize, const FAN: usize>(
     ensures level { IfOk result (λ left. level_of left level ≤ level) }
     ensures same_level { is_root ≡ false → IfOk result (λ left. level_of left level ≡ level) }
     ensures taken { TakesAtMost (level + 1) held.old held.new }
+    ensures wide { is_root ≡ true → IfOk result (LeavesWide (D.state disk.new)) }
     ensures same { LooksIfSame result held.old held.new (D.state disk.old) (D.state disk.new) }
     ensures nothing { LooksIfNothing result held.old held.new (D.state disk.old) (D.state disk.new) }
     ensures looks { LooksIfDamaged result held.old held.new (D.state disk.old) (D.state disk.new) }
@@ -275,6 +278,9 @@ pub fn remove<D: Disk, const LEAF: usize, const FAN: usize, const LEVELS: usize>
     // the blocks of the tree are held, the root has the map without the key, in blocks that are none of the old path.
     ensures remove { RemovesFrom result (sizes_of LEAF FAN LEVELS) held.old held.new
         (D.state disk.old) (D.state disk.new) root key path.new }
+
+    // The new root is a leaf, or has two children at least.
+    ensures wide { IfOk result (λ rest. IfSome rest (IsWide (D.state disk.new))) }
 
     // The path is of blocks of the old tree.
     ensures path_in { NamesPath result (sizes_of LEAF FAN LEVELS)

@@ -1,10 +1,11 @@
 //! Blocks of a tree, written anew in blocks that were free.
 ghost use Rattle.std.specs.Prelude.{◌≡◌, ◌≢◌, ◌↔◌, ◌+◌, ◌<◌, ◌≤◌, true, length, IfOk};
 ghost use Rattle.vm_alloc.specs.Held.{free_count};
+ghost use Rattle.vm_block.specs.Node.{node_bytes};
 ghost use Rattle.vm_tree.specs.Answers.{OkOrDevice};
 ghost use Rattle.vm_tree.specs.Calls.{WritesFree};
 ghost use Rattle.vm_tree.specs.Free.{IsTaken, AreTaken, TakesAtMost, is_free};
-ghost use Rattle.vm_tree.specs.Making.{HasWritten, IfOne, MakesNode, MakesNodes, WritesLeaf, WritesNode, children_of, is_split};
+ghost use Rattle.vm_tree.specs.Making.{HasWritten, IfOne, MakesNode, MakesNodes, WritesBytes, WritesLeaf, WritesNode, children_of, is_split};
 
 use crate::faults::TreeFault;
 use vm_alloc::Held;
@@ -54,6 +55,7 @@ pub(crate) fn write_bytes<D: Disk>(
     ensures writes { WritesFree result held.old held.new (D.state disk.old) (D.state disk.new) }
     ensures device { OkOrDevice result (λ child. IsTaken held.new child.block) }
     ensures taken { TakesAtMost 1 held.old held.new }
+    ensures written { WritesBytes result (D.state disk.new) bytes.now }
     ensures leaf { WritesLeaf result held.old held.new (D.state disk.old) (D.state disk.new) bytes.now }
     ensures node { WritesNode result held.old held.new (D.state disk.old) (D.state disk.new) bytes.now }
 {
@@ -76,6 +78,7 @@ pub(crate) fn write_node_block<D: Disk>(
     ensures writes { WritesFree result held.old held.new (D.state disk.old) (D.state disk.new) }
     ensures device { OkOrDevice result (λ child. IsTaken held.new child.block) }
     ensures taken { TakesAtMost 1 held.old held.new }
+    ensures written { WritesBytes result (D.state disk.new) (node_bytes level children.now) }
     ensures made { MakesNode result level children.now
         held.old held.new (D.state disk.old) (D.state disk.new) }
 {

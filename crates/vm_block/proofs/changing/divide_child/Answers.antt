@@ -9,5 +9,5 @@ returns c level cs node many =
     let i = c.args.index in
     let left = c.args.left in
     let lt : i < length cs = omega (arith, many, c.requires.within) in
-    c.insert_child.ensures level (with_at i left cs) (c.set_child.ensures level cs node lt) (set_fit cs i left node.fit ((omega arith, omega arith), omega arith)) (many ∙ sym (set_length cs i left lt))
+    c.insert_child.ensures level (with_at i left cs) (c.set_child.ensures.child level cs node lt) (set_fit cs i left node.fit ((omega arith, omega arith), omega arith)) (many ∙ sym (set_length cs i left lt))
     ∙ ap (node_bytes level) (two_in_place cs i left c.args.right lt)

@@ -24,7 +24,7 @@ returns-clause-made g c honest before keep more sizes cs rs node count fan rises
     let now = with_copied cs i c.args.copied in
     let spelled : c.match-copied.bytes ≡ node_bytes c.args.level now =
     elim c.match-copied.branch [
-      | in-One w ↦ w.bytes-is ∙ w.set_child.ensures c.args.level cs node lt ∙ ap (λ (copied : Copied). node_bytes c.args.level (with_copied cs i copied)) (sym w.in-One.is)
+      | in-One w ↦ w.bytes-is ∙ w.set_child.ensures.child c.args.level cs node lt ∙ ap (λ (copied : Copied). node_bytes c.args.level (with_copied cs i copied)) (sym w.in-One.is)
       | in-Two w ↦ w.bytes-is ∙ w.divide_child.ensures c.args.level cs node count ∙ ap (λ (copied : Copied). node_bytes c.args.level (with_copied cs i copied)) (sym w.in-Two.is)
     ] in
     let many = length-with_copied cs i c.args.copied lt in

@@ -1,10 +1,11 @@
-use Rattle.std.proofs.Common.{◌∙◌, ap, sym, arith}
+use Rattle.std.proofs.Common.{◌∙◌, take, ap, sym, arith}
+use Rattle.vm_disk.specs.Disk.{Medium, block}
 use Rattle.vm_disk.proofs.MomentLemmas.{same_medium}
 use Rattle.vm_tree.specs.Tree.{Subtree}
 use Rattle.vm_tree.specs.Root.{sizes_of}
 use Rattle.vm_tree.proofs.Looking.{looks_on, passed_on}
 use Rattle.vm_tree.proofs.Descent.{node_read}
-use Rattle.vm_tree.proofs.RemoveLemmas.{alone_opens, sole, narrows_here, narrows_down}
+use Rattle.vm_tree.proofs.RemoveLemmas.{alone_opens, two_children, sole, narrows_here, narrows_down}
 use Rattle.vm_tree.proofs.removing.+narrowed.Goals as goal
 
 pub returns-then-level-eq0-clause-narrow : goal.returns-then-level-eq0-clause-narrow
@@ -32,3 +33,8 @@ returns-in_err-way-clause-narrow g t c honest leaf levels rs bs under =
 
 pub returns-then-way-eq1-clause-looks : goal.returns-then-way-eq1-clause-looks
 returns-then-way-eq1-clause-looks g t c = looks_on c.in_ok-way.ensures.looks c.narrowed.ensures.looks (λ is. is)
+
+pub returns-else-way-eq1-clause-wide : goal.returns-else-way-eq1-clause-wide
+returns-else-way-eq1-clause-wide g t c honest up k cs node =
+    let there = ap (λ (m : Medium). block m.contents c.args.top.block) (same_medium _ _ (c.in_ok-way.ensures.looks.reads honest)) ∙ sym (c.in_ok-way.ensures.found honest).bytes_are in
+    two_children c.in_ok-way.ensures.head (omega (arith, c.in_ok-way.ensures.within.0, c.if-way-eq1.false)) (ap (take 16) there) (rw c.root_at-else-way-eq1.ensures at node)

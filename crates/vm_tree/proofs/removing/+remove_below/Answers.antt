@@ -1,6 +1,6 @@
 use Rattle.std.proofs.Common.{◌≡◌, ◌∙◌, ℕ, Bool, ◌+◌, ◌-◌, ◌<◌, Ok, List, [], ◌∷◌, ◌++◌, length, take, drop, ap, sym, subst, refl, arith, rules}
 use Rattle.std.proofs.Math.ListN.{length-set}
-use Rattle.std.proofs.lemmas.Bool.{false≢true, eqb-true}
+use Rattle.std.proofs.lemmas.Bool.{false≢true, eqb-false, eqb-true}
 use Rattle.vm_types.specs.Places.{place}
 use Rattle.std.specs.List.{AllByRecursion}
 use Rattle.vm_disk.specs.Disk.{Contents, Medium}
@@ -25,7 +25,7 @@ use Rattle.vm_tree.proofs.Looking.{looks_free, looks_if, looks_if_on, looks_writ
 use Rattle.vm_tree.proofs.Descent.{node_read}
 use Rattle.vm_tree.proofs.Leading.{leads_on, if_ok_is, if_ok_so}
 use Rattle.vm_tree.proofs.PutLemmas.{only_one, replaced_length}
-use Rattle.vm_tree.proofs.RemoveLemmas.{rests_removes, none_there, fault_there, node_rest, only_there, others_left}
+use Rattle.vm_tree.proofs.RemoveLemmas.{rests_removes, none_there, fault_there, node_rest, two_children, only_there, others_left}
 use Rattle.vm_tree.proofs.Renewing.{renewed_more}
 use Rattle.vm_tree.proofs.Touching.{held_kept}
 use Rattle.vm_tree.proofs.removing.+remove_below.Goals as goal
@@ -194,7 +194,7 @@ returns-in_ok-node-in-Rest-clause-remove g t c levels honest rs bs tree begins r
           let P = IsRenewed before later keep in
           let y = (g.D.Disk.state c.write_bytes.new.disk).now.contents in
           let parts = rest.1 keep all keeps in
-          let made = c.in_ok-node-in-Rest.ensures.node honest before keep c.in_ok-left.ensures.writes.still sizes l lent (without_place p rs) (c.set_child.ensures l cs (hand_node (sym c.at_hand.ensures) way.0) within) above c.requires.low (omega (arith, many, within)) (omega (arith, many, read.1.node.few)) (omega (arith, many, read.2)) parts.0 parts.1 in
+          let made = c.in_ok-node-in-Rest.ensures.node honest before keep c.in_ok-left.ensures.writes.still sizes l lent (without_place p rs) (c.set_child.ensures.child l cs (hand_node (sym c.at_hand.ensures) way.0) within) above c.requires.low (omega (arith, many, within)) (omega (arith, many, read.1.node.few)) (omega (arith, many, read.2)) parts.0 parts.1 in
           let moved = subst (λ z. Made P sizes y z l (c.in_ok-node-in-Rest.node ∷ []) (without_place p rs)) c.in_ok-left.ensures.writes.still.same_length made in
           subst (λ (r : Root). Made P sizes y limit r.level (child_of r ∷ []) (without_place p rs)) (sym c.root_at.ensures) moved,
     )
@@ -363,3 +363,8 @@ returns-in_err-left-clause-looks g t c b = looks_if c.in_ok-way.ensures.looks c.
 
 pub returns-in_err-way-clause-writes : goal.returns-in_err-way-clause-writes
 returns-in_err-way-clause-writes g t c = looks_free c.in_err-way.ensures.looks (search rules)
+
+pub returns-in_ok-node-in-Rest-clause-wide : goal.returns-in_ok-node-in-Rest-clause-wide
+returns-in_ok-node-in-Rest-clause-wide g t c root honest up k cs node =
+    let two : 1 < c.in_ok-way.way.count = elim c.if-is_root.branch [ then-is_root w ↦ omega (arith, c.in_ok-way.ensures.within.0, eqb-false c.in_ok-way.way.count 1 (sym w.alone-is ∙ c.if-alone.false)) | else-is_root w ↦ absurd (false≢true (sym w.if-is_root.false ∙ root)) ] in
+    two_children c.in_ok-way.ensures.head two (ap (take 16) (c.in_ok-node-in-Rest.ensures.written honest) ∙ c.set_child.ensures.head ∙ ap (take 16) c.at_hand.ensures) (rw c.root_at.ensures at node)

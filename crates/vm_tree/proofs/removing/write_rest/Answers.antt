@@ -1,8 +1,9 @@
-use Rattle.std.proofs.Common.{◌≡◌, ◌-◌, ◌<◌, List, [], ◌∷◌, length, get_or, ap, sym, subst, arith, rules}
+use Rattle.std.proofs.Common.{◌≡◌, ◌-◌, ◌<◌, List, [], ◌∷◌, length, get_or, take, ap, sym, subst, refl, arith, rules}
 use Rattle.std.specs.List.{AllByRecursion}
 use Rattle.vm_disk.specs.Disk.{Medium}
 use Rattle.vm_disk.proofs.MomentLemmas.{same_medium}
-use Rattle.vm_block.specs.Node.{ChildFits}
+use Rattle.vm_block.specs.Head.{IsNodeHead}
+use Rattle.vm_block.specs.Node.{ChildFits, node_bytes, node_head}
 use Rattle.vm_block.specs.declared.node.Child.{Child}
 use Rattle.vm_tree.specs.Tree.{Children, Subtree}
 use Rattle.vm_tree.specs.Making.{Made}
@@ -11,8 +12,9 @@ use Rattle.vm_tree.specs.Replacing.{IsRenewed}
 use Rattle.vm_tree.specs.Root.{sizes_of}
 use Rattle.vm_tree.specs.declared.root.Root.{Root}
 use Rattle.vm_tree.proofs.Looking.{looks_free, passed_on}
-use Rattle.vm_tree.proofs.RemoveLemmas.{one_child, narrowed_made}
+use Rattle.vm_tree.proofs.RemoveLemmas.{one_child, two_children, narrowed_made}
 use Rattle.vm_tree.proofs.removing.write_rest.Goals as goal
+use Rattle.vm_tree.proofs.removing.write_rest.Goals.{then-not-is_root-via-then-not-is_root, then-not-is_root-via-else-not-is_root+then-children-gt1}
 
 pub returns-then-not-is_root-clause-rest : goal.returns-then-not-is_root-clause-rest
 returns-then-not-is_root-clause-rest g c honest leaf levels rs bs rises fits under before keep more all =
@@ -54,3 +56,11 @@ returns-clause-writes g c = looks_free c.in_ok-root.ensures.looks (λ is. cc)
 
 pub returns-in_err-root-clause-writes : goal.returns-in_err-root-clause-writes
 returns-in_err-root-clause-writes g c = looks_free c.in_err-root.ensures.looks (search rules)
+
+pub returns-then-not-is_root-clause-wide : goal.returns-then-not-is_root-clause-wide
+unfolding node_bytes node_head
+returns-then-not-is_root-clause-wide g c root honest up k ds node =
+    let cs = c.args.children.now in
+    let two : 1 < length cs = elim c.then-not-is_root.branch [ then-not-is_root-via-then-not-is_root w ↦ search (rules, root, w.if-not-is_root.true) | then-not-is_root-via-else-not-is_root+then-children-gt1 w ↦ w.if-children-gt1.true ] in
+    let head : IsNodeHead (node_bytes c.args.level cs) c.args.level (length cs) = record { begins = refl; above = c.requires.above; low = c.requires.low; some = omega (arith, two); few = omega (arith, c.requires.few, c.requires.most) } in
+    two_children head two (ap (take 16) (c.in_ok-node.ensures.written honest)) (rw c.root_at.ensures at node)
