@@ -1,13 +1,12 @@
 -- What a Remove under a block answers, from what it answers under the chosen child; and what lies under a root with one child.
-use Rattle.std.proofs.Common.{◌≡◌, ◌≢◌, Bool, ℕ, zero, suc, ◌+◌, ◌-◌, ◌<◌, ◌≤◌, List, [], ◌∷◌, ◌++◌, length, get_or, take, drop, None, Result, Ok, Err, refl, sym, ap, ◌∙◌, subst, arith, append-nil, length-drop, take-append-drop}
+use Rattle.std.proofs.Common.{◌≡◌, ◌≢◌, Bool, ℕ, zero, suc, ◌+◌, ◌-◌, ◌^◌, ◌<◌, ◌≤◌, List, [], ◌∷◌, ◌++◌, length, get_or, take, drop, None, Result, Ok, Err, refl, sym, ap, ◌∙◌, subst, arith, append-nil, length-drop, take-append-drop}
 use Rattle.std.specs.List.{AllByRecursion}
 use Rattle.std.proofs.lemmas.List.{nil_from_length, length-map}
 use Rattle.vm_types.specs.Places.{place, RisesFrom, places, value_at}
 use Rattle.vm_disk.specs.Disk.{Contents, block, Medium}
 use Rattle.vm_alloc.specs.Held.{HoldsMore, IsHeld}
 use Rattle.vm_block.specs.Leaf.{Record, BeginsWith}
-use Rattle.vm_block.specs.Head.{IsNodeHead}
-use Rattle.vm_block.specs.Node.{ChildFits, IsNode, lows}
+use Rattle.vm_block.specs.Node.{ChildFits, IsNode, lows, node_head}
 use Rattle.vm_block.specs.Way.{IsChosen, Lowest, Takes}
 use Rattle.vm_block.specs.declared.node.Child.{Child}
 use Rattle.vm_block.proofs.EachLemmas.{each_front, each_back, each_join, each_so}
@@ -93,9 +92,9 @@ narrowed_made P Q sizes x y limit l top root rs bs still so fits all n = record 
 }
 
 -- an inner block that begins with the head of one of two children at least has as many
-pub two_children : {hand bytes : List ℕ} {l n k : ℕ} {cs : List Child} → IsNodeHead hand l n → 2 ≤ n → take 16 bytes ≡ take 16 hand → IsNode bytes k cs → 2 ≤ length cs
-two_children {hand} {bytes} {l} {n} {k} {cs} head two begins node =
-    omega (arith, two, (node_head_only bytes 1162104654 l n 0 k (length cs) (omega arith) (omega (arith, head.low)) (omega (arith, head.few)) (omega arith) (begins ∙ head.begins ∙ sym (node_words l n)) (node_headed bytes k cs node)).2)
+pub two_children : {bytes : List ℕ} {l n k : ℕ} {cs : List Child} → take 16 bytes ≡ node_head l n → l < 2 ^ 32 → 2 ≤ n → n < 2 ^ 32 → IsNode bytes k cs → 2 ≤ length cs
+two_children {bytes} {l} {n} {k} {cs} begins low two few node =
+    omega (arith, two, (node_head_only bytes 1162104654 l n 0 k (length cs) (omega arith) low few (omega arith) (begins ∙ sym (node_words l n)) (node_headed bytes k cs node)).2)
 
 -- what was written is answered
 pub rests_removes : (result : Result Left TreeFault) (p : ℕ) (rs : List Record) (P Q : Root → Type 0) → ((root : Root) → P root → Q root) → value_at p rs ≢ None → IsLeft result (without_place p rs) P → RemovesBelow result p rs Q

@@ -19,6 +19,7 @@ use Rattle.vm_tree.specs.Rows.{IsLeafIn, IsRowIn, StandIn}
 use Rattle.vm_tree.specs.Answers.{OkOrDevice}
 use Rattle.vm_tree.specs.Free.{AreTaken}
 use Rattle.vm_tree.specs.Replacing.{IsRenewed}
+use Rattle.vm_tree.specs.declared.root.Root.{Root}
 use Rattle.vm_tree.specs.declared.faults.PutFault.{PutFault}
 use Rattle.vm_tree.specs.declared.faults.PutFault.TheVariants as put
 use Rattle.vm_tree.specs.declared.faults.TreeFault.{TreeFault}
@@ -74,6 +75,11 @@ HasWritten result new bytes = new.honest ≡ true → IfOk result (λ n. block n
 -- the block of the child that is answered has these bytes, where the disk is honest
 abbrev pub WritesBytes : Result Child TreeFault → DiskState → List ℕ → Type 0
 WritesBytes result new bytes = new.honest ≡ true → IfOk result (λ child. block new.now.contents child.block ≡ bytes)
+
+-- where the disk is honest, the block of a root above the leaves, if it is an inner block, has two children at least
+abbrev pub IsWide : DiskState → Root → Type 0
+IsWide new root =
+    new.honest ≡ true → 0 < root.level → (level : ℕ) (cs : List Child) → IsNode (block new.now.contents root.block) level cs → 2 ≤ length cs
 
 -- # What is made of records, where the disk is honest after the call
 -- Whatever was held before, the blocks are held now, and those to be kept that were held before.

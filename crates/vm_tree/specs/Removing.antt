@@ -1,11 +1,11 @@
 -- A record taken out, and what is left then.
-use Rattle.std.specs.Prelude.{◌≡◌, ◌≢◌, ℕ, ◌-◌, ◌<◌, ◌≤◌, true, Bool, List, [], ◌∷◌, ◌++◌, length, Option, None, IsSomeAnd, Result, Ok, Err}
+use Rattle.std.specs.Prelude.{◌≡◌, ◌≢◌, ℕ, ◌-◌, true, Bool, List, [], ◌∷◌, ◌++◌, length, Option, None, IsSomeAnd, Result, Ok, Err}
 use Rattle.std.specs.List.{AllByRecursion}
 use Rattle.vm_types.specs.declared.key.Key.{Key}
 use Rattle.vm_types.specs.Map.{get, without}
 use Rattle.vm_types.specs.Places.{RisesFrom, places, value_at}
 use Rattle.arrayvec.specs.ArrayVec.{ArrayVec}
-use Rattle.vm_disk.specs.Disk.{Contents, DiskState, block}
+use Rattle.vm_disk.specs.Disk.{Contents, DiskState}
 use Rattle.vm_alloc.specs.Held.{HoldsMore, IsHeld}
 use Rattle.vm_block.specs.Changed.{leave_out, without_place}
 use Rattle.vm_block.specs.Leaf.{Record}
@@ -15,7 +15,7 @@ use Rattle.vm_tree.specs.Tree.{Sizes, Children, Subtree}
 use Rattle.vm_block.specs.declared.way.Way.{Way}
 use Rattle.vm_tree.specs.Answers.{OkOrDevice, Removes}
 use Rattle.vm_tree.specs.Calls.{LooksIf}
-use Rattle.vm_tree.specs.Making.{Made}
+use Rattle.vm_tree.specs.Making.{Made, IsWide}
 use Rattle.vm_tree.specs.Replacing.{IsHeldBeside, IsRenewed, Replaces, path_from, path_under}
 use Rattle.vm_tree.specs.Root.{IsRootedIn, IfUnder, IfWhole, sizes_of}
 use Rattle.vm_tree.specs.declared.root.Root.{Root}
@@ -64,12 +64,7 @@ LooksIfSame result held later old new = LooksIf (result ≡ Ok Same) held later 
 abbrev pub LooksIfNothing : Result Left TreeFault → List Bool → List Bool → DiskState → DiskState → Type 0
 LooksIfNothing result held later old new = LooksIf (result ≡ Ok Nothing) held later old new
 
--- where the disk is honest, the block of a root above the leaves, if it is an inner block, has two children at least
-abbrev pub IsWide : DiskState → Root → Type 0
-IsWide new root =
-    new.honest ≡ true → 0 < root.level → (level : ℕ) (cs : List Child) → IsNode (block new.now.contents root.block) level cs → 2 ≤ length cs
-
--- the same of the root that is left, if one is
+-- the root that is left, if one is, is a leaf or has two children at least
 abbrev pub LeavesWide : DiskState → Left → Type 0
 LeavesWide new Same = Unit {0}
 LeavesWide new Nothing = Unit {0}

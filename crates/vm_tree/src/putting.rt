@@ -5,7 +5,7 @@ ghost use Rattle.vm_alloc.specs.Held.{free_count};
 ghost use Rattle.vm_tree.specs.Answers.{OkOrDevice};
 ghost use Rattle.vm_tree.specs.Calls.{LooksIfDamaged, PutsFree, PutsIfDamaged, WritesFree};
 ghost use Rattle.vm_tree.specs.Free.{IsTaken, AreTaken, TakesAtMost, long_blocks};
-ghost use Rattle.vm_tree.specs.Making.{HasTaken, IfOne, MakesHalves, MakesNodesWith, PutsInLeaf, SplitsLeafOver, SplitsNodeOver, WritesPut, children_of, is_split};
+ghost use Rattle.vm_tree.specs.Making.{HasTaken, IfOne, IsWide, MakesHalves, MakesNodesWith, PutsInLeaf, SplitsLeafOver, SplitsNodeOver, WritesPut, children_of, is_split};
 ghost use Rattle.vm_types.specs.Bytes.{longest};
 ghost use Rattle.vm_tree.specs.Paths.{NamesLong, NamesPath, NamesPathUnder};
 ghost use Rattle.vm_tree.specs.Putting.{PutsFirst, PutsFrom, PutsUnder, PutsUnderLeaf, ReplacesFrom, ReplacesInLeaf, ReplacesUnder, SplitsOnly};
@@ -350,6 +350,13 @@ pub fn put<D: Disk, const LEAF: usize, const FAN: usize, const LEVELS: usize>(
 
     // The root is that of a block for data, which is held now.
     ensures root { IfOk result (λ r. IsTaken held.new r.block × (r.level < LEVELS)) }
+
+    // The empty map gets a leaf. Another tree stays as high or gets one level more, and then its root has two children
+    // at least.
+    ensures first_level { root.block ≡ 0 → IfOk result (λ r. r.level ≡ 0) }
+    ensures level { root.block ≢ 0
+        → IfOk result (λ r. (root.level ≤ r.level) × (r.level ≤ root.level + 1)) }
+    ensures wide { IfOk result (λ r. r.level ≢ root.level → IsWide (D.state disk.new) r) }
 
     // No more than 15 blocks are taken, and that of a long value; none of them where it answers Deep.
     ensures taken { TakesAtMost (15 + long_blocks value.now) held.old held.new }

@@ -4,9 +4,10 @@ ghost use Rattle.vm_types.specs.Places.{KeyFits, place};
 ghost use Rattle.vm_alloc.specs.Held.{free_count};
 ghost use Rattle.vm_tree.specs.Calls.{OnlyLooks, LooksIf, LooksIfDamaged, WritesFree};
 ghost use Rattle.vm_tree.specs.Free.{TakesAtMost};
+ghost use Rattle.vm_tree.specs.Making.{IsWide};
 ghost use Rattle.vm_tree.specs.Paths.{NamesLong, NamesPath, NamesPathUnder};
 ghost use Rattle.vm_tree.specs.Reading.{FindsEnd, FindsPath, FindsPathFrom, GivesRowsAmong};
-ghost use Rattle.vm_tree.specs.Removing.{IsWide, LeavesOut, LeavesRest, LeavesWide, LooksIfNothing, LooksIfSame, NarrowsTo, RemovesFrom, RemovesFromLeaf, RemovesUnder, child_of, level_of};
+ghost use Rattle.vm_tree.specs.Removing.{LeavesOut, LeavesRest, LeavesWide, LooksIfNothing, LooksIfSame, NarrowsTo, RemovesFrom, RemovesFromLeaf, RemovesUnder, child_of, level_of};
 ghost use Rattle.vm_tree.specs.Replacing.{KeepsAbove, long_of};
 ghost use Rattle.vm_tree.specs.Root.{AreSizes, sizes_of};
 

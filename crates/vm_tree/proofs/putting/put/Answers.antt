@@ -1,10 +1,11 @@
-use Rattle.std.proofs.Common.{◌≡◌, ◌∙◌, ℕ, List, [], ◌+◌, ◌≤◌, ◌<◌, Err, true, length, ap, sym, subst, refl, inl, inr, arith, rules}
+use Rattle.std.proofs.Common.{◌≡◌, ◌∙◌, ℕ, List, [], ◌+◌, ◌≤◌, ◌<◌, Err, true, length, take, ap, sym, subst, refl, inl, inr, arith, rules}
 use Rattle.std.specs.Prelude.{slice_set}
 use Rattle.std.specs.List.{AllByRecursion}
 use Rattle.std.proofs.lemmas.Bool.{false≢true, ltb-false, ltb-true}
 use Rattle.vm_types.specs.Map.{Map, with_value}
 use Rattle.vm_types.specs.Places.{place, with_record}
 use Rattle.vm_alloc.specs.Held.{IsHeld}
+use Rattle.vm_block.specs.Node.{node_bytes, node_head}
 use Rattle.vm_tree.specs.Answers.{LacksRoom}
 use Rattle.vm_tree.specs.Making.{Made, Splits, children_of, is_split}
 use Rattle.vm_tree.specs.Replacing.{IsHeldBeside, IsRenewed, Lacks, path_from, path_under}
@@ -13,6 +14,7 @@ use Rattle.vm_tree.specs.Root.{IsRootedIn, sizes_of}
 use Rattle.vm_tree.proofs.Looking.{looks_as, passed_on, writes_on}
 use Rattle.vm_tree.proofs.Descent.{subtree_top}
 use Rattle.vm_tree.proofs.PutLemmas.{not_split}
+use Rattle.vm_tree.proofs.RemoveLemmas.{two_children}
 use Rattle.vm_tree.proofs.Renewing.{lacks, path_bare, path_none, path_some, path_there, renewed_beside, replaces_whole, rooted_so}
 use Rattle.vm_tree.proofs.RootRemoval.{rooted_top, value_there}
 use Rattle.vm_tree.proofs.RootLemmas.{splits_lacks, root_one, root_two, device_puts, fault_puts}
@@ -154,3 +156,8 @@ put_first-requires-clause-short g c = omega (arith, c.requires.short)
 
 pub put_below-requires-clause-short : goal.put_below-requires-clause-short
 put_below-requires-clause-short g c = omega (arith, c.requires.short)
+
+pub returns-in_ok-top-in-Two-clause-wide : goal.returns-in_ok-top-in-Two-clause-wide
+unfolding node_bytes node_head
+returns-in_ok-top-in-Two-clause-wide g c higher honest up k cs node =
+    two_children {l = c.args.root.level + 1} {n = 2} (ap (take 16) (c.in_ok-top-in-Two.ensures.written honest)) (omega (arith, c.if-from.false, c.from.ensures, c.requires.sizes.levels_most)) (omega arith) (omega arith) (rw c.root_at-in-Two.ensures at node)

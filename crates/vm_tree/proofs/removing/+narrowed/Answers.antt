@@ -37,4 +37,5 @@ returns-then-way-eq1-clause-looks g t c = looks_on c.in_ok-way.ensures.looks c.n
 pub returns-else-way-eq1-clause-wide : goal.returns-else-way-eq1-clause-wide
 returns-else-way-eq1-clause-wide g t c honest up k cs node =
     let there = ap (λ (m : Medium). block m.contents c.args.top.block) (same_medium _ _ (c.in_ok-way.ensures.looks.reads honest)) ∙ sym (c.in_ok-way.ensures.found honest).bytes_are in
-    two_children c.in_ok-way.ensures.head (omega (arith, c.in_ok-way.ensures.within.0, c.if-way-eq1.false)) (ap (take 16) there) (rw c.root_at-else-way-eq1.ensures at node)
+    let head = c.in_ok-way.ensures.head in
+    two_children (ap (take 16) there ∙ head.begins) (omega (arith, head.low)) (omega (arith, c.in_ok-way.ensures.within.0, c.if-way-eq1.false)) (omega (arith, head.few)) (rw c.root_at-else-way-eq1.ensures at node)

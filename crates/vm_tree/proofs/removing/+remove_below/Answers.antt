@@ -367,4 +367,5 @@ returns-in_err-way-clause-writes g t c = looks_free c.in_err-way.ensures.looks (
 pub returns-in_ok-node-in-Rest-clause-wide : goal.returns-in_ok-node-in-Rest-clause-wide
 returns-in_ok-node-in-Rest-clause-wide g t c root honest up k cs node =
     let two : 1 < c.in_ok-way.way.count = elim c.if-is_root.branch [ then-is_root w ↦ omega (arith, c.in_ok-way.ensures.within.0, eqb-false c.in_ok-way.way.count 1 (sym w.alone-is ∙ c.if-alone.false)) | else-is_root w ↦ absurd (false≢true (sym w.if-is_root.false ∙ root)) ] in
-    two_children c.in_ok-way.ensures.head two (ap (take 16) (c.in_ok-node-in-Rest.ensures.written honest) ∙ c.set_child.ensures.head ∙ ap (take 16) c.at_hand.ensures) (rw c.root_at.ensures at node)
+    let head = c.in_ok-way.ensures.head in
+    two_children (ap (take 16) (c.in_ok-node-in-Rest.ensures.written honest) ∙ c.set_child.ensures.head ∙ ap (take 16) c.at_hand.ensures ∙ head.begins) (omega (arith, head.low)) two (omega (arith, head.few)) (rw c.root_at.ensures at node)

@@ -1,8 +1,7 @@
-use Rattle.std.proofs.Common.{◌≡◌, ◌-◌, ◌<◌, List, [], ◌∷◌, length, get_or, take, ap, sym, subst, refl, arith, rules}
+use Rattle.std.proofs.Common.{◌≡◌, ◌-◌, ◌<◌, List, [], ◌∷◌, length, get_or, take, ap, sym, subst, arith, rules}
 use Rattle.std.specs.List.{AllByRecursion}
 use Rattle.vm_disk.specs.Disk.{Medium}
 use Rattle.vm_disk.proofs.MomentLemmas.{same_medium}
-use Rattle.vm_block.specs.Head.{IsNodeHead}
 use Rattle.vm_block.specs.Node.{ChildFits, node_bytes, node_head}
 use Rattle.vm_block.specs.declared.node.Child.{Child}
 use Rattle.vm_tree.specs.Tree.{Children, Subtree}
@@ -62,5 +61,4 @@ unfolding node_bytes node_head
 returns-then-not-is_root-clause-wide g c root honest up k ds node =
     let cs = c.args.children.now in
     let two : 1 < length cs = elim c.then-not-is_root.branch [ then-not-is_root-via-then-not-is_root w ↦ search (rules, root, w.if-not-is_root.true) | then-not-is_root-via-else-not-is_root+then-children-gt1 w ↦ w.if-children-gt1.true ] in
-    let head : IsNodeHead (node_bytes c.args.level cs) c.args.level (length cs) = record { begins = refl; above = c.requires.above; low = c.requires.low; some = omega (arith, two); few = omega (arith, c.requires.few, c.requires.most) } in
-    two_children head two (ap (take 16) (c.in_ok-node.ensures.written honest)) (rw c.root_at.ensures at node)
+    two_children {l = c.args.level} {n = length cs} (ap (take 16) (c.in_ok-node.ensures.written honest)) (omega (arith, c.requires.low)) two (omega (arith, c.requires.few, c.requires.most)) (rw c.root_at.ensures at node)
