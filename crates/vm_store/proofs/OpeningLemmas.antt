@@ -1,5 +1,5 @@
 -- An opening: a sync, and reads that find a store or why there is none.
-use Rattle.std.proofs.Common.{◌≡◌, ◌≢◌, inl, inr, ⊎_elim, ℕ, ◌<◌, ◌≤◌, Bool, List, [], ◌∷◌, ◌++◌, length, replicate, false, Result, Ok, Err, OnOk, refl, sym, ap, ◌∙◌, subst, arith}
+use Rattle.std.proofs.Common.{◌≡◌, ◌≢◌, inl, inr, ⊎_elim, ℕ, ◌<◌, ◌≤◌, Bool, List, [], ◌∷◌, ◌++◌, length, replicate, false, Result, Ok, Err, refl, sym, ap, ◌∙◌, subst, arith}
 use Rattle.vm_types.specs.State.{State, opened}
 use Rattle.vm_types.specs.declared.refusal.Refusal.{Refusal}
 use Rattle.vm_types.specs.declared.refusal.Refusal.TheVariants as refusal
@@ -108,11 +108,6 @@ have_trees P x limit (v ∷ vs) (f ∷ fs) s =
     )
 have_trees P x limit [] (f ∷ fs) s = absurd s
 have_trees P x limit (v ∷ vs) [] s = absurd s
-
--- what the model of a disk says of a fact that holds anyway
-pub on_ok : {T E : Type 0} (r : Result T E) (A : Type 0) → A → OnOk r A
-on_ok (Ok x) A a = a
-on_ok (Err e) A a = tt
 
 module _ (m : Medium) (format : SlotFormat) (limit : ℕ) (slot_name : SlotName) (es : List Entry) (clean : IsClean m) (store : IsStore m.contents) (in_use : slot_name ≡ selected m.contents) (slot : SlotAt m.contents slot_name format limit es)
     (inside : limit ≤ length m.contents) where

@@ -8,7 +8,7 @@ use Rattle.vm_block.specs.Selector.{named_slot}
 use Rattle.vm_block.specs.declared.selector.SlotName.{SlotName}
 use Rattle.vm_catalog.specs.Catalog.{SlotAt}
 use Rattle.vm_catalog.specs.declared.reader.Slot.{Slot}
-use Rattle.vm_store.specs.Refused.{IsRefused, IsStore, IsSynced}
+use Rattle.vm_store.specs.Refused.{IsRefused, IsStore}
 use Rattle.vm_store.specs.Shown.{Shows, ShowsNothing}
 use Rattle.vm_alloc.specs.Held.{free_count}
 use Rattle.vm_store.specs.Resting.{Rests, spare_of}
@@ -29,10 +29,6 @@ IsTwice x pair = (pair.0 ≡ x) × (pair.1 ≡ x)
 
 -- what an opening finds on a disk that is honest after it
 module _ (old new : DiskState) where
-  -- unless the device failed, all is synced
-  abbrev pub SyncsUnlessDevice : {T : Type 0} → Result T Refusal → Type 0
-  SyncsUnlessDevice result = new.honest ≡ true → result ≢ Err Device → IsSynced old.now new.now
-
   -- there is a store, and this is the slot that its selector names
   abbrev pub FindsSlot : Result SlotName Refusal → Type 0
   FindsSlot result =

@@ -1,5 +1,5 @@
 -- Why an opening refuses what a disk holds.
-use Rattle.std.specs.Prelude.{◌≡◌, ◌⊎◌, ℕ, ◌<◌, ◌≤◌, true, List, Result, length, OnOk}
+use Rattle.std.specs.Prelude.{◌≡◌, ◌⊎◌, ℕ, ◌<◌, ◌≤◌, true, List, length}
 use Rattle.vm_types.specs.declared.sizes.TheConstants.{MIN_BLOCKS}
 use Rattle.vm_types.specs.declared.refusal.Refusal.{Refusal}
 use Rattle.vm_types.specs.declared.refusal.Refusal.TheVariants.{Device, Memory, Damaged, NotAStore, BadSize}
@@ -55,7 +55,7 @@ IsRefused x Device = Unit {0}
 IsRefused x Memory = Unit {0}
 IsRefused x refusal = ⊥
 
--- the contents are the same, and all is synced
+-- the contents are the same, and all is synced: no block is dirty, so all are sure
 pub record IsSynced (old new : Medium) : Type 0 where
   pub same : new.contents ≡ old.contents
   pub clean : IsClean new
@@ -68,6 +68,6 @@ IsAtMostSynced old m = (m ≡ old) ⊎ IsSynced old m
 abbrev pub SyncsAtMost : DiskState → DiskState → Type 0
 SyncsAtMost old new = new.honest ≡ true → Throughout old new (IsAtMostSynced old.now)
 
--- and where it was done, all is synced
-abbrev pub SyncsAll : {T E : Type 0} → Result T E → DiskState → DiskState → Type 0
-SyncsAll result old new = new.honest ≡ true → OnOk result (IsSynced old.now new.now)
+-- and at its end all is synced, unless it failed like this
+abbrev pub SyncsUnless : Type 0 → DiskState → DiskState → Type 0
+SyncsUnless Fails old new = new.honest ≡ true → (Fails → ⊥) → IsSynced old.now new.now

@@ -2,7 +2,7 @@
 ghost use Rattle.std.specs.Prelude.{◌≡◌, ◌⊎◌, ◌↔◌, ◌<◌, ◌≤◌, ◌^◌, true, IfErr, OnOk, IsErr, IsErrAnd};
 ghost use Rattle.vm_disk.specs.Disk.{Goes, block};
 ghost use Rattle.vm_store.specs.Formatting.{ComesBack, Formats, FormatsAtMost, FormatsLaidOut, HadHeader, IsOfFormat, LaysOut, ShowsAtMostLaidOut, LeavesStore, TellsHeader, IsBadSize, IsLaidOut, fresh_entry, given_back};
-ghost use Rattle.vm_store.specs.Refused.{SyncsAll, SyncsAtMost};
+ghost use Rattle.vm_store.specs.Refused.{SyncsAtMost, SyncsUnless};
 
 use vm_block::{Entry, Kind, SlotFormat, SlotName, is_header, write_header};
 use vm_catalog::{select_slot, write_slot};
@@ -30,7 +30,7 @@ fn has_header<D: Disk>(disk: &mut D) -> Result<bool, DeviceFault>
     requires { MIN_BLOCKS ≤ (D.state disk.old).blocks }
     ensures any { Goes (IsErr result) (D.state disk.old) (D.state disk.new) }
     ensures moments { SyncsAtMost (D.state disk.old) (D.state disk.new) }
-    ensures synced { SyncsAll result (D.state disk.old) (D.state disk.new) }
+    ensures synced { SyncsUnless (IsErr result) (D.state disk.old) (D.state disk.new) }
     ensures header { TellsHeader (D.state disk.old) (D.state disk.new) result }
 {
     let mut block = [0; 4096];

@@ -5,8 +5,8 @@ ghost use Rattle.vm_disk.specs.Moments.{OnlyReads};
 ghost use Rattle.vm_block.specs.Slot.{SlotFits};
 ghost use Rattle.vm_catalog.specs.Calls.{LoadsHeld};
 ghost use Rattle.vm_check.specs.Noted.{inner_of};
-ghost use Rattle.vm_store.specs.Refused.{SyncsAll, SyncsAtMost, IsRefused};
-ghost use Rattle.vm_store.specs.Opening.{FindsSlot, IsTwice, OpensAs, PartsHold, ReadsMaps, RefusesFor, RefusesMaps, RefusesNothing, RefusesSlot, SyncsUnlessDevice, disk_in};
+ghost use Rattle.vm_store.specs.Refused.{SyncsAtMost, SyncsUnless, IsRefused};
+ghost use Rattle.vm_store.specs.Opening.{FindsSlot, IsTwice, OpensAs, PartsHold, ReadsMaps, RefusesFor, RefusesMaps, RefusesNothing, RefusesSlot, disk_in};
 ghost use Rattle.vm_store.specs.Store.{has_failed};
 ghost use Rattle.vm_store.specs.Versions.{numbers_of, versions_of};
 
@@ -28,7 +28,7 @@ fn find_slot<D: Disk>(disk: &mut D) -> Result<SlotName, Refusal>
     ensures any { Goes (result ≡ Err Refusal.Device) (D.state disk.old) (D.state disk.new) }
     ensures room { OnOk result (MIN_BLOCKS ≤ (D.state disk.old).blocks) }
     ensures moments { SyncsAtMost (D.state disk.old) (D.state disk.new) }
-    ensures synced { SyncsUnlessDevice (D.state disk.old) (D.state disk.new) result }
+    ensures synced { SyncsUnless (result ≡ Err Refusal.Device) (D.state disk.old) (D.state disk.new) }
     ensures found { FindsSlot (D.state disk.old) (D.state disk.new) result }
     ensures refused { (D.state disk.new).honest ≡ true
         → IfErr result (IsRefused (D.state disk.old).now.contents) }
@@ -159,7 +159,7 @@ fn find_store<D: Disk>(alloc: Global, disk: &mut NotedDisk<D>) -> Result<Parts, 
     ensures any { Goes (result ≡ Err Refusal.Device) (D.state (inner_of disk.old)) (D.state (inner_of disk.new)) }
     ensures inside { IfOk result (λ parts. parts.blocks ≤ (D.state (inner_of disk.old)).blocks) }
     ensures moments { SyncsAtMost (D.state (inner_of disk.old)) (D.state (inner_of disk.new)) }
-    ensures synced { SyncsAll result (D.state (inner_of disk.old)) (D.state (inner_of disk.new)) }
+    ensures synced { SyncsUnless (result ≡ Err Refusal.Device) (D.state (inner_of disk.old)) (D.state (inner_of disk.new)) }
     ensures holds { (D.state (inner_of disk.new)).honest ≡ true
         → IfOk result (PartsHold (D.state (inner_of disk.new)).now) }
     ensures refused { (D.state (inner_of disk.new)).honest ≡ true
@@ -178,17 +178,19 @@ pub fn open<D: Disk>(alloc: Global, disk: D) -> Result<Store<D>, (D, Refusal)>
         (λ e. e.1 ≡ Refusal.Device)) (D.state disk) (D.state (disk_in result)) }
     ensures well { IfOk result (λ store. has_failed store ≡ false) }
 
-    // The store stands for the tree that is shown, and just the spare blocks are free, on a disk that is synced.
+    // The store stands for the tree that is shown, and just the spare blocks are free.
     ensures opened { (D.state (disk_in result)).honest ≡ true
         → IfOk result (OpensAs (D.state disk).now.contents) }
-    ensures synced { SyncsAll result (D.state disk) (D.state (disk_in result)) }
 
     // A refusal has its reason. But for the device and memory it comes exactly where nothing is shown.
     ensures refused { RefusesFor (D.state disk) (D.state (disk_in result)) result }
     ensures none { RefusesNothing (D.state disk) (D.state (disk_in result)) result }
 
-    // At each moment nothing has changed, or all is synced.
+    // At each moment nothing has changed, or all is synced. At the end all is, also where it refuses,
+    // unless the device failed.
     ensures moments { SyncsAtMost (D.state disk) (D.state (disk_in result)) }
+    ensures synced { SyncsUnless (IsErrAnd result
+        (λ e. e.1 ≡ Refusal.Device)) (D.state disk) (D.state (disk_in result)) }
 {
     let mut disk = NotedDisk::new(disk);
     match find_store(alloc, &mut disk) {

@@ -23,7 +23,7 @@ returns-in-Ok-counts-clause-told g c =
         goes = subst (λ d. Goes ⊥ old (g.D.Disk.state d)) (sym c.close-disk.ensures.disk) (goes_any _ _ _ c.in-Ok.ensures.any);
         counted = λ honest.
             let opens = c.in-Ok.ensures.opened (there honest) in
-            let synced = c.in-Ok.ensures.synced (there honest) in
+            let synced = c.in-Ok.ensures.synced (there honest) (λ e. e) in
             let said = is_ok _ c.count-counts.result _ c.in-Ok-counts.is (c.count-counts.ensures.counted c.in-Ok.ensures.well (opened opens.seen) opens.holds) in
             counted_shown g.D.Disk _ store synced.same opens counts said;
         moments = λ honest. subst (λ d. Throughout old (g.D.Disk.state d) (IsAtMostSynced old.now)) (sym c.close-disk.ensures.disk) (c.in-Ok.ensures.moments (there honest));

@@ -13,7 +13,7 @@ returns-in-Err-clause-moments g c honest = weaken _ _ _ _ (not_yet c.args.blocks
 pub returns-in_default-clause-moments : goal.returns-in_default-clause-moments
 returns-in_default-clause-moments g c honest =
     let old = (g.D.Disk.state c.args.disk.now).now in
-    let synced = c.in-Ok-false.ensures.synced (c.lay_out.ensures.any.earlier honest) in
+    let synced = c.in-Ok-false.ensures.synced (c.lay_out.ensures.any.earlier honest) (λ e. cc) in
     let none = not_true _ c.in-Ok-false.field-0-test (c.in-Ok-false.ensures.header (c.lay_out.ensures.any.earlier honest)) in
     let looked = weaken _ _ _ (IsFormatting c.args.blocks old) (not_yet c.args.blocks old) (c.has_header.ensures.moments (c.lay_out.ensures.any.earlier honest)) in
     let laid = weaken _ _ _ (IsFormatting c.args.blocks old) (λ m leaves. formatting c.args.blocks old m none leaves) (c.lay_out.ensures.moments honest synced.clean (none_synced _ _ synced none)) in
@@ -22,7 +22,7 @@ returns-in_default-clause-moments g c honest =
 pub returns-in-Ok-put_header-clause-moments : goal.returns-in-Ok-put_header-clause-moments
 returns-in-Ok-put_header-clause-moments g c honest =
     let old = (g.D.Disk.state c.args.disk.now).now in
-    let synced = c.in-Ok-false.ensures.synced (c.lay_out.ensures.any.earlier (c.put_header.ensures.any.earlier honest)) in
+    let synced = c.in-Ok-false.ensures.synced (c.lay_out.ensures.any.earlier (c.put_header.ensures.any.earlier honest)) (λ e. cc) in
     let none = not_true _ c.in-Ok-false.field-0-test (c.in-Ok-false.ensures.header (c.lay_out.ensures.any.earlier (c.put_header.ensures.any.earlier honest))) in
     let looked = weaken _ _ _ (IsFormatting c.args.blocks old) (not_yet c.args.blocks old) (c.has_header.ensures.moments (c.lay_out.ensures.any.earlier (c.put_header.ensures.any.earlier honest))) in
     let laid = weaken _ _ _ (IsFormatting c.args.blocks old) (λ m leaves. formatting c.args.blocks old m none leaves) (c.lay_out.ensures.moments (c.put_header.ensures.any.earlier honest) synced.clean (none_synced _ _ synced none)) in
@@ -32,7 +32,7 @@ returns-in-Ok-put_header-clause-moments g c honest =
 pub returns-in-Err-put_header-clause-moments : goal.returns-in-Err-put_header-clause-moments
 returns-in-Err-put_header-clause-moments g c honest =
     let old = (g.D.Disk.state c.args.disk.now).now in
-    let synced = c.in-Ok-false.ensures.synced (c.lay_out.ensures.any.earlier (c.put_header.ensures.any.earlier honest)) in
+    let synced = c.in-Ok-false.ensures.synced (c.lay_out.ensures.any.earlier (c.put_header.ensures.any.earlier honest)) (λ e. cc) in
     let none = not_true _ c.in-Ok-false.field-0-test (c.in-Ok-false.ensures.header (c.lay_out.ensures.any.earlier (c.put_header.ensures.any.earlier honest))) in
     let looked = weaken _ _ _ (IsFormatting c.args.blocks old) (not_yet c.args.blocks old) (c.has_header.ensures.moments (c.lay_out.ensures.any.earlier (c.put_header.ensures.any.earlier honest))) in
     let laid = weaken _ _ _ (IsFormatting c.args.blocks old) (λ m leaves. formatting c.args.blocks old m none leaves) (c.lay_out.ensures.moments (c.put_header.ensures.any.earlier honest) synced.clean (none_synced _ _ synced none)) in

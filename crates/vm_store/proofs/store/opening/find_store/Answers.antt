@@ -5,7 +5,7 @@ use Rattle.vm_block.specs.Selector.{named_slot}
 use Rattle.vm_catalog.specs.Catalog.{SlotAt}
 use Rattle.vm_tree.proofs.Looking.{passed_on}
 use Rattle.vm_store.specs.Refused.{IsStore, IsRefused}
-use Rattle.vm_store.proofs.OpeningLemmas.{settled_then, on_ok}
+use Rattle.vm_store.proofs.OpeningLemmas.{settled_then}
 use Rattle.vm_store.proofs.store.opening.find_store.Goals as goal
 
 pub returns-clause-moments : goal.returns-clause-moments
@@ -13,8 +13,8 @@ returns-clause-moments g c honest =
     then_reads _ _ _ _ (then_reads _ _ _ _ (c.find_slot.ensures.moments (c.load_slot.ensures.any.earlier (c.read_maps.ensures.any.earlier honest))) (c.load_slot.ensures.reads (c.read_maps.ensures.any.earlier honest))) (c.read_maps.ensures.reads honest)
 
 pub returns-clause-synced : goal.returns-clause-synced
-returns-clause-synced g c honest =
-    on_ok _ _ (settled_then _ _ _ (settled_then _ _ _ (c.in_ok-slot_name.ensures.synced (c.load_slot.ensures.any.earlier (c.read_maps.ensures.any.earlier honest)) (λ e. cc)) (c.load_slot.ensures.reads (c.read_maps.ensures.any.earlier honest))) (c.read_maps.ensures.reads honest))
+returns-clause-synced g c honest other =
+    settled_then _ _ _ (settled_then _ _ _ (c.in_ok-slot_name.ensures.synced (c.load_slot.ensures.any.earlier (c.read_maps.ensures.any.earlier honest)) (λ e. cc)) (c.load_slot.ensures.reads (c.read_maps.ensures.any.earlier honest))) (c.read_maps.ensures.reads honest)
 
 pub returns-clause-holds : goal.returns-clause-holds
 returns-clause-holds g c honest =
@@ -36,6 +36,10 @@ returns-clause-refused g c honest =
 pub returns-in_err-slot-clause-moments : goal.returns-in_err-slot-clause-moments
 returns-in_err-slot-clause-moments g c honest =
     then_reads _ _ _ _ (c.find_slot.ensures.moments (c.load_slot.ensures.any.earlier honest)) (c.load_slot.ensures.reads honest)
+
+pub returns-in_err-slot-clause-synced : goal.returns-in_err-slot-clause-synced
+returns-in_err-slot-clause-synced g c honest other =
+    settled_then _ _ _ (c.in_ok-slot_name.ensures.synced (c.in_err-slot.ensures.any.earlier honest) (λ e. cc)) (c.load_slot.ensures.reads honest)
 
 pub returns-in_err-slot-clause-refused : goal.returns-in_err-slot-clause-refused
 returns-in_err-slot-clause-refused g c honest =
