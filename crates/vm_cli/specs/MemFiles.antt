@@ -1,8 +1,9 @@
 -- What files in memory hold.
-use Rattle.std.specs.Prelude.{ℕ, option_map}
+use Rattle.std.specs.Prelude.{ℕ, List, IsSome, IsSomeAnd, length, option_map}
 use Rattle.std.specs.BTreeMap.{get_by_text}
 use Rattle.vm_disk.specs.Disk.{Contents, DiskState}
 use Rattle.vm_disk.specs.Memory.{memory_state}
+use Rattle.vm_disk.specs.Past.{noted}
 use Rattle.vm_cli.specs.Places.{PlaceState}
 use Rattle.vm_cli.specs.declared.program.mem_files.MemFiles.{MemFiles}
 use Rattle.vm_cli.specs.declared.program.mem_files.Slot.{Slot}
@@ -23,6 +24,18 @@ files_state place =
       files = λ name. option_map slot_contents (get_by_text place.slots name);
       came = λ name. option_map slot_state (get_by_text place.slots name);
     }
+
+-- how often they gave no disk
+abbrev pub times_denied : MemFiles → ℕ
+times_denied place = length (noted place.denied)
+
+-- how often they were asked for a disk that may be written
+abbrev pub asked_to_write : MemFiles → ℕ
+asked_to_write place = length (noted place.to_write)
+
+-- there is a file of this name, and its disk is in: it came back, and was not found since
+abbrev pub IsIn : List ℕ → MemFiles → Type 0
+IsIn name place = IsSomeAnd (get_by_text place.slots name) (λ slot. IsSome slot.disk)
 
 -- for how many blocks a disk that is made has room, where it has no more of its own
 abbrev pub room_given : MemFiles → ℕ

@@ -1,5 +1,5 @@
 //! Files in memory, found by name.
-ghost use Rattle.std.specs.Prelude.{◌≡◌, ℕ, true, List, None, IfSome, length, max, option_map};
+ghost use Rattle.std.specs.Prelude.{◌≡◌, ◌+◌, ℕ, true, List, None, IfSome, IsSome, max, option_map};
 ghost use Rattle.std.specs.Option.{ForSome};
 ghost use Rattle.vm_disk.specs.Memory.{memory_state, room_of};
 ghost use Rattle.vm_disk.specs.Past.{noted};
@@ -31,7 +31,7 @@ pub struct MemFiles {
 }
 
 impl MemFiles {
-    ghost use Rattle.vm_cli.specs.MemFiles.{files_state, room_given};
+    ghost use Rattle.vm_cli.specs.MemFiles.{IsIn, files_state, room_given};
     ghost use Rattle.vm_cli.specs.Places.{CreatesIn, FindsIn, WasHonest};
 
     /// No files. Disks that are made can't get longer.
@@ -94,6 +94,7 @@ impl MemFiles {
         ensures to_write { noted self.new.to_write ≡ noted self.old.to_write }
         ensures earlier { WasHonest (files_state self.old) (files_state self.new) }
         ensures honest { FindsIn files_state memory_state file.now result self.old self.new }
+        ensures there { IsIn file.now self.old → IsSome result }
     {
         let slot = self.slots.get_mut(file)?;
         let disk = slot.disk.take()?;
@@ -105,13 +106,14 @@ impl MemFiles {
 impl Place for MemFiles {
     type D = MemDisk;
 
-    ghost use Rattle.vm_cli.specs.MemFiles.{files_state};
+    ghost use Rattle.vm_cli.specs.MemFiles.{IsIn, asked_to_write, files_state, times_denied};
+    ghost use Rattle.vm_cli.specs.Places.{FindsIn, TakesBackIn, WasHonest};
 
     ghost state = { files_state };
 
-    ghost denied = { λ place. length (noted place.denied) };
+    ghost denied = { times_denied };
 
-    ghost to_write = { λ place. length (noted place.to_write) };
+    ghost to_write = { asked_to_write };
 
     fn create(&mut self, file: &str, blocks: u32) -> Option<MemDisk> {
         self.to_write.note(&());
@@ -122,12 +124,30 @@ impl Place for MemFiles {
         made
     }
 
-    fn find(&mut self, file: &str) -> Option<MemDisk> {
+    fn find(&mut self, file: &str) -> Option<MemDisk>
+        ensures none { result ≡ None → times_denied self.new ≡ times_denied self.old + 1 }
+        ensures some { IfSome result (λ disk. times_denied self.new ≡ times_denied self.old) }
+        ensures writes { asked_to_write self.new ≡ asked_to_write self.old + 1 }
+        ensures earlier { WasHonest (files_state self.old) (files_state self.new) }
+        ensures honest { FindsIn files_state memory_state file.now result self.old self.new }
+
+        // Where the disk is in, it is found.
+        ensures there { IsIn file.now self.old → IsSome result }
+    {
         self.to_write.note(&());
         self.look(file)
     }
 
-    fn look(&mut self, file: &str) -> Option<MemDisk> {
+    fn look(&mut self, file: &str) -> Option<MemDisk>
+        ensures none { result ≡ None → times_denied self.new ≡ times_denied self.old + 1 }
+        ensures some { IfSome result (λ disk. times_denied self.new ≡ times_denied self.old) }
+        ensures reads { asked_to_write self.new ≡ asked_to_write self.old }
+        ensures earlier { WasHonest (files_state self.old) (files_state self.new) }
+        ensures honest { FindsIn files_state memory_state file.now result self.old self.new }
+
+        // Where the disk is in, it is found.
+        ensures there { IsIn file.now self.old → IsSome result }
+    {
         let found = self.found(file);
         if found.is_none() {
             self.denied.note(&());
@@ -135,7 +155,15 @@ impl Place for MemFiles {
         found
     }
 
-    fn give_back(&mut self, file: &str, disk: MemDisk) {
+    fn give_back(&mut self, file: &str, disk: MemDisk)
+        ensures denied { times_denied self.new ≡ times_denied self.old }
+        ensures reads { asked_to_write self.new ≡ asked_to_write self.old }
+        ensures earlier { WasHonest (files_state self.old) (files_state self.new) }
+        ensures honest { TakesBackIn files_state memory_state file.now disk self.old self.new }
+
+        // It is in then.
+        ensures back { (files_state self.new).honest ≡ true → IsIn file.now self.new }
+    {
         match self.slots.get_mut(file) {
             Some(slot) => {
                 let held = Snapshot::of(&disk);

@@ -1,9 +1,21 @@
-use Rattle.std.proofs.Common.{◌≡◌, Some, refl, sym, ap, ◌∙◌, rules}
+use Rattle.std.proofs.Common.{◌≡◌, Option, IsSome, IsSomeAnd, subst, Some, refl, sym, ap, ◌∙◌, rules}
+use Rattle.std.proofs.lemmas.Bool.{false≢true}
 use Rattle.std.specs.BTreeMap.{get_by_text}
 use Rattle.std.specs.Option.{option_copied_mut}
 use Rattle.vm_disk.specs.Memory.{memory_state}
+use Rattle.vm_disk.specs.declared.memory.MemDisk.{MemDisk}
+use Rattle.vm_cli.specs.declared.program.mem_files.Slot.{Slot}
 use Rattle.vm_cli.proofs.MemFilesLemmas.{crash_keeps, finds}
 use Rattle.vm_cli.proofs.program.mem_files.MemFiles.found.Goals as goal
+
+pub returns-in_err-slot-clause-there : goal.returns-in_err-slot-clause-there
+returns-in_err-slot-clause-there c there =
+    absurd (subst (λ (s : Option Slot). IsSomeAnd s (λ slot. IsSome slot.disk)) (sym c.get_mut.ensures.value ∙ ap option_copied_mut c.in_err-slot.was) there)
+
+pub returns-in_err-disk-clause-there : goal.returns-in_err-disk-clause-there
+returns-in_err-disk-clause-there c there =
+    let slot = subst (λ (s : Option Slot). IsSomeAnd s (λ slot. IsSome slot.disk)) (sym c.get_mut.ensures.value ∙ ap option_copied_mut c.in_ok-slot.was) there in
+    absurd (false≢true (subst (λ (d : Option MemDisk). IsSome d) (sym c.take.ensures.value ∙ c.in_err-disk.was) slot))
 
 pub returns-in_err-disk-clause-honest : goal.returns-in_err-disk-clause-honest
 returns-in_err-disk-clause-honest c honest =
