@@ -6,6 +6,7 @@ pub mod FiledLemmas
 pub mod FirstLemmas
 pub mod ForgetLemmas
 pub mod FormattingLemmas
+pub mod EarliestLemmas
 pub mod FoundLemmas
 pub mod GrownLemmas
 pub mod GuardLemmas

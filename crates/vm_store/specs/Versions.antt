@@ -1,6 +1,7 @@
 -- Alternatives and checkpoints in memory: what a slot says of them, which belong to an alternative, what they are called, and
 -- other roots of them.
-use Rattle.std.specs.Prelude.{ℕ, Bool, ◌&&◌, ◌||◌, not, List, [], ◌∷◌, map, filter, Option, Some}
+use Rattle.std.specs.Prelude.{◌≡◌, ℕ, ◌<◌, Bool, true, ◌&&◌, ◌||◌, not, List, [], ◌∷◌, map, filter, length, slice_index_or, Option, Some}
+use Rattle.std.specs.List.{position_or_len}
 use Rattle.std.specs.Option.{option_eq}
 use Rattle.std.specs.Str.{bytes_eq}
 use Rattle.vm_block.specs.Slot.{is_alternative}
@@ -32,6 +33,11 @@ versions_of (e ∷ es) (r ∷ []) = []
 -- whether it is the alternative of this name
 abbrev pub is_alternative_of : List ℕ → Version → Bool
 is_alternative_of alt v = is_alternative v.kind && bytes_eq v.name alt
+
+-- the version at this place, if it is an alternative, is the first of its name
+abbrev pub IsEarliest : List Version → ℕ → Type 0
+IsEarliest versions at =
+    (alt : List ℕ) (d : Version) → at < length versions → is_alternative_of alt (slice_index_or versions at d) ≡ true → position_or_len (is_alternative_of alt) versions ≡ at
 
 -- whether it is a checkpoint of the alternative
 abbrev pub is_checkpoint_under : List ℕ → Version → Bool

@@ -6,7 +6,7 @@ ghost use Rattle.vm_types.specs.Name.{IsName};
 ghost use Rattle.vm_store.specs.Answers.{ChangesEntriesAlone};
 ghost use Rattle.vm_store.specs.Pairs.{IsPair, LacksPair};
 ghost use Rattle.vm_store.specs.Turns.{Turns};
-ghost use Rattle.vm_store.specs.Versions.{versions_of, slot_entries, is_alternative_of, is_checkpoint_of, is_child_of, is_apart, with_current, with_base, with_tops};
+ghost use Rattle.vm_store.specs.Versions.{versions_of, slot_entries, IsEarliest, is_alternative_of, is_checkpoint_of, is_child_of, is_apart, with_current, with_base, with_tops};
 
 mod alternatives;
 mod checkpoints;
@@ -21,27 +21,31 @@ use vm_tree::Root;
 use vm_types::{Answer, Command, MAX_VERSIONS, Name, Refusal};
 
 /// Alternatives and checkpoints, in order of creation. There is room for as many as a slot may have, so no
-/// call but `of_entries` takes memory.
+/// call but `of_entries` takes memory. An alternative is looked for first where one was used last.
 #[derive(Drop)]
 pub struct Versions {
     list: Vec<Version>,
+    recent: usize,
 }
 
 impl Model for Versions {
     ghost use Rattle.std.specs.Prelude.{◌≤◌, List, length, vec_capacity};
     ghost use Rattle.vm_types.specs.declared.sizes.TheConstants.{MAX_VERSIONS};
+    ghost use Rattle.vm_store.specs.Versions.{IsEarliest};
     ghost use Rattle.vm_store.specs.declared.version.Version.{Version};
 
     ghost Value = { List Version };
 
     ghost view = { λ a. a.list.items };
 
-    ghost invariant = { λ a. (length a.list.items ≤ MAX_VERSIONS) × (MAX_VERSIONS ≤ vec_capacity a.list) };
+    ghost invariant = { λ a. (length a.list.items ≤ MAX_VERSIONS) × (MAX_VERSIONS ≤ vec_capacity a.list)
+        × IsEarliest a.list.items a.recent };
 }
 
 /// Where the alternative of this name stands.
 fn position_of(versions: &[Version], alt: &Name) -> Option<usize>
     ensures found { IfSome result (IsFirst (is_alternative_of alt.now) versions.now) }
+    ensures earliest { IfSome result (IsEarliest versions.now) }
     ensures none { IfNone result (find (is_alternative_of alt.now) versions.now ≡ None) }
 {
     for (i, version) in versions.iter().enumerate() {
@@ -100,7 +104,7 @@ impl Versions {
     {
         let mut list = Vec::with_capacity(alloc, MAX_VERSIONS)?;
         add_versions(&mut list, entries, roots);
-        Ok(Versions { list })
+        Ok(Versions { list, recent: 0 })
     }
 
     /// Makes them the same as others.
@@ -108,6 +112,7 @@ impl Versions {
         ensures { self.new ≡ other.now }
     {
         self.list.clear();
+        self.recent = 0;
         let Ok(()) = self.list.extend_from_slice(&other.list) else {
             unreachable!();
         };
@@ -121,25 +126,37 @@ impl Versions {
         &self.list
     }
 
+    /// Where the alternative of this name stands.
+    fn position(&self, alt: &Name) -> Option<usize>
+        ensures found { IfSome result (IsFirst (is_alternative_of alt.now) self.now) }
+        ensures earliest { IfSome result (IsEarliest self.now) }
+        ensures none { IfNone result (find (is_alternative_of alt.now) self.now ≡ None) }
+    {
+        match self.list.get(self.recent) {
+            Some(version) if is_alternative_of(alt, version) => Some(self.recent),
+            _ => position_of(&self.list, alt),
+        }
+    }
+
     /// The alternative of this name, if it is there.
     pub fn alternative(&self, alt: &Name) -> Option<Version>
         ensures { result ≡ find (is_alternative_of alt.now) self.now }
     {
-        match position_of(&self.list, alt) {
+        match self.position(alt) {
             Some(i) => Some(self.list[i]),
             None => None,
         }
     }
 
     /// The current root of the alternative of this name, if it is there.
-    pub fn current_of(&self, alt: &Name) -> Option<Root>
-        ensures { result ≡ option_map (λ version. version.current)
-            (find (is_alternative_of alt.now) self.now) }
+    pub fn current_of(&mut self, alt: &Name) -> Option<Root>
+        ensures root { result ≡ option_map (λ version. version.current)
+            (find (is_alternative_of alt.now) self.old) }
+        ensures same { self.new ≡ self.old }
     {
-        match position_of(&self.list, alt) {
-            Some(i) => Some(self.list[i].current),
-            None => None,
-        }
+        let i = self.position(alt)?;
+        self.recent = i;
+        Some(self.list[i].current)
     }
 
     /// The checkpoint of this name of the alternative, if it is there.
@@ -176,7 +193,8 @@ impl Versions {
     pub fn set_current(&mut self, alt: &Name, current: Root)
         ensures { self.new ≡ change_first (is_alternative_of alt.now) (with_current current) self.old }
     {
-        if let Some(i) = position_of(&self.list, alt) {
+        if let Some(i) = self.position(alt) {
+            self.recent = i;
             self.list[i].current = current;
         }
     }
@@ -185,7 +203,8 @@ impl Versions {
     pub fn set_base(&mut self, alt: &Name, base: Root)
         ensures { self.new ≡ change_first (is_alternative_of alt.now) (with_base base) self.old }
     {
-        if let Some(i) = position_of(&self.list, alt) {
+        if let Some(i) = self.position(alt) {
+            self.recent = i;
             self.list[i].base = base;
         }
     }
@@ -194,7 +213,8 @@ impl Versions {
     fn set_roots(&mut self, alt: &Name, current: Root, base: Root)
         ensures { self.new ≡ change_first (is_alternative_of alt.now) (with_tops current base) self.old }
     {
-        if let Some(i) = position_of(&self.list, alt) {
+        if let Some(i) = self.position(alt) {
+            self.recent = i;
             self.list[i] = Version {
                 current,
                 base,
@@ -225,6 +245,7 @@ impl Versions {
     {
         let named = !version.name.as_bytes().is_empty();
         prove!(named);
+        self.recent = 0;
         let Ok(()) = self.list.extend_from_slice(&[version]) else {
             unreachable!();
         };
@@ -234,6 +255,7 @@ impl Versions {
     fn take_out(&mut self, alt: &Name)
         ensures { self.new ≡ filter (is_apart alt.now) self.old }
     {
+        self.recent = 0;
         self.list.retain(|v| is_apart(alt, v));
     }
 
@@ -242,6 +264,7 @@ impl Versions {
         ensures { self.new ≡ without_first (is_checkpoint_of alt.now name.now) self.old }
     {
         if let Some(i) = checkpoint_position(&self.list, alt, name) {
+            self.recent = 0;
             self.list.remove(i);
         }
     }

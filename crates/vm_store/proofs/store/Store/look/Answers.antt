@@ -28,27 +28,29 @@ rooted_as P x limit r q m same stands = subst (λ (root : Root). IsRootedIn size
 pub returns-in_default-clause-value : goal.returns-in_default-clause-value
 returns-in_default-clause-value g c honest well s holds =
     let rests = holds.rests in
-    inr (value_absent _ _ _ _ _ _ s rests c.args.alt.now c.args.key (root_absent _ c.in_default.ensures))
+    inr (value_absent _ _ _ _ _ _ s rests c.args.alt.now c.args.key (root_absent _ c.in_default.ensures.root))
 
 pub returns-clause-value : goal.returns-clause-value
 returns-clause-value g c honest well s holds =
     let rests = holds.rests in
-    let there = root_there _ c.in-Some.root c.in-Some.ensures in
+    let there = root_there _ c.in-Some.root c.in-Some.ensures.root in
     let found = found_entry _ _ _ _ _ _ s rests c.args.alt.now there.0 there.1 in
     let stands = rooted_as _ _ _ _ _ _ there.2 found.stands.current in
     inr (value_found _ _ _ _ _ _ s rests c.args.alt.now there.0 there.1 c.args.key _ (c.in_ok-get.ensures.value sizes honest found.filed.current stands.stands_in stands.rooted))
 
 pub returns-clause-state : goal.returns-clause-state
-returns-clause-state g c honest s holds = read_holds _ _ _ _ _ _ _ _ _ s (c.in_ok-get.ensures.looks.reads honest) holds
+returns-clause-state g c honest s holds =
+    rw c.current_of.ensures.same (read_holds _ _ _ _ _ _ _ _ _ s (c.in_ok-get.ensures.looks.reads honest) holds)
 
 pub returns-in_err-get-clause-value : goal.returns-in_err-get-clause-value
 returns-in_err-get-clause-value g c honest well s holds =
     let rests = holds.rests in
-    let there = root_there _ c.in-Some.root c.in-Some.ensures in
+    let there = root_there _ c.in-Some.root c.in-Some.ensures.root in
     let found = found_entry _ _ _ _ _ _ s rests c.args.alt.now there.0 there.1 in
     let stands = rooted_as _ _ _ _ _ _ there.2 found.stands.current in
     rw (passed_on _ c.from_residual.ensures.1)
     (inl (ap Err (ap refusal_of (c.in_err-get.ensures.value sizes honest found.filed.current stands.stands_in stands.rooted))))
 
 pub returns-in_err-get-clause-state : goal.returns-in_err-get-clause-state
-returns-in_err-get-clause-state g c honest s holds = read_holds _ _ _ _ _ _ _ _ _ s (c.in_err-get.ensures.looks.reads honest) holds
+returns-in_err-get-clause-state g c honest s holds =
+    rw c.current_of.ensures.same (read_holds _ _ _ _ _ _ _ _ _ s (c.in_err-get.ensures.looks.reads honest) holds)

@@ -6,8 +6,8 @@ use Rattle.vm_store.proofs.versions.Versions.set_current.Goals as goal
 
 pub returns-in-Some : goal.returns-in-Some
 returns-in-Some c =
-    rw (← c.self.view_is) (changed_at (is_alternative_of c.args.alt.now) (with_current c.args.current) _ _ c.in-Some.i c.index_mut.result.now c.deref.ensures.value c.in-Some.ensures.found c.index_mut.ensures.value)
+    rw (← c.self.view_is) (changed_at (is_alternative_of c.args.alt.now) (with_current c.args.current) _ _ c.in-Some.i c.index_mut.result.now (sym c.self.view_is) c.in-Some.ensures.found c.index_mut.ensures.value)
 
 pub returns-in_default : goal.returns-in_default
 returns-in_default c =
-    rw (← c.self.view_is, ← c.deref.ensures.value) (sym (change_first-none (is_alternative_of c.args.alt.now) (with_current c.args.current) _ c.in_default.ensures.none))
+    sym (change_first-none (is_alternative_of c.args.alt.now) (with_current c.args.current) _ c.in_default.ensures.none)

@@ -6,8 +6,8 @@ use Rattle.vm_store.proofs.versions.Versions.set_roots.Goals as goal
 
 pub returns-in-Some : goal.returns-in-Some
 returns-in-Some c =
-    rw (← c.self.view_is) (changed_at (is_alternative_of c.args.alt.now) (with_tops c.args.current c.args.base) _ _ c.in-Some.i c.index.result.now c.deref.ensures.value c.in-Some.ensures.found c.index.ensures)
+    rw (← c.self.view_is) (changed_at (is_alternative_of c.args.alt.now) (with_tops c.args.current c.args.base) _ _ c.in-Some.i c.index.result.now (sym c.self.view_is) c.in-Some.ensures.found c.index.ensures)
 
 pub returns-in_default : goal.returns-in_default
 returns-in_default c =
-    rw (← c.self.view_is, ← c.deref.ensures.value) (sym (change_first-none (is_alternative_of c.args.alt.now) (with_tops c.args.current c.args.base) _ c.in_default.ensures.none))
+    sym (change_first-none (is_alternative_of c.args.alt.now) (with_tops c.args.current c.args.base) _ c.in_default.ensures.none)
