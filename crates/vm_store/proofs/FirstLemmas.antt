@@ -1,18 +1,21 @@
--- What a command does that is refused before it takes or writes a block.
-use Rattle.std.proofs.Common.{◌≡◌, ◌⊎◌, inl, inr, Result, Ok, Err, subst, sym, refl}
+-- What a command does that is refused before it takes or writes a block, and what one takes that is refused later.
+use Rattle.std.proofs.Common.{◌≡◌, ◌⊎◌, inl, inr, ℕ, ◌≤◌, Bool, List, Result, Ok, Err, ap, arith, subst, sym, refl}
 use Rattle.vm_types.specs.declared.answer.Answer.{Answer}
 use Rattle.vm_types.specs.declared.answer.Answer.TheVariants.{Done}
 use Rattle.vm_types.specs.declared.refusal.Refusal.{Refusal}
 use Rattle.vm_types.specs.declared.refusal.Refusal.TheVariants.{Device}
+use Rattle.vm_types.specs.State.{State, blocks_a_change}
 use Rattle.vm_disk.specs.Moments.{OnlyReads}
 use Rattle.vm_disk.proofs.MomentLemmas.{reads_then, started}
+use Rattle.vm_alloc.specs.Held.{free_count}
 use Rattle.vm_tree.specs.Faults.{refusal_of, refusal_of_put}
+use Rattle.vm_tree.specs.Free.{TakesAtMost}
 use Rattle.vm_tree.specs.declared.faults.PutFault.{PutFault}
 use Rattle.vm_tree.specs.declared.faults.PutFault.TheVariants as put
 use Rattle.vm_tree.specs.declared.faults.TreeFault.{TreeFault}
 use Rattle.vm_tree.specs.declared.faults.TreeFault.TheVariants as fault
-use Rattle.vm_store.specs.Answers.{ComesFirst}
-use Rattle.vm_store.specs.Store.{FirstReads, ReadsAlone, disk_of}
+use Rattle.vm_store.specs.Answers.{ComesAfterMarking, ComesFirst, most_taken}
+use Rattle.vm_store.specs.Store.{FirstReads, Holds, IsHonest, ReadsAlone, TakesUpTo, disk_of, free_of, held_of}
 use Rattle.vm_store.specs.declared.store.Store.{Store}
 
 -- a fault in a tree comes later
@@ -23,6 +26,21 @@ late_fault (fault.Damaged b) first = first
 pub late_put : (f : PutFault) → ComesFirst (refusal_of_put f) → ⊥
 late_put (put.Tree f) first = late_fault f first
 late_put put.Deep first = first
+
+-- nor does one in a tree that is looked at come after a marking
+pub unmarked_fault : (f : TreeFault) → ComesAfterMarking (Err (refusal_of f)) → ⊥
+unmarked_fault fault.Device late = late
+unmarked_fault (fault.Damaged b) late = late
+
+-- a change that is refused for a fault takes no block, unless the device failed
+module _ (most : ℕ) (held later : List Bool) (taken : TakesAtMost most held later) where
+  pub fault_takes : (f : TreeFault) → ((b : ℕ) → f ≡ fault.Damaged b → later ≡ held) → TakesAtMost (most_taken most (Err (refusal_of f))) held later
+  fault_takes fault.Device damaged = taken
+  fault_takes (fault.Damaged b) damaged = omega (arith, ap free_count (damaged b refl))
+
+  pub put_takes : (f : PutFault) → ((b : ℕ) → f ≡ put.Tree (fault.Damaged b) → later ≡ held) → (f ≡ put.Deep → later ≡ held) → TakesAtMost (most_taken most (Err (refusal_of_put f))) held later
+  put_takes (put.Tree f) damaged deep = fault_takes f (λ b is. damaged b (ap put.Tree is))
+  put_takes put.Deep damaged deep = omega (arith, ap free_count (deep refl))
 
 module _ {D : Type 0} {members : _} where
   -- no device call was made
@@ -39,3 +57,9 @@ module _ {D : Type 0} {members : _} where
   pub done_or_device : (a : Result Answer Refusal) (old new : Store D members) → (a ≡ Ok Done) ⊎ (a ≡ Err Device) → FirstReads a old new
   done_or_device a old new (inl done) = subst (λ r. FirstReads r old new) (sym done) tt
   done_or_device a old new (inr device) = subst (λ r. FirstReads r old new) (sym device) (λ first. absurd first)
+
+  -- a change takes none that is refused where blocks are marked
+  pub takes_none : (most : ℕ) (r : Refusal) (old new : Store D members) → (blocks_a_change ≤ free_of old → held_of new ≡ held_of old) → (IsHonest new → (s : State) → Holds old s → r ≡ Device)
+      → TakesUpTo most (Err r) old new
+  takes_none most r old new same only =
+      (λ enough. omega (arith, ap free_count (same enough)), λ honest few late s holds. absurd (subst (λ r. ComesAfterMarking (Err r)) (only honest s holds) late))

@@ -90,7 +90,7 @@ module _ {D : Type 0} {members : _} where
       → ((members.state (disk_of new)).honest ≡ true → Holds old s → Throughout (members.state (disk_of old)) (members.state (disk_of new)) (Leaves (LeftBy Shows s c)))
       → ((members.state (disk_of new)).honest ≡ true → Holds old s → Throughout (members.state (disk_of old)) (members.state (disk_of new)) (IsGuarded (held_of new)))
       → ((members.state (disk_of new)).honest ≡ true → HasMarked c a → (holds : Holds old s) → free_of new ≡ spare_of holds.rests)
-      → ((members.state (disk_of new)).honest ≡ true → ReadsOnly c a old new) → KeepsFree c old new
+      → ((members.state (disk_of new)).honest ≡ true → ReadsOnly c a old new) → KeepsFree c a old new
       → ((blocks : ℕ) → c ≡ Grow blocks → Holds old s → OnOk a (free_of new ≡ free_of old + (blocks - s.blocks))) → CarriesOut old new s c a
   carried_out old new s c a answers goes as_long no_more untouched failed only_then memory same unchanged blocks holds crash guarded marked reads free grown = record {
     answers = answers;

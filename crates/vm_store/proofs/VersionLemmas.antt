@@ -9,7 +9,7 @@ use Rattle.vm_types.specs.declared.answer.Answer.TheVariants.{Done}
 use Rattle.vm_types.specs.declared.command.Command.{Command}
 use Rattle.vm_types.specs.declared.command.Command.TheVariants.{New, NewAt, Drop, Put, Remove, Checkpoint, Uncheck, Back, Merge, Post, Commit, Reclaim, Grow}
 use Rattle.vm_types.specs.declared.refusal.Refusal.{Refusal}
-use Rattle.vm_types.specs.declared.refusal.Refusal.TheVariants.{Device}
+use Rattle.vm_types.specs.declared.refusal.Refusal.TheVariants.{Device, Failed}
 use Rattle.vm_disk.specs.Disk.{Medium}
 use Rattle.vm_disk.proofs.MomentLemmas.{started, touches_nothing}
 use Rattle.vm_alloc.specs.Held.{IsHeld}
@@ -23,7 +23,7 @@ use Rattle.vm_store.specs.Resting.{Rests}
 use Rattle.vm_store.proofs.FirstLemmas.{unread}
 use Rattle.vm_store.proofs.RestingLemmas.{rests_on}
 use Rattle.vm_store.specs.Answers.{ChangesEntriesAlone, HasMarked}
-use Rattle.vm_store.specs.Store.{Answers, Holds, KeepsFree, ReadsOnly, disk_of}
+use Rattle.vm_store.specs.Store.{Answers, Holds, IsHonest, KeepsFree, ReadsOnly, disk_of, held_of}
 use Rattle.vm_store.specs.declared.store.Store.{Store}
 use Rattle.vm_store.specs.Turns.{StandFor, Turns}
 
@@ -109,22 +109,31 @@ entries_unmarked (Back alt name) a alone marked = marked
 entries_unmarked c a alone marked = absurd alone
 
 -- nothing is said of the free blocks of such a command
-pub entries_keep : {D : Type 0} {members : _} (c : Command) (old new : Store D members) → ChangesEntriesAlone c → KeepsFree c old new
-entries_keep (New name parent) old new alone = tt
-entries_keep (NewAt name parent checkpoint) old new alone = tt
-entries_keep (Drop alt) old new alone = tt
-entries_keep (Checkpoint alt name) old new alone = tt
-entries_keep (Uncheck alt name) old new alone = tt
-entries_keep (Back alt name) old new alone = tt
-entries_keep c old new alone = absurd alone
+pub entries_keep : {D : Type 0} {members : _} (c : Command) (a : Result Answer Refusal) (old new : Store D members) → ChangesEntriesAlone c → KeepsFree c a old new
+entries_keep (New name parent) a old new alone = tt
+entries_keep (NewAt name parent checkpoint) a old new alone = tt
+entries_keep (Drop alt) a old new alone = tt
+entries_keep (Checkpoint alt name) a old new alone = tt
+entries_keep (Uncheck alt name) a old new alone = tt
+entries_keep (Back alt name) a old new alone = tt
+entries_keep c a old new alone = absurd alone
 
--- a store that was left as it was has the same free blocks
-pub keeps_same : {D : Type 0} {members : _} (c : Command) (store : Store D members) → KeepsFree c store store
-keeps_same (Put alt key value) store = λ enough. omega arith
-keeps_same (Remove alt key) store = λ enough. omega arith
+-- a store that had failed takes no blocks
+pub keeps_same : {D : Type 0} {members : _} (c : Command) (store : Store D members) → KeepsFree c (Err Failed) store store
+keeps_same (Put alt key value) store = (λ enough. omega arith, λ honest few late. absurd late)
+keeps_same (Remove alt key) store = (λ enough. omega arith, λ honest few late. absurd late)
 keeps_same (Post alt) store = refl
 keeps_same Commit store = refl
 keeps_same c store = tt
+
+-- whether the store has failed says nothing of them
+module _ {D : Type 0} {members : _} (a : Result Answer Refusal) (old new other : Store D members) (honest : IsHonest other → IsHonest new) (held : held_of other ≡ held_of new) where
+  pub keeps_on : (c : Command) → KeepsFree c a old new → KeepsFree c a old other
+  keeps_on (Put alt key value) keeps = rw held (keeps.0, λ is. keeps.1 (honest is))
+  keeps_on (Remove alt key) keeps = rw held (keeps.0, λ is. keeps.1 (honest is))
+  keeps_on (Post alt) keeps = held ∙ keeps
+  keeps_on Commit keeps = held ∙ keeps
+  keeps_on c keeps = tt
 
 -- nor does it read
 pub entries_read : {D : Type 0} {members : _} (c : Command) (a : Result Answer Refusal) (old new : Store D members) → ChangesEntriesAlone c → disk_of new ≡ disk_of old → ReadsOnly c a old new

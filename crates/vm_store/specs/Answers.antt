@@ -91,6 +91,19 @@ TakesMemory (Merge alt settled) = Unit {0}
 TakesMemory (Grow blocks) = Unit {0}
 TakesMemory command = ⊥
 
+-- how many blocks a change takes at most that may take so many: none of them where it is refused, unless the device failed
+abbrev pub most_taken : ℕ → Result Answer Refusal → ℕ
+most_taken most (Ok answer) = most
+most_taken most (Err Device) = most
+most_taken most (Err refusal) = 0
+
+-- an answer to a change that comes after the marking, where one is needed: it was made, or refused for want of blocks or of room in its tree
+abbrev pub ComesAfterMarking : Result Answer Refusal → Type 0
+ComesAfterMarking (Ok answer) = Unit {0}
+ComesAfterMarking (Err Full) = Unit {0}
+ComesAfterMarking (Err Deep) = Unit {0}
+ComesAfterMarking (Err refusal) = ⊥
+
 -- blocks were marked, and none was taken then: a Reclaim was served, or a Put or a Remove was refused for want of blocks
 abbrev pub HasMarked : Command → Result Answer Refusal → Type 0
 HasMarked Reclaim answer = IsOk answer

@@ -54,8 +54,8 @@ module _ {D : Type 0} {members : _} where
     pub marked : IsHonest new → HasMarked command answer → (holds : Holds old s) → free_of new ≡ spare_of holds.rests
     -- a Post and a Reclaim only read, and so does each other command but a Grow that is refused before it takes a block
     pub reads : IsHonest new → ReadsOnly command answer old new
-    -- of the free blocks a Put or a Remove takes few, and a Post and a Commit take none
-    pub free : KeepsFree command old new
+    -- a Put takes 16 blocks at most, a Remove 8, and a Post and a Commit take none
+    pub free : KeepsFree command answer old new
     -- after a Grow the new blocks are free, too
     pub grown : (blocks : ℕ) → command ≡ Grow blocks → Holds old s → OnOk answer (free_of new ≡ free_of old + (blocks - s.blocks))
 

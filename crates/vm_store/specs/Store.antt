@@ -1,5 +1,5 @@
 -- A store, and the state that it stands for.
-use Rattle.std.specs.Prelude.{◌≡◌, ◌≢◌, ℕ, ◌+◌, ◌-◌, ◌≤◌, ◌⊎◌, Bool, true, false, List, Option, find, Result, Err, IfErr, OnOk}
+use Rattle.std.specs.Prelude.{◌≡◌, ◌≢◌, ℕ, ◌+◌, ◌-◌, ◌<◌, ◌≤◌, ◌⊎◌, Bool, true, false, List, Option, find, Result, Err, IfErr, OnOk}
 use Rattle.vm_types.specs.declared.answer.Answer.{Answer}
 use Rattle.vm_types.specs.declared.command.Command.{Command}
 use Rattle.vm_types.specs.declared.command.Command.TheVariants.{Commit, Grow, Merge, Post, Put, Reclaim, Remove}
@@ -12,7 +12,7 @@ use Rattle.vm_disk.specs.Disk.{Goes}
 use Rattle.vm_disk.specs.Moments.{Leaves, OnlyReads, Throughout}
 use Rattle.vm_alloc.specs.Held.{free_count}
 use Rattle.vm_check.specs.Noted.{inner_of}
-use Rattle.vm_store.specs.Answers.{ComesFirst, HasMarked, IsAnswer, IsDeep, IsEarly, IsGrowDue, IsMergeAnswer, merge_changes}
+use Rattle.vm_store.specs.Answers.{ComesAfterMarking, ComesFirst, HasMarked, IsAnswer, IsDeep, IsEarly, IsGrowDue, IsMergeAnswer, merge_changes, most_taken}
 use Rattle.vm_store.specs.Changing.{MeetsFullPath}
 use Rattle.vm_store.specs.Growing.{Grows}
 use Rattle.vm_store.specs.Guarded.{IsGuarded}
@@ -144,17 +144,20 @@ module _ {D : Type 0} {members : _} where
   abbrev pub MarksAll : Result Answer Refusal → (old new : Store D members) → Command → Type 0
   MarksAll answer old new command = HasMarked command answer → (s : State) (holds : Holds old s) → free_of new ≡ spare_of holds.rests
 
-  -- where enough blocks are free for a change, 16 of them are taken at most
-  abbrev pub TakesFew : (old new : Store D members) → Type 0
-  TakesFew old new = blocks_a_change ≤ free_of old → free_of old ≤ free_of new + 16
+  -- where enough blocks are free for a change, it takes so many of them at most, and none where it is refused, unless the device failed; where
+  -- too few are, blocks are marked first, and on an honest disk all that were spare but so many are free after it
+  abbrev pub TakesUpTo : ℕ → Result Answer Refusal → (old new : Store D members) → Type 0
+  TakesUpTo most answer old new =
+      (blocks_a_change ≤ free_of old → free_of old ≤ free_of new + most_taken most answer)
+      × (IsHonest new → free_of old < blocks_a_change → ComesAfterMarking answer → (s : State) (holds : Holds old s) → spare_of holds.rests ≤ free_of new + most_taken most answer)
 
-  -- of the free blocks a Put or a Remove takes so few, and a Post and a Commit take none
-  abbrev pub KeepsFree : Command → (old new : Store D members) → Type 0
-  KeepsFree (Put alt key value) old new = TakesFew old new
-  KeepsFree (Remove alt key) old new = TakesFew old new
-  KeepsFree (Post alt) old new = held_of new ≡ held_of old
-  KeepsFree Commit old new = held_of new ≡ held_of old
-  KeepsFree command old new = Unit {0}
+  -- a Put takes 16 blocks at most, a Remove 8, and a Post and a Commit take none
+  abbrev pub KeepsFree : Command → Result Answer Refusal → (old new : Store D members) → Type 0
+  KeepsFree (Put alt key value) answer old new = TakesUpTo 16 answer old new
+  KeepsFree (Remove alt key) answer old new = TakesUpTo 8 answer old new
+  KeepsFree (Post alt) answer old new = held_of new ≡ held_of old
+  KeepsFree Commit answer old new = held_of new ≡ held_of old
+  KeepsFree command answer old new = Unit {0}
 
   -- a command that is refused before it takes or writes a block only reads
   abbrev pub FirstReads : Result Answer Refusal → (old new : Store D members) → Type 0

@@ -10,7 +10,7 @@ ghost use Rattle.vm_disk.specs.Disk.{Goes, Idles, block};
 ghost use Rattle.vm_disk.specs.Moments.{Throughout, TouchesOnly};
 ghost use Rattle.vm_alloc.specs.Held.{HoldsMore, IsHeld, free_count};
 ghost use Rattle.vm_tree.specs.Answers.{LacksRoom, Puts, Removes};
-ghost use Rattle.vm_tree.specs.Calls.{LooksIf};
+ghost use Rattle.vm_tree.specs.Calls.{LooksIf, LooksIfDamaged, PutsIfDamaged};
 ghost use Rattle.vm_tree.specs.Free.{is_free};
 ghost use Rattle.vm_tree.specs.Replacing.{Lacks, long_of, path_under};
 ghost use Rattle.vm_tree.specs.Root.{IfWhole, IsRootedIn};
@@ -147,6 +147,8 @@ pub fn put_forgetting<D: Disk>(
         (D.state disk.old) (D.state disk.new) }
     ensures still { HoldsMore held.old held.new }
     ensures taken { free_count held.old ≤ free_count held.new + 16 }
+    ensures deep { result ≡ Err PutFault.Deep → held.new ≡ held.old }
+    ensures looks { PutsIfDamaged result held.old held.new (D.state disk.old) (D.state disk.new) }
     ensures block { IfOk result (λ r. r.block < length held.new) }
 
     // At no moment has a block that was held before other bytes, and where no root is answered, no held one has.
@@ -189,6 +191,7 @@ pub fn remove_forgetting<D: Disk>(
     ensures taken { free_count held.old ≤ free_count held.new + 8 }
     ensures kept { LooksIf (result ≡ Ok None) held.old held.new
         (D.state disk.old) (D.state disk.new) }
+    ensures looks { LooksIfDamaged result held.old held.new (D.state disk.old) (D.state disk.new) }
 
     // At no moment has a block that was held before other bytes, and where the device fails, no held one has.
     ensures moments { (D.state disk.new).honest ≡ true → HoldsMore (before_of (option_copied before.entry) held.old) held.old

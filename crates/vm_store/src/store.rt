@@ -64,7 +64,7 @@ pub struct Store<D: Disk> {
 }
 
 impl<D: Disk> Store<D> {
-    ghost use Rattle.vm_store.specs.Store.{disk_of, has_failed, entries_of, IsHonest, GoesOn, GrowsOn, IsAsLong, FromState, IsAnswered, StandsAfter, StaysGuarded, CrashLeaves, EarlyKeeps, EarlyLeavesDisk, LeavesBlocks, MarksAll, FirstReads, FullLeavesSpare, GrowsFree, GrowsNoMore, KeepsFree, ReadsOnly, TakesFew, ClosesWith};
+    ghost use Rattle.vm_store.specs.Store.{disk_of, has_failed, entries_of, IsHonest, GoesOn, GrowsOn, IsAsLong, FromState, IsAnswered, StandsAfter, StaysGuarded, CrashLeaves, EarlyKeeps, EarlyLeavesDisk, LeavesBlocks, MarksAll, FirstReads, FullLeavesSpare, GrowsFree, GrowsNoMore, KeepsFree, ReadsOnly, TakesUpTo, ClosesWith};
 
     /// Carries out one command. After an answer `Device` the store answers `Failed` to every call but
     /// `close`: close it, and open the disk again.
@@ -108,8 +108,9 @@ impl<D: Disk> Store<D> {
         // A Post and a Reclaim only read, and so does each command that is refused before it takes a block.
         ensures reads { IsHonest self.new → ReadsOnly command.now result self.old self.new }
 
-        // Of the free blocks a Put or a Remove takes 16 at most, where 17 are free, and a Post and a Commit none.
-        ensures free { KeepsFree command.now self.old self.new }
+        // A Put takes 16 blocks at most, a Remove 8, one that is refused none, unless the device failed, and a Post and
+        // a Commit none.
+        ensures free { KeepsFree command.now result self.old self.new }
 
         // After a Grow the new blocks are free, too.
         ensures grown { has_failed self.old ≡ false → GrowsFree result self.old self.new command.now }
@@ -145,7 +146,7 @@ impl<D: Disk> Store<D> {
         ensures marked { IsHonest self.new → has_failed self.old ≡ false
             → FullLeavesSpare result self.old self.new }
         ensures reads { IsHonest self.new → FirstReads result self.old self.new }
-        ensures free { TakesFew self.old self.new }
+        ensures free { TakesUpTo 16 result self.old self.new }
 
         // A crash at any moment leaves what was committed, for the slots are whole, clean and held.
         ensures crash { FromState self.old self.new

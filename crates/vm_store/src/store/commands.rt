@@ -36,7 +36,7 @@ impl<D: Disk> Store<D> {
         ensures carried { IsCarriedOut self.old self.new command.now result }
         ensures marked { IsHonest self.new → MarksAll result self.old self.new command.now }
         ensures reads { IsHonest self.new → ReadsOnly command.now result self.old self.new }
-        ensures free { KeepsFree command.now self.old self.new }
+        ensures free { KeepsFree command.now result self.old self.new }
         ensures grown { GrowsFree result self.old self.new command.now }
     {
         match command {

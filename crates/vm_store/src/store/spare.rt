@@ -1,5 +1,5 @@
 //! Blocks that no version needs: marked, and counted.
-ghost use Rattle.std.specs.Prelude.{◌≡◌, ◌≢◌, ◌↔◌, ◌≤◌, ◌*◌, true, false, ℕ, List, length, Ok, Err, OnOk, IfOk, IfErr, IsTrue};
+ghost use Rattle.std.specs.Prelude.{◌≡◌, ◌≢◌, ◌↔◌, ◌<◌, ◌≤◌, ◌*◌, true, false, ℕ, List, length, Ok, Err, OnOk, IfOk, IfErr, IsTrue};
 ghost use Rattle.vm_types.specs.State.{State, blocks_a_change};
 ghost use Rattle.vm_disk.specs.Disk.{Goes};
 ghost use Rattle.vm_disk.specs.Moments.{OnlyReads};
@@ -50,7 +50,7 @@ fn mark_versions<D: Disk>(
 }
 
 impl<D: Disk> Store<D> {
-    ghost use Rattle.vm_store.specs.Store.{has_failed, entries_of, root_of, Holds, free_of, IsHonest, GoesOn, ReadsAlone};
+    ghost use Rattle.vm_store.specs.Store.{has_failed, entries_of, root_of, Holds, free_of, IsHonest, GoesOn, ReadsAlone, SpareIsFree};
 
     /// How many blocks are not held. They are spare; each spare block is among them after an opening
     /// and after a Reclaim, and from then on each block that is written is taken from them.
@@ -117,6 +117,8 @@ impl<D: Disk> Store<D> {
             → IfOk result (λ yes. IsTrue yes ↔ (blocks_a_change * changes ≤ spare_of holds.rests)) }
         ensures marked { IsHonest self.new → (s : State) (holds : Holds self.old s)
             → IfOk result (λ yes. yes ≡ false → free_of self.new ≡ spare_of holds.rests) }
+        ensures exact { IsHonest self.new → free_of self.old < blocks_a_change * changes
+            → SpareIsFree result self.old self.new }
         ensures state { IsHonest self.new → (s : State) → Holds self.old s → Holds self.new s }
     {
         if self.has_free(changes) {

@@ -9,7 +9,7 @@ use vm_disk::Disk;
 use vm_types::{Answer, Command, Key, Name, Refusal};
 
 impl<D: Disk> Store<D> {
-    ghost use Rattle.vm_store.specs.Store.{has_failed, entries_of, Carries, Holds, IsHonest, GoesOn, EarlyKeeps, FirstReads, FullLeavesSpare, TakesFew};
+    ghost use Rattle.vm_store.specs.Store.{has_failed, entries_of, Carries, Holds, IsHonest, GoesOn, EarlyKeeps, FirstReads, FullLeavesSpare, TakesUpTo};
 
     /// Gives a record of the alternative a value. The blocks that the series took for the path as
     /// it was are forgotten.
@@ -27,7 +27,7 @@ impl<D: Disk> Store<D> {
         ensures unchanged { EarlyKeeps result self.old self.new }
         ensures marked { IsHonest self.new → FullLeavesSpare result self.old self.new }
         ensures reads { IsHonest self.new → FirstReads result self.old self.new }
-        ensures free { TakesFew self.old self.new }
+        ensures free { TakesUpTo 16 result self.old self.new }
         ensures carried { IsHonest self.new → (s : State) (holds : Holds self.old s)
             → Carries self.old self.new s holds (Command.Put alt.now key value.now) result }
     {

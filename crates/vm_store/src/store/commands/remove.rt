@@ -14,7 +14,7 @@ use vm_tree::has;
 use vm_types::{Answer, Key, Name, Refusal};
 
 impl<D: Disk> Store<D> {
-    ghost use Rattle.vm_store.specs.Store.{has_failed, entries_of, free_of, series_of, Carries, Holds, IsHonest, GoesOn, EarlyKeeps, FirstReads, FullLeavesSpare, TakesFew};
+    ghost use Rattle.vm_store.specs.Store.{has_failed, entries_of, free_of, series_of, Carries, Holds, IsHonest, GoesOn, EarlyKeeps, FirstReads, FullLeavesSpare, TakesUpTo};
 
     /// Takes a record out of the alternative. Where its series goes on and enough blocks are free,
     /// its path is gone down once.
@@ -27,7 +27,7 @@ impl<D: Disk> Store<D> {
         ensures unchanged { EarlyKeeps result self.old self.new }
         ensures marked { IsHonest self.new → FullLeavesSpare result self.old self.new }
         ensures reads { IsHonest self.new → FirstReads result self.old self.new }
-        ensures free { TakesFew self.old self.new }
+        ensures free { TakesUpTo 8 result self.old self.new }
         ensures carried { IsHonest self.new → (s : State) (holds : Holds self.old s)
             → Carries self.old self.new s holds (Remove alt.now key) result }
     {
@@ -57,7 +57,7 @@ impl<D: Disk> Store<D> {
         ensures unchanged { EarlyKeeps result self.old self.new }
         ensures marked { IsHonest self.new → FullLeavesSpare result self.old self.new }
         ensures reads { IsHonest self.new → FirstReads result self.old self.new }
-        ensures free { TakesFew self.old self.new }
+        ensures free { TakesUpTo 8 result self.old self.new }
         ensures carried { IsHonest self.new → (s : State) (holds : Holds self.old s)
             → Carries self.old self.new s holds (Remove alt.now key) result }
     {
@@ -97,7 +97,7 @@ impl<D: Disk> Store<D> {
         ensures failed { has_failed self.new ≡ has_failed self.old }
         ensures never { (result ≢ Err Refusal.Failed) × (result ≢ Err Refusal.Memory) × (result ≢ Err Refusal.Full) }
         ensures same { OnErr result (entries_of self.new ≡ entries_of self.old) }
-        ensures free { TakesFew self.old self.new }
+        ensures free { TakesUpTo 8 result self.old self.new }
         ensures early { IfErr result (λ refusal. IsEarly refusal → refusal ≡ missing) }
         ensures reads { IsHonest self.new → FirstReads result self.old self.new }
         ensures unchanged { EarlyKeeps result self.old self.new }

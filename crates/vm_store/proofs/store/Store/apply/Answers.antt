@@ -1,6 +1,6 @@
 use Rattle.std.proofs.Common.{refl}
 use Rattle.vm_store.proofs.RunLemmas.{answers_on}
-use Rattle.vm_store.proofs.VersionLemmas.{keeps_same, reads_none}
+use Rattle.vm_store.proofs.VersionLemmas.{keeps_on, keeps_same, reads_none}
 use Rattle.vm_store.proofs.store.Store.apply.Goals as goal
 
 pub returns-clause-guarded : goal.returns-clause-guarded
@@ -27,3 +27,6 @@ returns-then-self-clause-free g c = keeps_same c.args.command.now c.args.self.no
 
 pub returns-then-self-clause-reads : goal.returns-then-self-clause-reads
 returns-then-self-clause-reads g c honest = reads_none c.args.command.now _ c.args.self.now
+
+pub returns-clause-free : goal.returns-clause-free
+returns-clause-free g c = keeps_on _ c.args.self.now c.dispatch-answer.new.self _ (λ honest. honest) refl c.args.command.now c.dispatch-answer.ensures.free

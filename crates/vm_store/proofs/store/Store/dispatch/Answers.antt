@@ -52,28 +52,28 @@ pub returns-in_default-clause-marked : goal.returns-in_default-clause-marked
 returns-in_default-clause-marked g c honest is s holds = absurd (entries_unmarked c.args.command.now c.change_entries.result (search rules) is)
 
 pub returns-in-Put-clause-free : goal.returns-in-Put-clause-free
-returns-in-Put-clause-free g c = subst (λ command. KeepsFree command c.args.self.now c.put_value.new.self) (sym c.in-Put.is) c.put_value.ensures.free
+returns-in-Put-clause-free g c = subst (λ command. KeepsFree command c.put_value.result c.args.self.now c.put_value.new.self) (sym c.in-Put.is) c.put_value.ensures.free
 
 pub returns-in-Remove-clause-free : goal.returns-in-Remove-clause-free
-returns-in-Remove-clause-free g c = subst (λ command. KeepsFree command c.args.self.now c.remove.new.self) (sym c.in-Remove.is) c.remove.ensures.free
+returns-in-Remove-clause-free g c = subst (λ command. KeepsFree command c.remove.result c.args.self.now c.remove.new.self) (sym c.in-Remove.is) c.remove.ensures.free
 
 pub returns-in-Post-clause-free : goal.returns-in-Post-clause-free
-returns-in-Post-clause-free g c = subst (λ command. KeepsFree command c.args.self.now c.post.new.self) (sym c.in-Post.is) c.post.ensures.held
+returns-in-Post-clause-free g c = subst (λ command. KeepsFree command c.post.result c.args.self.now c.post.new.self) (sym c.in-Post.is) c.post.ensures.held
 
 pub returns-in-Commit-clause-free : goal.returns-in-Commit-clause-free
-returns-in-Commit-clause-free g c = subst (λ command. KeepsFree command c.args.self.now c.commit.new.self) (sym c.in-Commit.is) c.commit.ensures.held
+returns-in-Commit-clause-free g c = subst (λ command. KeepsFree command c.commit.result c.args.self.now c.commit.new.self) (sym c.in-Commit.is) c.commit.ensures.held
 
 pub returns-in-Merge-clause-free : goal.returns-in-Merge-clause-free
-returns-in-Merge-clause-free g c = subst (λ command. KeepsFree command c.args.self.now c.merge.new.self) (sym c.in-Merge.is) tt
+returns-in-Merge-clause-free g c = subst (λ command. KeepsFree command c.merge.result c.args.self.now c.merge.new.self) (sym c.in-Merge.is) tt
 
 pub returns-in-Reclaim-clause-free : goal.returns-in-Reclaim-clause-free
-returns-in-Reclaim-clause-free g c = subst (λ command. KeepsFree command c.args.self.now c.reclaim.new.self) (sym c.in-Reclaim.is) tt
+returns-in-Reclaim-clause-free g c = subst (λ command. KeepsFree command c.reclaim.result c.args.self.now c.reclaim.new.self) (sym c.in-Reclaim.is) tt
 
 pub returns-in-Grow-clause-free : goal.returns-in-Grow-clause-free
-returns-in-Grow-clause-free g c = subst (λ command. KeepsFree command c.args.self.now c.grow.new.self) (sym c.in-Grow.is) tt
+returns-in-Grow-clause-free g c = subst (λ command. KeepsFree command c.grow.result c.args.self.now c.grow.new.self) (sym c.in-Grow.is) tt
 
 pub returns-in_default-clause-free : goal.returns-in_default-clause-free
-returns-in_default-clause-free g c = entries_keep c.args.command.now _ _ (search rules)
+returns-in_default-clause-free g c = entries_keep c.args.command.now _ _ _ (search rules)
 
 pub returns-in-Put-clause-reads : goal.returns-in-Put-clause-reads
 returns-in-Put-clause-reads g c honest = subst (λ command. ReadsOnly command c.put_value.result c.args.self.now c.put_value.new.self) (sym c.in-Put.is) (c.put_value.ensures.reads honest)

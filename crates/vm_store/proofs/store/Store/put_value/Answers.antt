@@ -5,10 +5,10 @@ use Rattle.vm_disk.specs.Disk.{Medium}
 use Rattle.vm_disk.proofs.MomentLemmas.{at_end, same_medium, started}
 use Rattle.vm_tree.proofs.Looking.{passed_on}
 use Rattle.vm_store.specs.Answers.{LacksRoom}
-use Rattle.vm_store.specs.Store.{root_of}
+use Rattle.vm_store.specs.Store.{free_of, held_of, root_of}
 use Rattle.vm_store.specs.Versions.{is_alternative_of}
 use Rattle.vm_store.proofs.CarryLemmas.{changed, looked, stayed}
-use Rattle.vm_store.proofs.FirstLemmas.{late_put}
+use Rattle.vm_store.proofs.FirstLemmas.{late_put, put_takes, takes_none}
 use Rattle.vm_store.proofs.SpareTests.{room_for, full_for}
 use Rattle.vm_store.proofs.TopLemmas.{rooted_of, grown_of, lacks_under, lacks_over}
 use Rattle.vm_store.proofs.RestingLemmas.{found_entry, answers_absent, answers_full, answers_done, answers_fault, deep_here, here_deep}
@@ -97,3 +97,27 @@ returns-in_err-has_spare-clause-reads g c honest = rw (passed_on _ c.from_residu
 
 pub returns-in_err-root-clause-reads : goal.returns-in_err-root-clause-reads
 returns-in_err-root-clause-reads g c honest = rw (passed_on _ c.from_residual-in_err-root.ensures.1) (λ first. absurd (late_put c.in_err-root.field-0.0 first))
+
+pub returns-clause-free : goal.returns-clause-free
+returns-clause-free g c =
+    let taken = c.in_ok-root.ensures.taken in (
+      λ enough. omega (arith, ap free_of (c.has_spare.ensures.enough enough), taken),
+      λ honest few late s holds. omega (arith, c.in_ok-has_spare.ensures.exact (c.in_ok-root.ensures.any.earlier honest) few s holds, taken),
+    )
+
+pub returns-then-not-branch-clause-free : goal.returns-then-not-branch-clause-free
+returns-then-not-branch-clause-free g c =
+    (λ enough. omega (arith, ap free_of (c.has_spare.ensures.enough enough)), λ honest few late s holds. omega (arith, c.in_ok-has_spare.ensures.exact honest few s holds))
+
+pub returns-in_err-has_spare-clause-free : goal.returns-in_err-has_spare-clause-free
+returns-in_err-has_spare-clause-free g c =
+    rw (passed_on _ c.from_residual.ensures.1)
+    (takes_none 16 _ c.args.self.now c.has_spare.new.self (λ enough. ap held_of (c.has_spare.ensures.enough enough)) c.in_err-has_spare.ensures.only)
+
+pub returns-in_err-root-clause-free : goal.returns-in_err-root-clause-free
+returns-in_err-root-clause-free g c =
+    let taken = put_takes 16 _ _ c.in_err-root.ensures.taken c.in_err-root.field-0.0 (λ b is. (c.in_err-root.ensures.looks b).kept (ap Err is)) (λ is. c.in_err-root.ensures.deep (ap Err is)) in
+    rw (passed_on _ c.from_residual-in_err-root.ensures.1) (
+      λ enough. omega (arith, ap free_of (c.has_spare.ensures.enough enough), taken),
+      λ honest few late s holds. omega (arith, c.in_ok-has_spare.ensures.exact (c.in_err-root.ensures.any.earlier honest) few s holds, taken),
+    )

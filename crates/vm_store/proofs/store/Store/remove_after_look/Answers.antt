@@ -3,11 +3,12 @@ use Rattle.vm_types.specs.declared.command.Command.TheVariants.{Remove}
 use Rattle.vm_disk.proofs.MomentLemmas.{reads_then}
 use Rattle.vm_tree.proofs.Looking.{passed_on}
 use Rattle.vm_store.proofs.CarryLemmas.{looked, read_carried}
-use Rattle.vm_store.proofs.FirstLemmas.{first_then}
+use Rattle.vm_store.proofs.FirstLemmas.{first_then, takes_none, unmarked_fault}
 use Rattle.vm_store.proofs.MarkedLemmas.{free_at_most}
 use Rattle.vm_store.proofs.SpareTests.{room_for, full_for, no_fewer}
 use Rattle.vm_store.proofs.RestingLemmas.{found_entry, value_found}
 use Rattle.vm_store.specs.Sizes.{sizes}
+use Rattle.vm_store.specs.Store.{free_of, held_of}
 use Rattle.vm_store.proofs.Removing.{is_absent, is_there, removes_missing, removes_full, removes_device, removes_alike, spare_after, spare_free}
 use Rattle.vm_store.proofs.SeriesLemmas.{went_on, read_holds}
 use Rattle.vm_store.proofs.store.Store.remove_after_look.Goals as goal
@@ -95,3 +96,27 @@ pub returns-clause-reads : goal.returns-clause-reads
 returns-clause-reads g c honest =
     let marked = c.remove_in_series.ensures.any.earlier honest in
     first_then c.remove_in_series.result c.args.self.now c.has_spare.new.self c.remove_in_series.new.self (reads_then _ _ _ (c.in_ok-has.ensures.looks.reads (c.has_spare.ensures.any.earlier marked)) (c.has_spare.ensures.reads marked)) (c.remove_in_series.ensures.reads honest)
+
+pub returns-clause-free : goal.returns-clause-free
+returns-clause-free g c =
+    let taken = c.remove_in_series.ensures.free.0 (c.in_ok-has_spare.ensures.free (search rules)) in (
+      λ enough. omega (arith, ap free_of (c.has_spare.ensures.enough enough), taken),
+      λ honest few late s holds. let marked = c.remove_in_series.ensures.any.earlier honest in
+          omega (arith, spare_free _ _ _ _ _ _ _ _ _ s _ (c.in_ok-has.ensures.looks.reads (c.has_spare.ensures.any.earlier marked)) (c.in_ok-has_spare.ensures.exact marked few) holds, taken),
+    )
+
+pub returns-then-not-branch-2-clause-free : goal.returns-then-not-branch-2-clause-free
+returns-then-not-branch-2-clause-free g c = (
+  λ enough. omega (arith, ap free_of (c.has_spare.ensures.enough enough)),
+  λ honest few late s holds. omega (arith, spare_free _ _ _ _ _ _ _ _ _ s _ (c.in_ok-has.ensures.looks.reads (c.has_spare.ensures.any.earlier honest)) (c.in_ok-has_spare.ensures.exact honest few) holds),
+)
+
+pub returns-in_err-has_spare-clause-free : goal.returns-in_err-has_spare-clause-free
+returns-in_err-has_spare-clause-free g c =
+    rw (passed_on _ c.from_residual-in_err-has_spare.ensures.1)
+    (takes_none 8 _ c.args.self.now c.has_spare.new.self (λ enough. ap held_of (c.has_spare.ensures.enough enough))
+    (λ honest s holds. c.in_err-has_spare.ensures.only honest s (read_holds _ _ _ _ _ _ _ _ _ s (c.in_ok-has.ensures.looks.reads (c.in_err-has_spare.ensures.any.earlier honest)) holds)))
+
+pub returns-in_err-has-clause-free : goal.returns-in_err-has-clause-free
+returns-in_err-has-clause-free g c =
+    rw (passed_on _ c.from_residual.ensures.1) (λ enough. omega arith, λ honest few late. absurd (unmarked_fault c.in_err-has.field-0.0 late))

@@ -3,12 +3,13 @@ use Rattle.vm_types.specs.declared.command.Command.TheVariants.{Remove}
 use Rattle.vm_types.specs.declared.refusal.Refusal.{Refusal}
 use Rattle.vm_types.specs.declared.refusal.Refusal.TheVariants.{NoSuchRecord}
 use Rattle.vm_disk.proofs.MomentLemmas.{at_end, reads_keep, touches_nothing, started}
+use Rattle.vm_alloc.specs.Held.{free_count}
 use Rattle.vm_tree.specs.Free.{is_free}
 use Rattle.vm_tree.proofs.Looking.{passed_on}
 use Rattle.vm_store.specs.Answers.{IsAnswer}
 use Rattle.vm_store.specs.Resting.{before_of, spare_of}
 use Rattle.vm_store.proofs.CarryLemmas.{changed, wrote}
-use Rattle.vm_store.proofs.FirstLemmas.{late_fault}
+use Rattle.vm_store.proofs.FirstLemmas.{fault_takes, late_fault}
 use Rattle.vm_store.proofs.MarkedLemmas.{free_at_most}
 use Rattle.vm_store.proofs.Removing.{removes_missing, removes_done, removes_device, removed_root, removed_none, removed_there, some_value, for_reason}
 use Rattle.vm_store.proofs.RestingLemmas.{found_entry, value_found}
@@ -76,3 +77,15 @@ returns-in_default-clause-reads g c honest first = c.remove_forgetting.ensures.k
 
 pub returns-in_err-removed-clause-reads : goal.returns-in_err-removed-clause-reads
 returns-in_err-removed-clause-reads g c honest = rw (passed_on _ c.from_residual.ensures.1) (λ first. absurd (late_fault c.in_err-removed.field-0.0 first))
+
+pub returns-in_default-clause-free : goal.returns-in_default-clause-free
+returns-in_default-clause-free g c =
+    let same = c.remove_forgetting.ensures.kept.kept (c.in_ok-removed.was ∙ ap Ok c.in_default.is) in
+    (λ enough. omega (arith, ap free_count same), λ honest few. absurd (omega (arith, c.requires.room, few)))
+
+pub returns-in_err-removed-clause-free : goal.returns-in_err-removed-clause-free
+returns-in_err-removed-clause-free g c =
+    rw (passed_on _ c.from_residual.ensures.1) (
+      λ enough. fault_takes 8 _ _ c.in_err-removed.ensures.taken c.in_err-removed.field-0.0 (λ b is. (c.in_err-removed.ensures.looks b).kept (ap Err is)),
+      λ honest few. absurd (omega (arith, c.requires.room, few)),
+    )
