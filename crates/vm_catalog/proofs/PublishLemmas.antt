@@ -1,9 +1,10 @@
 -- How each moment of a publish follows from the one before it.
 use Rattle.std.proofs.Common.{◌≡◌, ◌≢◌, ◌⊎◌, inl, inr, ⊎_elim, ℕ, ◌+◌, ◌<◌, ◌≤◌, Bool, true, false, List, length, refl, sym, ap, ◌∙◌, subst, Result, Ok, Err, OnOk, arith}
 use Rattle.std.proofs.lemmas.Bool.{false≢true}
+use Rattle.std.proofs.lemmas.Bool.Decides.{nat_tests}
 use Rattle.vm_disk.specs.Disk.{Contents, block, Medium, MayLeave, IsClean, DiskState, Syncs}
 use Rattle.vm_disk.specs.Moments.{Throughout, TouchesOnly}
-use Rattle.vm_disk.proofs.MomentLemmas.{clean_sure}
+use Rattle.vm_disk.proofs.MomentLemmas.{at_end, clean_sure, goes_on, sync_touches, weaken}
 use Rattle.vm_disk.specs.declared.disk.DeviceFault.{DeviceFault}
 use Rattle.vm_block.specs.Header.{IsHeader}
 use Rattle.vm_block.specs.Selector.{named_slot, other_slot, selector_bytes}
@@ -12,8 +13,8 @@ use Rattle.vm_block.specs.declared.slot.Entry.{Entry}
 use Rattle.vm_block.specs.declared.slot.SlotFormat.{SlotFormat}
 use Rattle.vm_block.specs.declared.selector.SlotName.{SlotName}
 use Rattle.vm_block.specs.declared.selector.SlotName.TheVariants.{A, B}
-use Rattle.vm_catalog.specs.Place.{blocks_from, region, slot_at, selected, is_used}
-use Rattle.vm_catalog.specs.Written.{slot_blocks}
+use Rattle.vm_catalog.specs.Place.{blocks_from, region, slot_at, selected, is_turned, is_used}
+use Rattle.vm_catalog.specs.Written.{IsAsWritten, slot_blocks}
 use Rattle.vm_catalog.specs.Catalog.{SlotAt, Names, AtRest}
 use Rattle.vm_catalog.specs.Publishing.{IsPublished, PublishLeaves, IsTurning, IsSafelyPublishing}
 use Rattle.vm_catalog.proofs.SlotLaw.{written_slot}
@@ -62,6 +63,27 @@ touches_other old new n same touches =
 -- what a slot holds, under another of its names
 pub in_other_slot : (x : Contents) (n : ℕ) {blocks : List (List ℕ)} {one other : SlotName} → one ≡ other → blocks_from x (slot_at one) n ≡ blocks → blocks_from x (slot_at other) n ≡ blocks
 in_other_slot x n {blocks} same holds = let P : SlotName → Type 0 = λ b. blocks_from x (slot_at b) n ≡ blocks in subst P same holds
+
+-- a block that a publish leaves is none of the slot's
+left_out : (slot_name : SlotName) (count n : ℕ) → is_turned slot_name count n ≡ false → region (slot_at slot_name) (used_blocks count) n ≡ false
+left_out slot_name count n out = grind (arith, nat_tests)
+
+-- a call that touched the blocks of a slot alone, under another of its names, touched none but them and the selector
+pub touches_turned : (old new : DiskState) (count : ℕ) {one other : SlotName} → one ≡ other → Throughout old new (TouchesOnly (region (slot_at one) (used_blocks count)) old.now) → Throughout old new (TouchesOnly (is_turned other count) old.now)
+touches_turned old new count {one} {other} same touches =
+    weaken _ _ _ _ (λ m is. record { count = is.count; same = λ n out. is.same n (left_out other count n out); clean = λ n out. is.clean n (left_out other count n out); sure = is.sure }) (touches_other old new (used_blocks count) same touches)
+
+-- one sync more touches nothing more
+pub sync_on : {T : Type 0} (result : Result T DeviceFault) (touched : ℕ → Bool) (old mid new : DiskState) → Throughout old mid (TouchesOnly touched old.now) → Syncs result mid new → Throughout old new (TouchesOnly touched old.now)
+sync_on result touched old mid new so_far sync = goes_on _ _ _ _ so_far sync.time (sync_touches _ _ _ _ _ sync (at_end _ _ _ so_far))
+
+-- a slot was written, then the selector, and both have stayed so
+pub stays_written : {T : Type 0} (result : Result T DeviceFault) (written turned last : Contents) (slot_name : SlotName) (format : SlotFormat) (limit : ℕ) (es : List Entry) → blocks_from written (slot_at slot_name) (used_blocks (length es)) ≡ slot_blocks format limit es → ((n : ℕ) → n ≢ 1 → block turned n ≡ block written n) → block turned 1 ≡ selector_bytes slot_name → last ≡ turned → OnOk result (IsAsWritten last slot_name format limit es)
+stays_written (Ok x) written turned last slot_name format limit es slot others chosen same = record {
+  slot = ap (λ (y : Contents). blocks_from y (slot_at slot_name) (used_blocks (length es))) same ∙ blocks_same written turned (slot_at slot_name) (used_blocks (length es)) (λ n low high. others n (slot_high slot_name n low)) ∙ slot;
+  selector = ap (λ (y : Contents). block y 1) same ∙ chosen;
+}
+stays_written (Err e) written turned last slot_name format limit es slot others chosen same = tt
 
 -- from the entries in use, and others that a slot may have
 module _ (slot_name : SlotName) (old : Medium) (format : SlotFormat) (limit : ℕ) (es : List Entry) (new_format : SlotFormat) (new_limit : ℕ) (new : List Entry) (rest : AtRest slot_name old format limit es) (fits : SlotFits new_limit new) where

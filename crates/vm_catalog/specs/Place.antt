@@ -1,5 +1,5 @@
 -- Where the header, the selector and the two slots stand on a disk.
-use Rattle.std.specs.Prelude.{ℕ, zero, suc, ◌+◌, ◌&&◌, ◌||◌, nat_lt, nat_le, Bool, List, [], ◌∷◌}
+use Rattle.std.specs.Prelude.{ℕ, zero, suc, ◌+◌, ◌&&◌, ◌||◌, ◌==◌, nat_lt, nat_le, Bool, List, [], ◌∷◌}
 use Rattle.vm_disk.specs.Disk.{Contents, block}
 use Rattle.vm_block.specs.Selector.{named_slot}
 use Rattle.vm_block.specs.Slot.{used_blocks}
@@ -27,3 +27,7 @@ selected x = named_slot (block x 1)
 -- whether block n is the header, the selector, or a used block of this slot, which has so many entries
 abbrev pub is_used : SlotName → ℕ → ℕ → Bool
 is_used slot_name count n = nat_lt n 2 || region (slot_at slot_name) (used_blocks count) n
+
+-- whether block n is the selector, or a used block of this slot, which has so many entries
+abbrev pub is_turned : SlotName → ℕ → ℕ → Bool
+is_turned slot_name count n = n == 1 || region (slot_at slot_name) (used_blocks count) n

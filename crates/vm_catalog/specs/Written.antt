@@ -1,11 +1,16 @@
--- The blocks of a slot, as they are written.
-use Rattle.std.specs.Prelude.{ℕ, zero, suc, List, [], ◌∷◌, length, map, take, drop}
+-- The blocks of a slot, as they are written, and the selector.
+use Rattle.std.specs.Prelude.{◌≡◌, ℕ, zero, suc, true, List, [], ◌∷◌, length, map, take, drop, Result, OnOk}
 use Rattle.std.specs.List.{flat_map}
 use Rattle.vm_types.specs.declared.sizes.TheConstants.{BLOCK_SIZE}
+use Rattle.vm_disk.specs.Disk.{Contents, DiskState, block}
+use Rattle.vm_disk.specs.Moments.{Throughout, TouchesOnly}
 use Rattle.vm_block.specs.Padding.{padded}
+use Rattle.vm_block.specs.Selector.{selector_bytes}
 use Rattle.vm_block.specs.Slot.{head_bytes, entry_bytes, used_blocks}
+use Rattle.vm_block.specs.declared.selector.SlotName.{SlotName}
 use Rattle.vm_block.specs.declared.slot.Entry.{Entry}
 use Rattle.vm_block.specs.declared.slot.SlotFormat.{SlotFormat}
+use Rattle.vm_catalog.specs.Place.{blocks_from, is_turned, slot_at}
 
 -- pieces, one behind the other
 abbrev pub joined : List (List ℕ) → List ℕ
@@ -23,3 +28,16 @@ in_blocks (suc k) pieces = padded BLOCK_SIZE (joined (take 32 pieces)) ∷ in_bl
 -- the used blocks of a slot of this format with these entries, of a store of so many blocks
 unfoldable pub slot_blocks : SlotFormat → ℕ → List Entry → List (List ℕ)
 slot_blocks format limit es = in_blocks (used_blocks (length es)) (cells format limit es)
+
+-- byte by byte, the used blocks of this slot are those of this format and these entries, and the selector is the one that names it
+pub record IsAsWritten (x : Contents) (slot_name : SlotName) (format : SlotFormat) (limit : ℕ) (es : List Entry) : Type 0 where
+  pub slot : blocks_from x (slot_at slot_name) (used_blocks (length es)) ≡ slot_blocks format limit es
+  pub selector : block x 1 ≡ selector_bytes slot_name
+
+-- where it was done, this slot and the selector that names it are as they are written, byte by byte
+abbrev pub WritesBoth : {T E : Type 0} → Result T E → DiskState → SlotName → SlotFormat → ℕ → List Entry → Type 0
+WritesBoth result new slot_name format blocks es = new.honest ≡ true → OnOk result (IsAsWritten new.now.contents slot_name format blocks es)
+
+-- at no moment another block was touched than the selector and those that this slot uses for these entries
+abbrev pub TouchesBoth : DiskState → DiskState → SlotName → List Entry → Type 0
+TouchesBoth old new slot_name es = new.honest ≡ true → Throughout old new (TouchesOnly (is_turned slot_name (length es)) old.now)

@@ -2,9 +2,10 @@
 ghost use Rattle.std.specs.Prelude.{◌≡◌, ◌+◌, ◌*◌, ◌<◌, ◌≤◌, ◌++◌, [], length, take, drop, slice_index_or, IsErr};
 ghost use Rattle.vm_disk.specs.Disk.{Goes};
 ghost use Rattle.vm_block.specs.Padding.{padded};
+ghost use Rattle.vm_block.specs.Selector.{other_slot};
 ghost use Rattle.vm_block.specs.Slot.{used_blocks};
 ghost use Rattle.vm_catalog.specs.Calls.{CrashLeavesOne, Publishes, PublishesSafely, TouchesSlot, WritesSlot};
-ghost use Rattle.vm_catalog.specs.Written.{slot_blocks, cells, joined};
+ghost use Rattle.vm_catalog.specs.Written.{TouchesBoth, WritesBoth, slot_blocks, cells, joined};
 
 use crate::place::{first_block, used_blocks};
 use crate::selection::select_slot;
@@ -114,6 +115,11 @@ pub fn publish<D: Disk>(
 
     // So a crash at any moment leaves the old entries or the new, with their data blocks.
     ensures any_moment { CrashLeavesOne (D.state disk.old) (D.state disk.new) in_use format blocks entries.now }
+
+    // On any honest disk: at Ok the used blocks of the other slot, and the selector, are byte by byte as they are to be
+    // written, and at no moment another block is touched.
+    ensures written { WritesBoth result (D.state disk.new) (other_slot in_use) format blocks entries.now }
+    ensures touched { TouchesBoth (D.state disk.old) (D.state disk.new) (other_slot in_use) entries.now }
 {
     let free = in_use.other();
     write_slot(disk, free, format, blocks, entries)?;

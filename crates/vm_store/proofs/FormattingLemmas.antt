@@ -22,7 +22,8 @@ use Rattle.vm_block.specs.declared.slot.Entry.{Entry}
 use Rattle.vm_catalog.specs.Place.{selected, blocks_from, region}
 use Rattle.vm_catalog.specs.Written.{slot_blocks}
 use Rattle.vm_catalog.specs.Catalog.{SlotAt}
-use Rattle.vm_catalog.proofs.PublishLemmas.{slot_in, written_selector}
+use Rattle.vm_catalog.proofs.PlaceLemmas.{blocks_same}
+use Rattle.vm_catalog.proofs.PublishLemmas.{slot_in, stays_written, written_selector}
 use Rattle.vm_catalog.proofs.SlotLaw.{written_slot}
 use Rattle.vm_catalog.proofs.SlotOne.{slot_one}
 use Rattle.vm_store.specs.Sizes.{sizes}
@@ -136,6 +137,7 @@ formatted_now blocks (Ok y) old mid new laid keeps header inside sync =
         stands = (record { kind = refl; name = refl; owner = refl; current = empty x; base = empty x }, tt);
         gives = refl;
       };
+      written = record { slot = blocks_same old.contents x 2 1 (λ n low high. same n (λ (e : n ≡ 0). omega (arith, low))) ∙ laid.written.slot; selector = same 1 (λ (e : 1 ≡ 0). omega arith) ∙ laid.written.selector };
       clean = sync.synced;
     }
   where
@@ -151,12 +153,12 @@ laid_now blocks es (Ok y) written chosen new (Err e) u is fits slot ok writes sy
 laid_now blocks es (Ok y) written chosen new (Ok v) u is fits slot ok writes sync =
     let x = new.now.contents in
     let same : (n : ℕ) → n ≢ 1 → block x n ≡ block written.now.contents n = λ n other. ap (λ (x : Contents). block x n) sync.same ∙ writes.others n other in
-    let there : SlotAt written.now.contents A Two blocks (fresh_entry ∷ []) =
-    subst (λ (bs : List (List ℕ)). IsSlot bs Two blocks (fresh_entry ∷ []))
-    (sym (subst (λ (l : List Entry). blocks_from written.now.contents 2 (used_blocks (length l)) ≡ slot_blocks Two blocks l) is slot)) (written_slot Two blocks (fresh_entry ∷ []) fits) in
+    let laid = subst (λ (l : List Entry). blocks_from written.now.contents 2 (used_blocks (length l)) ≡ slot_blocks Two blocks l) is slot in
+    let there : SlotAt written.now.contents A Two blocks (fresh_entry ∷ []) = subst (λ (bs : List (List ℕ)). IsSlot bs Two blocks (fresh_entry ∷ [])) (sym laid) (written_slot Two blocks (fresh_entry ∷ []) fits) in
     record {
       selected = ap (λ b. named_slot b) (ap (λ (x : Contents). block x 1) sync.same ∙ writes.written) ∙ written_selector A;
       slot = slot_in written.now.contents x A Two blocks (fresh_entry ∷ []) (λ n low high. same n (λ (e : n ≡ 1). omega (arith, low))) there;
+      written = stays_written (Ok y) written.now.contents chosen.now.contents x A Two blocks (fresh_entry ∷ []) laid writes.others writes.written sync.same;
       clean = sync.synced;
     }
 

@@ -12,6 +12,7 @@ use Rattle.vm_block.specs.declared.slot.SlotFormat.TheVariants.{Two}
 use Rattle.vm_block.specs.declared.selector.SlotName.TheVariants.{A}
 use Rattle.vm_catalog.specs.Place.{selected}
 use Rattle.vm_catalog.specs.Catalog.{SlotAt}
+use Rattle.vm_catalog.specs.Written.{IsAsWritten}
 use Rattle.vm_store.specs.Refused.{IsAtMostSynced}
 use Rattle.vm_store.specs.Shown.{Shows, ShowsAtMostNew, new_store}
 
@@ -23,15 +24,17 @@ fresh_entry = record { kind = kind.Alternative; name = codes "top"; owner = None
 abbrev pub IsBadSize : ℕ → ℕ → Type 0
 IsBadSize blocks available = (blocks < MIN_BLOCKS) ⊎ ((MAX_BLOCKS < blocks) ⊎ (available < blocks))
 
--- the selector names slot A with the one entry of a new store of so many blocks, and all is synced
+-- the selector names slot A with the one entry of a new store of so many blocks, both as they are written, and all is synced
 pub record IsLaidOut (blocks : ℕ) (m : Medium) : Type 0 where
   pub selected : selected m.contents ≡ A
   pub slot : SlotAt m.contents A Two blocks (fresh_entry ∷ [])
+  pub written : IsAsWritten m.contents A Two blocks (fresh_entry ∷ [])
   pub clean : IsClean m
 
--- a new store of so many blocks is shown, and all is synced
+-- a new store of so many blocks is shown, slot A and the selector are as they are written, byte by byte, and all is synced
 pub record IsFormatted (blocks : ℕ) (m : Medium) : Type 0 where
   pub shown : Shows m.contents (new_store blocks)
+  pub written : IsAsWritten m.contents A Two blocks (fresh_entry ∷ [])
   pub clean : IsClean m
 
 -- nothing has changed but that it may be synced; or there was no header, and a crash shows at most a new store of so many blocks

@@ -2,7 +2,7 @@
 use Rattle.std.specs.Prelude.{◌≡◌, ◌≢◌, ◌↔◌, ◌≤◌, ℕ, ◌+◌, ◌-◌, true, false, List, [], ◌∷◌, ◌++◌, Result, Err, OnErr, OnOk, drop, length, take}
 use Rattle.vm_types.specs.declared.answer.Answer.{Answer}
 use Rattle.vm_types.specs.declared.command.Command.{Command}
-use Rattle.vm_types.specs.declared.command.Command.TheVariants.{Grow}
+use Rattle.vm_types.specs.declared.command.Command.TheVariants.{Commit, Grow}
 use Rattle.vm_types.specs.declared.refusal.Refusal.{Refusal}
 use Rattle.vm_types.specs.declared.refusal.Refusal.TheVariants.{Device, Failed, Memory}
 use Rattle.vm_types.specs.Isolation.{LeavesAlone}
@@ -14,7 +14,7 @@ use Rattle.vm_disk.specs.Moments.{Throughout}
 use Rattle.vm_store.specs.Answers.{ChangesEntriesAlone, HasMarked, IsGrow, TakesMemory}
 use Rattle.vm_store.specs.Guarded.{IsGuarded}
 use Rattle.vm_store.specs.Resting.{spare_of}
-use Rattle.vm_store.specs.Store.{Answers, CrashLeaves, EarlyKeeps, EarlyLeavesDisk, GrowsNoMore, GrowsOn, Holds, IsAsLong, IsHonest, KeepsFree, LeavesBlocks, ReadsOnly, StaysGuarded, disk_of, entries_of, free_of, has_failed, held_of}
+use Rattle.vm_store.specs.Store.{Answers, CrashLeaves, EarlyKeeps, EarlyLeavesDisk, GrowsNoMore, GrowsOn, Holds, IsAsLong, IsHonest, KeepsFree, LeavesBlocks, ReadsOnly, StaysGuarded, WritesCommit, disk_of, entries_of, free_of, has_failed, held_of}
 use Rattle.vm_store.specs.Shown.{Shows}
 use Rattle.vm_store.specs.declared.store.Store.{Store}
 
@@ -56,6 +56,8 @@ module _ {D : Type 0} {members : _} where
     pub reads : IsHonest new → ReadsOnly command answer old new
     -- a Put takes 16 blocks at most, a Remove 8, and a Post and a Commit take none
     pub free : KeepsFree command answer old new
+    -- a Commit writes the other slot, in format 2, and the selector, byte by byte, and no other block
+    pub written : command ≡ Commit → WritesCommit answer old new
     -- after a Grow the new blocks are free, too
     pub grown : (blocks : ℕ) → command ≡ Grow blocks → Holds old s → OnOk answer (free_of new ≡ free_of old + (blocks - s.blocks))
 

@@ -11,6 +11,9 @@ use Rattle.vm_types.specs.Tree.{current_of}
 use Rattle.vm_disk.specs.Disk.{Goes}
 use Rattle.vm_disk.specs.Moments.{Leaves, OnlyReads, Throughout}
 use Rattle.vm_alloc.specs.Held.{free_count}
+use Rattle.vm_block.specs.Selector.{other_slot}
+use Rattle.vm_block.specs.declared.slot.SlotFormat.TheVariants.{Two}
+use Rattle.vm_catalog.specs.Written.{TouchesBoth, WritesBoth}
 use Rattle.vm_check.specs.Noted.{inner_of}
 use Rattle.vm_store.specs.Answers.{ComesAfterMarking, ComesFirst, HasMarked, IsAnswer, IsDeep, IsEarly, IsGrowDue, IsMergeAnswer, merge_changes, most_taken}
 use Rattle.vm_store.specs.Changing.{MeetsFullPath}
@@ -19,7 +22,7 @@ use Rattle.vm_store.specs.Guarded.{IsGuarded}
 use Rattle.vm_store.specs.Resting.{HoldsWith, spare_of}
 use Rattle.vm_store.specs.Roots.{current_root}
 use Rattle.vm_store.specs.Shown.{Shows}
-use Rattle.vm_store.specs.Versions.{is_alternative_of}
+use Rattle.vm_store.specs.Versions.{is_alternative_of, slot_entries}
 use Rattle.vm_store.specs.declared.store.Store.{Store}
 use Rattle.vm_store.specs.declared.version.Version.{Version}
 
@@ -158,6 +161,13 @@ module _ {D : Type 0} {members : _} where
   KeepsFree (Post alt) answer old new = held_of new ≡ held_of old
   KeepsFree Commit answer old new = held_of new ≡ held_of old
   KeepsFree command answer old new = Unit {0}
+
+  -- a Commit that is done has written, byte by byte, the working entries into the slot that was not in use, in format 2 and with the
+  -- store's number of blocks, and the selector that names this slot; and at no moment it touches another block
+  abbrev pub WritesCommit : Result Answer Refusal → (old new : Store D members) → Type 0
+  WritesCommit answer old new =
+      WritesBoth answer (members.state (disk_of new)) (other_slot old.slot_name) Two old.blocks (slot_entries old.working)
+      × TouchesBoth (members.state (disk_of old)) (members.state (disk_of new)) (other_slot old.slot_name) (slot_entries old.working)
 
   -- a command that is refused before it takes or writes a block only reads
   abbrev pub FirstReads : Result Answer Refusal → (old new : Store D members) → Type 0

@@ -64,7 +64,7 @@ pub struct Store<D: Disk> {
 }
 
 impl<D: Disk> Store<D> {
-    ghost use Rattle.vm_store.specs.Store.{disk_of, has_failed, entries_of, IsHonest, GoesOn, GrowsOn, IsAsLong, FromState, IsAnswered, StandsAfter, StaysGuarded, CrashLeaves, EarlyKeeps, EarlyLeavesDisk, LeavesBlocks, MarksAll, FirstReads, FullLeavesSpare, GrowsFree, GrowsNoMore, KeepsFree, ReadsOnly, TakesUpTo, ClosesWith};
+    ghost use Rattle.vm_store.specs.Store.{disk_of, has_failed, entries_of, IsHonest, GoesOn, GrowsOn, IsAsLong, FromState, IsAnswered, StandsAfter, StaysGuarded, CrashLeaves, EarlyKeeps, EarlyLeavesDisk, LeavesBlocks, MarksAll, FirstReads, FullLeavesSpare, GrowsFree, GrowsNoMore, KeepsFree, ReadsOnly, TakesUpTo, WritesCommit, ClosesWith};
 
     /// Carries out one command. After an answer `Device` the store answers `Failed` to every call but
     /// `close`: close it, and open the disk again.
@@ -111,6 +111,11 @@ impl<D: Disk> Store<D> {
         // A Put takes 16 blocks at most, a Remove 8, one that is refused none, unless the device failed, and a Post and
         // a Commit none.
         ensures free { KeepsFree command.now result self.old self.new }
+
+        // A Commit writes the other slot, in format 2, and the selector, byte by byte, and no other block; also where
+        // nothing has changed.
+        ensures written { has_failed self.old ≡ false → command.now ≡ Command.Commit
+            → WritesCommit result self.old self.new }
 
         // After a Grow the new blocks are free, too.
         ensures grown { has_failed self.old ≡ false → GrowsFree result self.old self.new command.now }

@@ -20,7 +20,7 @@ use vm_disk::Disk;
 use vm_types::{Answer, Command, Refusal};
 
 impl<D: Disk> Store<D> {
-    ghost use Rattle.vm_store.specs.Store.{entries_of, IsHonest, GrowsOn, IsAsLong, EarlyKeeps, EarlyLeavesDisk, LeavesBlocks, IsCarriedOut, MarksAll, GrowsFree, GrowsNoMore, KeepsFree, ReadsOnly};
+    ghost use Rattle.vm_store.specs.Store.{entries_of, IsHonest, GrowsOn, IsAsLong, EarlyKeeps, EarlyLeavesDisk, LeavesBlocks, IsCarriedOut, MarksAll, GrowsFree, GrowsNoMore, KeepsFree, ReadsOnly, WritesCommit};
 
     /// Carries out one command, and leaves it to `apply` to note that the device failed.
     pub(super) fn dispatch(&mut self, command: &Command) -> Result<Answer, Refusal>
@@ -37,6 +37,7 @@ impl<D: Disk> Store<D> {
         ensures marked { IsHonest self.new → MarksAll result self.old self.new command.now }
         ensures reads { IsHonest self.new → ReadsOnly command.now result self.old self.new }
         ensures free { KeepsFree command.now result self.old self.new }
+        ensures written { command.now ≡ Command.Commit → WritesCommit result self.old self.new }
         ensures grown { GrowsFree result self.old self.new command.now }
     {
         match command {

@@ -9,7 +9,7 @@ use vm_disk::Disk;
 use vm_types::{Answer, Command, Refusal};
 
 impl<D: Disk> Store<D> {
-    ghost use Rattle.vm_store.specs.Store.{has_failed, entries_of, held_of, IsCarriedOut, GoesOn};
+    ghost use Rattle.vm_store.specs.Store.{has_failed, entries_of, held_of, IsCarriedOut, GoesOn, WritesCommit};
 
     /// Makes the working entries the committed ones.
     #[inline(never)]
@@ -19,6 +19,7 @@ impl<D: Disk> Store<D> {
         ensures result { (result ≡ Ok Answer.Done) ⊎ (result ≡ Err Refusal.Device) }
         ensures same { OnErr result (entries_of self.new ≡ entries_of self.old) }
         ensures held { held_of self.new ≡ held_of self.old }
+        ensures written { WritesCommit result self.old self.new }
         ensures carried { IsCarriedOut self.old self.new Command.Commit result }
     {
         write_entries(&mut self.entries, self.working.as_slice());

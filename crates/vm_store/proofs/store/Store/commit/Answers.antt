@@ -32,3 +32,13 @@ returns-in-Err-clause-carried g c honest s holds =
       crash = weaken _ _ _ _ (λ m leaves left may. lent_left _ _ _ _ _ _ s rests _ is left (leaves left may)) (c.in-Err.ensures.any_moment honest _ _ _ rests.rest (subst (SlotFits c.args.self.now.blocks) (sym is) rests.fits));
       guarded = weaken _ _ _ _ (λ m publishing. lent_guarded _ _ _ _ _ _ s rests _ is m publishing) (c.in-Err.ensures.moments honest _ _ _ rests.rest (subst (SlotFits c.args.self.now.blocks) (sym is) rests.fits));
     }
+
+pub returns-in-Ok-clause-written : goal.returns-in-Ok-clause-written
+returns-in-Ok-clause-written g c =
+    let is = c.deref.ensures.value ∙ c.write_entries.ensures.items ∙ ap slot_entries c.as_slice.ensures.items in
+    rw (← is) (c.in-Ok.ensures.written, c.in-Ok.ensures.touched)
+
+pub returns-in-Err-clause-written : goal.returns-in-Err-clause-written
+returns-in-Err-clause-written g c =
+    let is = c.deref.ensures.value ∙ c.write_entries.ensures.items ∙ ap slot_entries c.as_slice.ensures.items in
+    rw (← is) (c.in-Err.ensures.written, c.in-Err.ensures.touched)
