@@ -6,16 +6,19 @@ use Rattle.vm_disk.specs.Moments.{Throughout, TouchesOnly}
 use Rattle.vm_disk.proofs.MomentLemmas.{at_end, goes_on}
 use Rattle.vm_alloc.specs.Marks.{IsMarked, is_marked}
 use Rattle.vm_tree.specs.Answers.{Puts}
+use Rattle.vm_tree.specs.Unsynced.{NeverSyncs}
 use Rattle.vm_tree.specs.Free.{is_free}
 use Rattle.vm_tree.specs.Replacing.{Lacks}
 use Rattle.vm_tree.specs.declared.faults.PutFault.{PutFault}
 use Rattle.vm_tree.specs.declared.faults.PutFault.TheVariants.{Tree, Deep}
 use Rattle.vm_tree.specs.declared.faults.TreeFault.TheVariants.{Device, Damaged}
+use Rattle.vm_tree.proofs.Touching.{dirtied, unsynced_then}
 
 -- of these blocks those were forgotten that were not held before
 pub record HasForgotten (before : List Bool) (blocks : List ℕ) (old new : DiskState) : Type 0 where
   pub idles : Idles old new
   pub moments : new.honest ≡ true → Throughout old new (TouchesOnly (is_free before) old.now)
+  pub unsynced : new.honest ≡ true → NeverSyncs old new
   pub others : new.honest ≡ true → (n : ℕ) → Lacks n blocks → block new.now.contents n ≡ block old.now.contents n
 
 -- a block that is one of others is lacked by none that lacks it
@@ -55,6 +58,7 @@ forgotten_more before blocks i told old mid new inside tells is so_far idles for
             clean = λ k out clean. now.others_dirty k (other k out) ∙ spares.clean k out clean;
             sure = omega (arith, now.sure, spares.sure);
           });
+      unsynced = λ honest. let now = forgets honest in unsynced_then _ _ _ (so_far.unsynced (idles.earlier honest)) (dirtied n _ _ now.time now.dirty now.count now.others_dirty now.sure);
       others = λ honest k lacks. (forgets honest).others k (apart_at k blocks i inside lacks) ∙ so_far.others (idles.earlier honest) k lacks;
     }
 

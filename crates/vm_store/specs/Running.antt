@@ -14,7 +14,7 @@ use Rattle.vm_disk.specs.Moments.{Throughout}
 use Rattle.vm_store.specs.Answers.{ChangesEntriesAlone, HasMarked, IsGrow, TakesMemory}
 use Rattle.vm_store.specs.Guarded.{IsGuarded}
 use Rattle.vm_store.specs.Resting.{spare_of}
-use Rattle.vm_store.specs.Store.{Answers, CrashLeaves, EarlyKeeps, EarlyLeavesDisk, GrowsNoMore, GrowsOn, Holds, IsAsLong, IsHonest, KeepsFree, LeavesBlocks, ReadsOnly, StaysGuarded, WritesCommit, disk_of, entries_of, free_of, has_failed, held_of}
+use Rattle.vm_store.specs.Store.{Answers, CrashLeaves, EarlyKeeps, EarlyLeavesDisk, GrowsNoMore, GrowsOn, Holds, IsAsLong, IsHonest, KeepsFree, LeavesBlocks, ReadsOnly, StaysGuarded, WritesCommit, StaysUnsynced, disk_of, entries_of, free_of, has_failed, held_of}
 use Rattle.vm_store.specs.Shown.{Shows}
 use Rattle.vm_store.specs.declared.store.Store.{Store}
 
@@ -50,6 +50,8 @@ module _ {D : Type 0} {members : _} where
     pub crash : IsHonest new → Holds old s → CrashLeaves old new s command
     -- at each moment the slots that it may leave in use are whole, clean and held
     pub guarded : IsHonest new → Holds old s → StaysGuarded old new
+    -- no command but a Commit syncs
+    pub unsynced : command ≢ Commit → IsHonest new → Holds old s → StaysUnsynced old new
     -- after a Reclaim, and a Put or a Remove that is refused for want of blocks, just the spare ones are free
     pub marked : IsHonest new → HasMarked command answer → (holds : Holds old s) → free_of new ≡ spare_of holds.rests
     -- a Post and a Reclaim only read, and so does each other command but a Grow that is refused before it takes a block

@@ -14,6 +14,7 @@ use Rattle.vm_alloc.specs.Held.{free_count}
 use Rattle.vm_block.specs.Selector.{other_slot}
 use Rattle.vm_block.specs.declared.slot.SlotFormat.TheVariants.{Two}
 use Rattle.vm_catalog.specs.Written.{TouchesBoth, WritesBoth}
+use Rattle.vm_tree.specs.Unsynced.{NeverSyncs}
 use Rattle.vm_check.specs.Noted.{inner_of}
 use Rattle.vm_store.specs.Answers.{ComesAfterMarking, ComesFirst, HasMarked, IsAnswer, IsDeep, IsEarly, IsGrowDue, IsMergeAnswer, merge_changes, most_taken}
 use Rattle.vm_store.specs.Changing.{MeetsFullPath}
@@ -200,6 +201,10 @@ module _ {D : Type 0} {members : _} where
   abbrev pub StaysGuarded : (old new : Store D members) → Type 0
   StaysGuarded old new = Throughout (members.state (disk_of old)) (members.state (disk_of new)) (IsGuarded (held_of new))
 
+  -- nothing is synced: at each moment of the call each block that was dirty is dirty still
+  abbrev pub StaysUnsynced : (old new : Store D members) → Type 0
+  StaysUnsynced old new = NeverSyncs (members.state (disk_of old)) (members.state (disk_of new))
+
   -- what is answered to a command by a store that stands for the state, in terms of the store before and after
   abbrev pub Answers : (old new : Store D members) (s : State) → Holds old s → Command → Result Answer Refusal → Type 0
   Answers old new s holds (Merge alt settled) result =
@@ -209,12 +214,14 @@ module _ {D : Type 0} {members : _} where
       IsAnswer s (spare_of holds.rests) (IsDeep (members.state (disk_of old)).now.contents (root_of old) s.working command) command result
 
   -- a command was carried out by a store that stands for the state, on an honest disk: it gives the answer that is due, and unless the
-  -- device failed the store stands for what that answer leaves; a crash at any moment shows what it may, and the slots stay whole
+  -- device failed the store stands for what that answer leaves; a crash at any moment shows what it may, and the slots stay whole; and
+  -- nothing is synced, unless it is a Commit
   pub record Carries (old new : Store D members) (s : State) (holds : Holds old s) (command : Command) (answer : Result Answer Refusal) : Type 0 where
     pub answers : Answers old new s holds command answer
     pub state : answer ≢ Err Device → Holds new (next s command answer)
     pub crash : CrashLeaves old new s command
     pub guarded : StaysGuarded old new
+    pub unsynced : command ≢ Commit → StaysUnsynced old new
 
   -- the same, whatever state the store stood for, on a disk that is honest after it
   abbrev pub IsCarriedOut : (old new : Store D members) → Command → Result Answer Refusal → Type 0

@@ -7,6 +7,7 @@ ghost use Rattle.vm_types.specs.Map.{Map, with_change, with_changes};
 ghost use Rattle.vm_disk.specs.Disk.{Goes};
 ghost use Rattle.vm_disk.specs.Moments.{Throughout, TouchesOnly};
 ghost use Rattle.vm_alloc.specs.Held.{IsHeld, HoldsMore, free_count};
+ghost use Rattle.vm_tree.specs.Unsynced.{NeverSyncs};
 ghost use Rattle.vm_tree.specs.Free.{is_free};
 ghost use Rattle.vm_tree.specs.Root.{IsRootedIn};
 ghost use Rattle.vm_tree.specs.declared.faults.TreeFault.TheVariants.{Device};
@@ -40,6 +41,8 @@ fn make_change<D: Disk>(
     ensures moments { (D.state disk.new).honest ≡ true
         → Throughout (D.state disk.old) (D.state disk.new)
         (TouchesOnly (is_free before.now) (D.state disk.old).now) }
+    ensures unsynced { (D.state disk.new).honest ≡ true
+        → NeverSyncs (D.state disk.old) (D.state disk.new) }
     ensures changed { (D.state disk.new).honest ≡ true → (m : Map) (change : Change)
         → change.key ≡ key → change.after ≡ option_copied after.entry
         → IsRootedIn sizes (IsHeld held.old) (D.state disk.old).now.contents (length held.old) root m
@@ -70,11 +73,14 @@ pub fn make_changes<D: Disk>(
     requires room { blocks_a_change * length changes.now ≤ free_count held.old }
     ensures any { Goes (result ≡ Err (PutFault.Tree Device)) (D.state disk.old) (D.state disk.new) }
 
-    // What is held stays held, and at no moment has a block that was held other bytes than before.
+    // What is held stays held, and at no moment has a block that was held other bytes than before, nor is a dirty
+    // one synced.
     ensures still { HoldsMore held.old held.new }
     ensures moments { (D.state disk.new).honest ≡ true
         → Throughout (D.state disk.old) (D.state disk.new)
         (TouchesOnly (is_free held.old) (D.state disk.old).now) }
+    ensures unsynced { (D.state disk.new).honest ≡ true
+        → NeverSyncs (D.state disk.old) (D.state disk.new) }
 
     // On a tree in held blocks the answer is a root that has the map with the changes made, or Deep where one of
     // them meets a full path, unless the device fails.

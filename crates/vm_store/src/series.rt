@@ -11,6 +11,7 @@ ghost use Rattle.vm_disk.specs.Moments.{Throughout, TouchesOnly};
 ghost use Rattle.vm_alloc.specs.Held.{HoldsMore, IsHeld, free_count};
 ghost use Rattle.vm_tree.specs.Answers.{LacksRoom, Puts, Removes};
 ghost use Rattle.vm_tree.specs.Calls.{LooksIf, LooksIfDamaged, PutsIfDamaged};
+ghost use Rattle.vm_tree.specs.Unsynced.{NeverSyncs};
 ghost use Rattle.vm_tree.specs.Free.{is_free};
 ghost use Rattle.vm_tree.specs.Replacing.{Lacks, long_of, path_under};
 ghost use Rattle.vm_tree.specs.Root.{IfWhole, IsRootedIn};
@@ -82,6 +83,8 @@ fn forget_taken<D: Disk>(disk: &mut D, before: &Baseline, blocks: &[u32])
     ensures moments { (D.state disk.new).honest ≡ true
         → Throughout (D.state disk.old) (D.state disk.new)
         (TouchesOnly (is_free before.now) (D.state disk.old).now) }
+    ensures unsynced { (D.state disk.new).honest ≡ true
+        → NeverSyncs (D.state disk.old) (D.state disk.new) }
     ensures others { (D.state disk.new).honest ≡ true → (n : ℕ) → Lacks n blocks.now
         → block (D.state disk.new).now.contents n ≡ block (D.state disk.old).now.contents n }
 {
@@ -99,6 +102,8 @@ fn forget_long<D: Disk>(disk: &mut D, before: &Baseline, long: u32)
     ensures moments { (D.state disk.new).honest ≡ true
         → Throughout (D.state disk.old) (D.state disk.new)
         (TouchesOnly (is_free before.now) (D.state disk.old).now) }
+    ensures unsynced { (D.state disk.new).honest ≡ true
+        → NeverSyncs (D.state disk.old) (D.state disk.new) }
     ensures others { (D.state disk.new).honest ≡ true → (n : ℕ) → Lacks n (long_of long)
         → block (D.state disk.new).now.contents n ≡ block (D.state disk.old).now.contents n }
 {
@@ -116,6 +121,8 @@ fn forget_path<D: Disk>(disk: &mut D, before: &Baseline, root: Root, path: &[u32
     ensures moments { (D.state disk.new).honest ≡ true
         → Throughout (D.state disk.old) (D.state disk.new)
         (TouchesOnly (is_free before.now) (D.state disk.old).now) }
+    ensures unsynced { (D.state disk.new).honest ≡ true
+        → NeverSyncs (D.state disk.old) (D.state disk.new) }
     ensures others { (D.state disk.new).honest ≡ true → (n : ℕ)
         → Lacks n (path_under root path.now)
         → block (D.state disk.new).now.contents n ≡ block (D.state disk.old).now.contents n }
@@ -158,6 +165,8 @@ pub fn put_forgetting<D: Disk>(
     ensures failed { (D.state disk.new).honest ≡ true
         → OnErr result (Throughout (D.state disk.old) (D.state disk.new)
         (TouchesOnly (is_free held.old) (D.state disk.old).now)) }
+    ensures unsynced { (D.state disk.new).honest ≡ true
+        → NeverSyncs (D.state disk.old) (D.state disk.new) }
 
     ensures put { IfWhole (D.state disk.old) (D.state disk.new) sizes (length held.old) root
         (λ m bs. Puts result (LacksRoom sizes (D.state disk.old).now.contents root m key)
@@ -200,6 +209,8 @@ pub fn remove_forgetting<D: Disk>(
     ensures failed { (D.state disk.new).honest ≡ true
         → OnErr result (Throughout (D.state disk.old) (D.state disk.new)
         (TouchesOnly (is_free held.old) (D.state disk.old).now)) }
+    ensures unsynced { (D.state disk.new).honest ≡ true
+        → NeverSyncs (D.state disk.old) (D.state disk.new) }
 
     ensures remove { IfWhole (D.state disk.old) (D.state disk.new) sizes (length held.old) root
         (λ m bs. Removes result (get m key ≡ None)

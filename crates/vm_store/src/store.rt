@@ -64,7 +64,7 @@ pub struct Store<D: Disk> {
 }
 
 impl<D: Disk> Store<D> {
-    ghost use Rattle.vm_store.specs.Store.{disk_of, has_failed, entries_of, IsHonest, GoesOn, GrowsOn, IsAsLong, FromState, IsAnswered, StandsAfter, StaysGuarded, CrashLeaves, EarlyKeeps, EarlyLeavesDisk, LeavesBlocks, MarksAll, FirstReads, FullLeavesSpare, GrowsFree, GrowsNoMore, KeepsFree, ReadsOnly, TakesUpTo, WritesCommit, ClosesWith};
+    ghost use Rattle.vm_store.specs.Store.{disk_of, has_failed, entries_of, IsHonest, GoesOn, GrowsOn, IsAsLong, FromState, IsAnswered, StandsAfter, StaysGuarded, StaysUnsynced, CrashLeaves, EarlyKeeps, EarlyLeavesDisk, LeavesBlocks, MarksAll, FirstReads, FullLeavesSpare, GrowsFree, GrowsNoMore, KeepsFree, ReadsOnly, TakesUpTo, WritesCommit, ClosesWith};
 
     /// Carries out one command. After an answer `Device` the store answers `Failed` to every call but
     /// `close`: close it, and open the disk again.
@@ -100,6 +100,10 @@ impl<D: Disk> Store<D> {
 
         // For at each moment the slots that it may leave in use are whole, clean and held.
         ensures guarded { FromState self.old self.new (λ s. StaysGuarded self.old self.new) }
+
+        // No command but a Commit syncs.
+        ensures unsynced { command.now ≢ Command.Commit
+            → FromState self.old self.new (λ s. StaysUnsynced self.old self.new) }
 
         // After a Reclaim, and a Put or a Remove that is refused for want of blocks, just the spare ones are free.
         ensures marked { IsHonest self.new → has_failed self.old ≡ false
@@ -157,6 +161,9 @@ impl<D: Disk> Store<D> {
         ensures crash { FromState self.old self.new
             (λ s. CrashLeaves self.old self.new s (Put alt.now key value.now)) }
         ensures guarded { FromState self.old self.new (λ s. StaysGuarded self.old self.new) }
+
+        // Nothing is synced.
+        ensures unsynced { FromState self.old self.new (λ s. StaysUnsynced self.old self.new) }
     {
         if self.failed {
             return Err(Refusal::Failed);

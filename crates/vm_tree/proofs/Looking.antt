@@ -4,7 +4,7 @@ use Rattle.vm_disk.specs.Disk.{DiskState}
 use Rattle.vm_disk.proofs.GoesLemmas.{goes_nowhere, goes_then, goes_at}
 use Rattle.vm_disk.proofs.MomentLemmas.{after_reads, reads_keep, reads_then, touches_nothing, started}
 use Rattle.vm_tree.specs.Calls.{Looks, LooksIf, Writes}
-use Rattle.vm_tree.proofs.Touching.{touches_then}
+use Rattle.vm_tree.proofs.Touching.{reads_unsynced, touches_then, unsynced_then}
 
 -- a call that looks, after another one
 pub looks_on : {first second both : Type 0} {old mid new : DiskState} → Looks first old mid → Looks second mid new → (both → second) → Looks both old new
@@ -19,6 +19,7 @@ looks_free looks cause = record {
   goes = goes_at _ _ _ _ looks.goes cause;
   still = record { same_length = refl; still = λ n is. is };
   moments = λ honest. reads_keep _ _ _ (looks.reads honest) (touches_nothing _ _);
+  unsynced = λ honest. reads_unsynced _ _ (looks.reads honest);
 }
 
 -- a call that writes, after one that looks
@@ -28,6 +29,7 @@ looks_write so_far more cause = record {
   goes = goes_then _ _ _ _ _ _ so_far.goes more.goes cause;
   still = more.still;
   moments = λ honest. after_reads _ _ _ _ (so_far.reads (more.goes.earlier honest)) (more.moments honest);
+  unsynced = λ honest. unsynced_then _ _ _ (reads_unsynced _ _ (so_far.reads (more.goes.earlier honest))) (more.unsynced honest);
 }
 
 -- a call that writes, after another one
@@ -37,6 +39,7 @@ writes_on so_far more cause = record {
   goes = goes_then _ _ _ _ _ _ so_far.goes more.goes cause;
   still = record { same_length = more.still.same_length ∙ so_far.still.same_length; still = λ n is. more.still.still n (so_far.still.still n is) };
   moments = λ honest. touches_then _ _ _ _ _ so_far.still (so_far.moments (more.goes.earlier honest)) (more.moments honest);
+  unsynced = λ honest. unsynced_then _ _ _ (so_far.unsynced (more.goes.earlier honest)) (more.unsynced honest);
 }
 
 -- what was only looked at, after a call that looks

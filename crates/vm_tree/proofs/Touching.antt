@@ -1,13 +1,14 @@
--- Blocks that are held keep their bytes, over one call and over two.
-use Rattle.std.proofs.Common.{◌≡◌, ℕ, Bool, true, false, not, List, Some, Result, refl, ap, sym, ◌∙◌, arith}
-use Rattle.std.proofs.lemmas.Bool.{false≢true}
-use Rattle.vm_disk.specs.Disk.{Medium, DiskState, block, Writes}
+-- Blocks that are held keep their bytes, and dirty ones stay dirty, over one call and over two.
+use Rattle.std.proofs.Common.{◌≡◌, ◌≢◌, ◌⊎◌, inl, inr, ℕ, Bool, true, false, not, List, length, Some, Result, refl, ap, sym, ◌∙◌, arith}
+use Rattle.std.proofs.lemmas.Bool.{cases_eq, false≢true}
+use Rattle.vm_disk.specs.Disk.{Medium, DiskState, block, Elapses, Writes}
 use Rattle.vm_disk.specs.declared.disk.DeviceFault.{DeviceFault}
 use Rattle.vm_alloc.proofs.HeldLemmas.{free_is}
 use Rattle.std.specs.Prelude.{slice_get}
-use Rattle.vm_disk.specs.Moments.{Throughout, TouchesOnly}
-use Rattle.vm_disk.proofs.MomentLemmas.{started, touches_nothing, write_on, at_end, weaken, and_then}
+use Rattle.vm_disk.specs.Moments.{OnlyReads, Throughout, TouchesOnly}
+use Rattle.vm_disk.proofs.MomentLemmas.{started, touches_nothing, write_on, at_end, goes_on, reads_keep, weaken, and_then}
 use Rattle.vm_alloc.specs.Held.{is_held, IsHeld, HoldsMore}
+use Rattle.vm_tree.specs.Unsynced.{LeavesDirty, NeverSyncs}
 use Rattle.vm_tree.specs.Free.{is_free}
 
 -- a block that is held keeps its bytes
@@ -46,3 +47,36 @@ pub free_written : {T : Type 0} (held : List Bool) (n : ℕ) (bytes : List ℕ) 
     → Throughout old new (TouchesOnly (is_free held) old.now)
 free_written held n bytes result old new free writes =
     write_on n bytes result (is_free held) old old new (ap not (free_is held n free)) (started old (TouchesOnly (is_free held) old.now) (touches_nothing (is_free held) old.now)) writes
+
+-- where nothing was done
+pub all_dirty : (m : Medium) → LeavesDirty m m
+all_dirty m = record { more = omega arith; dirty = λ n inside dirty. dirty; sure = refl }
+
+-- reads sync nothing
+pub reads_unsynced : (old new : DiskState) → OnlyReads old new → NeverSyncs old new
+reads_unsynced old new reads = reads_keep old new (LeavesDirty old.now) reads (all_dirty old.now)
+
+-- nor does one call more that does not
+pub unsynced_then : (old mid new : DiskState) → NeverSyncs old mid → NeverSyncs mid new → NeverSyncs old new
+unsynced_then old mid new first then =
+    let so_far = at_end old mid (LeavesDirty old.now) first in
+    and_then old mid new (LeavesDirty old.now) first
+    (weaken mid new (LeavesDirty mid.now) (LeavesDirty old.now) (λ m now. record {
+      more = omega (arith, so_far.more, now.more);
+      dirty = λ n inside dirty. now.dirty n (omega (arith, so_far.more, inside)) (so_far.dirty n inside dirty);
+      sure = now.sure ∙ so_far.sure;
+    }) then)
+
+-- nor does a device call after which its block is dirty, and all others are as they were
+pub dirtied : (n : ℕ) (old new : DiskState) → Elapses old new → new.now.dirty n ≡ true → length new.now.contents ≡ length old.now.contents
+    → ((k : ℕ) → k ≢ n → new.now.dirty k ≡ old.now.dirty k) → new.now.sure ≡ old.now.sure → NeverSyncs old new
+dirtied n old new time is count others sure =
+    goes_on old old new (LeavesDirty old.now) (started old (LeavesDirty old.now) (all_dirty old.now)) time record {
+      more = omega (arith, count);
+      dirty = λ k inside dirty. by_place k (cases_eq k n) dirty;
+      sure = sure;
+    }
+  where
+    by_place : (k : ℕ) → (k ≡ n) ⊎ (k ≢ n) → old.now.dirty k ≡ true → new.now.dirty k ≡ true
+    by_place k (inl same) dirty = ap new.now.dirty same ∙ is
+    by_place k (inr other) dirty = others k other ∙ dirty

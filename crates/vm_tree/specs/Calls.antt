@@ -4,6 +4,7 @@ use Rattle.vm_disk.specs.Disk.{DiskState, Goes}
 use Rattle.vm_disk.specs.Moments.{Throughout, OnlyReads, TouchesOnly}
 use Rattle.vm_alloc.specs.Held.{HoldsMore}
 use Rattle.vm_tree.specs.Free.{is_free}
+use Rattle.vm_tree.specs.Unsynced.{NeverSyncs}
 use Rattle.vm_tree.specs.declared.faults.ListFault.{ListFault}
 use Rattle.vm_tree.specs.declared.faults.ListFault.TheVariants as list
 use Rattle.vm_tree.specs.declared.faults.PutFault.{PutFault}
@@ -39,11 +40,12 @@ abbrev pub PutsIfDamaged : {T : Type 0} → Result T PutFault → List Bool → 
 PutsIfDamaged result held later old new = (b : ℕ) → LooksIf (result ≡ Err (put.Tree (Damaged b))) held later old new
 
 -- a call that answers that the device failed just where `fails` holds wrote free blocks alone: its failures rise where it failed, what was
--- held stays held, and at no moment had a held block of an honest disk other bytes than before
+-- held stays held, and at no moment had a held block of an honest disk other bytes than before, nor was a dirty one synced
 pub record Writes (fails : Type 0) (held later : List Bool) (old new : DiskState) : Type 0 where
   pub goes : Goes fails old new
   pub still : HoldsMore held later
   pub moments : new.honest ≡ true → Throughout old new (TouchesOnly (is_free held) old.now)
+  pub unsynced : new.honest ≡ true → NeverSyncs old new
 
 -- a call with this result wrote free blocks alone
 abbrev pub WritesFree : {T : Type 0} → Result T TreeFault → List Bool → List Bool → DiskState → DiskState → Type 0

@@ -14,3 +14,4 @@ pub mod Rows
 pub mod Answers
 pub mod Reading
 pub mod Replacing
+pub mod Unsynced

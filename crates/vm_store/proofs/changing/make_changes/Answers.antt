@@ -8,7 +8,7 @@ use Rattle.vm_alloc.specs.Held.{IsHeld}
 use Rattle.vm_alloc.proofs.HeldLemmas.{holds_more_then, holds_same}
 use Rattle.vm_tree.specs.Free.{is_free}
 use Rattle.vm_tree.specs.Root.{IsRootedIn}
-use Rattle.vm_tree.proofs.Touching.{touches_then}
+use Rattle.vm_tree.proofs.Touching.{touches_then, unsynced_then}
 use Rattle.vm_store.specs.Sizes.{sizes}
 use Rattle.vm_store.proofs.ChangingLemmas.{change_at, made_more, fault_makes}
 use Rattle.vm_store.proofs.TopLemmas.{grown_of}
@@ -22,6 +22,9 @@ returns-in_err-root-clause-moments g c honest =
     let so_far = c.loop-i.invariant in
     subst (λ held. Throughout (g.D.Disk.state c.args.disk.now) (g.D.Disk.state c.make_change.new.disk) (TouchesOnly (is_free held) (g.D.Disk.state c.args.disk.now).now)) c.requires.before
     (touches_then _ _ _ _ _ (holds_same _) (so_far.moments (c.make_change.ensures.any.earlier honest)) (c.make_change.ensures.moments honest))
+
+pub returns-in_err-root-clause-unsynced : goal.returns-in_err-root-clause-unsynced
+returns-in_err-root-clause-unsynced g c honest = unsynced_then _ _ _ (c.loop-i.invariant.unsynced (c.make_change.ensures.any.earlier honest)) (c.make_change.ensures.unsynced honest)
 
 pub returns-in_err-root-clause-changed : goal.returns-in_err-root-clause-changed
 returns-in_err-root-clause-changed g c honest m grown =
@@ -47,6 +50,7 @@ loop-i-preserved g c =
       room = omega (arith, c.make_change.ensures.taken, so_far.room);
       still = holds_more_then _ _ _ so_far.still c.make_change.ensures.still;
       moments = λ honest. touches_then _ _ _ _ _ (holds_same _) (so_far.moments (c.in_ok-root.ensures.any.earlier honest)) (c.make_change.ensures.moments honest);
+      unsynced = λ honest. unsynced_then _ _ _ (so_far.unsynced (any.earlier honest)) (c.make_change.ensures.unsynced honest);
       changed = λ honest m grown.
           let before = grown_of _ _ _ _ _ _ (sym so_far.still.same_length) (so_far.changed (c.in_ok-root.ensures.any.earlier honest) m grown) in
           made_more m _ _ here inside (change_at c.args.changes.now c.loop-i.i none here inside) _ _ _ _ _ so_far.still.same_length (c.in_ok-root.ensures.changed honest _ here (sym (c.key.ensures none)) (sym (c.after.ensures.value none)) before);

@@ -2,6 +2,7 @@ use Rattle.std.proofs.Common.{refl}
 use Rattle.vm_alloc.specs.Held.{IsHeld}
 use Rattle.vm_tree.specs.Replacing.{IsHeldBeside, path_under}
 use Rattle.vm_tree.proofs.Looking.{passed_on}
+use Rattle.vm_tree.proofs.Touching.{unsynced_then}
 use Rattle.vm_store.proofs.ForgetLemmas.{fault_alike}
 use Rattle.vm_store.proofs.SeriesLemmas.{forgot_in_series, wrote_in_series}
 use Rattle.vm_store.proofs.TopLemmas.{grown_in}
@@ -22,6 +23,9 @@ returns-in-Some-clause-put g c honest m bs tree =
 
 pub returns-in_default-clause-moments : goal.returns-in_default-clause-moments
 returns-in_default-clause-moments g c honest wider = wrote_in_series _ _ _ _ wider (c.put.ensures.writes.moments honest)
+
+pub returns-in-Some-clause-unsynced : goal.returns-in-Some-clause-unsynced
+returns-in-Some-clause-unsynced g c honest = unsynced_then _ _ _ (c.put.ensures.writes.unsynced (c.forget_path.ensures.any.earlier honest)) (c.forget_path.ensures.unsynced honest)
 
 pub returns-in_default-clause-put : goal.returns-in_default-clause-put
 returns-in_default-clause-put g c honest m bs tree =

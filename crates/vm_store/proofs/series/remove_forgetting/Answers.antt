@@ -2,6 +2,7 @@ use Rattle.std.proofs.Common.{refl}
 use Rattle.vm_alloc.specs.Held.{IsHeld}
 use Rattle.vm_tree.specs.Replacing.{IsHeldBeside, path_under}
 use Rattle.vm_tree.proofs.Looking.{passed_on}
+use Rattle.vm_tree.proofs.Touching.{unsynced_then}
 use Rattle.vm_store.proofs.SeriesLemmas.{forgot_in_series, wrote_in_series}
 use Rattle.vm_store.proofs.TopLemmas.{grown_in}
 use Rattle.vm_store.proofs.series.remove_forgetting.Goals as goal
@@ -21,6 +22,9 @@ returns-in-Some-before-clause-remove g c honest m bs tree =
 
 pub returns-in_default-before-clause-moments : goal.returns-in_default-before-clause-moments
 returns-in_default-before-clause-moments g c honest wider = wrote_in_series _ _ _ _ wider (c.remove.ensures.writes.moments honest)
+
+pub returns-in-Some-before-clause-unsynced : goal.returns-in-Some-before-clause-unsynced
+returns-in-Some-before-clause-unsynced g c honest = unsynced_then _ _ _ (c.remove.ensures.writes.unsynced (c.forget_path.ensures.any.earlier honest)) (c.forget_path.ensures.unsynced honest)
 
 pub returns-in_default-before-clause-remove : goal.returns-in_default-before-clause-remove
 returns-in_default-before-clause-remove g c honest m bs tree =

@@ -24,7 +24,7 @@ returns g c =
             refused = said.refused;
             left = said.no_calls;
             carries = λ sound. carried_out old new s c.args.command.now c.apply.result (λ honest. said.answer honest sound s) said.any said.as_long said.no_more said.untouched (said.failed sound) (said.only_then sound) said.memory said.same said.unchanged said.blocks
-                (λ honest holds fine. said.state honest sound fine s holds) (λ honest holds. said.crash honest sound s holds) (λ honest holds. said.guarded honest sound s holds) (λ honest is. said.marked honest sound is s) said.reads said.free (said.written sound) (λ blocks is. said.grown sound blocks is s);
+                (λ honest holds fine. said.state honest sound fine s holds) (λ honest holds. said.crash honest sound s holds) (λ honest holds. said.guarded honest sound s holds) (λ other honest holds. said.unsynced other honest sound s holds) (λ honest is. said.marked honest sound is s) said.reads said.free (said.written sound) (λ blocks is. said.grown sound blocks is s);
           })
           (reply_text c.answered.result) ends c.answered.ensures.text
           (λ sound. last-is ends (has_failed new) c.apply.result (said.failed sound) (said.only_then sound) c.answered.ensures.device c.answered.ensures.last)

@@ -29,7 +29,7 @@ returns g c =
             refused = said.refused;
             left = said.no_calls;
             carries = λ sound. carried_out old new s command c.put.result (λ honest. said.answer honest sound s) any (λ put. said.any.same_blocks) (λ blocks is. absurd cc) (λ grow. absurd grow) (said.failed sound) (said.only_then sound) (λ memory. absurd (said.memory memory)) said.same said.unchanged (λ alone. absurd alone)
-                (λ honest holds fine. said.state honest sound fine s holds) (λ honest holds. said.crash honest sound s holds) (λ honest holds. said.guarded honest sound s holds) (λ honest full. said.marked honest sound full s) said.reads said.free (λ is. cc) (λ blocks is. cc);
+                (λ honest holds fine. said.state honest sound fine s holds) (λ honest holds. said.crash honest sound s holds) (λ honest holds. said.guarded honest sound s holds) (λ other honest holds. said.unsynced honest sound s holds) (λ honest full. said.marked honest sound full s) said.reads said.free (λ is. cc) (λ blocks is. cc);
           })
           (reply_text c.answered.result) ends c.answered.ensures.text
           (λ sound. last-is ends (has_failed new) c.put.result (said.failed sound) (said.only_then sound) c.answered.ensures.device c.answered.ensures.last)

@@ -6,6 +6,9 @@ use Rattle.vm_store.proofs.store.Store.apply.Goals as goal
 pub returns-clause-guarded : goal.returns-clause-guarded
 returns-clause-guarded g c honest sound s holds = (c.dispatch-answer.ensures.carried honest s holds).guarded
 
+pub returns-clause-unsynced : goal.returns-clause-unsynced
+returns-clause-unsynced g c other honest sound s holds = (c.dispatch-answer.ensures.carried honest s holds).unsynced other
+
 pub returns-clause-marked : goal.returns-clause-marked
 returns-clause-marked g c honest sound is s holds = c.dispatch-answer.ensures.marked honest is s holds
 

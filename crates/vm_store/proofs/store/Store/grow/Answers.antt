@@ -7,7 +7,7 @@ use Rattle.vm_disk.proofs.MomentLemmas.{started}
 use Rattle.vm_alloc.specs.Held.{IsHeld}
 use Rattle.vm_store.specs.Guarded.{IsGuarded}
 use Rattle.vm_store.specs.Resting.{HoldsWith}
-use Rattle.vm_store.proofs.LongerLemmas.{grow_is_accepted, grow_is_refused, longer_crash, longer_guarded, rests_longer, rests_renamed, still_held}
+use Rattle.vm_store.proofs.LongerLemmas.{grow_is_accepted, grow_is_refused, longer_crash, longer_guarded, longer_unsynced, rests_longer, rests_renamed, still_held}
 use Rattle.vm_store.proofs.CarryLemmas.{looked, stayed}
 use Rattle.vm_store.proofs.SeriesLemmas.{holds_alone}
 use Rattle.vm_store.proofs.store.Store.grow.Goals as goal
@@ -53,6 +53,7 @@ returns-in_err-lengthen-clause-carried g c honest s holds =
       state = λ fine. absurd (fine (search rules));
       crash = longer_crash _ _ longer _ _ _ _ _ s holds.rests (Grow c.args.blocks);
       guarded = subst (λ (bits : List Bool). Throughout (g.D.Disk.state c.args.self.now.disk.inner) (g.D.Disk.state c.lengthen.new.self.disk.inner) (IsGuarded bits)) (sym c.lengthen.ensures.same.held) (longer_guarded _ _ longer _ _ _ _ _ s holds.rests c.args.self.now.held (λ n held. held));
+      unsynced = λ other. longer_unsynced _ _ longer;
     }
 
 pub returns-clause-carried : goal.returns-clause-carried
@@ -70,4 +71,5 @@ returns-clause-carried g c honest s holds =
       state = λ fine. holds_alone (rests_renamed new c.args.blocks c.args.self.now.slot_name c.lengthen.new.self.slot_name c.in-Ok.held c.args.self.now.committed c.args.self.now.working c.lengthen.new.self.committed c.lengthen.new.self.working (record s { blocks = c.args.blocks }) same.slot_name same.committed same.working (rests_longer old new longer.longer c.args.self.now.blocks c.args.blocks c.args.self.now.slot_name c.args.self.now.held c.in-Ok.held c.args.self.now.committed c.args.self.now.working s holds.rests still (omega (arith, c.if-blocks-self.false)) inside (omega (arith, c.if-blocks-gt-MAX_BLOCKS.false))));
       crash = longer_crash _ _ longer _ _ _ _ _ s holds.rests (Grow c.args.blocks);
       guarded = longer_guarded _ _ longer _ _ _ _ _ s holds.rests c.in-Ok.held still;
+      unsynced = λ other. longer_unsynced _ _ longer;
     }

@@ -7,6 +7,9 @@ use Rattle.vm_store.proofs.store.Store.put.Goals as goal
 pub returns-clause-guarded : goal.returns-clause-guarded
 returns-clause-guarded g c honest sound s holds = (c.put_value-answer.ensures.carried honest s holds).guarded
 
+pub returns-clause-unsynced : goal.returns-clause-unsynced
+returns-clause-unsynced g c honest sound s holds = (c.put_value-answer.ensures.carried honest s holds).unsynced (λ is. cc)
+
 pub returns-clause-answer : goal.returns-clause-answer
 returns-clause-answer g c honest sound s holds =
     answers_on c.args.self.now c.put_value-answer.new.self s holds c.put_value-answer.result (record c.put_value-answer.new.self { failed = c.is_device-self.result }) (Put c.args.alt.now c.args.key c.args.value.now) refl refl (c.put_value-answer.ensures.carried honest s holds).answers

@@ -19,7 +19,7 @@ use Rattle.vm_store.proofs.store.Store.put_value.Goals as goal
 pub returns-in_default-clause-carried : goal.returns-in_default-clause-carried
 returns-in_default-clause-carried g c honest s holds =
     let same = stayed c.args.self.now s holds (Put c.args.alt.now c.args.key c.args.value.now) _ (answers_absent _ _ _ _ _ _ s holds.rests c.args.alt.now c.args.key c.args.value.now _ _ (sym c.in_default.ensures)) in
-    record { answers = same.answers; state = same.state; crash = same.crash; guarded = same.guarded }
+    record { answers = same.answers; state = same.state; crash = same.crash; guarded = same.guarded; unsynced = same.unsynced }
 
 pub returns-then-not-branch-clause-carried : goal.returns-then-not-branch-clause-carried
 returns-then-not-branch-clause-carried g c honest s holds =
@@ -55,7 +55,7 @@ returns-clause-carried g c honest s holds =
     (λ deep. put.1 (lacks_over _ e.current _ _ (deep_here _ _ _ _ _ _ s rests' c.args.alt.now c.args.key c.args.value.now e is (g.D.Disk.state mid.disk.inner).now.contents
     (subst (λ (m : Medium). LacksRoom m.contents (root_of mid c.args.alt.now) (current_of s.working c.args.alt.now) c.args.key) (sym read)
     (subst (λ f. LacksRoom (g.D.Disk.state c.args.self.now.disk.inner).now.contents (f c.args.alt.now) (current_of s.working c.args.alt.now) c.args.key) (sym c.has_spare.ensures.roots) deep))))))
-    _ (c.has_spare.ensures.reads marked) series (c.in_ok-root.ensures.moments honest series.wider) c.in_ok-root.ensures.still
+    _ (c.has_spare.ensures.reads marked) series (c.in_ok-root.ensures.moments honest series.wider) (c.in_ok-root.ensures.unsynced honest) c.in_ok-root.ensures.still
     (λ _. holds_as refl c.set_current.ensures
     (holds_then c.args.alt.now _ _ c.go_on.ensures.series stays
     (put_holds _ _ _ _ _ _ _ s rests' c.args.alt.now e is series _ c.put_forgetting.new.held c.in_ok-root.root (omega (arith, c.in_ok-root.ensures.block, c.in_ok-root.ensures.still.same_length, mid.bits, mid.most))
@@ -83,7 +83,7 @@ returns-in_err-root-clause-carried g c honest s holds =
     (subst (λ (m : Medium). LacksRoom m.contents (root_of mid c.args.alt.now) (current_of s.working c.args.alt.now) c.args.key) read
     (here_deep _ _ _ _ _ _ s rests' c.args.alt.now c.args.key c.args.value.now e is (g.D.Disk.state mid.disk.inner).now.contents (lacks_under _ e.current _ _ here))))
     put)
-    _ (c.has_spare.ensures.reads marked) series (c.in_err-root.ensures.moments honest series.wider) c.in_err-root.ensures.still
+    _ (c.has_spare.ensures.reads marked) series (c.in_err-root.ensures.moments honest series.wider) (c.in_err-root.ensures.unsynced honest) c.in_err-root.ensures.still
     (λ _. holds_more _ _ _ _ _ _ _ s _ _ _ (at_end _ _ _ (c.in_err-root.ensures.failed honest)) c.in_err-root.ensures.still on))
 
 pub returns-in_default-clause-reads : goal.returns-in_default-clause-reads

@@ -35,7 +35,7 @@ returns-clause-carried g c honest s holds reason =
     let stays = ap (λ o. before_of o self.held) c.before_series.ensures in
     let series = in_series _ _ _ _ _ _ _ s alt _ _ c.requires.series stays holds in
     changed _ _ s holds (Remove alt c.args.key) _ (removes_done s alt c.args.key _ _ value.0 there room (λ deep. deep))
-    _ (started _ _ refl) series (c.in_ok-removed.ensures.moments honest series.wider) c.in_ok-removed.ensures.still
+    _ (started _ _ refl) series (c.in_ok-removed.ensures.moments honest series.wider) (c.in_ok-removed.ensures.unsynced honest) c.in_ok-removed.ensures.still
     (λ _. holds_as refl c.set_current.ensures
     (holds_then alt _ _ c.requires.series stays
     (remove_holds _ _ _ _ _ _ _ s rests alt e is series _ c.remove_forgetting.new.held c.in-Some.root (grown_small _ _ _ _ _ self.most grown)
@@ -56,7 +56,7 @@ returns-in_default-clause-carried g c honest s holds reason =
     let answers : (r : Refusal) → r ≡ NoSuchRecord → IsAnswer s (spare_of rests) ⊥ (Remove alt c.args.key) (Err r) = λ r same.
     subst (λ (r : Refusal). IsAnswer s (spare_of rests) ⊥ (Remove alt c.args.key) (Err r)) (sym same) (removes_missing s alt c.args.key _ _ missing) in
     wrote _ _ s holds (Remove alt c.args.key) _ (answers c.args.missing (for_reason reason (λ there. there (sym missing))))
-    _ (started _ _ refl) rests moments c.in_ok-removed.ensures.still (λ _. holds_more _ _ _ _ _ _ _ s _ _ _ (at_end _ _ _ moments) c.in_ok-removed.ensures.still holds)
+    _ (started _ _ refl) rests moments (c.in_ok-removed.ensures.unsynced honest) c.in_ok-removed.ensures.still (λ _. holds_more _ _ _ _ _ _ _ s _ _ _ (at_end _ _ _ moments) c.in_ok-removed.ensures.still holds)
 
 pub returns-in_err-removed-clause-carried : goal.returns-in_err-removed-clause-carried
 returns-in_err-removed-clause-carried g c honest s holds reason =
@@ -70,7 +70,7 @@ returns-in_err-removed-clause-carried g c honest s holds reason =
     let moments = c.in_err-removed.ensures.failed honest in
     rw (passed_on _ c.from_residual.ensures.1)
     (wrote _ _ s holds (Remove alt c.args.key) _ (removes_device s alt c.args.key _ _ c.in_err-removed.field-0.0 removed)
-    _ (started _ _ refl) rests moments c.in_err-removed.ensures.still (λ _. holds_more _ _ _ _ _ _ _ s _ _ _ (at_end _ _ _ moments) c.in_err-removed.ensures.still holds))
+    _ (started _ _ refl) rests moments (c.in_err-removed.ensures.unsynced honest) c.in_err-removed.ensures.still (λ _. holds_more _ _ _ _ _ _ _ s _ _ _ (at_end _ _ _ moments) c.in_err-removed.ensures.still holds))
 
 pub returns-in_default-clause-reads : goal.returns-in_default-clause-reads
 returns-in_default-clause-reads g c honest first = c.remove_forgetting.ensures.kept.reads honest (c.in_ok-removed.was ∙ ap Ok c.in_default.is)

@@ -38,10 +38,10 @@ loop-command-preserved g c =
           let ok : c.apply-answer.result ≡ Err Device → ⊥ = λ is. let yes = c.is_device-failed.ensures.1 is in cc (yes, c.if-failed.false) in
           subst (λ (t : State). Holds c.apply-answer.new.self t) (sym (after_more s _ _ c.command-item.result c.apply-answer.result (before.run (e.any.earlier honest) s holds).last.same)) (e.state honest before.sound ok _ (before.holds (e.any.earlier honest) s holds));
       guarded = λ honest s holds. guarded_more first mid new s _ _ command c.apply-answer.result (before.run (e.any.earlier honest) s holds).last.same (before.told s)
-          (carried_out mid new _ command c.apply-answer.result (λ honest. e.answer honest before.sound _) e.any e.as_long e.no_more e.untouched (e.failed before.sound) (e.only_then before.sound) e.memory e.same e.unchanged e.blocks (λ honest holds fine. e.state honest before.sound fine _ holds) (λ honest holds. e.crash honest before.sound _ holds) (λ honest holds. e.guarded honest before.sound _ holds) (λ honest is. e.marked honest before.sound is _) e.reads e.free (e.written before.sound) (λ blocks is. e.grown before.sound blocks is _)) honest (before.holds (e.any.earlier honest) s holds)
+          (carried_out mid new _ command c.apply-answer.result (λ honest. e.answer honest before.sound _) e.any e.as_long e.no_more e.untouched (e.failed before.sound) (e.only_then before.sound) e.memory e.same e.unchanged e.blocks (λ honest holds fine. e.state honest before.sound fine _ holds) (λ honest holds. e.crash honest before.sound _ holds) (λ honest holds. e.guarded honest before.sound _ holds) (λ other honest holds. e.unsynced other honest before.sound _ holds) (λ honest is. e.marked honest before.sound is _) e.reads e.free (e.written before.sound) (λ blocks is. e.grown before.sound blocks is _)) honest (before.holds (e.any.earlier honest) s holds)
           (before.guarded (e.any.earlier honest) s holds);
       told = λ s. in_turn_more first mid new s _ _ command c.apply-answer.result (before.told s)
-          (carried_out mid new _ command c.apply-answer.result (λ honest. e.answer honest before.sound _) e.any e.as_long e.no_more e.untouched (e.failed before.sound) (e.only_then before.sound) e.memory e.same e.unchanged e.blocks (λ honest holds fine. e.state honest before.sound fine _ holds) (λ honest holds. e.crash honest before.sound _ holds) (λ honest holds. e.guarded honest before.sound _ holds) (λ honest is. e.marked honest before.sound is _) e.reads e.free (e.written before.sound) (λ blocks is. e.grown before.sound blocks is _));
+          (carried_out mid new _ command c.apply-answer.result (λ honest. e.answer honest before.sound _) e.any e.as_long e.no_more e.untouched (e.failed before.sound) (e.only_then before.sound) e.memory e.same e.unchanged e.blocks (λ honest holds fine. e.state honest before.sound fine _ holds) (λ honest holds. e.crash honest before.sound _ holds) (λ honest holds. e.guarded honest before.sound _ holds) (λ other honest holds. e.unsynced other honest before.sound _ holds) (λ honest is. e.marked honest before.sound is _) e.reads e.free (e.written before.sound) (λ blocks is. e.grown before.sound blocks is _));
     })
 
 pub loop-command-init : goal.loop-command-init
@@ -81,7 +81,7 @@ returns-then-failed-clause-answers g c sound s =
     let e = c.apply-answer.ensures in
     let count : length c.push.new.self.items ≡ c.loop-command.command-index + 1 = grind (arith, common_steps) in
     rw (count, take_one_more c.args.commands.now c.loop-command.command-index c.command-item.result c.loop-command-test.true c.command-item.is, c.in-Ok-push.ensures.items)
-    (in_turn_more c.args.self.now c.loop-command.self c.apply-answer.new.self s _ _ c.command-item.result c.apply-answer.result (before.told s) (carried_out c.loop-command.self c.apply-answer.new.self _ c.command-item.result c.apply-answer.result (λ honest. e.answer honest before.sound _) e.any e.as_long e.no_more e.untouched (e.failed before.sound) (e.only_then before.sound) e.memory e.same e.unchanged e.blocks (λ honest holds fine. e.state honest before.sound fine _ holds) (λ honest holds. e.crash honest before.sound _ holds) (λ honest holds. e.guarded honest before.sound _ holds) (λ honest is. e.marked honest before.sound is _) e.reads e.free (e.written before.sound) (λ blocks is. e.grown before.sound blocks is _)))
+    (in_turn_more c.args.self.now c.loop-command.self c.apply-answer.new.self s _ _ c.command-item.result c.apply-answer.result (before.told s) (carried_out c.loop-command.self c.apply-answer.new.self _ c.command-item.result c.apply-answer.result (λ honest. e.answer honest before.sound _) e.any e.as_long e.no_more e.untouched (e.failed before.sound) (e.only_then before.sound) e.memory e.same e.unchanged e.blocks (λ honest holds fine. e.state honest before.sound fine _ holds) (λ honest holds. e.crash honest before.sound _ holds) (λ honest holds. e.guarded honest before.sound _ holds) (λ other honest holds. e.unsynced other honest before.sound _ holds) (λ honest is. e.marked honest before.sound is _) e.reads e.free (e.written before.sound) (λ blocks is. e.grown before.sound blocks is _)))
 
 pub returns-then-failed-clause-isolated : goal.returns-then-failed-clause-isolated
 returns-then-failed-clause-isolated g c honest fine s holds name apart =
@@ -112,7 +112,7 @@ returns-then-failed-clause-guarded g c honest sound s holds =
     let count : length c.push.new.self.items ≡ c.loop-command.command-index + 1 = grind (arith, common_steps) in
     rw (count, take_one_more c.args.commands.now c.loop-command.command-index c.command-item.result c.loop-command-test.true c.command-item.is, c.in-Ok-push.ensures.items)
     (guarded_more c.args.self.now c.loop-command.self c.apply-answer.new.self s _ _ c.command-item.result c.apply-answer.result (before.run (e.any.earlier honest) s holds).last.same (before.told s)
-    (carried_out c.loop-command.self c.apply-answer.new.self _ c.command-item.result c.apply-answer.result (λ honest. e.answer honest before.sound _) e.any e.as_long e.no_more e.untouched (e.failed before.sound) (e.only_then before.sound) e.memory e.same e.unchanged e.blocks (λ honest holds fine. e.state honest before.sound fine _ holds) (λ honest holds. e.crash honest before.sound _ holds) (λ honest holds. e.guarded honest before.sound _ holds) (λ honest is. e.marked honest before.sound is _) e.reads e.free (e.written before.sound) (λ blocks is. e.grown before.sound blocks is _)) honest (before.holds (e.any.earlier honest) s holds)
+    (carried_out c.loop-command.self c.apply-answer.new.self _ c.command-item.result c.apply-answer.result (λ honest. e.answer honest before.sound _) e.any e.as_long e.no_more e.untouched (e.failed before.sound) (e.only_then before.sound) e.memory e.same e.unchanged e.blocks (λ honest holds fine. e.state honest before.sound fine _ holds) (λ honest holds. e.crash honest before.sound _ holds) (λ honest holds. e.guarded honest before.sound _ holds) (λ other honest holds. e.unsynced other honest before.sound _ holds) (λ honest is. e.marked honest before.sound is _) e.reads e.free (e.written before.sound) (λ blocks is. e.grown before.sound blocks is _)) honest (before.holds (e.any.earlier honest) s holds)
     (before.guarded (e.any.earlier honest) s holds))
 
 pub returns-clause-guarded : goal.returns-clause-guarded
