@@ -98,8 +98,8 @@ written. When to use it:
   - after a restore
 
 A refusal is printed as by altctl run: 18 Damaged BLOCK names the block at which
-something wrong was found, 19 NotAStore says that the file is no store. The free blocks are
-those that a run has free at its beginning.
+something wrong was found, 19 NotAStore says that the file is no store. The free
+blocks are those that a run has free at its beginning.
 
 A session:
 
