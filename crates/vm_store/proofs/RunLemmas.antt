@@ -19,7 +19,7 @@ use Rattle.vm_block.specs.declared.selector.SlotName.{SlotName}
 use Rattle.vm_store.specs.declared.version.Version.{Version}
 use Rattle.vm_store.specs.Answers.{ChangesEntriesAlone, HasMarked, IsEarly, IsGrow, IsMergeAnswer, TakesMemory, merge_changes}
 use Rattle.vm_store.specs.Changing.{MeetsFullPath}
-use Rattle.vm_store.specs.Store.{Answers, GrowsNoMore, KeepsFree, Holds, IsSameButDisk, ReadsOnly, WritesCommit, StaysUnsynced, disk_of, entries_of, free_of, has_failed, held_of}
+use Rattle.vm_store.specs.Store.{Answers, GrowsNoMore, KeepsFree, Holds, IsSameButDisk, ReadsOnly, StaysUnsynced, WritesCommit, disk_of, entries_of, free_of, has_failed, held_of}
 use Rattle.vm_store.specs.declared.store.Store.{Store}
 use Rattle.vm_tree.specs.Free.{is_free}
 use Rattle.vm_store.specs.Growing.{Grows}

@@ -14,7 +14,7 @@ use Rattle.vm_disk.specs.Moments.{Throughout}
 use Rattle.vm_store.specs.Answers.{ChangesEntriesAlone, HasMarked, IsGrow, TakesMemory}
 use Rattle.vm_store.specs.Guarded.{IsGuarded}
 use Rattle.vm_store.specs.Resting.{spare_of}
-use Rattle.vm_store.specs.Store.{Answers, CrashLeaves, EarlyKeeps, EarlyLeavesDisk, GrowsNoMore, GrowsOn, Holds, IsAsLong, IsHonest, KeepsFree, LeavesBlocks, ReadsOnly, StaysGuarded, WritesCommit, StaysUnsynced, disk_of, entries_of, free_of, has_failed, held_of}
+use Rattle.vm_store.specs.Store.{Answers, CrashLeaves, EarlyKeeps, EarlyLeavesDisk, GrowsNoMore, GrowsOn, Holds, IsAsLong, IsHonest, KeepsFree, LeavesBlocks, ReadsOnly, StaysGuarded, StaysUnsynced, WritesCommit, disk_of, entries_of, free_of, has_failed, held_of}
 use Rattle.vm_store.specs.Shown.{Shows}
 use Rattle.vm_store.specs.declared.store.Store.{Store}
 
@@ -56,7 +56,7 @@ module _ {D : Type 0} {members : _} where
     pub marked : IsHonest new → HasMarked command answer → (holds : Holds old s) → free_of new ≡ spare_of holds.rests
     -- a Post and a Reclaim only read, and so does each other command but a Grow that is refused before it takes a block
     pub reads : IsHonest new → ReadsOnly command answer old new
-    -- a Put takes 16 blocks at most, a Remove 8, and a Post and a Commit take none
+    -- of the free blocks, or of the spare ones after a marking, a Put takes 16 at most and a Remove 8; a Post and a Commit take none
     pub free : KeepsFree command answer old new
     -- a Commit writes the other slot, in format 2, and the selector, byte by byte, and no other block
     pub written : command ≡ Commit → WritesCommit answer old new

@@ -155,7 +155,7 @@ module _ {D : Type 0} {members : _} where
       (blocks_a_change ≤ free_of old → free_of old ≤ free_of new + most_taken most answer)
       × (IsHonest new → free_of old < blocks_a_change → ComesAfterMarking answer → (s : State) (holds : Holds old s) → spare_of holds.rests ≤ free_of new + most_taken most answer)
 
-  -- a Put takes 16 blocks at most, a Remove 8, and a Post and a Commit take none
+  -- so a Put takes 16 blocks at most and a Remove 8; and a Post and a Commit take none
   abbrev pub KeepsFree : Command → Result Answer Refusal → (old new : Store D members) → Type 0
   KeepsFree (Put alt key value) answer old new = TakesUpTo 16 answer old new
   KeepsFree (Remove alt key) answer old new = TakesUpTo 8 answer old new

@@ -112,8 +112,8 @@ impl<D: Disk> Store<D> {
         // A Post and a Reclaim only read, and so does each command that is refused before it takes a block.
         ensures reads { IsHonest self.new → ReadsOnly command.now result self.old self.new }
 
-        // A Put takes 16 blocks at most, a Remove 8, one that is refused none, unless the device failed, and a Post and
-        // a Commit none.
+        // Where 17 blocks are free a Put takes 16 at most, a Remove 8, and one that is refused none, unless the device
+        // failed. Where fewer are, that is so of the spare ones, on an honest disk. A Post and a Commit take none.
         ensures free { KeepsFree command.now result self.old self.new }
 
         // A Commit writes the other slot, in format 2, and the selector, byte by byte, and no other block; also where
