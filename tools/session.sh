@@ -1085,9 +1085,11 @@ has_bytes spelled 286720
 
 # A build that is refused, one that is interrupted, and one that goes on from there: `rt` is a script here, which stops
 # at a crate until it may go on, and is refused there then.
-mkdir -p built/crates/low built/crates/high built/crates/altctl built/bin built/tmp
+mkdir -p built/crates/low/src built/crates/high/src built/crates/altctl/src built/bin built/tmp built/tools
 cp "$script" built/altctl
+cp "$tools/build.sh" "$tools/sources.sh" built/tools
 printf 'altctl: high clap # the program\nhigh: low\nlow:\nother: low\n' >built/crates.txt
+for file in low/src/lib.rt high/src/lib.rt altctl/src/main.rt; do echo "// $file" >"built/crates/$file"; done
 cat >built/bin/rt <<'END'
 #!/bin/sh
 crate=$(basename "$PWD")
@@ -1149,10 +1151,12 @@ END
 builds refused 1
 
 printf '%s\n' 'altctl: it is not built yet, and rt, the command of the Rattle toolchain that builds it, is not found' >faults.due
-mkdir built/tools
-for name in dirname readlink find; do ln -s "$(command -v "$name")" built/tools/; done
+mkdir built/few
+for name in awk cut dirname find mktemp readlink rm sed sha256sum sort touch xargs; do
+    ln -s "$(command -v "$name")" built/few/
+done
 came=0
-PATH=$work/built/tools /bin/sh built/altctl --help >output.came 2>faults.came || came=$?
+PATH=$work/built/few TMPDIR=$work/built/tmp /bin/sh built/altctl --help >output.came 2>faults.came || came=$?
 compare 'no rt: standard error' faults.due faults.came
 
 {
@@ -1170,6 +1174,7 @@ cat >>faults <<'END'
 altctl: 3 of 3: altctl .., TIME gone
 altctl: built, TIME gone
 END
+cp faults faults.built
 builds whole 0
 
 : >calls
@@ -1179,6 +1184,53 @@ PATH=$work/built/bin:$PATH built/altctl --help >output.came 2>faults.came
 compare 'a start after the build: output' output output.came
 compare 'a start after the build: standard error' faults faults.came
 compare 'a start after the build: calls of rt' calls "$session_calls"
+
+# The program that dist/ carries, here a script, is started where it is whole and the sources are those that it was made
+# of, and said to be that once. `carried NAME` compares a start with `output`, `faults` and `calls`.
+carried() {
+    : >"$session_calls"
+    PATH=$work/built/bin:$PATH TMPDIR=$work/built/tmp built/altctl --help >output.came 2>faults.all
+    sed 's/[0-9]*:[0-9][0-9] gone/TIME gone/; /^altctl: building/d' faults.all >faults.came
+    compare "$1: output" output output.came
+    compare "$1: standard error" faults faults.came
+    compare "$1: calls of rt" calls "$session_calls"
+    : >none
+    ls built/tmp >left
+    compare "$1: temporary files" none left
+}
+
+cp faults.built faults
+printf 'low lib\nhigh lib\naltctl run -- --help\n' >calls
+mkdir built/dist
+printf '#!/bin/sh\necho "carried with $*"\n' >built/dist/altctl-x86_64-linux
+chmod +x built/dist/altctl-x86_64-linux
+echo '// changed' >built/crates/high/src/lib.rt
+(
+    cd built
+    printf 'low:\nhigh: low\naltctl: high clap\n' >sums
+    sha256sum crates/altctl/src/main.rt crates/high/src/lib.rt crates/low/src/lib.rt >>sums
+    echo "sources $(sha256sum <sums | cut -d ' ' -f 1)"
+    echo "program $(sha256sum <dist/altctl-x86_64-linux | cut -d ' ' -f 1)"
+) >sums
+sed 's/^sources ./sources x/' sums >built/dist/altctl-x86_64-linux.txt
+carried 'dist/ carries the program of other sources'
+rm -r built/crates/altctl/out
+sed 's/^program ./program x/' sums >built/dist/altctl-x86_64-linux.txt
+carried 'dist/ carries a program that is not whole'
+
+rm -r built/crates/altctl/out
+cp sums built/dist/altctl-x86_64-linux.txt
+echo 'carried with --help' >output
+echo 'altctl: the program that dist/ carries, made of these sources; `rt ci` proves them and makes it anew' >faults
+: >calls
+carried 'dist/ carries the program of these sources'
+: >faults
+carried 'a second start'
+touch built/crates/high/src/lib.rt
+carried 'a start after a source was touched'
+rm -r built/crates/altctl/out
+: >built/crates/altctl/out
+carried 'a start where nothing can be written'
 
 # --- the script that installs ------------------------------------------------------------------------
 
