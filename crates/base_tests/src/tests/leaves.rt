@@ -5,6 +5,11 @@ use vm_block::{
     split_rows, stored_at, write_leaf,
 };
 
+/// Whether a leaf has just this at table 7 and this number.
+fn has_row(block: &[u8; 4096], number: u64, due: Option<Stored<'_>>) -> bool {
+    find_row(block, key(7, number)) == Some(due)
+}
+
 #[test]
 fn row_is_put_where_it_belongs(rt: HostRuntime) {
     let (duct, pipe) = (Stored::Short(b"duct"), Stored::Short(b"pipe"));
@@ -34,11 +39,8 @@ fn row_is_put_where_it_belongs(rt: HostRuntime) {
         ),
         ("the rows", block == written),
         ("the lowest key", lowest_key(&block) == key(7, 1)),
-        (
-            "a row is found",
-            find_row(&block, key(7, 9)) == Some(Some(pipe)),
-        ),
-        ("none is found", find_row(&block, key(7, 8)) == Some(None)),
+        ("a row is found", has_row(&block, 9, Some(pipe))),
+        ("none is found", has_row(&block, 8, None)),
         (
             "too many rows",
             put_row(&mut block, 2, key(7, 5), empty) == Placed::NoLeaf,

@@ -2,7 +2,7 @@
 use super::bench::Bench;
 use super::blocks::{bytes_of, bytes_text, child_at, count_in, letters_text, write_words};
 use super::changes::{begin, change};
-use super::differing::{compared, differed};
+use super::differing::{compared, differed, root_of, yes_or_no};
 use super::walks::{add_root, marked, verified};
 use super::words::{Wrong, add_stored, add_value, key, level, link, long, number};
 use std::alloc::Global;
@@ -167,14 +167,25 @@ fn ask(alloc: Global, bench: &mut Bench, words: &[&str]) -> Result<String, Wrong
         ["get", number] => got(alloc, bench, long(number)?),
         ["list"] => listed(alloc, bench),
         ["root"] => root_text(alloc, bench),
+        ["level"] => Ok(format!(in alloc; "{}", bench.root.level)?),
+        ["spent"] => {
+            let spent = bench.free.saturating_sub(bench.held.free_count());
+            Ok(format!(in alloc; "{spent}")?)
+        }
         ["path"] => path_text(alloc, bench),
         ["free"] => Ok(format!(in alloc; "{}", bench.held.free_count())?),
         ["take"] => taken(alloc, bench),
         ["mark", roots @ ..] => marked(alloc, bench, roots),
         ["verify", numbers @ ..] => verified(alloc, bench, true, numbers),
         ["strict", numbers @ ..] => verified(alloc, bench, false, numbers),
-        ["differ", first, second] => differed(alloc, bench, first, second),
-        ["same", first, second] => compared(alloc, bench, first, second),
+        ["differ", first, second] => differed(alloc, bench, first, second, true),
+        ["values", first, second] => differed(alloc, bench, first, second, false),
+        ["same", first, second] => compared(alloc, bench, first, second, true),
+        ["equal", first, second] => compared(alloc, bench, first, second, false),
+        ["above", first, second] => {
+            let is_so = root_of(bench, first)?.level > root_of(bench, second)?.level;
+            Ok(String::from_str(alloc, yes_or_no(is_so))?)
+        }
         ["calls"] => Ok(format!(in alloc; "{}", bench.new_calls())?),
         ["sync"] => {
             bench.disk.sync()?;

@@ -19,6 +19,10 @@ pub(super) type Device = NotedDisk<FuseDisk<MemDisk>>;
 pub(super) enum Sizes {
     /// 16, 256 and 8, as in the store.
     Store,
+    /// 2, 2 and 8.
+    DeepTwos,
+    /// 3, 4 and 8.
+    DeepThrees,
     /// 3, 3 and 2.
     Threes,
     /// 2, 2 and 2.
@@ -35,6 +39,9 @@ pub(super) struct Bench {
     pub(super) held: Held,
     pub(super) marks: Marks,
     pub(super) root: Root,
+    /// The roots that were kept under the names `a`, `b` and `c`, and how many blocks were free then.
+    pub(super) kept: [Root; 3],
+    pub(super) free: u32,
     /// The blocks that the last put or remove replaced, each at its level, and that of a long value.
     pub(super) path: [u32; 9],
     pub(super) sizes: Sizes,
@@ -45,7 +52,7 @@ pub(super) struct Bench {
 impl Bench {
     /// An empty map on a blank disk of so many blocks.
     pub(super) fn new(alloc: Global, blocks: u32) -> Result<Bench, Wrong> {
-        if blocks < 64 || blocks > 1024 {
+        if blocks < 64 || blocks > 16_384 {
             return Err(Wrong::Unreadable);
         }
         let disk = MemDisk::new(alloc, blocks)?;
@@ -56,6 +63,8 @@ impl Bench {
             held: Held::new(alloc, blocks)?,
             marks: Marks::new(alloc, blocks)?,
             root: Root::default(),
+            kept: [Root::default(); 3],
+            free: 0,
             path: [0; 9],
             sizes: Sizes::Store,
             seen: 0,

@@ -111,7 +111,7 @@ fn set_run(bytes: &mut [u8; 4096], run: &str) -> Result<(), Wrong> {
         if at >= 4096 {
             return Err(Wrong::Unreadable);
         }
-        bytes[at] = byte(str::from_utf8(pair).map_err(|_| Wrong::Unreadable)?)?;
+        bytes[at] = byte(str::from_utf8(pair)?)?;
     }
     Ok(())
 }
@@ -155,7 +155,7 @@ pub(super) fn bytes_text(alloc: Global, bytes: &[u8; 4096]) -> Result<String, Wr
 
 /// The letters that a block begins with.
 pub(super) fn letters_text(alloc: Global, bytes: &[u8; 4096]) -> Result<String, Wrong> {
-    let letters = str::from_utf8(&bytes[..4]).map_err(|_| Wrong::Unreadable)?;
+    let letters = str::from_utf8(&bytes[..4])?;
     Ok(String::from_str(alloc, letters)?)
 }
 

@@ -2,7 +2,8 @@
 ghost use Rattle.vm_tree.specs.Root.{AreSizes};
 
 use super::bench::{Bench, Device, Sizes};
-use super::words::{Wrong, key, level, long, number, root, value};
+use super::differing::{place_of, root_of};
+use super::words::{Wrong, key, long, number, value};
 use std::alloc::Global;
 use vm_check::mark;
 use vm_disk::Disk;
@@ -35,14 +36,29 @@ fn put_sized(bench: &mut Bench, number: u64, value: &Value) -> Result<(), Wrong>
     match bench.sizes {
         Sizes::Store => put_in::<16, 256, 8>(bench, number, value),
         Sizes::Threes => put_in::<3, 3, 2>(bench, number, value),
+        Sizes::DeepTwos => put_in::<2, 2, 8>(bench, number, value),
+        Sizes::DeepThrees => put_in::<3, 4, 8>(bench, number, value),
         _ => Err(Wrong::Unreadable),
     }
 }
 
-/// Puts so many records, from a key on.
-fn put_all(bench: &mut Bench, first: u64, count: u8, given: &str) -> Result<(), Wrong> {
-    for n in 0..count {
-        put_sized(bench, first.saturating_add(u64::from(n)), &value(given)?)?;
+/// Puts so many records, from a key on or from it down.
+fn put_all(
+    bench: &mut Bench,
+    first: u64,
+    count: u32,
+    given: &str,
+    rises: bool,
+) -> Result<(), Wrong> {
+    let given = value(given)?;
+    let mut number = first;
+    for _ in 0..count {
+        put_sized(bench, number, &given)?;
+        number = if rises {
+            number.saturating_add(1)
+        } else {
+            number.saturating_sub(1)
+        };
     }
     Ok(())
 }
@@ -100,6 +116,8 @@ fn let_go(bench: &mut Bench) -> Result<(), Wrong> {
 fn sizes(words: &[&str]) -> Result<Sizes, Wrong> {
     match words {
         ["3", "3", "2"] => Ok(Sizes::Threes),
+        ["2", "2", "8"] => Ok(Sizes::DeepTwos),
+        ["3", "4", "8"] => Ok(Sizes::DeepThrees),
         ["2", "2", "2"] => Ok(Sizes::Twos),
         ["3", "2", "2"] => Ok(Sizes::Pairs),
         ["3", "3", "1"] => Ok(Sizes::Flat),
@@ -111,7 +129,12 @@ fn sizes(words: &[&str]) -> Result<Sizes, Wrong> {
 pub(super) fn change(bench: &mut Bench, words: &[&str]) -> Result<Option<&'static str>, Wrong> {
     match words {
         ["put", number, given] => put_sized(bench, long(number)?, &value(given)?)?,
-        ["puts", first, count, given] => put_all(bench, long(first)?, level(count)?, given)?,
+        ["puts", first, count, given] => {
+            put_all(bench, long(first)?, number(count)?, given, true)?;
+        }
+        ["falls", first, count, given] => {
+            put_all(bench, long(first)?, number(count)?, given, false)?;
+        }
         ["remove", number] => {
             let was_there = remove_sized(bench, long(number)?)?;
             return Ok(Some(if was_there { "ok" } else { "none" }));
@@ -127,7 +150,12 @@ pub(super) fn begin(alloc: Global, bench: &mut Bench, words: &[&str]) -> Result<
     match words {
         ["new", blocks] => *bench = Bench::new(alloc, number(blocks)?)?,
         ["once", passes] => bench.fail_after(alloc, number(passes)?)?,
-        ["top", top] => bench.root = root(top)?,
+        ["top", top] => bench.root = root_of(bench, top)?,
+        ["keep", name] => {
+            let at = place_of(name).ok_or(Wrong::Unreadable)?;
+            bench.kept[at] = bench.root;
+            bench.free = bench.held.free_count();
+        }
         ["sizes", numbers @ ..] => bench.sizes = sizes(numbers)?,
         _ => return Ok(false),
     }

@@ -1,6 +1,5 @@
 //! Blocks that are none of the tree, where a descent comes to them.
-use super::script::{SEVENTEEN, plays};
-use std::test::Fail;
+use super::script::{Row, SEVENTEEN, plays_rows};
 
 /// A get, a put and a remove of record 10 each name the leaf that it lies in, and none of them
 /// takes or writes a block.
@@ -21,59 +20,85 @@ const ROOT_IS_REFUSED: &str = "
     dirty -> none
     free -> 25";
 
-#[test]
-fn refuses_a_block_of_another_head_or_first_key(rt: HostRuntime) -> Result<(), Fail> {
-    for spoiled in [
-        "0:4E4F4445",
-        "4:01000000",
-        "8:00000000",
-        "8:11000000",
-        "12:00000001",
-        "16:01000B00",
-    ] {
-        let spoil = format!(in rt.alloc(); "set 36 {spoiled}")?;
-        plays(&rt, &spoil, &[SEVENTEEN, &spoil, LEAF_IS_REFUSED]);
-    }
-    for spoiled in [
-        "0:4C454146",
-        "4:00000000",
-        "4:02000000",
-        "8:00000000",
-        "8:01010000",
-        "12:01000000",
-        "16:01000000",
-    ] {
-        let spoil = format!(in rt.alloc(); "set 37 {spoiled}")?;
-        plays(&rt, &spoil, &[SEVENTEEN, &spoil, ROOT_IS_REFUSED]);
-    }
-    plays(&rt, "as it was", &[SEVENTEEN, "get 10 -> v"]);
-    Ok(())
-}
-
-/// What stands in the place of the leaf of record 10, and what is answered then.
-const IN_ITS_PLACE: [(&str, &str, &str); 3] = [
+const ROWS: [Row; 17] = [
     (
-        "a block that is none of the tree",
-        "write all 36 07",
-        "
-        get 9 -> v
-        get 10 -> error Damaged 36
-        put 10 v -> error Damaged 36
-        remove 10 -> error Damaged 36
-        free -> 25",
+        "a leaf with the letters of an inner block",
+        &[SEVENTEEN, "set 36 0:4E4F4445", LEAF_IS_REFUSED],
     ),
-    ("another leaf of the tree", "copy 36 35", LEAF_IS_REFUSED),
+    (
+        "a leaf with a level",
+        &[SEVENTEEN, "set 36 4:01000000", LEAF_IS_REFUSED],
+    ),
+    (
+        "a leaf without rows",
+        &[SEVENTEEN, "set 36 8:00000000", LEAF_IS_REFUSED],
+    ),
+    (
+        "a leaf of 17 rows",
+        &[SEVENTEEN, "set 36 8:11000000", LEAF_IS_REFUSED],
+    ),
+    (
+        "a leaf with a byte of the head",
+        &[SEVENTEEN, "set 36 12:00000001", LEAF_IS_REFUSED],
+    ),
+    (
+        "a leaf with another first key",
+        &[SEVENTEEN, "set 36 16:01000B00", LEAF_IS_REFUSED],
+    ),
+    (
+        "a root with the letters of a leaf",
+        &[SEVENTEEN, "set 37 0:4C454146", ROOT_IS_REFUSED],
+    ),
+    (
+        "a root of level 0",
+        &[SEVENTEEN, "set 37 4:00000000", ROOT_IS_REFUSED],
+    ),
+    (
+        "a root of level 2",
+        &[SEVENTEEN, "set 37 4:02000000", ROOT_IS_REFUSED],
+    ),
+    (
+        "a root without children",
+        &[SEVENTEEN, "set 37 8:00000000", ROOT_IS_REFUSED],
+    ),
+    (
+        "a root of 257 children",
+        &[SEVENTEEN, "set 37 8:01010000", ROOT_IS_REFUSED],
+    ),
+    (
+        "a root with a byte of the head",
+        &[SEVENTEEN, "set 37 12:01000000", ROOT_IS_REFUSED],
+    ),
+    (
+        "a root with another first key",
+        &[SEVENTEEN, "set 37 16:01000000", ROOT_IS_REFUSED],
+    ),
+    ("as it was", &[SEVENTEEN, "get 10 -> v"]),
+    (
+        "a block that is none of the tree in the place of a leaf",
+        &[
+            SEVENTEEN,
+            "write all 36 07",
+            "
+            get 9 -> v
+            get 10 -> error Damaged 36
+            put 10 v -> error Damaged 36
+            remove 10 -> error Damaged 36
+            free -> 25",
+        ],
+    ),
+    (
+        "another leaf of the tree in its place",
+        &[SEVENTEEN, "copy 36 35", LEAF_IS_REFUSED],
+    ),
     (
         // The leaf as it was before record 10 came, and after it went.
-        "the leaf without record 10",
-        "write leaf 36 v 11 12",
-        LEAF_IS_REFUSED,
+        "the leaf without record 10 in its place",
+        &[SEVENTEEN, "write leaf 36 v 11 12", LEAF_IS_REFUSED],
     ),
 ];
 
 #[test]
-fn refuses_another_block_in_the_place_of_a_leaf(rt: HostRuntime) {
-    for (name, spoil, row) in &IN_ITS_PLACE {
-        plays(&rt, name, &[SEVENTEEN, *spoil, *row]);
-    }
+fn refuses_blocks_that_are_none_of_the_tree(rt: HostRuntime) {
+    plays_rows(&rt, &ROWS);
 }

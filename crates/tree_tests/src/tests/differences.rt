@@ -1,270 +1,158 @@
 //! Differences of maps that are made by puts and removals, and how many blocks are read for them.
-ghost use Rattle.vm_tree.specs.Root.{AreSizes};
+use super::script::{Row, plays_rows};
 
-mod levels;
+/// The first sixteen puts take a block each, and the seventeenth two leaves and the root above them in block 52.
+const TWO_LEAVES: &str = "
+    new 128
+    puts 1 17 v
+    root -> 52.1.1";
 
-use std::alloc::Global;
-use std::test::Fail;
-use vm_alloc::Held;
-use vm_diff::{changed, same};
-use vm_disk::{Disk, FuseDisk, MemDisk};
-use vm_tree::{ListFault, Root, TreeFault, put, remove};
-use vm_types::{Change, Key, Refusal, Value};
-
-/// A disk that counts its calls, and the blocks that are held on it.
-#[derive(Drop)]
-struct Bench {
-    disk: FuseDisk<MemDisk>,
-    held: Held,
-}
-
-fn key(number: u64) -> Key {
-    Key { table: 1, number }
-}
-
-fn value(byte: u8) -> Value {
-    Value::new(&[byte]).unwrap_or_default()
-}
-
-/// What cannot be made is answered `Memory`, here and below.
-fn new_bench(alloc: Global, blocks: u32) -> Result<Bench, Refusal> {
-    if blocks < 64 || blocks > 1_048_576 {
-        return Err(Refusal::Memory);
-    }
-    match (MemDisk::new(alloc, blocks), Held::new(alloc, blocks)) {
-        (Ok(disk), Ok(held)) => Ok(Bench {
-            disk: FuseDisk::stop(disk, 1_000_000, [0; 4096]),
-            held,
-        }),
-        _ => Err(Refusal::Memory),
-    }
-}
-
-/// The map with one more record, in a tree of these sizes.
-fn with<const LEAF: usize, const FAN: usize, const LEVELS: usize>(
-    bench: &mut Bench,
-    root: Root,
-    number: u64,
-    byte: u8,
-) -> Result<Root, Refusal>
-    requires { AreSizes LEAF FAN LEVELS }
-{
-    if bench.held.free_count() < 16 || bench.held.blocks() > bench.disk.blocks() {
-        return Err(Refusal::Memory);
-    }
-    Ok(put::<FuseDisk<MemDisk>, LEAF, FAN, LEVELS>(
-        &mut bench.disk,
-        &mut bench.held,
-        root,
-        key(number),
-        value(byte).as_bytes(),
-        &mut [0; 9],
-    )?)
-}
-
-/// The map without a record that it has, in a tree of these sizes.
-fn without<const LEAF: usize, const FAN: usize, const LEVELS: usize>(
-    bench: &mut Bench,
-    root: Root,
-    number: u64,
-) -> Result<Root, Refusal>
-    requires { AreSizes LEAF FAN LEVELS }
-{
-    if bench.held.free_count() < 16 || bench.held.blocks() > bench.disk.blocks() {
-        return Err(Refusal::Memory);
-    }
-    let removed = remove::<FuseDisk<MemDisk>, LEAF, FAN, LEVELS>(
-        &mut bench.disk,
-        &mut bench.held,
-        root,
-        key(number),
-        &mut [0; 9],
-    )?;
-    removed.ok_or(Refusal::Memory)
-}
-
-/// The records (1, 1) to (1, 17), each of value v, put in rising order.
-fn seventeen(bench: &mut Bench) -> Result<Root, Refusal> {
-    let mut root = Root::default();
-    for number in 1..18 {
-        root = with::<16, 256, 8>(bench, root, number, b'v')?;
-    }
-    Ok(root)
-}
-
-fn changes_of(
-    alloc: Global,
-    bench: &mut Bench,
-    first: Root,
-    second: Root,
-) -> Result<Vec<Change>, Refusal> {
-    let blocks = bench.disk.blocks();
-    changed(alloc, &mut bench.disk, blocks, first, second)?
-        .to_vec(alloc)
-        .map_err(|_| Refusal::Memory)
-}
-
-fn are_same(bench: &mut Bench, first: Root, second: Root) -> Result<bool, Refusal> {
-    let blocks = bench.disk.blocks();
-    Ok(same(&mut bench.disk, blocks, first, second)?)
-}
-
-/// A change of a key of table 1, of values of one byte.
-fn change(number: u64, before: Option<u8>, after: Option<u8>) -> Change {
-    Change {
-        key: key(number),
-        before: before.map(value),
-        after: after.map(value),
-    }
-}
-
-#[test]
-fn reads_nothing_of_one_tree(rt: HostRuntime) -> Result<(), Fail> {
-    let mut bench = new_bench(rt.alloc(), 128)?;
-    let root = seventeen(&mut bench)?;
-    let calls = bench.disk.calls();
-    let changes = changes_of(rt.alloc(), &mut bench, root, root)?;
-    assert_eq!(rt; changes.len(), 0);
-    assert!(rt; are_same(&mut bench, root, root)?);
-    assert_eq!(rt; bench.disk.calls(), calls);
-
-    let empty = Root::default();
-    let none = changes_of(rt.alloc(), &mut bench, empty, empty)?;
-    assert_eq!(rt; none.len(), 0);
-    assert!(rt; are_same(&mut bench, empty, empty)?);
-    assert_eq!(rt; bench.disk.calls(), calls);
-    Ok(())
-}
-
-#[test]
-fn reads_the_paths_to_one_changed_record(rt: HostRuntime) -> Result<(), Fail> {
-    let mut bench = new_bench(rt.alloc(), 128)?;
-    let first = seventeen(&mut bench)?;
-    let second = with::<16, 256, 8>(&mut bench, first, 1, b'w')?;
-    let calls = bench.disk.calls();
-    let changes = changes_of(rt.alloc(), &mut bench, first, second)?;
-    assert_eq!(rt; bench.disk.calls().wrapping_sub(calls), 4);
-    assert_eq!(rt; changes.len(), 1);
-    assert!(rt; changes.as_slice() == [change(1, Some(b'v'), Some(b'w'))].as_slice());
-    assert!(rt; !are_same(&mut bench, first, second)?);
-    assert_eq!(rt; bench.disk.calls().wrapping_sub(calls), 8);
-    Ok(())
-}
-
-#[test]
-fn reads_each_block_of_a_tree_once_beside_the_empty_map(rt: HostRuntime) -> Result<(), Fail> {
-    let mut bench = new_bench(rt.alloc(), 128)?;
-    let root = seventeen(&mut bench)?;
-    let calls = bench.disk.calls();
-    let added = changes_of(rt.alloc(), &mut bench, Root::default(), root)?;
-    assert_eq!(rt; bench.disk.calls().wrapping_sub(calls), 3);
-    assert_eq!(rt; added.len(), 17);
-    for (i, found) in added.as_slice().iter().enumerate() {
-        assert!(rt; *found == change((i as u64).wrapping_add(1), None, Some(b'v')));
-    }
-    let removed = changes_of(rt.alloc(), &mut bench, root, Root::default())?;
-    assert_eq!(rt; bench.disk.calls().wrapping_sub(calls), 6);
-    assert_eq!(rt; removed.len(), 17);
-    for (i, found) in removed.as_slice().iter().enumerate() {
-        assert!(rt; *found == change((i as u64).wrapping_add(1), Some(b'v'), None));
-    }
-    assert!(rt; !are_same(&mut bench, root, Root::default())?);
-    Ok(())
-}
+const ROWS: [Row; 9] = [
+    (
+        "reads nothing of one tree",
+        &[
+            TWO_LEAVES,
+            "
+            differ 52.1.1 52.1.1 -> none by 0
+            same 52.1.1 52.1.1 -> yes by 0
+            differ none none -> none by 0
+            same none none -> yes by 0",
+        ],
+    ),
+    (
+        "reads the paths to one changed record",
+        &[
+            TWO_LEAVES,
+            "
+            put 1 w
+            root -> 54.1.1
+            differ 52.1.1 54.1.1 -> 1=v>w by 4
+            same 52.1.1 54.1.1 -> no by 4",
+        ],
+    ),
+    (
+        "reads each block of a tree once beside the empty map",
+        &[
+            TWO_LEAVES,
+            "
+            differ none 52.1.1 -> 1=~>v 2=~>v 3=~>v 4=~>v 5=~>v 6=~>v 7=~>v 8=~>v 9=~>v 10=~>v 11=~>v 12=~>v 13=~>v 14=~>v 15=~>v 16=~>v 17=~>v by 3
+            differ 52.1.1 none -> 1=v>~ 2=v>~ 3=v>~ 4=v>~ 5=v>~ 6=v>~ 7=v>~ 8=v>~ 9=v>~ 10=v>~ 11=v>~ 12=v>~ 13=v>~ 14=v>~ 15=v>~ 16=v>~ 17=v>~ by 3
+            equal 52.1.1 none -> no",
+        ],
+    ),
+    (
+        "finds no change in a record written again",
+        &[
+            TWO_LEAVES,
+            "
+            put 1 v
+            root -> 54.1.1
+            values 52.1.1 54.1.1 -> none
+            equal 52.1.1 54.1.1 -> yes",
+        ],
+    ),
+    (
+        "finds what was added, changed and removed",
+        &[
+            TWO_LEAVES,
+            "
+            put 0 a
+            put 12 w
+            remove 5
+            keep a
+            values 52.1.1 a -> 0=~>a 5=v>~ 12=v>w
+            equal 52.1.1 a -> no",
+        ],
+    ),
+    (
+        "compares trees of other shapes",
+        &[
+            "
+            new 1024
+            sizes 2 2 8
+            puts 1 40 v
+            keep a
+            top none
+            sizes 3 4 8
+            falls 40 40 v
+            keep b
+            above a b -> yes
+            equal a b -> yes
+            put 23 w
+            keep c
+            values a c -> 23=v>w
+            equal c a -> no",
+        ],
+    ),
+    (
+        // Block 100 is blank, and no root has level 8.
+        "answers Damaged where a block is none of a tree",
+        &[
+            TWO_LEAVES,
+            "
+            differ 52.1.1 100.0.1 -> error Damaged 100
+            same 100.0.1 52.1.1 -> error Damaged 100
+            differ 52.8.1 52.1.1 -> error Damaged 52
+            same 52.1.1 52.8.1 -> error Damaged 52",
+        ],
+    ),
+    (
+        "answers that the device failed",
+        &[
+            TWO_LEAVES,
+            "
+            once 1
+            differ none 52.1.1 -> error Device
+            once 0
+            same 52.1.1 none -> error Device",
+        ],
+    ),
+    (
+        // 5,000 records need more than 256 leaves of 16, so an inner block above inner blocks; and where each leaf
+        // has 8 or more, and each inner block 128 or more, one inner block on top is enough. A change takes three
+        // blocks, and is found for just these and the three in whose place they stand: all that is not shared.
+        "reads two paths of three blocks for one of 5,000 records",
+        &[
+            "
+            new 16384
+            puts 0 5000 v
+            level -> 2
+            keep a",
+            "
+            put 0 w
+            spent -> 3
+            keep b
+            differ a b -> 0=v>w by 6
+            same a b -> no by 6",
+            "
+            top a
+            keep a
+            put 8 w
+            spent -> 3
+            keep b
+            differ a b -> 8=v>w by 6
+            same a b -> no by 6",
+            "
+            top a
+            keep a
+            put 2500 w
+            spent -> 3
+            keep b
+            differ a b -> 2500=v>w by 6
+            same a b -> no by 6",
+            "
+            top a
+            keep a
+            put 4999 w
+            spent -> 3
+            keep b
+            differ a b -> 4999=v>w by 6
+            same a b -> no by 6",
+        ],
+    ),
+];
 
 #[test]
-fn finds_no_change_in_a_record_written_again(rt: HostRuntime) -> Result<(), Fail> {
-    let mut bench = new_bench(rt.alloc(), 128)?;
-    let first = seventeen(&mut bench)?;
-    let second = with::<16, 256, 8>(&mut bench, first, 1, b'v')?;
-    assert!(rt; first.block != second.block);
-    let changes = changes_of(rt.alloc(), &mut bench, first, second)?;
-    assert_eq!(rt; changes.len(), 0);
-    assert!(rt; are_same(&mut bench, first, second)?);
-    Ok(())
-}
-
-#[test]
-fn finds_what_was_added_changed_and_removed(rt: HostRuntime) -> Result<(), Fail> {
-    let mut bench = new_bench(rt.alloc(), 128)?;
-    let first = seventeen(&mut bench)?;
-    let added = with::<16, 256, 8>(&mut bench, first, 0, b'a')?;
-    let overwritten = with::<16, 256, 8>(&mut bench, added, 12, b'w')?;
-    let second = without::<16, 256, 8>(&mut bench, overwritten, 5)?;
-    let changes = changes_of(rt.alloc(), &mut bench, first, second)?;
-    assert_eq!(rt; changes.len(), 3);
-    assert!(rt;
-        changes.as_slice()
-            == [
-                change(0, None, Some(b'a')),
-                change(5, Some(b'v'), None),
-                change(12, Some(b'v'), Some(b'w')),
-            ]
-            .as_slice()
-    );
-    assert!(rt; !are_same(&mut bench, first, second)?);
-    Ok(())
-}
-
-#[test]
-fn compares_trees_of_other_shapes(rt: HostRuntime) -> Result<(), Fail> {
-    let mut bench = new_bench(rt.alloc(), 1_024)?;
-    let mut rising = Root::default();
-    let mut falling = Root::default();
-    for number in 1..41 {
-        rising = with::<2, 2, 8>(&mut bench, rising, number, b'v')?;
-        falling = with::<3, 4, 8>(&mut bench, falling, 41_u64.wrapping_sub(number), b'v')?;
-    }
-    assert!(rt; rising.level > falling.level);
-    assert!(rt; are_same(&mut bench, rising, falling)?);
-    let other = with::<3, 4, 8>(&mut bench, falling, 23, b'w')?;
-    let changes = changes_of(rt.alloc(), &mut bench, rising, other)?;
-    assert_eq!(rt; changes.len(), 1);
-    assert!(rt; changes.as_slice() == [change(23, Some(b'v'), Some(b'w'))].as_slice());
-    assert!(rt; !are_same(&mut bench, other, rising)?);
-    Ok(())
-}
-
-#[test]
-fn answers_damaged_where_a_block_is_none_of_a_tree(rt: HostRuntime) -> Result<(), Fail> {
-    let mut bench = new_bench(rt.alloc(), 128)?;
-    let root = seventeen(&mut bench)?;
-    let none = Root {
-        block: 100,
-        level: 0,
-        low: key(1),
-    };
-    assert!(rt;
-        matches!(
-            changes_of(rt.alloc(), &mut bench, root, none),
-            Err(Refusal::Damaged(100))
-        )
-    );
-    assert!(rt; are_same(&mut bench, none, root) == Err(Refusal::Damaged(100)));
-    let high = Root { level: 8, ..root };
-    assert!(rt;
-        matches!(
-            changes_of(rt.alloc(), &mut bench, high, root),
-            Err(Refusal::Damaged(_))
-        )
-    );
-    assert!(rt; are_same(&mut bench, root, high) == Err(Refusal::Damaged(root.block)));
-    Ok(())
-}
-
-#[test]
-fn answers_that_the_device_failed(rt: HostRuntime) -> Result<(), Fail> {
-    let mut bench = new_bench(rt.alloc(), 128)?;
-    let root = seventeen(&mut bench)?;
-    let mut disk = FuseDisk::once(bench.disk.into_inner(), 1, [0; 4096]);
-    let blocks = disk.blocks();
-    assert!(rt;
-        matches!(
-            changed(rt.alloc(), &mut disk, blocks, Root::default(), root),
-            Err(ListFault::Tree(TreeFault::Device))
-        )
-    );
-    let mut again = FuseDisk::once(disk.into_inner(), 0, [0; 4096]);
-    assert!(rt; same(&mut again, blocks, root, Root::default()) == Err(TreeFault::Device));
-    Ok(())
+fn finds_differences_of_maps(rt: HostRuntime) {
+    plays_rows(&rt, &ROWS);
 }

@@ -1,9 +1,36 @@
 //! Differences of two maps, found by steps of a row.
+ghost use Rattle.std.specs.Prelude.{◌<◌, IfSome};
+
 use super::bench::Bench;
 use super::words::{Wrong, add_value, root};
 use std::alloc::Global;
 use vm_diff::{changed, same};
 use vm_disk::Disk;
+use vm_tree::Root;
+
+/// Where the root of this name is kept, if one may be.
+pub(super) fn place_of(name: &str) -> Option<usize>
+    ensures { IfSome result (λ at. at < 3) }
+{
+    match name {
+        "a" => Some(0),
+        "b" => Some(1),
+        "c" => Some(2),
+        _ => None,
+    }
+}
+
+/// The root for which a word stands, or of which it has the numbers.
+pub(super) fn root_of(bench: &Bench, word: &str) -> Result<Root, Wrong> {
+    match place_of(word) {
+        Some(at) => Ok(bench.kept[at]),
+        None => root(word),
+    }
+}
+
+pub(super) fn yes_or_no(is_so: bool) -> &'static str {
+    if is_so { "yes" } else { "no" }
+}
 
 /// Adds a value, or that there is none, to a text.
 fn add_side(text: &mut String, value: Option<&[u8]>) -> Result<(), Wrong> {
@@ -19,10 +46,12 @@ pub(super) fn differed(
     bench: &mut Bench,
     first: &str,
     second: &str,
+    tells_calls: bool,
 ) -> Result<String, Wrong> {
     let blocks = bench.disk.blocks();
     let before = bench.calls();
-    let changes = changed(alloc, &mut bench.disk, blocks, root(first)?, root(second)?)?;
+    let (first, second) = (root_of(bench, first)?, root_of(bench, second)?);
+    let changes = changed(alloc, &mut bench.disk, blocks, first, second)?;
     let calls = bench.calls().saturating_sub(before);
     let mut text = String::new(alloc);
     if changes.is_empty() {
@@ -34,7 +63,9 @@ pub(super) fn differed(
         text.push_str(">")?;
         add_side(&mut text, after)?;
     }
-    write!(text, " by {calls}")?;
+    if tells_calls {
+        write!(text, " by {calls}")?;
+    }
     Ok(text)
 }
 
@@ -44,11 +75,15 @@ pub(super) fn compared(
     bench: &mut Bench,
     first: &str,
     second: &str,
+    tells_calls: bool,
 ) -> Result<String, Wrong> {
     let blocks = bench.disk.blocks();
     let before = bench.calls();
-    let equal = same(&mut bench.disk, blocks, root(first)?, root(second)?)?;
+    let (first, second) = (root_of(bench, first)?, root_of(bench, second)?);
+    let word = yes_or_no(same(&mut bench.disk, blocks, first, second)?);
     let calls = bench.calls().saturating_sub(before);
-    let word = if equal { "yes" } else { "no" };
-    Ok(format!(in alloc; "{word} by {calls}")?)
+    if tells_calls {
+        return Ok(format!(in alloc; "{word} by {calls}")?);
+    }
+    Ok(String::from_str(alloc, word)?)
 }

@@ -1,12 +1,32 @@
 //! Values of more than 240 bytes: their blocks, the leaves that link to them, and what reads them.
-use super::script::{BLANK, plays, plays_rows};
+use super::script::{Row, plays_rows};
 
-const CHANGES: [(&str, &str, &str); 5] = [
+/// A long value beside a short one.
+const TWO_VALUES: &str = "
+    put 1 300*a
+    put 2 v";
+
+/// Block 34 has no such value. A put and a remove do not read it.
+const DAMAGED: &str = "
+    get 1 -> error Damaged 34
+    list -> error Damaged 34
+    long 1 300@34 -> error Damaged 34
+    get 2 -> v
+    put 2 w
+    remove 1
+    list -> 2=w";
+
+/// A full leaf of short values.
+const FULL: &str = "
+    new 128
+    puts 1 16 v";
+
+const ROWS: [Row; 24] = [
     (
         // The long block is taken first, then the leaf.
         "takes a block for more than 240 bytes",
-        BLANK,
-        "
+        &[
+            "
         put 1 240*a
         free -> 29
         letters 34 -> LEAF
@@ -22,11 +42,12 @@ const CHANGES: [(&str, &str, &str); 5] = [
         leaf 38 -> 1=241@35 2=4000@37
         get 2 -> 4000*c
         list -> 1=241*b 2=4000*c",
+        ],
     ),
     (
         "spells the leaf as its rows ask",
-        BLANK,
-        "
+        &[
+            "
         put 1 300*a
         free -> 28
         long 1 300@34 -> 300*a
@@ -43,11 +64,12 @@ const CHANGES: [(&str, &str, &str); 5] = [
         remove 2
         letters 42 -> LEAF
         leaf 42 -> 1=duct",
+        ],
     ),
     (
         "names the block of a value that goes",
-        BLANK,
-        "
+        &[
+            "
         put 1 300*a
         path -> none
         put 2 v
@@ -61,12 +83,13 @@ const CHANGES: [(&str, &str, &str); 5] = [
         remove 1
         path -> 41 40
         root -> 42.0.2",
+        ],
     ),
     (
         // Where the key is there, the leaf has room: a long block, a leaf and a root.
         "takes no block where there is no room",
-        BLANK,
-        "
+        &[
+            "
         new 256
         sizes 3 3 2
         puts 1 7 v
@@ -79,11 +102,12 @@ const CHANGES: [(&str, &str, &str); 5] = [
         free -> 206
         root -> 49.1.1
         get 7 -> 300*a",
+        ],
     ),
     (
         "holds a long value as long as a leaf links to it",
-        BLANK,
-        "
+        &[
+            "
         put 1 300*a
         put 2 v
         put 2 w
@@ -94,19 +118,12 @@ const CHANGES: [(&str, &str, &str); 5] = [
         let go
         free -> 29
         take -> 34",
+        ],
     ),
-];
-
-#[test]
-fn takes_and_lets_go_of_blocks_of_long_values(rt: HostRuntime) {
-    plays_rows(&rt, &CHANGES);
-}
-
-const READS: [(&str, &str, &str); 3] = [
     (
         "reads a long value only to give it",
-        BLANK,
-        "
+        &[
+            "
         put 1 300*a
         put 2 v
         calls -> 4
@@ -125,11 +142,12 @@ const READS: [(&str, &str, &str); 3] = [
         calls -> 2
         list -> 2=w
         calls -> 1",
+        ],
     ),
     (
         "answers that the device failed at a long value",
-        BLANK,
-        "
+        &[
+            "
         put 1 300*a
         once 1
         get 1 -> error Device
@@ -139,50 +157,32 @@ const READS: [(&str, &str, &str); 3] = [
         once 1
         verify 35 -> error Device
         verify 35 -> 35.0.1 marks 34 35 by 2",
+        ],
     ),
     (
         "finds no long value outside the blocks for data",
-        BLANK,
-        "
+        &[
+            "
         long 1 300@33 -> error Damaged 33
         long 1 300@64 -> error Damaged 64",
+        ],
     ),
-];
-
-#[test]
-fn reads_long_values(rt: HostRuntime) {
-    plays_rows(&rt, &READS);
-}
-
-#[test]
-fn names_the_block_that_has_no_such_value(rt: HostRuntime) {
-    // Another key, another length, and no long value at all. A put and a remove do not read it.
-    for spoil in ["set 34 18:02", "set 34 8:2D", "write all 34 00"] {
-        let row = "
-            put 1 300*a
-            put 2 v";
-        let damaged = "
-            get 1 -> error Damaged 34
-            list -> error Damaged 34
-            long 1 300@34 -> error Damaged 34
-            get 2 -> v
-            put 2 w
-            remove 1
-            list -> 2=w";
-        plays(&rt, spoil, &[row, spoil, damaged]);
-    }
-}
-
-/// A full leaf of short values.
-const FULL: &str = "
-    new 128
-    puts 1 16 v";
-
-const SPLITS: [(&str, &str, &str); 4] = [
+    (
+        "names the block of another key",
+        &[TWO_VALUES, "set 34 18:02", DAMAGED],
+    ),
+    (
+        "names the block of another length",
+        &[TWO_VALUES, "set 34 8:2D", DAMAGED],
+    ),
+    (
+        "names the block of no long value at all",
+        &[TWO_VALUES, "write all 34 00", DAMAGED],
+    ),
     (
         "splits a leaf with its long row on the left",
-        BLANK,
-        "
+        &[
+            "
         new 128
         put 1 300*a
         puts 2 15 v
@@ -199,11 +199,12 @@ const SPLITS: [(&str, &str, &str); 4] = [
         leaf 51 -> 1=300@34 2=v 3=v 4=v 5=v 6=v 7=v 8=v 9=v
         leaf 52 -> 10=v 11=v 12=v 13=v 14=v 15=v 16=v 17=v
         get 2 -> v",
+        ],
     ),
     (
         "splits a leaf with its long row on the right",
-        BLANK,
-        "
+        &[
+            "
         new 128
         puts 1 15 v
         put 16 300*a
@@ -216,12 +217,14 @@ const SPLITS: [(&str, &str, &str); 4] = [
         letters 52 -> LEF2
         leaf 52 -> 10=v 11=v 12=v 13=v 14=v 15=v 16=300@49 17=v
         get 16 -> 300*a",
+        ],
     ),
     (
         // The long block is taken before the two leaves and the root.
         "splits a leaf at a long value that comes last",
-        FULL,
-        "
+        &[
+            FULL,
+            "
         put 17 300*a
         root -> 53.1.1
         free -> 74
@@ -229,11 +232,13 @@ const SPLITS: [(&str, &str, &str); 4] = [
         letters 51 -> LEAF
         letters 52 -> LEF2
         leaf 52 -> 10=v 11=v 12=v 13=v 14=v 15=v 16=v 17=300@50",
+        ],
     ),
     (
         "splits a leaf at a long value that comes first",
-        FULL,
-        "
+        &[
+            FULL,
+            "
         put 0 300*a
         root -> 53.1.0
         free -> 74
@@ -241,19 +246,12 @@ const SPLITS: [(&str, &str, &str); 4] = [
         letters 51 -> LEF2
         letters 52 -> LEAF
         leaf 51 -> 0=300@50 1=v 2=v 3=v 4=v 5=v 6=v 7=v 8=v",
+        ],
     ),
-];
-
-#[test]
-fn splits_leaves_with_long_rows(rt: HostRuntime) {
-    plays_rows(&rt, &SPLITS);
-}
-
-const FOUND: [(&str, &str, &str); 4] = [
     (
         "finds the blocks of long values, and reads each once",
-        BLANK,
-        "
+        &[
+            "
         new 64
         write long 35 1 300*a
         write rows 34 1=300@35
@@ -263,11 +261,12 @@ const FOUND: [(&str, &str, &str); 4] = [
         write leaf 37 v 3
         write node 38 1 1:36 3:37
         verify 34 38 34 -> 34.0.1 38.1.1 34.0.1 marks 34 35 36 37 38 by 5",
+        ],
     ),
     (
         "names a link that leads to no such value",
-        BLANK,
-        "
+        &[
+            "
         new 64
         # Numbers that are out of range.
         write rows 34 1=300@33
@@ -296,11 +295,12 @@ const FOUND: [(&str, &str, &str); 4] = [
         verify 34 -> error Damaged 33
         write node 36 1 2:34
         verify 36 -> error Damaged 33",
+        ],
     ),
     (
         "compares a long value that was met before",
-        BLANK,
-        "
+        &[
+            "
         new 64
         write long 35 1 300*a
         # Two keys, in one leaf and in two trees, and two lengths.
@@ -317,11 +317,12 @@ const FOUND: [(&str, &str, &str); 4] = [
         write node 37 1 1:35
         verify 37 -> error Damaged 35
         verify 34 37 -> error Damaged 35",
+        ],
     ),
     (
         "names a leaf with a long value where none is allowed",
-        BLANK,
-        "
+        &[
+            "
         new 64
         write long 35 1 300*a
         write rows 34 1=300@35
@@ -337,57 +338,45 @@ const FOUND: [(&str, &str, &str); 4] = [
         # All short.
         write leaf 37 v 1
         strict 38 0 36 -> 38.1.0 none 36.0.0 marks 36 37 38 by 3",
+        ],
     ),
-];
-
-#[test]
-fn verifies_leaves_with_long_values(rt: HostRuntime) {
-    plays_rows(&rt, &FOUND);
-}
-
-const MARKED: [(&str, &str, &str); 3] = [
     (
         // Of the inner block and of the one leaf that is not plain; the long block itself is not read.
         "marks a long value by a read of its leaf",
-        BLANK,
-        "
+        &[
+            "
         new 128
         put 1 300*a
         puts 2 16 v
         mark 53.1.1 -> marks 34 51 52 53 by 2",
+        ],
     ),
     (
         // Where all leaves are plain, of the inner block.
         "reads no leaf where all are plain",
-        BLANK,
-        "
+        &[
+            "
         new 128
         puts 1 17 v
         mark 52.1.1 -> marks 50 51 52 by 1",
+        ],
     ),
     (
         // And where nothing is noted, of both leaves.
         "reads each leaf where nothing is noted",
-        BLANK,
-        "
+        &[
+            "
         new 128
         put 1 300*a
         puts 2 16 v
         once 1000
         mark 53.1.1 -> marks 34 51 52 53 by 3",
+        ],
     ),
-];
-
-#[test]
-fn marks_the_blocks_of_long_values(rt: HostRuntime) {
-    plays_rows(&rt, &MARKED);
-}
-
-const DIFFERENCES: [(&str, &str, &str); 2] = [
     (
         "reads no long value that both maps have in one block",
-        BLANK,
-        "
+        &[
+            "
         put 1 300*a
         put 2 v
         put 2 w
@@ -397,11 +386,12 @@ const DIFFERENCES: [(&str, &str, &str); 2] = [
         put 2 v
         differ 36.0.1 38.0.1 -> none by 2
         same 36.0.1 38.0.1 -> yes by 2",
+        ],
     ),
     (
         "compares long values of two blocks",
-        BLANK,
-        "
+        &[
+            "
         put 1 300*a
         put 1 300*a
         differ 35.0.1 37.0.1 -> none by 4
@@ -417,10 +407,11 @@ const DIFFERENCES: [(&str, &str, &str); 2] = [
         differ 42.0.1 41.0.1 -> 1=v>301*b by 3
         differ none 35.0.1 -> 1=~>300*a by 2
         differ 35.0.1 none -> 1=300*a>~ by 2",
+        ],
     ),
 ];
 
 #[test]
-fn finds_differences_of_long_values(rt: HostRuntime) {
-    plays_rows(&rt, &DIFFERENCES);
+fn long_values_are_put_read_and_found(rt: HostRuntime) {
+    plays_rows(&rt, &ROWS);
 }

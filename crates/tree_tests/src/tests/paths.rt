@@ -1,13 +1,13 @@
 //! Which blocks a put and a remove replace.
 //!
 //! After each of them the path has the blocks of the old one, and a marking from the new root finds none of those.
-use super::script::{BLANK, FOREIGN, SEVENTEEN, plays_rows};
+use super::script::{FOREIGN, Row, SEVENTEEN, plays_rows};
 
-const ROWS: [(&str, &str, &str); 4] = [
+const ROWS: [Row; 4] = [
     (
         "replaces the one leaf",
-        BLANK,
-        "
+        &[
+            "
         put 1 v
         path -> none
         root -> 34.0.1
@@ -26,12 +26,14 @@ const ROWS: [(&str, &str, &str); 4] = [
         root -> none
         remove 2 -> none
         path -> none",
+        ],
     ),
     (
         // The first path is that of the put which split the one leaf.
         "replaces a leaf and the root above it",
-        SEVENTEEN,
-        "
+        &[
+            SEVENTEEN,
+            "
         path -> 34
         put 1 w
         path -> 35 37
@@ -43,11 +45,13 @@ const ROWS: [(&str, &str, &str); 4] = [
         root -> 35.1.1
         let go
         mark 35.1.1 -> marks 34 35 38 by 0",
+        ],
     ),
     (
         "replaces a block on each of three levels",
-        FOREIGN,
-        "
+        &[
+            FOREIGN,
+            "
         write fan 35 256
         put 1 w
         path -> 34 35
@@ -59,12 +63,13 @@ const ROWS: [(&str, &str, &str); 4] = [
         remove 1
         path -> 41 42 43
         root -> 46.2.0",
+        ],
     ),
     (
         // The leaf that becomes the root was beside the path.
         "names the path alone where one child is left",
-        BLANK,
-        "
+        &[
+            "
         new 256
         sizes 3 3 2
         puts 1 4 v
@@ -74,6 +79,7 @@ const ROWS: [(&str, &str, &str); 4] = [
         path -> 40 41
         root -> 38.0.3
         mark 38.0.3 -> marks 38 by 0",
+        ],
     ),
 ];
 

@@ -10,7 +10,7 @@ use std::test::Fail;
 use vm_alloc::{Held, Marks};
 use vm_block::{Child, Stored, is_long_leaf, read_leaf, read_node};
 use vm_check::{NotedDisk, mark};
-use vm_disk::{Disk, MemDisk};
+use vm_disk::{DeviceFault, Disk, MemDisk};
 use vm_tree::{ListFault, PutFault, Root, TreeFault, get, put, remove, scan};
 use vm_types::{FIRST_DATA, Key, Refusal, Value};
 
@@ -53,6 +53,12 @@ enum Wrong {
 impl From<AllocError> for Wrong {
     fn from(_: AllocError) -> Wrong {
         Wrong::Memory
+    }
+}
+
+impl From<DeviceFault> for Wrong {
+    fn from(_: DeviceFault) -> Wrong {
+        Wrong::Tree(Refusal::Device)
     }
 }
 
@@ -100,8 +106,7 @@ fn bytes_at(disk: &mut NotedDisk<MemDisk>, block: u32) -> Result<[u8; 4096], Wro
     if block >= disk.blocks() {
         return Err(Wrong::Sizes);
     }
-    disk.read(block, &mut bytes)
-        .map_err(|_| Wrong::Tree(Refusal::Device))?;
+    disk.read(block, &mut bytes)?;
     Ok(bytes)
 }
 
@@ -251,7 +256,9 @@ impl Pair {
             Ok(root) => {
                 self.root = root;
                 self.top = self.top.max(root.level);
-                self.plain.insert(number, value).map_err(|_| Wrong::Memory)?;
+                if self.plain.insert(number, value).is_err() {
+                    return Err(Wrong::Memory);
+                }
                 Ok(())
             }
             Err(PutFault::Deep) => {
@@ -313,7 +320,12 @@ impl Pair {
         for _ in 0..100 {
             let number = self.number();
             let found = self.get(number, &mut room)?;
-            if found != self.plain.get(&number).map(|value| value.as_slice()) {
+            let is_so = match (found, self.plain.get(&number)) {
+                (Some(found), Some(due)) => found == due.as_slice(),
+                (None, None) => true,
+                _ => false,
+            };
+            if !is_so {
                 return Err(Wrong::Got(number));
             }
         }
@@ -349,9 +361,8 @@ impl Pair {
 fn agrees_at_the_sizes_of_the_store(rt: HostRuntime) -> Result<(), Fail> {
     let mut pair = Pair::new(rt.alloc(), 1, 16_384)?;
     pair.run::<16, 256, 8>(rt.alloc())?;
-    assert!(rt; pair.markings > 0);
-    assert_eq!(rt; pair.top, 2);
-    assert_eq!(rt; pair.deeps, 0);
+    let is_so = pair.markings > 0 && pair.top == 2 && pair.deeps == 0;
+    assert!(rt; is_so, "{} markings, top {}, {} times Deep", pair.markings, pair.top, pair.deeps);
     Ok(())
 }
 
@@ -359,9 +370,8 @@ fn agrees_at_the_sizes_of_the_store(rt: HostRuntime) -> Result<(), Fail> {
 fn agrees_where_small_blocks_make_a_tree_deep(rt: HostRuntime) -> Result<(), Fail> {
     let mut pair = Pair::new(rt.alloc(), 2, 4_096)?;
     pair.run::<3, 3, 8>(rt.alloc())?;
-    assert!(rt; pair.markings > 0);
-    assert_eq!(rt; pair.top, 7);
-    assert!(rt; pair.deeps > 0);
+    let is_so = pair.markings > 0 && pair.top == 7 && pair.deeps > 0;
+    assert!(rt; is_so, "{} markings, top {}, {} times Deep", pair.markings, pair.top, pair.deeps);
     Ok(())
 }
 
@@ -369,7 +379,7 @@ fn agrees_where_small_blocks_make_a_tree_deep(rt: HostRuntime) -> Result<(), Fai
 fn agrees_with_few_keys_in_blocks_of_four(rt: HostRuntime) -> Result<(), Fail> {
     let mut pair = Pair::new(rt.alloc(), 3, 512)?;
     pair.run::<4, 4, 8>(rt.alloc())?;
-    assert!(rt; pair.markings > 0);
-    assert_eq!(rt; pair.deeps, 0);
+    let is_so = pair.markings > 0 && pair.deeps == 0;
+    assert!(rt; is_so, "{} markings, {} times Deep", pair.markings, pair.deeps);
     Ok(())
 }

@@ -1,12 +1,12 @@
 //! What is dropped of a tree as records go.
-use super::script::{BLANK, SEVENTEEN, plays_rows};
+use super::script::{Row, SEVENTEEN, plays_rows};
 
-const ROWS: [(&str, &str, &str); 2] = [
+const ROWS: [Row; 2] = [
     (
         // Four puts take 1, 1, 1 and 3 of 222 blocks.
         "drops an empty leaf, and the root above one child",
-        BLANK,
-        "
+        &[
+            "
         new 256
         sizes 3 3 2
         puts 1 4 v
@@ -24,11 +24,13 @@ const ROWS: [(&str, &str, &str); 2] = [
         remove 3
         root -> none
         remove 3 -> none",
+        ],
     ),
     (
         "comes back to the first leaf",
-        SEVENTEEN,
-        "
+        &[
+            SEVENTEEN,
+            "
         let go
         free -> 27
         remove 17
@@ -52,6 +54,7 @@ const ROWS: [(&str, &str, &str); 2] = [
         free -> 25
         let go
         free -> 29",
+        ],
     ),
 ];
 

@@ -11,10 +11,13 @@
 //! | `sizes 3 3 2` | `ok`: from here on leaves, inner blocks and levels have these sizes |
 //! | `once 1` | `ok`: the disk fails the second device call from here on |
 //! | `put 5 v`, `puts 1 15 v` | `ok`: a record; fifteen from the key 1 on, where all of them are answered so |
+//! | `falls 40 15 v` | `ok`: fifteen from the key 40 down |
 //! | `remove 5` | `ok`, or `none` where there is no such record |
 //! | `get 5` | `v` |
 //! | `list` | `1=v 2=v` |
-//! | `root` | `37.1.1`: its block, its level, and the lowest key |
+//! | `root`, `level` | `37.1.1`: its block, its level, and the lowest key; `1`: the level alone |
+//! | `keep a` | `ok`: `a` (or `b` or `c`) stands for this root from here on, as in `top a` |
+//! | `spent` | `3`: how many blocks were taken since a root was kept last |
 //! | `path` | `36 37`: the blocks that the last put or remove replaced, from the leaf up |
 //! | `free` | `25`: how many blocks are |
 //! | `let go` | `ok`: just the blocks under the root are held |
@@ -23,6 +26,7 @@
 //! | `calls` | `2`: how many device calls were made since the last step of these letters, or the start |
 //! | `differ 36.0.1 37.0.1` | `2=v>w by 2`: the values that the second map changes, and the device calls |
 //! | `same 36.0.1 37.0.1` | `no by 2`: whether the maps are one, and the device calls |
+//! | `values a b`, `equal a b`, `above a b` | `2=v>w`, `no`: the same two without the calls; `yes`: whether the first root has the greater level |
 //!
 //! | Step | Answer |
 //! |---|---|
@@ -55,9 +59,6 @@ use super::words::Wrong;
 use std::alloc::Global;
 use std::process::Abort;
 
-/// Nothing is done before.
-pub(super) const BLANK: &str = "";
-
 /// Sixteen records in block 34, with block 48 held beside it, and the seventeenth: leaves in blocks 35 and 36, and
 /// the root in 37.
 pub(super) const SEVENTEEN: &str = "
@@ -75,7 +76,10 @@ pub(super) const FOREIGN: &str = "
     top 35.1.0
     free -> 28";
 
-/// Plays a step. Its answer.
+/// The name of a row, and the texts that are played one after another, the first over a blank disk of 64 blocks.
+pub(super) type Row = (&'static str, &'static [&'static str]);
+
+/// Plays a step. Its answer, or why it has none.
 fn play(alloc: Global, bench: &mut Bench, step: &str) -> Result<String, Wrong> {
     let words: Vec<&str> = step.split_whitespace().collect(alloc)?;
     answer(alloc, bench, &words)
@@ -89,31 +93,25 @@ fn plays_lines<R: AllocGlobal + Abort>(rt: &R, name: &str, bench: &mut Bench, te
             continue;
         }
         let (step, due) = line.split_once(" -> ").unwrap_or((line, "ok"));
-        match play(rt.alloc(), bench, step) {
-            Ok(given) => {
-                let given = given.trim();
-                let given = if given.is_empty() { "none" } else { given };
-                assert_eq!(rt; given, due.trim(), "{name}, line {n}: {line}");
-            }
-            Err(wrong) => panic!(rt; "{name}, line {n}: {line}: {wrong:?}"),
+        let played = play(rt.alloc(), bench, step);
+        let given = match &played {
+            Ok(text) if text.trim().is_empty() => "none",
+            Ok(text) => text.trim(),
+            Err(Wrong::Memory) => "no memory",
+            Err(_) => "no step",
+        };
+        assert_eq!(rt; given, due.trim(), "{name}, line {n}: {line}");
+    }
+}
+
+/// Plays rows, each over a disk of its own.
+pub(super) fn plays_rows<R: AllocGlobal + Abort>(rt: &R, rows: &[Row]) {
+    for (name, texts) in rows {
+        let Ok(mut bench) = Bench::new(rt.alloc(), 64) else {
+            panic!(rt; "{name}: no memory");
+        };
+        for text in *texts {
+            plays_lines(rt, name, &mut bench, text);
         }
-    }
-}
-
-/// Plays the texts of a row one after another, the first over a blank disk of 64 blocks.
-pub(super) fn plays<R: AllocGlobal + Abort>(rt: &R, name: &str, texts: &[&str]) {
-    let mut bench = match Bench::new(rt.alloc(), 64) {
-        Ok(blank) => blank,
-        Err(wrong) => panic!(rt; "{name}: {wrong:?}"),
-    };
-    for text in texts {
-        plays_lines(rt, name, &mut bench, text);
-    }
-}
-
-/// Plays rows. Each has a name, what it begins with, and its steps.
-pub(super) fn plays_rows<R: AllocGlobal + Abort>(rt: &R, rows: &[(&str, &str, &str)]) {
-    for (name, before, row) in rows {
-        plays(rt, name, &[*before, *row]);
     }
 }

@@ -1,12 +1,12 @@
 //! Where leaves and inner blocks are split, and which blocks a put takes.
-use super::script::{BLANK, FOREIGN, SEVENTEEN, plays_rows};
+use super::script::{FOREIGN, Row, SEVENTEEN, plays_rows};
 
-const ROWS: [(&str, &str, &str); 4] = [
+const ROWS: [Row; 4] = [
     (
         // Of 222 blocks seven puts take 1, 1, 1, 3, 2, 3 and 2.
         "splits small leaves until there is no room",
-        BLANK,
-        "
+        &[
+            "
         new 256
         sizes 3 3 2
         puts 1 7 v
@@ -19,23 +19,27 @@ const ROWS: [(&str, &str, &str); 4] = [
         leaves -> 3 2 3
         root -> 48.1.0
         free -> 207",
+        ],
     ),
     (
         "splits at the seventeenth record",
-        SEVENTEEN,
-        "
+        &[
+            SEVENTEEN,
+            "
         root -> 37.1.1
         free -> 25
         bytes 37 -> 0:4E4F444501 8:02 16:01 18:01 26:23 30:01 32:0A 40:24
         count 35 -> 9
         count 36 -> 8",
+        ],
     ),
     (
         // Of 17 records the left leaf has 9, and of 257 children the left block has 129; the left one
         // of each pair was written first.
         "splits a full inner block in 129 and 128",
-        FOREIGN,
-        "
+        &[
+            FOREIGN,
+            "
         write fan 35 256
         put 1 w
         free -> 23
@@ -53,11 +57,13 @@ const ROWS: [(&str, &str, &str); 4] = [
         child 39 127 -> 8160:34
         child 40 0 -> 0:38
         child 40 1 -> 4096:39",
+        ],
     ),
     (
         "copies a root of one child",
-        FOREIGN,
-        "
+        &[
+            FOREIGN,
+            "
         write fan 35 1
         put 2 w
         free -> 26
@@ -66,6 +72,7 @@ const ROWS: [(&str, &str, &str); 4] = [
         child 37 0 -> 0:36
         count 36 -> 16
         get 2 -> w",
+        ],
     ),
 ];
 

@@ -1,30 +1,32 @@
 //! What is found under numbers, on disks whose blocks are written by hand.
-use super::script::{BLANK, plays_rows};
+use super::script::{Row, plays_rows};
 
-const ROWS: [(&str, &str, &str); 6] = [
+const ROWS: [Row; 6] = [
     (
         "finds roots and marks, and reads each block once",
-        BLANK,
-        "
+        &[
+            "
         new 64
         write leaf 35 '' 1
         write leaf 36 '' 2
         write node 34 1 1:35 2:36
         verify 34 0 36 34 -> 34.1.1 none 36.0.2 34.1.1 marks 34 35 36 by 3",
+        ],
     ),
     (
         "takes a root with one child",
-        BLANK,
-        "
+        &[
+            "
         new 64
         write leaf 35 '' 1
         write node 34 1 1:35
         verify 34 -> 34.1.1 marks 34 35 by 2",
+        ],
     ),
     (
         "names the first block that is wrong",
-        BLANK,
-        "
+        &[
+            "
         new 64
         # A block of zeros, and a key twice.
         verify 40 -> error Damaged 40
@@ -49,11 +51,12 @@ const ROWS: [(&str, &str, &str); 6] = [
         verify 64 -> error Damaged 64
         write node 34 1 1:0
         verify 34 -> error Damaged 0",
+        ],
     ),
     (
         "compares what was met before",
-        BLANK,
-        "
+        &[
+            "
         new 64
         # A block that is its own child, and two that are each other's.
         write node 34 1 1:34
@@ -73,11 +76,12 @@ const ROWS: [(&str, &str, &str); 6] = [
         # And as it should be.
         write node 35 1 1:36
         verify 36 35 36 -> 36.0.1 35.1.1 36.0.1 marks 35 36 by 2",
+        ],
     ),
     (
         "takes trees of the given sizes only",
-        BLANK,
-        "
+        &[
+            "
         new 64
         write leaf 35 '' 1 2
         write leaf 36 '' 3 4 5
@@ -91,17 +95,19 @@ const ROWS: [(&str, &str, &str); 6] = [
         verify 38 -> error Damaged 38
         sizes 3 3 1
         verify 34 -> error Damaged 34",
+        ],
     ),
     (
         "stops where the device fails",
-        BLANK,
-        "
+        &[
+            "
         new 64
         write leaf 35 '' 1
         write node 34 1 1:35
         once 1
         verify 34 -> error Device
         verify 34 -> 34.1.1 marks 34 35 by 2",
+        ],
     ),
 ];
 

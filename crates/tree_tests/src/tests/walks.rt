@@ -36,7 +36,9 @@ pub(super) fn marked(alloc: Global, bench: &mut Bench, words: &[&str]) -> Result
     let mut roots = Vec::new(alloc);
     for word in words {
         let root = root(word)?;
-        roots.push(root).map_err(|_| Wrong::Memory)?;
+        if roots.push(root).is_err() {
+            return Err(Wrong::Memory);
+        }
     }
     if bench.marks.blocks() > bench.disk.blocks() {
         return Err(Wrong::Unreadable);
@@ -77,6 +79,7 @@ fn found_sized(
         Sizes::Twos => found::<2, 2, 2>(alloc, bench, long, numbers),
         Sizes::Pairs => found::<3, 2, 2>(alloc, bench, long, numbers),
         Sizes::Flat => found::<3, 3, 1>(alloc, bench, long, numbers),
+        Sizes::DeepTwos | Sizes::DeepThrees => Err(Wrong::Unreadable),
     }
 }
 
@@ -91,7 +94,9 @@ pub(super) fn verified(
     let mut numbers = Vec::new(alloc);
     for word in words {
         let n = number(word)?;
-        numbers.push(n).map_err(|_| Wrong::Memory)?;
+        if numbers.push(n).is_err() {
+            return Err(Wrong::Memory);
+        }
     }
     let before = bench.calls();
     let (roots, marks) = found_sized(alloc, bench, long, &numbers)?;

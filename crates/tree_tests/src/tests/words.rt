@@ -4,6 +4,7 @@ ghost use Rattle.vm_block.specs.Leaf.{LinkFits, StoredFits};
 
 use std::alloc::AllocError;
 use std::num::ParseIntError;
+use std::str::Utf8Error;
 use vm_block::{Child, Link, Stored};
 use vm_disk::DeviceFault;
 use vm_tree::{ListFault, PutFault, Root, TreeFault};
@@ -28,6 +29,12 @@ impl From<AllocError> for Wrong {
 
 impl From<ParseIntError> for Wrong {
     fn from(_: ParseIntError) -> Wrong {
+        Wrong::Unreadable
+    }
+}
+
+impl From<Utf8Error> for Wrong {
+    fn from(_: Utf8Error) -> Wrong {
         Wrong::Unreadable
     }
 }
@@ -98,14 +105,16 @@ pub(super) fn value(word: &str) -> Result<Value, Wrong> {
 
 /// Adds a value to a text: one of more than 16 bytes is one letter over and over, as in `300*a`.
 pub(super) fn add_value(text: &mut String, value: &[u8]) -> Result<(), Wrong> {
-    let letters = str::from_utf8(value).map_err(|_| Wrong::Unreadable)?;
+    let letters = str::from_utf8(value)?;
     if value.len() <= 16 {
         text.push_str(letters)?;
         return Ok(());
     }
     let first = value[0];
-    if value.iter().any(|byte| *byte != first) {
-        return Err(Wrong::Unreadable);
+    for byte in value {
+        if *byte != first {
+            return Err(Wrong::Unreadable);
+        }
     }
     write!(text, "{}*{}", value.len(), char::from(first))?;
     Ok(())
