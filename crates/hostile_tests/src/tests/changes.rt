@@ -1,23 +1,25 @@
 //! Stores with single bytes and single numbers of their blocks changed, and what a second reader makes of
 //! them.
 use super::commands::put;
-use super::counting::CountingDisk;
 use super::image::Image;
 use super::reader::{Content, read_store};
-use super::{BLOCKS, Wrong, name, top};
+use super::{BLOCKS, name};
 use std::alloc::Global;
+use std::process::Abort;
+use std::test::Fail;
+use testkit::{RecordingDisk, Wrong, top};
 use vm_disk::{Disk, MemDisk};
 use vm_store::{Store, format, open};
-use vm_types::{Command, Key, Refusal, Value};
+use vm_types::{Answer, Command, Key, Refusal, Value};
 
-/// How many disks are a store, or at which place and number something else was found than is due.
-type Tally = Result<u32, (Wrong, usize, u32)>;
+/// At which byte of a block something else was found than is due, and for which byte or number there.
+type Place = (usize, u32);
 
 /// A disk, what it holds, and what was found on it.
 #[derive(Drop)]
 struct Bench {
     alloc: Global,
-    disk: CountingDisk,
+    disk: RecordingDisk,
     image: Image,
     stores: u32,
 }
@@ -25,26 +27,27 @@ struct Bench {
 /// Whether each alternative has a list, and the first one has these records.
 fn has_lists(
     alloc: Global,
-    store: &mut Store<CountingDisk>,
+    store: &mut Store<RecordingDisk>,
     content: &Content,
-) -> Result<bool, Refusal> {
+) -> Result<bool, Wrong> {
     for (alt, _parent) in &store.alternatives(alloc)? {
         store.list(alloc, alt)?;
     }
     let records = store.list(alloc, &top())?;
-    Ok(
-        records.len() == content.records.len()
-            && records.iter().zip(content.records.iter()).all(|((key, value), due)| key == due.0
-                && value == due.1.as_bytes()),
-    )
+    for ((key, value), due) in records.iter().zip(content.records.iter()) {
+        if key != due.0 || value != due.1.as_bytes() {
+            return Ok(false);
+        }
+    }
+    Ok(records.len() == content.records.len())
 }
 
 /// Whether a store that was just opened is what the second reader has found.
 fn is_same(
     alloc: Global,
-    store: &mut Store<CountingDisk>,
+    store: &mut Store<RecordingDisk>,
     content: Option<&Content>,
-) -> Result<bool, Refusal> {
+) -> Result<bool, Wrong> {
     let Some(content) = content else {
         return Ok(false);
     };
@@ -56,9 +59,9 @@ fn is_same(
 /// Whether the opening was answered as it should be, and has read no block twice.
 fn is_due(
     alloc: Global,
-    disk: CountingDisk,
+    disk: RecordingDisk,
     content: Option<&Content>,
-) -> Result<(CountingDisk, bool), Wrong> {
+) -> Result<(RecordingDisk, bool), Wrong> {
     let (disk, opened) = match open(alloc, disk) {
         Ok(store) => (store.close(), true),
         Err((disk, Refusal::NotAStore | Refusal::BadSize | Refusal::Damaged(_))) => (disk, false),
@@ -75,9 +78,9 @@ fn is_due(
 /// Opens a disk that is a store, and compares what it shows.
 fn shows(
     alloc: Global,
-    disk: CountingDisk,
+    disk: RecordingDisk,
     content: Option<&Content>,
-) -> Result<(CountingDisk, bool), Wrong> {
+) -> Result<(RecordingDisk, bool), Wrong> {
     match open(alloc, disk) {
         Ok(mut store) => {
             let same = is_same(alloc, &mut store, content);
@@ -93,7 +96,7 @@ impl Bench {
         Ok(Bench {
             alloc,
             image: Image::of(alloc, &mut disk)?,
-            disk: CountingDisk::new(alloc, disk)?,
+            disk: RecordingDisk::new(alloc, disk)?,
             stores: 0,
         })
     }
@@ -126,7 +129,7 @@ impl Bench {
             stores = stores.saturating_add(1);
         }
         if !due {
-            return Err(Wrong::Store);
+            return Err(Wrong::Differs(n));
         }
         let mut bench = Bench {
             alloc,
@@ -141,12 +144,10 @@ impl Bench {
 
 /// A disk on which these commands are committed.
 fn disk_of(alloc: Global, commands: &[Command]) -> Result<MemDisk, Wrong> {
-    let disk = MemDisk::new(alloc, BLOCKS)?;
-    let disk = format(disk, BLOCKS).map_err(|refused| refused.1)?;
-    let mut store = open(alloc, disk).map_err(|refused| refused.1)?;
-    let mut last = Ok(());
+    let mut store = open(alloc, format(MemDisk::new(alloc, BLOCKS)?, BLOCKS)?)?;
+    let mut last = Ok(Answer::Done);
     for command in commands {
-        last = last.and(store.apply(command).map(|_| ()));
+        last = last.and(store.apply(command));
     }
     let disk = store.close();
     last?;
@@ -166,61 +167,28 @@ fn one_record(alloc: Global, value: &[u8]) -> Result<MemDisk, Wrong> {
     disk_of(alloc, &[one, Command::Commit])
 }
 
-/// Sets each byte of a block to this, one at a time, up to a place, where this is the value of the record.
-fn try_bytes(alloc: Global, value: &[u8], n: u32, byte: u8, to: usize) -> Tally {
-    let disk = one_record(alloc, value).map_err(|wrong| (wrong, 0, 0))?;
-    let mut bench = Bench::new(alloc, disk).map_err(|wrong| (wrong, 0, 0))?;
+/// Sets each byte of a block to this, one at a time, up to a place, where this is the value of the record. Gives how
+/// many of the disks are a store.
+fn try_bytes(
+    alloc: Global,
+    value: &[u8],
+    n: u32,
+    byte: u8,
+    to: usize,
+    place: &mut Place,
+) -> Result<u32, Wrong> {
+    let mut bench = Bench::new(alloc, one_record(alloc, value)?)?;
     let before = bench.image.block(n);
     for at in 0..4096 {
         if at == to {
             break;
         }
+        *place = (at, u32::from(byte));
         let mut bytes = before;
         bytes[at] = byte;
-        bench = bench
-            .try_block(n, &bytes)
-            .map_err(|wrong| (wrong, at, u32::from(byte)))?;
+        bench = bench.try_block(n, &bytes)?;
     }
     Ok(bench.stores)
-}
-
-/// A byte that is zero stays so: all but 10 of the header, 13 of the slot and 12 of the leaf. Of
-/// those the root may be none, and the table, the number and the letters of the value may be
-/// others. Each selector names a slot, and what follows the entry in its slot is ignored.
-#[test]
-fn each_byte_is_read_or_ignored(rt: HostRuntime) {
-    let due = [
-        (0, 0, 4096 - 10),
-        (0, 0xFF, 0),
-        (1, 0, 4096),
-        (1, 0xFF, 4096),
-        (18, 0, 4096 - 13 + 1),
-        (18, 0xFF, 4096 - 256),
-        (34, 0, 4096 - 12 + 6),
-        (34, 0xFF, 2 + 8 + 4),
-    ];
-    for (n, byte, stores) in due {
-        let found = try_bytes(rt.alloc(), b"duct", n, byte, 4096);
-        assert_eq!(rt; found, Ok(stores), "block {n}, byte {byte}");
-    }
-}
-
-/// The same of the first bytes of the blocks of a value of 300 bytes. The letters, the length and the key
-/// of its block stand for themselves alone, and so does each byte of its leaf. The bytes of the value may
-/// be others.
-#[test]
-fn each_byte_of_a_long_value_is_read(rt: HostRuntime) {
-    let value = [0x61; 300];
-    let due = [
-        (34, 0, 512 - 8),
-        (34, 0xFF, 300),
-        (35, 0, 512 - 10),
-        (35, 0xFF, 0),
-    ];
-    for (n, byte, stores) in due {
-        let found = try_bytes(rt.alloc(), &value, n, byte, 512);
-        assert_eq!(rt; found, Ok(stores), "block {n}, byte {byte}");
-    }
 }
 
 /// A disk of seventeen records, with the root in block 38 over leaves in 36 and 37. Blocks 39 to 47,
@@ -235,73 +203,118 @@ fn two_levels(alloc: Global) -> Result<MemDisk, Wrong> {
             Command::Checkpoint { alt, name: saved },
             Command::Uncheck { alt, name: saved },
         ] {
-            commands.push(command).map_err(|_| Wrong::Memory)?;
+            commands.push(command)?;
         }
     }
-    commands.push(Command::Commit).map_err(|_| Wrong::Memory)?;
+    commands.push(Command::Commit)?;
     disk_of(alloc, &commands)
 }
 
-/// Sets four bytes of a block of a disk to each number from 0 to 64, from each of these places on.
-fn try_words_on(
+/// Sets four bytes of a block of a disk to each number from 0 to 64, from each of these places on. Gives how many
+/// of the disks are a store.
+fn try_words(
     alloc: Global,
-    disk: Result<MemDisk, Wrong>,
+    disk: MemDisk,
     n: u32,
     from: usize,
     to: usize,
-) -> Tally {
-    let disk = disk.map_err(|wrong| (wrong, 0, 0))?;
-    let mut bench = Bench::new(alloc, disk).map_err(|wrong| (wrong, 0, 0))?;
+    place: &mut Place,
+) -> Result<u32, Wrong> {
+    let mut bench = Bench::new(alloc, disk)?;
     let before = bench.image.block(n);
     for at in from..to {
         for number in 0..65u32 {
+            *place = (at, number);
             let mut bytes = before;
-            for (place, byte) in bytes.iter_mut().skip(at).zip(number.to_le_bytes()) {
-                *place = byte;
+            for (to, byte) in bytes.iter_mut().skip(at).zip(number.to_le_bytes()) {
+                *to = byte;
             }
-            bench = bench
-                .try_block(n, &bytes)
-                .map_err(|wrong| (wrong, at, number))?;
+            bench = bench.try_block(n, &bytes)?;
         }
     }
     Ok(bench.stores)
 }
 
-/// The same of the disk of seventeen records.
-fn try_words(alloc: Global, n: u32, from: usize, to: usize) -> Tally {
-    try_words_on(alloc, two_levels(alloc), n, from, to)
+/// A short value.
+const DUCT: &[u8] = b"duct";
+
+/// One that is long.
+const LONG: &[u8] = &[0x61; 300];
+
+/// The value of a record, a block, what each of its bytes is set to, up to which one, and how many of the disks
+/// are a store then.
+const BYTES: [(&[u8], u32, u8, usize, u32); 12] = [
+    // A byte that is zero stays so: all but 10 of the header, 13 of the slot and 12 of the leaf. Of
+    // those the root may be none, and the table, the number and the letters of the value may be
+    // others. Each selector names a slot, and what follows the entry in its slot is ignored.
+    (DUCT, 0, 0, 4096, 4096 - 10),
+    (DUCT, 0, 0xFF, 4096, 0),
+    (DUCT, 1, 0, 4096, 4096),
+    (DUCT, 1, 0xFF, 4096, 4096),
+    (DUCT, 18, 0, 4096, 4096 - 13 + 1),
+    (DUCT, 18, 0xFF, 4096, 4096 - 256),
+    (DUCT, 34, 0, 4096, 4096 - 12 + 6),
+    (DUCT, 34, 0xFF, 4096, 2 + 8 + 4),
+    // The same of the first bytes of the blocks of a value of 300 bytes. The letters, the length and the key
+    // of its block stand for themselves alone, and so does each byte of its leaf. The bytes of the value may
+    // be others.
+    (LONG, 34, 0, 512, 512 - 8),
+    (LONG, 34, 0xFF, 512, 300),
+    (LONG, 35, 0, 512, 512 - 10),
+    (LONG, 35, 0xFF, 512, 0),
+];
+
+/// Whether the disk has one long value, in place of seventeen records, a block of it, from which byte on and up
+/// to which one it is set to numbers, and how many of the disks are a store then.
+const WORDS: [(bool, u32, usize, usize, u32); 6] = [
+    // The root of `top` may be none or each block from 34 to 47. The first child may be each leaf that
+    // begins with the first record and has at most nine, and the second one is the only one to begin
+    // with the tenth.
+    (false, 18, 128 + 67, 128 + 68, 15),
+    (false, 38, 16 + 10, 16 + 11, 5),
+    (false, 38, 30 + 10, 30 + 11, 1),
+    // Of the store of one long value the root may be none or its leaf, and the link names the one block with
+    // its key. Of the formats the second alone has it.
+    (true, 18, 128 + 67, 128 + 68, 2),
+    (true, 35, 16 + 12, 16 + 13, 1),
+    (true, 18, 4, 5, 1),
+];
+
+#[test]
+fn each_byte_is_read_or_ignored(rt: HostRuntime) -> Result<(), Fail> {
+    let mut place = (0, 0);
+    for (value, n, byte, to, stores) in BYTES {
+        let found = try_bytes(rt.alloc(), value, n, byte, to, &mut place);
+        assert_eq!(rt; found, Ok(stores), "block {n}, byte {byte}, at {place:?}");
+    }
+    for (is_long, n, from, to, stores) in WORDS {
+        let disk = if is_long {
+            one_record(rt.alloc(), LONG)?
+        } else {
+            two_levels(rt.alloc())?
+        };
+        let found = try_words(rt.alloc(), disk, n, from, to, &mut place);
+        assert_eq!(rt; found, Ok(stores), "block {n}, at {place:?}");
+    }
+    Ok(())
 }
 
-/// The root of `top` may be none or each block from 34 to 47. The first child may be each leaf that
-/// begins with the first record and has at most nine, and the second one is the only one to begin
-/// with the tenth.
-#[test]
-fn root_and_children_may_be_other_blocks(rt: HostRuntime) {
-    for (n, at, stores) in [(18, 128 + 67, 15), (38, 16 + 10, 5), (38, 30 + 10, 1)] {
-        let found = try_words(rt.alloc(), n, at, at + 1);
-        assert_eq!(rt; found, Ok(stores), "block {n}, byte {at}");
-    }
-}
-
-/// Of the store of one long value the root may be none or its leaf, and the link names the one block with
-/// its key. Of the formats the second alone has it.
-#[test]
-fn block_of_a_long_value_is_no_other(rt: HostRuntime) {
-    for (n, at, stores) in [(18, 128 + 67, 2), (35, 16 + 12, 1), (18, 4, 1)] {
-        let disk = one_record(rt.alloc(), &[0x61; 300]);
-        let found = try_words_on(rt.alloc(), disk, n, at, at + 1);
-        assert_eq!(rt; found, Ok(stores), "block {n}, byte {at}");
-    }
+/// Each number at each place of a block of the disk of seventeen records.
+fn try_each_number<R: AllocGlobal + Abort>(rt: &R, n: u32) {
+    let mut place = (0, 0);
+    let found = match two_levels(rt.alloc()) {
+        Ok(disk) => try_words(rt.alloc(), disk, n, 0, 4093, &mut place),
+        Err(wrong) => Err(wrong),
+    };
+    assert!(rt; found.is_ok(), "block {n}, at {place:?}: {found:?}");
 }
 
 #[test]
 fn each_number_in_the_slot_is_a_tree_or_refused(rt: HostRuntime) {
-    let found = try_words(rt.alloc(), 18, 0, 4093);
-    assert!(rt; found.is_ok(), "{found:?}");
+    try_each_number(&rt, 18);
 }
 
 #[test]
 fn each_number_in_the_root_is_a_tree_or_refused(rt: HostRuntime) {
-    let found = try_words(rt.alloc(), 38, 0, 4093);
-    assert!(rt; found.is_ok(), "{found:?}");
+    try_each_number(&rt, 38);
 }

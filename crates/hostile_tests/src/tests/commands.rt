@@ -1,6 +1,7 @@
 //! The lists of commands that runs carry out.
-use super::{GROWN_BLOCKS, Reply, name, top};
+use super::{GROWN_BLOCKS, name};
 use std::alloc::Global;
+use testkit::{Reply, top};
 use vm_types::{Answer, Command, Key, Settled, Value};
 
 /// Which commands a run carries out. The last one is a Commit.

@@ -2,12 +2,13 @@
 mod pieces;
 mod rows;
 
+use super::BLOCKS;
 use super::image::Image;
-use super::{BLOCKS, Wrong};
 use pieces::{disk_of, set_block, set_bytes};
 use rows::{LONG_ROWS, ROWS};
 use std::alloc::Global;
 use std::test::Fail;
+use testkit::Wrong;
 use vm_disk::MemDisk;
 use vm_store::{format, open};
 use vm_types::Refusal;
@@ -22,32 +23,6 @@ fn free_on(alloc: Global, disk: MemDisk) -> Result<u32, Refusal> {
         }
         Err((_, refusal)) => Err(refusal),
     }
-}
-
-/// In a slot of either format.
-#[test]
-fn each_damage_is_named(rt: HostRuntime) -> Result<(), Fail> {
-    for (row, (pieces, due)) in ROWS.iter().enumerate() {
-        for format in [1, 2] {
-            let mut disk = disk_of(rt.alloc(), pieces)?;
-            set_bytes(&mut disk, 2, 4, &[format])?;
-            assert_eq!(rt;
-                free_on(rt.alloc(), disk),
-                *due,
-                "row {row}, format {format}"
-            );
-        }
-    }
-    Ok(())
-}
-
-#[test]
-fn each_damage_of_a_long_value_is_named(rt: HostRuntime) -> Result<(), Fail> {
-    for (row, (pieces, due)) in LONG_ROWS.iter().enumerate() {
-        let disk = disk_of(rt.alloc(), pieces)?;
-        assert_eq!(rt; free_on(rt.alloc(), disk), *due, "row {row}");
-    }
-    Ok(())
 }
 
 /// A disk of so many blocks: the first ones of an image, and behind those zero bytes.
@@ -71,8 +46,30 @@ fn format_on(
         Err((disk, refusal)) => (disk, Some(refusal)),
     };
     let after = Image::of(alloc, &mut disk)?;
-    let same = (0..BLOCKS).all(|n| after.block(n) == before.block(n));
-    Ok((refusal, same))
+    for n in 0..BLOCKS {
+        if after.block(n) != before.block(n) {
+            return Ok((refusal, false));
+        }
+    }
+    Ok((refusal, true))
+}
+
+#[test]
+fn each_damage_is_named(rt: HostRuntime) -> Result<(), Fail> {
+    // In a slot of either format.
+    for (row, (pieces, due)) in ROWS.iter().enumerate() {
+        for format in [1, 2] {
+            let mut disk = disk_of(rt.alloc(), pieces)?;
+            set_bytes(&mut disk, 2, 4, &[format])?;
+            let found = free_on(rt.alloc(), disk);
+            assert_eq!(rt; found, *due, "row {row}, format {format}");
+        }
+    }
+    for (row, (pieces, due)) in LONG_ROWS.iter().enumerate() {
+        let found = free_on(rt.alloc(), disk_of(rt.alloc(), pieces)?);
+        assert_eq!(rt; found, *due, "row {row} of long values");
+    }
+    Ok(())
 }
 
 #[test]

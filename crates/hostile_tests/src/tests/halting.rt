@@ -1,24 +1,15 @@
 //! A run that is stopped at one device call after another, and what a crash may leave there.
-use super::Wrong;
 use super::image::Image;
 use super::layers::Layer;
 use super::running::{Due, Left, NEVER, Scene, run};
 use std::alloc::Global;
+use testkit::{Fill, Wrong};
 use vm_disk::{Disk, MemDisk};
 
 /// What a block holds that a run has torn, and that no store writes.
 const TORN: [u8; 4096] = [0x5A; 4096];
 
-/// What a crash leaves in each block that is not synced: what it held at the last sync that succeeded,
-/// what was handed to its last write, or the same byte all over.
-#[derive(Clone, Copy, Debug, PartialEq, Eq)]
-pub enum Fill {
-    Synced,
-    Written,
-    Byte(u8),
-}
-
-/// All of them.
+/// What a crash leaves in each block that is not synced.
 pub const FILLS: [Fill; 4] = [Fill::Synced, Fill::Written, Fill::Byte(0), Fill::Byte(0xFF)];
 
 /// What is left in the blocks that are not synced, and in the one whose write is stopped.
@@ -79,7 +70,12 @@ impl Halt {
     /// Whether the call that is stopped is a sync that makes blocks last.
     fn is_sync(&self) -> bool {
         let (here, later) = (&self.here.disk, &self.later.disk);
-        (0..here.blocks()).any(|n| here.is_dirty(n) && !later.is_dirty(n))
+        for n in 0..here.blocks() {
+            if here.is_dirty(n) && !later.is_dirty(n) {
+                return true;
+            }
+        }
+        false
     }
 
     /// How many blocks a crash surely leaves, and how many it may leave.
@@ -124,7 +120,7 @@ impl Halt {
             if self.here.disk.is_dirty(n)
                 && let Some(bytes) = self.bytes(n, fill)
             {
-                blocks.push((n, bytes)).map_err(|_| Wrong::Memory)?;
+                blocks.push((n, bytes))?;
                 if self.here.image.block(n) == TORN {
                     torn = bytes;
                 }

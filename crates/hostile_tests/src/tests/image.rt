@@ -1,6 +1,7 @@
 //! What the blocks of a disk hold, to be kept and laid on a disk again.
-use super::{BLOCKS, GROWN_BLOCKS, Wrong};
+use super::{BLOCKS, GROWN_BLOCKS};
 use std::alloc::Global;
+use testkit::Wrong;
 use vm_disk::{Disk, MemDisk};
 
 /// What each block of a disk holds.

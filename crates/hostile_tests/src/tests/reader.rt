@@ -70,14 +70,21 @@ fn word(bytes: &[u8; 4096], at: usize) -> u32 {
 }
 
 fn are_zero(bytes: &[u8; 4096], from: usize, to: usize) -> bool {
-    (from..to).all(|at| byte(bytes, at) == 0)
+    for at in from..to {
+        if byte(bytes, at) != 0 {
+            return false;
+        }
+    }
+    true
 }
 
 fn starts_with(bytes: &[u8; 4096], start: &[u8]) -> bool {
-    start
-        .iter()
-        .enumerate()
-        .all(|(i, due)| byte(bytes, i) == *due)
+    for (i, due) in start.iter().enumerate() {
+        if byte(bytes, i) != *due {
+            return false;
+        }
+    }
+    true
 }
 
 fn key_at(bytes: &[u8; 4096], at: usize) -> Key {
@@ -93,9 +100,19 @@ fn have_keys(bytes: &[u8; 4096], count: usize, width: usize, part: Part) -> bool
     let mut before: Option<Key> = None;
     for i in 0..count {
         let key = key_at(bytes, i.wrapping_mul(width).wrapping_add(16));
-        let rises = before.is_none_or(|before| before < key);
-        let is_low = i > 0 || part.low.is_none_or(|low| low == key);
-        if !rises || !is_low || !part.above.is_none_or(|above| key < above) {
+        let rises = match before {
+            Some(before) => before < key,
+            None => true,
+        };
+        let is_low = match part.low {
+            Some(low) => i > 0 || low == key,
+            None => true,
+        };
+        let is_below = match part.above {
+            Some(above) => key < above,
+            None => true,
+        };
+        if !rises || !is_low || !is_below {
             return false;
         }
         before = Some(key);
@@ -110,7 +127,12 @@ fn length_of(bytes: &[u8; 4096], i: usize) -> usize {
 
 /// Whether one of so many records of a leaf has a long value.
 fn has_long(bytes: &[u8; 4096], count: usize) -> bool {
-    (0..count).any(|i| length_of(bytes, i) > MAX_SHORT)
+    for i in 0..count {
+        if length_of(bytes, i) > MAX_SHORT {
+            return true;
+        }
+    }
+    false
 }
 
 /// Whether the bytes are a block of a tree of this level, with this many records or children.
@@ -330,14 +352,14 @@ fn fits(found: Found, before: &[Found]) -> bool {
     if before.is_empty() {
         return found.tag == b'A' && found.name == top && found.owner[0] == 0 && found.base == 0;
     }
-    let owned = before
-        .iter()
-        .any(|other| other.tag == b'A' && other.name == found.owner);
-    let is_new = !before.iter().any(|other| {
-        other.tag == found.tag
+    let (mut owned, mut is_new) = (false, true);
+    for other in before {
+        owned = owned || other.tag == b'A' && other.name == found.owner;
+        let is_same = other.tag == found.tag
             && other.name == found.name
-            && (found.tag == b'A' || other.owner == found.owner)
-    });
+            && (found.tag == b'A' || other.owner == found.owner);
+        is_new = is_new && !is_same;
+    }
     match found.tag {
         b'A' => owned && is_new,
         b'C' => owned && is_new && (found.owner != top || found.base == 0),

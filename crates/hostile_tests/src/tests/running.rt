@@ -1,10 +1,11 @@
 //! Runs of the commands on a device that fails one call, or stops, or both.
+use super::BLOCKS;
 use super::commands::Script;
 use super::image::Image;
 use super::layers::Layer;
 use super::states::{Shown, shows};
-use super::{BLOCKS, Wrong};
 use std::alloc::Global;
+use testkit::Wrong;
 use vm_disk::{Disk, FuseDisk, MemDisk};
 use vm_store::{Store, format, open};
 use vm_types::{Command, Refusal};
@@ -72,7 +73,7 @@ fn apply_from<D: Disk>(
         if given == Err(Refusal::Device) {
             let after = store.apply(&Command::Commit);
             if after != Err(Refusal::Failed) {
-                return Err(Wrong::NotFailed(after));
+                return Err(Wrong::Answer(after, Err(Refusal::Failed)));
             }
             let last = Shown::After(script.committed(n));
             return Ok(Some(Due {
@@ -85,7 +86,7 @@ fn apply_from<D: Disk>(
             }));
         }
         if given != script.answer(n) {
-            return Err(Wrong::Answer(n, given));
+            return Err(Wrong::Answer(given, script.answer(n)));
         }
     }
     Ok(None)
@@ -100,9 +101,9 @@ fn look_and_apply<D: Disk>(
 ) -> Result<Option<Due>, Wrong> {
     match shows(alloc, store, script, from) {
         Ok(true) => apply_from(alloc, store, script, from),
-        Ok(false) => Err(Wrong::State(from)),
-        Err(Refusal::Device) => Ok(Some(Due::of(Shown::After(from)))),
-        Err(refusal) => Err(Wrong::Refused(refusal)),
+        Ok(false) => Err(Wrong::Differs(from)),
+        Err(Wrong::Refused(Refusal::Device)) => Ok(Some(Due::of(Shown::After(from)))),
+        Err(wrong) => Err(wrong),
     }
 }
 
@@ -159,7 +160,7 @@ fn resume<D: Disk + Drop>(
     match open(alloc, disk) {
         Ok(store) => {
             let _disk = store.close();
-            Err(Wrong::Store)
+            Err(Wrong::NoStore)
         }
         Err((disk, Refusal::NotAStore)) => go_on(alloc, disk, script, from),
         Err((disk, Refusal::Device)) => Ok((disk, Some(Due::of(Shown::NoStore)))),
@@ -182,13 +183,17 @@ pub(super) fn run<D: Layer>(
     };
     let disk = D::over(alloc, failing, scene.blocks).ok_or(Wrong::Memory)?;
     let (disk, due) = go_on(alloc, disk, scene.script, scene.from)?;
-    let then = scene.fault.and_then(|fault| fault.then);
-    let (disk, due) = match then {
-        Some(then) => {
+    let (disk, due) = match scene.fault {
+        Some(
+            Fault {
+                then: Some(then),
+                ..
+            },
+        ) => {
             let disk = disk.anew(alloc, scene.blocks).ok_or(Wrong::Memory)?;
             resume(alloc, disk, scene.script, then)?
         }
-        None => (disk, due),
+        _ => (disk, due),
     };
     let stopped = disk.below().into_inner();
     Ok(Left {

@@ -1,10 +1,11 @@
 //! What a list of commands commits, and whether a store shows it.
 use super::commands::{LONG, Script, key, merge, put};
-use super::{BLOCKS, GROWN_BLOCKS, Wrong, name, top};
+use super::{BLOCKS, GROWN_BLOCKS, name};
 use std::alloc::Global;
+use testkit::{Wrong, top};
 use vm_disk::{Disk, MemDisk};
 use vm_store::{Store, open};
-use vm_types::{Answer, Change, Command, Name, Records, Refusal, Value};
+use vm_types::{Answer, Change, Command, Records, Refusal, Value};
 
 /// The records of table 1.
 type Map = &'static [(u64, &'static [u8])];
@@ -85,15 +86,22 @@ fn committed_by(script: Script, commands: u32) -> State {
 }
 
 fn value_at(map: Map, number: u64) -> Option<Value> {
-    let record = map.iter().find(|record| record.0 == number)?;
-    Value::new(record.1)
+    for record in map {
+        if record.0 == number {
+            return Value::new(record.1);
+        }
+    }
+    None
 }
 
 /// Whether these are just the records of the map.
 fn are_records(records: &Records, map: Map) -> bool {
+    for ((found, value), due) in records.iter().zip(map) {
+        if found != key(due.0) || value != due.1 {
+            return false;
+        }
+    }
     records.len() == map.len()
-        && records.iter().zip(map).all(|((found, value), due)| found == key(due.0)
-            && value == due.1)
 }
 
 /// Whether these are just the changes from one map to another, all of whose keys are below 10.
@@ -112,29 +120,21 @@ fn are_changes(changes: &[Change], before: Map, after: Map) -> bool {
     due.next().is_none()
 }
 
-/// The changes of an alternative, in the places of whole ones.
-fn changes_of<D: Disk>(
-    alloc: Global,
-    store: &mut Store<D>,
-    alt: &Name,
-) -> Result<Vec<Change>, Refusal> {
-    store
-        .changes(alloc, alt)?
-        .to_vec(alloc)
-        .map_err(|_| Refusal::Memory)
-}
-
 /// Whether an alternative has these two maps, and is in no conflict with its parent.
 fn has_maps<D: Disk>(
     alloc: Global,
     store: &mut Store<D>,
     alt: &[u8],
     own: Own,
-) -> Result<bool, Refusal> {
+) -> Result<bool, Wrong> {
     let alt = name(alt);
     Ok(
         are_records(&store.list(alloc, &alt)?, own.current)
-            && are_changes(&changes_of(alloc, store, &alt)?, own.base, own.current)
+            && are_changes(
+                &store.changes(alloc, &alt)?.to_vec(alloc)?,
+                own.base,
+                own.current,
+            )
             && store.conflicts(alloc, &alt)?.is_empty(),
     )
 }
@@ -145,7 +145,7 @@ fn has_checkpoint<D: Disk>(
     store: &Store<D>,
     alt: &[u8],
     saved: Option<&[u8]>,
-) -> Result<bool, Refusal> {
+) -> Result<bool, Wrong> {
     let checkpoints = store.checkpoints(alloc, &name(alt))?;
     Ok(match saved {
         Some(saved) => checkpoints.as_slice() == [name(saved)].as_slice(),
@@ -154,7 +154,7 @@ fn has_checkpoint<D: Disk>(
 }
 
 /// Whether the store lists just these alternatives and checkpoints.
-fn has_names<D: Disk>(alloc: Global, store: &Store<D>, state: State) -> Result<bool, Refusal> {
+fn has_names<D: Disk>(alloc: Global, store: &Store<D>, state: State) -> Result<bool, Wrong> {
     let all = [
         (top(), None),
         (name(b"x"), Some(top())),
@@ -193,7 +193,7 @@ pub(super) fn shows<D: Disk>(
     store: &mut Store<D>,
     script: Script,
     commands: u32,
-) -> Result<bool, Refusal> {
+) -> Result<bool, Wrong> {
     let state = committed_by(script, commands);
     if !has_names(alloc, store, state)?
         || !are_records(&store.list(alloc, &top())?, state.top)
@@ -214,7 +214,7 @@ pub(super) fn shows<D: Disk>(
 }
 
 /// Whether `x` has the same two maps once it was given others and went back to its checkpoint.
-fn goes_back<D: Disk>(alloc: Global, store: &mut Store<D>, own: Own) -> Result<bool, Refusal> {
+fn goes_back<D: Disk>(alloc: Global, store: &mut Store<D>, own: Own) -> Result<bool, Wrong> {
     let back = Command::Back {
         alt: name(b"x"),
         name: name(b"c"),
@@ -228,7 +228,11 @@ fn goes_back<D: Disk>(alloc: Global, store: &mut Store<D>, own: Own) -> Result<b
         merged == Answer::Merged(1)
             && changed
             && are_records(&store.list(alloc, &x)?, own.current)
-            && are_changes(&changes_of(alloc, store, &x)?, own.base, own.current),
+            && are_changes(
+                &store.changes(alloc, &x)?.to_vec(alloc)?,
+                own.base,
+                own.current,
+            ),
     )
 }
 
@@ -243,11 +247,13 @@ fn find_state<D: Disk>(
             continue;
         }
         return match committed_by(script, commands).own {
-            Some(own) if own.saved && !goes_back(alloc, store, own)? => Err(Wrong::NoState),
+            Some(own) if own.saved && !goes_back(alloc, store, own)? => Err(Wrong::Differs(
+                commands,
+            )),
             _ => Ok(Shown::After(commands)),
         };
     }
-    Err(Wrong::NoState)
+    Err(Wrong::Shown)
 }
 
 /// What a disk shows, checkpoints and all.

@@ -1,13 +1,13 @@
 //! The commands on a device that stops or fails at each of its calls in turn, and once more after that.
-use super::Wrong;
 use super::commands::Script;
-use super::halting::{FILLS, Fill, Halt};
+use super::halting::{FILLS, Halt};
 use super::image::Image;
 use super::layers::{Device, Layer};
 use super::running::{Due, Fault, NEVER, Scene, run};
 use super::states::{Shown, look};
 use std::alloc::Global;
 use std::process::Abort;
+use testkit::{Fill, Wrong};
 use vm_disk::{CachedDisk, DelayedDisk, MemDisk};
 
 /// What is done at each device call.
@@ -25,8 +25,8 @@ fn expect(due: Due, shown: Shown) -> Result<(), Wrong> {
         return Ok(());
     }
     Err(match shown {
-        Shown::NoStore => Wrong::Store,
-        Shown::After(commands) => Wrong::State(commands),
+        Shown::NoStore => Wrong::NoStore,
+        Shown::After(commands) => Wrong::Differs(commands),
     })
 }
 
@@ -181,152 +181,146 @@ fn try_at<D: Layer>(
     Ok(())
 }
 
-/// Does this at each device call. Gives the number of calls, or the one at which something is
-/// wrong.
+/// Does this at each device call, whose number is told. Gives the number of calls.
 fn try_script<D: Layer>(
     alloc: Global,
     script: Script,
     trial: Trial,
     blocks: u32,
-) -> Result<u32, (Wrong, u32)> {
-    let scene = whole(alloc, script, None, blocks).map_err(|wrong| (wrong, 0))?;
-    let synced = Image::blank(alloc).map_err(|wrong| (wrong, 0))?;
-    let mut halt = Halt::at::<D>(alloc, &scene, 0, synced).map_err(|wrong| (wrong, 0))?;
+    at: &mut u32,
+) -> Result<u32, Wrong> {
+    let scene = whole(alloc, script, None, blocks)?;
+    let mut halt = Halt::at::<D>(alloc, &scene, 0, Image::blank(alloc)?)?;
     for passes in 0..NEVER {
+        *at = passes;
         let Some(due) = halt.due() else {
             return Ok(passes);
         };
-        try_at::<D>(alloc, &scene, &halt, due, trial).map_err(|wrong| (wrong, passes))?;
-        halt = halt
-            .next::<D>(alloc, &scene)
-            .map_err(|wrong| (wrong, passes))?;
+        try_at::<D>(alloc, &scene, &halt, due, trial)?;
+        halt = halt.next::<D>(alloc, &scene)?;
     }
     Ok(NEVER)
 }
 
-/// Through a cache each write, each sync and each growth reaches the device, but not each read.
-fn are_cached_calls(script: Script, found: Result<u32, (Wrong, u32)>) -> bool {
-    found.is_ok_and(|calls| calls < script.calls() && calls >= script.changing_calls())
+/// What stands between a store and the device.
+#[derive(Clone, Copy)]
+enum Over {
+    Nothing,
+    /// A cache of two blocks.
+    Cache,
+    /// So many written blocks that wait.
+    Late(u32),
 }
 
-fn try_all<R: AllocGlobal + Abort>(rt: &R, script: Script, trial: Trial) {
-    let found = try_script::<Device>(rt.alloc(), script, trial, 0);
-    assert_eq!(rt; found, Ok(script.calls()));
+/// The fewest and the most device calls that a script makes so. Through a cache each write, each sync and each
+/// growth reaches the device, but not each read. Where written blocks wait, one that is written again before it
+/// goes out is no call of its own.
+fn bounds(over: Over, script: Script) -> (u32, u32) {
+    let calls = script.calls();
+    match over {
+        Over::Nothing => (calls, calls),
+        Over::Cache => (script.changing_calls(), calls.saturating_sub(1)),
+        Over::Late(_) => (10, calls),
+    }
 }
 
-fn try_cached<R: AllocGlobal + Abort>(rt: &R, script: Script, trial: Trial) {
-    let found = try_script::<CachedDisk<Device>>(rt.alloc(), script, trial, 2);
-    assert!(rt; are_cached_calls(script, found), "{found:?}");
+fn try_over(
+    alloc: Global,
+    over: Over,
+    script: Script,
+    trial: Trial,
+    at: &mut u32,
+) -> Result<u32, Wrong> {
+    match over {
+        Over::Nothing => try_script::<Device>(alloc, script, trial, 0, at),
+        Over::Cache => try_script::<CachedDisk<Device>>(alloc, script, trial, 2, at),
+        Over::Late(blocks) => {
+            try_script::<DelayedDisk<Device>>(alloc, script, trial, blocks, at)
+        }
+    }
 }
 
-/// Written blocks that wait, one, two or all of them: a block that is written again before it goes
-/// out is no call of its own.
-fn try_late<R: AllocGlobal + Abort>(rt: &R, script: Script, trial: Trial) {
-    for blocks in [1, 2, 64] {
-        let found = try_script::<DelayedDisk<Device>>(rt.alloc(), script, trial, blocks);
-        assert!(rt;
-            found.is_ok_and(|calls| calls <= script.calls() && calls >= 10),
-            "{found:?}"
-        );
+/// What is done at each device call, and over what.
+type Case = (&'static str, Over, Trial);
+
+/// With nothing between store and device, and over written blocks that wait, one, two or all of them: there without
+/// a second stop.
+const BARE: &[Case] = &[
+    ("each stop", Over::Nothing, Trial::Stop),
+    ("each stop after a stop", Over::Nothing, Trial::StopTwice),
+    ("each fault", Over::Nothing, Trial::Fail),
+    (
+        "each stop after a fault",
+        Over::Nothing,
+        Trial::FailThenStop,
+    ),
+    (
+        "each stop below one block that waits",
+        Over::Late(1),
+        Trial::Stop,
+    ),
+    (
+        "each stop below two blocks that wait",
+        Over::Late(2),
+        Trial::Stop,
+    ),
+    ("each stop below what waits", Over::Late(64), Trial::Stop),
+    (
+        "each fault below one block that waits",
+        Over::Late(1),
+        Trial::Fail,
+    ),
+    (
+        "each fault below two blocks that wait",
+        Over::Late(2),
+        Trial::Fail,
+    ),
+    ("each fault below what waits", Over::Late(64), Trial::Fail),
+];
+
+const CACHED: &[Case] = &[
+    ("each stop below a cache", Over::Cache, Trial::Stop),
+    (
+        "each stop after a stop below a cache",
+        Over::Cache,
+        Trial::StopTwice,
+    ),
+    ("each fault below a cache", Over::Cache, Trial::Fail),
+    (
+        "each stop after a fault below a cache",
+        Over::Cache,
+        Trial::FailThenStop,
+    ),
+];
+
+/// What is shown is what was acknowledged, the branch and the growth of the second script with it, or the commands
+/// end as usual.
+fn try_all<R: AllocGlobal + Abort>(rt: &R, script: Script, cases: &[Case]) {
+    for (name, over, trial) in cases {
+        let mut at = 0;
+        let found = try_over(rt.alloc(), *over, script, *trial, &mut at);
+        let (fewest, most) = bounds(*over, script);
+        let is_due = matches!(found, Ok(calls) if fewest <= calls && calls <= most);
+        assert!(rt; is_due, "{name}, {script:?}, call {at}: {found:?}");
     }
 }
 
 #[test]
-fn each_stop_shows_what_was_acknowledged(rt: HostRuntime) {
-    try_all(&rt, Script::Posted, Trial::Stop);
+fn each_stop_and_fault_shows_what_was_acknowledged(rt: HostRuntime) {
+    try_all(&rt, Script::Posted, BARE);
 }
 
 #[test]
-fn each_stop_after_a_stop_shows_what_was_acknowledged(rt: HostRuntime) {
-    try_all(&rt, Script::Posted, Trial::StopTwice);
+fn each_stop_and_fault_shows_the_branch_and_the_growth(rt: HostRuntime) {
+    try_all(&rt, Script::Grown, BARE);
 }
 
 #[test]
-fn commands_end_as_usual_after_each_fault(rt: HostRuntime) {
-    try_all(&rt, Script::Posted, Trial::Fail);
+fn each_stop_and_fault_below_a_cache_shows_what_was_acknowledged(rt: HostRuntime) {
+    try_all(&rt, Script::Posted, CACHED);
 }
 
 #[test]
-fn each_stop_after_a_fault_shows_what_was_acknowledged(rt: HostRuntime) {
-    try_all(&rt, Script::Posted, Trial::FailThenStop);
-}
-
-#[test]
-fn each_stop_below_a_cache_shows_what_was_acknowledged(rt: HostRuntime) {
-    try_cached(&rt, Script::Posted, Trial::Stop);
-}
-
-#[test]
-fn each_stop_after_a_stop_below_a_cache_shows_what_was_acknowledged(rt: HostRuntime) {
-    try_cached(&rt, Script::Posted, Trial::StopTwice);
-}
-
-#[test]
-fn commands_over_a_cache_end_as_usual_after_each_fault(rt: HostRuntime) {
-    try_cached(&rt, Script::Posted, Trial::Fail);
-}
-
-#[test]
-fn each_stop_after_a_fault_below_a_cache_shows_what_was_acknowledged(rt: HostRuntime) {
-    try_cached(&rt, Script::Posted, Trial::FailThenStop);
-}
-
-#[test]
-fn each_stop_shows_the_branch_and_the_growth(rt: HostRuntime) {
-    try_all(&rt, Script::Grown, Trial::Stop);
-}
-
-#[test]
-fn each_stop_after_a_stop_shows_the_branch_and_the_growth(rt: HostRuntime) {
-    try_all(&rt, Script::Grown, Trial::StopTwice);
-}
-
-#[test]
-fn branch_and_growth_end_as_usual_after_each_fault(rt: HostRuntime) {
-    try_all(&rt, Script::Grown, Trial::Fail);
-}
-
-#[test]
-fn each_stop_after_a_fault_shows_the_branch_and_the_growth(rt: HostRuntime) {
-    try_all(&rt, Script::Grown, Trial::FailThenStop);
-}
-
-#[test]
-fn each_stop_below_a_cache_shows_the_branch_and_the_growth(rt: HostRuntime) {
-    try_cached(&rt, Script::Grown, Trial::Stop);
-}
-
-#[test]
-fn each_stop_after_a_stop_below_a_cache_shows_the_branch_and_the_growth(rt: HostRuntime) {
-    try_cached(&rt, Script::Grown, Trial::StopTwice);
-}
-
-#[test]
-fn branch_and_growth_over_a_cache_end_as_usual_after_each_fault(rt: HostRuntime) {
-    try_cached(&rt, Script::Grown, Trial::Fail);
-}
-
-#[test]
-fn each_stop_after_a_fault_below_a_cache_shows_the_branch_and_the_growth(rt: HostRuntime) {
-    try_cached(&rt, Script::Grown, Trial::FailThenStop);
-}
-
-#[test]
-fn each_stop_below_what_waits_shows_what_was_acknowledged(rt: HostRuntime) {
-    try_late(&rt, Script::Posted, Trial::Stop);
-}
-
-#[test]
-fn commands_over_what_waits_end_as_usual_after_each_fault(rt: HostRuntime) {
-    try_late(&rt, Script::Posted, Trial::Fail);
-}
-
-#[test]
-fn each_stop_below_what_waits_shows_the_branch_and_the_growth(rt: HostRuntime) {
-    try_late(&rt, Script::Grown, Trial::Stop);
-}
-
-#[test]
-fn branch_and_growth_over_what_waits_end_as_usual_after_each_fault(rt: HostRuntime) {
-    try_late(&rt, Script::Grown, Trial::Fail);
+fn each_stop_and_fault_below_a_cache_shows_the_branch_and_the_growth(rt: HostRuntime) {
+    try_all(&rt, Script::Grown, CACHED);
 }

@@ -1,6 +1,7 @@
 //! Pieces of a store, written on a disk by hand.
-use crate::tests::{BLOCKS, Wrong, name};
+use crate::tests::{BLOCKS, name};
 use std::alloc::Global;
+use testkit::Wrong;
 use vm_block::{Child, Entry, Kind, SlotFormat, SlotName, write_header, write_node};
 use vm_catalog::write_slot;
 use vm_disk::{Disk, MemDisk};
@@ -81,7 +82,10 @@ fn put_rows(disk: &mut MemDisk, n: u32, letters: &[u8], rows: &[Row]) -> Result<
 }
 
 fn put_leaf(alloc: Global, disk: &mut MemDisk, n: u32, numbers: &[u64]) -> Result<(), Wrong> {
-    let rows: Vec<Row> = numbers.iter().map(|number| (*number, 0, 0)).collect(alloc)?;
+    let mut rows = Vec::new(alloc);
+    for number in numbers {
+        rows.push((*number, 0, 0))?;
+    }
     put_rows(disk, n, LEAF, &rows)
 }
 
@@ -112,7 +116,7 @@ fn put_node(
             number: *number,
         };
         let child = Child { low, block: *block };
-        entries.push(child).map_err(|_| Wrong::Memory)?;
+        entries.push(child)?;
     }
     let mut bytes = [0; 4096];
     if entries.len() <= 256 {
@@ -146,11 +150,9 @@ fn write_entries(disk: &mut MemDisk, entries: &[Entry]) -> Result<(), Wrong> {
 /// The entries are `top`, and these behind it.
 fn put_slot(alloc: Global, disk: &mut MemDisk, lines: &[Line]) -> Result<(), Wrong> {
     let mut entries = Vec::new(alloc);
-    entries
-        .push(entry((b"top", b"", 34, 0)))
-        .map_err(|_| Wrong::Memory)?;
+    entries.push(entry((b"top", b"", 34, 0)))?;
     for line in lines {
-        entries.push(entry(*line)).map_err(|_| Wrong::Memory)?;
+        entries.push(entry(*line))?;
     }
     write_entries(disk, &entries)
 }
@@ -159,14 +161,14 @@ fn put_slot(alloc: Global, disk: &mut MemDisk, lines: &[Line]) -> Result<(), Wro
 fn put_children(alloc: Global, disk: &mut MemDisk, count: usize) -> Result<(), Wrong> {
     let mut entries = Vec::new(alloc);
     let top = entry((b"top", b"", 34, 0));
-    entries.push(top).map_err(|_| Wrong::Memory)?;
+    entries.push(top)?;
     for n in 0..count {
         let digits = [b'n', b'0' + (n / 10 % 10) as u8, b'0' + (n % 10) as u8];
         let child = Entry {
             name: name(&digits),
             ..entry((b"n", b"top", 0, 0))
         };
-        entries.push(child).map_err(|_| Wrong::Memory)?;
+        entries.push(child)?;
     }
     write_entries(disk, &entries)
 }
