@@ -1,12 +1,11 @@
 //! The names and keys that the sessions use, and a look at all that a store shows of them.
-use super::Wrong;
 use super::model::Model;
-use super::recording::RecordingDisk;
 use plain_model::Plain;
 use std::alloc::Global;
+use testkit::{RecordingDisk, Wrong, top};
 use vm_disk::Disk;
 use vm_store::{Store, open};
-use vm_types::{Change, Changes, Command, Conflict, Conflicts, Key, Name, Records, Refusal, Value};
+use vm_types::{Command, Key, Name, Refusal};
 
 /// How many alternatives are in use, with the first one.
 pub const ALTERNATIVES: u32 = 4;
@@ -16,13 +15,6 @@ pub const CHECKPOINTS: u32 = 3;
 
 /// How many keys are in use: more than one leaf has room for.
 pub const KEYS: u32 = 40;
-
-pub(super) fn top() -> Name {
-    let Some(name) = Name::new(b"top") else {
-        unreachable!();
-    };
-    name
-}
 
 /// The alternative of this number: `top`, and others that a session may or may not have.
 pub(super) fn alternative(n: u32) -> Name {
@@ -64,23 +56,6 @@ pub(super) fn alternatives() -> [Name; 4] {
     ]
 }
 
-/// The records that a store lists, in a Vec as the model's.
-fn whole(alloc: Global, list: Result<Records, Refusal>) -> Result<Vec<(Key, Value)>, Refusal> {
-    list?.to_vec(alloc).map_err(|_| Refusal::Memory)
-}
-
-/// And its changes and conflicts so, too.
-fn whole_changes(alloc: Global, list: Result<Changes, Refusal>) -> Result<Vec<Change>, Refusal> {
-    list?.to_vec(alloc).map_err(|_| Refusal::Memory)
-}
-
-fn whole_conflicts(
-    alloc: Global,
-    list: Result<Conflicts, Refusal>,
-) -> Result<Vec<Conflict>, Refusal> {
-    list?.to_vec(alloc).map_err(|_| Refusal::Memory)
-}
-
 /// Whether the store lists what the model does, or both refuse for the same reason.
 fn is_same<T: PartialEq + Drop>(
     found: Result<Vec<T>, Refusal>,
@@ -118,17 +93,23 @@ fn has_lists<D: Disk>(
     plain: &Plain,
     alt: &Name,
 ) -> Result<bool, Wrong> {
+    let records = match store.list(alloc, alt) {
+        Ok(list) => Ok(list.to_vec(alloc)?),
+        Err(refusal) => Err(refusal),
+    };
+    let changes = match store.changes(alloc, alt) {
+        Ok(list) => Ok(list.to_vec(alloc)?),
+        Err(refusal) => Err(refusal),
+    };
+    let conflicts = match store.conflicts(alloc, alt) {
+        Ok(list) => Ok(list.to_vec(alloc)?),
+        Err(refusal) => Err(refusal),
+    };
     Ok(
         is_same(store.checkpoints(alloc, alt), plain.checkpoints(alt))?
-            && is_same(whole(alloc, store.list(alloc, alt)), plain.list(alt))?
-            && is_same(
-                whole_changes(alloc, store.changes(alloc, alt)),
-                plain.changes(alt),
-            )?
-            && is_same(
-                whole_conflicts(alloc, store.conflicts(alloc, alt)),
-                plain.conflicts(alt),
-            )?,
+            && is_same(records, plain.list(alt))?
+            && is_same(changes, plain.changes(alt))?
+            && is_same(conflicts, plain.conflicts(alt))?,
     )
 }
 
@@ -202,7 +183,7 @@ pub(super) fn shows(
     model: &Model,
 ) -> Result<(RecordingDisk, bool), Wrong> {
     let mut opened = model.reopened()?;
-    let mut store = open(alloc, disk).map_err(|refused| Wrong::Refused(refused.1))?;
+    let mut store = open(alloc, disk)?;
     let same = agrees_anew(alloc, &mut store, &mut opened);
     let disk = store.close();
     Ok((disk, same?))

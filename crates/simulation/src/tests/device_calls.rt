@@ -1,13 +1,13 @@
 //! The scripts, on a device that fails at each of its calls in turn and from there on.
 ghost use Rattle.std.specs.Prelude.{◌<◌};
 
+use super::BLOCKS;
 use super::cast::shows;
 use super::model::Model;
-use super::recording::{Fill, RecordingDisk};
 use super::scripts::Script;
-use super::{BLOCKS, Wrong};
 use std::alloc::Global;
-use vm_disk::{Disk, FuseDisk};
+use testkit::{Fill, RecordingDisk, Wrong};
+use vm_disk::{Disk, FuseDisk, MemDisk};
 use vm_store::{Store, format, open};
 use vm_types::Refusal;
 
@@ -36,12 +36,12 @@ pub enum Stage {
     End,
 }
 
-/// Where a script went wrong, and what the failed write and the crash left there.
-#[derive(Clone, Copy, Debug, PartialEq, Eq)]
-pub enum Failure {
-    At(Wrong, u32, Fill, Fill),
-    /// The device failed in so many calls of the script, the end counted with them.
-    Stages(u32),
+/// After how many device calls one fails, and what the failed write and the crash leave there.
+pub type Place = (u32, Fill, Fill);
+
+/// A new disk for a store.
+pub(super) fn blank(alloc: Global) -> Result<RecordingDisk, Wrong> {
+    RecordingDisk::new(alloc, MemDisk::new(alloc, BLOCKS)?)
 }
 
 /// What the definitions make of a script up to a command.
@@ -87,7 +87,7 @@ fn run_until_stop(
 ) -> Result<(RecordingDisk, Stage), Wrong>
     requires { passes < 2000 }
 {
-    let fuse = FuseDisk::stop(RecordingDisk::new(alloc, BLOCKS)?, passes, torn);
+    let fuse = FuseDisk::stop(blank(alloc)?, passes, torn);
     let disk = match format(fuse, BLOCKS) {
         Ok(disk) => disk,
         Err((disk, Refusal::Device)) => return Ok((disk.into_inner(), Stage::Format)),
@@ -188,11 +188,11 @@ impl Met {
     }
 
     /// Whether just the calls were met that the script has.
-    pub(super) fn are_all(&self, script: Script) -> Result<(), Failure> {
+    pub(super) fn are_all(&self, script: Script) -> Result<(), Wrong> {
         if self.count == script.stages() {
             Ok(())
         } else {
-            Err(Failure::Stages(self.count))
+            Err(Wrong::Differs(self.count))
         }
     }
 }
@@ -210,19 +210,18 @@ fn stop_at(
     let bytes = torn_bytes(alloc, script, passes, torn)?;
     let (disk, stage) = run_until_stop(alloc, script, passes, bytes)?;
     if !is_due(alloc, script, disk.crash(alloc, fill)?, stage)? {
-        return Err(Wrong::Shown);
+        return Err(Wrong::Differs(passes));
     }
     Ok(stage)
 }
 
-/// Stops a script at each of its calls in turn.
-fn stop_everywhere(alloc: Global, script: Script) -> Result<(), Failure> {
+/// Stops a script at each of its calls in turn, and tells where it is.
+fn stop_everywhere(alloc: Global, script: Script, place: &mut Place) -> Result<(), Wrong> {
     for (torn, fill) in LEFT {
         let mut met = Met::none();
         for passes in 0..NEVER {
-            let stage = stop_at(alloc, script, passes, torn, fill).map_err(|wrong| Failure::At(
-                wrong, passes, torn, fill,
-            ))?;
+            *place = (passes, torn, fill);
+            let stage = stop_at(alloc, script, passes, torn, fill)?;
             met.meet(stage);
             if stage == Stage::End {
                 break;
@@ -235,10 +234,9 @@ fn stop_everywhere(alloc: Global, script: Script) -> Result<(), Failure> {
 
 #[test]
 fn each_stop_leaves_what_was_acknowledged(rt: HostRuntime) {
-    assert_eq!(rt; stop_everywhere(rt.alloc(), Script::Versions), Ok(()));
-}
-
-#[test]
-fn each_stop_around_a_merge_leaves_what_was_acknowledged(rt: HostRuntime) {
-    assert_eq!(rt; stop_everywhere(rt.alloc(), Script::Posting), Ok(()));
+    for script in [Script::Versions, Script::Posting] {
+        let mut place = (0, Fill::Synced, Fill::Synced);
+        let found = stop_everywhere(rt.alloc(), script, &mut place);
+        assert_eq!(rt; found, Ok(()), "{script:?}, {place:?}");
+    }
 }

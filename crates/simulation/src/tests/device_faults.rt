@@ -1,11 +1,11 @@
 //! The scripts, on a device that fails at each of its calls in turn, and goes on.
 ghost use Rattle.std.specs.Prelude.{◌<◌};
 
-use super::device_calls::{Failure, Met, NEVER, Stage, look, run, torn_bytes};
-use super::recording::{Fill, RecordingDisk};
+use super::BLOCKS;
+use super::device_calls::{Met, NEVER, Place, Stage, blank, look, run, torn_bytes};
 use super::scripts::Script;
-use super::{BLOCKS, Wrong};
 use std::alloc::Global;
+use testkit::{Fill, RecordingDisk, Wrong};
 use vm_disk::{Disk, FuseDisk};
 use vm_store::{Store, format, open};
 use vm_types::{Command, Refusal};
@@ -53,7 +53,7 @@ fn run_past_fault(
 ) -> Result<(RecordingDisk, Stage), Wrong>
     requires { passes < 1000 }
 {
-    let fuse = FuseDisk::once(RecordingDisk::new(alloc, BLOCKS)?, passes, torn);
+    let fuse = FuseDisk::once(blank(alloc)?, passes, torn);
     let disk = match format(fuse, BLOCKS) {
         Ok(disk) => disk,
         Err((disk, Refusal::Device)) => format_again(disk)?,
@@ -62,7 +62,7 @@ fn run_past_fault(
     let formatted = !disk.blown();
     let mut store = match open(alloc, disk) {
         Ok(store) => store,
-        Err((disk, Refusal::Device)) => open(alloc, disk).map_err(|refused| refused.1)?,
+        Err((disk, Refusal::Device)) => open(alloc, disk)?,
         Err((_, refusal)) => return Err(Wrong::Refused(refusal)),
     };
     let stage = run_to_fault(alloc, &mut store, script);
@@ -84,7 +84,7 @@ fn finish(
     disk: RecordingDisk,
     number: u32,
 ) -> Result<RecordingDisk, Wrong> {
-    let mut store = open(alloc, disk).map_err(|refused| refused.1)?;
+    let mut store = open(alloc, disk)?;
     let end = run(alloc, &mut store, script, number, script.count());
     let disk = store.close();
     match end? {
@@ -105,24 +105,23 @@ fn fail_at(alloc: Global, script: Script, passes: u32, torn: Fill) -> Result<Sta
     };
     let (disk, kept) = look(alloc, script, disk, shown)?;
     let Some(kept) = kept else {
-        return Err(Wrong::Shown);
+        return Err(Wrong::Differs(passes));
     };
     let disk = finish(alloc, script, disk, kept)?;
     let (_disk, all) = look(alloc, script, disk, Stage::End)?;
     if all.is_none() {
-        return Err(Wrong::Shown);
+        return Err(Wrong::Differs(passes));
     }
     Ok(failed)
 }
 
-/// Fails each call of a script in turn.
-fn fail_everywhere(alloc: Global, script: Script) -> Result<(), Failure> {
+/// Fails each call of a script in turn, and tells where it is.
+fn fail_everywhere(alloc: Global, script: Script, place: &mut Place) -> Result<(), Wrong> {
     for torn in TORN {
         let mut met = Met::none();
         for passes in 0..NEVER {
-            let stage = fail_at(alloc, script, passes, torn).map_err(|wrong| Failure::At(
-                wrong, passes, torn, torn,
-            ))?;
+            *place = (passes, torn, torn);
+            let stage = fail_at(alloc, script, passes, torn)?;
             met.meet(stage);
             if stage == Stage::End {
                 break;
@@ -135,10 +134,9 @@ fn fail_everywhere(alloc: Global, script: Script) -> Result<(), Failure> {
 
 #[test]
 fn script_ends_as_usual_after_each_fault(rt: HostRuntime) {
-    assert_eq!(rt; fail_everywhere(rt.alloc(), Script::Versions), Ok(()));
-}
-
-#[test]
-fn merge_and_post_end_as_usual_after_each_fault(rt: HostRuntime) {
-    assert_eq!(rt; fail_everywhere(rt.alloc(), Script::Posting), Ok(()));
+    for script in [Script::Versions, Script::Posting] {
+        let mut place = (0, Fill::Synced, Fill::Synced);
+        let found = fail_everywhere(rt.alloc(), script, &mut place);
+        assert_eq!(rt; found, Ok(()), "{script:?}, {place:?}");
+    }
 }

@@ -1,11 +1,12 @@
 //! Random choices, the same ones for the same seed.
 ghost use Rattle.std.specs.Prelude.{◌<◌, ◌≤◌};
 
-use super::cast::{ALTERNATIVES, CHECKPOINTS, KEYS, alternative, checkpoint, key, top};
+use super::cast::{ALTERNATIVES, CHECKPOINTS, KEYS, alternative, checkpoint, key};
 use plain_model::Plain;
 use rand_core::{Rng, SeedableRng};
 use rand_xoshiro::Xoshiro256PlusPlus;
 use std::alloc::{AllocError, Global};
+use testkit::top;
 use vm_types::{Command, Conflict, Key, Name, Settled, Side, Value};
 
 /// How many draws make another command than a Drop, Uncheck or Remove.
@@ -161,7 +162,10 @@ impl Dice {
             sides.push((self.key(), self.side()))?;
         }
         if wrong == 4 {
-            let key = conflicts.first().map_or(key(0), |conflict| conflict.key);
+            let key = match conflicts.first() {
+                Some(conflict) => conflict.key,
+                None => key(0),
+            };
             sides.extend_from_slice(&[(key, Side::Mine), (key, Side::Theirs)])?;
         }
         Ok(Settled::from_vec(sides))

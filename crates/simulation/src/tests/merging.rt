@@ -1,8 +1,10 @@
 //! The plain model by itself: an alternative that is in conflict with its parent is merged and posted.
-use super::cast::{alternative, key, top};
-use super::{BLOCKS, Reply, Wrong};
+use super::BLOCKS;
+use super::cast::{alternative, key};
 use plain_model::Plain;
 use std::alloc::Global;
+use std::test::Fail;
+use testkit::{Reply, Wrong, top};
 use vm_types::{Answer, Change, Command, Conflict, Key, Name, Refusal, Settled, Side, Value};
 
 fn value(bytes: &[u8]) -> Value {
@@ -130,18 +132,13 @@ fn merges_and_posts(alloc: Global) -> Result<bool, Wrong> {
 }
 
 #[test]
-fn an_alternative_in_conflict_is_merged_and_posted(rt: HostRuntime) {
+fn an_alternative_in_conflict_is_merged_and_posted(rt: HostRuntime) -> Result<(), Fail> {
     assert_eq!(rt; merges_and_posts(rt.alloc()), Ok(true));
-}
-
-#[test]
-fn only_an_alternative_with_a_parent_has_conflicts(rt: HostRuntime) {
-    let plain = match forked(rt.alloc()) {
-        Ok(plain) => plain,
-        Err(wrong) => panic!(rt; "{wrong:?}"),
-    };
+    // Only an alternative with a parent has conflicts.
+    let plain = forked(rt.alloc())?;
     let (first, absent) = (top(), alternative(2));
     assert!(rt; matches!(plain.conflicts(&first), Err(Refusal::IsTop)));
     assert!(rt; matches!(plain.conflicts(&absent), Err(Refusal::NoSuchAlternative)));
     assert!(rt; matches!(plain.changes(&absent), Err(Refusal::NoSuchAlternative)));
+    Ok(())
 }

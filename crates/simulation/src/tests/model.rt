@@ -1,11 +1,10 @@
 //! The plain model, and which commands a store refuses for want of room.
 ghost use Rattle.std.specs.Prelude.{◌<◌, length, IfSome};
 
-use super::cast::top;
 use super::trees::{EMPTY, Trees};
-use super::{Reply, Wrong};
 use plain_model::Plain;
 use std::alloc::Global;
+use testkit::{Reply, Wrong, top};
 use vm_types::{Change, Command, Key, Name, Refusal, Value};
 
 /// How many blocks come before the first one for data.
@@ -100,8 +99,12 @@ impl Model {
     /// The parent of an alternative, if it has one.
     pub(super) fn parent_of(&self, alt: &Name) -> Result<Option<Name>, Wrong> {
         let alternatives = self.plain.alternatives()?;
-        let own = alternatives.iter().find(|labels| labels.0 == *alt);
-        Ok(own.and_then(|labels| labels.1))
+        for (name, parent) in &alternatives {
+            if name == alt {
+                return Ok(*parent);
+            }
+        }
+        Ok(None)
     }
 
     /// How many levels of blocks the map of an alternative has above its leaves.
@@ -219,7 +222,7 @@ impl Model {
                 current,
                 base: current,
             };
-            self.working.push(roots).map_err(|_| Wrong::Memory)?;
+            self.working.push(roots)?;
         }
         Ok(())
     }
@@ -285,7 +288,7 @@ impl Model {
                 saved: Some(*name),
                 ..self.working[i]
             };
-            self.working.push(checkpoint).map_err(|_| Wrong::Memory)?;
+            self.working.push(checkpoint)?;
         }
         Ok(())
     }

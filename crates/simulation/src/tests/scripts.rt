@@ -1,7 +1,7 @@
 //! Fixed lists of commands, which are all accepted.
-use super::Reply;
-use super::cast::{alternative, checkpoint, key, top};
+use super::cast::{alternative, checkpoint, key};
 use std::alloc::Global;
+use testkit::{Reply, top};
 use vm_types::{Answer, Command, Name, Settled, Value};
 
 /// A list of commands. The last one is a Commit.

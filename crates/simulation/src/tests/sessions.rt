@@ -1,14 +1,14 @@
 //! Random sessions: a store lives several times on one disk, and each life ends by closing or by a
 //! device that stops, and maybe by a crash.
-use super::cast::{agrees, alternatives, shows, top};
+use super::BLOCKS;
+use super::cast::{agrees, alternatives, shows};
 use super::dice::Dice;
 use super::model::Model;
-use super::recording::RecordingDisk;
 use super::tally::{Case, Sight, Tally};
-use super::{BLOCKS, Wrong};
 use std::alloc::Global;
 use std::process::Abort;
-use vm_disk::{DelayedDisk, Disk, FuseDisk};
+use testkit::{Fill, RecordingDisk, Wrong, top};
+use vm_disk::{DelayedDisk, Disk, FuseDisk, MemDisk};
 use vm_store::{Store, format, open};
 use vm_types::{Command, Key, Name, Refusal};
 
@@ -68,10 +68,10 @@ fn near(alloc: Global, model: &Model, command: &Command) -> Result<Vec<Name>, Wr
 /// Compares the counts of blocks and of free ones with the model's.
 fn count<D: Disk>(store: &Store<D>, model: &Model) -> Result<(), Wrong> {
     if store.blocks() != Ok(model.plain.blocks()) {
-        return Err(Wrong::Blocks);
+        return Err(Wrong::Blocks(model.plain.blocks()));
     }
     if store.free() != Ok(model.free()) {
-        return Err(Wrong::Free);
+        return Err(Wrong::Free(model.free()));
     }
     Ok(())
 }
@@ -113,11 +113,7 @@ fn compare<D: Disk>(
     if let Err(Wrong::Refused(Refusal::Device)) = agreed {
         return Ok(Some(End::Stopped));
     }
-    if agreed? {
-        Ok(None)
-    } else {
-        Err(Wrong::Differs)
-    }
+    if agreed? { Ok(None) } else { Err(Wrong::Shown) }
 }
 
 /// Carries out a command. Where the life looks, it compares what the store shows in the alternatives near
@@ -270,6 +266,33 @@ fn size(seed: u64) -> u32 {
     }
 }
 
+/// The disk after a crash which leaves anything in blocks that were not synced, and takes any number of
+/// those that are not sure.
+fn crash_at_random(
+    alloc: Global,
+    disk: RecordingDisk,
+    dice: &mut Dice,
+) -> Result<RecordingDisk, Wrong> {
+    let mut left = Vec::new(alloc);
+    for n in 0..disk.inner().blocks() {
+        if disk.inner().is_dirty(n) {
+            let synced = disk.bytes_in(n, Fill::Synced);
+            let bytes = dice.left(&synced, &disk.bytes_in(n, Fill::Written));
+            left.push((n, bytes))?;
+        }
+    }
+    let inner = disk.into_inner();
+    let unsure = inner.blocks().saturating_sub(inner.sure());
+    let lost = dice.below(unsure.saturating_add(1));
+    let blocks = inner.blocks().saturating_sub(lost);
+    let inner = if inner.sure() <= blocks && blocks <= inner.blocks() {
+        inner.crash_short(&left, blocks)
+    } else {
+        inner.crash(&left)
+    };
+    RecordingDisk::new(alloc, inner)
+}
+
 /// A crash, every second time.
 fn crash_or_not(
     alloc: Global,
@@ -281,7 +304,7 @@ fn crash_or_not(
         return Ok(disk);
     }
     let blocks = disk.blocks();
-    let disk = disk.crash_at_random(alloc, dice)?;
+    let disk = crash_at_random(alloc, disk, dice)?;
     if disk.blocks() < blocks {
         tally.meet(Case::CutShort);
     }
@@ -294,8 +317,8 @@ fn session(alloc: Global, seed: u64, tally: &mut Tally) -> Result<(), Wrong> {
     let room = blocks.saturating_add(ROOM);
     let mut dice = Dice::new(seed, room);
     let mut model = Model::new(alloc, blocks)?;
-    let disk = RecordingDisk::with_room(alloc, blocks, room)?;
-    let mut disk = format(disk, blocks).map_err(|refused| Wrong::Refused(refused.1))?;
+    let disk = RecordingDisk::new(alloc, MemDisk::with_room(alloc, blocks, room)?)?;
+    let mut disk = format(disk, blocks)?;
     for waiting in WAITING {
         let (left, end) = live(alloc, disk, waiting, &mut model, &mut dice, tally)?;
         let left = crash_or_not(alloc, left, &mut dice, tally)?;

@@ -1,12 +1,13 @@
 //! What the script of a Merge and a Post commits, and how many blocks are free once that was opened.
-use super::cast::{alternative, checkpoint, key, top};
+use super::BLOCKS;
+use super::cast::{alternative, checkpoint, key};
 use super::device_calls::run;
-use super::recording::RecordingDisk;
 use super::scripts::Script;
-use super::{BLOCKS, Wrong};
 use std::alloc::Global;
+use testkit::{Wrong, top};
+use vm_disk::MemDisk;
 use vm_store::{Store, format, open};
-use vm_types::{Change, Command, Key, Name, Refusal, Value};
+use vm_types::{Change, Command, Key, Name, Value};
 
 /// What a store shows: the records of `top`, those of `ring` with what it changed since its base, the
 /// checkpoints of `ring`, and the number of free blocks.
@@ -27,7 +28,7 @@ fn record(n: u32, bytes: &[u8]) -> (Key, Value) {
     (key(n), Value::new(bytes).unwrap_or_default())
 }
 
-fn shows(alloc: Global, store: &mut Store<RecordingDisk>, state: State<'_>) -> Result<bool, Wrong> {
+fn shows(alloc: Global, store: &mut Store<MemDisk>, state: State<'_>) -> Result<bool, Wrong> {
     let alternatives = [(top(), None), (ring(), Some(top()))];
     Ok(
         store.alternatives(alloc)?.as_slice() == alternatives.as_slice()
@@ -39,7 +40,7 @@ fn shows(alloc: Global, store: &mut Store<RecordingDisk>, state: State<'_>) -> R
     )
 }
 
-fn shows_nothing(alloc: Global, store: &mut Store<RecordingDisk>) -> Result<bool, Wrong> {
+fn shows_nothing(alloc: Global, store: &mut Store<MemDisk>) -> Result<bool, Wrong> {
     Ok(
         store.alternatives(alloc)?.as_slice() == [(top(), None)].as_slice()
             && store.list(alloc, &top())?.is_empty()
@@ -48,7 +49,7 @@ fn shows_nothing(alloc: Global, store: &mut Store<RecordingDisk>) -> Result<bool
 }
 
 /// `ring` changed the one record, and has a checkpoint of that.
-fn shows_the_change(alloc: Global, store: &mut Store<RecordingDisk>) -> Result<bool, Wrong> {
+fn shows_the_change(alloc: Global, store: &mut Store<MemDisk>) -> Result<bool, Wrong> {
     let (old, new) = (record(1, b"a"), record(1, b"b"));
     let state = State {
         top: &[old],
@@ -72,7 +73,7 @@ fn shows_the_change(alloc: Global, store: &mut Store<RecordingDisk>) -> Result<b
 /// What the store shows after so many commands of the script, the last of which was a Commit.
 fn shows_what_is_due(
     alloc: Global,
-    store: &mut Store<RecordingDisk>,
+    store: &mut Store<MemDisk>,
     number: u32,
 ) -> Result<bool, Wrong> {
     let posted = [record(1, b"b"), record(2, b"d")];
@@ -98,13 +99,12 @@ fn shows_what_is_due(
 
 /// Carries out so many commands of the script on a new store, and opens what is left once more.
 fn is_committed(alloc: Global, number: u32) -> Result<bool, Wrong> {
-    let disk = RecordingDisk::new(alloc, BLOCKS)?;
-    let disk = format(disk, BLOCKS).map_err(|refused| refused.1)?;
-    let mut store = open(alloc, disk).map_err(|refused| refused.1)?;
+    let disk = format(MemDisk::new(alloc, BLOCKS)?, BLOCKS)?;
+    let mut store = open(alloc, disk)?;
     let stage = run(alloc, &mut store, Script::Posting, 0, number);
     let disk = store.close();
     stage?;
-    let mut store = open(alloc, disk).map_err(|refused| refused.1)?;
+    let mut store = open(alloc, disk)?;
     let same = shows_what_is_due(alloc, &mut store, number);
     store.close();
     same

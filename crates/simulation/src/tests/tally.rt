@@ -1,6 +1,6 @@
 //! Counts of what random sessions are to meet.
-use super::Reply;
 use std::cmp::Ordering;
+use testkit::Reply;
 use vm_types::{Answer, Command, Key, Name, Refusal, Side};
 
 /// How many kinds of commands there are.

@@ -48,18 +48,24 @@ enum Change {
 
 /// At which child a key is: the last one whose lowest key isn't above it, or else the first one.
 fn place_of(rows: &[Row], key: Key) -> usize {
-    rows.iter()
-        .filter(|row| row.low <= key)
-        .count()
-        .saturating_sub(1)
+    let mut place = 0;
+    for (n, row) in rows.iter().enumerate() {
+        if row.low <= key {
+            place = n;
+        }
+    }
+    place
 }
 
 /// The rows of a leaf without a key.
 fn without(alloc: Global, rows: &[Row], key: Key) -> Result<Vec<Row>, AllocError> {
-    rows.iter()
-        .copied()
-        .filter(|row| row.low != key)
-        .collect(alloc)
+    let mut others = Vec::new(alloc);
+    for row in rows {
+        if row.low != key {
+            others.push(*row)?;
+        }
+    }
+    Ok(others)
 }
 
 /// The rows of a leaf with a key, and the node of its long value.
@@ -68,12 +74,21 @@ fn with(alloc: Global, rows: &[Row], key: Key, long: usize) -> Result<Vec<Row>, 
         low: key,
         child: long,
     };
-    let mut rows = without(alloc, rows, key)?;
-    match rows.iter().position(|row| row.low > key) {
-        Some(i) => rows.insert(i, record)?,
-        None => rows.push(record)?,
+    let mut all = Vec::new(alloc);
+    let mut is_in = false;
+    for row in rows {
+        if row.low >= key && !is_in {
+            all.push(record)?;
+            is_in = true;
+        }
+        if row.low != key {
+            all.push(*row)?;
+        }
     }
-    Ok(rows)
+    if !is_in {
+        all.push(record)?;
+    }
+    Ok(all)
 }
 
 /// The rows of an inner node with others in place of one.
@@ -92,6 +107,14 @@ fn with_others(
         }
     }
     Ok(all)
+}
+
+/// The child that a row names, or the node of the empty map where there is none.
+fn child_of(row: Option<Row>) -> usize {
+    match row {
+        Some(row) => row.child,
+        None => EMPTY,
+    }
 }
 
 fn reach(reached: &mut [bool], node: usize) {
@@ -135,7 +158,10 @@ impl Trees {
 
     /// How many levels of inner nodes the map under a root has.
     pub(super) fn level(&self, root: usize) -> u32 {
-        self.nodes.get(root).map_or(0, |node| node.level)
+        match self.nodes.get(root) {
+            Some(node) => node.level,
+            None => 0,
+        }
     }
 
     /// The nodes from the root down to the leaf where a key is.
@@ -229,14 +255,14 @@ impl Trees {
             [one] => Some(*one),
             both => self.add(level, both)?,
         };
-        Ok(name.map_or(EMPTY, |row| row.child))
+        Ok(child_of(name))
     }
 
     /// The root of the map without a key. A node that would be empty is left out of the one above it,
     /// and a root that would have one child is not made: the child takes its place, and so on down.
     pub(super) fn remove(&mut self, root: usize, key: Key) -> Result<usize, AllocError> {
         let names = self.copy_path(root, key, Change::Remove)?;
-        let mut root = names.first().map_or(EMPTY, |row| row.child);
+        let mut root = child_of(names.first().copied());
         if self.level(root) > 0 && self.rows(root).len() == 1 {
             root = self.only_child(root);
             self.nodes.pop();
