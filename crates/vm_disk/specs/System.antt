@@ -1,5 +1,5 @@
 -- What a file of the system shows, by the calls that were made of it.
-use Rattle.std.specs.Prelude.{◌≡◌, ℕ, ◌+◌, ◌==◌, ◌&&◌, Bool, true, List, [], ◌∷◌, Option, Some, None, Result, OnOk, if◌then◌else◌, length, reverse, take, drop, replicate, bytes_eq}
+use Rattle.std.specs.Prelude.{◌≡◌, ℕ, ◌+◌, ◌==◌, ◌&&◌, Bool, true, List, [], ◌∷◌, Option, Some, None, Result, IfOk, OnOk, if◌then◌else◌, length, reverse, take, drop, replicate, bytes_eq}
 use Rattle.vm_disk.specs.declared.disk.DeviceFault.{DeviceFault}
 use Rattle.vm_disk.specs.declared.system.Call.{Call}
 use Rattle.vm_disk.specs.declared.system.Call.TheVariants.{Created, Measured, Read, Written, Blocks, Zeroed, Torn, Withheld, Synced, Failed}
@@ -104,6 +104,14 @@ system_state held torn file =
     let name = name_of file in
     state_after (is_read_alone file) (held_bytes (held opening name)) (torn opening name) (noted file.calls)
 
+-- a count that was answered is that of these bytes
+abbrev pub IsCountOf : Result ℕ DeviceFault → List ℕ → Type 0
+IsCountOf result bytes = IfOk result (λ count. count ≡ length bytes)
+
+-- what was read from an offset on, if it was, stands there in these bytes
+abbrev pub IsReadOf : {T : Type 0} → ℕ → List ℕ → Result T DeviceFault → List ℕ → Type 0
+IsReadOf offset read result bytes = OnOk result (read ≡ take (length read) (drop offset bytes))
+
 -- a write was not made: it is answered with a fault, and the file has the bytes that it had
 pub record IsWithheld {T : Type 0} (result : Result T DeviceFault) (old new : FileState) : Type 0 where
   pub fault : OnOk result ⊥
@@ -123,6 +131,14 @@ module _ {W : Type 0} (held : ℕ → List ℕ → Option (List ℕ)) (torn : �
   -- where the file is honest after it, R holds between what it shows before and after
   abbrev pub IfHonestIn : (FileState → FileState → Type 0) → SystemFile W → SystemFile W → Type 0
   IfHonestIn R old new = IfHonestFile (system_state held torn) R old new
+
+  -- it stays honest: the call tells no lie of it
+  abbrev pub StaysHonestIn : SystemFile W → SystemFile W → Type 0
+  StaysHonestIn old new = (system_state held torn old).honest ≡ true → (system_state held torn new).honest ≡ true
+
+  -- it stays honest where its bytes are such
+  abbrev pub StaysHonestWhere : (List ℕ → Type 0) → SystemFile W → SystemFile W → Type 0
+  StaysHonestWhere P old new = P (system_state held torn old).bytes → StaysHonestIn old new
 
   -- where the file was opened to be read alone, the write was not made
   abbrev pub Withholds : {T : Type 0} → Result T DeviceFault → SystemFile W → SystemFile W → Type 0

@@ -231,7 +231,7 @@ impl<W: World> SystemFile<W> {
 }
 
 impl<W: World> Positional for SystemFile<W> {
-    ghost use Rattle.vm_disk.specs.System.{IfHonestIn, Withholds, system_state, is_read_alone};
+    ghost use Rattle.vm_disk.specs.System.{IfHonestIn, StaysHonestIn, StaysHonestWhere, IsCountOf, IsReadOf, Withholds, system_state, is_read_alone};
 
     ghost state = { system_state W.held W.torn };
 
@@ -240,6 +240,7 @@ impl<W: World> Positional for SystemFile<W> {
         ensures honest { IfHonestIn W.held W.torn (Measures result) self.old self.new }
 
         ensures mode { is_read_alone self.new ≡ is_read_alone self.old }
+        ensures stays { StaysHonestWhere W.held W.torn (IsCountOf result) self.old self.new }
     {
         let Ok(count) = length_of(&self.file) else {
             self.calls.note(&Call::Failed);
@@ -254,6 +255,8 @@ impl<W: World> Positional for SystemFile<W> {
         ensures honest { IfHonestIn W.held W.torn (ReadsAt offset into.new result) self.old self.new }
 
         ensures mode { is_read_alone self.new ≡ is_read_alone self.old }
+        ensures stays { StaysHonestWhere W.held W.torn
+            (IsReadOf offset into.new result) self.old self.new }
     {
         if self.file.read_exact_at(into, offset).is_err() {
             self.calls.note(&Call::Failed);
@@ -268,6 +271,7 @@ impl<W: World> Positional for SystemFile<W> {
         ensures honest { IfHonestIn W.held W.torn (WritesIn offset from.now result) self.old self.new }
 
         ensures mode { is_read_alone self.new ≡ is_read_alone self.old }
+        ensures stays { StaysHonestIn W.held W.torn self.old self.new }
         ensures withheld { Withholds W.held W.torn result self.old self.new }
     {
         if self.reads_alone {
@@ -288,6 +292,7 @@ impl<W: World> Positional for SystemFile<W> {
             (WritesIn offset (joined from.now) result) self.old self.new }
 
         ensures mode { is_read_alone self.new ≡ is_read_alone self.old }
+        ensures stays { StaysHonestIn W.held W.torn self.old self.new }
         ensures withheld { Withholds W.held W.torn result self.old self.new }
     {
         let bytes = from.as_flattened();
@@ -309,6 +314,7 @@ impl<W: World> Positional for SystemFile<W> {
         ensures honest { IfHonestIn W.held W.torn (WritesIn offset (zeros count) result) self.old self.new }
 
         ensures mode { is_read_alone self.new ≡ is_read_alone self.old }
+        ensures stays { StaysHonestIn W.held W.torn self.old self.new }
         ensures withheld { Withholds W.held W.torn result self.old self.new }
     {
         if self.reads_alone {
@@ -329,6 +335,7 @@ impl<W: World> Positional for SystemFile<W> {
         ensures honest { IfHonestIn W.held W.torn (SyncsFile result) self.old self.new }
 
         ensures mode { is_read_alone self.new ≡ is_read_alone self.old }
+        ensures stays { StaysHonestIn W.held W.torn self.old self.new }
     {
         let answer = self.file.sync_all();
         self.calls.note(&Call::Synced(Snapshot::of(&answer)));
