@@ -60,6 +60,7 @@ pub fn write_leaf(rows: &[(Key, Stored<'_>)], out: &mut [u8; 4096])
 /// The rows of a leaf. None exactly where the bytes are none.
 pub fn read_leaf(bytes: &[u8; 4096]) -> Option<ArrayVec<(Key, Stored<'_>), 16>>
     ensures found { IfSome result (λ rows. HasRows bytes.now (map row_of rows.items)) }
+    ensures stored { IfSome result (λ rows. AreStored rows.items) }
     ensures only { IfHasRows bytes.now (λ ws. IsSomeAnd result (λ rows. map row_of rows.items ≡ ws)) }
 {
     let Some(count) = rows_size(bytes) else {

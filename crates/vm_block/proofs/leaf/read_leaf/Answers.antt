@@ -1,7 +1,9 @@
-use Rattle.std.proofs.Common.{◌≡◌, ◌+◌, ◌<◌, ◌++◌, [], ◌∷◌, length, map, take, get_or, sym, ap, ◌∙◌, arith}
+use Rattle.std.proofs.Common.{◌≡◌, ◌+◌, ◌<◌, ◌++◌, [], ◌∷◌, length, map, take, get_or, sym, ap, ◌∙◌, subst, arith}
 use Rattle.std.proofs.lemmas.List.{length_push, map-append, take_more}
-use Rattle.vm_block.specs.Changed.{row_of}
-use Rattle.vm_block.specs.Leaf.{Row}
+use Rattle.vm_types.specs.Places.{KeyFits}
+use Rattle.vm_block.specs.Changed.{AreStored, row_of}
+use Rattle.vm_block.specs.Leaf.{Row, StoredFits}
+use Rattle.vm_block.proofs.EachLemmas.{each_join}
 use Rattle.vm_block.proofs.HeadLemmas.{some_same}
 use Rattle.vm_block.proofs.leaf.read_leaf.Goals as goal
 
@@ -17,6 +19,9 @@ loop-i-preserved c =
     let i = c.loop-i.i in
     record {
       many = ap length items ∙ length_push before (c.record_key.result, c.in-Some-stored_at.stored) ∙ ap (λ n. n + 1) c.loop-i.invariant.many;
+      fit =
+          subst AreStored (sym items)
+          (each_join (λ pair. KeyFits pair.0 × StoredFits pair.1) before ((c.record_key.result, c.in-Some-stored_at.stored) ∷ []) c.loop-i.invariant.fit ((c.record_key.ensures.fits, c.in-Some-stored_at.ensures.found.0), tt));
       read = λ ws leaf many.
           let d : Row = (c.record_key.result, []) in
           let lt : i < length ws = omega (arith, many, c.loop-i-test.true) in
