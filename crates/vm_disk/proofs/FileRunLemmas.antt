@@ -9,8 +9,9 @@ use Rattle.vm_disk.specs.declared.file.FileDisk.{FileDisk}
 use Rattle.vm_disk.specs.Disk.{block, Medium, Elapses}
 use Rattle.vm_disk.specs.Moments.{TouchesOnly, CleanAsBefore, in_run, WritesRun}
 use Rattle.vm_disk.specs.Positional.{FileState, joined, overwritten, IsTorn, WritesAt}
-use Rattle.vm_disk.specs.File.{file_state, file_block, touches, is_touched, is_unsure, waits_with, forgotten_of}
+use Rattle.vm_disk.specs.File.{KeepsBehind, file_state, file_block, touches, is_touched, is_unsure, waits_with, forgotten_of}
 use Rattle.vm_disk.proofs.OverwrittenLemmas.{overwritten_inside, overwritten_before, overwritten_after}
+use Rattle.vm_disk.proofs.ZeroLemmas.{behind_torn}
 use Rattle.vm_disk.proofs.KeptLemmas.{by_answer}
 use Rattle.vm_disk.proofs.MomentLemmas.{started, goes_on, touches_nothing, as_itself}
 use Rattle.vm_disk.proofs.RunLemmas.{run_has}
@@ -21,7 +22,7 @@ abbrev pub AreFull : List (List ℕ) → Type 0
 AreFull blocks = (i : ℕ) → i < length blocks → length (slice_index_or blocks i []) ≡ 4096
 
 -- so many bytes they have
-joined_length : (blocks : List (List ℕ)) → AreFull blocks → length (joined blocks) ≡ 4096 * length blocks
+pub joined_length : (blocks : List (List ℕ)) → AreFull blocks → length (joined blocks) ≡ 4096 * length blocks
 joined_length [] full = refl
 joined_length (b ∷ blocks) full =
     let one = full 0 (omega arith) in
@@ -155,3 +156,16 @@ module _ {F : Type 0} (state : F → FileState) where
             time
             (record { same = λ k clean. others k (out k clean); clean = λ k clean. sym (others_dirty k (out k clean)) ∙ clean });
       }
+
+  -- what stands in the file behind the disk is as it was
+  pub write_keeps_behind : {T : Type 0} (answer : Result T DeviceFault) (n size offset : ℕ) (bytes : List ℕ) (was now : FileDisk F) (file : F)
+      → IsCalled state was now (same_part state was file) → n + size ≤ was.blocks → offset ≡ 4096 * n → length bytes ≡ 4096 * size
+      → ((state file).honest ≡ true → offset ≤ length (state was.file).bytes → WritesAt offset bytes answer (state was.file) (state file))
+      → (file_state state now).honest ≡ true
+      → KeepsBehind was.blocks (state was.file) (state file)
+  write_keeps_behind answer n size offset bytes was now file called inside at many law honest =
+      let part = same_part state was file in
+      let long = long_file state was now part called honest in
+      let within : offset ≤ length (state was.file).bytes = omega (arith, long, at, inside) in
+      let writes = law (good_file state was now part called honest) within in
+      behind_torn offset (length bytes) was.blocks (state was.file).bytes (state file).bytes (some_written answer offset bytes (state was.file) (state file) writes) within (omega (arith, at, inside, many))

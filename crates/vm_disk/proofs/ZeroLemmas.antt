@@ -86,7 +86,7 @@ adds_some e from mid offset zeros old file new so_far order at writes =
     adds_torn from mid offset (length zeros) old file new so_far order at writes.torn writes.waiting
 
 -- a write that ends before so many blocks do leaves what stands behind them
-behind_torn : (offset count blocks : ℕ) (old new : List ℕ) → IsTorn offset count old new → offset ≤ length old → offset + count ≤ 4096 * blocks
+pub behind_torn : (offset count blocks : ℕ) (old new : List ℕ) → IsTorn offset count old new → offset ≤ length old → offset + count ≤ 4096 * blocks
     → drop (4096 * blocks) new ≡ drop (4096 * blocks) old
 behind_torn offset count blocks old new torn within before =
     ap (drop (4096 * blocks)) torn.written ∙ overwritten_after offset (4096 * blocks) torn.bytes old within (omega (arith, torn.few))

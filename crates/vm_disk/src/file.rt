@@ -214,6 +214,8 @@ impl<F: Positional> Disk for FileDisk<F> {
         ensures any { Between (file_state F.state) (Counts 0 result) self.old self.new }
         ensures honest { IfHonest (file_state F.state) (Writes n from.now result) self.old self.new }
 
+        // What stands in the file behind the disk is as it was.
+        ensures behind { LeavesBehind F.state (file_state F.state self.old).blocks self.old self.new }
         ensures stays { StaysHonest F.state self.old self.new }
     {
         let was = self.earlier();
@@ -226,6 +228,8 @@ impl<F: Positional> Disk for FileDisk<F> {
         ensures any { Between (file_state F.state) (Counts 0 result) self.old self.new }
         ensures honest { IfHonest (file_state F.state) (WritesRun n blocks.now result) self.old self.new }
 
+        // What stands in the file behind the disk is as it was.
+        ensures behind { LeavesBehind F.state (file_state F.state self.old).blocks self.old self.new }
         ensures stays { StaysHonest F.state self.old self.new }
     {
         let was = self.earlier();

@@ -1,5 +1,6 @@
 use Rattle.std.proofs.Common.{refl, rules, arith}
 use Rattle.vm_disk.proofs.FileLemmas.{disk_writes, write_stays}
+use Rattle.vm_disk.proofs.FileRunLemmas.{write_keeps_behind}
 use Rattle.vm_disk.proofs.file.FileDiskDisk.write.Goals as goal
 
 pub returns-clause-honest : goal.returns-clause-honest
@@ -15,3 +16,10 @@ returns-clause-stays g c =
     write_stays g.F.Positional.state _ _ _ _ was (record { room = was.room; file = _; blocks = _; sure = _; forgotten = was.forgotten; past = _; reads = was.reads; small = was.small; known = was.known }) _
     (record { is = refl; earlier = _; told = c.earlier-was.ensures; past = c.note.ensures })
     (omega (arith, c.requires)) c.offset_of.ensures c.write_at.ensures.honest
+
+pub returns-clause-behind : goal.returns-clause-behind
+returns-clause-behind g c =
+    let was = c.args.self.now in
+    write_keeps_behind g.F.Positional.state _ _ 1 _ _ was (record { room = was.room; file = _; blocks = _; sure = _; forgotten = was.forgotten; past = _; reads = was.reads; small = was.small; known = was.known }) _
+    (record { is = refl; earlier = _; told = c.earlier-was.ensures; past = c.note.ensures })
+    (omega (arith, c.requires)) c.offset_of.ensures (search rules) c.write_at.ensures.honest

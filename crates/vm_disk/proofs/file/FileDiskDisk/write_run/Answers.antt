@@ -1,6 +1,6 @@
-use Rattle.std.proofs.Common.{refl, arith}
+use Rattle.std.proofs.Common.{length, refl, arith}
 use Rattle.vm_disk.proofs.FileLemmas.{write_stays}
-use Rattle.vm_disk.proofs.FileRunLemmas.{disk_writes_run}
+use Rattle.vm_disk.proofs.FileRunLemmas.{disk_writes_run, joined_length, write_keeps_behind}
 use Rattle.vm_disk.specs.Positional.{joined}
 use Rattle.vm_disk.proofs.file.FileDiskDisk.write_run.Goals as goal
 
@@ -17,3 +17,10 @@ returns-clause-stays g c =
     write_stays g.F.Positional.state _ _ _ (joined c.args.blocks.now) was (record { room = was.room; file = _; blocks = _; sure = _; forgotten = was.forgotten; past = _; reads = was.reads; small = was.small; known = was.known }) _
     (record { is = refl; earlier = _; told = c.earlier-was.ensures; past = c.note.ensures })
     (omega (arith, c.requires)) c.offset_of.ensures c.write_blocks_at.ensures.honest
+
+pub returns-clause-behind : goal.returns-clause-behind
+returns-clause-behind g c =
+    let was = c.args.self.now in
+    write_keeps_behind g.F.Positional.state _ _ (length c.args.blocks.now) _ (joined c.args.blocks.now) was (record { room = was.room; file = _; blocks = _; sure = _; forgotten = was.forgotten; past = _; reads = was.reads; small = was.small; known = was.known }) _
+    (record { is = refl; earlier = _; told = c.earlier-was.ensures; past = c.note.ensures })
+    c.requires c.offset_of.ensures (joined_length c.args.blocks.now c.told-blocks) c.write_blocks_at.ensures.honest
