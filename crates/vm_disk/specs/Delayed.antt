@@ -1,10 +1,11 @@
 -- What a `DelayedDisk` shows.
-use Rattle.std.specs.Prelude.{◌≡◌, ◌++◌, ℕ, List, length, map, Option, None}
+use Rattle.std.specs.Prelude.{◌≡◌, ◌++◌, ℕ, true, List, length, map, is_some, Option, None, Result, IsOk}
 use Rattle.std.proofs.Common.{◌∙◌}
 use Rattle.vm_disk.specs.declared.delayed.DelayedDisk.{DelayedDisk}
+use Rattle.vm_disk.specs.declared.disk.DeviceFault.{DeviceFault}
 use Rattle.vm_disk.specs.Disk.{DiskState}
 use Rattle.vm_disk.specs.Following.{Follows}
-use Rattle.vm_disk.specs.Laid.{laid_length, Rest, rests_before}
+use Rattle.vm_disk.specs.Laid.{laid_length, Rest, TouchesDirty, rests_before}
 use Rattle.vm_disk.specs.Waiting.{bytes_for, limit_of}
 use Rattle.vm_disk.specs.Layers.{lower_of, waiting_of, layers_hand, medium_of, rest_of}
 use Rattle.vm_disk.specs.Past.{noted}
@@ -54,3 +55,15 @@ module _ {D : Type 0} {members : _} where
   -- the disk below follows it
   abbrev pub FollowsBelow : (D → DiskState) → DelayedDisk D members → Type 0
   FollowsBelow state delayed = Follows (delayed_state state delayed) (state (inner_of delayed))
+
+  -- as many blocks may wait as before
+  abbrev pub KeepsLimit : DelayedDisk D members → DelayedDisk D members → Type 0
+  KeepsLimit old new = limit_of (waiting_of new.layers) ≡ limit_of (waiting_of old.layers)
+
+  -- where block n waited, the call succeeds, and the disk below is as it was
+  abbrev pub AnswersHere : {T : Type 0} → ℕ → Result T DeviceFault → DelayedDisk D members → DelayedDisk D members → Type 0
+  AnswersHere n result old new = is_some (waiting_for old n) ≡ true → (inner_of new ≡ inner_of old) × IsOk result
+
+  -- where the disk below is honest after it: until its last call, it was touched just where blocks are dirty here
+  abbrev pub TouchesBelow : (D → DiskState) → DelayedDisk D members → DelayedDisk D members → Type 0
+  TouchesBelow state old new = (state (inner_of new)).honest ≡ true → TouchesDirty (medium_of state old.layers) (state (inner_of old)) (state (inner_of new))

@@ -1,5 +1,6 @@
 -- What a disk with blocks that wait over it shows.
-use Rattle.std.specs.Prelude.{◌≡◌, ◌<◌, ℕ, true, false, List, [], ◌∷◌, Option, Some, None}
+use Rattle.std.specs.Prelude.{◌≡◌, ◌<◌, ℕ, true, false, List, [], ◌∷◌, Option, Some, None, Result, IsOk}
+use Rattle.vm_disk.specs.declared.disk.DeviceFault.{DeviceFault}
 use Rattle.vm_disk.specs.declared.layers.Hand.{Hand}
 use Rattle.vm_disk.specs.declared.layers.Hand.TheVariants.{Waits, Kept, Below}
 use Rattle.vm_disk.specs.declared.layers.Layers.{Layers}
@@ -8,7 +9,7 @@ use Rattle.vm_disk.specs.Moments.{Throughout, TouchesOnly}
 use Rattle.vm_disk.specs.Laid.{laid, TouchesDirty, Rest}
 use Rattle.vm_disk.specs.declared.waiting.Waiting.{Waiting}
 use Rattle.vm_disk.specs.Kept.{first_in, rooms_in}
-use Rattle.vm_disk.specs.Waiting.{bytes_for, written_for, count_of, waits}
+use Rattle.vm_disk.specs.Waiting.{bytes_for, written_for, count_of, limit_of, waits}
 
 -- those bytes, or else these
 abbrev pub some_or : Option (List ℕ) → List ℕ → List ℕ
@@ -70,6 +71,14 @@ module _ {D : Type 0} {members : _} where
   -- a block that did not wait does not wait now
   abbrev pub WaitNoMore : Layers D members → Layers D members → Type 0
   WaitNoMore old new = (n : ℕ) → waits (waiting_of old) n ≡ false → waits (waiting_of new) n ≡ false
+
+  -- as many blocks may wait as before
+  abbrev pub KeepsLimit : Layers D members → Layers D members → Type 0
+  KeepsLimit old new = limit_of (waiting_of new) ≡ limit_of (waiting_of old)
+
+  -- where block n waited, the call succeeds, and the disk below was not asked
+  abbrev pub AnswersHere : {T : Type 0} → ℕ → Result T DeviceFault → Layers D members → Layers D members → Type 0
+  AnswersHere n result old new = waits (waiting_of old) n ≡ true → (lower_of new ≡ lower_of old) × IsOk result
 
   -- but for its last call, the disk below was touched just where it is dirty above
   abbrev pub IsApart : (D → DiskState) → Layers D members → Layers D members → Type 0

@@ -1,7 +1,8 @@
 //! A disk that writes late.
 ghost use Rattle.std.specs.Prelude.{◌≡◌, ◌<◌, ◌≤◌, ◌++◌, true, IfOk, IfErr, map};
 ghost use Rattle.vm_disk.specs.Past.{noted};
-ghost use Rattle.vm_disk.specs.Disk.{Counts, Reads, Writes, Syncs, Extends, Enlarges};
+ghost use Rattle.vm_disk.specs.Between.{Between, IfHonest};
+ghost use Rattle.vm_disk.specs.Disk.{Counts, Reads, Writes, Idles, Forgets, Syncs, Extends, Enlarges};
 ghost use Rattle.vm_disk.specs.Laid.{IsCovered, rests_before};
 ghost use Rattle.vm_disk.specs.Layers.{lower_of, rest_of};
 
@@ -75,7 +76,7 @@ impl<D: Disk> DelayedDisk<D> {
 }
 
 impl<D: Disk> Disk for DelayedDisk<D> {
-    ghost use Rattle.vm_disk.specs.Delayed.{inner_of, delayed_state, delayed_hand, delayed_whole};
+    ghost use Rattle.vm_disk.specs.Delayed.{inner_of, delayed_state, delayed_hand, delayed_whole, AnswersHere, KeepsLimit, TouchesBelow};
 
     ghost state = { delayed_state D.state };
 
@@ -89,13 +90,32 @@ impl<D: Disk> Disk for DelayedDisk<D> {
         self.layers.inner.blocks()
     }
 
-    fn read(&mut self, n: u32, into: &mut [u8; 4096]) -> Result<(), DeviceFault> {
+    fn read(&mut self, n: u32, into: &mut [u8; 4096]) -> Result<(), DeviceFault>
+        requires { n < (delayed_state D.state self.old).blocks }
+        ensures any { Between (delayed_state D.state) (Counts 1 result) self.old self.new }
+        ensures honest { IfHonest (delayed_state D.state) (Reads n into.new result)
+            self.old self.new }
+
+        // Where the block waits, the disk below is not asked.
+        ensures hit { AnswersHere n result self.old self.new }
+        ensures limit { KeepsLimit self.old self.new }
+        ensures apart { TouchesBelow D.state self.old self.new }
+    {
         self.reads.note(&());
         self.past.note(&self.layers);
         self.layers.read(n, into)
     }
 
-    fn load(&mut self, n: u32, need: Need) -> Result<(), DeviceFault> {
+    fn load(&mut self, n: u32, need: Need) -> Result<(), DeviceFault>
+        requires { n < (delayed_state D.state self.old).blocks }
+        ensures any { Between (delayed_state D.state) (Counts 1 result) self.old self.new }
+        ensures honest { IfHonest (delayed_state D.state) (Reads n (delayed_hand D.hand self.new) result)
+            self.old self.new }
+
+        ensures hit { AnswersHere n result self.old self.new }
+        ensures limit { KeepsLimit self.old self.new }
+        ensures apart { TouchesBelow D.state self.old self.new }
+    {
         self.reads.note(&());
         self.past.note(&self.layers);
         self.layers.load(n, need)
@@ -105,22 +125,50 @@ impl<D: Disk> Disk for DelayedDisk<D> {
         self.layers.at_hand()
     }
 
-    fn write(&mut self, n: u32, from: &[u8; 4096]) -> Result<(), DeviceFault> {
+    fn write(&mut self, n: u32, from: &[u8; 4096]) -> Result<(), DeviceFault>
+        requires { n < (delayed_state D.state self.old).blocks }
+        ensures any { Between (delayed_state D.state) (Counts 0 result) self.old self.new }
+        ensures honest { IfHonest (delayed_state D.state) (Writes n from.now result)
+            self.old self.new }
+
+        ensures limit { KeepsLimit self.old self.new }
+        ensures apart { TouchesBelow D.state self.old self.new }
+    {
         self.past.note(&self.layers);
         self.layers.write(n, from)
     }
 
-    fn forget(&mut self, n: u32) {
+    fn forget(&mut self, n: u32)
+        requires { n < (delayed_state D.state self.old).blocks }
+        ensures any { Between (delayed_state D.state) Idles self.old self.new }
+        ensures honest { IfHonest (delayed_state D.state) (Forgets n) self.old self.new }
+
+        ensures limit { KeepsLimit self.old self.new }
+        ensures apart { TouchesBelow D.state self.old self.new }
+    {
         self.past.note(&self.layers);
         self.layers.forget(n);
     }
 
-    fn sync(&mut self) -> Result<(), DeviceFault> {
+    fn sync(&mut self) -> Result<(), DeviceFault>
+        ensures any { Between (delayed_state D.state) (Counts 0 result) self.old self.new }
+        ensures honest { IfHonest (delayed_state D.state) (Syncs result) self.old self.new }
+
+        ensures limit { KeepsLimit self.old self.new }
+        ensures apart { TouchesBelow D.state self.old self.new }
+    {
         self.past.note(&self.layers);
         self.layers.sync()
     }
 
-    fn extend(&mut self, blocks: u32) -> Result<(), DeviceFault> {
+    fn extend(&mut self, blocks: u32) -> Result<(), DeviceFault>
+        requires { (delayed_state D.state self.old).blocks ≤ blocks }
+        ensures any { Between (delayed_state D.state) (Extends blocks result) self.old self.new }
+        ensures honest { IfHonest (delayed_state D.state) Enlarges self.old self.new }
+
+        ensures limit { KeepsLimit self.old self.new }
+        ensures apart { TouchesBelow D.state self.old self.new }
+    {
         self.past.note(&self.layers);
         self.layers.extend(blocks)
     }

@@ -34,7 +34,7 @@ pub(crate) struct Layers<D: Disk> {
 }
 
 impl<D: Disk> Layers<D> {
-    ghost use Rattle.vm_disk.specs.Layers.{lower_of, waiting_of, layers_state, layers_hand, FewerWait, IfHonestBelow, IsApart, Sends, WaitNoMore};
+    ghost use Rattle.vm_disk.specs.Layers.{lower_of, waiting_of, layers_state, layers_hand, AnswersHere, FewerWait, IfHonestBelow, IsApart, KeepsLimit, Sends, WaitNoMore};
 
     /// No block waits yet. Where memory is refused, the disk comes back.
     pub(crate) fn new(alloc: Global, inner: D, capacity: NonZeroUsize) -> Result<Layers<D>, D>
@@ -61,6 +61,7 @@ impl<D: Disk> Layers<D> {
         ensures honest { (D.state (lower_of self.new)).honest ≡ true → Sends D.state self.old self.new }
         ensures fewer { OnOk result (FewerWait n self.old self.new) }
         ensures no_more { WaitNoMore self.old self.new }
+        ensures limit { KeepsLimit self.old self.new }
     {
         let Some(bytes) = self.waiting.bytes(n) else {
             return Ok(());
@@ -84,6 +85,7 @@ impl<D: Disk> Layers<D> {
         ensures honest { (D.state (lower_of self.new)).honest ≡ true → Sends D.state self.old self.new }
         ensures fewer { OnOk result (FewerWait n self.old self.new) }
         ensures no_more { WaitNoMore self.old self.new }
+        ensures limit { KeepsLimit self.old self.new }
     {
         let first = self.waiting.begin_run(n);
         if first == n && self.waiting.bytes(n.saturating_add(1)).is_none() {
@@ -112,6 +114,7 @@ impl<D: Disk> Layers<D> {
         ensures any { Between (layers_state D.state) (Counts 0 result) self.old self.new }
         ensures honest { (D.state (lower_of self.new)).honest ≡ true → Sends D.state self.old self.new }
         ensures no_more { WaitNoMore self.old self.new }
+        ensures limit { KeepsLimit self.old self.new }
     {
         if self.waiting.has_place() {
             return Ok(());
@@ -127,6 +130,7 @@ impl<D: Disk> Layers<D> {
         ensures any { Between (layers_state D.state) (Counts 0 result) self.old self.new }
         ensures honest { (D.state (lower_of self.new)).honest ≡ true → Sends D.state self.old self.new }
         ensures none { OnOk result ((n : ℕ) → waits (waiting_of self.new) n ≡ false) }
+        ensures limit { KeepsLimit self.old self.new }
     {
         while let Some(n) = self.waiting.oldest() {
             self.send(n)?;
@@ -141,6 +145,8 @@ impl<D: Disk> Layers<D> {
         ensures honest { IfHonestBelow D.state (Reads n into.new result) self.old self.new }
         ensures below { (D.state (lower_of self.new)).honest ≡ true
             → IsApart D.state self.old self.new }
+        ensures hit { AnswersHere n result self.old self.new }
+        ensures limit { KeepsLimit self.old self.new }
     {
         match self.waiting.known(n) {
             Some(bytes) => {
@@ -159,6 +165,8 @@ impl<D: Disk> Layers<D> {
             self.old self.new }
         ensures below { (D.state (lower_of self.new)).honest ≡ true
             → IsApart D.state self.old self.new }
+        ensures hit { AnswersHere n result self.old self.new }
+        ensures limit { KeepsLimit self.old self.new }
     {
         if self.waiting.use_waiting(n) {
             self.at = Hand::Waits;
@@ -200,6 +208,7 @@ impl<D: Disk> Layers<D> {
         ensures honest { IfHonestBelow D.state (Writes n from.now result) self.old self.new }
         ensures below { (D.state (lower_of self.new)).honest ≡ true
             → IsApart D.state self.old self.new }
+        ensures limit { KeepsLimit self.old self.new }
     {
         if self.waiting.put(n, from) {
             return Ok(());
@@ -227,6 +236,7 @@ impl<D: Disk> Layers<D> {
         ensures honest { IfHonestBelow D.state (Forgets n) self.old self.new }
         ensures below { (D.state (lower_of self.new)).honest ≡ true
             → IsApart D.state self.old self.new }
+        ensures limit { KeepsLimit self.old self.new }
         ensures gone { waits (waiting_of self.new) n ≡ false }
     {
         self.waiting.forget(n);
@@ -239,6 +249,7 @@ impl<D: Disk> Layers<D> {
         ensures honest { IfHonestBelow D.state (Syncs result) self.old self.new }
         ensures below { (D.state (lower_of self.new)).honest ≡ true
             → IsApart D.state self.old self.new }
+        ensures limit { KeepsLimit self.old self.new }
     {
         self.send_all()?;
         self.inner.sync()
@@ -251,6 +262,7 @@ impl<D: Disk> Layers<D> {
         ensures honest { IfHonestBelow D.state Enlarges self.old self.new }
         ensures below { (D.state (lower_of self.new)).honest ≡ true
             → IsApart D.state self.old self.new }
+        ensures limit { KeepsLimit self.old self.new }
     {
         self.inner.extend(blocks)
     }

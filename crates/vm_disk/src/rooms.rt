@@ -29,6 +29,7 @@ pub(crate) fn promote(rooms: &mut LruCache<u32, Room>, n: u32) -> bool
     ensures first { OnTrue result
         (first_in (rooms_in rooms.new) ≡ lookup (nat_eq n) (rooms_in rooms.old)) }
     ensures same { (k : ℕ) → lookup (nat_eq k) (rooms_in rooms.new) ≡ lookup (nat_eq k) (rooms_in rooms.old) }
+    ensures limit { rooms.new.cap ≡ rooms.old.cap }
 {
     if rooms.is_empty() {
         return false;

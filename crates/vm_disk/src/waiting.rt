@@ -71,6 +71,7 @@ impl Waiting {
         ensures answer { result ≡ waits self.old n }
         ensures first { OnTrue result (first_in (rooms_in self.new.rooms) ≡ bytes_for self.old n) }
         ensures same { (k : ℕ) → bytes_for self.new k ≡ bytes_for self.old k }
+        ensures limit { limit_of self.new ≡ limit_of self.old }
         ensures written { self.new.written ≡ self.old.written }
     {
         promote(&mut self.rooms, n)
@@ -126,6 +127,7 @@ impl Waiting {
         ensures answer { result ≡ waits self.old n }
         ensures changed { OnTrue result (ChangesOne n (Some bytes.now) self.old self.new) }
         ensures missed { OnFalse result (self.new ≡ self.old) }
+        ensures limit { limit_of self.new ≡ limit_of self.old }
         ensures written { written_in self.new ≡ written_in self.old }
     {
         match self.rooms.get_mut(&n) {
@@ -142,6 +144,7 @@ impl Waiting {
     pub(crate) fn put(&mut self, n: u32, bytes: &[u8; 4096]) -> bool
         ensures placed { OnTrue result (ChangesOne n (Some bytes.now) self.old self.new) }
         ensures refused { OnFalse result (self.new.rooms ≡ self.old.rooms) }
+        ensures limit { limit_of self.new ≡ limit_of self.old }
         ensures no_more { KeepsNoMore self.old self.new }
     {
         if !self.has_place() {
@@ -169,6 +172,7 @@ impl Waiting {
         ensures gone { ChangesOne n None self.old self.new }
         ensures fewer { waits self.old n ≡ true → count_of self.new < count_of self.old }
         ensures most { count_of self.new ≤ count_of self.old }
+        ensures limit { limit_of self.new ≡ limit_of self.old }
         ensures written { self.new.written ≡ self.old.written }
     {
         if self.rooms.len() == 0 {
@@ -181,6 +185,7 @@ impl Waiting {
     pub(crate) fn forget(&mut self, n: u32)
         ensures gone { ChangesOne n None self.old self.new }
         ensures drops { Drops n self.old self.new }
+        ensures limit { limit_of self.new ≡ limit_of self.old }
     {
         self.forget_written(n);
         if let Some(room) = self.take(n) {
@@ -231,6 +236,7 @@ impl Waiting {
         ensures gone { ChangesOne n None self.old self.new }
         ensures fewer { waits self.old n ≡ true → count_of self.new < count_of self.old }
         ensures most { count_of self.new ≤ count_of self.old }
+        ensures limit { limit_of self.new ≡ limit_of self.old }
         ensures settles { Settles (nat_eq n) self.old self.new }
     {
         match self.take(n) {
@@ -243,6 +249,7 @@ impl Waiting {
     pub(crate) fn settle_run(&mut self, first: u32, end: u32)
         requires { first ≤ end }
         ensures gone { LosesRun first end self.old self.new }
+        ensures limit { limit_of self.new ≡ limit_of self.old }
         ensures fewer { first < end
             → waits self.old first ≡ true
             → count_of self.new < count_of self.old }

@@ -1,4 +1,5 @@
 use Rattle.std.proofs.Common.{◌≡◌, Some, option_copied, refl, inl, sym, ap, ◌∙◌, arith}
+use Rattle.std.proofs.lemmas.Bool.{false≢true}
 use Rattle.vm_disk.specs.Kept.{first_in, rooms_in}
 use Rattle.vm_disk.specs.Layers.{some_or}
 use Rattle.vm_disk.specs.Waiting.{bytes_for, written_for}
@@ -47,3 +48,9 @@ returns-in-None-clause-honest g c honest =
 
 pub returns-in-None-clause-below : goal.returns-in-None-clause-below
 returns-in-None-clause-below g c honest = touched_last _ _ _ (c.load.ensures.honest honest).time
+
+pub returns-in-Some-clause-hit : goal.returns-in-Some-clause-hit
+returns-in-Some-clause-hit g c waiting = absurd (false≢true (c.if-use_waiting.ensures.answer ∙ waiting))
+
+pub returns-in-None-clause-hit : goal.returns-in-None-clause-hit
+returns-in-None-clause-hit g c waiting = absurd (false≢true (c.if-use_waiting.ensures.answer ∙ waiting))

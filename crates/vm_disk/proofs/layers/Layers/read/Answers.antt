@@ -1,4 +1,5 @@
-use Rattle.std.proofs.Common.{option_copied, refl, inl, sym, ap, ◌∙◌, arith}
+use Rattle.std.proofs.Common.{ℕ, List, Option, is_some, option_copied, refl, inl, sym, ap, ◌∙◌, arith}
+use Rattle.std.proofs.lemmas.Bool.{false≢true}
 use Rattle.vm_disk.specs.Waiting.{bytes_for}
 use Rattle.vm_disk.proofs.LaidLemmas.{read_under, untouched, touched_last}
 use Rattle.vm_disk.proofs.WrittenLemmas.{known_shown, unknown_waits}
@@ -27,3 +28,8 @@ returns-in-None-clause-honest g c honest =
 
 pub returns-in-None-clause-below : goal.returns-in-None-clause-below
 returns-in-None-clause-below g c honest = touched_last _ _ _ (c.read.ensures.honest honest).time
+
+pub returns-in-None-clause-hit : goal.returns-in-None-clause-hit
+returns-in-None-clause-hit g c waiting =
+    let none = unknown_waits c.args.self.now.waiting c.args.n (sym c.known.ensures ∙ ap option_copied c.in-None.is) in
+    absurd (false≢true (sym (ap (λ (o : Option (List ℕ)). is_some o) none) ∙ waiting))

@@ -14,5 +14,6 @@ loop-n-preserved g c =
       blocks = any.same_blocks ∙ so_far.blocks;
       earlier = λ honest. so_far.earlier (any.earlier honest);
       failures = any.fine ∙ so_far.failures;
+      limit = c.in_ok-send.ensures.limit ∙ so_far.limit;
       sends = λ honest. sends_then g.D.Disk.state c.args.self.now c.loop-n.self c.send.new.self (so_far.sends (any.earlier honest)) (c.send.ensures.honest honest);
     }

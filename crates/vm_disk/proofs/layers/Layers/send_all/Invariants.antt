@@ -1,6 +1,6 @@
 use Rattle.std.proofs.Common.{◌≡◌, true}
 use Rattle.vm_disk.specs.Waiting.{count_of}
-use Rattle.vm_disk.specs.Layers.{lower_of, waiting_of, Sends}
+use Rattle.vm_disk.specs.Layers.{lower_of, waiting_of, KeepsLimit, Sends}
 use Rattle.vm_disk.proofs.layers.Layers.send_all.Given as goal
 
 abbrev pub invariant-loop-n : goal.invariant-loop-n
@@ -10,6 +10,7 @@ invariant-loop-n g l =
       blocks : now.blocks ≡ old.blocks;
       earlier : now.honest ≡ true → old.honest ≡ true;
       failures : now.failures ≡ old.failures;
+      limit : KeepsLimit l.initial.self l.self;
       sends : now.honest ≡ true → Sends g.D.Disk.state l.initial.self l.self;
     }
 

@@ -25,3 +25,6 @@ returns-clause-most c =
 pub returns-clause-bytes : goal.returns-clause-bytes
 returns-clause-bytes c =
     ap (option_map (λ room. room.value)) c.pop.ensures.value ∙ sym (lookup_view (λ room. room.value) (nat_eq c.args.n) c.args.self.now.rooms.entries)
+
+pub returns-clause-limit : goal.returns-clause-limit
+returns-clause-limit c = ap (λ (rooms : LruCache ℕ (Box (List ℕ) Global)). rooms.cap) c.pop.ensures.entries
