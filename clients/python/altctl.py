@@ -17,12 +17,18 @@ from collections import deque
 from typing import NamedTuple, Optional
 
 
-class Refusal(Exception):
-    """A line that was refused: `error NUMBER NAME`, and behind it a count, a block or a key, where it has one."""
+# How many lines are written ahead of their answers at most, and how many bytes a pipe holds at least.
+AHEAD, PIPE = 60, 4096
 
-    def __init__(self, number, name, detail=""):
-        super().__init__(f"{number} {name} {detail}".rstrip())
-        self.number, self.name, self.detail = number, name, detail
+
+class Refusal(Exception):
+    """A line that was refused: `error NUMBER NAME`, and behind it a count, a block or a key, where it has one. Of several
+    lines that were given at once `at` tells which one it is, 0 for the first."""
+
+    def __init__(self, number, name, detail="", at=None):
+        place = "" if at is None else f" (line {at} of those given)"
+        super().__init__(f"{number} {name} {detail}".rstrip() + place)
+        self.number, self.name, self.detail, self.at = number, name, detail, at
 
 
 class Ended(Exception):
@@ -63,18 +69,36 @@ class Alternative(NamedTuple):
     parent: Optional[str]
 
 
+SPELLED = [chr(it) if 0x21 <= it <= 0x7D and it != 0x25 else f"%{it:02X}" for it in range(256)]
+
+
 def encode(value):
     """A value as a word of a line."""
     if value in (b"", b"-"):
         return "%2D" if value else "-"
-    return "".join(chr(it) if 0x21 <= it <= 0x7D and it != 0x25 else f"%{it:02X}" for it in value)
+    return "".join(map(SPELLED.__getitem__, value))
 
 
 def decode(word):
     """The value that a word of an answer spells, or None for `~`."""
     if word in ("~", "-"):
         return None if word == "~" else b""
-    return re.sub(rb"%([0-9A-F]{2})", lambda it: bytes([int(it[1], 16)]), word.encode("ascii"))
+    # Python's own escapes have \x in the place of %, and are read ten times as quickly as by a loop here.
+    spelled = word.replace("\\", "\\\\").replace("%", "\\x")
+    return spelled.encode("ascii").decode("unicode_escape").encode("latin-1")
+
+
+def portions(lines, most):
+    """Lines in portions of AHEAD at most, which have no more than `most` bytes together, or are one line."""
+    portion, size = [], 0
+    for line in lines:
+        if portion and (len(portion) == AHEAD or size + len(line) >= most):
+            yield portion
+            portion, size = [], 0
+        portion.append(line)
+        size += len(line) + 1
+    if portion:
+        yield portion
 
 
 class Rows:
@@ -166,23 +190,45 @@ class Store:
         self.close()
         raise Ended(self._program.returncode, "its output ended")
 
-    def _ask(self, *words):
-        """Writes a line, and gives the words of the first line of its answer."""
+    def _line(self, *words):
         words = [str(it) for it in words]
         if self._faults.closed or not all(re.fullmatch("[!-~]+", it) for it in words):
             raise ValueError("the store is closed" if self._faults.closed else f"not the words of a line: {words}")
+        return " ".join(words)
+
+    def _write(self, lines):
+        """Writes lines, once all answers to those before have been read."""
         if self._rows:
             self._rows.read_rest()
             self._rows = None
         try:
-            self._program.stdin.write(" ".join(words) + "\n")
+            self._program.stdin.write("\n".join(lines) + "\n")
             self._program.stdin.flush()
         except BrokenPipeError:
-            pass  # The program has ended, which the read below tells.
+            pass  # The program has ended, which the next read tells.
+
+    def _ask(self, *words):
+        """Writes a line, and gives the words of the first line of its answer."""
+        self._write([self._line(*words)])
         answer = self._read()
         if answer[0] == "error":
             raise Refusal(int(answer[1]), answer[2], " ".join(answer[3:]))
         return answer
+
+    def _ask_many(self, lines, most):
+        """Gives for each line the words of its answer, of one line. A portion of lines is written, and then its answers are
+        read, the one that tells a refusal among them. No side waits for the other for good: both pipes are empty before a
+        portion, and into one of them goes all of it. Either the lines have no more than `most` = PIPE bytes together, or
+        the answers, of 64 bytes each at most."""
+        asked = 0
+        for portion in portions(lines, most):
+            self._write(portion)
+            answers = [self._read() for _ in portion]
+            for at, answer in enumerate(answers, asked):
+                if answer[0] == "error":
+                    raise Refusal(int(answer[1]), answer[2], " ".join(answer[3:]), at)
+            yield from answers
+            asked += len(portion)
 
     def _list(self, make, *words):
         self._rows = Rows(self._read, self._ask(*words), make)
@@ -199,9 +245,32 @@ class Store:
     def remove(self, alt, table, number):
         self._ask("remove", alt, table, number)
 
-    def list(self, alt):
-        """All records of an alternative, by table and then by number."""
-        return self._list(lambda words: Record(*map(int, words[:2]), decode(words[2])), "list", alt)
+    def put_many(self, alt, records):
+        """Puts each (table, number, value), in their order. Lines are written ahead of their answers. Where one is refused,
+        those before it are put, and some of those behind it may be: the Refusal tells in `at` which one it was."""
+        words = self._line("put", alt)
+        lines = (f"{words} {table:d} {number:d} {encode(value)}" for table, number, value in records)
+        for _ in self._ask_many(lines, float("inf")):
+            pass
+
+    def get_many(self, alt, keys):
+        """The values of the records (table, number), None for none, one after another as they are asked for. Lines are
+        written ahead of their answers."""
+        words = self._line("get", alt)
+        lines = (f"{words} {table:d} {number:d}" for table, number in keys)
+        for answer in self._ask_many(lines, PIPE):
+            yield decode(answer[1]) if answer[0] == "value" else None
+
+    def remove_many(self, alt, keys):
+        """Removes each record (table, number), as `put_many` puts them."""
+        words = self._line("remove", alt)
+        for _ in self._ask_many((f"{words} {table:d} {number:d}" for table, number in keys), float("inf")):
+            pass
+
+    def list(self, alt, *part):
+        """All records of an alternative, by table and then by number. Where the program knows parts: those of a table, or
+        of a table with numbers from a first to a last one."""
+        return self._list(lambda words: Record(*map(int, words[:2]), decode(words[2])), "list", alt, *part)
 
     def new(self, name, parent, checkpoint=None):
         """A new alternative, which shows what its parent shows, or what a checkpoint of the parent does."""

@@ -1,6 +1,7 @@
 #!/usr/bin/env python3
 """Tests of the module `altctl` over real files: `test_altctl.py`, with the program's path in the variable ALTCTL, or
 else with the one that `./altctl` at the top builds."""
+import fcntl
 import io
 import os
 import subprocess
@@ -16,6 +17,7 @@ sys.path.insert(0, str(HERE))
 import example
 from altctl import Alternative, Change, Conflict, Ended, Record, Refusal, Store, decode, encode
 
+F_SETPIPE_SZ = 1031  # fcntl has the name from Python 3.10 on.
 ALTCTL = os.environ.get("ALTCTL", str(HERE.parent.parent / "altctl"))
 
 
@@ -28,6 +30,12 @@ class StoreTests(unittest.TestCase):
 
     def open(self, **how):
         return Store(self.file, ALTCTL, **how)
+
+    def grown(self, blocks):
+        with self.open() as store:
+            store.grow(blocks)
+            store.commit()
+        return self.file
 
     def refused(self, number, name, detail, call, *words):
         with self.assertRaises(Refusal) as came:
@@ -154,6 +162,72 @@ class StoreTests(unittest.TestCase):
             store.grow(65)
             store.put("top", 1, 14, b"")
             self.assertEqual(16, store.free())
+
+    def test_many_lines_go_ahead_of_their_answers(self):
+        due = {(number % 3, number): b"%d" % number for number in range(1000)}
+        with Store(self.grown(4096), ALTCTL) as store:
+            store.put_many("top", ((*key, value) for key, value in due.items()))
+            self.assertEqual([Record(*key, due[key]) for key in sorted(due)], list(store.list("top")))
+            keys = [*due, (4, 1)]
+            self.assertEqual([*due.values(), None], list(store.get_many("top", keys)))
+            store.remove_many("top", sorted(due)[:-2])
+            self.assertEqual(sorted(due)[-2:], [(it.table, it.number) for it in store.list("top")])
+            for call in (store.put_many, store.remove_many):
+                call("top", [])
+            self.assertEqual([], list(store.get_many("top", [])))
+
+    def test_no_pipe_is_too_small_for_many_lines(self):
+        # The longest lines and the longest answers there are: each byte of 4,000 is written as three.
+        value = bytes(4000)
+        with Store(self.grown(4096), ALTCTL) as store:
+            for pipe in (store._program.stdin, store._program.stdout):
+                fcntl.fcntl(pipe, F_SETPIPE_SZ, 4096)
+            numbers = range(2**64 - 300, 2**64)
+            store.put_many("top", ((65535, number, value) for number in numbers))
+            self.assertEqual([value] * 300, list(store.get_many("top", ((65535, number) for number in numbers))))
+            # Lines that are long and refused, among others with long answers.
+            keys = [(65535, 10**1000 if it % 2 else numbers[0]) for it in range(200)]
+            self.refused(22, "BadLine", "", lambda: list(store.get_many("top", keys)))
+            self.refused(22, "BadLine", "", lambda: store.put_many("top", ((*it, value) for it in keys)))
+            self.refused(5, "NoSuchRecord", "", lambda: store.remove_many("top", ((1, it) for it in numbers)))
+            self.assertEqual(300, len(list(store.list("top"))))
+
+    def test_a_refusal_tells_which_of_many_lines_it_was(self):
+        with Store(self.grown(4096), ALTCTL) as store:
+            for wrong in (0, 59, 60, 119, 120, 199):
+                records = [(7, number, b"a" if number != wrong else bytes(4001)) for number in range(200)]
+                with self.assertRaises(Refusal) as came:
+                    store.put_many("top", records)
+                self.assertEqual((22, wrong), (came.exception.number, came.exception.at))
+                self.assertIn(f"line {wrong} ", str(came.exception))
+                # Each answer was read: the next one is that of the next line. The neighbour is in the same portion.
+                self.assertEqual(b"a", store.get("top", 7, wrong ^ 1))
+                self.assertIsNone(store.get("top", 7, wrong))
+                store.remove_many("top", [(it.table, it.number) for it in store.list("top")])
+
+    def test_many_lines_and_rows_come_between_each_other(self):
+        with self.open() as store:
+            store.put_many("top", [(7, number, b"%d" % number) for number in range(100)])
+            rows = store.list("top")
+            values = store.get_many("top", ((it.table, it.number) for it in store.list("top")))
+            seen = [next(rows).value, next(values)]
+            store.put("top", 7, 99, b"new")
+            self.assertEqual([b"0", b"0"], seen)
+            self.assertEqual([b"%d" % number for number in range(1, 99)] + [b"99"], [it.value for it in rows])
+            self.assertEqual([b"%d" % number for number in range(1, 99)] + [b"new"], list(values))
+
+    def test_what_is_no_record_is_not_written(self):
+        with self.open() as store:
+            for record in [(7, "1", b"a"), (7, 1, "a"), (7, 1, None), (7, 1), (7.0, 1, b"a")]:
+                self.assertRaises((TypeError, ValueError), store.put_many, "top", [record])
+            self.assertRaises(ValueError, store.put_many, "a b", [(7, 1, b"a")])
+            self.assertRaises(ValueError, list, store.get_many("top\ncommit", [(7, 1)]))
+            self.assertEqual([], list(store.list("top")))
+
+    def test_a_program_that_ends_among_many_lines_is_an_error(self):
+        with self.assertRaises(Ended), self.open() as store:
+            store._program.kill()
+            store.put_many("top", ((7, number, bytes(4000)) for number in range(1000)))
 
     def test_rows_stay_whole_where_other_lines_come_between(self):
         with self.open() as store:
