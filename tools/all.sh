@@ -50,6 +50,7 @@ else
     try 300 space.py
     try 600 failing_device.py
     try 1800 refuse_allocations.sh
+    try 600 ../desk/test_altgis.py
 fi
 echo "all: $passed scripts passed${names:+, failed:$names}, in $(($(date +%s) - begun)) seconds"
 [ -z "$quick" ] || echo "$((passed + ${2:-0})) passed, $failed failed"

@@ -8,6 +8,8 @@ others are what it prints. A block `sh` or `python` is a program as it stands, a
 what it prints. The blocks of one document run in one folder, one after another, with the program as `altctl` and
 `./altctl`.
 
+A document whose programs need what is not there is left out, and a line says so.
+
 It also looks whether README and `altctl --version` name the toolchain that is there, whether links lead to files,
 whether each refusal has a row of advice, whether the README shows the library's function as it is tested, and whether
 a row `| FILE | COUNT |` tells how many lines that file has. `--counts` writes these anew.
@@ -22,6 +24,8 @@ from pathlib import Path
 
 TOP = Path(__file__).resolve().parent.parent
 DOCUMENTS = [TOP / "README.md", *sorted((TOP / "docs").glob("*.md"))]
+# Programs of the folder `desk`, and the documents that need them to start.
+DESK = {"altgis": "MAPS.md"}
 BLOCK = re.compile(r"^```(\w+)\n(.*?)^```$", re.M | re.S)
 COUNT = re.compile(r"^(\| `(crates/[\w/.]+)` \| )(\d+)( \|)", re.M)
 LINK = re.compile(r"\]\(([^)#]+)[^)]*\)|^\[.+\]: (\S+)$|`(docs/[A-Z]+\.md|tools/\w+\.\w+|clients/[\w/]+\.py)`", re.M)
@@ -35,6 +39,8 @@ class Run:
         os.mkdir(f"{folder}/bin")
         for link in (f"{folder}/bin/altctl", f"{folder}/altctl"):
             os.symlink(altctl, link)
+        for it in DESK:
+            os.symlink(TOP / "desk" / it, f"{folder}/bin/{it}")
         path = f"{folder}/bin{os.pathsep}{os.environ['PATH']}"
         python = {"PYTHONPATH": str(TOP / "clients" / "python"), "PYTHONDONTWRITEBYTECODE": "1"}
         self.environment = {**os.environ, **python, "PATH": path, "LC_ALL": "C.UTF-8"}
@@ -91,6 +97,15 @@ def run_blocks(document, altctl):
                 run.compare(where, [f"a block that can be run, and no {kind}"], [])
             count += kind in ("console", "sh", "python")
     return count, run.differences
+
+
+def left_out():
+    """The documents whose programs cannot start here."""
+    for program, document in DESK.items():
+        ran = subprocess.run([TOP / "desk" / program, "--help"], capture_output=True, text=True)
+        if ran.returncode:
+            print(f"documents: {document} is left out. {ran.stderr.strip()}")
+            yield document
 
 
 def is_tested(code):
@@ -156,7 +171,8 @@ def main():
     for it in faults:
         print(it)
     count = differences = 0
-    for document in DOCUMENTS:
+    missing = list(left_out())
+    for document in (it for it in DOCUMENTS if it.name not in missing):
         here, different = run_blocks(document, altctl)
         count, differences = count + here, differences + different
     if faults or differences:

@@ -1,0 +1,630 @@
+#!/usr/bin/env python3
+"""Tests of `altgis` and `demo` over real stores, with the program's path in the variable ALTCTL, or else with the one that
+`./altctl` at the top builds. They run in a Python that has GDAL; where none is there, a line says that they are skipped.
+That two layers are equal is told by GDAL: it copies both into one GeoPackage, and SQL there compares all columns."""
+import importlib.util
+import json
+import os
+import shutil
+import sqlite3
+import struct
+import subprocess
+import sys
+import tempfile
+import unittest
+from importlib.machinery import SourceFileLoader
+from pathlib import Path
+
+sys.dont_write_bytecode = True
+HERE = Path(__file__).resolve().parent
+DEBIAN = "/usr/bin/python3"
+try:
+    from osgeo import gdal, ogr, osr
+except ImportError:
+    if os.path.exists(DEBIAN) and sys.executable != DEBIAN:
+        os.execv(DEBIAN, [DEBIAN, *sys.argv])
+    print("test_altgis: skipped, for GDAL is not there for Python (`apt install python3-gdal`)")
+    sys.exit(0)
+sys.path.insert(0, str(HERE))
+import maps
+from altctl import Change, Record, Store
+
+ALTCTL = os.path.abspath(os.environ.get("ALTCTL", HERE.parent / "altctl"))
+gdal.PushErrorHandler("CPLQuietErrorHandler")  # Its warnings. Errors are exceptions.
+gdal.UseExceptions()
+ogr.UseExceptions()
+osr.UseExceptions()
+
+
+def program(name):
+    """A program of this folder, as a module."""
+    loader = SourceFileLoader(name, str(HERE / name))
+    module = importlib.util.module_from_spec(importlib.util.spec_from_loader(name, loader))
+    loader.exec_module(module)
+    return module
+
+
+def field(name, kind, subtype=ogr.OFSTNone):
+    made = ogr.FieldDefn(name, kind)
+    made.SetSubType(subtype)
+    return made
+
+
+def system(code):
+    made = osr.SpatialReference()
+    made.ImportFromEPSG(code)
+    made.SetAxisMappingStrategy(osr.OAMS_TRADITIONAL_GIS_ORDER)
+    return made
+
+
+def write(file, name, fields, features, shape=ogr.wkbUnknown, code=2056):
+    """A layer of a file, of features that are each a fid, a dict of what is set, and a geometry as text or as GDAL has it."""
+    kinds = {".gpkg": "GPKG", ".geojson": "GeoJSON", ".csv": "CSV", ".shp": "ESRI Shapefile"}
+    source = gdal.GetDriverByName(kinds[Path(file).suffix]).Create(file, 0, 0, 0, gdal.GDT_Unknown)
+    layer = source.CreateLayer(name, system(code) if code else None, shape)
+    for it in fields:
+        layer.CreateField(it)
+    for fid, values, geometry in features:
+        feature = ogr.Feature(layer.GetLayerDefn())
+        feature.SetFID(fid)
+        for key, value in values.items():
+            at = feature.GetFieldIndex(key)
+            if isinstance(value, bytes):
+                feature.SetFieldBinaryFromHexString(at, value.hex())
+            elif isinstance(value, tuple):
+                feature.SetField(at, *value)
+            elif isinstance(value, list):
+                feature[key] = value
+            else:
+                feature.SetField(at, value)
+        if geometry is not None:
+            feature.SetGeometry(ogr.CreateGeometryFromWkt(geometry) if isinstance(geometry, str) else geometry)
+        layer.CreateFeature(feature)
+    source.FlushCache()
+
+
+def change(file, *statements):
+    """Changes a GeoPackage by SQL."""
+    source = gdal.OpenEx(file, gdal.OF_VECTOR | gdal.OF_UPDATE)
+    for it in statements:
+        source.ExecuteSQL(it)
+    source.FlushCache()
+
+
+def polygon(points, east=0):
+    """A polygon of so many points."""
+    ring = ogr.Geometry(ogr.wkbLinearRing)
+    for it in range(points):
+        ring.AddPoint_2D(2600000.1 + east + it / 7, 1200000 + (it * it) % 1009 / 3)
+    ring.CloseRings()
+    made = ogr.Geometry(ogr.wkbPolygon)
+    made.AddGeometry(ring)
+    return made
+
+
+DUCTS = [field("dn", ogr.OFTInteger), field("mat", ogr.OFTString)]
+THREE = [
+    (1, {"dn": 110, "mat": "PVC"}, "LINESTRING (1 2,3 4)"),
+    (2, {"dn": 160, "mat": "Straße"}, "LINESTRING (1 2,3 5)"),
+    (12, {"dn": None, "mat": ""}, None),
+]
+
+
+class AltgisTests(unittest.TestCase):
+    def setUp(self):
+        folder = tempfile.TemporaryDirectory()
+        self.addCleanup(folder.cleanup)
+        self.folder, self.store = folder.name, os.path.join(folder.name, "map.alt")
+        self.create(16384)
+
+    def create(self, blocks):
+        Path(self.store).unlink(missing_ok=True)
+        subprocess.run([ALTCTL, "create", self.store, str(blocks)], check=True, stdout=subprocess.DEVNULL)
+
+    def file(self, name):
+        return os.path.join(self.folder, name)
+
+    def ask(self, do):
+        with Store(self.store, ALTCTL) as store:
+            result = do(store)
+            store.commit()
+            return result
+
+    def start(self, words, **how):
+        environment = {**os.environ, "ALTCTL": ALTCTL, **how}
+        return subprocess.run(words, capture_output=True, text=True, env=environment, cwd=self.folder, timeout=120)
+
+    def altgis(self, *words):
+        """What altgis tells on its output. It has no other words but warnings of GDAL."""
+        ran = self.start([sys.executable, str(HERE / "altgis"), *map(str, words)])
+        faults = [it for it in ran.stderr.splitlines() if not it.startswith("Warning ")]
+        self.assertEqual((0, []), (ran.returncode, faults), words)
+        return ran.stdout
+
+    def bring(self, file, layer, *words, alt="top", table=7):
+        return self.altgis("import", self.store, file, layer, "--alt", alt, "--table", table, *words)
+
+    def refused(self, told, *words):
+        """A refusal is one line, leaves the store as it is, byte for byte, and no file."""
+        before, files = Path(self.store).read_bytes(), sorted(os.listdir(self.folder))
+        ran = self.start([sys.executable, str(HERE / "altgis"), *map(str, words)])
+        self.assertEqual((1, ""), (ran.returncode, ran.stdout), words)
+        self.assertRegex(ran.stderr.splitlines()[-1], f"^altgis: .*{told}")
+        self.assertTrue(Path(self.store).read_bytes() == before, words)
+        self.assertEqual(files, sorted(os.listdir(self.folder)))
+
+    def count(self, sql, *layers):
+        """The answer to SQL over layers that GDAL has copied from their files, as a and b. None is a file's only layer."""
+        self.copies = getattr(self, "copies", 0) + 1
+        whole = self.file(f"compared{self.copies}.gpkg")
+        for name, (file, layer) in zip("ab", layers):
+            how = {"format": "GPKG", "layerName": name, "accessMode": "update" if os.path.exists(whole) else None}
+            options = ["KEEP_GEOM_COLUMNS=NO"] if file.endswith(".csv") else []
+            source = gdal.OpenEx(file, gdal.OF_VECTOR, open_options=options)
+            layer = layer or source.GetLayer(0).GetName()
+            names = ["GEOMETRY_NAME=geom", "FID=fid"]
+            gdal.VectorTranslate(whole, source, layers=[layer], options=["-preserve_fid"], layerCreationOptions=names, **how)
+        found = gdal.OpenEx(whole, gdal.OF_VECTOR).ExecuteSQL(sql)
+        return found.GetNextFeature().GetField(0)
+
+    def equal(self, count, a, b, columns="*"):
+        """Two layers have so many features, and the same ones."""
+        for one, other in (("a", "b"), ("b", "a")):
+            self.assertEqual(count, self.count(f"SELECT count(*) FROM {one}", a, b))
+            sql = f"SELECT count(*) FROM (SELECT {columns} FROM {one} EXCEPT SELECT {columns} FROM {other})"
+            self.assertEqual(0, self.count(sql, a, b), (a, b))
+
+    def opens(self, file):
+        """QGIS's reader opens a file."""
+        if not shutil.which("ogrinfo"):
+            self.skipTest("ogrinfo is not there (apt install gdal-bin)")
+        ran = subprocess.run(["ogrinfo", "-al", "-ro", file], capture_output=True, text=True)
+        faults = [it for it in ran.stderr.splitlines() if not it.startswith("Warning ")]
+        self.assertEqual((0, []), (ran.returncode, faults), file)
+        return ran.stdout
+
+    def there_and_back(self, file, layer, out, *words, count, columns="*"):
+        """A layer into a store of its own and out of it again."""
+        self.create(16384)
+        self.bring(file, layer, *words)
+        self.altgis("export", self.store, "top", self.file(out), "--layer", layer)
+        self.equal(count, (file, layer), (self.file(out), None), columns)
+        self.opens(self.file(out))
+        Path(self.file(out)).unlink()
+
+    def test_records_of_a_layer(self):
+        write(self.file("a.gpkg"), "ducts", DUCTS, THREE)
+        told = self.bring(self.file("a.gpkg"), "ducts")
+        self.assertEqual("ducts into top, table 7: 3 added, 0 changed, 0 removed, 0 same\n", told)
+        fields = '[{"name":"dn","type":"Integer"},{"name":"mat","type":"String"}]'
+        layer = f'{{"crs":"EPSG:2056","fields":{fields},"geometry":"Unknown (any)","id":null,"name":"ducts"}}'
+        due = [
+            Record(0, 7, layer.encode()),
+            Record(7, 1, b'{"dn":110,"mat":"PVC"}'),
+            Record(7, 2, '{"dn":160,"mat":"Straße"}'.encode()),
+            Record(7, 12, b'{"dn":null,"mat":""}'),
+            Record(107, 1, struct.pack("<BIIdddd", 1, 2, 2, 1, 2, 3, 4)),
+            Record(107, 2, struct.pack("<BIIdddd", 1, 2, 2, 1, 2, 3, 5)),
+        ]
+        self.assertEqual(due, self.ask(lambda store: list(store.list("top"))))
+
+    def test_values_of_each_type(self):
+        # Lists come from GeoJSON, a time from CSV, all others from a GeoPackage.
+        kinds = [("i", ogr.OFTInteger), ("l", ogr.OFTInteger64), ("r", ogr.OFTReal), ("s", ogr.OFTString)]
+        kinds += [("d", ogr.OFTDate), ("t", ogr.OFTDateTime), ("b", ogr.OFTBinary)]
+        fields = [field(*it) for it in kinds] + [field("yes", ogr.OFTInteger, ogr.OFSTBoolean)]
+        moment = (2024, 2, 29, 23, 59, 59.999, 100)
+        one = {"i": -(2**31), "l": -(2**63), "r": 0.1, "s": 'a "b"\n\t\\', "d": (1999, 12, 31, 0, 0, 0.0, 0), "t": moment}
+        write(self.file("a.gpkg"), "all", fields, [(1, {**one, "b": b"\x00\xff", "yes": 1}, None)])
+        self.bring(self.file("a.gpkg"), "all")
+        due = {"i": -(2**31), "l": -(2**63), "r": 0.1, "s": 'a "b"\n\t\\', "d": "1999-12-31", "yes": True}
+        due = {**due, "t": "2024-02-29T23:59:59.999+00", "b": "00ff"}
+        value = self.ask(lambda store: store.get("top", 7, 1))
+        self.assertEqual(due, json.loads(value))
+        self.assertEqual(list(sorted(due)), list(json.loads(value)))
+        self.ask(lambda store: store.put("top", 7, 1, b'{"d":"yesterday"}'))
+        self.refused("'yesterday' is no Date", "export", self.store, "top", self.file("b.gpkg"))
+        point = {"type": "Point", "coordinates": [1.5, 2]}
+        lists = {"il": [1, -2], "ll": [2**40], "rl": [0.1, -0.0], "sl": ["a", ""], "n": None}
+        feature = {"type": "Feature", "id": 4, "properties": lists, "geometry": point}
+        Path(self.file("a.geojson")).write_text(json.dumps({"type": "FeatureCollection", "features": [feature]}))
+        self.bring(self.file("a.geojson"), "a", table=8)
+        Path(self.file("c.csv")).write_text("at,n\n12:34:56,1\n")
+        Path(self.file("c.csvt")).write_text("Time,Integer\n")
+        self.bring(self.file("c.csv"), "c", table=9)
+        value = self.ask(lambda store: store.get("top", 8, 4))
+        self.assertEqual(b'{"il":[1,-2],"ll":[1099511627776],"n":null,"rl":[0.1,-0.0],"sl":["a",""]}', value)
+        self.assertEqual({"at": "12:34:56", "n": 1}, json.loads(self.ask(lambda store: store.get("top", 9, 1))))
+        self.altgis("export", self.store, "top", self.file("b.geojson"), "--table", 8)
+        self.assertEqual(lists, json.loads(Path(self.file("b.geojson")).read_text())["features"][0]["properties"])
+        self.altgis("export", self.store, "top", self.file("d.csv"), "--table", 9)
+        self.assertEqual(["at,n", '12:34:56,"1"'], Path(self.file("d.csv")).read_text().split())
+
+    def test_hard_layers_there_and_back(self):
+        kinds = [("i", ogr.OFTInteger), ("l", ogr.OFTInteger64), ("r", ogr.OFTReal), ("s", ogr.OFTString)]
+        kinds += [("d", ogr.OFTDate), ("t", ogr.OFTDateTime), ("b", ogr.OFTBinary)]
+        subtypes = [("yes", ogr.OFTInteger, ogr.OFSTBoolean), ("short", ogr.OFTInteger, ogr.OFSTInt16)]
+        fields = [field(*it) for it in (*kinds, *subtypes, ("f", ogr.OFTReal, ogr.OFSTFloat32))]
+        reals = [0.1, 1 / 3, 5e-324, 1.7976931348623157e308, -1e-7, 2.0**53 + 2, 1e22, 123456789.123456789]
+        values = [{"r": it, "l": 2**63 - 1 - at, "i": at} for at, it in enumerate(reals)]
+        texts = ["", " ", "%41", "~", "null", '"', "\\u0041", "naïve 日本 \U0001f600", "a\nb\r\n", "x" * 5000, "é" * 4000]
+        values += [{"s": it} for it in texts]
+        zones = (0, 100, 104, 90, 122)
+        values += [{"t": (1, 1, 1, 0, 0, 0.0, 0)}, {"d": (9999, 12, 31, 0, 0, 0.0, 0)}, {"f": 0.25, "short": -32768}]
+        values += [{"t": (2024, 5, 6, 7, 8, 9.123, zone)} for zone in zones]
+        values += [{"b": it, "yes": 1} for it in (b"", b"\x00", bytes(range(256)), bytes(9000))] + [{}]
+        shapes = ["POINT EMPTY", "LINESTRING EMPTY", "POLYGON EMPTY", "MULTIPOLYGON EMPTY", "GEOMETRYCOLLECTION EMPTY"]
+        shapes += ["POINT Z (1 2 3)", "POINT M (1 2 3)", "LINESTRING ZM (1 2 3 4,5 6 7 8)", "POINT (0.1 1e-300)", None]
+        shapes += ["MULTILINESTRING ((0 0,1 1),(2 2,3 3))", "MULTIPOLYGON (((0 0,0 9,9 9,0 0),(1 2,1 3,2 3,1 2)))"]
+        shapes += ["CIRCULARSTRING (0 0,1 1,2 0)", "GEOMETRYCOLLECTION (POINT (1 2),LINESTRING (0 0,1 1))", polygon(30000)]
+        features = [(at * 7, it, shapes[at % len(shapes)]) for at, it in enumerate(values)]
+        write(self.file("hard.gpkg"), "hard", fields, features)
+        self.there_and_back(self.file("hard.gpkg"), "hard", "out.gpkg", count=len(features))
+        self.bring(self.file("hard.gpkg"), "hard", "--sync")
+        told = self.bring(self.file("hard.gpkg"), "hard", "--sync")
+        self.assertIn(f"0 added, 0 changed, 0 removed, {len(features)} same", told)
+        write(self.file("none.gpkg"), "none", DUCTS, [], code=None)
+        self.there_and_back(self.file("none.gpkg"), "none", "out.gpkg", count=0)
+        write(self.file("table.gpkg"), "table", [], [(0, {}, None), (5, {}, None)], ogr.wkbNone, None)
+        self.there_and_back(self.file("table.gpkg"), "table", "out.gpkg", count=2)
+
+    def lines(self, name, **how):
+        """A layer of lines whose numbers each of the formats keeps."""
+        features = [
+            (it, {"dn": it * 10, "mat": f"m{it}", "x": it / 8}, f"LINESTRING ({it} 0.1,{it / 7} {it / 3},-1e-7 9)")
+            for it in range(1, 40)
+        ]
+        fields = [*DUCTS, field("x", ogr.OFTReal)]
+        write(self.file(name), "ducts", fields, features, ogr.wkbLineString, how.get("code", 2056))
+
+    def test_each_format_there_and_back(self):
+        self.lines("ducts.gpkg")
+        columns = "dn, mat, x, geom"  # The fid is a row's number in a Shapefile and in CSV.
+        for suffix in (".gpkg", ".geojson", ".shp", ".csv"):
+            self.there_and_back(self.file("ducts.gpkg"), "ducts", f"{suffix[1:]}_out{suffix}", count=39, columns=columns)
+
+    def test_each_format_comes_in(self):
+        self.lines("ducts.gpkg")
+        for table, suffix in enumerate((".gpkg", ".geojson", ".shp", ".csv"), 1):
+            gdal.VectorTranslate(self.file(f"in{suffix}"), self.file("ducts.gpkg"), layerName="in", options=[
+                *(["-lco", "GEOMETRY=AS_WKT", "-lco", "CREATE_CSVT=YES"] if suffix == ".csv" else []),
+                *(["-lco", "SIGNIFICANT_FIGURES=17"] if suffix == ".geojson" else []),
+            ])
+            self.assertIn("39 added", self.bring(self.file(f"in{suffix}"), "in", table=table))
+            self.altgis("export", self.store, "top", self.file(f"{table}.gpkg"), "--table", table, "--layer", "back")
+            self.equal(39, (self.file(f"in{suffix}"), "in"), (self.file(f"{table}.gpkg"), "back"), "dn, mat, x, geom")
+        told = self.altgis("export", self.store, "top", self.file("whole.gpkg"), "--table", 1)
+        self.assertEqual("in of top, table 1: 39 features\n", told)
+
+    def test_several_layers_go_into_one_file(self):
+        self.lines("ducts.gpkg")
+        write(self.file("more.gpkg"), "chambers", DUCTS, THREE, code=4326)
+        self.bring(self.file("ducts.gpkg"), "ducts")
+        self.bring(self.file("more.gpkg"), "chambers", table=8)
+        self.refused("takes one layer", "export", self.store, "top", self.file("a.csv"))
+        self.refused("give --table", "export", self.store, "top", self.file("a.gpkg"), "--layer", "a")
+        self.altgis("export", self.store, "top", self.file("a.gpkg"))
+        self.equal(39, (self.file("ducts.gpkg"), "ducts"), (self.file("a.gpkg"), "ducts"))
+        self.equal(3, (self.file("more.gpkg"), "chambers"), (self.file("a.gpkg"), "chambers"))
+        for name, code in (("ducts", 2056), ("chambers", 4326)):
+            layer = gdal.OpenEx(self.file("a.gpkg"), gdal.OF_VECTOR).GetLayerByName
+            source = gdal.OpenEx(self.file("a.gpkg"), gdal.OF_VECTOR)
+            self.assertTrue(source.GetLayerByName(name).GetSpatialRef().IsSame(system(code)))
+
+    def test_a_second_import_puts_only_what_differs(self):
+        write(self.file("a.gpkg"), "ducts", DUCTS, THREE)
+        self.bring(self.file("a.gpkg"), "ducts")
+        before = Path(self.store).read_bytes()
+        told = self.bring(self.file("a.gpkg"), "ducts")
+        self.assertEqual("ducts into top, table 7: 0 added, 0 changed, 0 removed, 3 same\n", told)
+        self.assertTrue(Path(self.store).read_bytes() == before)
+        self.ask(lambda store: store.new("north", "top"))
+        change(self.file("a.gpkg"), "UPDATE ducts SET dn = 125 WHERE fid = 2", "DELETE FROM ducts WHERE fid = 1")
+        told = self.bring(self.file("a.gpkg"), "ducts", alt="north")
+        self.assertEqual("ducts into north, table 7: 0 added, 1 changed, 0 removed, 1 same\n", told)
+        old = '{"dn":160,"mat":"Straße"}'.encode()
+        due = [Change(7, 2, old, old.replace(b"160", b"125"))]
+        self.assertEqual(due, self.ask(lambda store: list(store.changes("north"))))
+        told = self.bring(self.file("a.gpkg"), "ducts", "--sync", alt="north")
+        self.assertEqual("ducts into north, table 7: 0 added, 0 changed, 1 removed, 2 same\n", told)
+        gone = [Change(7, 1, b'{"dn":110,"mat":"PVC"}', None), *due]
+        gone += [Change(107, 1, struct.pack("<BIIdddd", 1, 2, 2, 1, 2, 3, 4), None)]
+        self.assertEqual(gone, self.ask(lambda store: list(store.changes("north"))))
+        self.altgis("export", self.store, "north", self.file("b.gpkg"))
+        self.equal(2, (self.file("a.gpkg"), "ducts"), (self.file("b.gpkg"), "ducts"))
+
+    def test_a_geometry_that_goes(self):
+        write(self.file("a.gpkg"), "ducts", DUCTS, THREE)
+        self.bring(self.file("a.gpkg"), "ducts")
+        change(self.file("a.gpkg"), "UPDATE ducts SET geom = NULL WHERE fid = 1")
+        self.assertIn("0 added, 1 changed, 0 removed, 2 same", self.bring(self.file("a.gpkg"), "ducts"))
+        keys = self.ask(lambda store: [it[:2] for it in store.list("top")])
+        self.assertEqual([(0, 7), (7, 1), (7, 2), (7, 12), (107, 2)], keys)
+
+    def test_fields_come_and_go(self):
+        write(self.file("a.gpkg"), "ducts", DUCTS, THREE)
+        write(self.file("b.gpkg"), "ducts", [field("depth", ogr.OFTReal)], [(2, {"depth": 1.5}, None)])
+        write(self.file("c.gpkg"), "ducts", [field("dn", ogr.OFTString)], [])
+        write(self.file("d.gpkg"), "ducts", DUCTS, THREE, code=4326)
+        self.bring(self.file("a.gpkg"), "ducts")
+        where = ("--alt", "top", "--table", 7)
+        self.refused("the field dn is Integer", "import", self.store, self.file("c.gpkg"), "ducts", *where)
+        self.refused("crs EPSG:2056", "import", self.store, self.file("d.gpkg"), "ducts", *where)
+        self.bring(self.file("b.gpkg"), "ducts")
+        names = lambda: [it["name"] for it in json.loads(self.ask(lambda store: store.get("top", 0, 7)))["fields"]]
+        self.assertEqual(["dn", "mat", "depth"], names())
+        self.bring(self.file("b.gpkg"), "ducts", "--sync")
+        self.assertEqual(["depth"], names())
+        self.altgis("export", self.store, "top", self.file("out.gpkg"))
+        self.equal(1, (self.file("b.gpkg"), "ducts"), (self.file("out.gpkg"), "ducts"))
+
+    def parts(self, alt="top"):
+        return self.ask(lambda store: [it for it in store.list(alt) if it.table == 207])
+
+    def test_what_is_long_lies_in_parts(self):
+        # 30,000 points, and the first once more: 4 + 5 + 4 + 16 * 30,001 bytes are 121 parts of 4,000. A text: 2 parts.
+        write(self.file("a.gpkg"), "a", DUCTS, [(5, {"mat": "x" * 5000}, polygon(30000)), (5000, {}, "POINT (1 2)")])
+        write(self.file("b.gpkg"), "a", DUCTS, [(5, {"mat": "x"}, polygon(5))])
+        write(self.file("c.gpkg"), "a", DUCTS, [(5, {}, polygon(300)), (6, {}, polygon(300))])
+        self.bring(self.file("a.gpkg"), "a")
+        self.assertEqual(123, len(self.parts()))
+        self.assertEqual({4000, 29, 1020}, {len(it.value) for it in self.parts()})
+        self.altgis("export", self.store, "top", self.file("out.gpkg"))
+        self.equal(2, (self.file("a.gpkg"), "a"), (self.file("out.gpkg"), "a"))
+        self.assertIn("1 changed", self.bring(self.file("b.gpkg"), "a"))
+        self.assertEqual([], self.parts())
+        self.bring(self.file("c.gpkg"), "a")
+        self.assertEqual(4, len(self.parts()))
+        self.bring(self.file("b.gpkg"), "a")
+        self.assertEqual(2, len(self.parts()))
+        self.bring(self.file("b.gpkg"), "a", "--sync")
+        self.assertEqual([], self.parts())
+        self.assertIn("1 added, 1 changed", self.bring(self.file("a.gpkg"), "a"))
+        self.altgis("export", self.store, "top", self.file("out2.gpkg"))
+        self.equal(2, (self.file("a.gpkg"), "a"), (self.file("out2.gpkg"), "a"))
+
+    def test_the_bounds_of_a_value(self):
+        for size, count in ((4000, 0), (4001, 2), (4000000, 1000)):
+            records = maps.records_of(107, 2**63 - 1, b"\1" * size)
+            self.assertEqual(count, len(records) - 1 if size > 4000 else 0)
+            self.assertEqual(b"\1" * size, maps.value_at(records, 107, 2**63 - 1))
+            self.assertTrue(all(0 <= number < 2**64 and len(it) <= 4000 for (_, number), it in records.items()))
+        self.assertRaises(maps.Fault, maps.records_of, 107, 1, bytes(4000001))
+        records = maps.records_of(107, 1, bytes(9000))
+        for key in list(records)[1:]:
+            spoiled = [{it: value for it, value in records.items() if it != key}, {**records, key: b"x" * 4000}]
+            for it in spoiled:
+                self.assertRaises(maps.Fault, maps.value_at, it, 107, 1)
+
+    def test_two_designs_that_change_one_long_course(self):
+        """Each settlement leaves one of the two courses, and no mixture, also where the courses differ in different parts."""
+        course = lambda *moved: [[it, it * it % 97 + (0.5 if it in moved else 0)] for it in range(1000)]
+        text = lambda points: f"LINESTRING ({','.join(f'{x} {y}' for x, y in points)})"
+        versions = {"top": course(5), "north": course(990), "south": course(5, 500)[:700]}
+        for alt, points in {"base": course(), **versions}.items():
+            write(self.file(f"{alt}.gpkg"), "a", DUCTS, [(5, {}, text(points))])
+        for side in ("mine", "theirs"):
+            for alt in ("north", "south"):
+                self.create(1024)
+                self.bring(self.file("base.gpkg"), "a")
+                self.ask(lambda store: store.new(alt, "top"))
+                self.bring(self.file("top.gpkg"), "a")
+                self.bring(self.file(f"{alt}.gpkg"), "a", alt=alt)
+                conflicts = self.ask(lambda store: list(store.conflicts(alt)))
+                self.assertEqual([(107, 5)], [it[:2] for it in conflicts])
+                self.ask(lambda store: store.merge(alt, {(107, 5): side}))
+                out, due = self.file(f"{alt}{side}.gpkg"), alt if side == "mine" else "top"
+                self.altgis("export", self.store, alt, out)
+                self.equal(1, (self.file(f"{due}.gpkg"), "a"), (out, "a"))
+                # The next import takes out the parts that the merge has left for nobody.
+                self.bring(self.file(f"{due}.gpkg"), "a", alt=alt)
+                self.assertEqual(5 if due == "north" else 5 if due == "top" else 3, len(self.parts(alt)))
+
+    def test_ids_from_a_field(self):
+        fields = [field("name", ogr.OFTString), field("number", ogr.OFTInteger64)]
+        ids = (0, 7, 2**63 - 1)
+        write(self.file("a.gpkg"), "a", fields, [(it + 1, {"name": "a", "number": id}, None) for it, id in enumerate(ids)])
+        self.bring(self.file("a.gpkg"), "a", "--id", "number")
+        keys = self.ask(lambda store: [it[1:] for it in store.list("top") if it.table == 7])
+        self.assertEqual([(it, b'{"name":"a"}') for it in ids], keys)
+        self.altgis("export", self.store, "top", self.file("out.gpkg"))
+        self.equal(3, (self.file("a.gpkg"), "a"), (self.file("out.gpkg"), "a"), "name, number")
+        self.assertIn("3 same", self.bring(self.file("out.gpkg"), "a", "--id", "number"))
+        # By way of CSV, which has no fids, and whose rows are in another order.
+        self.altgis("export", self.store, "top", self.file("out.csv"))
+        head, *rows = Path(self.file("out.csv")).read_text().splitlines(keepends=True)
+        Path(self.file("out.csv")).write_text(head + "".join(rows[::-1]))
+        told = self.bring(self.file("out.csv"), "out", "--id", "number", "--sync")
+        self.assertIn("0 added, 0 changed, 0 removed, 3 same", told)
+
+    def test_what_is_refused_leaves_all_as_it_was(self):
+        write(self.file("a.gpkg"), "ducts", DUCTS, THREE)
+        self.bring(self.file("a.gpkg"), "ducts")
+        where = ("ducts", "--alt", "top", "--table", 7)
+        bring = lambda told, file, *words: self.refused(told, "import", self.store, self.file(file), *words)
+        bring("has no layer pipes; it has ducts", "a.gpkg", "pipes", "--alt", "top", "--table", 7)
+        bring("no field number; it has dn, mat", "a.gpkg", *where, "--id", "number")
+        bring("in the field mat", "a.gpkg", *where, "--id", "mat", "--sync")
+        bring("has none in the field dn", "a.gpkg", *where, "--id", "dn", "--sync")
+        bring("1 NoSuchAlternative", "a.gpkg", "ducts", "--alt", "north", "--table", 7)
+        bring("words of a line", "a.gpkg", "ducts", "--alt", "a b", "--table", 7)
+        bring("No such file", "none.gpkg", *where)
+        write(self.file("b.gpkg"), "ducts", DUCTS, [(1, {"dn": 1}, None), (-3, {"dn": 2}, None)])
+        bring("a feature has -3 as its fid", "b.gpkg", *where)
+        write(self.file("c.gpkg"), "ducts", DUCTS, [(1, {"dn": 5}, None), (2, {"dn": 5}, None)])
+        bring("two features have the id 5", "c.gpkg", *where, "--id", "dn", "--sync")
+        for id in ("-1", "9223372036854775808", "18446744073709551616", "007", "1.5", "x"):
+            Path(self.file("d.csv")).write_text(f"id,n\n1,1\n{id},2\n")
+            bring(f"a feature has {id} in the field id", "d.csv", "d", "--alt", "top", "--table", 8, "--id", "id")
+        write(self.file("e.gpkg"), "e", DUCTS, [(1, {}, "POINT (1 2)"), (2, {}, polygon(250001))])
+        bring("107:2 has 4000045 bytes, and 4000000 are the most", "e.gpkg", "e", "--alt", "top", "--table", 7, "--sync")
+        self.refused("GDAL|not recognized", "import", self.store, str(HERE / "maps.py"), *where)
+        self.refused("already", "export", self.store, "top", self.file("a.gpkg"))
+        self.refused("ends with none of", "export", self.store, "top", self.file("a.xyz"))
+        self.refused("no layer", "export", self.store, "top", self.file("x.gpkg"), "--table", 8)
+        self.refused("3 NoSuchCheckpoint", "export", self.store, "top@before", self.file("x.gpkg"))
+        self.refused("no layer", "export", self.store, "top@", self.file("x.gpkg"))
+        self.ask(lambda store: store.put("top", 9, 1, b"duct"))
+        bring("table 9 has records, and they are no layer", "a.gpkg", "ducts", "--alt", "top", "--table", 9)
+        for value, told in ((b'{"dn":"wide"}', "'wide' is no Integer"), (b"duct", "feature 1 "), (b"[1]", "feature 1 ")):
+            self.ask(lambda store: store.put("top", 7, 1, value))
+            self.refused(told, "export", self.store, "top", self.file("x.gpkg"))
+        self.ask(lambda store: store.remove("top", 7, 1))
+        self.ask(lambda store: store.put("top", 7, 2**63, b"{}"))
+        self.refused("feature 9223372036854775808 ", "export", self.store, "top", self.file("x.gpkg"))
+        for value in (b"duct", b"[1]"):
+            self.ask(lambda store: store.put("top", 0, 1, value))
+            self.refused("table 0 has a record that is no layer", "export", self.store, "top", self.file("x.gpkg"))
+        for words in (["--table", "0"], ["--table", "100"], ["--table", "x"], []):
+            ran = self.start([sys.executable, str(HERE / "altgis"), "import", self.store, "a", "b", "--alt", "top", *words])
+            self.assertEqual(2, ran.returncode)
+
+    def test_a_store_that_is_too_small_is_as_it_was(self):
+        self.create(64)
+        self.lines("ducts.gpkg")
+        write(self.file("many.gpkg"), "a", DUCTS, [(it, {"dn": it}, "POINT (1 2)") for it in range(3000)])
+        self.bring(self.file("ducts.gpkg"), "ducts")
+        self.refused("13 Full .*grow BLOCKS", "import", self.store, self.file("many.gpkg"), "a", "--alt", "top", "--table", 8)
+        self.altgis("export", self.store, "top", self.file("out.gpkg"))
+        self.equal(39, (self.file("ducts.gpkg"), "ducts"), (self.file("out.gpkg"), "ducts"))
+
+    def test_a_field_that_the_layer_lacks_is_told(self):
+        write(self.file("a.gpkg"), "ducts", DUCTS, THREE)
+        self.bring(self.file("a.gpkg"), "ducts")
+        self.ask(lambda store: store.put("top", 7, 1, b'{"depth":1,"dn":5}'))
+        ran = self.start([sys.executable, str(HERE / "altgis"), "export", self.store, "top", self.file("x.gpkg")])
+        self.assertEqual((0, "altgis: left out, as ducts has no such fields: depth\n"), (ran.returncode, ran.stderr))
+        self.assertEqual([(1, 5, None)], self.rows(self.file("x.gpkg"), "ducts", "fid, dn, mat")[:1])
+
+    def test_a_geometry_without_attributes_goes_out(self):
+        """As a merge may leave it, where one side removed the feature and the other one moved it."""
+        write(self.file("a.gpkg"), "ducts", DUCTS, THREE)
+        self.bring(self.file("a.gpkg"), "ducts")
+        self.ask(lambda store: store.remove("top", 7, 1))
+        self.altgis("export", self.store, "top", self.file("x.gpkg"))
+        self.assertEqual([(1, None, 0)], self.rows(self.file("x.gpkg"), "ducts", "fid, dn, geom IS NULL")[:1])
+
+    def test_a_store_that_is_in_use(self):
+        with Store(self.store, ALTCTL):
+            self.refused("is in use", "export", self.store, "top", self.file("x.gpkg"))
+
+    def test_each_version_goes_out(self):
+        """Four states of the map, each written down when it was: top, and north at its base, at a checkpoint, and now."""
+        write(self.file("base.gpkg"), "ducts", DUCTS, THREE)
+        self.bring(self.file("base.gpkg"), "ducts")
+        self.ask(lambda store: store.new("north", "top"))
+        states = {"top": "base", "north@": "base"}
+        steps = {"north@before": "UPDATE ducts SET dn = 50 WHERE fid = 2", "north": "DELETE FROM ducts WHERE fid = 1"}
+        shutil.copy(self.file("base.gpkg"), self.file("now.gpkg"))
+        for at, statement in steps.items():
+            change(self.file("now.gpkg"), statement, "INSERT INTO ducts (dn) VALUES (9)")
+            states[at] = f"{at}_due"
+            shutil.copy(self.file("now.gpkg"), self.file(f"{at}_due.gpkg"))
+            self.bring(self.file("now.gpkg"), "ducts", "--sync", alt="north")
+            if at == "north@before":
+                self.ask(lambda store: store.checkpoint("north", "before"))
+        before = Path(self.store).read_bytes()
+        for at, due in states.items():
+            self.altgis("export", self.store, at, self.file(f"{at}_out.gpkg"))
+            count = self.count("SELECT count(*) FROM a", (self.file(f"{due}.gpkg"), "ducts"))
+            self.equal(count, (self.file(f"{due}.gpkg"), "ducts"), (self.file(f"{at}_out.gpkg"), "ducts"))
+        self.assertTrue(Path(self.store).read_bytes() == before)
+
+    def rows(self, file, layer, columns):
+        with sqlite3.connect(file) as it:
+            return it.execute(f"SELECT {columns} FROM {layer} ORDER BY fid").fetchall()
+
+    def test_a_difference_is_four_layers(self):
+        write(self.file("a.gpkg"), "ducts", DUCTS, THREE)
+        self.bring(self.file("a.gpkg"), "ducts")
+        self.ask(lambda store: store.new("north", "top"))
+        mine = ["UPDATE ducts SET dn = 1 WHERE fid = 2", "UPDATE ducts SET mat = 'a' WHERE fid = 12"]
+        mine += ["DELETE FROM ducts WHERE fid = 1", "INSERT INTO ducts (fid, dn) VALUES (20, 9)"]
+        shutil.copy(self.file("a.gpkg"), self.file("b.gpkg"))
+        change(self.file("a.gpkg"), *mine)
+        change(self.file("b.gpkg"), "UPDATE ducts SET dn = 2, geom = NULL WHERE fid = 2")
+        self.bring(self.file("a.gpkg"), "ducts", "--sync", alt="north")
+        self.bring(self.file("b.gpkg"), "ducts", "--sync")
+        told = self.altgis("diff", self.store, "top", "north", self.file("d.gpkg"))
+        self.assertEqual("top to north, table 7: 1 added, 2 changed, 1 removed, 1 conflicts\n", told)
+        columns = "alt_id, alt_side, alt_what, dn, mat, geom IS NULL"
+        due = {
+            "added": [(20, "after", "", 9, None, 1)],
+            "removed": [(1, "before", "", 110, "PVC", 0)],
+            "changed": [
+                (2, "before", "attributes geometry", 2, "Straße", 1),
+                (2, "after", "attributes geometry", 1, "Straße", 0),
+                (12, "before", "attributes", None, "", 1),
+                (12, "after", "attributes", None, "a", 1),
+            ],
+            "conflicts": [
+                (2, "base", "attributes", 160, "Straße", 0),
+                (2, "parent", "attributes", 2, "Straße", 1),
+                (2, "mine", "attributes", 1, "Straße", 0),
+            ],
+        }
+        self.assertEqual(due, {it: self.rows(self.file("d.gpkg"), it, columns) for it in due})
+        self.opens(self.file("d.gpkg"))
+        told = self.altgis("diff", self.store, "north@", "north", self.file("e.gpkg"))
+        self.assertEqual("north@ to north, table 7: 1 added, 2 changed, 1 removed, 0 conflicts\n", told)
+        told = self.altgis("diff", self.store, "north", "top", self.file("f.gpkg"))
+        self.assertEqual("north to top, table 7: 1 added, 2 changed, 1 removed, 1 conflicts\n", told)
+        self.assertEqual(due["conflicts"], self.rows(self.file("f.gpkg"), "conflicts", columns))
+
+    def test_a_field_of_the_map_with_a_name_of_ours(self):
+        fields = [field(it, ogr.OFTInteger) for it in ("FID_", "Geom_", "ALT_ID")]
+        write(self.file("a.gpkg"), "a", fields, [(1, {"FID_": 5, "ALT_ID": 6}, "POINT (1 2)")])
+        self.bring(self.file("a.gpkg"), "a")
+        Path(self.file("b.csv")).write_text("fid,geom\n5,6\n")
+        self.bring(self.file("b.csv"), "b", table=8)
+        self.altgis("export", self.store, "top", self.file("out.gpkg"))
+        self.equal(1, (self.file("a.gpkg"), "a"), (self.file("out.gpkg"), "a"))
+        self.assertEqual([("5", "6")], self.rows(self.file("out.gpkg"), "b", "fid, geom"))
+        self.ask(lambda store: store.new("north", "top"))
+        self.ask(lambda store: store.remove("north", 7, 1))
+        self.ask(lambda store: store.remove("north", 107, 1))
+        self.altgis("diff", self.store, "top", "north", self.file("d.gpkg"), "--table", 7)
+        self.assertEqual([(1, 6, 5)], self.rows(self.file("d.gpkg"), "removed", "ALT_ID_, ALT_ID, FID_"))
+
+    def test_rivers_and_coasts_there_and_back(self):
+        if not shutil.which("gmt"):
+            self.skipTest("gmt is not there (apt install gmt gmt-gshhg-low)")
+        demo = program("demo")
+        fields = [field("name", ogr.OFTString), field("level", ogr.OFTInteger), field("condition", ogr.OFTString)]
+        fields += [field("length", ogr.OFTReal), field("points", ogr.OFTInteger64)]
+        for name, what in (("rivers", "-Ia"), ("coasts", "-W")):
+            features = []
+            for fid, (attributes, points) in enumerate(demo.segments(what), 1):
+                geometry = ogr.CreateGeometryFromWkb(demo.line(points))
+                features.append((fid, {**attributes, "length": geometry.Length(), "points": len(points)}, geometry))
+            self.assertGreater(len(features), 900)
+            write(self.file(f"{name}.gpkg"), name, fields, features, ogr.wkbLineString, 4326)
+            self.there_and_back(self.file(f"{name}.gpkg"), name, "out.gpkg", count=len(features))
+            for suffix in (".geojson", ".shp", ".csv"):
+                # None of these writes each digit of a real, and two of them have no ids.
+                columns = f"{'fid, ' if suffix == '.geojson' else ''}name, level, condition, points, geom"
+                out = f"{name}{suffix[1:]}{suffix}"
+                self.there_and_back(self.file(f"{name}.gpkg"), name, out, count=len(features), columns=columns)
+
+    def test_the_demonstration(self):
+        for words in ([], ["--made-up"]):
+            Path(self.store).unlink()
+            ran = self.start([sys.executable, str(HERE / "demo"), self.store, *words])
+            self.assertEqual((0, ""), (ran.returncode, ran.stderr))
+            real = not words and shutil.which("gmt")
+            self.assertIn("rivers of Europe" if real else "made-up ducts", ran.stdout)
+            told = self.altgis("diff", self.store, "top", "north", self.file(f"north{len(words)}.gpkg"))
+            self.assertIn("1 added, 12 changed, 2 removed, 2 conflicts", told)
+            self.altgis("export", self.store, "north@before", self.file(f"before{len(words)}.gpkg"))
+            self.opens(self.file(f"before{len(words)}.gpkg"))
+
+    def test_without_gdal_a_line_says_what_to_install(self):
+        os.mkdir(self.file("osgeo"))
+        Path(self.file("osgeo/__init__.py")).write_text("raise ImportError('not there')\n")
+        ran = self.start([sys.executable, str(HERE / "altgis"), "--help"], PYTHONPATH=self.folder)
+        due = "altgis: GDAL is not there for Python: install it by `apt install python3-gdal`\n"
+        self.assertEqual((1, "", due), (ran.returncode, ran.stdout, ran.stderr))
+
+
+if __name__ == "__main__":
+    unittest.main()
