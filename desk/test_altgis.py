@@ -456,6 +456,8 @@ class AltgisTests(unittest.TestCase):
         for id in ("-1", "9223372036854775808", "18446744073709551616", "007", "1.5", "x"):
             Path(self.file("d.csv")).write_text(f"id,n\n1,1\n{id},2\n")
             bring(f"a feature has {id} in the field id", "d.csv", "d", "--alt", "top", "--table", 8, "--id", "id")
+        Path(self.file("f.csv")).write_bytes(b"id,n\n1,caf\xe9\n")
+        bring("feature 1 has a text that is not UTF-8", "f.csv", "f", "--alt", "top", "--table", 8)
         write(self.file("e.gpkg"), "e", DUCTS, [(1, {}, "POINT (1 2)"), (2, {}, polygon(250001))])
         bring("107:2 has 4000045 bytes, and 4000000 are the most", "e.gpkg", "e", "--alt", "top", "--table", 7, "--sync")
         self.refused("GDAL|not recognized", "import", self.store, str(HERE / "maps.py"), *where)
@@ -570,6 +572,8 @@ class AltgisTests(unittest.TestCase):
         told = self.altgis("diff", self.store, "north", "top", self.file("f.gpkg"))
         self.assertEqual("north to top, table 7: 1 added, 2 changed, 1 removed, 1 conflicts\n", told)
         self.assertEqual(due["conflicts"], self.rows(self.file("f.gpkg"), "conflicts", columns))
+        self.refused("give two versions", "diff", self.store, "top", "top", self.file("g.gpkg"))
+        self.refused("takes one layer", "diff", self.store, "top", "north", self.file("g.geojson"))
 
     def test_a_field_of_the_map_with_a_name_of_ours(self):
         fields = [field(it, ogr.OFTInteger) for it in ("FID_", "Geom_", "ALT_ID")]
