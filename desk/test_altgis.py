@@ -229,6 +229,12 @@ class AltgisTests(unittest.TestCase):
         feature = {"type": "Feature", "id": 4, "properties": lists, "geometry": point}
         Path(self.file("a.geojson")).write_text(json.dumps({"type": "FeatureCollection", "features": [feature]}))
         self.bring(self.file("a.geojson"), "a", table=8)
+        feature["properties"] = {"a": float("nan"), "b": float("-inf"), "c": 0.5}
+        Path(self.file("i.geojson")).write_text(json.dumps({"type": "FeatureCollection", "features": [feature]}))
+        self.bring(self.file("i.geojson"), "i", table=10)
+        self.assertEqual(b'{"a":"nan","b":"-inf","c":0.5}', self.ask(lambda store: store.get("top", 10, 4)))
+        self.altgis("export", self.store, "top", self.file("i.gpkg"), "--table", 10)
+        self.assertEqual([(float("-inf"), 0.5)], self.rows(self.file("i.gpkg"), "i", "b, c"))
         Path(self.file("c.csv")).write_text("at,n\n12:34:56,1\n")
         Path(self.file("c.csvt")).write_text("Time,Integer\n")
         self.bring(self.file("c.csv"), "c", table=9)
