@@ -1,7 +1,7 @@
 #!/bin/sh
 # Runs the scripts that stand beside the gate, one after another, each of a bounded size: `tools/all.sh`. It ends with
-# one line, names in it the scripts that failed, and has the status 1 then. `measure.sh` is none of them: its times are
-# looked at, never tested.
+# one line, names in it the scripts that failed, and has the status 1 then. What needs more than is installed is skipped,
+# with a line that says so. `measure.sh` and `measure_service.py` are none of them: times are looked at, never tested.
 #
 # `tools/all.sh --quick [COUNT]` runs what takes few seconds, and the others shorter or not at all, in 4 minutes in all.
 # Its last line counts them with those COUNT that passed before: `N passed, M failed`.
@@ -50,7 +50,10 @@ else
     try 300 space.py
     try 600 failing_device.py
     try 1800 refuse_allocations.sh
+    try 300 ../desk/test_altserve.py
     try 600 ../desk/test_altgis.py
+    try 300 kill_service.py "$tools/../altctl" 20
+    try 300 replicated.sh
 fi
 echo "all: $passed scripts passed${names:+, failed:$names}, in $(($(date +%s) - begun)) seconds"
 [ -z "$quick" ] || echo "$((passed + ${2:-0})) passed, $failed failed"

@@ -6,17 +6,19 @@ with status 1.
 In a block `console`, a line after `$ ` is a command of the shell; the lines after `> ` below it are its input, and all
 others are what it prints. A block `sh` or `python` is a program as it stands, and the block `text` right below it is
 what it prints. The blocks of one document run in one folder, one after another, with the program as `altctl` and
-`./altctl`.
+`./altctl`, and the service as `altserve`.
 
-A document whose programs need what is not there is left out, and a line says so.
+A document whose programs need what is not installed is left out, and the last line says so.
 
 It also looks whether README and `altctl --version` name the toolchain that is there, whether links lead to files,
 whether each refusal has a row of advice, whether the README shows the library's function as it is tested, and whether
 a row `| FILE | COUNT |` tells how many lines that file has. `--counts` writes these anew.
 """
+import contextlib
 import difflib
 import os
 import re
+import signal
 import subprocess
 import sys
 import tempfile
@@ -24,8 +26,14 @@ from pathlib import Path
 
 TOP = Path(__file__).resolve().parent.parent
 DOCUMENTS = [TOP / "README.md", *sorted((TOP / "docs").glob("*.md"))]
-# Programs of the folder `desk`, and the documents that need them to start.
-DESK = {"altgis": "MAPS.md"}
+# What documents need to run, and the commands that succeed where it is there.
+NEEDS = {
+    "MAPS.md": {"python3-gdal": f"{TOP}/desk/altgis --help"},
+    "PLANNERS.md": {
+        "nc -U (netcat-openbsd)": "nc -h 2>&1 | grep -q -e -U",
+        "python3-tomli": f"{sys.executable} -c 'import tomllib' || {sys.executable} -c 'import tomli'",
+    },
+}
 BLOCK = re.compile(r"^```(\w+)\n(.*?)^```$", re.M | re.S)
 COUNT = re.compile(r"^(\| `(crates/[\w/.]+)` \| )(\d+)( \|)", re.M)
 LINK = re.compile(r"\]\(([^)#]+)[^)]*\)|^\[.+\]: (\S+)$|`(docs/[A-Z]+\.md|tools/\w+\.\w+|clients/[\w/]+\.py)`", re.M)
@@ -39,7 +47,7 @@ class Run:
         os.mkdir(f"{folder}/bin")
         for link in (f"{folder}/bin/altctl", f"{folder}/altctl"):
             os.symlink(altctl, link)
-        for it in DESK:
+        for it in ("altgis", "altserve"):
             os.symlink(TOP / "desk" / it, f"{folder}/bin/{it}")
         path = f"{folder}/bin{os.pathsep}{os.environ['PATH']}"
         python = {"PYTHONPATH": str(TOP / "clients" / "python"), "PYTHONDONTWRITEBYTECODE": "1"}
@@ -79,6 +87,19 @@ class Run:
         self.compare(where, due, came)
 
 
+def wanting(document):
+    """What the sessions of a document need and is not installed, or None."""
+    how = {"shell": True, "stdout": subprocess.DEVNULL, "stderr": subprocess.DEVNULL}
+    tests = NEEDS.get(document.name, {})
+    return next((what for what, test in tests.items() if subprocess.run(test, **how).returncode), None)
+
+
+def end_service(folder):
+    """Ends a service that a document has started, where the document itself has not come to that."""
+    with contextlib.suppress(FileNotFoundError, ProcessLookupError):
+        os.kill(int(Path(folder, "altserve.pid").read_text()), signal.SIGTERM)
+
+
 def run_blocks(document, altctl):
     """Runs the blocks of a document, and gives how many there are, and how many outputs differ."""
     text = document.read_text()
@@ -96,16 +117,8 @@ def run_blocks(document, altctl):
             elif kind != "text" and not (kind == "rust" and is_tested(body)):
                 run.compare(where, [f"a block that can be run, and no {kind}"], [])
             count += kind in ("console", "sh", "python")
+        end_service(folder)
     return count, run.differences
-
-
-def left_out():
-    """The documents whose programs cannot start here."""
-    for program, document in DESK.items():
-        ran = subprocess.run([TOP / "desk" / program, "--help"], capture_output=True, text=True)
-        if ran.returncode:
-            print(f"documents: {document} is left out. {ran.stderr.strip()}")
-            yield document
 
 
 def is_tested(code):
@@ -171,14 +184,15 @@ def main():
     for it in faults:
         print(it)
     count = differences = 0
-    missing = list(left_out())
-    for document in (it for it in DOCUMENTS if it.name not in missing):
-        here, different = run_blocks(document, altctl)
+    skipped = {it: what for it in DOCUMENTS if (what := wanting(it))}
+    for document in DOCUMENTS:
+        here, different = (0, 0) if document in skipped else run_blocks(document, altctl)
         count, differences = count + here, differences + different
     if faults or differences:
         print(f"documents: {len(faults)} faults, and {differences} differences in {count} blocks")
         return 1
-    print(f"documents: {count} blocks ran as they are shown")
+    left_out = "".join(f"; {it.name} was skipped, as {what} is not installed" for it, what in skipped.items())
+    print(f"documents: {count} blocks ran as they are shown{left_out}")
     return 0
 
 

@@ -1,25 +1,37 @@
-/* Has each block read and each write of a program take SLOW microseconds more. It is loaded before the C
-   library by LD_PRELOAD. */
+/* Has each block read and each write of a program take SLOW microseconds more, and each sync SLOW_SYNC. It is loaded
+   before the C library by LD_PRELOAD. */
 #define _GNU_SOURCE
 #include <stdlib.h>
 #include <sys/syscall.h>
 #include <unistd.h>
 
-static void wait_for_device(void)
+static void wait_for_device(const char *variable)
 {
-    const char *text = getenv("SLOW");
+    const char *text = getenv(variable);
     if (text)
         usleep((useconds_t)atol(text));
 }
 
 ssize_t pread(int file, void *into, size_t count, off_t offset)
 {
-    wait_for_device();
+    wait_for_device("SLOW");
     return syscall(SYS_pread64, file, into, count, offset);
 }
 
 ssize_t pwrite(int file, const void *from, size_t count, off_t offset)
 {
-    wait_for_device();
+    wait_for_device("SLOW");
     return syscall(SYS_pwrite64, file, from, count, offset);
+}
+
+int fsync(int file)
+{
+    wait_for_device("SLOW_SYNC");
+    return (int)syscall(SYS_fsync, file);
+}
+
+int fdatasync(int file)
+{
+    wait_for_device("SLOW_SYNC");
+    return (int)syscall(SYS_fdatasync, file);
 }

@@ -1,4 +1,5 @@
-"""A store of Zonegrater from Python: `Store` starts `altctl run FILE`, writes lines to it and reads its answers.
+"""A store of Zonegrater from Python: `Store` starts `altctl run FILE`, writes lines to it and reads its answers. `Store("unix:PATH")`
+asks the service at that socket (`desk/altserve`) instead, beside others.
 
     with Store("map.alt") as store:
         store.new("north", "top")
@@ -8,9 +9,11 @@
 Values are bytes, 4,000 at most, names are texts, and a key is a table and a number. What was not committed is gone at the end of
 the `with`. docs/FORMATS.md has the lines and their answers, docs/OPERATING.md what helps where one is refused.
 """
+import contextlib
 import fcntl
 import os
 import re
+import socket
 import subprocess
 import tempfile
 from collections import deque
@@ -31,12 +34,19 @@ class Refusal(Exception):
         self.number, self.name, self.detail, self.at = number, name, detail, at
 
 
+def refusal_of(words, at=None):
+    return Refusal(int(words[1]), words[2], " ".join(words[3:]), at)
+
+
 class Ended(Exception):
     """The program ended before its input did, or with a status other than 0. What was committed is in the file."""
 
     def __init__(self, status, said):
         super().__init__(f"altctl ended with status {status}: {said.strip()}")
         self.status, self.said = status, said
+
+
+CHANGES = {"new", "drop", "put", "remove", "checkpoint", "uncheck", "back", "merge", "post", "reclaim", "grow"}
 
 
 class Record(NamedTuple):
@@ -145,12 +155,11 @@ def locked(file):
     return lock
 
 
-class Store:
-    """An open store. Its file is locked (`flock`) as long as the program runs: a second one raises BlockingIOError."""
+class Process:
+    """A process of `altctl run`. It inherits the file's lock, and with it the file is locked as long as it runs."""
 
-    def __init__(self, file, program="altctl", cache=None):
+    def __init__(self, file, program, cache):
         words = [program, "run", *([] if cache is None else ["--cache", str(cache)]), "--", os.fsdecode(file)]
-        self._rows = None
         lock = locked(file)
         try:
             self._faults = tempfile.TemporaryFile("w+", errors="replace")
@@ -158,6 +167,51 @@ class Store:
             self._program = subprocess.Popen(words, stdin=subprocess.PIPE, stdout=subprocess.PIPE, **how)
         finally:
             os.close(lock)
+        self.lines, self.answers = self._program.stdin, self._program.stdout
+
+    def end(self):
+        """Ends it, and gives its status and what it said."""
+        try:
+            self._program.communicate()
+        finally:
+            self._faults.seek(0)
+            said = self._faults.read()
+            self._faults.close()
+        return self._program.returncode, said
+
+
+class Service:
+    """A connection to the service at a Unix socket."""
+
+    def __init__(self, path):
+        self._socket = socket.socket(socket.AF_UNIX)
+        try:
+            self._socket.connect(path)
+        except BaseException:
+            self._socket.close()
+            raise
+        self.lines, self.answers = (self._socket.makefile(mode, encoding="ascii", newline="\n") for mode in "wr")
+
+    def end(self):
+        """Ends the connection. A batch that was not committed is forgotten."""
+        with contextlib.suppress(BrokenPipeError):
+            self.lines.close()
+        self.answers.close()
+        self._socket.close()
+        return 0, ""
+
+
+class Store:
+    """An open store. Its file is locked (`flock`) as long as the program runs: a second one raises BlockingIOError.
+
+    With "unix:PATH" it is a store that a service works on, for many planners at once. There each change is committed before its
+    method returns, but for those in a `with store.batch()`."""
+
+    def __init__(self, file, program="altctl", cache=None):
+        self._rows, self._batch, self._is_open = None, None, False
+        is_service = isinstance(file, str) and file.startswith("unix:")
+        self._other = Service(file[5:]) if is_service else Process(file, program, cache)
+        self._is_open = True
         try:
             self.free()
         except BaseException:
@@ -172,28 +226,37 @@ class Store:
 
     def close(self, quietly=False):
         """Ends the program. Raises Ended where its status is not 0, unless that is to be ignored."""
-        if self._faults.closed:
+        if not self._is_open:
             return
-        try:
-            self._program.communicate()
-        finally:
-            self._faults.seek(0)
-            said = self._faults.read()
-            self._faults.close()
-        if self._program.returncode and not quietly:
-            raise Ended(self._program.returncode, said)
+        self._is_open = False
+        status, said = self._other.end()
+        if status and not quietly:
+            raise Ended(status, said)
 
-    def _read(self):
-        line = self._program.stdout.readline()
-        if line.endswith("\n"):
-            return line.split()
-        self.close()
-        raise Ended(self._program.returncode, "its output ended")
+    @contextlib.contextmanager
+    def batch(self):
+        """Changes that a service makes together, at the end of the `with`: all of them, or none. An exception in it, or a Refusal
+        of one of them at its end, leaves everything as it was. No query can be asked in it."""
+        if not isinstance(self._other, Service) or self._batch is not None:
+            raise ValueError("a batch is one of a service's store, and not in another one")
+        self._batch = ["begin"]
+        try:
+            yield
+            lines = [*self._batch, "commit"]
+        finally:
+            self._batch = None
+        if len(lines) > 2:
+            self._write(lines)
+            answers = [self._read() for _ in lines]
+            # Where one is refused, each of the others is answered `91 NotDone`.
+            refused = [it for it in answers if it[0] == "error" and it[1] != "91"]
+            if refused:
+                raise refusal_of(refused[0])
 
     def _line(self, *words):
         words = [str(it) for it in words]
-        if self._faults.closed or not all(re.fullmatch("[!-~]+", it) for it in words):
-            raise ValueError("the store is closed" if self._faults.closed else f"not the words of a line: {words}")
+        if not self._is_open or not all(re.fullmatch("[!-~]+", it) for it in words):
+            raise ValueError(f"not the words of a line: {words}" if self._is_open else "the store is closed")
         return " ".join(words)
 
     def _write(self, lines):
@@ -202,31 +265,51 @@ class Store:
             self._rows.read_rest()
             self._rows = None
         try:
-            self._program.stdin.write("\n".join(lines) + "\n")
-            self._program.stdin.flush()
+            self._other.lines.write("".join(f"{it}\n" for it in lines))
+            self._other.lines.flush()
         except BrokenPipeError:
-            pass  # The program has ended, which the next read tells.
+            pass  # It has ended, which the read of the answer tells.
+
+    def _read(self):
+        line = self._other.answers.readline()
+        if line.endswith("\n"):
+            return line.split()
+        self.close()
+        raise Ended(0, "its output ended")
+
+    def _hold(self, line):
+        """Holds a change up to the end of its batch: there is no answer yet."""
+        if line.split(" ", 1)[0] not in CHANGES:
+            raise ValueError("a query in a batch, which is answered at its end")
+        self._batch.append(line)
 
     def _ask(self, *words):
-        """Writes a line, and gives the words of the first line of its answer."""
-        self._write([self._line(*words)])
+        """Writes a line, and gives the words of the first line of its answer. In a batch it is held."""
+        line = self._line(*words)
+        if self._batch is not None:
+            return self._hold(line)
+        self._write([line])
         answer = self._read()
         if answer[0] == "error":
-            raise Refusal(int(answer[1]), answer[2], " ".join(answer[3:]))
+            raise refusal_of(answer)
         return answer
 
     def _ask_many(self, lines, most):
         """Gives for each line the words of its answer, of one line. A portion of lines is written, and then its answers are
         read, the one that tells a refusal among them. No side waits for the other for good: both pipes are empty before a
         portion, and into one of them goes all of it. Either the lines have no more than `most` = PIPE bytes together, or
-        the answers, of 64 bytes each at most."""
+        the answers, of 64 bytes each at most. In a batch they are held."""
+        if self._batch is not None:
+            for line in lines:
+                self._hold(line)
+            return
         asked = 0
         for portion in portions(lines, most):
             self._write(portion)
             answers = [self._read() for _ in portion]
             for at, answer in enumerate(answers, asked):
                 if answer[0] == "error":
-                    raise Refusal(int(answer[1]), answer[2], " ".join(answer[3:]), at)
+                    raise refusal_of(answer, at)
             yield from answers
             asked += len(portion)
 
@@ -297,10 +380,11 @@ class Store:
         return self._list(lambda words: Conflict(*map(int, words[:2]), *map(decode, words[2:])), "conflicts", alt)
 
     def merge(self, alt, settlements=None):
-        """Brings in what changed in the parent, and gives how many records that changed. Settlements are a dict from
-        (table, number) to "mine" or "theirs", one for each conflict."""
+        """Brings in what changed in the parent, and gives how many records that changed, but in a batch. Settlements are a dict
+        from (table, number) to "mine" or "theirs", one for each conflict."""
         words = [f"{table}:{number}={side}" for (table, number), side in (settlements or {}).items()]
-        return int(self._ask("merge", alt, *words)[1])
+        answer = self._ask("merge", alt, *words)
+        return answer and int(answer[1])
 
     def post(self, alt):
         self._ask("post", alt)

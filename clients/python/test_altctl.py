@@ -1,12 +1,14 @@
 #!/usr/bin/env python3
 """Tests of the module `altctl` over real files: `test_altctl.py`, with the program's path in the variable ALTCTL, or
 else with the one that `./altctl` at the top builds."""
+import contextlib
 import fcntl
 import io
 import os
 import subprocess
 import sys
 import tempfile
+import time
 import unittest
 from contextlib import redirect_stdout
 from pathlib import Path
@@ -180,7 +182,7 @@ class StoreTests(unittest.TestCase):
         # The longest lines and the longest answers there are: each byte of 4,000 is written as three.
         value = bytes(4000)
         with Store(self.grown(4096), ALTCTL) as store:
-            for pipe in (store._program.stdin, store._program.stdout):
+            for pipe in (store._other.lines, store._other.answers):
                 fcntl.fcntl(pipe, F_SETPIPE_SZ, 4096)
             numbers = range(2**64 - 300, 2**64)
             store.put_many("top", ((65535, number, value) for number in numbers))
@@ -226,7 +228,7 @@ class StoreTests(unittest.TestCase):
 
     def test_a_program_that_ends_among_many_lines_is_an_error(self):
         with self.assertRaises(Ended), self.open() as store:
-            store._program.kill()
+            store._other._program.kill()
             store.put_many("top", ((7, number, bytes(4000)) for number in range(1000)))
 
     def test_rows_stay_whole_where_other_lines_come_between(self):
@@ -250,10 +252,16 @@ class StoreTests(unittest.TestCase):
     def test_a_program_that_ends_early_is_an_error(self):
         with self.assertRaises(Ended) as came, self.open() as store:
             store.put("top", 1, 1, b"a")
-            store._program.kill()
+            store._other._program.kill()
             store.commit()
         self.assertEqual(-9, came.exception.status)
         with self.open() as store:
+            self.assertEqual([], list(store.list("top")))
+
+    def test_a_batch_is_one_of_a_service(self):
+        with self.open() as store:
+            with self.assertRaises(ValueError), store.batch():
+                store.put("top", 1, 1, b"a")
             self.assertEqual([], list(store.list("top")))
 
     def test_a_file_that_is_no_store_is_an_error(self):
@@ -311,6 +319,85 @@ class StoreTests(unittest.TestCase):
         with redirect_stdout(came):
             example.main()
         self.assertEqual(due, came.getvalue().splitlines())
+
+
+class ServiceTests(unittest.TestCase):
+    """The same over the socket of a service."""
+
+    def setUp(self):
+        folder = tempfile.TemporaryDirectory()
+        self.addCleanup(folder.cleanup)
+        self.file = os.path.join(folder.name, "map.alt")
+        subprocess.run([ALTCTL, "create", self.file, "256"], check=True, stdout=subprocess.DEVNULL)
+        words = [sys.executable, str(HERE.parent.parent / "desk" / "altserve"), "--program", ALTCTL, self.file]
+        self.service = subprocess.Popen(words, stderr=subprocess.DEVNULL)
+        self.addCleanup(self.service.wait)
+        self.addCleanup(self.service.terminate)
+        while self.service.poll() is None:
+            with contextlib.suppress(FileNotFoundError, ConnectionRefusedError):
+                return self.open().close()
+            time.sleep(0.01)
+
+    def open(self):
+        return Store(f"unix:{self.file}.sock")
+
+    def test_each_change_is_there_for_others(self):
+        with self.open() as one, self.open() as other:
+            one.new("north", "top")
+            one.put("north", 7, 1, b"cable A")
+            self.assertEqual(b"cable A", other.get("north", 7, 1))
+            other.put("north", 7, 2, b"")
+            other.commit()
+            self.assertEqual([Record(7, 1, b"cable A"), Record(7, 2, b"")], list(one.list("north")))
+            self.assertEqual([Change(7, 1, None, b"cable A"), Change(7, 2, None, b"")], list(one.changes("north")))
+            for row in one.list("north"):
+                one.remove("north", row.table, row.number)
+            self.assertEqual([], list(other.list("north")))
+            names = [it.name for it in other.alternatives()]
+            self.assertEqual(["top", "north", ".service"], names)
+
+    def test_a_batch_is_made_as_a_whole(self):
+        with self.open() as one, self.open() as other:
+            with one.batch():
+                one.new("north", "top")
+                one.put("north", 7, 1, b"a")
+                self.assertIsNone(one.merge("north"))
+                self.assertEqual(["top", ".service"], [it.name for it in other.alternatives()])
+                one.post("north")
+            self.assertEqual(b"a", other.get("top", 7, 1))
+            self.assertEqual(0, one.merge("north"))
+
+    def test_of_a_batch_that_is_refused_nothing_is_made(self):
+        with self.open() as store:
+            with self.assertRaises(Refusal) as came, store.batch():
+                store.put("top", 7, 1, b"a")
+                store.remove("top", 7, 2)
+                store.put("top", 7, 3, b"a")
+            self.assertEqual("5 NoSuchRecord", str(came.exception))
+            with self.assertRaises(Refusal) as came, store.batch():
+                store.put("top", 7, 1, b"a")
+                store.put(".service", 7, 1, b"a")
+            self.assertEqual((90, "Denied", "change .service"), (came.exception.number, came.exception.name, came.exception.detail))
+            with self.assertRaises(KeyError), store.batch():
+                store.put("top", 7, 1, b"a")
+                raise KeyError
+            for call in [lambda: store.get("top", 7, 1), lambda: list(store.list("top")), store.commit, store.batch().__enter__]:
+                with self.assertRaises(ValueError), store.batch():
+                    store.put("top", 7, 1, b"a")
+                    call()
+            with store.batch():
+                pass
+            self.assertEqual([], list(store.list("top")))
+
+    def test_a_service_that_ends_is_an_error(self):
+        with self.assertRaises(Ended), self.open() as store:
+            store.put("top", 7, 1, b"a")
+            self.service.terminate()
+            self.service.wait()
+            store.put("top", 7, 2, b"a")
+        self.assertRaises(OSError, self.open)
+        with Store(self.file, ALTCTL) as store:
+            self.assertEqual([Record(7, 1, b"a")], list(store.list("top")))
 
 
 if __name__ == "__main__":

@@ -1,0 +1,292 @@
+"""Batches of lines over one store: all of one or nothing, durable and in the journal before it is answered.
+
+Between two batches nothing uncommitted is in the store. With each commit goes the number of its last batch, as the name of the
+only checkpoint of the alternative `.service`: that takes no block, so a full store can still be emptied, and the alternative
+is made anew each time, so it holds no version that nobody else needs."""
+import errno
+import os
+import subprocess
+import time
+
+from service.journal import Broken, Journal, entry, now, sync_folder
+from service.limits import refusal
+from service.lines import OWN, printable
+from service.program import Ended, Program
+
+# So often a batch that the program ended at is tried again, by itself.
+TRIES = 2
+
+
+class Fatal(Exception):
+    """The store cannot be opened, or the journal cannot be written."""
+
+
+class Batch:
+    """Lines of one planner. At the end it has an answer for each of them, or the one that was refused, by its place: behind the
+    last line that is its `commit`."""
+
+    def __init__(self, person, lines=(), is_explicit=False):
+        self.person, self.lines, self.is_explicit = person, list(lines), is_explicit
+        self.count, self.size, self.begun = len(self.lines), sum(map(len, self.lines)), time.monotonic()
+        self.answers, self.refused = None, None
+
+    def hold(self, line):
+        """Takes one more line, which is forgotten where one before it was refused already."""
+        self.count += 1
+        if self.refused is None:
+            self.lines.append(line)
+            self.size += len(line)
+
+    def refuse(self, place, answer):
+        """Forgets its lines: this one is refused."""
+        if self.refused is None:
+            self.refused = place, answer
+            self.lines, self.size = [], 0
+
+    def take_answers(self, answers, fault):
+        """Takes the program's answers to its lines, and the fault of what was to follow them. Gives how many they are."""
+        place = next((n for n, it in enumerate(answers) if it.startswith(b"error ")), None)
+        if place is not None:
+            self.refuse(place, answers[place])
+        elif fault is not None:
+            self.refuse(self.count, fault)
+        else:
+            self.answers = answers
+        return len(answers)
+
+    def is_settled(self):
+        return self.answers is not None or self.refused is not None
+
+    def text(self):
+        """What its planner is answered."""
+        if self.refused is None:
+            return b"".join([b"%s\n" % it for it in self.answers or []]) + b"ok\n" * self.is_explicit
+        place, answer = self.refused
+        if not self.is_explicit:
+            return answer + b"\n"
+        others = refusal(91, place + 1)
+        return b"".join([b"%s\n" % (answer if at == place else others) for at in range(self.count + 1)])
+
+
+class Batches:
+    """The store of a file whose lock is held, with its program and its journal."""
+
+    def __init__(self, file, altctl, options, lock, say):
+        self.file, self.altctl, self.lock = file, altctl, lock
+        self.words = [altctl, "run", *options, "--", file]
+        self.program, self.parents, self.kept = None, {}, 0
+        self.has_rollback, self.has_copy = False, True
+        self.journal = Journal(f"{file}.journal", say)
+        self._open()
+        if self.kept >= self.journal.next:
+            say(f"{file}.journal ends at batch {self.journal.next - 1}, and the store holds {self.kept}: it goes on behind that")
+        self.journal.opened(self.kept)
+
+    # --- the program ------------------------------------------------------------------------------
+
+    def _open(self):
+        """Starts the program, and finds out which batch is the last one that the store holds."""
+        self.program = Program(self.words, self.lock)
+        try:
+            self.has_rollback = self.program.ask([b"rollback"]) == [b"ok"]
+            self._look()
+            if OWN not in self.parents:
+                self._begin()
+        except Ended:
+            raise Fatal(f"altctl ended with status {self.program.end()} at its start") from None
+
+    def _look(self):
+        """Reads the alternatives, and the number of the last batch."""
+        self.parents = {name: parent for _, name, parent in self.rows(b"alts")}
+        found = self.rows(b"checks " + OWN) if OWN in self.parents else []
+        self.kept = int(found[0][1]) if found else 0
+
+    def rows(self, line):
+        text = bytearray()
+        self.program.ask_rows(line, text.extend)
+        return [it.split(b" ") for it in bytes(text).split(b"\n")[:-2]]
+
+    def _begin(self):
+        """Makes the service's own alternative."""
+        answers = self.program.ask([b"new %s top" % OWN, b"checkpoint %s %d" % (OWN, self.kept), b"commit"])
+        if answers != [b"ok"] * 3:
+            self.program.end()
+            raise Fatal(f"the alternative {OWN.decode()} cannot be made: {b', '.join(answers).decode()}")
+        self.parents[OWN] = b"top"
+
+    def _reopen(self):
+        """Starts the program again: what was not committed is gone. What the journal has above that is not in the store."""
+        self.program.end(kills=True)
+        self._open()
+        try:
+            self.journal.opened(self.kept)
+        except (OSError, Broken) as fault:
+            raise Fatal(f"{self.file}.journal: {fault}") from None
+
+    def _undo(self):
+        """Takes back all that is not committed."""
+        if self.has_rollback and self.program.ask([b"rollback"]) == [b"ok"]:
+            self._look()
+        else:
+            self.program.end()
+            self._open()
+
+    def end(self):
+        status = self.program.end()
+        self.journal.close()
+        return status
+
+    # --- queries ----------------------------------------------------------------------------------
+
+    def ask(self, lines):
+        """The answers to queries that have one line of answer each."""
+        for _ in range(TRIES):
+            try:
+                return self.program.ask(lines)
+            except Ended:
+                self._reopen()
+        return [refusal(99)] * len(lines)
+
+    def ask_rows(self, line, take):
+        """Hands the answer to a query on. False where the program ended before it was whole."""
+        try:
+            self.program.ask_rows(line, take)
+            return True
+        except Ended:
+            self._reopen()
+            return False
+
+    # --- batches ----------------------------------------------------------------------------------
+
+    def carry_out(self, batches):
+        """Has batches carried out, and made durable by one commit. Where they are several, each has one line."""
+        self._try(batches)
+        for batch in batches:
+            # The program had ended: what was not at fault is carried out now, and each by itself, as any may have been it.
+            for _ in range(TRIES):
+                if not batch.is_settled():
+                    self._try([batch])
+            if not batch.is_settled():
+                batch.refuse(batch.count, refusal(99))
+
+    def _try(self, batches):
+        """Leaves those unsettled that are not done as the program ended."""
+        last = self.journal.next + len(batches) - 1
+        try:
+            self._attempt(batches, last)
+        except Ended as ended:
+            is_asked = self.journal.next > last
+            self._reopen()
+            if is_asked and self.kept == last:
+                return
+            for batch in batches:
+                batch.answers = None
+            settle_failed(batches, ended.answers, is_asked)
+
+    def _attempt(self, batches, last):
+        lines = [line for batch in batches for line in batch.lines]
+        stamp = [b"drop " + OWN, b"new %s top" % OWN, b"checkpoint %s %d" % (OWN, last)]
+        answers = self.program.ask(lines + stamp)
+        fault = next((it for it in answers[len(lines) :] if it != b"ok"), None)
+        at = 0
+        for batch in batches:
+            at += batch.take_answers(answers[at : at + len(batch.lines)], fault)
+        done = [(number, it) for number, it in enumerate(batches, self.journal.next) if it.refused is None]
+        if done:
+            self._commit(done, last)
+        elif fault or len(lines) > len(batches):
+            # A refused line has changed nothing, but those before it in its batch have.
+            self._undo()
+
+    def _commit(self, done, last):
+        try:
+            time = now()
+            self.journal.write([self._entry(number, time, batch) for number, batch in done], last)
+        except Broken as fault:
+            raise Fatal(f"{self.file}.journal: {fault}") from None
+        except OSError as fault:
+            self._undo()
+            for _, batch in done:
+                batch.refuse(batch.count, refusal(97, errno.errorcode[fault.errno]))
+            return
+        answers = self.program.ask([b"commit"])
+        if answers != [b"ok"]:
+            raise Ended(answers)
+        self.kept = last
+        self.journal.done(last)
+
+    def _entry(self, number, time, batch):
+        """The line of the journal for a batch that has its answers. The tree of alternatives follows it."""
+        touched, records = set(), 0
+        for line, answer in zip(batch.lines, batch.answers):
+            verb, *words = line.split(b" ")
+            if verb in (b"put", b"remove"):
+                records += 1
+            elif verb == b"merge":
+                records += int(answer.split(b" ")[1])
+            elif verb == b"new":
+                self.parents[words[0]] = words[1]
+            elif verb == b"drop":
+                del self.parents[words[0]]
+            elif verb == b"post":
+                touched.add(self.parents[words[0]].decode())
+            if words and verb != b"grow":
+                touched.add(words[0].decode())
+        return entry(number, time, batch.person, touched, records, map(printable, batch.lines))
+
+    # --- copies -----------------------------------------------------------------------------------
+
+    def backup(self, name):
+        """Makes a copy of the store in FILE.backups: durable, and under its name only once it is whole."""
+        folder = f"{self.file}.backups"
+        part = f"{folder}/.{name}.{os.getpid()}"
+        begun = time.monotonic()
+        try:
+            os.makedirs(folder, mode=0o700, exist_ok=True)
+            self._copy(part)
+            size = synced(part)
+            os.replace(part, f"{folder}/{name}")
+            sync_folder(part)
+        except OSError as fault:
+            if os.path.lexists(part):
+                os.unlink(part)
+            return refusal(98, errno.errorcode.get(fault.errno, "EIO"))
+        return b"ok %d %.3f" % (size, time.monotonic() - begun)
+
+    def _copy(self, part):
+        """By the program where it can, and else as the file lies there: nothing uncommitted is in it."""
+        if self.has_copy:
+            status = quietly([self.altctl, "copy", "--", self.file, part])
+            self.has_copy = status != 2
+            if status == 0:
+                return
+        if self.has_copy or quietly(["cp", "--reflink=auto", "--", self.file, part]):
+            raise OSError(errno.EIO, "it could not be copied")
+
+
+def settle_failed(batches, answers, is_asked):
+    """Refuses those that the program ended at with an answer: a batch of whose lines one was answered so, or all."""
+    if not answers or not answers[-1].startswith(b"error "):
+        return
+    place = len(answers) - 1
+    for batch in batches:
+        if not is_asked and place < batch.count:
+            batch.refuse(place, answers[-1])
+            return
+        place -= batch.count
+    for batch in batches:
+        batch.refuse(batch.count, answers[-1])
+
+
+def quietly(words):
+    return subprocess.run(words, stdin=subprocess.DEVNULL, stdout=subprocess.DEVNULL, stderr=subprocess.DEVNULL).returncode
+
+
+def synced(path):
+    """Makes a file durable, and gives its size."""
+    file = os.open(path, os.O_RDONLY)
+    try:
+        os.fsync(file)
+        return os.fstat(file).st_size
+    finally:
+        os.close(file)

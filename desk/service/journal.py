@@ -1,0 +1,186 @@
+"""The journal of a store: who changed what, and when, in lines of JSON.
+
+A batch has a line before its commit is asked for, synced; `done` follows it. `opened` is written when the program has been
+started: it tells which batch is the last one that the store holds, and none of the lines above it with a higher number is in
+the store. So line and store cannot disagree, wherever a crash came."""
+import json
+import mmap
+import os
+import time
+from collections import deque
+from json.encoder import encode_basestring_ascii as quoted
+
+
+def now():
+    at = time.time()
+    return time.strftime("%Y-%m-%dT%H:%M:%S", time.gmtime(at)) + f".{int(at * 1000) % 1000:03d}Z"
+
+
+class Broken(Exception):
+    """A journal that can be written no longer: what of it is durable isn't known."""
+
+
+class Journal:
+    """The file, open to be written. Its end is whole: what is written in part is taken away again."""
+
+    def __init__(self, path, say):
+        self.file = os.open(path, os.O_RDWR | os.O_CREAT | os.O_APPEND | os.O_CLOEXEC, 0o600)
+        sync_folder(path)
+        whole, last = whole_end(self.file)
+        self.end = os.fstat(self.file).st_size
+        if whole < self.end:
+            say(f"{path}: its last {self.end - whole} bytes are no whole line, and are cut off")
+            os.ftruncate(self.file, whole)
+            self.end = whole
+        # The numbers of batches go on from here.
+        self.next = 1 if last is None else next_number(last)
+
+    def opened(self, kept):
+        """Tells that the store holds the batches up to this one."""
+        self.next = max(self.next, kept + 1)
+        line = {"opened": now(), "last": kept, "next": self.next}
+        self._append(json.dumps(line, separators=(",", ":")) + "\n")
+        self._sync()
+
+    def write(self, entries, last):
+        """Makes the lines of batches durable, which have numbers up to this one. Raises OSError where there is no room for them, and
+        nothing of them stays then."""
+        self._append("".join(entries))
+        self._sync()
+        self.next = last + 1
+
+    def done(self, number):
+        """Tells that the store holds this batch. The next sync makes that durable, and a start finds it out without."""
+        try:
+            self._append(f'{{"done":{number}}}\n')
+        except OSError:
+            pass
+
+    def _append(self, text):
+        text = text.encode("ascii")
+        try:
+            written = 0
+            while written < len(text):
+                written += os.write(self.file, text[written:])
+            self.end += written
+        except OSError:
+            os.ftruncate(self.file, self.end)
+            raise
+
+    def _sync(self):
+        try:
+            os.fdatasync(self.file)
+        except OSError as fault:
+            raise Broken(f"the journal could not be synced: {fault}") from None
+
+    def close(self):
+        os.close(self.file)
+
+
+def entry(number, time, person, touched, records, lines):
+    """The line of a batch: its alternatives, how many records it changed, and its lines as texts."""
+    names = ",".join(quoted(it) for it in sorted(touched))
+    texts = ",".join(quoted(it) for it in lines)
+    who = f'"time":"{time}","uid":{person.uid},"who":{quoted(person.name)}'
+    return f'{{"batch":{number},{who},"alternatives":[{names}],"records":{records},"lines":[{texts}]}}\n'
+
+
+def sync_folder(path):
+    """Makes the name of a file durable."""
+    folder = os.open(os.path.dirname(os.path.abspath(path)), os.O_RDONLY | os.O_DIRECTORY)
+    try:
+        os.fsync(folder)
+    finally:
+        os.close(folder)
+
+
+def whole_end(file):
+    """Where the last whole line ends, and this line."""
+    size = os.fstat(file).st_size
+    if not size:
+        return 0, None
+    with mmap.mmap(file, size, prot=mmap.PROT_READ) as text:
+        end = text.rfind(b"\n") + 1
+        while end:
+            begin = text.rfind(b"\n", 0, end - 1) + 1
+            line = parsed(text[begin:end])
+            if line is not None:
+                return end, line
+            end = begin
+    return 0, None
+
+
+def parsed(line):
+    """A line of the journal, or None where it is none."""
+    try:
+        line = json.loads(line)
+    except ValueError:
+        return None
+    return line if isinstance(line, dict) and line.keys() & {"batch", "done", "opened"} else None
+
+
+def next_number(line):
+    return line["next"] if "opened" in line else 1 + line.get("batch", line.get("done", 0))
+
+
+# --- reading it -----------------------------------------------------------------------------------
+
+
+def kept_batches(path):
+    """The batches that the store holds, in order. One whose commit is under way is not among them, nor one that is gone since the
+    file of the store was replaced by an earlier one."""
+    size = os.path.getsize(path)
+    opened = [line["last"] for line in lines_of(path, size, b'{"opened"')]
+    # Of the batches before an opening those are there that this one and each later one has found.
+    for at in range(len(opened) - 1, 0, -1):
+        opened[at - 1] = min(opened[at - 1 : at + 1])
+    opened = deque(opened)
+    waiting = []
+    for line in lines_of(path, size):
+        if "batch" in line:
+            waiting.append(line)
+            continue
+        last = opened.popleft() if "opened" in line else min([line["done"], *list(opened)[:1]])
+        yield from (it for it in waiting if it["batch"] <= last)
+        waiting.clear()
+
+
+def lines_of(path, size, begins=b""):
+    """The lines of a journal that end within its first bytes."""
+    with open(path, "rb") as file:
+        for text in file:
+            size -= len(text)
+            line = parsed(text) if size >= 0 and text.startswith(begins) else None
+            if line is not None:
+                yield line
+
+
+def may_change(line, table, number):
+    """Whether a line may change this record: it names it, or changes an alternative as a whole."""
+    words = line.split(" ")
+    if words[0] in ("put", "remove"):
+        return words[2:4] == [table, number]
+    return words[0] in ("merge", "post", "back", "new", "drop")
+
+
+def entries(path, planner=None, alternative=None, record=None, last=None):
+    """The lines of batches that the store holds, as texts: number of the batch, time, planner, line."""
+    table, number = record.split(":") if record else (None, None)
+    found = deque(maxlen=last)
+    for batch in kept_batches(path):
+        if planner not in (None, batch["who"], str(batch["uid"])):
+            continue
+        if alternative is not None and alternative not in batch["alternatives"]:
+            continue
+        for line in batch["lines"]:
+            if alternative is not None and not is_about(line, alternative, batch):
+                continue
+            if record is None or may_change(line, table, number):
+                found.append(f"entry {batch['batch']} {batch['time']} {batch['who']} {line}")
+    return found
+
+
+def is_about(line, alternative, batch):
+    """Whether a line of a batch changes an alternative: it names it, or may post into it."""
+    words = line.split(" ")
+    return alternative in words[1:2] or (words[0] == "post" and alternative in batch["alternatives"])

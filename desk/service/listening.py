@@ -1,0 +1,61 @@
+"""The socket that planners come to: one of the service's own, or the one that systemd has made."""
+import contextlib
+import os
+import shutil
+import socket
+import stat
+
+from service import limits
+
+# The first descriptor that systemd hands over.
+HANDED_OVER = 3
+
+
+class Occupied(Exception):
+    """Something else is where the socket is to be."""
+
+
+@contextlib.contextmanager
+def listening(path, group=None):
+    """The listening socket. One that was made is taken away at the end."""
+    if os.environ.get("LISTEN_PID") == str(os.getpid()) and os.environ.get("LISTEN_FDS") == "1":
+        with socket.socket(fileno=HANDED_OVER) as listener:
+            os.set_inheritable(HANDED_OVER, False)
+            yield listener
+        return
+    make_free(path)
+    with socket.socket(socket.AF_UNIX) as listener:
+        # It has its mode from the beginning: there is no moment at which others reach it.
+        before = os.umask(0o177)
+        try:
+            listener.bind(path)
+        finally:
+            os.umask(before)
+        if group is not None:
+            shutil.chown(path, group=group)
+            os.chmod(path, 0o660)
+        listener.listen(limits.PLANNERS)
+        made = os.stat(path).st_ino
+        try:
+            yield listener
+        finally:
+            with contextlib.suppress(FileNotFoundError):
+                if os.stat(path).st_ino == made:
+                    os.unlink(path)
+
+
+def make_free(path):
+    """Takes away the socket of a service that was killed. Anything else stays."""
+    try:
+        is_socket = stat.S_ISSOCK(os.lstat(path).st_mode)
+    except FileNotFoundError:
+        return
+    if not is_socket:
+        raise Occupied(f"{path} is there, and is no socket")
+    with socket.socket(socket.AF_UNIX) as other:
+        try:
+            other.connect(path)
+        except ConnectionRefusedError:
+            os.unlink(path)
+        else:
+            raise Occupied(f"{path}: another service listens there")

@@ -1,0 +1,276 @@
+"""A planner at the other end of a socket: lines that came, answers that wait."""
+import selectors
+import tempfile
+import time
+from collections import deque
+
+from service import limits
+from service.batches import Batch
+from service.limits import BAD_LINE, LONG_LINE, refusal
+from service.lines import OWN, OWN_WORDS, RIGHTS, ROWS, SINGLE, alternative_of, names_own, words_of
+
+# So many answers on rights are kept for a planner.
+MOST_DENIALS = 1000
+
+# What a planner waits for, in the order of the lines: an answer that is known already (bytes), a Batch, or one of these.
+
+
+class Query:
+    def __init__(self, line, has_rows):
+        self.line, self.has_rows = line, has_rows
+
+
+class Word:
+    """A line that the service itself answers."""
+
+    def __init__(self, words):
+        self.words = words
+
+
+class Unread:
+    """Answers that are not sent yet: the first of them in memory, and where they are many the others in a file without a name."""
+
+    def __init__(self):
+        self.memory, self.file, self.begin, self.end = bytearray(), None, 0, 0
+
+    def add(self, text):
+        if self.file is None and len(self.memory) + len(text) <= limits.UNREAD_BYTES:
+            self.memory += text
+            return
+        if self.file is None:
+            self.file, self.begin, self.end = tempfile.TemporaryFile(buffering=0), 0, 0
+        self.file.seek(self.end)
+        self.end += self.file.write(text)
+
+    def send(self, connection):
+        """Sends what the other end takes now."""
+        while self.memory:
+            sent = connection.send(self.memory)
+            del self.memory[:sent]
+            if not self.memory and self.file is not None:
+                self._refill()
+
+    def _refill(self):
+        self.file.seek(self.begin)
+        self.memory += self.file.read(limits.UNREAD_BYTES)
+        self.begin += len(self.memory)
+        if self.begin == self.end:
+            self.file.close()
+            self.file = None
+
+    def __bool__(self):
+        return bool(self.memory)
+
+    def close(self):
+        self.memory.clear()
+        if self.file is not None:
+            self.file.close()
+
+
+class Planner:
+    def __init__(self, server, connection, person):
+        self.server, self.connection, self.person = server, connection, person
+        self.rest, self.skips, self.has_ended, self.is_closed = b"", False, False, False
+        self.requests, self.waiting_bytes = deque(), 0
+        self.batch, self.denials = None, {}
+        self.unread, self.read_last = Unread(), 0.0
+        self.job, self.watched = None, 0
+
+    def handle(self, events):
+        if events & selectors.EVENT_READ:
+            self.receive()
+        self.send()
+
+    # --- lines that come --------------------------------------------------------------------------
+
+    def receive(self):
+        try:
+            came = self.connection.recv(256 << 10)
+        except BlockingIOError:
+            return
+        except OSError:
+            self.close()
+            return
+        if not came:
+            self._end()
+            return
+        if self.skips or len(self.rest) + len(came) > limits.LINE_BYTES:
+            self._receive_long(came)
+            return
+        *lines, self.rest = (self.rest + came).split(b"\n")
+        for line in lines:
+            self._take(line)
+
+    def _receive_long(self, came):
+        """As `receive`, where a line may be too long: what is above the limit is not kept."""
+        *lines, rest = came.split(b"\n")
+        for line in lines:
+            if self.skips or len(self.rest) + len(line) > limits.LINE_BYTES:
+                self._refuse(LONG_LINE)
+            else:
+                self._take(self.rest + line)
+            self.rest, self.skips = b"", False
+        self.skips = self.skips or len(self.rest) + len(rest) > limits.LINE_BYTES
+        self.rest = b"" if self.skips else self.rest + rest
+
+    def _end(self):
+        """No more lines come. One that lacks its end is not carried out, as it may be the beginning of a longer one."""
+        self.has_ended = True
+        if self.rest or self.skips:
+            self._refuse(refusal(96))
+        if self.batch is not None:
+            self._forget(refusal(92))
+
+    def _take(self, line):
+        words = words_of(line)
+        if not words:
+            return
+        verb = words[0]
+        if self.batch is not None:
+            self._hold(verb, words)
+        elif verb in RIGHTS:
+            self._add(self._refusal_of(words) or Batch(self.person, [b" ".join(words)]))
+        elif verb in SINGLE or verb in ROWS:
+            self._add(Query(b" ".join(words), verb in ROWS))
+        elif words == [b"begin"]:
+            self.batch = Batch(self.person, is_explicit=True)
+            self._add(b"ok")
+        elif words in ([b"commit"], [b"abort"], [b"rollback"]):
+            # Each line before was a batch of its own: it is committed, and nothing is left to be taken back.
+            self._add(b"ok")
+        elif verb in OWN_WORDS:
+            self._add(Word(words))
+        else:
+            self._add(BAD_LINE)
+
+    def _hold(self, verb, words):
+        """A line in a batch that is held."""
+        batch, line = self.batch, b" ".join(words)
+        if words == [b"commit"]:
+            self.batch = None
+            self._count(-batch.size)
+            self._add(batch)
+        elif words in ([b"abort"], [b"rollback"]):
+            self._forget(refusal(92))
+            self._add(b"ok")
+        elif verb not in RIGHTS:
+            self._refuse(refusal(93) if verb in SINGLE or verb in ROWS or verb in OWN_WORDS else BAD_LINE)
+        elif batch.count >= limits.BATCH_LINES or batch.size + len(line) > limits.BATCH_BYTES:
+            self._refuse(refusal(94))
+            if batch.count > 2 * limits.BATCH_LINES:
+                self.close()
+        else:
+            refused = self._refusal_of(words)
+            if refused is not None:
+                self._refuse(refused)
+            else:
+                self._count(-batch.size)
+                batch.hold(line)
+                self._count(batch.size)
+
+    def _refuse(self, answer):
+        """Refuses a line, and so the batch that it is in."""
+        if self.batch is None:
+            self._add(answer)
+            return
+        self._count(-self.batch.size)
+        self.batch.refuse(self.batch.count, answer)
+        self.batch.count += 1
+
+    def _forget(self, answer):
+        """Forgets the batch: each of its lines is answered so."""
+        batch, self.batch = self.batch, None
+        self._count(-batch.size)
+        for _ in range(batch.count):
+            self._add(answer)
+
+    def forget_if_late(self, now):
+        """Refuses a batch that was held for too long."""
+        if self.batch is not None and now - self.batch.begun > limits.HELD_SECONDS:
+            self._count(-self.batch.size)
+            self.batch.refuse(self.batch.count, refusal(95))
+
+    def _refusal_of(self, words):
+        """Why a change is refused before the program sees it: for its form, its right, or what all planners have waiting."""
+        right, alternative = RIGHTS[words[0]], alternative_of(words)
+        if alternative == b"":
+            return BAD_LINE
+        if names_own(words):
+            return refusal(90, right, OWN.decode())
+        if self.server.held_bytes > limits.HELD_BYTES:
+            return refusal(94)
+        if (right, alternative) not in self.denials:
+            if len(self.denials) > MOST_DENIALS:
+                self.denials.clear()
+            denial = self.server.rules.denial(self.person, right, alternative)
+            self.denials[right, alternative] = None if denial is None else refusal(90, *denial)
+        return self.denials[right, alternative]
+
+    def _add(self, request):
+        self.requests.append(request)
+        if isinstance(request, Batch):
+            self._count(request.size)
+        self.server.waiting[self] = None
+
+    def _count(self, size):
+        self.server.held_bytes += size
+
+    # --- answers that go --------------------------------------------------------------------------
+
+    def is_ready(self):
+        """Whether its next line can be carried out. One who has not read the answers to others has to wait."""
+        return bool(self.requests) and self.job is None and self.unread.file is None and not self.is_closed
+
+    def next_request(self):
+        """Takes the first of what the planner waits for."""
+        request = self.requests.popleft()
+        if isinstance(request, Batch):
+            self._count(-request.size)
+        return request
+
+    def answer(self, text):
+        if not self.unread:
+            self.read_last = time.monotonic()
+        self.unread.add(text)
+        self.server.touched[self] = None
+
+    def send(self):
+        """Sends what waits, as far as the other end takes it."""
+        if self.unread:
+            try:
+                self.unread.send(self.connection)
+                self.read_last = time.monotonic()
+            except BlockingIOError:
+                pass
+            except OSError:
+                self.close()
+                return
+        self.watch()
+
+    def watch(self):
+        """Has the server look for what can go on: lines, where there is room for them, and answers, where some wait."""
+        if self.is_closed:
+            return
+        if self.has_ended and not self.requests and self.job is None and not self.unread:
+            self.close()
+            return
+        has_room = len(self.requests) < limits.WAITING_LINES and self.unread.file is None
+        reads = selectors.EVENT_READ if has_room and not self.has_ended else 0
+        self.server.watch(self, reads | (selectors.EVENT_WRITE if self.unread else 0))
+
+    def close_if_late(self, now):
+        """Closes the connection of one who does not read."""
+        if self.unread and now - self.read_last > limits.UNREAD_SECONDS:
+            self.close()
+
+    def close(self):
+        if self.is_closed:
+            return
+        self.is_closed = True
+        self.server.watch(self, 0)
+        self.connection.close()
+        self._count(-sum(it.size for it in [*self.requests, self.batch] if isinstance(it, Batch)))
+        self.requests.clear()
+        self.batch = None
+        self.unread.close()
+        self.server.forget(self)

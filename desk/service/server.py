@@ -1,0 +1,255 @@
+"""The service: planners' connections, and rounds in which what they wait for is carried out, one after another.
+
+It is one thread. While the program is at work, lines of other planners wait in their sockets: they are the next group."""
+import os
+import re
+import selectors
+import signal
+import socket
+import subprocess
+import sys
+import time
+
+from service import limits
+from service.batches import Batch, Fatal
+from service.limits import BAD_LINE, refusal
+from service.planner import Planner, Query, Word
+from service.rules import Rules, Unreadable, person_of
+
+BACKUP = re.compile(rb"[A-Za-z0-9_][A-Za-z0-9_.-]{0,31}")
+FILTER = re.compile(rb"(planner|alternative|record|last)=[!-~]+")
+# How often it is looked who is late.
+TICK = 1.0
+# A group waits for others for this part of the time that the last one took.
+GATHER, GATHER_STEP = 0.1, 20e-6
+
+
+class Log:
+    """A process that reads the journal for a planner, while others go on."""
+
+    def __init__(self, server, planner, filters):
+        words = [sys.executable, sys.argv[0], "log", *(f"--{it.decode()}" for it in filters), "--", server.batches.file]
+        self.server, self.planner = server, planner
+        self.process = subprocess.Popen(words, stdin=subprocess.DEVNULL, stdout=subprocess.PIPE, stderr=subprocess.DEVNULL)
+        server.selector.register(self.process.stdout, selectors.EVENT_READ, self.take)
+        planner.job = self
+
+    def take(self, _events):
+        came = os.read(self.process.stdout.fileno(), 256 << 10)
+        if self.planner.is_closed:
+            self.process.kill()
+        elif came:
+            self.planner.answer(came)
+            return
+        self.server.selector.unregister(self.process.stdout)
+        self.process.stdout.close()
+        if self.process.wait() and not self.planner.is_closed:
+            self.planner.answer(BAD_LINE + b"\n")
+        self.planner.job = None
+        self.server.waiting[self.planner] = self.server.touched[self.planner] = None
+
+
+class Server:
+    def __init__(self, listener, batches, rules, say):
+        self.listener, self.batches, self.rules, self.say = listener, batches, rules, say
+        self.selector = selectors.DefaultSelector()
+        self.planners, self.held_bytes, self.ends = {}, 0, False
+        # Planners in the order in which they came to wait, and those who have something to be sent.
+        self.waiting, self.touched = {}, {}
+        # The next group may wait for so many planners up to this time.
+        self.expected, self.gathers_until = 0, 0.0
+        listener.setblocking(False)
+        self.selector.register(listener, selectors.EVENT_READ, self._accept)
+        self._catch_signals()
+
+    def _catch_signals(self):
+        """TERM and INT end the service, after what is at work. HUP reads the rules anew."""
+        woken, waker = socket.socketpair()
+        for it in (woken, waker):
+            it.setblocking(False)
+        signal.set_wakeup_fd(waker.fileno())
+        self.waker = waker
+        self.selector.register(woken, selectors.EVENT_READ, lambda _: woken.recv(4096))
+        for it in (signal.SIGTERM, signal.SIGINT):
+            signal.signal(it, self._end)
+        signal.signal(signal.SIGHUP, self._read_rules)
+
+    def _end(self, *_):
+        self.ends = True
+
+    def _read_rules(self, *_):
+        try:
+            self.rules = Rules(self.rules.path)
+        except Unreadable as fault:
+            self.say(f"{fault}: the rules stay as they were")
+            return
+        for planner in self.planners:
+            planner.denials.clear()
+
+    # --- connections ------------------------------------------------------------------------------
+
+    def _accept(self, _events):
+        try:
+            connection, _ = self.listener.accept()
+        except OSError:
+            return
+        connection.setblocking(False)
+        try:
+            person = person_of(connection)
+        except OSError:
+            connection.close()
+            return
+        of_one = sum(it.person.uid == person.uid for it in self.planners)
+        if len(self.planners) >= limits.PLANNERS or of_one >= limits.PLANNERS_OF_ONE:
+            connection.send(refusal(100) + b"\n")
+            connection.close()
+            return
+        planner = Planner(self, connection, person)
+        self.planners[planner] = None
+        planner.watch()
+
+    def watch(self, planner, events):
+        """Looks for these events of a planner's connection from now on."""
+        if events == planner.watched:
+            return
+        if not events:
+            self.selector.unregister(planner.connection)
+        elif not planner.watched:
+            self.selector.register(planner.connection, events, planner.handle)
+        else:
+            self.selector.modify(planner.connection, events, planner.handle)
+        planner.watched = events
+
+    def forget(self, planner):
+        for it in (self.planners, self.waiting, self.touched):
+            it.pop(planner, None)
+
+    # --- rounds -----------------------------------------------------------------------------------
+
+    def run(self):
+        """Serves until a signal ends it. Raises Fatal where the store is lost to it."""
+        looked = time.monotonic()
+        while not self.ends:
+            for key, events in self.selector.select(0 if any(it.is_ready() for it in self.waiting) else TICK):
+                key.data(events)
+            now = time.monotonic()
+            if now < self.gathers_until and self._gathers():
+                time.sleep(GATHER_STEP)
+                continue
+            self._round()
+            if now - looked > TICK:
+                looked = now
+                for planner in list(self.planners):
+                    planner.forget_if_late(now)
+                    planner.close_if_late(now)
+
+    def _round(self):
+        """Takes each planner who waits one step on: queries, then batches of one line, then others one by one."""
+        ready = [it for it in self.waiting if it.is_ready()]
+        self._answer_queries(ready)
+        self._commit_group(ready)
+        for planner in ready:
+            if planner.is_ready():
+                self._carry_out(planner)
+        self._send()
+        self.waiting = {it: None for it in self.waiting if it.requests}
+
+    def _gathers(self):
+        """Whether it is worth to wait for more batches before the next commit."""
+        ready = [it for it in self.waiting if it.is_ready()]
+        return 0 < len(ready) < self.expected and all(is_single(it.requests[0]) for it in ready)
+
+    def _answer_queries(self, ready):
+        asked = []
+        for planner in ready:
+            taken = 0
+            while planner.requests and taken < limits.GROUP_OF_ONE and is_short(planner.requests[0]):
+                asked.append((planner, planner.next_request()))
+                taken += 1
+        answers = self.batches.ask([it.line for _, it in asked if not isinstance(it, bytes)])
+        at = 0
+        for planner, it in asked:
+            if isinstance(it, bytes):
+                planner.answer(it + b"\n")
+            else:
+                planner.answer(answers[at] + b"\n")
+                at += 1
+
+    def _commit_group(self, ready):
+        """Has batches of one line carried out and committed together."""
+        group = []
+        for planner in ready:
+            taken = 0
+            while planner.requests and taken < limits.GROUP_OF_ONE and len(group) < limits.GROUP and is_single(planner.requests[0]):
+                group.append((planner, planner.next_request()))
+                taken += 1
+        if not group:
+            return
+        begun = time.monotonic()
+        self.batches.carry_out([batch for _, batch in group])
+        for planner, batch in group:
+            planner.answer(batch.text())
+        # Those who have their answer write their next line at once, if at all: waiting a little for them makes one group of two.
+        now = time.monotonic()
+        self.expected = len({planner for planner, _ in group} | self.waiting.keys())
+        self.gathers_until = now + GATHER * (now - begun)
+
+    def _carry_out(self, planner):
+        """Carries out a planner's next line, if it is none of a group."""
+        request = planner.requests[0]
+        if is_short(request) or is_single(request):
+            return
+        planner.next_request()
+        if isinstance(request, Batch):
+            if request.lines:
+                self.batches.carry_out([request])
+            planner.answer(request.text())
+        elif isinstance(request, Query):
+            if not self.batches.ask_rows(request.line, planner.answer):
+                planner.close()
+        else:
+            self._answer_word(planner, request.words)
+
+    def _answer_word(self, planner, words):
+        verb, *others = words
+        person = planner.person
+        if verb == b"whoami" and not others:
+            planner.answer(" ".join(["planner", person.name, str(person.uid), *sorted(person.groups)]).encode() + b"\n")
+        elif verb == b"log" and all(map(FILTER.fullmatch, others)):
+            Log(self, planner, others)
+        elif verb == b"backup" and len(others) == 1 and BACKUP.fullmatch(others[0]):
+            denial = self.rules.denial(person, "backup")
+            answer = self.batches.backup(others[0].decode()) if denial is None else refusal(90, *denial)
+            planner.answer(answer + b"\n")
+        else:
+            planner.answer(BAD_LINE + b"\n")
+
+    def _send(self):
+        touched, self.touched = self.touched, {}
+        for planner in touched:
+            planner.send()
+
+    # --- the end ----------------------------------------------------------------------------------
+
+    def close(self):
+        """Refuses what still waits, and closes all connections."""
+        for planner in list(self.planners):
+            for request in planner.requests:
+                if isinstance(request, Batch) and request.is_explicit:
+                    request.refuse(request.count, refusal(99))
+                    planner.answer(request.text())
+                else:
+                    planner.answer(request + b"\n" if isinstance(request, bytes) else refusal(99) + b"\n")
+            planner.requests.clear()
+            planner.send()
+            planner.close()
+        self.listener.close()
+
+
+def is_short(request):
+    """Whether it has one line of answer that is known, or that the program gives at once."""
+    return isinstance(request, bytes) or isinstance(request, Query) and not request.has_rows
+
+
+def is_single(request):
+    return isinstance(request, Batch) and len(request.lines) == 1
