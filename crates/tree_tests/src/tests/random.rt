@@ -362,7 +362,11 @@ fn agrees_at_the_sizes_of_the_store(rt: HostRuntime) -> Result<(), Fail> {
     let mut pair = Pair::new(rt.alloc(), 1, 16_384)?;
     pair.run::<16, 256, 8>(rt.alloc())?;
     let is_so = pair.markings > 0 && pair.top == 2 && pair.deeps == 0;
-    assert!(rt; is_so, "{} markings, top {}, {} times Deep", pair.markings, pair.top, pair.deeps);
+    assert!(rt;
+        is_so,
+        "{} markings, top {}, {} times Deep",
+        pair.markings, pair.top, pair.deeps
+    );
     Ok(())
 }
 
@@ -371,7 +375,11 @@ fn agrees_where_small_blocks_make_a_tree_deep(rt: HostRuntime) -> Result<(), Fai
     let mut pair = Pair::new(rt.alloc(), 2, 4_096)?;
     pair.run::<3, 3, 8>(rt.alloc())?;
     let is_so = pair.markings > 0 && pair.top == 7 && pair.deeps > 0;
-    assert!(rt; is_so, "{} markings, top {}, {} times Deep", pair.markings, pair.top, pair.deeps);
+    assert!(rt;
+        is_so,
+        "{} markings, top {}, {} times Deep",
+        pair.markings, pair.top, pair.deeps
+    );
     Ok(())
 }
 
@@ -380,6 +388,10 @@ fn agrees_with_few_keys_in_blocks_of_four(rt: HostRuntime) -> Result<(), Fail> {
     let mut pair = Pair::new(rt.alloc(), 3, 512)?;
     pair.run::<4, 4, 8>(rt.alloc())?;
     let is_so = pair.markings > 0 && pair.deeps == 0;
-    assert!(rt; is_so, "{} markings, {} times Deep", pair.markings, pair.deeps);
+    assert!(rt;
+        is_so,
+        "{} markings, {} times Deep",
+        pair.markings, pair.deeps
+    );
     Ok(())
 }
