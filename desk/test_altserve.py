@@ -685,6 +685,23 @@ class StoreTests(ServiceTest):
         self.assertFalse(os.path.exists(self.socket))
         self.assertEqual(["record 1 1 a", "end 1"], self.altctl("list top"))
 
+    def test_a_store_that_is_lost(self):
+        program = f"{self.folder}/altctl"
+        os.symlink(os.path.abspath(ALTCTL), program)
+        self.start("--program", program)
+        with self.planner() as one, self.planner() as other:
+            with self.halted() as it:
+                one.send("put top 1 1 a", "put top 1 2 a")
+                time.sleep(0.3)
+                other.send("put top 1 3 a")
+                os.unlink(program)
+                os.kill(it, signal.SIGKILL)
+            # Nobody is told that something was made, or that it was not.
+            for planner in (one, other):
+                with contextlib.suppress(ConnectionResetError):
+                    self.assertEqual([""], planner.read())
+        self.assertEqual(3, self.service.wait(60))
+
     def test_memory_stays(self):
         self.start()
         with self.planner() as one:
@@ -894,6 +911,35 @@ class HostileTests(ServiceTest):
                 one.send("get top 1 1")
         self.assertLess(self.memory(), 64 << 20)
 
+    def test_a_planner_who_reads_slowly(self):
+        self.start(change="from service import limits, server\nlimits.UNREAD_SECONDS = 1\nserver.TICK = 0.2")
+        with self.planner() as one:
+            one.ask(*(f"put top 1 {n} {LONG}" for n in range(100)))
+            one.send(*["list top"] * 3)
+            came = b""
+            for _ in range(30):
+                time.sleep(0.1)
+                came += one.socket.recv(20_000)
+            self.assertEqual(3, (came + "\n".join(one.rest()).encode()).count(b"end 100"))
+
+    def test_a_planner_who_writes_no_lines_of_a_batch(self):
+        self.start_limited(BATCH_LINES=10)
+        with self.planner() as one:
+            self.assertEqual(["ok"], one.ask("begin"))
+            one.send(*["nonsense"] * 30)
+            self.assertEqual([], one.rest())
+
+    def test_many_ask_for_the_log(self):
+        self.start()
+        with contextlib.ExitStack() as stack:
+            planners = [stack.enter_context(self.planner()) for _ in range(12)]
+            self.assertEqual(["ok"], planners[0].ask("put top 1 1 a"))
+            for one in planners:
+                one.send("log", "get top 1 1", "log last=0")
+            planners.pop().socket.close()
+            for one in planners:
+                self.assertEqual(["end 1", "value a", "end 0"], one.read(4)[1:])
+
     def test_too_many_planners(self):
         self.start_limited(PLANNERS_OF_ONE=3)
         with contextlib.ExitStack() as stack:
@@ -930,15 +976,13 @@ class UnreadTests(unittest.TestCase):
                 unread.add(part)
                 sent += part
                 if number % 3 == 0:
-                    with contextlib.suppress(BlockingIOError):
-                        unread.send(one)
+                    unread.send(one)
                 if number % 2 == 0:
                     with contextlib.suppress(TimeoutError):
                         read += other.recv(70_000)
             self.assertIsNotNone(unread.file)
             while unread:
-                with contextlib.suppress(BlockingIOError):
-                    unread.send(one)
+                unread.send(one)
                 read += other.recv(1 << 20)
             one.close()
             while part := other.recv(1 << 20):

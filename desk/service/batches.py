@@ -86,7 +86,10 @@ class Batches:
 
     def _open(self):
         """Starts the program, and finds out which batch is the last one that the store holds."""
-        self.program = Program(self.words, self.lock)
+        try:
+            self.program = Program(self.words, self.lock)
+        except OSError as fault:
+            raise Fatal(f"{self.altctl} cannot be started: {fault}") from None
         try:
             self.has_rollback = self.program.ask([b"rollback"]) == [b"ok"]
             self._look()

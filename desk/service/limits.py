@@ -21,6 +21,8 @@ WAITING_LINES = 1024
 UNREAD_BYTES = 1 << 20
 # A planner who has read nothing for so many seconds while answers wait is closed.
 UNREAD_SECONDS = 60
+# Processes that read the journal for planners at once.
+LOGS = 4
 # How long a start waits for the lock, since the program of a service that was killed ends a moment after it.
 LOCK_SECONDS = 30
 

@@ -43,12 +43,18 @@ class Unread:
         self.end += self.file.write(text)
 
     def send(self, connection):
-        """Sends what the other end takes now."""
+        """Sends what the other end takes now, and gives how many bytes that are."""
+        total = 0
         while self.memory:
-            sent = connection.send(self.memory)
+            try:
+                sent = connection.send(self.memory)
+            except BlockingIOError:
+                break
             del self.memory[:sent]
+            total += sent
             if not self.memory and self.file is not None:
                 self._refill()
+        return total
 
     def _refill(self):
         self.file.seek(self.begin)
@@ -71,8 +77,7 @@ class Planner:
     def __init__(self, server, connection, person):
         self.server, self.connection, self.person = server, connection, person
         self.rest, self.skips, self.has_ended, self.is_closed = b"", False, False, False
-        self.requests, self.waiting_bytes = deque(), 0
-        self.batch, self.denials = None, {}
+        self.requests, self.batch, self.denials = deque(), None, {}
         self.unread, self.read_last = Unread(), 0.0
         self.job, self.watched = None, 0
 
@@ -85,7 +90,7 @@ class Planner:
 
     def receive(self):
         try:
-            came = self.connection.recv(256 << 10)
+            came = self.connection.recv(64 << 10)
         except BlockingIOError:
             return
         except OSError:
@@ -123,7 +128,7 @@ class Planner:
 
     def _take(self, line):
         words = words_of(line)
-        if not words:
+        if not words or self.is_closed:
             return
         verb = words[0]
         if self.batch is not None:
@@ -157,8 +162,6 @@ class Planner:
             self._refuse(refusal(93) if verb in SINGLE or verb in ROWS or verb in OWN_WORDS else BAD_LINE)
         elif batch.count >= limits.BATCH_LINES or batch.size + len(line) > limits.BATCH_BYTES:
             self._refuse(refusal(94))
-            if batch.count > 2 * limits.BATCH_LINES:
-                self.close()
         else:
             refused = self._refusal_of(words)
             if refused is not None:
@@ -176,6 +179,8 @@ class Planner:
         self._count(-self.batch.size)
         self.batch.refuse(self.batch.count, answer)
         self.batch.count += 1
+        if self.batch.count > 2 * limits.BATCH_LINES:
+            self.close()
 
     def _forget(self, answer):
         """Forgets the batch: each of its lines is answered so."""
@@ -229,6 +234,8 @@ class Planner:
         return request
 
     def answer(self, text):
+        if self.is_closed:
+            return
         if not self.unread:
             self.read_last = time.monotonic()
         self.unread.add(text)
@@ -238,10 +245,8 @@ class Planner:
         """Sends what waits, as far as the other end takes it."""
         if self.unread:
             try:
-                self.unread.send(self.connection)
-                self.read_last = time.monotonic()
-            except BlockingIOError:
-                pass
+                if self.unread.send(self.connection):
+                    self.read_last = time.monotonic()
             except OSError:
                 self.close()
                 return

@@ -25,35 +25,47 @@ GATHER, GATHER_STEP = 0.1, 20e-6
 
 
 class Log:
-    """A process that reads the journal for a planner, while others go on."""
+    """A process that reads the journal for a planner, while others go on. No more than some run at once."""
 
     def __init__(self, server, planner, filters):
-        words = [sys.executable, sys.argv[0], "log", *(f"--{it.decode()}" for it in filters), "--", server.batches.file]
-        self.server, self.planner = server, planner
-        self.process = subprocess.Popen(words, stdin=subprocess.DEVNULL, stdout=subprocess.PIPE, stderr=subprocess.DEVNULL)
-        server.selector.register(self.process.stdout, selectors.EVENT_READ, self.take)
+        self.server, self.planner, self.filters = server, planner, filters
         planner.job = self
+        server.logs.append(self)
+        if len(server.logs) <= limits.LOGS:
+            self.start()
+
+    def start(self):
+        words = [sys.executable, sys.argv[0], "log", *(f"--{it.decode()}" for it in self.filters), "--", self.server.batches.file]
+        self.process = subprocess.Popen(words, stdin=subprocess.DEVNULL, stdout=subprocess.PIPE, stderr=subprocess.DEVNULL)
+        self.server.selector.register(self.process.stdout, selectors.EVENT_READ, self.take)
 
     def take(self, _events):
         came = os.read(self.process.stdout.fileno(), 256 << 10)
-        if self.planner.is_closed:
-            self.process.kill()
-        elif came:
+        if came and not self.planner.is_closed:
             self.planner.answer(came)
             return
+        self.process.kill() if came else None
         self.server.selector.unregister(self.process.stdout)
         self.process.stdout.close()
-        if self.process.wait() and not self.planner.is_closed:
+        if self.process.wait():
             self.planner.answer(BAD_LINE + b"\n")
+        self._end()
+
+    def _end(self):
+        logs = self.server.logs
+        logs.remove(self)
+        if len(logs) >= limits.LOGS:
+            logs[limits.LOGS - 1].start()
         self.planner.job = None
-        self.server.waiting[self.planner] = self.server.touched[self.planner] = None
+        if not self.planner.is_closed:
+            self.server.waiting[self.planner] = self.server.touched[self.planner] = None
 
 
 class Server:
     def __init__(self, listener, batches, rules, say):
         self.listener, self.batches, self.rules, self.say = listener, batches, rules, say
         self.selector = selectors.DefaultSelector()
-        self.planners, self.held_bytes, self.ends = {}, 0, False
+        self.planners, self.logs, self.held_bytes, self.ends = {}, [], 0, False
         # Planners in the order in which they came to wait, and those who have something to be sent.
         self.waiting, self.touched = {}, {}
         # The next group may wait for so many planners up to this time.
@@ -127,7 +139,8 @@ class Server:
     # --- rounds -----------------------------------------------------------------------------------
 
     def run(self):
-        """Serves until a signal ends it. Raises Fatal where the store is lost to it."""
+        """Serves until a signal ends it. Raises Fatal where the store is lost to it: who waits for an answer then gets none, since
+        it isn't known whether the last commit was made."""
         looked = time.monotonic()
         while not self.ends:
             for key, events in self.selector.select(0 if any(it.is_ready() for it in self.waiting) else TICK):
@@ -231,17 +244,20 @@ class Server:
 
     # --- the end ----------------------------------------------------------------------------------
 
-    def close(self):
-        """Refuses what still waits, and closes all connections."""
+    def refuse_waiting(self):
+        """Refuses what waits, none of which was begun."""
         for planner in list(self.planners):
             for request in planner.requests:
-                if isinstance(request, Batch) and request.is_explicit:
+                if isinstance(request, Batch):
                     request.refuse(request.count, refusal(99))
                     planner.answer(request.text())
                 else:
                     planner.answer(request + b"\n" if isinstance(request, bytes) else refusal(99) + b"\n")
             planner.requests.clear()
             planner.send()
+
+    def close(self):
+        for planner in list(self.planners):
             planner.close()
         self.listener.close()
 
