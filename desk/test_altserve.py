@@ -38,6 +38,36 @@ CHANGED = "import runpy, sys\nsys.path[:0] = [{path!r}]\n{change}\nsys.argv[0] =
 LONG = "%00" * 4000
 
 
+# The program with two words of later versions: `rollback`, and `copy FROM TO`, which leaves a file NAME.copied behind.
+LATER = """#!{python}
+import shutil, subprocess, sys
+
+def start():
+    return subprocess.Popen([{altctl!r}, *sys.argv[1:]], stdin=subprocess.PIPE, stdout=subprocess.PIPE)
+
+if sys.argv[1] == "copy":
+    shutil.copy(sys.argv[-2], sys.argv[-1])
+    open(sys.argv[-2] + ".copied", "w").close()
+    sys.exit()
+program = start()
+for line in sys.stdin.buffer:
+    answer = b"ok\\n"
+    if line == b"rollback\\n":
+        program.communicate()
+        program = start()
+    else:
+        program.stdin.write(line)
+        program.stdin.flush()
+        answer = program.stdout.readline()
+        while answer.split()[0] in (b"record", b"alternative", b"checkpoint", b"change", b"conflict"):
+            sys.stdout.buffer.write(answer)
+            answer = program.stdout.readline()
+    sys.stdout.buffer.write(answer)
+    sys.stdout.buffer.flush()
+program.communicate()
+"""
+
+
 class Raw:
     """A planner by bytes."""
 
@@ -331,6 +361,22 @@ class BatchTests(ServiceTest):
             self.assertEqual(["alternative top ~", "alternative .service top", "end 2"], one.rows("alts"))
             self.assertEqual(["value b"], one.ask("get top 1 1"))
         self.assertEqual(["1 put top 1 1 a", "2 put top 1 1 b"], self.log())
+
+    def test_a_later_program_takes_back_and_copies_by_itself(self):
+        program = Path(self.folder, "later")
+        program.write_text(LATER.format(python=sys.executable, altctl=ALTCTL))
+        program.chmod(0o755)
+        self.start("--program", str(program))
+        with self.planner() as one:
+            process = self.program()
+            lines = ["begin", "new north top", "put north 7 1 a", "drop south", "commit"]
+            self.assertEqual(["ok", *["error 91 NotDone 3"] * 2, "error 1 NoSuchAlternative", "error 91 NotDone 3"], one.ask(*lines))
+            self.assertEqual(["alternative top ~", "alternative .service top", "end 2"], one.rows("alts"))
+            self.assertEqual(["ok"] * 4, one.ask("begin", *lines[1:3], "commit"))
+            self.assertEqual("ok", one.ask("backup a")[0].split()[0])
+            self.assertEqual(process, self.program())
+        self.assertTrue(os.path.exists(f"{self.file}.copied"))
+        self.assertEqual(["1 new north top", "1 put north 7 1 a"], self.log())
 
     def test_a_batch_is_forgotten(self):
         self.start()

@@ -13,8 +13,8 @@ from service.limits import refusal
 from service.lines import OWN, printable
 from service.program import Ended, Program
 
-# So often a batch that the program ended at is tried again, by itself.
-TRIES = 2
+# So often a batch that the program ended at is tried again, by itself, and a start that was ended by a signal.
+TRIES = 3
 
 
 class Fatal(Exception):
@@ -86,17 +86,21 @@ class Batches:
 
     def _open(self):
         """Starts the program, and finds out which batch is the last one that the store holds."""
-        try:
-            self.program = Program(self.words, self.lock)
-        except OSError as fault:
-            raise Fatal(f"{self.altctl} cannot be started: {fault}") from None
-        try:
-            self.has_rollback = self.program.ask([b"rollback"]) == [b"ok"]
-            self._look()
-            if OWN not in self.parents:
-                self._begin()
-        except Ended:
-            raise Fatal(f"altctl ended with status {self.program.end()} at its start") from None
+        for _ in range(TRIES):
+            try:
+                self.program = Program(self.words, self.lock)
+                self.has_rollback = self.program.ask([b"rollback"]) == [b"ok"]
+                self._look()
+                if OWN not in self.parents:
+                    self._begin()
+                return
+            except OSError as fault:
+                raise Fatal(f"{self.altctl} cannot be started: {fault}") from None
+            except Ended:
+                status = self.program.end()
+                if status >= 0:
+                    break
+        raise Fatal(f"altctl ended with status {status} at its start")
 
     def _look(self):
         """Reads the alternatives, and the number of the last batch."""
