@@ -14,7 +14,7 @@ use Rattle.vm_store.specs.declared.store.Store.{Store}
 use Rattle.vm_cli.specs.Carried.{WritesStart}
 use Rattle.vm_cli.specs.Feeding.{Fed, Writes}
 use Rattle.vm_cli.specs.Lines.{IsPart, lines_of, onto_first}
-use Rattle.vm_cli.specs.Talk.{Done, EndsTalk, HandlesLine, HasTalked, ServesLines, Stood, Stops, Talks, after_line, with_answer, with_command}
+use Rattle.vm_cli.specs.Talk.{Done, EndsTalk, HandlesLine, HasTalked, ServesLines, Stood, Talks, after_line, with_answer, with_command}
 use Rattle.vm_cli.specs.Replies.{is_error}
 use Rattle.vm_cli.specs.declared.talk.OnRefusal.{OnRefusal}
 use Rattle.vm_cli.specs.declared.talk.OnRefusal.TheVariants.{Stop}
@@ -167,7 +167,7 @@ module _ {D : Type 0} {members : _} where
           texts = ap (λ bs. text ++ bs) e.texts ∙ sym (append_assoc text e.earlier e.last);
           talked = talked-join old mid e.mid s on lines text first e.lines e.earlier then;
           handled = subst (λ t. HandlesLine e.mid new t e.line e.last ends) (sym state) e.handled;
-          stops = λ last. subst (λ t. Stops e.mid new t) (sym state) (e.stops last);
+          stops = e.stops;
         }
 
     begins-after : (a b c : Option (List ℕ)) (second : List ℕ) → Appends a b text → WritesStart b c second → WritesStart a c (text ++ second)

@@ -13,7 +13,7 @@ use Rattle.vm_cli.specs.Reading.{HoldsLine, KindHolds, without_return}
 use Rattle.vm_cli.specs.Replies.{ends_talk, is_error, reply_text}
 use Rattle.vm_cli.specs.Requests.{request_of}
 use Rattle.vm_cli.specs.Spaces.{words_of}
-use Rattle.vm_cli.specs.Talk.{Answered, AnsweredRequest, Done, Handled, HandlesLine, Meets, Passes, SaysFailed, Stood, Stops, answer_text, error_text}
+use Rattle.vm_cli.specs.Talk.{Answered, AnsweredRequest, Done, Failing, Handled, HandlesLine, Meets, Passes, SaysFailed, Stood, Stops, answer_text, error_text}
 use Rattle.vm_cli.specs.declared.lines.line.LineKind.TheVariants.{Kept, Long}
 use Rattle.vm_cli.specs.declared.lines.line.Line.{Line}
 use Rattle.vm_cli.specs.declared.answers.reply.Reply.{Reply}
@@ -21,7 +21,7 @@ use Rattle.vm_cli.specs.declared.answers.reply.Reply.TheVariants as reply
 use Rattle.vm_cli.specs.Asking.{Request}
 use Rattle.vm_cli.specs.declared.answers.writing.WriteFault.{WriteFault}
 use Rattle.vm_cli.proofs.CarriedLemmas.{carries-nothing}
-use Rattle.vm_cli.proofs.PassLemmas.{failed_or, grows_any, never_both, passes_command, passes_left, passes_none}
+use Rattle.vm_cli.proofs.PassLemmas.{failed_or, grows_any, grows_none, never_both, passes_command, passes_left, passes_none}
 
 -- a reply that is the whole answer
 pub replied_whole : (P : List ℕ → Bool → Type 0) (reply : Reply) (a : Option (List ℕ)) (rest : List ℕ) → rest ≡ [] → P (reply_text reply) (ends_talk reply) → Replied P reply a a rest
@@ -155,33 +155,44 @@ module _ {D : Type 0} {members : _} (old new : Store D members) (s : State) wher
         (λ failed. lift (reply_text reply) (ends_talk reply) (text ∙ ap error_text (refused failed)) (ends (refused failed)))
 
 -- what `apply` promises of a command and its answer
-pub record Applied {D : Type 0} {members : _} (old new : Store D members) (s : State) (command : Command) (answer : Result Answer Refusal) : Type 0 where
-  pub any : GrowsOn (answer ≡ Err Device) old new
-  pub refused : has_failed old ≡ true → answer ≡ Err Failed
-  pub left : has_failed old ≡ true → new ≡ old
-  pub carries : has_failed old ≡ false → CarriesOut old new s command answer
+pub record Applied {D : Type 0} {members : _} (old new : Store D members) (command : Command) (answer : Result Answer Refusal) : Type 0 where
+  pub refused : has_failed old ≡ true → (answer ≡ Err Failed) × (new ≡ old)
+  pub done : has_failed old ≡ false → CarriesOut old new command answer
+
+-- so it does to the disk what any call may do
+module _ {D : Type 0} {members : _} (old new : Store D members) (command : Command) (answer : Result Answer Refusal) (applied : Applied old new command answer) where
+  pub applied_goes : GrowsOn ⊥ old new
+  applied_goes = either (failed_or (has_failed old))
+    where
+      either : (has_failed old ≡ false) ⊎ (has_failed old ≡ true) → GrowsOn ⊥ old new
+      either (inl sound) = grows_any _ _ _ (applied.done sound).performs.goes
+      either (inr failed) = subst (λ (t : Store D members). GrowsOn ⊥ old t) (sym (applied.refused failed).1) (grows_none _)
+
+  -- and what it ends a talk by is that the device failed
+  pub applied_fails : has_failed old ≡ false → has_failed new ≡ true → Failing old new
+  applied_fails sound failed = let e = applied.done sound in e.performs.goes.fault (e.failed.0 failed)
 
 -- a command
-module _ {D : Type 0} {members : _} (old new : Store D members) (s : State) (command : Command) (answer : Result Answer Refusal) (applied : Applied old new s command answer) where
+module _ {D : Type 0} {members : _} (old new : Store D members) (s : State) (command : Command) (answer : Result Answer Refusal) (applied : Applied old new command answer) where
   pub carried : (text : List ℕ) (ends : Bool) → text ≡ answer_text answer → (has_failed old ≡ false → ends ≡ has_failed new) → (answer ≡ Err Failed → ends ≡ true)
       → HandlesRequest old new s (Request.Command command) text ends
   carried text ends says last fails = either (failed_or (has_failed old))
     where
       either : (has_failed old ≡ false) ⊎ (has_failed old ≡ true) → HandlesRequest old new s (Request.Command command) text ends
       either (inl sound) =
-          let carries = applied.carries sound in
+          let carries = applied.done sound in
           record {
             done = Some (command, answer);
             answers = inl (sound, last sound, (refl, carries, says));
-            passes = passes_command old new command answer (grows_any _ _ _ applied.any);
+            passes = passes_command old new command answer (applied_goes old new command answer applied);
             still = λ e. sym (last sound) ∙ e ∙ sym sound;
-            holds = λ stood fine. carries.holds stood.honest stood.holds (λ device. never_both _ fine (carries.failed.1 device));
+            holds = λ stood fine. (carries.performs.carried stood.honest s stood.holds).state (λ device. never_both _ fine (carries.failed.1 device));
           }
       either (inr failed) =
-          let same = applied.left failed in
+          let same = (applied.refused failed).1 in
           record {
             done = None;
-            answers = inr (failed, same, refl, (says ∙ ap answer_text (applied.refused failed), fails (applied.refused failed)));
+            answers = inr (failed, same, refl, (says ∙ ap answer_text (applied.refused failed).0, fails (applied.refused failed).0));
             passes = passes_left old new same;
             still = λ e. ap (λ (t : Store D members). has_failed t) same;
             holds = λ stood fine. absurd (never_both _ fine (ap (λ (t : Store D members). has_failed t) same ∙ failed));
@@ -190,11 +201,11 @@ module _ {D : Type 0} {members : _} (old new : Store D members) (s : State) (com
 -- an answer that ends the talk
 module _ {D : Type 0} {members : _} (old new : Store D members) (s : State) where
   -- the device failed in a command
-  carries_device : (asked : Command) (given : Result Answer Refusal) → CarriesOut old new s asked given → has_failed new ≡ true → (command : Command) × CarriesOut old new s command (Err Device)
-  carries_device asked given carries failed = (asked, subst (λ (a : Result Answer Refusal). CarriesOut old new s asked a) (carries.failed.0 failed) carries)
+  carries_device : (asked : Command) (given : Result Answer Refusal) → CarriesOut old new asked given → has_failed new ≡ true → (command : Command) × CarriesOut old new command (Err Device)
+  carries_device asked given carries failed = (asked, subst (λ (a : Result Answer Refusal). CarriesOut old new asked a) (carries.failed.0 failed) carries)
 
   -- it can be no query's, unless the store had failed
-  meets_stops : (asked : Request) (text : List ℕ) (was : Done) → has_failed new ≡ true → Meets old new s asked text was → (command : Command) × CarriesOut old new s command (Err Device)
+  meets_stops : (asked : Request) (text : List ℕ) (was : Done) → has_failed new ≡ true → Meets old new s asked text was → (command : Command) × CarriesOut old new command (Err Device)
   meets_stops (Request.Command command) text None failed meets = absurd meets
   meets_stops (Request.Command command) text (Some (other, answer)) failed meets = carries_device command answer meets.1 failed
   meets_stops (Request.Get alt key) text was failed meets = absurd (never_both _ meets.1 failed)
@@ -207,14 +218,14 @@ module _ {D : Type 0} {members : _} (old new : Store D members) (s : State) wher
   meets_stops Request.Nothing text was failed meets = absurd (never_both _ meets.1 failed)
   meets_stops Request.Bad text was failed meets = absurd (never_both _ meets.1 failed)
 
-  request_stops : (asked : Request) (text : List ℕ) (ends : Bool) (was : Done) → ends ≡ true → AnsweredRequest old new s asked text ends was → Stops old new s
+  request_stops : (asked : Request) (text : List ℕ) (ends : Bool) (was : Done) → ends ≡ true → AnsweredRequest old new s asked text ends was → Stops old new
   request_stops asked text ends was e (inl (sound, last, meets)) = inl (sound, meets_stops asked text was (sym last ∙ e) meets)
   request_stops asked text ends was e (inr (failed, same, none, says)) = inr (failed, same)
 
-  line_stops : (line text : List ℕ) (ends : Bool) (was : Done) → ends ≡ true → Answered old new s line text ends was → Stops old new s
+  line_stops : (line text : List ℕ) (ends : Bool) (was : Done) → ends ≡ true → Answered old new s line text ends was → Stops old new
   line_stops line text ends was e (inl (same, none, goes_on, says)) = absurd (never_both ends goes_on e)
   line_stops line text ends was e (inr (inl (long, same, none, goes_on, says))) = absurd (never_both ends goes_on e)
   line_stops line text ends was e (inr (inr (short, answered))) = request_stops (request_of (words_of (without_return line))) text ends was e answered
 
-  pub handled_stops : (line text : List ℕ) (ends : Bool) → HandlesLine old new s line text ends → ends ≡ true → Stops old new s
+  pub handled_stops : (line text : List ℕ) (ends : Bool) → HandlesLine old new s line text ends → ends ≡ true → Stops old new
   handled_stops line text ends handled e = line_stops line text ends handled.done e handled.answers

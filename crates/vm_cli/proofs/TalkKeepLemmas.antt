@@ -42,8 +42,8 @@ after_line-is s commands answers (Some (command, answer)) same = after_more s co
 
 module _ {D : Type 0} {members : _} (old new : Store D members) (s : State) (c : Command) (a : Result Answer Refusal) where
   -- a line that was a command was answered as the store carried it out
-  meets_carries : (asked : Request) (text : List ℕ) → Meets old new s asked text (Some (c, a)) → CarriesOut old new s c a
-  meets_carries (Request.Command command) text meets = subst (λ d. CarriesOut old new s d a) (sym meets.0) meets.1
+  meets_carries : (asked : Request) (text : List ℕ) → Meets old new s asked text (Some (c, a)) → CarriesOut old new c a
+  meets_carries (Request.Command command) text meets = subst (λ d. CarriesOut old new d a) (sym meets.0) meets.1
   meets_carries (Request.Get alt key) text meets = let none = meets.0 in cc
   meets_carries (Request.List alt) text meets = let none = meets.0 in cc
   meets_carries Request.Alternatives text meets = let none = meets.0 in cc
@@ -55,12 +55,12 @@ module _ {D : Type 0} {members : _} (old new : Store D members) (s : State) (c :
   meets_carries Request.Bad text meets = let none = meets.0 in cc
 
   request_carries : (asked : Request) (text : List ℕ) (ends : Bool) → AnsweredRequest old new s asked text ends (Some (c, a))
-      → CarriesOut old new s c a
+      → CarriesOut old new c a
   request_carries asked text ends (inl (sound, last, meets)) = meets_carries asked text meets
   request_carries asked text ends (inr (failed, same, none, says)) = cc
 
   pub line_carries : (line text : List ℕ) (ends : Bool) → Answered old new s line text ends (Some (c, a))
-      → CarriesOut old new s c a
+      → CarriesOut old new c a
   line_carries line text ends (inl (same, none, goes_on, says)) = cc
   line_carries line text ends (inr (inl (long, same, none, goes_on, says))) = cc
   line_carries line text ends (inr (inr (short, answered))) = request_carries (request_of (words_of (without_return line))) text ends answered
@@ -94,11 +94,11 @@ module _ {D : Type 0} {members : _} where
           (passes.reads honest refl)))
 
       -- it was a command, in which the device didn't fail
-      line_runs : (c : Command) (a : Result Answer Refusal) → CarriesOut old new (after s commands answers) c a
+      line_runs : (c : Command) (a : Result Answer Refusal) → CarriesOut old new c a
           → has_failed new ≡ false → SoFar new (commands ++ c ∷ []) (answers ++ a ∷ [])
       line_runs c a carries sound =
-          keeping_more start (members.state (disk_of old)) s commands answers so_far (members.state (disk_of new)) c a (carries.crash honest holds)
-          (stands_show new _ (carries.holds honest holds (λ device. never_both _ sound (carries.failed.1 device))))
+          keeping_more start (members.state (disk_of old)) s commands answers so_far (members.state (disk_of new)) c a (carries.performs.carried honest _ holds).crash
+          (stands_show new _ ((carries.performs.carried honest _ holds).state (λ device. never_both _ sound (carries.failed.1 device))))
 
       line_keeping : (line text : List ℕ) (ends : Bool) (done : Done)
           → Answered old new (after s commands answers) line text ends done → Passes old new done → has_failed new ≡ false
@@ -113,13 +113,13 @@ module _ {D : Type 0} {members : _} where
       line_keeps line text ends None answered passes = keeps start (members.state (disk_of new)) s _ _ (line_reads passes)
       line_keeps line text ends (Some (c, a)) answered passes = either (failed_or (has_failed new))
         where
-          carries : CarriesOut old new (after s commands answers) c a
+          carries : CarriesOut old new c a
           carries = line_carries old new (after s commands answers) c a line text ends answered
 
           either : (has_failed new ≡ false) ⊎ (has_failed new ≡ true)
               → Keeps start (members.state (disk_of new)) s (commands ++ c ∷ []) (answers ++ a ∷ [])
           either (inl sound) = keeps start (members.state (disk_of new)) s _ _ (line_runs c a carries sound)
-          either (inr failed) = keeps_failed start (members.state (disk_of old)) s commands answers so_far (members.state (disk_of new)) c a (carries.crash honest holds) (carries.failed.0 failed)
+          either (inr failed) = keeps_failed start (members.state (disk_of old)) s commands answers so_far (members.state (disk_of new)) c a (carries.performs.carried honest _ holds).crash (carries.failed.0 failed)
 
     -- lines that end no talk
     talks_keeping : (lines : List (List ℕ)) (old new : Store D members) (commands : List Command) (answers : List (Result Answer Refusal)) (text : List ℕ) (later : List Command) (others : List (Result Answer Refusal)) (refused : Bool)

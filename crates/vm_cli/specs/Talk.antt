@@ -125,9 +125,9 @@ module _ {D : Type 0} {members : _} where
 
   -- the store failed in a command, and a crash at any moment of it leaves what was committed, or what that command commits; or it
   -- had failed before, and was left as it was
-  abbrev pub Stops : Store D members → Store D members → State → Type 0
-  Stops old new s =
-      ((has_failed old ≡ false) × ((command : Command) × CarriesOut old new s command (Err Device)))
+  abbrev pub Stops : Store D members → Store D members → Type 0
+  Stops old new =
+      ((has_failed old ≡ false) × ((command : Command) × CarriesOut old new command (Err Device)))
       ⊎ ((has_failed old ≡ true) × (new ≡ old))
 
   -- the number of blocks that are not held is answered; where the store stands for the state, all of them are spare
@@ -168,13 +168,13 @@ module _ {D : Type 0} {members : _} where
   ReadsFew old new request = Unit {0}
 
   -- a command is answered as the store carried it out
-  abbrev pub AnswersCommand : Store D members → Store D members → State → Command → List ℕ → Done → Type 0
-  AnswersCommand old new s command text None = ⊥
-  AnswersCommand old new s command text (Some (asked, answer)) = (asked ≡ command) × CarriesOut old new s command answer × (text ≡ answer_text answer)
+  abbrev pub AnswersCommand : Store D members → Store D members → Command → List ℕ → Done → Type 0
+  AnswersCommand old new command text None = ⊥
+  AnswersCommand old new command text (Some (asked, answer)) = (asked ≡ command) × CarriesOut old new command answer × (text ≡ answer_text answer)
 
   -- what a request is answered by a store that had not failed: no query makes it fail
   abbrev pub Meets : Store D members → Store D members → State → Request → List ℕ → Done → Type 0
-  Meets old new s (Request.Command command) text done = AnswersCommand old new s command text done
+  Meets old new s (Request.Command command) text done = AnswersCommand old new command text done
   Meets old new s query text done = (done ≡ None) × (has_failed new ≡ false) × Says old new s query text × ReadsFew old new query
 
   -- a request is answered, and the talk ends with it where the device fails in a command, or the store had failed before, which is
@@ -240,7 +240,7 @@ module _ {D : Type 0} {members : _} where
     pub texts : text ≡ earlier ++ last
     pub talked : HasTalked old mid s on lines earlier
     pub handled : HandlesLine mid new (after s talked.commands talked.answers) line last ends
-    pub stops : ends ≡ true → Stops mid new (after s talked.commands talked.answers)
+    pub stops : ends ≡ true → Stops mid new
 
   -- a talk over all these lines. At Ok each was answered, and it is said whether one was refused; at Read the first of them were; at
   -- Store the answer to one of them ended the talk; at Refused one of them was refused, which was to end the talk; and at Write the

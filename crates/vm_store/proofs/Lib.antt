@@ -20,6 +20,7 @@ pub mod MergeSteps
 pub mod MovedLemmas
 pub mod OpeningLemmas
 pub mod PairLemmas
+pub mod PerformLemmas
 pub mod ReachLemmas
 pub mod Removing
 pub mod RestingLemmas

@@ -70,56 +70,11 @@ module _ {D : Type 0} {members : _} (old new : Store D members) (s : State) (hol
   answers_on other Reclaim same size answer = answer
   answers_on other (Grow blocks) same size answer = answer
 
--- the others lead from the state after the first so many to the state after all
-after_through : (s : State) (n : ℕ) (commands : List Command) (answers : List (Result Answer Refusal)) → length answers ≡ length commands
-    → after (after s (take n commands) (take n answers)) (drop n commands) (drop n answers) ≡ after s commands answers
-after_through s zero commands answers same = refl
-after_through s (suc n) [] [] same = refl
-after_through s (suc n) [] (a ∷ answers) same = absurd (omega arith)
-after_through s (suc n) (c ∷ commands) [] same = absurd (omega arith)
-after_through s (suc n) (c ∷ commands) (a ∷ answers) same = after_through (next s c a) n commands answers (omega arith)
-
 module _ {D : Type 0} {members : _} where
-  -- what `apply` promises of one command
-  pub carried_out : (old new : Store D members) (s : State) (c : Command) (a : Result Answer Refusal) → ((members.state (disk_of new)).honest ≡ true → (holds : Holds old s) → Answers old new s holds c a)
-      → Grows (a ≡ Err Device) (members.state (disk_of old)) (members.state (disk_of new))
-      → ((IsGrow c → ⊥) → (members.state (disk_of new)).blocks ≡ (members.state (disk_of old)).blocks) → GrowsNoMore old new c → (IsGrow c → IfErr a (λ refusal. IsEarly refusal → disk_of new ≡ disk_of old)) → (has_failed new ≡ true ↔ a ≡ Err Device)
-      → a ≢ Err Failed → (a ≡ Err Memory → TakesMemory c)
-      → OnErr a (a ≢ Err Device → entries_of new ≡ entries_of old) → IfErr a (λ refusal. IsEarly refusal → IsSameButDisk old new)
-      → (ChangesEntriesAlone c → (disk_of new ≡ disk_of old) × (held_of new ≡ held_of old)) → ((members.state (disk_of new)).honest ≡ true → Holds old s → a ≢ Err Device → Holds new (next s c a))
-      → ((members.state (disk_of new)).honest ≡ true → Holds old s → Throughout (members.state (disk_of old)) (members.state (disk_of new)) (Leaves (LeftBy Shows s c)))
-      → ((members.state (disk_of new)).honest ≡ true → Holds old s → Throughout (members.state (disk_of old)) (members.state (disk_of new)) (IsGuarded (held_of new)))
-      → (c ≢ Commit → (members.state (disk_of new)).honest ≡ true → Holds old s → StaysUnsynced old new)
-      → ((members.state (disk_of new)).honest ≡ true → HasMarked c a → (holds : Holds old s) → free_of new ≡ spare_of holds.rests)
-      → ((members.state (disk_of new)).honest ≡ true → ReadsOnly c a old new) → KeepsFree c a old new → (c ≡ Commit → WritesCommit a old new)
-      → ((blocks : ℕ) → c ≡ Grow blocks → Holds old s → OnOk a (free_of new ≡ free_of old + (blocks - s.blocks))) → CarriesOut old new s c a
-  carried_out old new s c a answers goes as_long no_more untouched failed only_then memory same unchanged blocks holds crash guarded unsynced marked reads free written grown = record {
-    answers = answers;
-    goes = goes;
-    as_long = as_long;
-    no_more = no_more;
-    untouched = untouched;
-    failed = failed;
-    only_then = only_then;
-    memory = memory;
-    same = same;
-    unchanged = unchanged;
-    blocks = blocks;
-    holds = holds;
-    crash = crash;
-    guarded = guarded;
-    unsynced = unsynced;
-    marked = marked;
-    reads = reads;
-    free = free;
-    written = written;
-    grown = grown;
-  }
-
   -- one command more
   pub in_turn_more : (old mid new : Store D members) (s : State) (commands : List Command) (answers : List (Result Answer Refusal)) (c : Command) (a : Result Answer Refusal) → AnswersInTurn old mid s commands answers
-      → CarriesOut mid new (after s commands answers) c a → AnswersInTurn old new s (commands ++ c ∷ []) (answers ++ a ∷ [])
-  in_turn_more old mid new s [] [] c a so_far last = (new, subst (λ (t : Store D members). CarriesOut t new s c a) so_far last, refl)
+      → CarriesOut mid new c a → AnswersInTurn old new s (commands ++ c ∷ []) (answers ++ a ∷ [])
+  in_turn_more old mid new s [] [] c a so_far last = (new, subst (λ (t : Store D members). CarriesOut t new c a) so_far last, refl)
   in_turn_more old mid new s [] (b ∷ answers) c a so_far last = absurd so_far
   in_turn_more old mid new s (d ∷ commands) [] c a so_far last = absurd so_far
   in_turn_more old mid new s (d ∷ commands) (b ∷ answers) c a so_far last =
@@ -142,18 +97,16 @@ module _ {D : Type 0} {members : _} where
 
   -- a store on the way stays there
   way_more : (old mid new : Store D members) (s : State) (commands : List Command) (answers : List (Result Answer Refusal)) (c : Command) (a : Result Answer Refusal) → length answers ≡ length commands
-      → CarriesOut mid new (after s commands answers) c a → (store : Store D members) → IsOnTheWay old mid s commands answers store → IsOnTheWay old new s (commands ++ c ∷ []) (answers ++ a ∷ []) store
+      → CarriesOut mid new c a → (store : Store D members) → IsOnTheWay old mid s commands answers store → IsOnTheWay old new s (commands ++ c ∷ []) (answers ++ a ∷ []) store
   way_more old mid new s commands answers c a same last store way =
       let n = way.beginning in
       let inner : n ≤ length commands = way.within in
-      let state = after_through s n commands answers same in
-      let step = subst (λ (t : State). CarriesOut mid new t c a) (sym state) last in
       record {
         beginning = n;
         within = rw (length-append commands (c ∷ [])) (omega (arith, inner));
         before = rw (take-append-le n commands (c ∷ []) inner, take-append-le n answers (a ∷ []) (omega (arith, inner, same))) way.before;
         behind = rw (take-append-le n commands (c ∷ []) inner, take-append-le n answers (a ∷ []) (omega (arith, inner, same)), drop-append-le n commands (c ∷ []) inner, drop-append-le n answers (a ∷ []) (omega (arith, inner, same)))
-            (in_turn_more store mid new (after s (take n commands) (take n answers)) (drop n commands) (drop n answers) c a way.behind step);
+            (in_turn_more store mid new (after s (take n commands) (take n answers)) (drop n commands) (drop n answers) c a way.behind last);
       }
 
   -- the slots are guarded before the first command
@@ -163,7 +116,7 @@ module _ {D : Type 0} {members : _} where
 
   -- and through one more
   pub guarded_more : (old mid new : Store D members) (s : State) (commands : List Command) (answers : List (Result Answer Refusal)) (c : Command) (a : Result Answer Refusal) → length answers ≡ length commands
-      → AnswersInTurn old mid s commands answers → CarriesOut mid new (after s commands answers) c a
+      → AnswersInTurn old mid s commands answers → CarriesOut mid new c a
       → (members.state (disk_of new)).honest ≡ true → Holds mid (after s commands answers)
       → Throughout (members.state (disk_of old)) (members.state (disk_of mid)) (IsGuardedOnTheWay old mid s commands answers)
       → Throughout (members.state (disk_of old)) (members.state (disk_of new)) (IsGuardedOnTheWay old new s (commands ++ c ∷ []) (answers ++ a ∷ []))
@@ -173,7 +126,7 @@ module _ {D : Type 0} {members : _} where
       let here : IsOnTheWay old new s (commands ++ c ∷ []) (answers ++ a ∷ []) new = way_last old new s _ _ ends (in_turn_more old mid new s commands answers c a told last) in
       and_then (members.state (disk_of old)) (members.state (disk_of mid)) (members.state (disk_of new)) Q
       (weaken (members.state (disk_of old)) (members.state (disk_of mid)) (IsGuardedOnTheWay old mid s commands answers) Q (λ m was. (was.0, way_more old mid new s commands answers c a same last was.0 was.1, was.2)) so_far)
-      (weaken (members.state (disk_of mid)) (members.state (disk_of new)) (IsGuarded (held_of new)) Q (λ m guarded. (new, here, guarded)) (last.guarded honest holds))
+      (weaken (members.state (disk_of mid)) (members.state (disk_of new)) (IsGuarded (held_of new)) Q (λ m guarded. (new, here, guarded)) (last.performs.carried honest _ holds).guarded)
 
 -- one more answer that is no failure of the device
 pub none_more : (answers : List (Result Answer Refusal)) (a : Result Answer Refusal) → NoneIsDevice answers → (a ≡ Err Device → ⊥) → NoneIsDevice (answers ++ a ∷ [])

@@ -2,7 +2,7 @@
 use Rattle.std.specs.Prelude.{◌≡◌, ◌≢◌, ◌↔◌, ◌≤◌, ℕ, ◌+◌, ◌-◌, true, false, List, [], ◌∷◌, ◌++◌, Result, Err, OnErr, OnOk, drop, length, take}
 use Rattle.vm_types.specs.declared.answer.Answer.{Answer}
 use Rattle.vm_types.specs.declared.command.Command.{Command}
-use Rattle.vm_types.specs.declared.command.Command.TheVariants.{Commit, Grow}
+use Rattle.vm_types.specs.declared.command.Command.TheVariants.{Commit}
 use Rattle.vm_types.specs.declared.refusal.Refusal.{Refusal}
 use Rattle.vm_types.specs.declared.refusal.Refusal.TheVariants.{Device, Failed, Memory}
 use Rattle.vm_types.specs.Isolation.{LeavesAlone}
@@ -11,10 +11,9 @@ use Rattle.vm_types.specs.State.{State, after, next}
 use Rattle.vm_types.specs.Tree.{named}
 use Rattle.vm_disk.specs.Disk.{LeftAt, Medium, moment}
 use Rattle.vm_disk.specs.Moments.{Throughout}
-use Rattle.vm_store.specs.Answers.{ChangesEntriesAlone, HasMarked, IsGrow, TakesMemory}
+use Rattle.vm_store.specs.Answers.{ChangesEntriesAlone, IsGrow, TakesMemory}
 use Rattle.vm_store.specs.Guarded.{IsGuarded}
-use Rattle.vm_store.specs.Resting.{spare_of}
-use Rattle.vm_store.specs.Store.{Answers, CrashLeaves, EarlyKeeps, EarlyLeavesDisk, GrowsNoMore, GrowsOn, Holds, IsAsLong, IsHonest, KeepsFree, LeavesBlocks, ReadsOnly, StaysGuarded, StaysUnsynced, WritesCommit, disk_of, entries_of, free_of, has_failed, held_of}
+use Rattle.vm_store.specs.Store.{EarlyKeeps, EarlyLeavesDisk, GrowsFree, GrowsNoMore, GrowsOn, Holds, IsAsLong, IsCarriedOut, IsHonest, KeepsFree, LeavesBlocks, MarksAll, ReadsOnly, WritesCommit, disk_of, entries_of, has_failed, held_of}
 use Rattle.vm_store.specs.Shown.{Shows}
 use Rattle.vm_store.specs.declared.store.Store.{Store}
 
@@ -23,10 +22,10 @@ abbrev pub answered : List Command → List (Result Answer Refusal) → List Com
 answered commands answers = take (length answers) commands
 
 module _ {D : Type 0} {members : _} where
-  -- a store carried out a command. What is said of its state asks that it stood for this one before, and that the disk is honest after it
-  pub record CarriesOut (old new : Store D members) (s : State) (command : Command) (answer : Result Answer Refusal) : Type 0 where
-    -- the answer is the one that is due, where Full and Deep come on their conditions, or Device, or Memory
-    pub answers : IsHonest new → (holds : Holds old s) → Answers old new s holds command answer
+  -- what a command does to a store, but for the note that the device failed
+  pub record Performs (old new : Store D members) (command : Command) (answer : Result Answer Refusal) : Type 0 where
+    -- on an honest disk it does what it is to do to each state that the store stood for
+    pub carried : IsCarriedOut old new command answer
     -- Failed is the answer of a store that had failed before, and Memory comes to a Merge or a Grow alone
     pub only_then : answer ≢ Err Failed
     pub memory : answer ≡ Err Memory → TakesMemory command
@@ -36,24 +35,14 @@ module _ {D : Type 0} {members : _} where
     pub as_long : (IsGrow command → ⊥) → IsAsLong old new
     pub no_more : GrowsNoMore old new command
     pub untouched : IsGrow command → EarlyLeavesDisk answer old new
-    -- then, and only then, the store has failed
-    pub failed : has_failed new ≡ true ↔ answer ≡ Err Device
     -- a refusal leaves the entries as they were
-    pub same : OnErr answer (answer ≢ Err Device → entries_of new ≡ entries_of old)
+    pub same : OnErr answer (entries_of new ≡ entries_of old)
     -- one that comes before blocks are marked, taken or written leaves all but the disk as it was, so as many blocks are free
     pub unchanged : EarlyKeeps answer old new
     -- to make, drop or go back to alternatives and checkpoints takes no device call and no block
     pub blocks : ChangesEntriesAlone command → LeavesBlocks old new
-    -- a store that hasn't failed stands for what the answer leaves
-    pub holds : IsHonest new → Holds old s → answer ≢ Err Device → Holds new (next s command answer)
-    -- a crash at any moment leaves what was committed, or what the command commits
-    pub crash : IsHonest new → Holds old s → CrashLeaves old new s command
-    -- at each moment the slots that it may leave in use are whole, clean and held
-    pub guarded : IsHonest new → Holds old s → StaysGuarded old new
-    -- no command but a Commit syncs
-    pub unsynced : command ≢ Commit → IsHonest new → Holds old s → StaysUnsynced old new
     -- after a Reclaim, and a Put or a Remove that is refused for want of blocks, just the spare ones are free
-    pub marked : IsHonest new → HasMarked command answer → (holds : Holds old s) → free_of new ≡ spare_of holds.rests
+    pub marked : IsHonest new → MarksAll answer old new command
     -- a Post and a Reclaim only read, and so does each other command but a Grow that is refused before it takes a block
     pub reads : IsHonest new → ReadsOnly command answer old new
     -- of the free blocks, or of the spare ones after a marking, a Put takes 16 at most and a Remove 8; a Post and a Commit take none
@@ -61,13 +50,19 @@ module _ {D : Type 0} {members : _} where
     -- a Commit writes the other slot, in format 2, and the selector, byte by byte, and no other block
     pub written : command ≡ Commit → WritesCommit answer old new
     -- after a Grow the new blocks are free, too
-    pub grown : (blocks : ℕ) → command ≡ Grow blocks → Holds old s → OnOk answer (free_of new ≡ free_of old + (blocks - s.blocks))
+    pub grown : GrowsFree answer old new command
+
+  -- a store carried out a command
+  pub record CarriesOut (old new : Store D members) (command : Command) (answer : Result Answer Refusal) : Type 0 where
+    pub performs : Performs old new command answer
+    -- where the device failed, and only then, the store has failed
+    pub failed : has_failed new ≡ true ↔ answer ≡ Err Device
 
   -- commands are carried out one after another: each by the store that the one before left, from the first store to the last
   abbrev pub AnswersInTurn : Store D members → Store D members → State → List Command → List (Result Answer Refusal) → Type 0
   AnswersInTurn old new s [] [] = new ≡ old
   AnswersInTurn old new s (command ∷ commands) (answer ∷ answers) =
-      (mid : Store D members) × CarriesOut old mid s command answer × AnswersInTurn mid new (next s command answer) commands answers
+      (mid : Store D members) × CarriesOut old mid command answer × AnswersInTurn mid new (next s command answer) commands answers
   AnswersInTurn old new s [] (answer ∷ answers) = ⊥
   AnswersInTurn old new s (command ∷ commands) [] = ⊥
 

@@ -213,26 +213,19 @@ module _ {D : Type 0} {members : _} where
   Answers old new s holds command result =
       IsAnswer s (spare_of holds.rests) (IsDeep (members.state (disk_of old)).now.contents (root_of old) s.working command) command result
 
-  -- a command was carried out by a store that stands for the state, on an honest disk: it gives the answer that is due, and unless the
-  -- device failed the store stands for what that answer leaves; a crash at any moment shows what it may, and the slots stay whole; and
-  -- nothing is synced, unless it is a Commit
+  -- a command was carried out by a store that stands for the state, on an honest disk
   pub record Carries (old new : Store D members) (s : State) (holds : Holds old s) (command : Command) (answer : Result Answer Refusal) : Type 0 where
+    -- the answer is the one that is due, where Full and Deep come on their conditions, or Device, or Memory
     pub answers : Answers old new s holds command answer
+    -- unless the device failed, the store stands for what the answer leaves
     pub state : answer ≢ Err Device → Holds new (next s command answer)
+    -- a crash at any moment leaves what was committed, or what the command commits
     pub crash : CrashLeaves old new s command
+    -- for at each moment the slots that it may leave in use are whole, clean and held
     pub guarded : StaysGuarded old new
+    -- no command but a Commit syncs
     pub unsynced : command ≢ Commit → StaysUnsynced old new
 
   -- the same, whatever state the store stood for, on a disk that is honest after it
   abbrev pub IsCarriedOut : (old new : Store D members) → Command → Result Answer Refusal → Type 0
   IsCarriedOut old new command answer = IsHonest new → (s : State) (holds : Holds old s) → Carries old new s holds command answer
-
-  -- the answer of a store that had not failed is the one that is due
-  abbrev pub IsAnswered : (old new : Store D members) → Command → Result Answer Refusal → Type 0
-  IsAnswered old new command answer =
-      IsHonest new → has_failed old ≡ false → (s : State) (holds : Holds old s) → Answers old new s holds command answer
-
-  -- unless the device failed, a store that had not failed stands for what this answer to the command leaves
-  abbrev pub StandsAfter : (old new : Store D members) → Command → Result Answer Refusal → Type 0
-  StandsAfter old new command answer =
-      IsHonest new → has_failed old ≡ false → answer ≢ Err Device → (s : State) → Holds old s → Holds new (next s command answer)

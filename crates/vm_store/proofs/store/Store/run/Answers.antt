@@ -11,37 +11,38 @@ use Rattle.vm_types.specs.declared.refusal.Refusal.{Refusal}
 use Rattle.vm_store.specs.Running.{EndsWithDevice}
 use Rattle.vm_store.specs.Store.{disk_of, Holds}
 use Rattle.vm_store.proofs.GuardLemmas.{guarded_at_rest}
-use Rattle.vm_store.proofs.RunLemmas.{ran_none, ran_more, rests_show, guarded_none, guarded_more, carried_out, in_turn_more, none_more, take_one_more, no_failure}
+use Rattle.vm_store.proofs.RunLemmas.{ran_none, ran_more, rests_show, guarded_none, guarded_more, in_turn_more, none_more, take_one_more, no_failure}
 use Rattle.vm_store.proofs.store.Store.run.Goals as goal
 
 pub loop-command-preserved : goal.loop-command-preserved
 loop-command-preserved g c =
     let before = c.loop-command.invariant in
-    let e = c.apply-answer.ensures in
+    let e = c.apply-answer.ensures.done before.sound in
+    let goes = e.performs.goes in
     let old = g.D.Disk.state (disk_of c.args.self.now) in
     let first = c.args.self.now in
     let mid = c.loop-command.self in
     let new = c.apply-answer.new.self in
     let command = c.command-item.result in
-    let sound = no_failure _ (λ is. let device = (e.failed before.sound).0 is in let yes = c.is_device-failed.ensures.1 device in cc (yes, c.if-failed.false)) in
+    let sound = no_failure _ (λ is. let device = e.failed.0 is in let yes = c.is_device-failed.ensures.1 device in cc (yes, c.if-failed.false)) in
     rw (take_one_more c.args.commands.now c.loop-command.command-index c.command-item.result c.loop-command-test.true c.command-item.is, c.in-Ok-push.ensures.items) (record {
-      more_blocks = omega (arith, e.any.more_blocks, before.more_blocks);
-      earlier = λ honest. before.earlier (e.any.earlier honest);
-      rising = omega (arith, e.any.rising, before.rising);
+      more_blocks = omega (arith, goes.more_blocks, before.more_blocks);
+      earlier = λ honest. before.earlier (goes.earlier honest);
+      rising = omega (arith, goes.rising, before.rising);
       sound = sound;
       fine = none_more c.loop-command.answers.items c.apply-answer.result before.fine (λ is. let yes = c.is_device-failed.ensures.1 is in cc (yes, c.if-failed.false));
-      never = All-push (λ answer. answer ≢ Err Failed) c.loop-command.answers.items c.apply-answer.result before.never (e.only_then before.sound);
+      never = All-push (λ answer. answer ≢ Err Failed) c.loop-command.answers.items c.apply-answer.result before.never e.performs.only_then;
       many = grind (arith, common_steps);
       room = grind (arith, common_steps);
-      run = λ honest s holds. ran_more old (g.D.Disk.state (disk_of c.loop-command.self)) (g.D.Disk.state (disk_of c.apply-answer.new.self)) s _ _ c.command-item.result c.apply-answer.result (before.run (e.any.earlier honest) s holds) (e.crash honest before.sound _ (before.holds (e.any.earlier honest) s holds));
+      run = λ honest s holds. ran_more old (g.D.Disk.state (disk_of c.loop-command.self)) (g.D.Disk.state (disk_of c.apply-answer.new.self)) s _ _ c.command-item.result c.apply-answer.result (before.run (goes.earlier honest) s holds) (e.performs.carried honest _ (before.holds (goes.earlier honest) s holds)).crash;
       holds = λ honest s holds.
           let ok : c.apply-answer.result ≡ Err Device → ⊥ = λ is. let yes = c.is_device-failed.ensures.1 is in cc (yes, c.if-failed.false) in
-          subst (λ (t : State). Holds c.apply-answer.new.self t) (sym (after_more s _ _ c.command-item.result c.apply-answer.result (before.run (e.any.earlier honest) s holds).last.same)) (e.state honest before.sound ok _ (before.holds (e.any.earlier honest) s holds));
-      guarded = λ honest s holds. guarded_more first mid new s _ _ command c.apply-answer.result (before.run (e.any.earlier honest) s holds).last.same (before.told s)
-          (carried_out mid new _ command c.apply-answer.result (λ honest. e.answer honest before.sound _) e.any e.as_long e.no_more e.untouched (e.failed before.sound) (e.only_then before.sound) e.memory e.same e.unchanged e.blocks (λ honest holds fine. e.state honest before.sound fine _ holds) (λ honest holds. e.crash honest before.sound _ holds) (λ honest holds. e.guarded honest before.sound _ holds) (λ other honest holds. e.unsynced other honest before.sound _ holds) (λ honest is. e.marked honest before.sound is _) e.reads e.free (e.written before.sound) (λ blocks is. e.grown before.sound blocks is _)) honest (before.holds (e.any.earlier honest) s holds)
-          (before.guarded (e.any.earlier honest) s holds);
+          subst (λ (t : State). Holds c.apply-answer.new.self t) (sym (after_more s _ _ c.command-item.result c.apply-answer.result (before.run (goes.earlier honest) s holds).last.same)) ((e.performs.carried honest _ (before.holds (goes.earlier honest) s holds)).state ok);
+      guarded = λ honest s holds. guarded_more first mid new s _ _ command c.apply-answer.result (before.run (goes.earlier honest) s holds).last.same (before.told s)
+          e honest (before.holds (goes.earlier honest) s holds)
+          (before.guarded (goes.earlier honest) s holds);
       told = λ s. in_turn_more first mid new s _ _ command c.apply-answer.result (before.told s)
-          (carried_out mid new _ command c.apply-answer.result (λ honest. e.answer honest before.sound _) e.any e.as_long e.no_more e.untouched (e.failed before.sound) (e.only_then before.sound) e.memory e.same e.unchanged e.blocks (λ honest holds fine. e.state honest before.sound fine _ holds) (λ honest holds. e.crash honest before.sound _ holds) (λ honest holds. e.guarded honest before.sound _ holds) (λ other honest holds. e.unsynced other honest before.sound _ holds) (λ honest is. e.marked honest before.sound is _) e.reads e.free (e.written before.sound) (λ blocks is. e.grown before.sound blocks is _));
+          e;
     })
 
 pub loop-command-init : goal.loop-command-init
@@ -69,24 +70,26 @@ returns-in_default-clause-kept g c honest sound s holds =
 pub returns-then-failed-clause-kept : goal.returns-then-failed-clause-kept
 returns-then-failed-clause-kept g c honest sound s holds =
     let before = c.loop-command.invariant in
-    let e = c.apply-answer.ensures in
+    let e = c.apply-answer.ensures.done before.sound in
+    let goes = e.performs.goes in
     let old = g.D.Disk.state (disk_of c.args.self.now) in
     let count : length c.push.new.self.items ≡ c.loop-command.command-index + 1 = grind (arith, common_steps) in
     rw (count, take_one_more c.args.commands.now c.loop-command.command-index c.command-item.result c.loop-command-test.true c.command-item.is, c.in-Ok-push.ensures.items)
-    (ran_more old (g.D.Disk.state (disk_of c.loop-command.self)) (g.D.Disk.state (disk_of c.apply-answer.new.self)) s _ _ c.command-item.result c.apply-answer.result (before.run (e.any.earlier honest) s holds) (e.crash honest before.sound _ (before.holds (e.any.earlier honest) s holds))).moments
+    (ran_more old (g.D.Disk.state (disk_of c.loop-command.self)) (g.D.Disk.state (disk_of c.apply-answer.new.self)) s _ _ c.command-item.result c.apply-answer.result (before.run (goes.earlier honest) s holds) (e.performs.carried honest _ (before.holds (goes.earlier honest) s holds)).crash).moments
 
 pub returns-then-failed-clause-answers : goal.returns-then-failed-clause-answers
 returns-then-failed-clause-answers g c sound s =
     let before = c.loop-command.invariant in
-    let e = c.apply-answer.ensures in
+    let e = c.apply-answer.ensures.done before.sound in
+    let goes = e.performs.goes in
     let count : length c.push.new.self.items ≡ c.loop-command.command-index + 1 = grind (arith, common_steps) in
     rw (count, take_one_more c.args.commands.now c.loop-command.command-index c.command-item.result c.loop-command-test.true c.command-item.is, c.in-Ok-push.ensures.items)
-    (in_turn_more c.args.self.now c.loop-command.self c.apply-answer.new.self s _ _ c.command-item.result c.apply-answer.result (before.told s) (carried_out c.loop-command.self c.apply-answer.new.self _ c.command-item.result c.apply-answer.result (λ honest. e.answer honest before.sound _) e.any e.as_long e.no_more e.untouched (e.failed before.sound) (e.only_then before.sound) e.memory e.same e.unchanged e.blocks (λ honest holds fine. e.state honest before.sound fine _ holds) (λ honest holds. e.crash honest before.sound _ holds) (λ honest holds. e.guarded honest before.sound _ holds) (λ other honest holds. e.unsynced other honest before.sound _ holds) (λ honest is. e.marked honest before.sound is _) e.reads e.free (e.written before.sound) (λ blocks is. e.grown before.sound blocks is _)))
+    (in_turn_more c.args.self.now c.loop-command.self c.apply-answer.new.self s _ _ c.command-item.result c.apply-answer.result (before.told s) e)
 
 pub returns-then-failed-clause-isolated : goal.returns-then-failed-clause-isolated
 returns-then-failed-clause-isolated g c honest fine s holds name apart =
     let is = c.is_device-failed.ensures.0 c.if-failed.true in
-    absurd (false≢true (sym fine ∙ (c.apply-answer.ensures.failed c.loop-command.invariant.sound).1 is))
+    absurd (false≢true (sym fine ∙ (c.apply-answer.ensures.done c.loop-command.invariant.sound).failed.1 is))
 
 pub returns-clause-isolated : goal.returns-clause-isolated
 returns-clause-isolated g c honest fine s holds name apart =
@@ -108,12 +111,13 @@ returns-in_default-clause-guarded g c honest sound s holds =
 pub returns-then-failed-clause-guarded : goal.returns-then-failed-clause-guarded
 returns-then-failed-clause-guarded g c honest sound s holds =
     let before = c.loop-command.invariant in
-    let e = c.apply-answer.ensures in
+    let e = c.apply-answer.ensures.done before.sound in
+    let goes = e.performs.goes in
     let count : length c.push.new.self.items ≡ c.loop-command.command-index + 1 = grind (arith, common_steps) in
     rw (count, take_one_more c.args.commands.now c.loop-command.command-index c.command-item.result c.loop-command-test.true c.command-item.is, c.in-Ok-push.ensures.items)
-    (guarded_more c.args.self.now c.loop-command.self c.apply-answer.new.self s _ _ c.command-item.result c.apply-answer.result (before.run (e.any.earlier honest) s holds).last.same (before.told s)
-    (carried_out c.loop-command.self c.apply-answer.new.self _ c.command-item.result c.apply-answer.result (λ honest. e.answer honest before.sound _) e.any e.as_long e.no_more e.untouched (e.failed before.sound) (e.only_then before.sound) e.memory e.same e.unchanged e.blocks (λ honest holds fine. e.state honest before.sound fine _ holds) (λ honest holds. e.crash honest before.sound _ holds) (λ honest holds. e.guarded honest before.sound _ holds) (λ other honest holds. e.unsynced other honest before.sound _ holds) (λ honest is. e.marked honest before.sound is _) e.reads e.free (e.written before.sound) (λ blocks is. e.grown before.sound blocks is _)) honest (before.holds (e.any.earlier honest) s holds)
-    (before.guarded (e.any.earlier honest) s holds))
+    (guarded_more c.args.self.now c.loop-command.self c.apply-answer.new.self s _ _ c.command-item.result c.apply-answer.result (before.run (goes.earlier honest) s holds).last.same (before.told s)
+    e honest (before.holds (goes.earlier honest) s holds)
+    (before.guarded (goes.earlier honest) s holds))
 
 pub returns-clause-guarded : goal.returns-clause-guarded
 returns-clause-guarded g c honest sound s holds =
@@ -126,10 +130,10 @@ returns-in_default-clause-no_failed g c = rw (c.new-in_default.ensures.items) (A
 pub returns-then-failed-clause-no_failed : goal.returns-then-failed-clause-no_failed
 returns-then-failed-clause-no_failed g c =
     let before = c.loop-command.invariant in
-    rw (c.in-Ok-push.ensures.items) (All-push (λ answer. answer ≢ Err Failed) c.loop-command.answers.items c.apply-answer.result before.never (c.apply-answer.ensures.only_then before.sound))
+    rw (c.in-Ok-push.ensures.items) (All-push (λ answer. answer ≢ Err Failed) c.loop-command.answers.items c.apply-answer.result before.never (c.apply-answer.ensures.done before.sound).performs.only_then)
 
 pub returns-then-failed-clause-device : goal.returns-then-failed-clause-device
 returns-then-failed-clause-device g c stopped =
     let is = c.is_device-failed.ensures.0 c.if-failed.true in
     let ends : EndsWithDevice (c.loop-command.answers.items ++ c.apply-answer.result ∷ []) = (c.loop-command.answers.items, ap (λ (a : Result Answer Refusal). c.loop-command.answers.items ++ a ∷ []) is, c.loop-command.invariant.fine) in
-    ((c.apply-answer.ensures.failed c.loop-command.invariant.sound).1 is, subst EndsWithDevice (sym c.in-Ok-push.ensures.items) ends)
+    ((c.apply-answer.ensures.done c.loop-command.invariant.sound).failed.1 is, subst EndsWithDevice (sym c.in-Ok-push.ensures.items) ends)

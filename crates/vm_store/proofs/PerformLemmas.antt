@@ -1,0 +1,141 @@
+-- From what a command's own function promises to what `apply` does.
+use Rattle.std.proofs.Common.{◌≡◌, ◌≢◌, ◌↔◌, ◌≤◌, ℕ, Bool, false, length, vec_capacity, Result, Ok, Err, OnErr, IsTrue, refl, sym, subst, ◌∙◌}
+use Rattle.vm_types.specs.declared.answer.Answer.{Answer}
+use Rattle.vm_types.specs.declared.command.Command.{Command}
+use Rattle.vm_types.specs.declared.command.Command.TheVariants.{Back, Checkpoint, Commit, Drop, Grow, Merge, New, NewAt, Post, Put, Reclaim, Remove, Uncheck}
+use Rattle.vm_types.specs.declared.refusal.Refusal.{Refusal}
+use Rattle.vm_types.specs.declared.sizes.TheConstants.{MAX_BLOCKS, MAX_VERSIONS, MIN_BLOCKS}
+use Rattle.vm_types.specs.declared.refusal.Refusal.TheVariants.{Device, Failed, Memory}
+use Rattle.vm_store.specs.Answers.{ChangesEntriesAlone, IsEarly, IsGrow, TakesMemory}
+use Rattle.vm_store.specs.Running.{CarriesOut, Performs}
+use Rattle.vm_store.specs.Store.{EarlyKeeps, EarlyLeavesDisk, GoesOn, GrowsOn, IsCarriedOut, IsHonest, IsNoLonger, KeepsFree, LeavesBlocks, MarksAll, NewAreFree, ReadsOnly, WritesCommit, disk_of, entries_of, has_failed}
+use Rattle.vm_store.specs.declared.store.Store.{Store}
+use Rattle.vm_store.proofs.LongerLemmas.{goes_grow}
+use Rattle.vm_store.proofs.RunLemmas.{answers_on, no_failure}
+use Rattle.vm_store.proofs.VersionLemmas.{keeps_on}
+
+same_grow : (b c : ℕ) → Grow b ≡ Grow c → b ≡ c
+same_grow b c is = cc is
+
+-- no early refusal is a fault of the device
+never_early : (a : Result Answer Refusal) (refusal : Refusal) → a ≡ Err refusal → a ≡ Err Device → IsEarly refusal → ⊥
+never_early a refusal is device early = let same : refusal ≡ Device = cc (is, device) in subst IsEarly same early
+
+module _ {D : Type 0} {members : _} where
+  -- a command that is no Grow
+  pub performs : (old new : Store D members) (c : Command) (a : Result Answer Refusal) → (IsGrow c → ⊥) → IsCarriedOut old new c a → a ≢ Err Failed → (a ≡ Err Memory → TakesMemory c) → GoesOn (a ≡ Err Device) old new
+      → OnErr a (entries_of new ≡ entries_of old) → EarlyKeeps a old new → (ChangesEntriesAlone c → LeavesBlocks old new) → (IsHonest new → MarksAll a old new c)
+      → (IsHonest new → ReadsOnly c a old new) → KeepsFree c a old new → (c ≡ Commit → WritesCommit a old new) → Performs old new c a
+  performs old new c a fixed carried only_then memory goes same unchanged blocks marked reads free written = record {
+    carried = carried;
+    only_then = only_then;
+    memory = memory;
+    goes = goes_grow _ _ _ goes;
+    as_long = λ no. goes.same_blocks;
+    no_more = λ blocks is. absurd (fixed (subst IsGrow (sym is) tt));
+    untouched = λ is. absurd (fixed is);
+    same = same;
+    unchanged = unchanged;
+    blocks = blocks;
+    marked = marked;
+    reads = reads;
+    free = free;
+    written = written;
+    grown = λ blocks is. absurd (fixed (subst IsGrow (sym is) tt));
+  }
+
+  -- a Grow
+  pub performs_grow : (old new : Store D members) (blocks : ℕ) (a : Result Answer Refusal) → IsCarriedOut old new (Grow blocks) a → a ≢ Err Failed → GrowsOn (a ≡ Err Device) old new → IsNoLonger old new blocks → EarlyLeavesDisk a old new
+      → entries_of new ≡ entries_of old → EarlyKeeps a old new → NewAreFree a old new blocks → Performs old new (Grow blocks) a
+  performs_grow old new blocks a carried only_then goes no_more untouched same unchanged grown = record {
+    carried = carried;
+    only_then = only_then;
+    memory = λ is. tt;
+    goes = goes;
+    as_long = λ no. absurd (no tt);
+    no_more = λ n is. subst (λ (b : ℕ). IsNoLonger old new b) (same_grow blocks n is) no_more;
+    untouched = λ is. untouched;
+    same = in_err a same;
+    unchanged = unchanged;
+    blocks = λ alone. absurd alone;
+    marked = λ honest is. absurd is;
+    reads = λ honest. tt;
+    free = tt;
+    written = λ is. cc;
+    grown = λ n is. subst (λ (b : ℕ). NewAreFree a old new b) (same_grow blocks n is) grown;
+  }
+    where
+      in_err : (a : Result Answer Refusal) → entries_of new ≡ entries_of old → OnErr a (entries_of new ≡ entries_of old)
+      in_err (Ok x) same = tt
+      in_err (Err refusal) same = same
+
+-- a store that differs from another one in whether it has failed alone, and in how its invariant is known
+module _ {D : Type 0} {members : _} (old mid : Store D members) (failed : Bool) (least : MIN_BLOCKS ≤ mid.blocks) (most : mid.blocks ≤ MAX_BLOCKS) (inside : mid.blocks ≤ (members.state (disk_of mid)).blocks)
+    (bits : length mid.held ≡ mid.blocks) (mark_bits : length mid.marks ≡ mid.blocks) (before_bits : length mid.before ≡ mid.blocks) (room : MAX_VERSIONS ≤ vec_capacity mid.entries) where
+  abbrev pub new : Store D members
+  new = record mid { failed = failed; least = least; most = most; inside = inside; bits = bits; mark_bits = mark_bits; before_bits = before_bits; room_entries = room }
+
+  -- it read as much
+  reads_on : (a : Result Answer Refusal) (c : Command) → ReadsOnly c a old mid → ReadsOnly c a old new
+  reads_on a (New name parent) reads = reads
+  reads_on a (NewAt name parent checkpoint) reads = reads
+  reads_on a (Drop alt) reads = reads
+  reads_on a (Put alt key value) reads = reads
+  reads_on a (Remove alt key) reads = reads
+  reads_on a (Checkpoint alt name) reads = reads
+  reads_on a (Uncheck alt name) reads = reads
+  reads_on a (Back alt name) reads = reads
+  reads_on a (Merge alt settled) reads = reads
+  reads_on a (Post alt) reads = reads
+  reads_on a Commit reads = reads
+  reads_on a Reclaim reads = reads
+  reads_on a (Grow blocks) reads = reads
+
+  -- an early refusal leaves all but the disk as it was
+  early_on : (a : Result Answer Refusal) → has_failed old ≡ false → (IsTrue failed → a ≡ Err Device) → EarlyKeeps a old mid → EarlyKeeps a old new
+  early_on (Ok x) sound noted keeps = tt
+  early_on (Err refusal) sound noted keeps = λ early.
+      let was = keeps early in record {
+        alloc = was.alloc;
+        blocks = was.blocks;
+        slot_name = was.slot_name;
+        entries = was.entries;
+        committed = was.committed;
+        working = was.working;
+        held = was.held;
+        marks = was.marks;
+        before = was.before;
+        series = was.series;
+        changes = was.changes;
+        failed = no_failure failed (λ is. never_early (Err refusal) refusal refl (noted is) early) ∙ sym sound;
+      }
+
+  -- what was done is the same
+  pub carries_out : (c : Command) (a : Result Answer Refusal) → has_failed old ≡ false → (IsTrue failed ↔ a ≡ Err Device) → Performs old mid c a → CarriesOut old new c a
+  carries_out c a sound noted did = record {
+    performs = record {
+      carried = λ honest s holds.
+          let was = did.carried honest s holds in record {
+            answers = answers_on old mid s holds a new c refl refl was.answers;
+            state = was.state;
+            crash = was.crash;
+            guarded = was.guarded;
+            unsynced = was.unsynced;
+          };
+      only_then = did.only_then;
+      memory = did.memory;
+      goes = did.goes;
+      as_long = did.as_long;
+      no_more = did.no_more;
+      untouched = did.untouched;
+      same = did.same;
+      unchanged = early_on a sound noted.0 did.unchanged;
+      blocks = did.blocks;
+      marked = did.marked;
+      reads = λ honest. reads_on a c (did.reads honest);
+      free = keeps_on a old mid new (λ honest. honest) refl c did.free;
+      written = did.written;
+      grown = did.grown;
+    };
+    failed = noted;
+  }
