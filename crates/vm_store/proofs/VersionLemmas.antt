@@ -118,14 +118,6 @@ entries_keep (Uncheck alt name) a old new alone = tt
 entries_keep (Back alt name) a old new alone = tt
 entries_keep c a old new alone = absurd alone
 
--- a store that had failed takes no blocks
-pub keeps_same : {D : Type 0} {members : _} (c : Command) (store : Store D members) → KeepsFree c (Err Failed) store store
-keeps_same (Put alt key value) store = (λ enough. omega arith, λ honest few late. absurd late)
-keeps_same (Remove alt key) store = (λ enough. omega arith, λ honest few late. absurd late)
-keeps_same (Post alt) store = refl
-keeps_same Commit store = refl
-keeps_same c store = tt
-
 -- whether the store has failed says nothing of them
 module _ {D : Type 0} {members : _} (a : Result Answer Refusal) (old new other : Store D members) (honest : IsHonest other → IsHonest new) (held : held_of other ≡ held_of new) where
   pub keeps_on : (c : Command) → KeepsFree c a old new → KeepsFree c a old other
@@ -144,19 +136,3 @@ entries_read (Checkpoint alt name) a old new alone same = unread a old new same
 entries_read (Uncheck alt name) a old new alone same = unread a old new same
 entries_read (Back alt name) a old new alone same = unread a old new same
 entries_read c a old new alone same = absurd alone
-
--- nothing was read by a store that was left as it was
-pub reads_none : {D : Type 0} {members : _} (c : Command) (a : Result Answer Refusal) (store : Store D members) → ReadsOnly c a store store
-reads_none (New name parent) a store = unread a store store refl
-reads_none (NewAt name parent checkpoint) a store = unread a store store refl
-reads_none (Drop alt) a store = unread a store store refl
-reads_none (Put alt key value) a store = unread a store store refl
-reads_none (Remove alt key) a store = unread a store store refl
-reads_none (Checkpoint alt name) a store = unread a store store refl
-reads_none (Uncheck alt name) a store = unread a store store refl
-reads_none (Back alt name) a store = unread a store store refl
-reads_none (Merge alt settled) a store = unread a store store refl
-reads_none (Post alt) a store = started _ _ refl
-reads_none Commit a store = unread a store store refl
-reads_none Reclaim a store = started _ _ refl
-reads_none (Grow blocks) a store = tt
