@@ -30,75 +30,127 @@ impl fmt::Display for Shown<'_> {
     }
 }
 
-/// What is shown of one record, or counted.
-fn add_one<D: Disk>(
-    alloc: Global,
+fn add_value<D: Disk>(
     store: &mut Store<D>,
-    words: &[&str],
+    alt: &str,
+    at: &str,
     text: &mut String,
 ) -> Result<(), Wrong> {
-    match words {
-        ["get", alt, at] => match store.get(&name(alt)?, key(at)?)? {
-            Some(found) => write!(text, "{}", Shown(Some(found.as_bytes())))?,
-            None => write!(text, "{}", Shown(None))?,
-        },
-        // The bytes in the block in which the value stands.
-        ["look", alt, at] => {
-            let mut room = [0; 4096];
-            let found = store.look(&name(alt)?, key(at)?, &mut room)?;
-            write!(text, "{}", Shown(found))?;
-        }
-        ["tally", alt] => {
-            let tally = store.tally(alloc, &name(alt)?)?;
-            let (changed, unmerged, conflicts) = (tally.changed, tally.unmerged, tally.conflicts);
-            let post = if tally.can_post { "yes" } else { "no" };
-            write!(text, "{changed} {unmerged} {conflicts} {post}")?;
-        }
-        ["free"] => write!(text, "{}", store.free()?)?,
-        ["blocks"] => write!(text, "{}", store.blocks()?)?,
-        _ => return Err(Wrong::Unreadable),
+    match store.get(&name(alt)?, key(at)?)? {
+        Some(found) => write!(text, "{}", Shown(Some(found.as_bytes())))?,
+        None => text.push_str("~")?,
     }
     Ok(())
 }
 
-/// What is listed, or else shown.
-fn add_all<D: Disk>(
+/// The same, of the bytes in the block in which the value stands.
+fn add_lent<D: Disk>(
+    store: &mut Store<D>,
+    alt: &str,
+    at: &str,
+    text: &mut String,
+) -> Result<(), Wrong> {
+    let mut room = [0; 4096];
+    let found = store.look(&name(alt)?, key(at)?, &mut room)?;
+    write!(text, "{}", Shown(found))?;
+    Ok(())
+}
+
+fn add_records<D: Disk>(
+    alloc: Global,
+    store: &mut Store<D>,
+    alt: &str,
+    text: &mut String,
+) -> Result<(), Wrong> {
+    for (key, value) in &store.list(alloc, &name(alt)?)? {
+        write!(text, " {key}={}", Shown(Some(value)))?;
+    }
+    Ok(())
+}
+
+fn add_changes<D: Disk>(
+    alloc: Global,
+    store: &mut Store<D>,
+    alt: &str,
+    text: &mut String,
+) -> Result<(), Wrong> {
+    for (key, before, after) in &store.changes(alloc, &name(alt)?)? {
+        write!(text, " {key}={}/{}", Shown(before), Shown(after))?;
+    }
+    Ok(())
+}
+
+fn add_conflicts<D: Disk>(
+    alloc: Global,
+    store: &mut Store<D>,
+    alt: &str,
+    text: &mut String,
+) -> Result<(), Wrong> {
+    for (key, base, parent, mine) in &store.conflicts(alloc, &name(alt)?)? {
+        let (base, parent, mine) = (Shown(base), Shown(parent), Shown(mine));
+        write!(text, " {key}={base}/{parent}/{mine}")?;
+    }
+    Ok(())
+}
+
+fn add_tally<D: Disk>(
+    alloc: Global,
+    store: &mut Store<D>,
+    alt: &str,
+    text: &mut String,
+) -> Result<(), Wrong> {
+    let tally = store.tally(alloc, &name(alt)?)?;
+    let (changed, unmerged, conflicts) = (tally.changed, tally.unmerged, tally.conflicts);
+    let post = if tally.can_post { "yes" } else { "no" };
+    write!(text, "{changed} {unmerged} {conflicts} {post}")?;
+    Ok(())
+}
+
+fn add_alternatives<D: Disk>(
+    alloc: Global,
+    store: &Store<D>,
+    text: &mut String,
+) -> Result<(), Wrong> {
+    for (name, parent) in &store.alternatives(alloc)? {
+        write!(text, " {name}")?;
+        if let Some(parent) = parent {
+            write!(text, "<{parent}")?;
+        }
+    }
+    Ok(())
+}
+
+fn add_checkpoints<D: Disk>(
+    alloc: Global,
+    store: &Store<D>,
+    alt: &str,
+    text: &mut String,
+) -> Result<(), Wrong> {
+    for name in &store.checkpoints(alloc, &name(alt)?)? {
+        write!(text, " {name}")?;
+    }
+    Ok(())
+}
+
+/// Adds what a query is answered.
+fn add_found<D: Disk>(
     alloc: Global,
     store: &mut Store<D>,
     words: &[&str],
     text: &mut String,
 ) -> Result<(), Wrong> {
     match words {
-        ["list", alt] => {
-            for (key, value) in &store.list(alloc, &name(alt)?)? {
-                write!(text, " {key}={}", Shown(Some(value)))?;
-            }
-        }
-        ["changes", alt] => {
-            for (key, before, after) in &store.changes(alloc, &name(alt)?)? {
-                write!(text, " {key}={}/{}", Shown(before), Shown(after))?;
-            }
-        }
-        ["conflicts", alt] => {
-            for (key, base, parent, mine) in &store.conflicts(alloc, &name(alt)?)? {
-                let (base, parent, mine) = (Shown(base), Shown(parent), Shown(mine));
-                write!(text, " {key}={base}/{parent}/{mine}")?;
-            }
-        }
-        ["alts"] => {
-            for (name, parent) in &store.alternatives(alloc)? {
-                write!(text, " {name}")?;
-                if let Some(parent) = parent {
-                    write!(text, "<{parent}")?;
-                }
-            }
-        }
-        ["checks", alt] => {
-            for name in &store.checkpoints(alloc, &name(alt)?)? {
-                write!(text, " {name}")?;
-            }
-        }
-        _ => add_one(alloc, store, words, text)?,
+        ["get", alt, at] => add_value(store, alt, at, text)?,
+        ["look", alt, at] => add_lent(store, alt, at, text)?,
+        ["list", alt] => add_records(alloc, store, alt, text)?,
+        ["changes", alt] => add_changes(alloc, store, alt, text)?,
+        ["conflicts", alt] => add_conflicts(alloc, store, alt, text)?,
+        ["tally", alt] => add_tally(alloc, store, alt, text)?,
+        ["alts"] => add_alternatives(alloc, store, text)?,
+        ["checks", alt] => add_checkpoints(alloc, store, alt, text)?,
+        ["free"] => write!(text, "{}", store.free()?)?,
+        ["blocks"] => write!(text, "{}", store.blocks()?)?,
+        _ => return Err(Wrong::Unreadable),
     }
     Ok(())
 }
@@ -208,7 +260,7 @@ fn add_answer<D: Disk>(
         ["run", list @ ..] => return add_run(alloc, store, list, text),
         _ => match command(alloc, words)? {
             Some(command) => store.apply(&command),
-            None => return add_all(alloc, store, words, text),
+            None => return add_found(alloc, store, words, text),
         },
     };
     add_reply(text, reply)
