@@ -1,5 +1,6 @@
 pub mod Numbers
 pub mod Matches
+pub mod Commands
 pub mod FaultFree
 pub mod Levels
 pub mod Entered

@@ -1,9 +1,9 @@
 -- The command line of the program as clap reads it, and the job that clap's matches ask for.
-use Rattle.std.specs.Prelude.{◌≡◌, ℕ, Bool, true, false, pos, List, [], ◌∷◌, Option, Some, None, codes, if◌then◌else◌, option_map, option_and_then}
+use Rattle.std.specs.Prelude.{◌≡◌, ℕ, Bool, true, false, pos, List, [], ◌∷◌, Option, Some, None, codes, if◌then◌else◌, option_map, option_and_then, IsOkAnd, Result}
 use Rattle.std.specs.Str.{bytes_eq}
 use Rattle.std.specs.Str.Parse.{digits_value, without_leading_plus}
 use Rattle.clap.specs.ValueTests.{is_unsigned_in}
-use Rattle.clap.specs.Words.{App, Row, Rule, Text, all_of, first_of, one_of, new_app, new_rule, subcommand_of, with_rule, with_subcommand}
+use Rattle.clap.specs.Words.{App, Row, Rule, Text, all_of, app_of, first_of, one_of, new_app, new_rule, shape_of, subcommand_of, with_rule, with_subcommand}
 use Rattle.clap.specs.Simple.{on_top}
 use Rattle.clap.specs.declared.builder.command.Command.{Command}
 use Rattle.clap.specs.declared.builder.command.Command.TheViews.{out-Command}
@@ -34,23 +34,22 @@ blocks_rule = record (new_rule (codes "blocks")) {
 abbrev pub create_app : App
 create_app = with_rule (with_rule (new_app (codes "create")) file_rule) blocks_rule
 
--- how many blocks are kept in memory: a number in its range, and 256 where no word says one
-abbrev pub cache_rule : Rule
-cache_rule = record (new_rule (codes "cache")) {
-  long = Some (codes "cache");
+-- an option that says how many blocks are in memory: a number up to the most, and the default where no word says one
+abbrev pub amount_rule : Text → Text → ℕ → Rule
+amount_rule name default most = record (new_rule name) {
+  long = Some name;
   value_names = 1;
-  defaults = codes "256" ∷ [];
-  parser = Some (vp.Signed (pos 0) (pos MAX_CACHE));
+  defaults = default ∷ [];
+  parser = Some (vp.Signed (pos 0) (pos most));
 }
 
--- how many written blocks wait in memory: a number in its range, and 16384 where no word says one
+-- how many blocks are kept in memory: 256 where no word says it
+abbrev pub cache_rule : Rule
+cache_rule = amount_rule (codes "cache") (codes "256") MAX_CACHE
+
+-- how many written blocks wait in memory: 16384 where no word says it
 abbrev pub buffer_rule : Rule
-buffer_rule = record (new_rule (codes "buffer")) {
-  long = Some (codes "buffer");
-  value_names = 1;
-  defaults = codes "16384" ∷ [];
-  parser = Some (vp.Signed (pos 0) (pos MAX_BUFFER));
-}
+buffer_rule = amount_rule (codes "buffer") (codes "16384") MAX_BUFFER
 
 -- whether a line that is refused ends the talk
 abbrev pub strict_rule : Rule
@@ -91,15 +90,11 @@ tree_app = with_rule (new_app (codes "tree")) file_rule
 abbrev pub top_app : App
 top_app = on_top (λ s. record s { subcommand_required = true; has_version = true }) (new_app (codes "altctl"))
 
--- the program with its first tasks
-abbrev pub first_app : App
-first_app = with_subcommand (with_subcommand top_app create_app.top) run_app.top
-
 -- `altctl create FILE BLOCKS`, `altctl run [--cache N] [--buffer N] [--strict] FILE`, `altctl do [--cache N] [--buffer N] [--strict] FILE LINE..`,
 -- `altctl check FILE` and `altctl tree FILE`
 abbrev pub altctl : App
 altctl =
-    with_subcommand (with_subcommand (with_subcommand first_app do_app.top) check_app.top) tree_app.top
+    with_subcommand (with_subcommand (with_subcommand (with_subcommand (with_subcommand top_app create_app.top) run_app.top) do_app.top) check_app.top) tree_app.top
 
 -- a job, with the file's name itself in place of a reference to it, and the input of the lines that were given
 pub data Wanted : Type 0 where
@@ -180,3 +175,7 @@ IsAskedOf matched job = option_map wanted_of job ≡ asked_of matched
 -- a command has no argument that its subcommands take too
 abbrev pub IsLocal : Command → Type 0
 IsLocal command = (out-Command command).has_globals ≡ false
+
+-- this is the program with this task as one more subcommand, and both were made
+abbrev pub AddsTask : {E : Type 0} → Result Command E → Result Command E → Command → Type 0
+AddsTask program task whole = IsOkAnd program (λ p. IsOkAnd task (λ c. IsLocal c → app_of whole ≡ with_subcommand (app_of p) (shape_of c)))

@@ -1,8 +1,8 @@
 //! The words that the program is started with, read by `clap`.
-ghost use Rattle.clap.specs.Words.{FailsBy, app_of, fault_of, kind_of, one_of, rule_of, rows_of, found_of, first_of, subcommand_of, subcommand_rows_of, with_rule, with_subcommand};
+ghost use Rattle.clap.specs.Words.{FailsBy, app_of, fault_of, found_of, first_of, new_app, rows_of, rule_of, subcommand_rows_of};
 ghost use Rattle.std.specs.Prelude.{◌≡◌, ◌⊎◌, if◌then◌else◌, IfErr, IfOk, None, Some, false, map, ℕ, List, option_map, option_and_then, codes};
 ghost use Rattle.std.specs.String.{string_bytes};
-ghost use Rattle.vm_cli.specs.Words.{IsAsked, IsAskedOf, IsLocal, WordsAsk, altctl, blocks_rule, buffer_rule, cache_rule, check_app, create_app, do_app, file_rule, first_app, line_rule, is_set, number_by, memory_by, run_app, strict_rule, top_app, tree_app, wanted_of, with_options};
+ghost use Rattle.vm_cli.specs.Words.{AddsTask, IsAsked, IsAskedOf, IsLocal, WordsAsk, altctl, amount_rule, blocks_rule, check_app, create_app, do_app, file_rule, line_rule, is_set, number_by, memory_by, run_app, strict_rule, top_app, tree_app, wanted_of, with_options};
 
 use crate::program::given::input_of;
 use crate::program::help;
@@ -144,43 +144,62 @@ fn number_of(matches: &ArgMatches<'_>, name: &str, least: u32, most: u32) -> Opt
 fn command<'a>(alloc: Global) -> Result<Command<'a>, AllocError>
     ensures { IfOk result (λ c. app_of c ≡ altctl) }
 {
-    first_commands(alloc)?
-        .subcommand(do_lines(alloc)?)?
-        .subcommand(check(alloc)?)?
-        .subcommand(tree(alloc)?)
+    let program = with_task(top(alloc), create(alloc));
+    let program = with_task(program, run(alloc));
+    let program = with_task(program, do_lines(alloc));
+    let program = with_task(program, check(alloc));
+    with_task(program, tree(alloc))
 }
 
-/// The program's command line up to `run`.
-fn first_commands<'a>(alloc: Global) -> Result<Command<'a>, AllocError>
-    ensures { IfOk result (λ c. app_of c ≡ first_app) }
+/// The program with one more task, if both could be made. Each `?` beside a command is a path on which that is dropped, and is
+/// proved: so they stand here, once.
+fn with_task<'a>(
+    program: Result<Command<'a>, AllocError>,
+    task: Result<Command<'a>, AllocError>,
+) -> Result<Command<'a>, AllocError>
+    ensures { IfOk result (AddsTask program.entry task.entry) }
 {
-    top(alloc)?
-        .subcommand(create(alloc)?)?
-        .subcommand(run(alloc)?)
+    let program = program?;
+    program.subcommand(task?)
 }
 
 fn top<'a>(alloc: Global) -> Result<Command<'a>, AllocError>
     ensures { IfOk result (λ c. app_of c ≡ top_app) }
 {
-    Ok(
-        Command::new(alloc, "altctl")
-            .bin_name("altctl")?
-            .version(help::VERSION)
-            .about("A version managed map store with alternatives")
-            .long_about(help::ALTCTL)
-            .after_long_help(help::ALTCTL_AFTER)
-            .subcommand_required(true),
+    let program = described(
+        alloc,
+        "altctl",
+        "A version managed map store with alternatives",
+        help::ALTCTL,
+        help::ALTCTL_AFTER,
     )
+    .bin_name("altctl")?;
+    Ok(program.version(help::VERSION).subcommand_required(true))
+}
+
+/// A command of this name, with the texts of its help.
+fn described<'a>(
+    alloc: Global,
+    name: &'a str,
+    about: &'a str,
+    long_about: &'a str,
+    after: &'a str,
+) -> Command<'a>
+    ensures app { app_of result ≡ new_app name.entry.now }
+    ensures local { IsLocal result }
+{
+    Command::new(alloc, name)
+        .about(about)
+        .long_about(long_about)
+        .after_long_help(after)
 }
 
 fn create<'a>(alloc: Global) -> Result<Command<'a>, AllocError>
     ensures app { IfOk result (λ c. app_of c ≡ create_app) }
     ensures local { IfOk result (λ c. IsLocal c) }
 {
-    Command::new(alloc, "create")
-        .about("Makes a file with an empty store")
-        .long_about(help::CREATE)
-        .after_long_help(help::CREATE_AFTER)
+    let about = "Makes a file with an empty store";
+    described(alloc, "create", about, help::CREATE, help::CREATE_AFTER)
         .arg(file(alloc, help::CREATE_FILE))?
         .arg(blocks(alloc))
 }
@@ -189,25 +208,23 @@ fn run<'a>(alloc: Global) -> Result<Command<'a>, AllocError>
     ensures app { IfOk result (λ c. app_of c ≡ run_app) }
     ensures local { IfOk result (λ c. IsLocal c) }
 {
-    let command = Command::new(alloc, "run")
-        .about("Opens a store and answers the lines of the standard input")
-        .long_about(help::RUN)
-        .after_long_help(help::RUN_AFTER)
-        .arg(file(alloc, help::RUN_FILE))?;
-    Ok(with_options(alloc, command)?)
+    let about = "Opens a store and answers the lines of the standard input";
+    let command = described(alloc, "run", about, help::RUN, help::RUN_AFTER).arg(file(
+        alloc,
+        help::RUN_FILE,
+    ))?;
+    with_options(alloc, command)
 }
 
 fn do_lines<'a>(alloc: Global) -> Result<Command<'a>, AllocError>
     ensures app { IfOk result (λ c. app_of c ≡ do_app) }
     ensures local { IfOk result (λ c. IsLocal c) }
 {
-    let command = Command::new(alloc, "do")
-        .about("Opens a store and answers the lines that the words are")
-        .long_about(help::DO)
-        .after_long_help(help::DO_AFTER)
+    let about = "Opens a store and answers the lines that the words are";
+    let command = described(alloc, "do", about, help::DO, help::DO_AFTER)
         .arg(file(alloc, help::RUN_FILE))?
         .arg(line(alloc))?;
-    Ok(with_options(alloc, command)?)
+    with_options(alloc, command)
 }
 
 /// A command with the options of a talk.
@@ -216,8 +233,8 @@ fn with_options<'a>(alloc: Global, command: Command<'a>) -> Result<Command<'a>, 
     ensures local { IsLocal command.entry → IfOk result (λ c. IsLocal c) }
 {
     command
-        .arg(cache(alloc))?
-        .arg(buffer(alloc))?
+        .arg(amount(alloc, "cache", help::RUN_CACHE, "256"))?
+        .arg(amount(alloc, "buffer", help::RUN_BUFFER, "16384"))?
         .arg(strict(alloc))
 }
 
@@ -225,22 +242,19 @@ fn check<'a>(alloc: Global) -> Result<Command<'a>, AllocError>
     ensures app { IfOk result (λ c. app_of c ≡ check_app) }
     ensures local { IfOk result (λ c. IsLocal c) }
 {
-    Command::new(alloc, "check")
-        .about("Opens a store, changes nothing, and prints what it holds")
-        .long_about(help::CHECK)
-        .after_long_help(help::CHECK_AFTER)
-        .arg(file(alloc, help::CHECK_FILE))
+    let about = "Opens a store, changes nothing, and prints what it holds";
+    described(alloc, "check", about, help::CHECK, help::CHECK_AFTER).arg(file(
+        alloc,
+        help::CHECK_FILE,
+    ))
 }
 
 fn tree<'a>(alloc: Global) -> Result<Command<'a>, AllocError>
     ensures app { IfOk result (λ c. app_of c ≡ tree_app) }
     ensures local { IfOk result (λ c. IsLocal c) }
 {
-    Command::new(alloc, "tree")
-        .about("Opens a store, changes nothing, and draws its alternatives as a tree")
-        .long_about(help::TREE)
-        .after_long_help(help::TREE_AFTER)
-        .arg(file(alloc, help::CHECK_FILE))
+    let about = "Opens a store, changes nothing, and draws its alternatives as a tree";
+    described(alloc, "tree", about, help::TREE, help::TREE_AFTER).arg(file(alloc, help::CHECK_FILE))
 }
 
 fn file<'a>(alloc: Global, about: &'a str) -> Arg<'a>
@@ -275,27 +289,16 @@ fn blocks<'a>(alloc: Global) -> Arg<'a>
         .value_parser(value_parser!(u32).range(64..=1_048_576))
 }
 
-fn cache<'a>(alloc: Global) -> Arg<'a>
-    ensures rule { rule_of result ≡ cache_rule }
+/// The option that says how many blocks are in memory.
+fn amount<'a>(alloc: Global, name: &'a str, about: &'a str, default: &'a str) -> Arg<'a>
+    ensures rule { rule_of result ≡ amount_rule name.entry.now default.entry.now 65536 }
     ensures local { result.global ≡ false }
 {
-    Arg::new(alloc, "cache")
-        .long("cache")
+    Arg::new(alloc, name)
+        .long(name)
         .value_name("N")
-        .help(help::RUN_CACHE)
-        .default_value("256")
-        .value_parser(value_parser!(u32).range(0..=65_536))
-}
-
-fn buffer<'a>(alloc: Global) -> Arg<'a>
-    ensures rule { rule_of result ≡ buffer_rule }
-    ensures local { result.global ≡ false }
-{
-    Arg::new(alloc, "buffer")
-        .long("buffer")
-        .value_name("N")
-        .help(help::RUN_BUFFER)
-        .default_value("16384")
+        .help(about)
+        .default_value(default)
         .value_parser(value_parser!(u32).range(0..=65_536))
 }
 
