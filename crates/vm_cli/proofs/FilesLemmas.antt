@@ -24,7 +24,7 @@ use Rattle.vm_cli.specs.Exits.{IsJob, Tells}
 use Rattle.vm_cli.specs.Keeps.{Keeps, answers_of, commands_of}
 use Rattle.vm_cli.specs.Files.{Answers, Counts, Draws, Declines, Does, KeepsAll, Makes}
 use Rattle.vm_cli.specs.Places.{KeepsOthers, PlaceState}
-use Rattle.vm_cli.specs.Runs.{LooksOnly}
+use Rattle.vm_cli.specs.Runs.{Disks, LooksOnly, ServesIn, ServesWords}
 use Rattle.vm_cli.specs.Sessions.{HasRefused}
 use Rattle.vm_cli.specs.Words.{Wanted, altctl}
 use Rattle.vm_cli.specs.Words.Wanted.{check, create, do_lines, draw, run}
@@ -219,14 +219,14 @@ module _ {D : Type 0} (members : Ghosts D) (cached : Ghosts (CachedDisk D member
       (refused_below members over.first over.last refusal shown)
 
 module _ {D : Type 0} (members : Ghosts D) (cached : Ghosts (CachedDisk D members)) (late : Ghosts (DelayedDisk D members))
-    (late_cached : Ghosts (DelayedDisk (CachedDisk D members) cached)) (Untouched Reads Opens Denied : Type 0) (words : List Text) (exit : Exit)
+    (late_cached : Ghosts (DelayedDisk (CachedDisk D members) cached)) (Untouched Reads Opens : Type 0) (Denied : Text → Type 0) (words : List Text) (exit : Exit)
     (old new : PlaceState) (input before after errors errors' : Option (List ℕ)) where
   -- what was done
   abbrev Did : Type 0
   Did = Does members cached late late_cached Untouched Reads Opens Denied words exit old new input before after errors errors'
 
   -- a store was to be made
-  pub did_create : (name : Text) (blocks : ℕ) → IsJob words (create name blocks) → Opens → Makes members Denied name blocks exit old new before after errors errors' → Did
+  pub did_create : (name : Text) (blocks : ℕ) → IsJob words (create name blocks) → Opens → Makes members (Denied name) name blocks exit old new before after errors errors' → Did
   did_create name blocks job opens makes = record {
     creates = λ other size asked. let same : create other size ≡ create name blocks = one_job words (create name blocks) (create other size) job asked in
         let name_is : other ≡ name = cc in
@@ -241,7 +241,7 @@ module _ {D : Type 0} (members : Ghosts D) (cached : Ghosts (CachedDisk D member
 
   -- lines were to be answered
   pub did_run : (name : Text) (in_memory : InMemory) (on : OnRefusal) → IsJob words (run name in_memory on) → Opens
-      → Answers members cached late late_cached name in_memory on exit old new input before after ⊎ Declines members Denied name exit old new errors errors' → Did
+      → Answers members cached late late_cached name in_memory on exit old new input before after ⊎ Declines members (Denied name) name exit old new errors errors' → Did
   did_run name in_memory on job opens answers = record {
     creates = λ other size asked. let same : create other size ≡ run name in_memory on = one_job words (run name in_memory on) (create other size) job asked in absurd (cc);
     runs = λ other size refusal asked. let same : run other size refusal ≡ run name in_memory on = one_job words (run name in_memory on) (run other size refusal) job asked in
@@ -257,7 +257,7 @@ module _ {D : Type 0} (members : Ghosts D) (cached : Ghosts (CachedDisk D member
 
   -- lines that were given were to be answered
   pub did_lines : (name : Text) (lines : List ℕ) (in_memory : InMemory) (on : OnRefusal) → IsJob words (do_lines name lines in_memory on) → Opens
-      → Answers members cached late late_cached name in_memory on exit old new (Some lines) before after ⊎ Declines members Denied name exit old new errors errors' → Did
+      → Answers members cached late late_cached name in_memory on exit old new (Some lines) before after ⊎ Declines members (Denied name) name exit old new errors errors' → Did
   did_lines name lines in_memory on job opens answers = record {
     creates = λ other size asked. let same : create other size ≡ do_lines name lines in_memory on = one_job words (do_lines name lines in_memory on) (create other size) job asked in absurd (cc);
     runs = λ other size refusal asked. let same : run other size refusal ≡ do_lines name lines in_memory on = one_job words (do_lines name lines in_memory on) (run other size refusal) job asked in absurd (cc);
@@ -274,7 +274,7 @@ module _ {D : Type 0} (members : Ghosts D) (cached : Ghosts (CachedDisk D member
 
   -- a store was to be checked
   pub did_check : (name : Text) → IsJob words (check name) → Reads
-      → Counts members name exit old new before after ⊎ Declines members Denied name exit old new errors errors' → Did
+      → Counts members name exit old new before after ⊎ Declines members (Denied name) name exit old new errors errors' → Did
   did_check name job reads counts = record {
     creates = λ other size asked. let same : create other size ≡ check name = one_job words (check name) (create other size) job asked in absurd (cc);
     runs = λ other in_memory on asked. let same : run other in_memory on ≡ check name = one_job words (check name) (run other in_memory on) job asked in absurd (cc);
@@ -286,14 +286,14 @@ module _ {D : Type 0} (members : Ghosts D) (cached : Ghosts (CachedDisk D member
     none = λ no. absurd (no (check name) job);
   }
     where
-      told : Counts members name exit old new before after ⊎ Declines members Denied name exit old new errors errors'
-          → Counts members name exit old new before after ⊎ (Declines members Denied name exit old new errors errors' ⊎ ((exit ≡ Stopped) × Untouched))
+      told : Counts members name exit old new before after ⊎ Declines members (Denied name) name exit old new errors errors'
+          → Counts members name exit old new before after ⊎ (Declines members (Denied name) name exit old new errors errors' ⊎ ((exit ≡ Stopped) × Untouched))
       told (inl counts) = inl counts
       told (inr declines) = inr (inl declines)
 
   -- a tree was to be drawn
   pub did_draw : (name : Text) → IsJob words (draw name) → Reads
-      → Draws members name exit old new before after ⊎ Declines members Denied name exit old new errors errors' → Did
+      → Draws members name exit old new before after ⊎ Declines members (Denied name) name exit old new errors errors' → Did
   did_draw name job reads drawn = record {
     creates = λ other size asked. let same : create other size ≡ draw name = one_job words (draw name) (create other size) job asked in absurd (cc);
     runs = λ other in_memory on asked. let same : run other in_memory on ≡ draw name = one_job words (draw name) (run other in_memory on) job asked in absurd (cc);
@@ -305,8 +305,8 @@ module _ {D : Type 0} (members : Ghosts D) (cached : Ghosts (CachedDisk D member
     none = λ no. absurd (no (draw name) job);
   }
     where
-      told : Draws members name exit old new before after ⊎ Declines members Denied name exit old new errors errors'
-          → Draws members name exit old new before after ⊎ (Declines members Denied name exit old new errors errors' ⊎ ((exit ≡ Stopped) × Untouched))
+      told : Draws members name exit old new before after ⊎ Declines members (Denied name) name exit old new errors errors'
+          → Draws members name exit old new before after ⊎ (Declines members (Denied name) name exit old new errors errors' ⊎ ((exit ≡ Stopped) × Untouched))
       told (inl drawn) = inl drawn
       told (inr declines) = inr (inl declines)
 
@@ -320,3 +320,46 @@ module _ {D : Type 0} (members : Ghosts D) (cached : Ghosts (CachedDisk D member
     draws = λ name asked. (reads, inr (inr (stopped (draw name) asked, untouched)));
     none = λ no. untouched;
   }
+
+-- what holds on any place, by the job that the words ask for
+module _ {P D : Type 0} (over : Disks D) (denied : P → List Text) (place place' : P) (words : List Text) (exit : Exit) (input before after errors errors' : Option (List ℕ)) where
+  -- lines were to be answered
+  pub served_run : (name : Text) (in_memory : InMemory) (on : OnRefusal) → IsJob words (run name in_memory on)
+      → ServesIn over denied place place' name in_memory on exit input before after errors errors' → ServesWords over denied place place' words exit input before after errors errors'
+  served_run name in_memory on job serves = (
+    (λ other size refusal asked.
+        let same : run other size refusal ≡ run name in_memory on = one_job words (run name in_memory on) (run other size refusal) job asked in
+        let name_is : other ≡ name = cc in
+        let size_is : size ≡ in_memory = cc in
+        let on_is : refusal ≡ on = cc in
+        inl (rw (name_is, size_is, on_is) serves)),
+    (λ other lines size refusal asked. let same : do_lines other lines size refusal ≡ run name in_memory on = one_job words (run name in_memory on) (do_lines other lines size refusal) job asked in absurd (cc)),
+  )
+
+  -- lines that were given were
+  pub served_lines : (name : Text) (lines : List ℕ) (in_memory : InMemory) (on : OnRefusal) → IsJob words (do_lines name lines in_memory on)
+      → ServesIn over denied place place' name in_memory on exit (Some lines) before after errors errors' → ServesWords over denied place place' words exit input before after errors errors'
+  served_lines name lines in_memory on job serves = (
+    (λ other size refusal asked. let same : run other size refusal ≡ do_lines name lines in_memory on = one_job words (do_lines name lines in_memory on) (run other size refusal) job asked in absurd (cc)),
+    (λ other given size refusal asked.
+        let same : do_lines other given size refusal ≡ do_lines name lines in_memory on = one_job words (do_lines name lines in_memory on) (do_lines other given size refusal) job asked in
+        let name_is : other ≡ name = cc in
+        let lines_are : given ≡ lines = cc in
+        let size_is : size ≡ in_memory = cc in
+        let on_is : refusal ≡ on = cc in
+        inl (rw (name_is, lines_are, size_is, on_is) serves)),
+  )
+
+  -- no lines were to be answered, or the program stopped before
+  pub served_none : ((name : Text) (in_memory : InMemory) (on : OnRefusal) → IsJob words (run name in_memory on) → (exit ≡ Stopped) × (place' ≡ place))
+      → ((name : Text) (lines : List ℕ) (in_memory : InMemory) (on : OnRefusal) → IsJob words (do_lines name lines in_memory on) → (exit ≡ Stopped) × (place' ≡ place))
+      → ServesWords over denied place place' words exit input before after errors errors'
+  served_none runs does = ((λ name in_memory on asked. inr (runs name in_memory on asked)), (λ name lines in_memory on asked. inr (does name lines in_memory on asked)))
+
+  -- words that ask for something else
+  pub served_other : (job : Wanted) → IsJob words job → ((name : Text) (in_memory : InMemory) (on : OnRefusal) → run name in_memory on ≡ job → ⊥)
+      → ((name : Text) (lines : List ℕ) (in_memory : InMemory) (on : OnRefusal) → do_lines name lines in_memory on ≡ job → ⊥)
+      → ServesWords over denied place place' words exit input before after errors errors'
+  served_other job asked no_run no_lines = served_none
+      (λ name in_memory on other. absurd (no_run name in_memory on (one_job words job (run name in_memory on) asked other)))
+      (λ name lines in_memory on other. absurd (no_lines name lines in_memory on (one_job words job (do_lines name lines in_memory on) asked other)))

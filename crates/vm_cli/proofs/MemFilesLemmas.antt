@@ -32,6 +32,13 @@ pub ok_is : {T E : Type 0} (P : T → Type 0) (result : Result T E) (x : T) → 
 ok_is P (Ok y) x e p = let same : y ≡ x = cc in subst P same p
 ok_is P (Err y) x e p = absurd cc
 
+-- slots of one state have the same contents
+contents_same : (old new : Option Slot) → option_map slot_state new ≡ option_map slot_state old → option_map slot_contents new ≡ option_map slot_contents old
+contents_same None None e = refl
+contents_same (Some a) (Some b) e = let same : slot_state b ≡ slot_state a = cc in ap (λ (s : DiskState). Some s.now.contents) same
+contents_same None (Some b) e = absurd cc
+contents_same (Some a) None e = absurd cc
+
 -- what is not there is None
 no_slot : {X : Type 0} (found : Option X) → is_some found ≡ false → found ≡ None
 no_slot None e = refl
@@ -70,16 +77,19 @@ module _ {Y : Type 0} (honest : Bool) (path : List ℕ) (old new : BTreeMap (Str
           fresh = blank.past;
           stays = λ contents there. let no : None ≡ Some contents = ap (option_map slot_contents) (sym none) ∙ there in absurd cc;
           others = λ other differ. ap (option_map slot_contents) (others other differ);
+          others_came = λ other differ. ap (option_map slot_state) (others other differ);
+          none_came = λ none. absurd cc;
         }
 
     -- a disk was taken out of its slot, or none was there
-    pub finds : (was : Slot) → get_by_text old path ≡ Some was → slot_contents slot ≡ slot_contents was → (found : Option DiskState)
+    pub finds : (was : Slot) → get_by_text old path ≡ Some was → slot_state slot ≡ slot_state was → (found : Option DiskState)
         → IfSome found (λ s. (s.now.contents ≡ slot_contents was) × IsClean s.now × (s.past ≡ []))
         → Finds path found (known old) (known new)
     finds was there same found told = record {
       held = go found told;
       fresh = go_fresh found told;
-      same = λ other. go_same other (bytes_eq path other) refl;
+      same = λ other. contents_same (get_by_text old other) (get_by_text new other) (go_same other (bytes_eq path other) refl);
+      same_came = λ other. go_same other (bytes_eq path other) refl;
     }
       where
         go : (found : Option DiskState) → IfSome found (λ s. (s.now.contents ≡ slot_contents was) × IsClean s.now × (s.past ≡ []))
@@ -92,12 +102,12 @@ module _ {Y : Type 0} (honest : Bool) (path : List ℕ) (old new : BTreeMap (Str
         go_fresh (Some s) told = told.2
 
         go_same : (other : List ℕ) (b : Bool) → bytes_eq path other ≡ b
-            → option_map slot_contents (get_by_text new other) ≡ option_map slot_contents (get_by_text old other)
+            → option_map slot_state (get_by_text new other) ≡ option_map slot_state (get_by_text old other)
         go_same other true e =
             let is : path ≡ other = (bytes_eq-Decides path other).0 e in
-            let at_path : option_map slot_contents (get_by_text new path) ≡ option_map slot_contents (get_by_text old path) = rw (here, there) (ap Some same) in
+            let at_path : option_map slot_state (get_by_text new path) ≡ option_map slot_state (get_by_text old path) = rw (here, there) (ap Some same) in
             rw is at at_path
-        go_same other false e = ap (option_map slot_contents) (others other (λ same. let yes : bytes_eq path other ≡ true = (bytes_eq-Decides path other).1 (sym same) in absurd cc))
+        go_same other false e = ap (option_map slot_state) (others other (λ same. let yes : bytes_eq path other ≡ true = (bytes_eq-Decides path other).1 (sym same) in absurd cc))
 
     -- a disk came back into its slot
     pub takes_back : (disk : MemDisk) → slot.held.value ≡ disk → TakesBack path (memory_state disk) (known old) (known new)
@@ -106,4 +116,5 @@ module _ {Y : Type 0} (honest : Bool) (path : List ℕ) (old new : BTreeMap (Str
       holds = ap (option_map slot_contents) here ∙ ap (λ (d : MemDisk). Some (memory_state d).now.contents) is;
       came = ap (option_map slot_state) here ∙ ap (λ (d : MemDisk). Some (memory_state d)) is;
       others = λ other differ. ap (option_map slot_contents) (others other differ);
+      others_came = λ other differ. ap (option_map slot_state) (others other differ);
     }

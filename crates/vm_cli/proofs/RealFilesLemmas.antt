@@ -1,5 +1,5 @@
 -- The files of the system keep the rules of a place.
-use Rattle.std.proofs.Common.{◌≡◌, ◌≢◌, ℕ, Bool, true, false, List, [], ◌∷◌, Option, Some, None, IfSome, Result, Ok, Err, IfOk, replicate, reverse, option_map, refl, sym, ap, ◌∙◌, subst}
+use Rattle.std.proofs.Common.{◌≡◌, ◌≢◌, ◌&&◌, ℕ, Bool, true, false, List, [], ◌∷◌, Option, Some, None, IfSome, Result, Ok, Err, IfOk, replicate, reverse, option_map, refl, sym, ap, ◌∙◌, subst}
 use Rattle.std.proofs.lemmas.Bool.{and_parts}
 use Rattle.std.proofs.lemmas.Slice.Eq.{bytes_eq-Decides}
 use Rattle.std.specs.Result.{result_ok}
@@ -16,7 +16,7 @@ use Rattle.vm_disk.specs.declared.system.SystemFile.{SystemFile}
 use Rattle.vm_disk.proofs.FileLemmas.{disk_file_is_honest, sure_is_clean}
 use Rattle.vm_cli.specs.Places.{Creates, Finds, PlaceState, TakesBack}
 use Rattle.vm_cli.specs.Progress.{file_below}
-use Rattle.vm_cli.specs.RealFiles.{blocks_held, came_after, files_after, honest_after, is_absent, is_as_left, real_disk, same_contents, whole_blocks}
+use Rattle.vm_cli.specs.RealFiles.{blocks_held, came_after, disk_name, files_after, honest_after, is_absent, is_as_left, real_disk, same_contents, whole_blocks}
 use Rattle.vm_cli.specs.declared.program.place.Event.{Event}
 use Rattle.vm_cli.specs.declared.program.progress.Watched.{Watched}
 use Rattle.vm_cli.specs.declared.program.place.Event.TheVariants.{Found, Made, Given}
@@ -53,6 +53,11 @@ opened_clean bytes file s is opened =
     let over : IsOpened (fresh bytes) s = rw is at opened in
     let held : s.now.contents ≡ file_blocks s.blocks bytes = ap (λ (m : Medium). m.contents) over.now in
     (held ∙ ap (λ n. file_blocks n bytes) over.blocks, λ n. rw over.now (sure_is_clean s.blocks (fresh bytes) refl n))
+
+both : (a b : Bool) → a ≡ true → b ≡ true → (a && b) ≡ true
+both true true e f = refl
+both true false e f = absurd cc
+both false b e f = absurd cc
 
 -- a name that is not another
 apart : (other name : List ℕ) → other ≢ name → bytes_eq other name ≡ false
@@ -91,6 +96,7 @@ module _ {W : Type 0} (held : ℕ → List ℕ → Option (List ℕ)) (torn : �
           held = rw said (go there result told);
           fresh = rw said (fresh_disk (λ disk. record { file = system_state held torn (file_below (file_of disk)); blocks = disk.blocks; sure = disk.blocks }) result over);
           same = λ other. rw more refl;
+          same_came = λ other. rw more refl;
         }
       where
         go : files_after held torn old path ≡ Some (whole_blocks (held_bytes (held opened path))) → (result : Result (FileDisk (Watched (SystemFile W))) (Watched (SystemFile W)))
@@ -121,6 +127,8 @@ module _ {W : Type 0} (held : ℕ → List ℕ → Option (List ℕ)) (torn : �
           others = λ other differ.
               let step : files_after held torn (Made noted_file ∷ old) other ≡ files_after held torn old other = rw (is, name, apart other path differ) refl in
               rw more step;
+          others_came = λ other differ. rw more refl;
+          none_came = λ none other. rw more refl;
         }
       where
         go_absent : files_after held torn old path ≡ None → (result : Result (FileDisk (Watched (SystemFile W))) (Watched (SystemFile W))) → IfSome (option_map (real_disk held torn) (result_ok result)) (λ s. files_after held torn old path ≡ None)
@@ -157,4 +165,17 @@ module _ {W : Type 0} (held : ℕ → List ℕ → Option (List ℕ)) (torn : �
         others = λ other differ.
             let step : files_after held torn (Given given noted_disk ∷ old) other ≡ files_after held torn old other = rw (name, apart other path differ) refl in
             rw more step;
+        others_came = λ other differ.
+            let step : came_after held torn (Given given noted_disk ∷ old) other ≡ came_after held torn old other = rw (name, apart other path differ) refl in
+            rw more step;
       }
+
+  -- files that were honest are so after it, where the disk kept the disk model, and the name is its own
+  pub stays_given : (disk : FileDisk (Watched (SystemFile W))) (given : History ℕ) (noted_disk : Snapshot (FileDisk (Watched (SystemFile W)))) → noted_disk.value ≡ disk → reverse (noted given) ≡ path
+      → new ≡ Given given noted_disk ∷ old → disk_name held torn disk ≡ path → (real_disk held torn disk).honest ≡ true → honest_after held torn old ≡ true → honest_after held torn new ≡ true
+  stays_given disk given noted_disk is name more named kept was =
+      let whole : (real_disk held torn noted_disk.value).honest ≡ true = subst (λ (d : FileDisk (Watched (SystemFile W))). (real_disk held torn d).honest ≡ true) (sym is) kept in
+      let own : disk_name held torn noted_disk.value ≡ reverse (noted given) =
+      subst (λ (d : FileDisk (Watched (SystemFile W))). disk_name held torn d ≡ path) (sym is) named ∙ sym name in
+      let all : honest_after held torn (Given given noted_disk ∷ old) ≡ true = both _ _ whole (both _ _ ((bytes_eq-Decides _ _).1 own) was) in
+      rw more all

@@ -15,7 +15,7 @@ use Rattle.vm_cli.specs.Caching.{IsServed, answers_told, commands_told}
 use Rattle.vm_cli.specs.Drawing.{tree_text}
 use Rattle.vm_cli.specs.Exits.{IsJob, Tells, check_text, created_text, file_text, refused_text}
 use Rattle.vm_cli.specs.Keeps.{Keeps}
-use Rattle.vm_cli.specs.Places.{KeepsOthers, PlaceState, WasLent}
+use Rattle.vm_cli.specs.Places.{KeepsCame, KeepsOthers, PlaceState, WasLent}
 use Rattle.vm_cli.specs.Sessions.{HasCounted, HasMade, HasMadeNone, HasRefused, HasShown}
 use Rattle.vm_cli.specs.Words.{Wanted}
 use Rattle.vm_cli.specs.Words.Wanted.{check, create, do_lines, draw, run}
@@ -42,14 +42,14 @@ module _ {D : Type 0} (members : Ghosts D) where
         ⊎ ((refusal : Refusal) × IsOfFormat refusal × HasMadeNone (members.state start) (members.state end) blocks refusal
         × Tells Refused exit errors errors' (refused_text refusal))
 
-  -- a file of this name was to be made, with a new store of so many blocks. `Denied` says that the place gave no disk; the last four are
-  -- the output before and after, and the errors
+  -- a file of this name was to be made, with a new store of so many blocks. `Denied` says that the place gave no disk of it; the last
+  -- four are the output before and after, and the errors
   pub record Makes (Denied : Type 0) (name : List ℕ) (blocks : ℕ) (exit : Exit) (old new : PlaceState) (before after errors errors' : Option (List ℕ)) : Type 0 where
     -- at Done there was none, and now it shows the new store
     pub made : exit ≡ Done → (old.files name ≡ None) × ((m : Medium) × (new.files name ≡ Some m.contents) × IsFormatted blocks m)
-    -- there was none, and its disk was made, and laid out; or it is told that it could not be made
+    -- there was none, and its disk was made, and laid out; or it is told that it could not be made, and no disk came back
     pub lays : ((old.files name ≡ None) × LaysOut name blocks exit new before after errors errors')
-        ⊎ (Denied × Tells Refused exit errors errors' (file_text (codes "altctl: cannot create ") name))
+        ⊎ (Denied × KeepsCame old new × Tells Refused exit errors errors' (file_text (codes "altctl: cannot create ") name))
     -- a file that was there is as it was
     pub stays : (contents : Contents) → old.files name ≡ Some contents → new.files name ≡ Some contents
     pub others : KeepsOthers name old new
@@ -65,11 +65,11 @@ module _ {D : Type 0} (members : Ghosts D) where
     pub refused : HasRefused (members.state found) (members.state back) refusal
     pub told : Tells Refused exit errors errors' (refused_text refusal)
 
-  -- the store in the file of this name was to be served, counted or drawn, and no file changed: it is told that the place gave no disk, or why
-  -- its disk was refused
+  -- the store in the file of this name was to be served, counted or drawn, and no file changed: it is told that the place gave no disk of it, and
+  -- none came back, or why its disk was refused
   pub record Declines (Denied : Type 0) (name : List ℕ) (exit : Exit) (old new : PlaceState) (errors errors' : Option (List ℕ)) : Type 0 where
     pub same : KeepsAll old new
-    pub told : (Denied × Tells Refused exit errors errors' (file_text (codes "altctl: cannot open ") name))
+    pub told : (Denied × KeepsCame old new × Tells Refused exit errors errors' (file_text (codes "altctl: cannot open ") name))
         ⊎ Refuses name exit old new errors errors'
 
   -- the store in the file of this name was counted, and no file changed: at each moment its disk was as it was found, at most synced,
@@ -116,23 +116,24 @@ module _ {D : Type 0} (members : Ghosts D) (cached : Ghosts (CachedDisk D member
         (commands_told members cached late late_cached served (opened seen)) (answers_told members cached late late_cached served (opened seen))
 
   -- what a run of the program does to the files, where `Untouched` says that no call of the place was made, `Reads` that no file was made
-  -- or opened to be written, `Opens` that just one was to be, and `Denied` that a call gave no disk. A job is left undone without a call
+  -- or opened to be written, `Opens` that just one was to be, and `Denied` that a call gave no disk of a name, which was the
+  -- only one. A job is left undone without a call
   -- only where the program stops, as where memory for the words is wanting
-  pub record Does (Untouched Reads Opens Denied : Type 0) (words : List Text) (exit : Exit) (old new : PlaceState) (input before after errors errors' : Option (List ℕ)) : Type 0 where
+  pub record Does (Untouched Reads Opens : Type 0) (Denied : Text → Type 0) (words : List Text) (exit : Exit) (old new : PlaceState) (input before after errors errors' : Option (List ℕ)) : Type 0 where
     -- words that ask for a new store make its file
     pub creates : (name : Text) (blocks : ℕ) → IsJob words (create name blocks)
-        → (Opens × Makes members Denied name blocks exit old new before after errors errors') ⊎ ((exit ≡ Stopped) × Untouched)
+        → (Opens × Makes members (Denied name) name blocks exit old new before after errors errors') ⊎ ((exit ≡ Stopped) × Untouched)
     -- words that ask that lines are answered have them answered over the file, which is opened to be written, or it is said why not
     pub runs : (name : Text) (in_memory : InMemory) (on : OnRefusal) → IsJob words (run name in_memory on)
-        → (Opens × (Answers name in_memory on exit old new input before after ⊎ Declines members Denied name exit old new errors errors')) ⊎ ((exit ≡ Stopped) × Untouched)
+        → (Opens × (Answers name in_memory on exit old new input before after ⊎ Declines members (Denied name) name exit old new errors errors')) ⊎ ((exit ≡ Stopped) × Untouched)
     -- so have words that give lines, whose input they are
     pub does : (name : Text) (lines : List ℕ) (in_memory : InMemory) (on : OnRefusal) → IsJob words (do_lines name lines in_memory on)
-        → (Opens × (Answers name in_memory on exit old new (Some lines) before after ⊎ Declines members Denied name exit old new errors errors')) ⊎ ((exit ≡ Stopped) × Untouched)
+        → (Opens × (Answers name in_memory on exit old new (Some lines) before after ⊎ Declines members (Denied name) name exit old new errors errors')) ⊎ ((exit ≡ Stopped) × Untouched)
     -- words that ask for a check have the store in the file counted, or it is said why not; either way files are only read
     pub checks : (name : Text) → IsJob words (check name)
-        → Reads × (Counts members name exit old new before after ⊎ (Declines members Denied name exit old new errors errors' ⊎ ((exit ≡ Stopped) × Untouched)))
+        → Reads × (Counts members name exit old new before after ⊎ (Declines members (Denied name) name exit old new errors errors' ⊎ ((exit ≡ Stopped) × Untouched)))
     -- words that ask for a drawing have the tree that the file showed drawn, or it is said why not; files are only read, too
     pub draws : (name : Text) → IsJob words (draw name)
-        → Reads × (Draws members name exit old new before after ⊎ (Declines members Denied name exit old new errors errors' ⊎ ((exit ≡ Stopped) × Untouched)))
+        → Reads × (Draws members name exit old new before after ⊎ (Declines members (Denied name) name exit old new errors errors' ⊎ ((exit ≡ Stopped) × Untouched)))
     -- words that ask for no job touch no file
     pub none : ((job : Wanted) → IsJob words job → ⊥) → Untouched

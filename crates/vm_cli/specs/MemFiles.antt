@@ -4,7 +4,7 @@ use Rattle.std.specs.BTreeMap.{get_by_text}
 use Rattle.vm_disk.specs.Disk.{Contents, DiskState}
 use Rattle.vm_disk.specs.Memory.{memory_state}
 use Rattle.vm_disk.specs.Past.{noted}
-use Rattle.vm_cli.specs.Places.{PlaceState}
+use Rattle.vm_cli.specs.Places.{PlaceState, names_in}
 use Rattle.vm_cli.specs.declared.program.mem_files.MemFiles.{MemFiles}
 use Rattle.vm_cli.specs.declared.program.mem_files.Slot.{Slot}
 
@@ -25,9 +25,9 @@ files_state place =
       came = λ name. option_map slot_state (get_by_text place.slots name);
     }
 
--- how often they gave no disk
-abbrev pub times_denied : MemFiles → ℕ
-times_denied place = length (noted place.denied)
+-- the names of which they gave no disk, the newest first
+abbrev pub names_denied : MemFiles → List (List ℕ)
+names_denied place = names_in place.denied
 
 -- how often they were asked for a disk that may be written
 abbrev pub asked_to_write : MemFiles → ℕ
@@ -36,6 +36,10 @@ asked_to_write place = length (noted place.to_write)
 -- there is a file of this name, and its disk is in: it came back, and was not found since
 abbrev pub IsIn : List ℕ → MemFiles → Type 0
 IsIn name place = IsSomeAnd (get_by_text place.slots name) (λ slot. IsSome slot.disk)
+
+-- there is a file of this name, whether its disk is in or out
+abbrev pub HasFile : List ℕ → MemFiles → Type 0
+HasFile name place = IsSome (get_by_text place.slots name)
 
 -- for how many blocks a disk that is made has room, where it has no more of its own
 abbrev pub room_given : MemFiles → ℕ

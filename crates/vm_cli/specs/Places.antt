@@ -1,7 +1,9 @@
 -- What is known of a place where disks are found by name, and what its calls do to it.
-use Rattle.std.specs.Prelude.{◌≡◌, ◌≢◌, ℕ, Bool, true, List, [], Option, Some, None, IfSome, option_map, replicate}
+use Rattle.std.specs.Prelude.{◌≡◌, ◌≢◌, ℕ, Bool, true, List, [], Option, Some, None, IfSome, map, option_map, replicate, reverse}
 use Rattle.vm_types.specs.declared.sizes.TheConstants.{BLOCK_SIZE}
 use Rattle.vm_disk.specs.Disk.{Contents, DiskState, IsClean}
+use Rattle.vm_disk.specs.Past.{noted}
+use Rattle.vm_disk.specs.declared.history.History.{History}
 
 -- what is known of a place
 pub record PlaceState : Type 0 where
@@ -16,6 +18,18 @@ pub record PlaceState : Type 0 where
 abbrev pub KeepsOthers : List ℕ → PlaceState → PlaceState → Type 0
 KeepsOthers name old new = (other : List ℕ) → other ≢ name → new.files other ≡ old.files other
 
+-- no disk came back
+abbrev pub KeepsCame : PlaceState → PlaceState → Type 0
+KeepsCame old new = (name : List ℕ) → new.came name ≡ old.came name
+
+-- none did but under this name
+abbrev pub KeepsOthersCame : List ℕ → PlaceState → PlaceState → Type 0
+KeepsOthersCame name old new = (other : List ℕ) → other ≢ name → new.came other ≡ old.came other
+
+-- the names that were noted, the newest first
+abbrev pub names_in : History (History ℕ) → List (List ℕ)
+names_in names = map (λ name. reverse (noted name)) (noted names)
+
 -- a disk of so many zero blocks is made where there was no file of this name, and no moment of it is past; a file that was there stays as it was
 pub record Creates (name : List ℕ) (blocks : ℕ) (made : Option DiskState) (old new : PlaceState) : Type 0 where
   pub absent : IfSome made (λ s. old.files name ≡ None)
@@ -23,12 +37,15 @@ pub record Creates (name : List ℕ) (blocks : ℕ) (made : Option DiskState) (o
   pub fresh : IfSome made (λ s. s.past ≡ [])
   pub stays : (contents : Contents) → old.files name ≡ Some contents → new.files name ≡ Some contents
   pub others : KeepsOthers name old new
+  pub others_came : KeepsOthersCame name old new
+  pub none_came : made ≡ None → KeepsCame old new
 
 -- the disk of this name is found as it was left, what it holds is lasting, and no moment of it is past; no file changes
 pub record Finds (name : List ℕ) (found : Option DiskState) (old new : PlaceState) : Type 0 where
   pub held : IfSome found (λ s. s.honest ≡ true → (old.files name ≡ Some s.now.contents) × IsClean s.now)
   pub fresh : IfSome found (λ s. s.past ≡ [])
   pub same : (other : List ℕ) → new.files other ≡ old.files other
+  pub same_came : KeepsCame old new
 
 -- a disk comes back: the file of this name holds what the disk holds
 pub record TakesBack (name : List ℕ) (given : DiskState) (old new : PlaceState) : Type 0 where
@@ -36,6 +53,7 @@ pub record TakesBack (name : List ℕ) (given : DiskState) (old new : PlaceState
   pub holds : new.files name ≡ Some given.now.contents
   pub came : new.came name ≡ Some given
   pub others : KeepsOthers name old new
+  pub others_came : KeepsOthersCame name old new
 
 -- a disk was given out in the one state and came back in the other, under this name, and none came back later: it was given out without a
 -- past, so what it went through is all that is past of it now. The file holds what it holds
@@ -48,6 +66,10 @@ pub record WasLent (name : List ℕ) (given back : DiskState) (new : PlaceState)
 -- a place that is honest after a call was so before it
 abbrev pub WasHonest : PlaceState → PlaceState → Type 0
 WasHonest old new = new.honest ≡ true → old.honest ≡ true
+
+-- a place that was honest is so after a call, too
+abbrev pub StaysHonest : PlaceState → PlaceState → Type 0
+StaysHonest old new = old.honest ≡ true → new.honest ≡ true
 
 module _ {P D : Type 0} (state : P → PlaceState) (disk_state : D → DiskState) where
   -- where the place is honest after it, a disk of so many zero blocks is made under this name, or none is

@@ -1,13 +1,15 @@
 -- What the files of the system hold, by what was done with them.
-use Rattle.std.specs.Prelude.{ℕ, ◌+◌, ◌-◌, ◌/◌, ◌^◌, ◌&&◌, min, Bool, true, false, List, [], ◌∷◌, Option, Some, None, if◌then◌else◌, length, reverse, bytes_eq, option_map}
+use Rattle.std.specs.Prelude.{◌≡◌, ◌⊎◌, ℕ, ◌+◌, ◌-◌, ◌/◌, ◌^◌, ◌&&◌, min, Bool, true, false, List, [], ◌∷◌, Option, Some, None, if◌then◌else◌, length, reverse, bytes_eq, option_map}
 use Rattle.vm_types.specs.declared.sizes.TheConstants.{BLOCK_SIZE}
+use Rattle.std.specs.declared.snapshot.Snapshot.{Snapshot}
 use Rattle.vm_disk.specs.Disk.{Contents, DiskState}
 use Rattle.vm_disk.specs.File.{file_blocks, file_of, file_state}
 use Rattle.vm_disk.specs.Past.{noted}
 use Rattle.vm_disk.specs.System.{is_read_alone, name_of, opening_of, system_state}
 use Rattle.vm_disk.specs.declared.file.FileDisk.{FileDisk}
+use Rattle.vm_disk.specs.declared.history.History.{History}
 use Rattle.vm_disk.specs.declared.system.SystemFile.{SystemFile}
-use Rattle.vm_cli.specs.Places.{PlaceState, CreatesIn, FindsIn}
+use Rattle.vm_cli.specs.Places.{PlaceState, CreatesIn, FindsIn, StaysHonest, names_in}
 use Rattle.vm_cli.specs.Progress.{file_below}
 use Rattle.vm_cli.specs.declared.program.place.Event.{Event}
 use Rattle.vm_cli.specs.declared.program.place.Event.TheVariants.{Found, Made, Missed, Given}
@@ -52,9 +54,37 @@ writes_after (Given given disk ∷ events) = writes_after events
 abbrev pub asked_to_write : {R W : Type 0} → RealFiles R W → ℕ
 asked_to_write place = writes_after (noted place.events)
 
--- how often they gave none
-abbrev pub times_denied : {R W : Type 0} → RealFiles R W → ℕ
-times_denied place = length (noted place.denied)
+-- the names of which they gave none, the newest first
+abbrev pub names_denied : {R W : Type 0} → RealFiles R W → List (List ℕ)
+names_denied place = names_in place.denied
+
+-- the next file was opened, under this name
+abbrev pub IsNext : {R W : Type 0} → RealFiles R W → List ℕ → SystemFile W → Type 0
+IsNext place name file = (name_of file ≡ name) × (opening_of file ≡ length (noted place.opened))
+
+-- all that was done is that one was to be had which may be written, and was not; or that a file of this name was made, as the next one
+abbrev pub NotesMade : {R W : Type 0} → List ℕ → RealFiles R W → RealFiles R W → Type 0
+NotesMade {W = W} name old new =
+    (noted new.events ≡ Missed ∷ noted old.events)
+    ⊎ ((file : Snapshot (SystemFile W)) × (noted new.events ≡ Made file ∷ noted old.events) × IsNext old name file.value)
+
+-- the same, where a file of this name was found
+abbrev pub NotesFound : {R W : Type 0} → List ℕ → RealFiles R W → RealFiles R W → Type 0
+NotesFound {W = W} name old new =
+    (noted new.events ≡ Missed ∷ noted old.events)
+    ⊎ ((file : Snapshot (SystemFile W)) × (noted new.events ≡ Found file ∷ noted old.events) × IsNext old name file.value)
+
+-- nothing was done, or all that was is that a file of this name was found
+abbrev pub NotesLooked : {R W : Type 0} → List ℕ → RealFiles R W → RealFiles R W → Type 0
+NotesLooked {W = W} name old new =
+    (noted new.events ≡ noted old.events)
+    ⊎ ((file : Snapshot (SystemFile W)) × (noted new.events ≡ Found file ∷ noted old.events) × IsNext old name file.value)
+
+-- all that was done is that this disk came back under this name
+abbrev pub NotesGiven : {R W : Type 0} → List ℕ → FileDisk (Watched (SystemFile W)) → RealFiles R W → RealFiles R W → Type 0
+NotesGiven {W = W} name disk old new =
+    (given : History ℕ) × (kept : Snapshot (FileDisk (Watched (SystemFile W)))) × (noted new.events ≡ Given given kept ∷ noted old.events)
+    × (reverse (noted given) ≡ name) × (kept.value ≡ disk)
 
 -- no file was asked for so far: each holds what the world says, and no disk came back
 abbrev pub untouched : (ℕ → List ℕ → Option (List ℕ)) → PlaceState
@@ -109,3 +139,7 @@ module _ {W : Type 0} (held : ℕ → List ℕ → Option (List ℕ)) (torn : �
   -- as files of the system that are honest after it find a disk
   abbrev pub FindsReal : {R : Type 0} → List ℕ → Option (FileDisk (Watched (SystemFile W))) → RealFiles R W → RealFiles R W → Type 0
   FindsReal name found old new = FindsIn real_state real_disk name found old new
+
+  -- files of the system that were honest are so after a disk came back that kept the disk model, under its own name
+  abbrev pub StaysReal : {R : Type 0} → List ℕ → FileDisk (Watched (SystemFile W)) → RealFiles R W → RealFiles R W → Type 0
+  StaysReal name disk old new = disk_name disk ≡ name → (real_disk disk).honest ≡ true → StaysHonest (real_state old) (real_state new)

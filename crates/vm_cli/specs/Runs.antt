@@ -1,5 +1,5 @@
--- What a job does to a place that is honest after it, by what is known of the place.
-use Rattle.std.specs.Prelude.{◌≡◌, ◌≢◌, ◌⊎◌, ◌+◌, ℕ, true, List, Option}
+-- What a job does to a place that is honest after it, by what is known of the place, and what lines are answered on any place.
+use Rattle.std.specs.Prelude.{◌≡◌, ◌≢◌, ◌⊎◌, ◌+◌, ◌∷◌, ℕ, true, List, Option, Some, codes}
 use Rattle.clap.specs.Words.{Text}
 use Rattle.vm_types.specs.declared.refusal.Refusal.{Refusal}
 use Rattle.vm_disk.specs.declared.cached.CachedDisk.{CachedDisk}
@@ -7,11 +7,11 @@ use Rattle.vm_disk.specs.declared.delayed.DelayedDisk.{DelayedDisk}
 use Rattle.vm_disk.specs.declared.disk.Disk.{Ghosts}
 use Rattle.vm_cli.specs.Caching.{IsNotServed, IsServed}
 use Rattle.vm_cli.specs.Carried.{WritesStart}
-use Rattle.vm_cli.specs.Exits.{IsJob, TellsOn, refused_text, status_of, stopped_text}
+use Rattle.vm_cli.specs.Exits.{IsJob, Tells, TellsOn, file_text, refused_text, status_of, stopped_text}
 use Rattle.vm_cli.specs.Files.{Answers, Counts, Declines, Does, Draws, Makes}
 use Rattle.vm_cli.specs.Places.{PlaceState}
 use Rattle.vm_cli.specs.Words.{Wanted}
-use Rattle.vm_cli.specs.Words.Wanted.{check, draw}
+use Rattle.vm_cli.specs.Words.Wanted.{check, do_lines, draw, run}
 use Rattle.vm_cli.specs.declared.program.Exit.{Exit}
 use Rattle.vm_cli.specs.declared.program.Exit.TheVariants.{Refused, Stopped}
 use Rattle.vm_cli.specs.declared.program.task.InMemory.{InMemory}
@@ -42,16 +42,16 @@ module _ {D : Type 0} (over : Disks D) (old : D) (result : Exit × D) (in_memory
       (refusal : Refusal) × IsNotServed over.own over.cached over.late over.late_cached in_memory old result.1 refusal
       × TellsOn in_errors Refused result.0 errors errors' (refused_text refusal)
 
-module _ {P D : Type 0} (own : Ghosts D) (state : P → PlaceState) (denied : P → ℕ) (place place' : P) where
+module _ {P D : Type 0} (own : Ghosts D) (state : P → PlaceState) (denied : P → List Text) (place place' : P) where
   -- a file was to be made, with a new store
   abbrev pub MakesIn : Text → ℕ → Exit → Option (List ℕ) → Option (List ℕ) → Option (List ℕ) → Option (List ℕ) → Type 0
   MakesIn name blocks exit before after errors errors' =
       (state place').honest ≡ true
-      → Makes own (denied place' ≡ denied place + 1) name blocks exit (state place) (state place') before after errors errors'
+      → Makes own (denied place' ≡ name ∷ denied place) name blocks exit (state place) (state place') before after errors errors'
 
   -- no file changed, and it is told why
   abbrev pub DeclinesIn : Text → Exit → Option (List ℕ) → Option (List ℕ) → Type 0
-  DeclinesIn name exit errors errors' = Declines own (denied place' ≡ denied place + 1) name exit (state place) (state place') errors errors'
+  DeclinesIn name exit errors errors' = Declines own (denied place' ≡ name ∷ denied place) name exit (state place) (state place') errors errors'
 
   -- the store in a file was to be counted
   abbrev pub CountsIn : Text → Exit → Option (List ℕ) → Option (List ℕ) → Option (List ℕ) → Option (List ℕ) → Type 0
@@ -65,7 +65,15 @@ module _ {P D : Type 0} (own : Ghosts D) (state : P → PlaceState) (denied : P 
       (state place').honest ≡ true
       → Draws own name exit (state place) (state place') before after ⊎ DeclinesIn name exit errors errors'
 
-module _ {P D : Type 0} (over : Disks D) (state : P → PlaceState) (denied : P → ℕ) (place place' : P) where
+-- this status is that of an end of which this holds, and of what was said to the errors by then, which is all but where the program stopped:
+-- behind it, then, it was begun to say so
+abbrev pub EndsAs : {F : Type 0} → (F → Option (List ℕ)) → ℕ → F → (Exit → F → Type 0) → Type 0
+EndsAs {F} in_errors status errors' IsEnd =
+    (exit : Exit) × (said : F) × (status ≡ status_of exit) × (exit ≢ Stopped → said ≡ errors')
+    × (exit ≡ Stopped → WritesStart (in_errors said) (in_errors errors') stopped_text)
+    × IsEnd exit said
+
+module _ {P D : Type 0} (over : Disks D) (state : P → PlaceState) (denied : P → List Text) (place place' : P) where
   -- lines were to be answered over a file
   abbrev pub AnswersIn : Text → InMemory → OnRefusal → Exit → Option (List ℕ) → Option (List ℕ) → Option (List ℕ) → Option (List ℕ) → Option (List ℕ) → Type 0
   AnswersIn name in_memory on exit input before after errors errors' =
@@ -77,16 +85,37 @@ module _ {P D : Type 0} (over : Disks D) (state : P → PlaceState) (denied : P 
   abbrev pub DoesIn : (P → ℕ) → List Text → Exit → Option (List ℕ) → Option (List ℕ) → Option (List ℕ) → Option (List ℕ) → Option (List ℕ) → Type 0
   DoesIn to_write words exit input before after errors errors' =
       Does over.own over.cached over.late over.late_cached (place' ≡ place) (to_write place' ≡ to_write place) (to_write place' ≡ to_write place + 1)
-      (denied place' ≡ denied place + 1) words exit (state place) (state place') input before after errors errors'
+      (λ name. denied place' ≡ name ∷ denied place) words exit (state place) (state place') input before after errors errors'
 
-  -- a run of the program with these words gave this status: by the end that it came to, and what was said to the errors by then, which is
-  -- all but where the program stopped: behind it, then, it was begun to say so
+  -- a run of the program with these words gave this status
   abbrev pub RunsIn : {F : Type 0} → (P → ℕ) → List Text → ℕ → Option (List ℕ) → Option (List ℕ) → Option (List ℕ) → (F → Option (List ℕ)) → F → F → Type 0
-  RunsIn {F} to_write words status input before after in_errors errors errors' =
+  RunsIn to_write words status input before after in_errors errors errors' =
       (state place').honest ≡ true
-      → ((exit : Exit) × (said : F) × (status ≡ status_of exit) × (exit ≢ Stopped → said ≡ errors')
-      × (exit ≡ Stopped → WritesStart (in_errors said) (in_errors errors') stopped_text)
-      × DoesIn to_write words exit input before after (in_errors errors) (in_errors said))
+      → EndsAs in_errors status errors' (λ exit said. DoesIn to_write words exit input before after (in_errors errors) (in_errors said))
+
+-- on any place, whether it and its disks kept their rules or not
+module _ {P D : Type 0} (over : Disks D) (denied : P → List Text) (place place' : P) where
+  -- lines that were to be answered over a file were, over a disk that came back; or that was refused, and it is told why; or it is told
+  -- that the place gave no disk of it
+  abbrev pub ServesIn : Text → InMemory → OnRefusal → Exit → Option (List ℕ) → Option (List ℕ) → Option (List ℕ) → Option (List ℕ) → Option (List ℕ) → Type 0
+  ServesIn name in_memory on exit input before after errors errors' =
+      ((found : D) × (back : D) × IsServed over.own over.cached over.late over.late_cached in_memory on found back exit input before after)
+      ⊎ (((found : D) × (back : D) × (refusal : Refusal) × IsNotServed over.own over.cached over.late over.late_cached in_memory found back refusal
+      × Tells Refused exit errors errors' (refused_text refusal))
+      ⊎ ((denied place' ≡ name ∷ denied place) × Tells Refused exit errors errors' (file_text (codes "altctl: cannot open ") name)))
+
+  -- words that ask for that have it so, of the input or of their own lines, or the program stopped, and no call of the place was made
+  abbrev pub ServesWords : List Text → Exit → Option (List ℕ) → Option (List ℕ) → Option (List ℕ) → Option (List ℕ) → Option (List ℕ) → Type 0
+  ServesWords words exit input before after errors errors' =
+      ((name : Text) (in_memory : InMemory) (on : OnRefusal) → IsJob words (run name in_memory on)
+      → ServesIn name in_memory on exit input before after errors errors' ⊎ ((exit ≡ Stopped) × (place' ≡ place)))
+      × ((name : Text) (lines : List ℕ) (in_memory : InMemory) (on : OnRefusal) → IsJob words (do_lines name lines in_memory on)
+      → ServesIn name in_memory on exit (Some lines) before after errors errors' ⊎ ((exit ≡ Stopped) × (place' ≡ place)))
+
+  -- a run of the program with these words gave this status
+  abbrev pub ServesRun : {F : Type 0} → List Text → ℕ → Option (List ℕ) → Option (List ℕ) → Option (List ℕ) → (F → Option (List ℕ)) → F → F → Type 0
+  ServesRun words status input before after in_errors errors errors' =
+      EndsAs in_errors status errors' (λ exit said. ServesWords words exit input before after (in_errors errors) (in_errors said))
 
 -- on any place: where the words ask for a check or a drawing, it is asked for no disk that may be written, and where they ask for no job, for
 -- none at all

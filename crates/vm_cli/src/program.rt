@@ -69,7 +69,7 @@ ghost use Rattle.vm_cli.specs.Carried.{Begins, Gains};
 ghost use Rattle.vm_types.specs.declared.refusal.Refusal.{Refusal as RefusalValue};
 ghost use Rattle.vm_disk.specs.Between.{IfHonest};
 ghost use Rattle.vm_cli.specs.Told.{AnswersOver, FormatsOnly, MakesStore, TellsCount, TellsRefusal};
-ghost use Rattle.vm_cli.specs.Runs.{AnswersIn, CountsIn, DoesIn, LooksOnly, MakesIn, RunsIn, disks};
+ghost use Rattle.vm_cli.specs.Runs.{AnswersIn, CountsIn, DoesIn, LooksOnly, MakesIn, RunsIn, ServesIn, ServesRun, ServesWords, disks};
 ghost use Rattle.vm_cli.specs.Sessions.{end_of as end_of_talk};
 ghost use Rattle.vm_cli.specs.Exits.{Blames, Checks, Ends, Helps, IsDone, IsLineRefused, IsRefused, IsStopped, IsWrong, JobEnds, RefusesOn, RefusesWords, StopsUnsaid, TalkEnds, TellsOn, counts_text, created_text, file_text, refused_text, status_of, stopped_text};
 ghost use Rattle.vm_cli.specs.Words.Wanted.{check as check_wanted, create as create_wanted, run as run_wanted};
@@ -96,6 +96,11 @@ pub fn run_words<P: Place, R: Read, W: Write, F: Write>(
     // the errors are begun to be told so, behind what the job said.
     ensures files { RunsIn (disks P.D.Disk ⟦<CachedDisk<P::D> as Disk>⟧ ⟦<DelayedDisk<P::D> as Disk>⟧ ⟦<DelayedDisk<CachedDisk<P::D>> as Disk>⟧)
         P.state P.denied place.old place.new P.to_write (map string_bytes words.now) result
+        (R.remaining input.old) (W.contents output.old) (W.contents output.new) F.contents errors.old errors.new }
+    // On any place, whether its disks keep their rules or not, lines are answered as `serve` promises of any disk; or it is told, or begun
+    // to be told, why its disk was refused, or that it gave none of that file.
+    ensures served { ServesRun (disks P.D.Disk ⟦<CachedDisk<P::D> as Disk>⟧ ⟦<DelayedDisk<P::D> as Disk>⟧ ⟦<DelayedDisk<CachedDisk<P::D>> as Disk>⟧)
+        P.denied place.old place.new (map string_bytes words.now) result
         (R.remaining input.old) (W.contents output.old) (W.contents output.new) F.contents errors.old errors.new }
 {
     match do_job(alloc, words, place, input, output, errors) {
@@ -138,6 +143,9 @@ fn do_job<P: Place, R: Read, W: Write, F: Write>(
     ensures files { (P.state place.new).honest ≡ true
         → DoesIn (disks P.D.Disk ⟦<CachedDisk<P::D> as Disk>⟧ ⟦<DelayedDisk<P::D> as Disk>⟧ ⟦<DelayedDisk<CachedDisk<P::D>> as Disk>⟧)
         P.state P.denied place.old place.new P.to_write (map string_bytes words.now) result
+        (R.remaining input.old) (W.contents output.old) (W.contents output.new) (F.contents errors.old) (F.contents errors.new) }
+    ensures served { ServesWords (disks P.D.Disk ⟦<CachedDisk<P::D> as Disk>⟧ ⟦<DelayedDisk<P::D> as Disk>⟧ ⟦<DelayedDisk<CachedDisk<P::D>> as Disk>⟧)
+        P.denied place.old place.new (map string_bytes words.now) result
         (R.remaining input.old) (W.contents output.old) (W.contents output.new) (F.contents errors.old) (F.contents errors.new) }
 {
     match job(alloc, words) {
@@ -227,6 +235,9 @@ fn run<P: Place, R: Read, W: Write, F: Write>(
     ensures writes { P.to_write place.new ≡ P.to_write place.old + 1 }
     ensures files { AnswersIn (disks P.D.Disk ⟦<CachedDisk<P::D> as Disk>⟧ ⟦<DelayedDisk<P::D> as Disk>⟧ ⟦<DelayedDisk<CachedDisk<P::D>> as Disk>⟧)
         P.state P.denied place.old place.new file.now in_memory on_refusal result
+        (R.remaining input.old) (W.contents output.old) (W.contents output.new) (F.contents errors.old) (F.contents errors.new) }
+    ensures served { ServesIn (disks P.D.Disk ⟦<CachedDisk<P::D> as Disk>⟧ ⟦<DelayedDisk<P::D> as Disk>⟧ ⟦<DelayedDisk<CachedDisk<P::D>> as Disk>⟧)
+        P.denied place.old place.new file.now in_memory on_refusal result
         (R.remaining input.old) (W.contents output.old) (W.contents output.new) (F.contents errors.old) (F.contents errors.new) }
 {
     let Some(disk) = place.find(file) else {

@@ -1,10 +1,10 @@
 //! Files in memory, found by name.
-ghost use Rattle.std.specs.Prelude.{◌≡◌, ◌+◌, ℕ, true, List, None, IfSome, IsSome, max, option_map};
+ghost use Rattle.std.specs.Prelude.{◌≡◌, ◌+◌, ◌∷◌, ℕ, true, List, None, IfSome, IsSome, max, option_map};
 ghost use Rattle.std.specs.Option.{ForSome};
 ghost use Rattle.vm_disk.specs.Memory.{memory_state, room_of};
 ghost use Rattle.vm_disk.specs.Past.{noted};
 
-use crate::program::place::Place;
+use crate::program::place::{Place, note_name};
 use std::alloc::Global;
 use std::collections::BTreeMap;
 use std::snapshot::Snapshot;
@@ -26,13 +26,13 @@ pub struct MemFiles {
     slots: BTreeMap<String, Slot>,
     honest: bool,
     room: u32,
-    denied: History<()>,
+    denied: History<History<u8>>,
     to_write: History<()>,
 }
 
 impl MemFiles {
     ghost use Rattle.vm_cli.specs.MemFiles.{IsIn, files_state, room_given};
-    ghost use Rattle.vm_cli.specs.Places.{CreatesIn, FindsIn, WasHonest};
+    ghost use Rattle.vm_cli.specs.Places.{CreatesIn, FindsIn, StaysHonest, WasHonest};
 
     /// No files. Disks that are made can't get longer.
     pub fn new(alloc: Global) -> MemFiles
@@ -71,6 +71,7 @@ impl MemFiles {
         ensures denied { noted self.new.denied ≡ noted self.old.denied }
         ensures to_write { noted self.new.to_write ≡ noted self.old.to_write }
         ensures earlier { WasHonest (files_state self.old) (files_state self.new) }
+        ensures stays { StaysHonest (files_state self.old) (files_state self.new) }
         ensures honest { CreatesIn files_state memory_state file.now blocks result self.old self.new }
         ensures room { IfSome result (λ disk. room_of disk ≡ max (room_given self.old) blocks) }
     {
@@ -93,6 +94,7 @@ impl MemFiles {
         ensures denied { noted self.new.denied ≡ noted self.old.denied }
         ensures to_write { noted self.new.to_write ≡ noted self.old.to_write }
         ensures earlier { WasHonest (files_state self.old) (files_state self.new) }
+        ensures stays { StaysHonest (files_state self.old) (files_state self.new) }
         ensures honest { FindsIn files_state memory_state file.now result self.old self.new }
         ensures there { IsIn file.now self.old → IsSome result }
     {
@@ -106,29 +108,37 @@ impl MemFiles {
 impl Place for MemFiles {
     type D = MemDisk;
 
-    ghost use Rattle.vm_cli.specs.MemFiles.{IsIn, asked_to_write, files_state, times_denied};
-    ghost use Rattle.vm_cli.specs.Places.{FindsIn, TakesBackIn, WasHonest};
+    ghost use Rattle.vm_cli.specs.MemFiles.{HasFile, IsIn, asked_to_write, files_state, names_denied};
+    ghost use Rattle.vm_cli.specs.Places.{CreatesIn, FindsIn, StaysHonest, TakesBackIn, WasHonest};
 
     ghost state = { files_state };
 
-    ghost denied = { times_denied };
+    ghost denied = { names_denied };
 
     ghost to_write = { asked_to_write };
 
-    fn create(&mut self, file: &str, blocks: u32) -> Option<MemDisk> {
+    fn create(&mut self, file: &str, blocks: u32) -> Option<MemDisk>
+        ensures none { result ≡ None → names_denied self.new ≡ file.now ∷ names_denied self.old }
+        ensures some { IfSome result (λ disk. names_denied self.new ≡ names_denied self.old) }
+        ensures writes { asked_to_write self.new ≡ asked_to_write self.old + 1 }
+        ensures earlier { WasHonest (files_state self.old) (files_state self.new) }
+        ensures stays { StaysHonest (files_state self.old) (files_state self.new) }
+        ensures honest { CreatesIn files_state memory_state file.now blocks result self.old self.new }
+    {
         self.to_write.note(&());
         let made = self.made(file, blocks);
         if made.is_none() {
-            self.denied.note(&());
+            note_name(&mut self.denied, file);
         }
         made
     }
 
     fn find(&mut self, file: &str) -> Option<MemDisk>
-        ensures none { result ≡ None → times_denied self.new ≡ times_denied self.old + 1 }
-        ensures some { IfSome result (λ disk. times_denied self.new ≡ times_denied self.old) }
+        ensures none { result ≡ None → names_denied self.new ≡ file.now ∷ names_denied self.old }
+        ensures some { IfSome result (λ disk. names_denied self.new ≡ names_denied self.old) }
         ensures writes { asked_to_write self.new ≡ asked_to_write self.old + 1 }
         ensures earlier { WasHonest (files_state self.old) (files_state self.new) }
+        ensures stays { StaysHonest (files_state self.old) (files_state self.new) }
         ensures honest { FindsIn files_state memory_state file.now result self.old self.new }
 
         // Where the disk is in, it is found.
@@ -139,10 +149,11 @@ impl Place for MemFiles {
     }
 
     fn look(&mut self, file: &str) -> Option<MemDisk>
-        ensures none { result ≡ None → times_denied self.new ≡ times_denied self.old + 1 }
-        ensures some { IfSome result (λ disk. times_denied self.new ≡ times_denied self.old) }
+        ensures none { result ≡ None → names_denied self.new ≡ file.now ∷ names_denied self.old }
+        ensures some { IfSome result (λ disk. names_denied self.new ≡ names_denied self.old) }
         ensures reads { asked_to_write self.new ≡ asked_to_write self.old }
         ensures earlier { WasHonest (files_state self.old) (files_state self.new) }
+        ensures stays { StaysHonest (files_state self.old) (files_state self.new) }
         ensures honest { FindsIn files_state memory_state file.now result self.old self.new }
 
         // Where the disk is in, it is found.
@@ -150,16 +161,19 @@ impl Place for MemFiles {
     {
         let found = self.found(file);
         if found.is_none() {
-            self.denied.note(&());
+            note_name(&mut self.denied, file);
         }
         found
     }
 
     fn give_back(&mut self, file: &str, disk: MemDisk)
-        ensures denied { times_denied self.new ≡ times_denied self.old }
+        ensures denied { names_denied self.new ≡ names_denied self.old }
         ensures reads { asked_to_write self.new ≡ asked_to_write self.old }
         ensures earlier { WasHonest (files_state self.old) (files_state self.new) }
         ensures honest { TakesBackIn files_state memory_state file.now disk self.old self.new }
+
+        // It stays honest where a file of this name was made.
+        ensures stays { HasFile file.now self.old → StaysHonest (files_state self.old) (files_state self.new) }
 
         // It is in then.
         ensures back { (files_state self.new).honest ≡ true → IsIn file.now self.new }

@@ -1,7 +1,7 @@
 //! Where disks are found by name.
-ghost use Rattle.std.specs.Prelude.{◌≡◌, ◌+◌, ℕ, true, None, IfSome, option_map};
+ghost use Rattle.std.specs.Prelude.{◌≡◌, ◌+◌, ◌∷◌, ℕ, List, [], true, None, IfSome, option_map};
 ghost use Rattle.vm_disk.specs.Between.{Between};
-ghost use Rattle.vm_cli.specs.Places.{PlaceState, CreatesIn, FindsIn, TakesBackIn, WasHonest};
+ghost use Rattle.vm_cli.specs.Places.{PlaceState, CreatesIn, FindsIn, TakesBackIn, WasHonest, names_in};
 
 use crate::program::progress::{Progress, Watched};
 use std::fs::File;
@@ -20,15 +20,15 @@ pub trait Place {
     /// What is known of it, for contracts alone.
     ghost state: { Self → PlaceState };
 
-    /// How often it gave no disk, for contracts alone.
-    ghost denied: { Self → ℕ };
+    /// The names of which it gave no disk, the newest first, for contracts alone.
+    ghost denied: { Self → List (List ℕ) };
 
     /// How often it was asked for a disk that may be written, for contracts alone.
     ghost to_write: { Self → ℕ };
 
     /// Makes a disk that is not there yet, of this many zero blocks.
     fn create(&mut self, file: &str, blocks: u32) -> Option<Self::D>
-        ensures none { result ≡ None → denied self.new ≡ denied self.old + 1 }
+        ensures none { result ≡ None → denied self.new ≡ file.now ∷ denied self.old }
         ensures some { IfSome result (λ disk. denied self.new ≡ denied self.old) }
         ensures writes { to_write self.new ≡ to_write self.old + 1 }
         ensures earlier { WasHonest (state self.old) (state self.new) }
@@ -36,7 +36,7 @@ pub trait Place {
 
     /// A disk that is there.
     fn find(&mut self, file: &str) -> Option<Self::D>
-        ensures none { result ≡ None → denied self.new ≡ denied self.old + 1 }
+        ensures none { result ≡ None → denied self.new ≡ file.now ∷ denied self.old }
         ensures some { IfSome result (λ disk. denied self.new ≡ denied self.old) }
         ensures writes { to_write self.new ≡ to_write self.old + 1 }
         ensures earlier { WasHonest (state self.old) (state self.new) }
@@ -44,7 +44,7 @@ pub trait Place {
 
     /// A disk that is there, for reading alone: it need not be one that may be written.
     fn look(&mut self, file: &str) -> Option<Self::D>
-        ensures none { result ≡ None → denied self.new ≡ denied self.old + 1 }
+        ensures none { result ≡ None → denied self.new ≡ file.now ∷ denied self.old }
         ensures some { IfSome result (λ disk. denied self.new ≡ denied self.old) }
         ensures reads { to_write self.new ≡ to_write self.old }
         ensures earlier { WasHonest (state self.old) (state self.new) }
@@ -56,6 +56,14 @@ pub trait Place {
         ensures reads { to_write self.new ≡ to_write self.old }
         ensures earlier { WasHonest (state self.old) (state self.new) }
         ensures honest { TakesBackIn state Self.D.state file.now disk self.old self.new };
+}
+
+/// Notes a name.
+pub(crate) fn note_name(names: &mut History<History<u8>>, name: &str)
+    ensures { names_in names.new ≡ name.now ∷ names_in names.old }
+{
+    let name = noted_bytes(name.as_bytes());
+    names.note(&name);
 }
 
 /// What was done with a file of the system. Missed is that one was to be had which may be written,
@@ -85,7 +93,7 @@ pub struct RealFiles<'a, R, W> {
     folders: [Option<File>; 3],
     opened: History<()>,
     events: History<Event<'a, W>>,
-    denied: History<()>,
+    denied: History<History<u8>>,
     world: PhantomData<W>,
 }
 
@@ -104,13 +112,13 @@ fn take_standard(rt: &impl Files<File = File>) -> [Option<File>; 3] {
 }
 
 impl<'a, R: Files<File = File>, W: World> RealFiles<'a, R, W> {
-    ghost use Rattle.vm_cli.specs.RealFiles.{asked_to_write, real_state, times_denied, untouched};
+    ghost use Rattle.vm_cli.specs.RealFiles.{asked_to_write, real_state, names_denied, untouched};
 
     /// The files that a runtime reaches, of which none was asked for so far. It opens what is closed of
     /// the standard input, output and error, where that can be opened.
     pub fn new(rt: &'a R, progress: &'a Progress) -> RealFiles<'a, R, W>
         ensures state { real_state W.held W.torn result ≡ untouched W.held }
-        ensures denied { times_denied result ≡ 0 }
+        ensures denied { names_denied result ≡ [] }
         ensures to_write { asked_to_write result ≡ 0 }
     {
         RealFiles {
@@ -126,13 +134,14 @@ impl<'a, R: Files<File = File>, W: World> RealFiles<'a, R, W> {
 }
 
 impl<'a, R: Files<File = File>, W: World> RealFiles<'a, R, W> {
-    ghost use Rattle.vm_cli.specs.RealFiles.{asked_to_write, real_state, times_denied, CreatesReal, FindsReal};
+    ghost use Rattle.vm_cli.specs.RealFiles.{asked_to_write, real_state, names_denied, CreatesReal, FindsReal, NotesFound, NotesLooked, NotesMade};
 
     /// Makes a file that is not there yet, and a disk of it.
     fn made(&mut self, file: &str, blocks: u32) -> Option<FileDisk<Watched<'a, SystemFile<W>>>>
-        ensures denied { times_denied self.new ≡ times_denied self.old }
+        ensures denied { names_denied self.new ≡ names_denied self.old }
         ensures to_write { asked_to_write self.new ≡ asked_to_write self.old + 1 }
         ensures earlier { Between (real_state W.held W.torn) WasHonest self.old self.new }
+        ensures notes { NotesMade file.now self.old self.new }
         ensures honest { CreatesReal W.held W.torn file.now blocks result self.old self.new }
     {
         let Some(made) = SystemFile::create(self.rt, file, &self.opened) else {
@@ -147,9 +156,10 @@ impl<'a, R: Files<File = File>, W: World> RealFiles<'a, R, W> {
 
     /// Opens a file that is there, as a disk.
     fn found(&mut self, file: &str) -> Option<FileDisk<Watched<'a, SystemFile<W>>>>
-        ensures denied { times_denied self.new ≡ times_denied self.old }
+        ensures denied { names_denied self.new ≡ names_denied self.old }
         ensures to_write { asked_to_write self.new ≡ asked_to_write self.old + 1 }
         ensures earlier { Between (real_state W.held W.torn) WasHonest self.old self.new }
+        ensures notes { NotesFound file.now self.old self.new }
         ensures honest { FindsReal W.held W.torn file.now result self.old self.new }
     {
         let Some(found) = SystemFile::open(self.rt, file, &self.opened) else {
@@ -163,9 +173,10 @@ impl<'a, R: Files<File = File>, W: World> RealFiles<'a, R, W> {
 
     /// Opens a file that is there for reading alone, as a disk.
     fn looked(&mut self, file: &str) -> Option<FileDisk<Watched<'a, SystemFile<W>>>>
-        ensures denied { times_denied self.new ≡ times_denied self.old }
+        ensures denied { names_denied self.new ≡ names_denied self.old }
         ensures to_write { asked_to_write self.new ≡ asked_to_write self.old }
         ensures earlier { Between (real_state W.held W.torn) WasHonest self.old self.new }
+        ensures notes { NotesLooked file.now self.old self.new }
         ensures honest { FindsReal W.held W.torn file.now result self.old self.new }
     {
         let found = SystemFile::open_to_read(self.rt, file, &self.opened)?;
@@ -178,39 +189,67 @@ impl<'a, R: Files<File = File>, W: World> RealFiles<'a, R, W> {
 impl<'a, R: Files<File = File>, W: World> Place for RealFiles<'a, R, W> {
     type D = FileDisk<Watched<'a, SystemFile<W>>>;
 
-    ghost use Rattle.vm_cli.specs.RealFiles.{asked_to_write, real_state, times_denied};
+    ghost use Rattle.vm_cli.specs.RealFiles.{asked_to_write, real_disk, real_state, names_denied, CreatesReal, FindsReal, NotesFound, NotesGiven, NotesLooked, NotesMade, StaysReal};
 
     ghost state = { real_state W.held W.torn };
 
-    ghost denied = { times_denied };
+    ghost denied = { names_denied };
 
     ghost to_write = { asked_to_write };
 
-    fn create(&mut self, file: &str, blocks: u32) -> Option<FileDisk<Watched<'a, SystemFile<W>>>> {
+    fn create(&mut self, file: &str, blocks: u32) -> Option<FileDisk<Watched<'a, SystemFile<W>>>>
+        ensures none { result ≡ None → names_denied self.new ≡ file.now ∷ names_denied self.old }
+        ensures some { IfSome result (λ disk. names_denied self.new ≡ names_denied self.old) }
+        ensures writes { asked_to_write self.new ≡ asked_to_write self.old + 1 }
+        ensures earlier { Between (real_state W.held W.torn) WasHonest self.old self.new }
+        ensures notes { NotesMade file.now self.old self.new }
+        ensures honest { CreatesReal W.held W.torn file.now blocks result self.old self.new }
+    {
         let made = self.made(file, blocks);
         if made.is_none() {
-            self.denied.note(&());
+            note_name(&mut self.denied, file);
         }
         made
     }
 
-    fn find(&mut self, file: &str) -> Option<FileDisk<Watched<'a, SystemFile<W>>>> {
+    fn find(&mut self, file: &str) -> Option<FileDisk<Watched<'a, SystemFile<W>>>>
+        ensures none { result ≡ None → names_denied self.new ≡ file.now ∷ names_denied self.old }
+        ensures some { IfSome result (λ disk. names_denied self.new ≡ names_denied self.old) }
+        ensures writes { asked_to_write self.new ≡ asked_to_write self.old + 1 }
+        ensures earlier { Between (real_state W.held W.torn) WasHonest self.old self.new }
+        ensures notes { NotesFound file.now self.old self.new }
+        ensures honest { FindsReal W.held W.torn file.now result self.old self.new }
+    {
         let found = self.found(file);
         if found.is_none() {
-            self.denied.note(&());
+            note_name(&mut self.denied, file);
         }
         found
     }
 
-    fn look(&mut self, file: &str) -> Option<FileDisk<Watched<'a, SystemFile<W>>>> {
+    fn look(&mut self, file: &str) -> Option<FileDisk<Watched<'a, SystemFile<W>>>>
+        ensures none { result ≡ None → names_denied self.new ≡ file.now ∷ names_denied self.old }
+        ensures some { IfSome result (λ disk. names_denied self.new ≡ names_denied self.old) }
+        ensures reads { asked_to_write self.new ≡ asked_to_write self.old }
+        ensures earlier { Between (real_state W.held W.torn) WasHonest self.old self.new }
+        ensures notes { NotesLooked file.now self.old self.new }
+        ensures honest { FindsReal W.held W.torn file.now result self.old self.new }
+    {
         let found = self.looked(file);
         if found.is_none() {
-            self.denied.note(&());
+            note_name(&mut self.denied, file);
         }
         found
     }
 
-    fn give_back(&mut self, file: &str, disk: FileDisk<Watched<'a, SystemFile<W>>>) {
+    fn give_back(&mut self, file: &str, disk: FileDisk<Watched<'a, SystemFile<W>>>)
+        ensures denied { names_denied self.new ≡ names_denied self.old }
+        ensures reads { asked_to_write self.new ≡ asked_to_write self.old }
+        ensures earlier { Between (real_state W.held W.torn) WasHonest self.old self.new }
+        ensures notes { NotesGiven file.now disk.entry self.old self.new }
+        ensures stays { StaysReal W.held W.torn file.now disk.entry self.old self.new }
+        ensures honest { TakesBackIn (real_state W.held W.torn) (real_disk W.held W.torn) file.now disk.entry self.old self.new }
+    {
         let name = noted_bytes(file.as_bytes());
         self.events.note(&Event::Given(name, Snapshot::of(&disk)));
     }

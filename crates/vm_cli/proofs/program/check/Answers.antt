@@ -45,4 +45,4 @@ returns-clause-files g c honest =
     ]
 
 pub returns-in_default-clause-files : goal.returns-in_default-clause-files
-returns-in_default-clause-files g c honest = inr (record { same = (c.look.ensures.honest honest).same; told = inl (c.look.ensures.none c.in_default.is, c.no_file.ensures) })
+returns-in_default-clause-files g c honest = inr (record { same = (c.look.ensures.honest honest).same; told = inl (c.look.ensures.none c.in_default.is, (c.look.ensures.honest honest).same_came, c.no_file.ensures) })

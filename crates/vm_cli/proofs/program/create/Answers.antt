@@ -1,4 +1,4 @@
-use Rattle.std.proofs.Common.{◌≡◌, ◌∙◌, inl, inr, sym, true, Some, None}
+use Rattle.std.proofs.Common.{◌≡◌, ◌∙◌, ap, inl, inr, option_map, sym, true, Some, None}
 use Rattle.vm_cli.proofs.FilesLemmas.{not_done}
 use Rattle.vm_cli.proofs.program.create.Goals as goal
 
@@ -40,7 +40,7 @@ returns-in_default-clause-files g c honest =
     let denied = c.create.ensures.honest honest in
     record {
       made = λ done. absurd (not_done _ _ _ _ c.no_file.ensures done);
-      lays = inr (c.create.ensures.none c.in_default.is, c.no_file.ensures);
+      lays = inr (c.create.ensures.none c.in_default.is, denied.none_came (ap (option_map g.P.D.Disk.state) c.in_default.is), c.no_file.ensures);
       stays = denied.stays;
       others = denied.others;
     }

@@ -4,7 +4,7 @@ use Rattle.clap.specs.Words.{kind_of}
 use Rattle.vm_cli.specs.Exits.{IsJob}
 use Rattle.vm_cli.specs.Words.Wanted.{check, create, do_lines, draw, run}
 use Rattle.vm_cli.proofs.ExitLemmas.{checked, drawn, help_or_mistake, helped, made, mistaken, no_memory, talked}
-use Rattle.vm_cli.proofs.FilesLemmas.{did_check, did_create, did_draw, did_lines, did_nothing, did_run, looks_for, no_fault}
+use Rattle.vm_cli.proofs.FilesLemmas.{did_check, did_create, did_draw, did_lines, did_nothing, did_run, looks_for, no_fault, served_lines, served_none, served_other, served_run}
 use Rattle.vm_cli.proofs.program.do_job.Goals as goal
 
 pub returns-in-Ok-Create-clause-ends : goal.returns-in-Ok-Create-clause-ends
@@ -134,3 +134,52 @@ returns-in-Ok-Tree-clause-looks g c =
 
 pub returns-in-Err-clause-looks : goal.returns-in-Err-clause-looks
 returns-in-Err-clause-looks g c = ((λ name looks. refl), (λ no. refl))
+
+pub returns-in-Ok-Create-clause-served : goal.returns-in-Ok-Create-clause-served
+returns-in-Ok-Create-clause-served g c =
+    let words = map string_bytes c.args.words.now in
+    let e = rw c.in-Ok-Create.field-0-is at c.in-Ok-Create.ensures in
+    let job : IsJob words (create c.in-Ok-Create.file.now c.in-Ok-Create.blocks) = (e.faults, e.ok) in
+    served_other _ g.P.Place.denied _ _ words _ _ _ _ _ _ (create c.in-Ok-Create.file.now c.in-Ok-Create.blocks) job (λ name in_memory on same. cc) (λ name lines in_memory on same. cc)
+
+pub returns-in-Ok-Check-clause-served : goal.returns-in-Ok-Check-clause-served
+returns-in-Ok-Check-clause-served g c =
+    let words = map string_bytes c.args.words.now in
+    let e = rw c.in-Ok-Check.field-0-is at c.in-Ok-Check.ensures in
+    let job : IsJob words (check c.in-Ok-Check.file.now) = (e.faults, e.ok) in
+    served_other _ g.P.Place.denied _ _ words _ _ _ _ _ _ (check c.in-Ok-Check.file.now) job (λ name in_memory on same. cc) (λ name lines in_memory on same. cc)
+
+pub returns-in-Ok-Tree-clause-served : goal.returns-in-Ok-Tree-clause-served
+returns-in-Ok-Tree-clause-served g c =
+    let words = map string_bytes c.args.words.now in
+    let e = rw c.in-Ok-Tree.field-0-is at c.in-Ok-Tree.ensures in
+    let job : IsJob words (draw c.in-Ok-Tree.file.now) = (e.faults, e.ok) in
+    served_other _ g.P.Place.denied _ _ words _ _ _ _ _ _ (draw c.in-Ok-Tree.file.now) job (λ name in_memory on same. cc) (λ name lines in_memory on same. cc)
+
+pub returns-in-Ok-Run-clause-served : goal.returns-in-Ok-Run-clause-served
+returns-in-Ok-Run-clause-served g c =
+    let words = map string_bytes c.args.words.now in
+    let e = rw c.in-Ok-Run.field-0-is at c.in-Ok-Run.ensures in
+    let job : IsJob words (run c.in-Ok-Run.file.now c.in-Ok-Run.in_memory c.in-Ok-Run.on_refusal) = (e.faults, e.ok) in
+    served_run _ g.P.Place.denied _ _ words _ _ _ _ _ _ c.in-Ok-Run.file.now c.in-Ok-Run.in_memory c.in-Ok-Run.on_refusal job c.run.ensures.served
+
+pub returns-in-Ok-Do-clause-served : goal.returns-in-Ok-Do-clause-served
+returns-in-Ok-Do-clause-served g c =
+    let words = map string_bytes c.args.words.now in
+    let e = rw c.in-Ok-Do.field-0-is at c.in-Ok-Do.ensures in
+    let job : IsJob words (do_lines c.in-Ok-Do.file.now c.in-Ok-Do.input.items c.in-Ok-Do.in_memory c.in-Ok-Do.on_refusal) = (e.faults, e.ok) in
+    let serves = rw c.as_slice-lines.ensures.value at c.run-in-Ok-Do.ensures.served in
+    served_lines _ g.P.Place.denied _ _ words _ _ _ _ _ _ c.in-Ok-Do.file.now c.in-Ok-Do.input.items c.in-Ok-Do.in_memory c.in-Ok-Do.on_refusal job serves
+
+pub returns-in-Err-clause-served : goal.returns-in-Err-clause-served
+returns-in-Err-clause-served g c =
+    let words = map string_bytes c.args.words.now in
+    served_none _ g.P.Place.denied _ _ words _ _ _ _ _ _
+    (λ name in_memory on asked. elim c.in-Err.ensures.faults [
+      | inl memory ↦ ((c.explain.ensures.memory memory).0, refl)
+      | inr among ↦ absurd (no_fault (kind_of c.in-Err.error) words (run name in_memory on) asked among)
+    ])
+    (λ name lines in_memory on asked. elim c.in-Err.ensures.faults [
+      | inl memory ↦ ((c.explain.ensures.memory memory).0, refl)
+      | inr among ↦ absurd (no_fault (kind_of c.in-Err.error) words (do_lines name lines in_memory on) asked among)
+    ])

@@ -51,4 +51,13 @@ returns-clause-files g c honest =
     ]
 
 pub returns-in_default-clause-files : goal.returns-in_default-clause-files
-returns-in_default-clause-files g c honest = inr (record { same = (c.find.ensures.honest honest).same; told = inl (c.find.ensures.none c.in_default.is, c.no_file.ensures) })
+returns-in_default-clause-files g c honest = inr (record { same = (c.find.ensures.honest honest).same; told = inl (c.find.ensures.none c.in_default.is, (c.find.ensures.honest honest).same_came, c.no_file.ensures) })
+
+pub returns-clause-served : goal.returns-clause-served
+returns-clause-served g c = elim c.answer_lines_in_memory-exit.ensures.served [
+  | inl served ↦ inl (c.in-Some.disk, c.answer_lines_in_memory-exit.result.1, served)
+  | inr refused ↦ inr (inl (c.in-Some.disk, c.answer_lines_in_memory-exit.result.1, refused.0, refused.1, refused.2))
+]
+
+pub returns-in_default-clause-served : goal.returns-in_default-clause-served
+returns-in_default-clause-served g c = inr (inr (c.find.ensures.none c.in_default.is, c.no_file.ensures))

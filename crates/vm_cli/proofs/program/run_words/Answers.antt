@@ -21,4 +21,9 @@ returns-in_default g c =
       line_refused = λ is. subst (λ e. Ends g.W.Write.contents g.F.Write.contents e words c.args.output.now c.do_job.new.output c.args.errors.now c.do_job.new.errors) (is_line_refused exit (sym status ∙ is)) ends;
       looks = c.do_job.ensures.looks;
       files = λ honest. (exit, c.do_job.new.errors, status, (λ going. refl), (λ is. absurd (goes_on is)), c.do_job.ensures.files honest);
+      served = (exit, c.do_job.new.errors, status, (λ going. refl), (λ is. absurd (goes_on is)), c.do_job.ensures.served);
     }
+
+pub returns-in-Stopped-clause-served : goal.returns-in-Stopped-clause-served
+returns-in-Stopped-clause-served g c =
+    (c.do_job.result, c.do_job.new.errors, rw c.in-Stopped.is c.stop.ensures.status, (λ going. absurd (going c.in-Stopped.is)), (λ is. c.stop.ensures.said), c.do_job.ensures.served)

@@ -1,5 +1,5 @@
-use Rattle.std.proofs.Common.{ap, sym, ◌∙◌}
-use Rattle.vm_disk.specs.System.{opening_of}
+use Rattle.std.proofs.Common.{ap, inr, sym, ◌∙◌}
+use Rattle.vm_disk.specs.System.{name_of, opening_of}
 use Rattle.vm_cli.proofs.RealFilesLemmas.{finds}
 use Rattle.vm_cli.specs.Progress.{file_below}
 use Rattle.vm_cli.proofs.program.place.RealFiles.looked.Goals as goal
@@ -10,3 +10,8 @@ returns-clause-honest g c honest =
     let below = c.new.ensures in
     finds g.W.World.held g.W.World.torn c.args.file.now _ _ (file_below c.new.result) _ (c.of.ensures ∙ sym below) (rw below file.ensures.name) _ (ap opening_of below ∙ file.ensures.opening)
     c.note-2.ensures (rw below file.ensures.state) c.open.result c.open.ensures.over c.open.ensures.opened _ c.ok.ensures.value honest
+
+pub returns-clause-notes : goal.returns-clause-notes
+returns-clause-notes g c =
+    let file = c.in_ok-found in
+    inr (c.of.result, c.note-2.ensures, (ap name_of c.of.ensures ∙ file.ensures.name, ap opening_of c.of.ensures ∙ file.ensures.opening))

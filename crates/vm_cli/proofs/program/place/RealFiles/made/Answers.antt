@@ -1,4 +1,5 @@
-use Rattle.std.proofs.Common.{sym, ◌∙◌}
+use Rattle.std.proofs.Common.{ap, inr, sym, ◌∙◌}
+use Rattle.vm_disk.specs.System.{name_of, opening_of}
 use Rattle.vm_cli.proofs.RealFilesLemmas.{creates}
 use Rattle.vm_cli.specs.Progress.{file_below}
 use Rattle.vm_cli.proofs.program.place.RealFiles.made.Goals as goal
@@ -9,3 +10,8 @@ returns-clause-honest g c honest =
     let below = c.new.ensures in
     creates g.W.World.held g.W.World.torn c.args.file.now _ _ (file_below c.new.result) _ (c.of.ensures ∙ sym below) (rw below file.ensures.name) c.args.blocks
     c.note-3.ensures (rw below file.ensures.state) c.create-2.result c.create-2.ensures.made c.create-2.ensures.created _ c.ok.ensures.value honest
+
+pub returns-clause-notes : goal.returns-clause-notes
+returns-clause-notes g c =
+    let file = c.in-Some in
+    inr (c.of.result, c.note-3.ensures, (ap name_of c.of.ensures ∙ file.ensures.name, ap opening_of c.of.ensures ∙ file.ensures.opening))
