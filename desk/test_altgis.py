@@ -11,6 +11,7 @@ import struct
 import subprocess
 import sys
 import tempfile
+import time
 import unittest
 from importlib.machinery import SourceFileLoader
 from pathlib import Path
@@ -515,6 +516,24 @@ class AltgisTests(unittest.TestCase):
     def test_a_store_that_is_in_use(self):
         with Store(self.store, ALTCTL):
             self.refused("is in use", "export", self.store, "top", self.file("x.gpkg"))
+
+    def test_a_service_takes_an_import_as_one_batch(self):
+        write(self.file("a.gpkg"), "ducts", DUCTS, THREE)
+        write(self.file("b.gpkg"), "b", DUCTS, [(1, {}, polygon(300)), (2, {}, None)])
+        words, socket = [sys.executable, str(HERE / "altserve")], self.file("map.alt.sock")
+        service = subprocess.Popen([*words, "--program", ALTCTL, self.store], stderr=subprocess.DEVNULL)
+        self.addCleanup(service.wait)
+        self.addCleanup(service.terminate)
+        late = time.monotonic() + 30
+        while not os.path.exists(socket) and time.monotonic() < late:
+            time.sleep(0.05)
+        for file, layer in (("a.gpkg", "ducts"), ("b.gpkg", "b")):
+            where = ("--alt", "top", "--table", 7, "--sync")
+            self.altgis("import", f"unix:{socket}", self.file(file), layer, *where)
+        self.altgis("export", f"unix:{socket}", "top", self.file("out.gpkg"))
+        self.equal(2, (self.file("b.gpkg"), "b"), (self.file("out.gpkg"), "b"))
+        entries = [it.split() for it in self.start([*words, "log", self.store]).stdout.splitlines()]
+        self.assertEqual(2, len({it[1] for it in entries if it[0] == "entry"}))  # The numbers of the batches.
 
     def test_each_version_goes_out(self):
         """Four states of the map, each written down when it was: top, and north at its base, at a checkpoint, and now."""

@@ -356,6 +356,22 @@ class ServiceTests(unittest.TestCase):
             names = [it.name for it in other.alternatives()]
             self.assertEqual(["top", "north", ".service"], names)
 
+    def test_many_lines_one_by_one_and_in_a_batch(self):
+        due = {(7, number): b"%d" % number for number in range(100)}
+        with self.open() as one, self.open() as other:
+            one.put_many("top", ((*key, value) for key, value in due.items()))
+            self.assertEqual([*due.values(), None], list(other.get_many("top", [*due, (8, 1)])))
+            with self.assertRaises(Refusal), one.batch():
+                one.remove_many("top", due)
+                one.put_many("top", [(7, 200, b"a"), (7, 201, bytes(4001))])
+            self.assertEqual(100, len(list(other.list("top"))))
+            with one.batch():
+                one.remove_many("top", list(due)[1:])
+                one.put_many("top", [(7, 200, b"a")])
+                self.assertRaises(ValueError, list, one.get_many("top", due))
+                self.assertEqual(100, len(list(other.list("top"))))
+            self.assertEqual([Record(7, 0, b"0"), Record(7, 200, b"a")], list(other.list("top")))
+
     def test_a_batch_is_made_as_a_whole(self):
         with self.open() as one, self.open() as other:
             with one.batch():
