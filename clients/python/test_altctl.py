@@ -193,6 +193,11 @@ class StoreTests(unittest.TestCase):
             self.refused(22, "BadLine", "", lambda: store.put_many("top", ((*it, value) for it in keys)))
             self.refused(5, "NoSuchRecord", "", lambda: store.remove_many("top", ((1, it) for it in numbers)))
             self.assertEqual(300, len(list(store.list("top"))))
+            # Answers to more lines than a pipe holds.
+            short = [(1, number) for number in range(3000)]
+            store.put_many("top", ((*it, b"") for it in short))
+            store.remove_many("top", short)
+            self.assertEqual(300, len(list(store.list("top"))))
 
     def test_a_refusal_tells_which_of_many_lines_it_was(self):
         with Store(self.grown(4096), ALTCTL) as store:
