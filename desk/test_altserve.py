@@ -577,6 +577,41 @@ class JournalTests(ServiceTest):
         self.assertEqual([*made, f"{len(made) + 1} put top 2 1 a"], self.log())
 
 
+    @unittest.skipUnless(os.geteuid() == 0, "only root can mount a small file system")
+    def test_a_full_disk(self):
+        small = os.path.join(self.folder, "small")
+        os.mkdir(small)
+        if subprocess.run(["mount", "-t", "tmpfs", "-o", "size=4m", "tmpfs", small], stderr=subprocess.DEVNULL).returncode:
+            self.skipTest("a mount is not allowed here")
+        self.addCleanup(subprocess.run, ["umount", "--lazy", small], check=True)
+        self.file = os.path.join(small, "map.alt")
+        self.socket, self.journal = f"{self.file}.sock", f"{self.file}.journal"
+        self.create()
+        self.start()
+        with self.planner() as one:
+            self.assertEqual(["ok"], one.ask("put top 1 0 a"))
+            with open(os.path.join(small, "filler"), "wb", buffering=0) as filler, contextlib.suppress(OSError):
+                while filler.write(bytes(4096)):
+                    pass
+            made = ["1 put top 1 0 a"]
+            for number in range(1, 40):
+                [answer] = one.ask(f"put top 1 {number} {LONG}")
+                if answer != "ok":
+                    break
+                made.append(f"{len(made) + 1} put top 1 {number} {LONG}")
+            self.assertEqual("error 97 NotJournaled ENOSPC", answer)
+            self.assertEqual(["error 98 NoBackup EIO", "value a"], one.ask("backup a", "get top 1 0"))
+            # The program ends at a growth for which there is no room, and is started again.
+            self.assertEqual(["error 15 Device", "value a"], one.ask("grow 4096", "get top 1 0"))
+            os.unlink(os.path.join(small, "filler"))
+            self.assertEqual(["ok"], one.ask("put top 2 1 b"))
+            self.assertEqual(f"end {len(made) + 1}", one.rows("list top")[-1])
+        self.assertEqual(0, self.stop())
+        log = self.log()
+        self.assertEqual(made, log[:-1])
+        self.assertEqual("put top 2 1 b", log[-1].split(" ", 1)[1])
+
+
 class CrashTests(ServiceTest):
     def test_store_and_journal_agree_wherever_the_machine_stops(self):
         moments = self.moments()
