@@ -84,7 +84,8 @@ class Planner:
     def handle(self, events):
         if events & selectors.EVENT_READ:
             self.receive()
-        self.send()
+        if events & selectors.EVENT_WRITE or self.has_ended or len(self.requests) >= limits.WAITING_LINES:
+            self.send()
 
     # --- lines that come --------------------------------------------------------------------------
 
